@@ -1,0 +1,4 @@
+pub mod Dates
+pub mod Digits
+pub mod Texts
+pub mod Traces

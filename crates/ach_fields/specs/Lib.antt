@@ -1,0 +1,12 @@
+pub mod Cents
+pub mod Characters
+pub mod Digits
+pub mod Laws
+pub mod Names
+pub mod Number
+pub mod Padding
+pub mod Puts
+pub mod Routing
+pub mod Text
+pub mod Trace
+pub mod Ymd

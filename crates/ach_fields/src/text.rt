@@ -1,0 +1,48 @@
+//! Texts in fields: characters at the left, blanks after them.
+ghost use Rattle.std.specs.Prelude.{◌≡◌, length, MatchResult, Ok, Err};
+ghost use Rattle.ach_fields.specs.Text.{text_in, text_field, without_blanks_after};
+ghost use Rattle.ach_fields.specs.Puts.{Puts};
+
+use crate::FieldFault;
+use crate::characters::are_printable;
+
+/// The text in a field, without the blanks at its end.
+///
+/// `NotText` where a character is no blank to `~`.
+pub fn take_text(field: &[u8]) -> Result<&[u8], FieldFault>
+    ensures { MatchResult result (λ text. text_in field.now ≡ Ok text.now) (λ f. text_in field.now ≡ Err f) }
+{
+    if !are_printable(field) {
+        return Err(FieldFault::NotText);
+    }
+    Ok(without_blanks_after(field))
+}
+
+// The text without the blanks at its end.
+fn without_blanks_after(text: &[u8]) -> &[u8]
+    ensures { result.now ≡ without_blanks_after text.now }
+{
+    let mut len = text.len();
+    while len > 0 && text[len - 1] == b' ' {
+        len -= 1;
+    }
+    &text[..len]
+}
+
+/// Writes a text into a field, with blanks after it.
+///
+/// `TooLong` where the field has too few bytes, else `NotText` where a character is no blank to `~`;
+/// the field is then as it was.
+pub fn put_text(text: &[u8], field: &mut [u8]) -> Result<(), FieldFault>
+    ensures { Puts (text_field (length field.old) text.now) result field.old field.new }
+{
+    if text.len() > field.len() {
+        return Err(FieldFault::TooLong);
+    }
+    if !are_printable(text) {
+        return Err(FieldFault::NotText);
+    }
+    field[..text.len()].copy_from_slice(text);
+    field[text.len()..].fill(b' ');
+    Ok(())
+}

@@ -1,0 +1,105 @@
+ghost use Rattle.std.specs.Prelude.{◌≡◌, ◌≤◌, IsTrue};
+ghost use Rattle.ach_fields.specs.Trace.{trace_of, trace_in, is_trace, dfi_in, sequence_in, trace_text};
+
+use crate::FieldFault;
+use crate::characters::are_digits;
+use crate::number::{number, put_digits};
+use std::marker::Model;
+
+/// How many digits a trace has.
+const WIDTH: usize = 15;
+
+/// How many of them name the bank.
+const DFI_WIDTH: usize = 8;
+
+/// The largest number of a bank.
+const MOST_DFI: u32 = 99_999_999;
+
+/// The largest sequence.
+const MOST_SEQUENCE: u32 = 9_999_999;
+
+/// The trace number of an entry: the eight digits of the bank that originated it, then a sequence of
+/// seven.
+#[derive(Clone, Copy, Debug, PartialEq, Eq)]
+pub struct Trace {
+    digits: [u8; WIDTH],
+}
+
+// Clauses see the fifteen characters.
+impl Model for Trace {
+    ghost use Rattle.std.specs.Prelude.{List, ℕ, IsTrue};
+    ghost use Rattle.ach_fields.specs.Trace.{is_trace};
+
+    ghost Value = { List ℕ };
+
+    ghost view = { λ t. t.digits };
+
+    ghost invariant = { λ t. IsTrue (is_trace t.digits) };
+
+    ghost inverse = { λ s. record { digits = s } };
+}
+
+impl Trace {
+    /// The trace of a bank's number and a sequence: `TooLong` where the bank has more than eight
+    /// digits or the sequence more than seven.
+    pub fn new(dfi: u32, sequence: u32) -> Result<Trace, FieldFault>
+        ensures { result ≡ trace_of dfi sequence }
+    {
+        if dfi > MOST_DFI || sequence > MOST_SEQUENCE {
+            return Err(FieldFault::TooLong);
+        }
+        Ok(Trace {
+            digits: trace_text(dfi, sequence),
+        })
+    }
+
+    /// The trace of fifteen digits: more bytes are `TooLong`, fewer or another character `NotDigit`.
+    pub fn parse(bytes: &[u8]) -> Result<Trace, FieldFault>
+        ensures { result ≡ trace_in bytes.now }
+    {
+        if bytes.len() > WIDTH {
+            return Err(FieldFault::TooLong);
+        }
+        if bytes.len() < WIDTH || !are_digits(bytes) {
+            return Err(FieldFault::NotDigit);
+        }
+        let mut digits = [0; WIDTH];
+        digits.copy_from_slice(bytes);
+        Ok(Trace { digits })
+    }
+
+    /// The number of the bank.
+    pub fn dfi(&self) -> u32
+        ensures value { result ≡ dfi_in self.now }
+        ensures within { result ≤ 99_999_999 }
+    {
+        let digits = &self.digits;
+        number(&digits[..DFI_WIDTH]) as u32
+    }
+
+    /// The sequence.
+    pub fn sequence(&self) -> u32
+        ensures value { result ≡ sequence_in self.now }
+        ensures within { result ≤ 9_999_999 }
+    {
+        let digits = &self.digits;
+        number(&digits[DFI_WIDTH..]) as u32
+    }
+
+    /// The fifteen digits.
+    pub fn text(&self) -> [u8; WIDTH]
+        ensures value { result ≡ self.now }
+        ensures valid { IsTrue (is_trace self.now) }
+    {
+        self.digits
+    }
+}
+
+fn trace_text(dfi: u32, sequence: u32) -> [u8; WIDTH]
+    requires { sequence ≤ 9_999_999 }
+    ensures { result ≡ trace_text dfi sequence }
+{
+    let mut text = [0; WIDTH];
+    put_digits(u64::from(dfi) * 10_000_000 + u64::from(sequence), &mut text);
+    text
+}
