@@ -1,0 +1,58 @@
+-- How bytes are laid out: the whole records, and where the next byte stands.
+use Rattle.std.specs.Prelude.{ℕ, Bool, true, false, ◌||◌, List, [], ◌∷◌, ◌++◌, length, if◌then◌else◌, ◌==◌}
+use Rattle.std.specs.List.{fold}
+
+-- where the next byte stands: in a record, of which these bytes came; right after one; after a CR that
+-- follows one; after its line end; in the tail
+pub data Place : Type 0 where
+  InRecord : (bytes : List ℕ) → Place
+  AfterRecord : Place
+  AfterReturn : Place
+  AfterLine : Place
+  InTail : Place
+
+-- a record may begin here
+abbrev pub begins : Place → Bool
+begins (InRecord bytes) = length bytes == 0
+begins AfterRecord = true
+begins AfterReturn = false
+begins AfterLine = true
+begins InTail = false
+
+-- what a byte does: it is one of a record, of which these came before it; it leads to another place; or it may not stand there
+pub data Move : Type 0 where
+  Put : (bytes : List ℕ) → Move
+  Go : (place : Place) → Move
+  Stray : Move
+
+abbrev pub is_end : ℕ → Bool
+is_end b = (b == 10) || (b == 13)
+
+-- After a record one LF or one CR LF is skipped; a CR or LF after that begins the tail, in which only they may stand.
+unfoldable pub move_at : Place → ℕ → Move
+move_at (InRecord bytes) b = Put bytes
+move_at AfterRecord b = if b == 10 then Go AfterLine else if b == 13 then Go AfterReturn else Put []
+move_at AfterReturn b = if b == 10 then Go AfterLine else if b == 13 then Go InTail else Stray
+move_at AfterLine b = if is_end b then Go InTail else Put []
+move_at InTail b = if is_end b then Go InTail else Stray
+
+-- the whole records so far, and the place of the next byte
+pub record Layout : Type 0 where
+  pub records : List (List ℕ)
+  pub place : Place
+
+abbrev pub moved : Layout → ℕ → Move → Layout
+moved l b (Put bytes) =
+    if length bytes == 93 then record { records = l.records ++ (bytes ++ b ∷ []) ∷ []; place = AfterRecord }
+    else record { records = l.records; place = InRecord (bytes ++ b ∷ []) }
+moved l b (Go place) = record { records = l.records; place = place }
+moved l b Stray = l
+
+unfoldable pub next : Layout → ℕ → Layout
+next l b = moved l b (move_at l.place b)
+
+abbrev pub start : Layout
+start = record { records = []; place = InRecord [] }
+
+unfoldable pub layout : List ℕ → Layout
+layout bytes = fold next start bytes

@@ -1,0 +1,14 @@
+pub mod Facts
+pub mod FaultNames
+pub mod File
+pub mod FirstFault
+pub mod Has
+pub mod Items
+pub mod Kept
+pub mod Layout
+pub mod Outgoing
+pub mod RecordFault
+pub mod Returned
+pub mod SoFar
+pub mod Structure
+pub mod Totals

@@ -1,0 +1,67 @@
+//! What can be wrong with a file.
+ghost use Rattle.std.specs.Prelude.{◌≡◌};
+
+/// What is wrong at a place of a file. Several at one place are told in this order.
+#[derive(Clone, Copy, Debug, PartialEq, Eq, Drop)]
+pub enum FileFault {
+    /// A byte after the first 4,194,304.
+    TooLarge = 1,
+    /// A record ends early, by a CR, an LF or the end of the input, or something else than CR and LF
+    /// follows the last one.
+    BadLength = 2,
+    /// A character that records may not have.
+    BadByte = 3,
+    /// A record that may not follow those before it, or the end of the input before the file control.
+    BadOrder = 4,
+    /// Something else than digits in a field that holds a number.
+    BadNumber = 5,
+    /// An entry that is neither a return nor a change.
+    ForwardEntry = 6,
+    /// An addenda that is missing, one too many, of another type, or a change of an entry with an
+    /// amount.
+    BadAddenda = 7,
+    /// A control says another number of batches or of entries and addenda.
+    BadCount = 8,
+    /// A control says another entry hash.
+    BadHash = 9,
+    /// A control says other total debits or credits.
+    BadTotal = 10,
+    /// The file control says another number of blocks.
+    BadBlock = 11,
+    /// Memory ran out. It stands in no record.
+    NoMemory = 12,
+    /// The reader has told a fault or the file before. It stands in no record.
+    Failed = 13,
+}
+
+/// A fault, and the number of the record in which it stands, from 1; 0 where it stands in none.
+#[derive(Clone, Copy, Debug, PartialEq, Eq, Drop)]
+pub struct Fault {
+    pub kind: FileFault,
+    pub at: u32,
+}
+
+impl FileFault {
+    ghost use Rattle.ach_files.specs.FaultNames.{name_of};
+
+    /// The name of the fault.
+    pub fn name(self) -> &'static str
+        ensures { result.now ≡ name_of self }
+    {
+        match self {
+            FileFault::TooLarge => "TooLarge",
+            FileFault::BadLength => "BadLength",
+            FileFault::BadByte => "BadByte",
+            FileFault::BadOrder => "BadOrder",
+            FileFault::BadNumber => "BadNumber",
+            FileFault::ForwardEntry => "ForwardEntry",
+            FileFault::BadAddenda => "BadAddenda",
+            FileFault::BadCount => "BadCount",
+            FileFault::BadHash => "BadHash",
+            FileFault::BadTotal => "BadTotal",
+            FileFault::BadBlock => "BadBlock",
+            FileFault::NoMemory => "NoMemory",
+            FileFault::Failed => "Failed",
+        }
+    }
+}

@@ -1,0 +1,75 @@
+//! Reading a file in pieces.
+ghost use Rattle.std.specs.Prelude.{◌≡◌, ◌++◌, [], List, ℕ, Some, None, Err, MatchResult};
+ghost use Rattle.ach_files.specs.FirstFault.{Tells};
+ghost use Rattle.ach_files.specs.declared.fault.FileFault.TheVariants as faults;
+
+use crate::fault::{Fault, FileFault};
+use crate::recogniser::Recogniser;
+use crate::taken::Taken;
+use std::alloc::Global;
+
+const FAILED: Fault = Fault {
+    kind: FileFault::Failed,
+    at: 0,
+};
+
+/// Reads a file that comes in pieces: it tells what `read_file` tells of all the pieces together.
+///
+/// It keeps one record in part, running sums, the state of the digest, and what the items say. A fault
+/// is told by the `feed` whose piece holds its byte, one at the end of the input by `finish`. After a
+/// fault, and after `finish`, each call answers `Failed` in record 0.
+#[derive(Drop)]
+pub struct Reader {
+    state: Option<Recogniser>,
+}
+
+impl Reader {
+    ghost use Rattle.ach_files.specs.Has.{HasRead, HasFailed};
+    ghost use Rattle.ach_files.specs.File.{IsReadAs};
+    ghost use Rattle.ach_files.specs.FirstFault.{early_fault, fault, at};
+
+    /// A reader of a file of which nothing came yet. It takes no memory until the first item.
+    pub fn new(alloc: Global) -> Reader
+        ensures { HasRead result [] }
+    {
+        Reader {
+            state: Some(Recogniser::new(alloc)),
+        }
+    }
+
+    /// Takes the next piece. An empty piece changes nothing.
+    pub fn feed(&mut self, piece: &[u8]) -> Result<(), Fault>
+        ensures read { (bytes : List ℕ) → HasRead self.old bytes → MatchResult result
+            (λ _. (early_fault (bytes ++ piece.now) ≡ None) × HasRead self.new (bytes ++ piece.now))
+            (λ f. Tells f (early_fault (bytes ++ piece.now)) × HasFailed self.new) }
+        ensures failed { HasFailed self.old → (result ≡ Err (at 0 faults.Failed)) × HasFailed self.new }
+        ensures nothing { piece.now ≡ [] → self.new ≡ self.old }
+    {
+        if self.state.is_none() {
+            return Err(FAILED);
+        }
+        if piece.is_empty() {
+            return Ok(());
+        }
+        let Some(mut recogniser) = self.state.take() else {
+            return Err(FAILED);
+        };
+        recogniser.take_all(piece)?;
+        self.state = Some(recogniser);
+        Ok(())
+    }
+
+    /// Ends the input: what is taken from the file, or the fault at its end.
+    pub fn finish(&mut self) -> Result<Taken, Fault>
+        ensures read { (bytes : List ℕ) → HasRead self.old bytes → MatchResult result
+            (λ taken. IsReadAs bytes taken)
+            (λ f. fault bytes ≡ Some f) }
+        ensures failed { HasFailed self.old → result ≡ Err (at 0 faults.Failed) }
+        ensures done { HasFailed self.new }
+    {
+        let Some(recogniser) = self.state.take() else {
+            return Err(FAILED);
+        };
+        recogniser.end()
+    }
+}

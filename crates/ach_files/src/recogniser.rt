@@ -1,0 +1,257 @@
+//! What is kept of the bytes so far.
+
+ghost use Rattle.std.specs.List.{list_all};
+ghost use Rattle.ach_fields.specs.Characters.{is_printable};
+ghost use Rattle.std.specs.Prelude.{IfOk, true, ◌≡◌, ◌+◌, ◌*◌, ◌≤◌, ◌<◌, ◌^◌, ◌++◌, ◌∷◌, [], ℕ, List, Some, None, length, take, MatchResult, OnOk, IfErr, Option, nat_le, ◌&&◌, Err};
+ghost use Rattle.ach_files.specs.Kept.{filled, weight, room, digested_text, move_of, place_of};
+ghost use Rattle.std.specs.Option.{option_to_list};
+ghost use Rattle.sha2.specs.Hashers.{Holds256};
+ghost use Rattle.ach_files.specs.declared.fault.FileFault.TheVariants as faults;
+ghost use Rattle.ach_files.specs.declared.fault.FileFault.{FileFault};
+ghost use Rattle.ach_files.specs.FirstFault.{Tells, TellsKind, map_fault, record_of, is_inside};
+
+use crate::advance::{advance, complete};
+use crate::facts::ItemFacts;
+use crate::fault::{Fault, FileFault};
+use crate::judge::judge;
+use crate::place::{Position, Step, begins, is_inside, is_line_end, record_of, step_of};
+use crate::stage::Stage;
+use crate::taken::Taken;
+use ach_fields::{are_printable, is_printable};
+use ach_records::{Kind, kind_of};
+use sha2::{Digest, Sha256};
+use std::alloc::Global;
+
+const LIMIT: u32 = 4_194_304;
+
+/// What is kept of the bytes so far: one record in part, running sums, the digest's state and the items.
+#[derive(Drop)]
+pub struct Recogniser {
+    taken: u32,
+    records: u32,
+    position: Position,
+    part: [u8; 94],
+    stage: Stage,
+    hasher: Sha256,
+    facts: Vec<ItemFacts>,
+    ghost size: { taken ≤ 4194304 },
+    ghost few: { records ≤ taken },
+    ghost inside: { filled position < 94 },
+    ghost small: { weight stage ≤ room records },
+}
+
+fn keep(facts: &mut Vec<ItemFacts>, item: Option<ItemFacts>) -> Result<(), FileFault>
+    ensures ok { OnOk result (facts.new.items ≡ facts.old.items ++ option_to_list item) }
+    ensures err { IfErr result (λ f. f ≡ faults.NoMemory) }
+{
+    if let Some(item) = item {
+        if facts.push(item).is_err() {
+            return Err(FileFault::NoMemory);
+        }
+    }
+    Ok(())
+}
+
+fn digest_record(hasher: &mut Sha256, kind: Kind, text: &[u8; 94])
+    ensures { (m : List ℕ) → Holds256 hasher.old m → Holds256 hasher.new (m ++ digested_text kind text.now) }
+{
+    match kind {
+        Kind::Filler => {}
+        _ => hasher.update(text.as_slice()),
+    }
+}
+
+// The fault of that kind in that record; want of memory stands in none.
+fn told(kind: FileFault, number: u32) -> Fault
+    ensures { (o : Option FileFault) → TellsKind kind o → Tells result (map_fault number o) }
+{
+    match kind {
+        FileFault::NoMemory => Fault { kind, at: 0 },
+        _ => Fault { kind, at: number },
+    }
+}
+
+impl Recogniser {
+    ghost use Rattle.ach_files.specs.RecordFault.{record_fault};
+    ghost use Rattle.ach_files.specs.SoFar.{BeforeHeader, Closed, sofar};
+    ghost use Rattle.ach_files.specs.Layout.{Layout, next, start, moved, Put, layout, begins};
+    ghost use Rattle.ach_files.specs.FirstFault.{place_fault, at, byte_fault, early_fault, end_fault};
+    ghost use Rattle.ach_files.specs.Structure.{File};
+    ghost use Rattle.ach_files.specs.Facts.{facts_in};
+    ghost use Rattle.ach_files.specs.Has.{HasRecords, HasLayout, Has, HasBytes};
+    ghost use Rattle.ach_files.specs.declared.place.Position.TheVariants as positions;
+
+    pub fn new(alloc: Global) -> Recogniser
+        ensures { HasBytes result [] }
+    {
+        Recogniser {
+            taken: 0,
+            records: 0,
+            position: Position::InRecord(0),
+            part: [0; 94],
+            stage: Stage::BeforeHeader,
+            hasher: Sha256::new(),
+            facts: Vec::new(alloc),
+        }
+    }
+
+    // Takes the record that stands whole in `part`.
+    fn take_record(&mut self, number: u32) -> Result<(), FileFault>
+        requires number { number ≡ self.old.records + 1 }
+        requires room { self.old.records < self.old.taken }
+        ensures records { (records : List (List ℕ)) → HasRecords self.old records → MatchResult result
+            (λ _. (record_fault records self.old.part ≡ None) × HasRecords self.new (records ++ self.old.part ∷ []))
+            (λ f. TellsKind f (record_fault records self.old.part)) }
+        ensures position { OnOk result ((self.new.position ≡ positions.AfterRecord) × (self.new.taken ≡ self.old.taken)) }
+    {
+        let kind = kind_of(&self.part);
+        if let Some(fault) = judge(&self.stage, number, kind, &self.part) {
+            return Err(fault);
+        }
+        let item = complete(&self.stage, kind, &self.part);
+        keep(&mut self.facts, item)?;
+        digest_record(&mut self.hasher, kind, &self.part);
+        self.stage = advance(self.stage, self.records, kind, &self.part);
+        self.records = number;
+        self.position = Position::AfterRecord;
+        Ok(())
+    }
+
+    // Takes a byte of a record, of which `count` bytes came before it.
+    fn put(&mut self, count: usize, byte: u8) -> Result<(), FileFault>
+        requires count { count < 94 }
+        requires room { self.old.records < self.old.taken }
+        ensures layout { (l : Layout) → HasRecords self.old l.records → MatchResult result
+            (λ _. (byte_fault l.records (take count self.old.part) byte ≡ None) × HasLayout self.new (moved l byte (Put (take count self.old.part))))
+            (λ f. TellsKind f (byte_fault l.records (take count self.old.part) byte)) }
+        ensures taken { OnOk result (self.new.taken ≡ self.old.taken) }
+    {
+        if is_line_end(byte) {
+            return Err(FileFault::BadLength);
+        }
+        if !is_printable(byte) {
+            return Err(FileFault::BadByte);
+        }
+        self.part[count] = byte;
+        if count == 93 {
+            let number = self.records + 1;
+            return self.take_record(number);
+        }
+        self.position = Position::InRecord(count + 1);
+        Ok(())
+    }
+
+    // Takes the next byte.
+    fn take(&mut self, byte: u8) -> Result<(), Fault>
+        ensures { (l : Layout) (n : ℕ) → Has self.old l n → MatchResult result
+            (λ _. (place_fault n l byte ≡ None) × Has self.new (next l byte) (n + 1))
+            (λ f. Tells f (place_fault n l byte)) }
+    {
+        let step = step_of(self.position, byte);
+        let at = record_of(step, self.records);
+        if self.taken >= LIMIT {
+            return Err(Fault {
+                kind: FileFault::TooLarge,
+                at,
+            });
+        }
+        self.taken += 1;
+        match step {
+            Step::Put(count) => match self.put(count, byte) {
+                Ok(()) => Ok(()),
+                Err(kind) => Err(told(kind, at)),
+            },
+            Step::Go(position) => {
+                self.position = position;
+                Ok(())
+            }
+            Step::Stray => Err(Fault {
+                kind: FileFault::BadLength,
+                at,
+            }),
+        }
+    }
+
+    // Takes a whole record, where one may begin.
+    fn take_whole(&mut self, text: &[u8]) -> Result<(), Fault>
+        requires whole { length text.now ≡ 94 }
+        requires printable { list_all is_printable text.now ≡ true }
+        requires room { self.old.taken + 94 ≤ 4194304 }
+        ensures { (bytes : List ℕ) → begins (layout bytes).place ≡ true → HasBytes self.old bytes → MatchResult result
+            (λ _. HasBytes self.new (bytes ++ text.now))
+            (λ f. Tells f (early_fault (bytes ++ text.now))) }
+    {
+        self.part.copy_from_slice(text);
+        self.taken += 94;
+        let number = self.records + 1;
+        match self.take_record(number) {
+            Ok(()) => Ok(()),
+            Err(kind) => Err(told(kind, number)),
+        }
+    }
+
+    // Does a whole record begin here, of which each byte may stand in one?
+    fn is_at_record(&self, bytes: &[u8]) -> bool
+        ensures whole { result ≡ true → 94 ≤ length bytes.now }
+        ensures printable { result ≡ true → list_all is_printable (take 94 bytes.now) ≡ true }
+        ensures room { result ≡ true → self.now.taken + 94 ≤ 4194304 }
+        ensures begins { result ≡ true → begins (place_of self.now.part self.now.position) ≡ true }
+    {
+        if bytes.len() < 94 || self.taken > LIMIT - 94 || !begins(self.position) {
+            return false;
+        }
+        are_printable(&bytes[..94])
+    }
+
+    // Takes the next bytes: a record where one begins, else one byte. It says how many.
+    fn take_some(&mut self, bytes: &[u8]) -> Result<usize, Fault>
+        requires { 0 < length bytes.now }
+        ensures within { IfOk result (λ count. (0 < count) × (count ≤ length bytes.now)) }
+        ensures read { (seen : List ℕ) → HasBytes self.old seen → MatchResult result
+            (λ count. HasBytes self.new (seen ++ take count bytes.now))
+            (λ f. Tells f (early_fault (seen ++ bytes.now))) }
+    {
+        if self.is_at_record(bytes) {
+            self.take_whole(&bytes[..94])?;
+            return Ok(94);
+        }
+        self.take(bytes[0])?;
+        Ok(1)
+    }
+
+    // Takes the next bytes.
+    pub fn take_all(&mut self, piece: &[u8]) -> Result<(), Fault>
+        ensures { (bytes : List ℕ) → HasBytes self.old bytes → MatchResult result
+            (λ _. HasBytes self.new (bytes ++ piece.now))
+            (λ f. Tells f (early_fault (bytes ++ piece.now))) }
+    {
+        let mut next = 0;
+        while next < piece.len() {
+            next += self.take_some(&piece[next..])?;
+        }
+        Ok(())
+    }
+
+    // The input is at its end.
+    #[tactic(auto, unfolding(crate::specs::FirstFault::end_fault))]
+    pub fn end(self) -> Result<Taken, Fault>
+        ensures { (l : Layout) → HasLayout self l → MatchResult result
+            (λ taken. (end_fault l ≡ None) × (f : File) × (sofar l.records ≡ Closed f) × (taken ≡ facts_in f))
+            (λ f. end_fault l ≡ Some f) }
+    {
+        let at = self.records + 1;
+        if is_inside(self.position) {
+            return Err(Fault {
+                kind: FileFault::BadLength,
+                at,
+            });
+        }
+        match self.stage {
+            Stage::Closed(key) => Ok(Taken::new(key, self.hasher.finalize(), self.facts)),
+            _ => Err(Fault {
+                kind: FileFault::BadOrder,
+                at,
+            }),
+        }
+    }
+}
