@@ -1,0 +1,9 @@
+pub mod BankingDays
+pub mod CsvRecords
+pub mod DateNumbers
+pub mod DayTexts
+pub mod HolidayLaws
+pub mod HolidayRows
+pub mod PlainDates
+pub mod TextRows
+pub mod Vectors

@@ -1,0 +1,185 @@
+ghost use Rattle.std.specs.List.{list_any};
+ghost use Rattle.std.specs.List.Sorted.{IsStrictlyIncreasing};
+ghost use Rattle.std.specs.Prelude.{◌≡◌, ◌⊎◌, ◌==◌, ◌≤◌, ◌+◌, ◌*◌, [], ◌∷◌, ◌++◌, Some, None, All, max, length, IfOk, IfErr, IfSome, OnOk};
+ghost use Rattle.std.specs.Option.{ForSome};
+ghost use Rattle.bank_days.specs.Day.{last_named, last_given, last_day};
+ghost use Rattle.bank_days.specs.Calendar.{AreHolidays, IsNthAfter, IsFirstFrom, is_banking, nth_after, next_banking, rolled};
+ghost use Rattle.bank_days.specs.HolidayList.{Gives, holidays_in, holidays_of_days, last_of, row_fault};
+
+use crate::row::{day_behind, day_of_row};
+use crate::{CalendarFault, Day};
+use csv::ReaderBuilder;
+use std::alloc::{AllocError, Global};
+use std::marker::Model;
+
+/// A bank's list of holidays: at most 400 days, ascending.
+#[derive(Debug, Drop)]
+pub struct Calendar {
+    days: Vec<Day>,
+}
+
+// Clauses see the list of the days.
+impl Model for Calendar {
+    ghost use Rattle.std.specs.Prelude.{List, ℕ};
+    ghost use Rattle.bank_days.specs.Calendar.{AreHolidays};
+
+    ghost Value = { List ℕ };
+
+    ghost view = { λ c. c.days.items };
+
+    ghost invariant = { λ c. AreHolidays c.days.items };
+}
+
+impl Calendar {
+    /// The list without a day. It takes no memory.
+    pub fn empty(alloc: Global) -> Calendar
+        ensures { result ≡ [] }
+    {
+        Calendar {
+            days: Vec::new(alloc),
+        }
+    }
+
+    /// The list of these days. The first at fault decides: it is `NotAscending` where it is not after
+    /// the one before, else `TooMany` where it is the 401st.
+    pub fn from_days(alloc: Global, days: &[Day]) -> Result<Calendar, CalendarFault>
+        requires { All (λ d. d ≤ last_given) days.now }
+        ensures { Gives (holidays_of_days days.now) result }
+    {
+        let mut calendar = Calendar::empty(alloc);
+        for day in days {
+            match calendar.push(Some(*day)) {
+                Ok(()) => (),
+                Err(fault) => return Err(fault),
+            }
+        }
+        Ok(calendar)
+    }
+
+    /// The list that a text of CSV spells, without a header: a day `YYYY-MM-DD` in each row.
+    ///
+    /// Rows are what `csv` makes of the text: blank lines are none, a field may be quoted, and a byte
+    /// order mark at the start is dropped. The first row at fault decides: it is `BadRow` where it is
+    /// no day of the years 2000 to 2099, else `NotAscending` where its day is not after that of the row
+    /// before, else `TooMany` where it is the 401st.
+    pub fn read(alloc: Global, text: &[u8]) -> Result<Calendar, CalendarFault>
+        ensures value { Gives (holidays_in text.now) result }
+        ensures within { IfOk result (All (λ h. h ≤ last_named)) }
+    {
+        let reader = ReaderBuilder::new()
+            .has_headers(false)
+            .flexible(true)
+            .from_reader(alloc, text);
+        let mut calendar = Calendar::empty(alloc);
+        for row in reader.into_byte_records() {
+            let Ok(row) = row else {
+                return Err(CalendarFault::NoMemory);
+            };
+            match calendar.push(day_of_row(&row)) {
+                Ok(()) => (),
+                Err(fault) => return Err(fault),
+            }
+        }
+        Ok(calendar)
+    }
+
+    // One more row: its day, or why it may not stand behind the others.
+    fn push(&mut self, row: Option<Day>) -> Result<(), CalendarFault>
+        requires { ForSome row (λ d. d ≤ last_given) }
+        ensures ok { OnOk result (IfSome row (λ d. self.new ≡ self.old ++ d ∷ [])) }
+        ensures fits { OnOk result (row_fault (length self.old + 1) (last_of self.old) row ≡ None) }
+        ensures err { IfErr result (λ f. (f ≡ CalendarFault.NoMemory) ⊎ (row_fault (length self.old + 1) (last_of self.old) row ≡ Some f)) }
+    {
+        let day = match day_behind(&self.days, row) {
+            Ok(day) => day,
+            Err(fault) => return Err(fault),
+        };
+        if self.days.push(day).is_err() {
+            return Err(CalendarFault::NoMemory);
+        }
+        Ok(())
+    }
+
+    /// A copy.
+    pub fn try_clone(&self, alloc: Global) -> Result<Calendar, AllocError>
+        ensures { IfOk result (λ copy. copy ≡ self.now) }
+    {
+        let mut days = Vec::new(alloc);
+        days.extend_from_slice(&self.days)?;
+        Ok(Calendar { days })
+    }
+
+    /// Is a day neither a Saturday nor a Sunday nor in the list?
+    pub fn is_banking(&self, day: Day) -> bool
+        ensures { result ≡ is_banking self.now day }
+    {
+        day.is_workday() && !is_listed(&self.days, day)
+    }
+
+    // The first banking day after a day.
+    fn following(&self, day: Day) -> Day
+        requires { day ≤ last_given + 3 }
+        ensures next { IsNthAfter self.now day 1 result }
+        ensures soon { result ≤ max day last_given + 3 }
+    {
+        // No holiday is after the last day that a call may be given, so the search ends.
+        let _days = &self.days;
+        let mut next = day.tomorrow();
+        while !self.is_banking(next) {
+            next = next.tomorrow();
+        }
+        next
+    }
+
+    /// The first banking day after a day.
+    pub fn next(&self, day: Day) -> Day
+        requires { day ≤ last_given }
+        ensures value { result ≡ next_banking self.now day }
+        ensures counted { IsNthAfter self.now day 1 result }
+        ensures within { result ≤ last_given + 3 }
+    {
+        self.following(day)
+    }
+
+    /// The first or the second banking day after a day.
+    pub fn nth_after(&self, day: Day, n: u8) -> Day
+        requires day { day ≤ last_given }
+        requires count { (1 ≤ n) × (n ≤ 2) }
+        ensures value { result ≡ nth_after self.now day n }
+        ensures counted { IsNthAfter self.now day n result }
+        ensures within { result ≤ last_given + 3 * n }
+    {
+        let first = self.next(day);
+        if n == 1 { first } else { self.following(first) }
+    }
+
+    /// The day itself where it is a banking day, else the next one.
+    pub fn roll(&self, day: Day) -> Day
+        requires { day ≤ last_given }
+        ensures value { result ≡ rolled self.now day }
+        ensures first { IsFirstFrom self.now day result }
+        ensures within { result ≤ last_given + 3 }
+    {
+        if self.is_banking(day) {
+            day
+        } else {
+            self.next(day)
+        }
+    }
+
+    /// The days of the list, ascending.
+    pub fn holidays(&self) -> &[Day]
+        ensures value { result.now ≡ self.now }
+        ensures valid { AreHolidays self.now }
+    {
+        self.days.as_slice()
+    }
+}
+
+// Is a day in a list that ascends?
+fn is_listed(days: &[Day], day: Day) -> bool
+    requires { IsStrictlyIncreasing days.now }
+    ensures { result ≡ list_any (λ h. h == day) days.now }
+{
+    days.binary_search(&day).is_ok()
+}

@@ -1,0 +1,20 @@
+//! Days by number, the holiday list of a bank, and the banking days that it leaves.
+//!
+//! A [`Day`] is seen by contracts as its number, where 1970-01-01 is 0, and a [`Calendar`] as the list
+//! of its holidays. Only the calls that read or copy a list take memory. A day that a call is given is
+//! at most 2100-06-30, so that what is counted from it is a [`Day`] too.
+#![tactic(auto)]
+
+mod calendar;
+mod calendar_fault;
+mod date;
+mod day;
+mod laws;
+mod row;
+#[cfg(test)]
+mod tests;
+
+pub use calendar::Calendar;
+pub use calendar_fault::CalendarFault;
+pub use day::Day;
+pub use laws::{days_and_dates, days_and_texts, holiday_lists, nth_banking_days, rolled_days};
