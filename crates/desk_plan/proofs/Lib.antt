@@ -1,0 +1,15 @@
+pub mod Alone
+pub mod Cuts
+pub mod Divisions
+pub mod FewerFiles
+pub mod Filling
+pub mod Loads
+pub mod NewSequences
+pub mod Ranges
+pub mod Restarts
+pub mod Rows
+pub mod Sending
+pub mod Sizes
+pub mod Submissions
+pub mod Subsequences
+pub mod Vectors

@@ -1,0 +1,10 @@
+pub mod Batch
+pub mod Cut
+pub mod Files
+pub mod Laws
+pub mod Load
+pub mod Numbers
+pub mod Places
+pub mod Reuse
+pub mod Runs
+pub mod Sequences

@@ -1,0 +1,22 @@
+-- What the batches of a file take together.
+use Rattle.std.specs.Prelude.{◌+◌, Bool, ◌&&◌, nat_le, List, length, sum_by}
+use Rattle.ach_fields.specs.Cents.{most_cents}
+use Rattle.desk_plan.specs.declared.batch.Batch.{Batch}
+use Rattle.desk_plan.specs.declared.load.Load.{Load}
+use Rattle.desk_plan.specs.Files.{most_batches, most_records}
+
+abbrev pub load : List Batch → Load
+load run = record {
+  debits = sum_by (λ b. b.debits) run;
+  credits = sum_by (λ b. b.credits) run;
+  batches = length run;
+  records = sum_by (λ b. b.records) run;
+}
+
+-- with one batch more
+abbrev pub plus : Load → Batch → Load
+plus l b = record { debits = l.debits + b.debits; credits = l.credits + b.credits; batches = l.batches + 1; records = l.records + b.records }
+
+-- whether a file may hold so much
+abbrev pub is_within : Load → Bool
+is_within l = nat_le l.debits most_cents && nat_le l.credits most_cents && nat_le l.batches most_batches && nat_le l.records most_records

@@ -1,0 +1,51 @@
+//! Laws of the division into files, of sequences and of modifiers.
+ghost use Rattle.desk_plan.specs.Laws.{OneDivision, FewerFiles, SentByCut, ByRanges, NeverTwice, LatestInRows, YoungestAfter, ModifiersAndPlaces, AcceptedAlone};
+
+/// The batches of submissions have one division into files, and no other; its sizes give it back.
+pub fn one_division()
+    ensures { OneDivision }
+{}
+
+/// Some of the batches make no more files than all, in one cut and in the cuts of a day.
+pub fn fewer_files()
+    ensures { FewerFiles }
+{}
+
+/// A cut adds the entries of its batches to those that were sent, by the ranges of the batches.
+pub fn sent_by_cut()
+    ensures { SentByCut }
+{}
+
+/// That a cut may use its sequences is seen by ranges: no two of its batches have a sequence in
+/// common, and of each range the latest settlement is long enough ago.
+pub fn by_ranges()
+    ensures { ByRanges }
+{}
+
+/// A desk that has sent no more entries than there are sequences uses none twice, and each names its
+/// one entry.
+pub fn never_twice()
+    ensures { NeverTwice }
+{}
+
+/// A store finds the latest settlement of a range among rows that tell the youngest entry of each
+/// sequence.
+pub fn latest_in_rows()
+    ensures { LatestInRows }
+{}
+
+/// How such rows change where a batch is sent: its entries are the youngest of their sequences.
+pub fn youngest_after()
+    ensures { YoungestAfter }
+{}
+
+/// A day's files have different modifiers, and each batch has a place.
+pub fn modifiers_and_places()
+    ensures { ModifiersAndPlaces }
+{}
+
+/// Where a cut of the whole desk is not refused, nor is one of some of its batches in a desk that has
+/// them alone.
+pub fn accepted_alone()
+    ensures { AcceptedAlone }
+{}

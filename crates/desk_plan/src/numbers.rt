@@ -1,0 +1,82 @@
+//! Which sequences the entries of a cut take.
+ghost use Rattle.std.specs.Prelude.{◌≡◌, ◌≤◌, All, true, false, IfOk, OnOk, IsErrOf};
+ghost use Rattle.desk_plan.specs.Batch.{IsEntryCount};
+ghost use Rattle.desk_plan.specs.Sequences.{IsRange, range_after, ranges, are_apart};
+
+use std::alloc::{AllocFailed, Global};
+
+/// The largest sequence: seven digits.
+const MOST_SEQUENCE: u32 = 9_999_999;
+
+/// Why the entries of a cut get no sequences.
+#[derive(Clone, Copy, Debug, PartialEq, Eq)]
+pub enum NumberFault {
+    /// A batch would take a sequence that another batch of the cut takes.
+    TracesSpent,
+    /// Memory was refused.
+    NoMemory,
+}
+
+impl<T: Drop> From<AllocFailed<T>> for NumberFault {
+    ghost use Rattle.desk_plan.specs.declared.numbers.NumberFault.TheVariants.{NoMemory};
+
+    ghost from_gives = { λ _ e. e ≡ NoMemory };
+
+    fn from(_error: AllocFailed<T>) -> NumberFault {
+        NumberFault::NoMemory
+    }
+}
+
+/// The first and the last sequence of each batch of a cut, by their numbers of entries and by the
+/// sequence of the last entry that was sent before, which is 0 where there is none.
+///
+/// A batch goes on after the last sequence that was taken. One that would pass 9,999,999 begins at 1,
+/// and the sequences that are left over stay unused in this round. `TracesSpent` where two batches
+/// would have a sequence in common. Whether the entries of earlier cuts leave a range free is for
+/// `is_past` to say.
+pub fn plan_numbers(
+    alloc: Global,
+    last_sequence: u32,
+    entries: &[u32],
+) -> Result<Vec<(u32, u32)>, NumberFault>
+    requires { All IsEntryCount entries.now }
+    ensures ranges { IfOk result (λ planned. planned.items ≡ ranges last_sequence entries.now) }
+    ensures apart { OnOk result (are_apart (ranges last_sequence entries.now) ≡ true) }
+    ensures spent { IsErrOf result NumberFault.TracesSpent → are_apart (ranges last_sequence entries.now) ≡ false }
+    ensures within { IfOk result (λ planned. All IsRange planned.items) }
+{
+    let mut ranges = Vec::new(alloc);
+    let Some((count, rest)) = entries.split_first() else {
+        return Ok(ranges);
+    };
+    let (start, end) = range_after(last_sequence, *count);
+    ranges.push((start, end))?;
+    let mut last = end;
+    let mut restarted = false;
+    for count in rest {
+        let (from, to) = range_after(last, *count);
+        let restarts = from <= last;
+        if restarted && restarts {
+            return Err(NumberFault::TracesSpent);
+        }
+        restarted = restarted || restarts;
+        if restarted && start <= to {
+            return Err(NumberFault::TracesSpent);
+        }
+        ranges.push((from, to))?;
+        last = to;
+    }
+    Ok(ranges)
+}
+
+// The first and the last sequence of a batch with so many entries, after a last sequence.
+fn range_after(last: u32, entries: u32) -> (u32, u32)
+    requires { IsEntryCount entries }
+    ensures value { result ≡ range_after last entries }
+    ensures within { IsRange result }
+{
+    match last.checked_add(entries) {
+        Some(to) if to <= MOST_SEQUENCE => (last + 1, to),
+        _ => (1, entries),
+    }
+}
