@@ -1,0 +1,16 @@
+-- Checks one after another: the first refusal is the answer.
+use Rattle.std.specs.Prelude.{ℕ, Option, Some, None, Result, Ok, Err}
+use Rattle.desk_rules.specs.declared.refusal.Refusal.{Refusal}
+use Rattle.desk_rules.specs.declared.refusal.Refusal.TheVariants.{BadField}
+use Rattle.desk_rules.specs.declared.refusal.Field.{Field}
+
+infixl 10 ◌>>=◌
+-- the first refusal, or what comes of the value
+abbrev pub ◌>>=◌ : {A B : Type 0} → Result A Refusal → (A → Result B Refusal) → Result B Refusal
+Ok x >>= f = f x
+Err r >>= f = Err r
+
+-- a field's value, or its refusal
+abbrev pub good : {A : Type 0} → Field → ℕ → Option A → Result A Refusal
+good f i (Some x) = Ok x
+good f i None = Err (BadField f i)
