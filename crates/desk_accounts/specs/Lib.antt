@@ -1,0 +1,4 @@
+pub mod Balance
+pub mod Laws
+pub mod Posting
+pub mod Sums
