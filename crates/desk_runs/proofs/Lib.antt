@@ -1,0 +1,5 @@
+pub mod Checking
+pub mod Cut
+pub mod Fed
+pub mod Printing
+pub mod Verdicts

@@ -1,0 +1,43 @@
+//! Commands, and words that name none.
+use super::{PAY_1, PAY_1_LINE};
+use crate::{Status, run, tell};
+use desk_line::{Command, LineFault};
+use std::test::Fail;
+
+#[test]
+fn a_submission_and_a_file_that_is_not_there(rt: HostRuntime) {
+    let mut output = Vec::new(rt.alloc());
+    let status = run(&rt, &Command::FirstRun, PAY_1.as_bytes(), &mut output);
+    assert_eq!(rt; status, Status::Done);
+    assert_eq!(rt; output.as_slice(), PAY_1_LINE.as_bytes());
+
+    let mut output = Vec::new(rt.alloc());
+    let nobody: &[u8] = b"";
+    let status = run(
+        &rt,
+        &Command::Check("out/no such folder/no such file"),
+        nobody,
+        &mut output,
+    );
+    assert_eq!(rt; status, Status::Failed);
+    assert_eq!(rt; output.as_slice(), b"unavailable\n".as_slice());
+}
+
+#[test]
+fn help_and_usage(rt: HostRuntime) -> Result<(), Fail> {
+    let text = String::from_str(rt.alloc(), "Usage: achdesk\n")?;
+    let rows = [
+        (LineFault::Help(text), 0, "Usage: achdesk\n"),
+        (LineFault::NoMemory, 3, "unavailable\n"),
+    ];
+    for (fault, code, line) in &rows {
+        let mut output = Vec::new(rt.alloc());
+        assert_eq!(rt; tell(&mut output, fault), *code);
+        assert_eq!(rt; output.as_slice(), line.as_bytes());
+    }
+    let mut output = Vec::new(rt.alloc());
+    let text = String::from_str(rt.alloc(), "error: wrong words\n")?;
+    assert_eq!(rt; tell(&mut output, &LineFault::Usage(text)), 2);
+    assert_eq!(rt; output.as_slice(), b"error: wrong words\n".as_slice());
+    Ok(())
+}
