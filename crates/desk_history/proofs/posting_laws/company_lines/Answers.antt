@@ -1,0 +1,5 @@
+use Rattle.desk_history.proofs.posting_laws.company_lines.Goals as goal
+use Rattle.desk_history.proofs.CompanyLines.{company_lines}
+
+pub returns : goal.returns
+returns c = company_lines

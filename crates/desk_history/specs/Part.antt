@@ -1,0 +1,50 @@
+-- What the history holds of one company: its part. The newest event stands first, so that what was
+-- before an event is the rest of the list.
+use Rattle.std.specs.Prelude.{ℕ, Bool, List, [], ◌∷◌, Option, Some, None, is_some, unwrap_or}
+use Rattle.desk_rules.specs.declared.company.Limits.{Limits}
+use Rattle.desk_history.specs.Request.{Request}
+
+-- No event has a trace, a batch, a file or anything of another company.
+pub data Event : Type 0 where
+  -- the operator set the desk day
+  DaySet : (day : ℕ) → Event
+  -- the operator set the holiday list
+  HolidaysSet : (days : List ℕ) → Event
+  -- the company was registered, with the digest of its key
+  Registered : (name digest : List ℕ) (limits : Limits) → Event
+  -- its limits were set
+  Limited : (limits : Limits) → Event
+  -- it handed in a submission or a retry, whether or not that was accepted
+  Asked : Request → Event
+  -- the operator cut files
+  CutMade : Event
+  -- an entry of the company came back, named by the reference of its submission and its number there
+  Returned : (reference : List ℕ) (index code : ℕ) (information : List ℕ) → Event
+  -- a change was notified for an entry of the company
+  Changed : (reference : List ℕ) (index : ℕ) (code text : List ℕ) → Event
+
+-- the desk day: the last that was set
+abbrev pub day : List Event → Option ℕ
+day [] = None
+day (DaySet d ∷ P) = Some d
+day (_ ∷ P) = day P
+
+-- the holidays: the list that was set last, and none before the first
+abbrev pub holidays : List Event → List ℕ
+holidays [] = []
+holidays (HolidaysSet days ∷ P) = days
+holidays (_ ∷ P) = holidays P
+
+-- the limits that were set last; none before the company is registered
+abbrev pub limits : List Event → Option Limits
+limits [] = None
+limits (Registered name digest l ∷ P) = Some l
+limits (Limited l ∷ P) = Some l
+limits (_ ∷ P) = limits P
+
+-- the desk day, 0 where none was set
+abbrev pub today : List Event → ℕ
+today P = unwrap_or (day P) 0
+
+abbrev pub is_registered : List Event → Bool
+is_registered P = is_some (limits P)

@@ -1,0 +1,76 @@
+-- What a cut sends: submissions, each of which becomes a batch whose entries take consecutive sequences.
+use Rattle.std.specs.Prelude.{ℕ, ◌+◌, Bool, if◌then◌else◌, List, ◌++◌, map, zip, length, reverse, sum_by, Option, Some, None, ◌-◌}
+use Rattle.std.specs.List.{enumerate_from, flat_map}
+use Rattle.desk_plan.specs.declared.batch.Batch as plan
+use Rattle.desk_plan.specs.Sequences.{Sent, ranges_of}
+use Rattle.desk_rules.specs.declared.company.Company.{Company}
+use Rattle.desk_rules.specs.declared.submission.Entry.{Entry}
+use Rattle.desk_rules.specs.LimitChecks.{is_debit}
+use Rattle.desk_rules.specs.Size.{total_of}
+use Rattle.desk_history.specs.declared.row.SentEntry.{SentEntry}
+use Rattle.desk_history.specs.Accepted.{Accepted}
+
+-- a submission that a cut sends, with its company and the day on which it settles
+pub record Sending : Type 0 where
+  pub company : Company
+  pub accepted : Accepted
+  pub settled : ℕ
+
+abbrev pub entries_in : Sending → List Entry
+entries_in s = s.accepted.content.entries
+
+abbrev pub is_debit_sending : Sending → Bool
+is_debit_sending s = is_debit s.accepted.content.direction
+
+-- an entry's record, and that of its addenda
+abbrev pub records_of : Option (List ℕ) → ℕ
+records_of None = 1
+records_of (Some info) = 2
+
+-- what it takes of a file and of the sequences
+abbrev pub plan_of : Sending → plan.Batch
+plan_of s = record {
+  company = s.company.id;
+  order = s.accepted.order;
+  settled = s.settled;
+  debits = if is_debit_sending s then total_of (entries_in s) else 0;
+  credits = if is_debit_sending s then 0 else total_of (entries_in s);
+  entries = length (entries_in s);
+  records = sum_by (λ e. records_of e.info) (entries_in s);
+}
+
+-- a batch: its entries take sequences from the first on
+pub record Batch : Type 0 where
+  pub sending : Sending
+  pub first : ℕ
+
+abbrev pub sent_entry : Batch → ℕ → Entry → SentEntry
+sent_entry b index e = record {
+  sequence = b.first + (index - 1);
+  company = b.sending.company.id;
+  reference = b.sending.accepted.content.reference;
+  order = b.sending.accepted.order;
+  index = index;
+  settled = b.sending.settled;
+  sec = b.sending.accepted.content.sec;
+  debit = is_debit_sending b.sending;
+  entry = e;
+}
+
+abbrev pub sent_entries : Batch → List SentEntry
+sent_entries b = map (λ x. sent_entry b x.0 x.1) (enumerate_from 1 (entries_in b.sending))
+
+-- its sequence and its settlement
+abbrev pub sent_as : SentEntry → Sent
+sent_as e = record { sequence = e.sequence; settled = e.settled }
+
+abbrev pub batch_of : (ℕ × ℕ) × Sending → Batch
+batch_of x = record { sending = x.1; first = x.0.0 }
+
+-- the batches of what a cut sends behind these entries, the newest of which stands first
+abbrev pub batches : List SentEntry → List Sending → List Batch
+batches sent sendings = map batch_of (zip (ranges_of (map sent_as sent) (map plan_of sendings)) sendings)
+
+-- what was sent once a cut sends these, the newest first
+abbrev pub sent_with : List SentEntry → List Sending → List SentEntry
+sent_with sent sendings = reverse (flat_map sent_entries (batches sent sendings)) ++ sent

@@ -1,0 +1,23 @@
+//! Laws of cuts and of traces.
+ghost use Rattle.desk_history.specs.SentLaws.{AcceptedCuts, TracesName, TracesOfCuts};
+
+/// A cut that was accepted had a desk day, took only sequences that were free, and had modifiers for
+/// its files; its answer is the one that the definitions give.
+pub fn accepted_cuts()
+    ensures { AcceptedCuts }
+{}
+
+/// The trace of an item that came back names the youngest entry that was sent with it, and no other.
+pub fn traces_name()
+    ensures { TracesName }
+{}
+
+/// Sequences have one to seven digits, and as soon as a cut is made the trace of each entry that it
+/// sent names that entry and no other.
+pub fn traces_of_cuts()
+    ensures { TracesOfCuts }
+{
+    ach_fields::numbers_and_digits();
+    desk_plan::sent_by_cut();
+    desk_plan::by_ranges();
+}

@@ -1,0 +1,7 @@
+//! Laws of postings.
+ghost use Rattle.desk_history.specs.PostingLaws.{CompanyLines};
+
+/// What is posted to a company's account is what its statement lists, line by line.
+pub fn company_lines()
+    ensures { CompanyLines }
+{}

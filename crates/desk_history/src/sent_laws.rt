@@ -1,0 +1,13 @@
+//! Laws of what a desk sent.
+ghost use Rattle.desk_history.specs.Possible.{PossibleParts};
+ghost use Rattle.desk_history.specs.SentLaws.{SentAreAccepted};
+
+/// Each sent entry is an entry of an accepted submission of its company, which settles on its day.
+pub fn sent_are_accepted()
+    ensures { SentAreAccepted }
+{}
+
+/// Only entries that were sent come back or are changed, and each comes back once.
+pub fn possible_parts()
+    ensures { PossibleParts }
+{}
