@@ -77,7 +77,7 @@ apart_with_company k (other ∷ others) none apart =
 
 -- ---- new limits
 
-same_id : (id : List ℕ) (limits : Limits) (k : Company) → (with_limits id limits k).id ≡ k.id
+pub same_id : (id : List ℕ) (limits : Limits) (k : Company) → (with_limits id limits k).id ≡ k.id
 same_id id limits k = elim (bytes_eq k.id id) as (λ b. (if b then record k { limits = limits } else k).id ≡ k.id) [ true ↦ refl | false ↦ refl ]
 
 pub find_with_limits : (id : List ℕ) (limits : Limits) (ks : List Company) (c : List ℕ)

@@ -47,3 +47,11 @@ pub mod RetriesOnRows
 pub mod CutRows
 pub mod ReturnedRows
 pub mod RowSteps
+pub mod LoneCompany
+pub mod LoneCuts
+pub mod Lone
+pub mod LoneMessages
+pub mod CutAlone
+pub mod LoneItems
+pub mod FilesAlone
+pub mod ServedAlone

@@ -83,7 +83,7 @@ registered ks c P (Ok k) h same =
     ∙ elim (bytes_eq k.id c) as (λ b. option_map (λ k. k.limits) (cond b (Some k) (find (has_id c) ks)) ≡ limits ((if b then Registered k.name k.digest k.limits ∷ [] else []) ++ P)) [ true ↦ refl | false ↦ same ]
 
 -- what new limits answer, where these companies are registered
-abbrev limiting : List Company → List ℕ × Limits → Result Done rules.Refusal
+abbrev pub limiting : List Company → List ℕ × Limits → Result Done rules.Refusal
 limiting ks x = some_or NoCompany (find (has_id x.0) ks) >>= (λ _. Ok (done.Company x.0))
 
 -- new limits of a company

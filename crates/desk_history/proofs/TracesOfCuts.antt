@@ -32,7 +32,7 @@ use Rattle.desk_history.proofs.SettlesAfter.{sends_after}
 
 -- ---- traces and sequences
 
-same_sequence : NumbersAndDigits → (dfi a b : ℕ) → a ≤ most_sequence → b ≤ most_sequence → trace_text dfi a ≡ trace_text dfi b → a ≡ b
+pub same_sequence : NumbersAndDigits → (dfi a b : ℕ) → a ≤ most_sequence → b ≤ most_sequence → trace_text dfi a ≡ trace_text dfi b → a ≡ b
 unfolding trace_text
 same_sequence law dfi a b few less same =
     let digits_same = append_cancel_left (digits 8 dfi) (digits 7 a) (digits 7 b) same in

@@ -8,6 +8,7 @@
 
 mod accepted_laws;
 mod account_laws;
+mod alone_laws;
 mod answer;
 mod call;
 mod cut_laws;
@@ -23,6 +24,7 @@ mod sent_laws;
 
 pub use accepted_laws::accepted_in_order;
 pub use account_laws::accounts_cancel;
+pub use alone_laws::served_alone;
 pub use answer::{Answer, Done, Refusal};
 pub use call::Call;
 pub use cut_laws::{accepted_cuts, traces_name, traces_of_cuts};

@@ -1,0 +1,10 @@
+pub mod FlatRows
+pub mod FlatCuts
+pub mod FlatIntakes
+pub mod Numbered
+pub mod DaySums
+pub mod Latest
+pub mod Traced
+pub mod Pushes
+pub mod Places
+pub mod Added

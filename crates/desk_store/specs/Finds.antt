@@ -1,0 +1,34 @@
+-- What the reads of the lists in memory find.
+use Rattle.std.specs.Prelude.{ℕ, ◌==◌, nat_lt, if◌then◌else◌, List, [], ◌∷◌, map, filter, bytes_eq, option_and_then, max, Option, Some, None, ℤ, ◌+ℤ◌}
+use Rattle.desk_rules.specs.declared.company.Company.{Company}
+use Rattle.desk_history.specs.declared.row.Row.{Row}
+use Rattle.desk_history.specs.Standing.{row_under, is_held}
+use Rattle.desk_store.specs.declared.list_store.Kept.{Kept}
+use Rattle.desk_store.specs.declared.store.Waiting.{Waiting}
+use Rattle.desk_store.specs.Kept.{row_in}
+use Rattle.desk_store.specs.Reads.{waiting_row}
+
+-- a company's rows
+abbrev pub rows_for : List Kept → List ℕ → List Row
+rows_for kept c = map (λ x. x.row) (filter (λ x. bytes_eq x.company c) (map row_in kept))
+
+-- the day on which a company's submission settled
+abbrev pub settled_under : List Row → List ℕ → Option ℕ
+settled_under rows reference = option_and_then (λ row. row.settled) (row_under rows reference)
+
+-- a company's held submissions
+abbrev pub waiting_for : Company → List Row → List Waiting
+waiting_for k rows = map (waiting_row k rows) (filter is_held rows)
+
+-- the later of two days, where there are any
+abbrev pub later_of : Option ℕ → Option ℕ → Option ℕ
+later_of None d = d
+later_of (Some d) None = Some d
+later_of (Some d) (Some e) = Some (max d e)
+
+-- sums by day with one more amount on a day
+abbrev pub with_sum : ℕ → ℤ → List (ℕ × ℤ) → List (ℕ × ℤ)
+with_sum day cents [] = (day, cents) ∷ []
+with_sum day cents (row ∷ rows) =
+    if day == row.0 then (row.0, row.1 +ℤ cents) ∷ rows
+    else (if nat_lt day row.0 then (day, cents) ∷ row ∷ rows else row ∷ with_sum day cents rows)

@@ -1,0 +1,9 @@
+pub mod Rows
+pub mod Steps
+pub mod Words
+pub mod Reads
+pub mod Written
+pub mod Kept
+pub mod Changes
+pub mod Finds
+pub mod Held
