@@ -1,0 +1,2 @@
+pub mod OnBook
+pub mod BookLaws
