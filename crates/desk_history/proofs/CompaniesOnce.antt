@@ -12,7 +12,7 @@ use Rattle.desk_history.specs.Words.{is_before}
 use Rattle.desk_history.specs.Message.{Pair}
 use Rattle.desk_history.specs.History.{company_put, limits_put, if_accepted, with_company, with_limits, with_put, with_changed, companies}
 use Rattle.desk_history.specs.Operator.{has_id, IsHistory}
-use Rattle.desk_history.proofs.Companies.{Apart, companies_apart}
+use Rattle.desk_history.proofs.Companies.{Apart, companies_apart, same_id}
 use Rattle.desk_history.proofs.Each.{each-weaker}
 
 -- how many companies have an identification
@@ -36,16 +36,13 @@ count_of-with_company c k (other ∷ ks) =
       | false ↦ omega arith
     ]
 
-with_limits-id : (id : List ℕ) (limits : Limits) (k : Company) → (with_limits id limits k).id ≡ k.id
-with_limits-id id limits k = elim (bytes_eq k.id id) as (λ b. (if b then record k { limits = limits } else k).id ≡ k.id) [ true ↦ refl | false ↦ refl ]
-
 count_of-with_limits : (c id : List ℕ) (limits : Limits) (ks : List Company) → count_of c (map (with_limits id limits) ks) ≡ count_of c ks
 count_of-with_limits c id limits [] = refl
 count_of-with_limits c id limits (k ∷ ks) =
     let rest = count_of-with_limits c id limits ks in
     let here = count_of-cons c k ks in
     let changed = count_of-cons c (with_limits id limits k) (map (with_limits id limits) ks) in
-    let same : one c (with_limits id limits k) ≡ one c k = ap (λ (i : List ℕ). cond (bytes_eq i c) 1 0) (with_limits-id id limits k) in
+    let same : one c (with_limits id limits k) ≡ one c k = ap (λ (i : List ℕ). cond (bytes_eq i c) 1 0) (same_id id limits k) in
     omega arith
 
 pub count_of-with_changed : (c : List ℕ) (change : Option (List ℕ × Limits)) (ks : List Company) → count_of c (with_changed change ks) ≡ count_of c ks

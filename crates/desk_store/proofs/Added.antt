@@ -10,7 +10,7 @@ use Rattle.desk_history.specs.Standing.{row_next}
 use Rattle.desk_store.specs.Held.{held_row}
 use Rattle.desk_store.specs.Rows.{Rows, CompanyRow, flat_book}
 use Rattle.desk_store.specs.Steps.{changed_at, add_submission}
-use Rattle.desk_store.proofs.Pushes.{found-push}
+use Rattle.desk_store.proofs.FlatRows.{own_more}
 
 -- the company's rows have the next one, and those of others are as they were
 flat-push : (xs : List CompanyRow) (at : List ℕ) (order : ℕ) (s : Submission) (retry : Option Retry) (c : List ℕ) →
@@ -20,7 +20,7 @@ flat-push : (xs : List CompanyRow) (at : List ℕ) (order : ℕ) (s : Submission
 flat-push xs at order s retry c next =
     let rows : List ℕ → List Row = λ c. map (λ x. x.row) (filter (λ x. bytes_eq x.company c) xs) in
     let row : ℕ → Row = λ n. (held_row at n s retry).row in
-    found-push (λ (x : CompanyRow). x.company) (λ x. x.row) xs (held_row at order s retry) c
+    own_more (λ x. x.row) (λ (x : CompanyRow). x.company) xs (held_row at order s retry) c
     ∙ elim (cases_Bool (bytes_eq at c)) [
       | inl own ↦
           let is : at ≡ c = (bytes_eq-Decides at c).0 own in

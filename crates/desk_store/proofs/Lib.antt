@@ -5,6 +5,5 @@ pub mod Numbered
 pub mod DaySums
 pub mod Latest
 pub mod Traced
-pub mod Pushes
 pub mod Places
 pub mod Added
