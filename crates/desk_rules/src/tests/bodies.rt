@@ -1,108 +1,152 @@
 //! Fields of bodies, in their order.
 use super::day;
 use crate::{
-    CompanyDraft, Draft, DraftText, EntryDraft, EntryDrafts, Field, LimitDrafts, LimitsDraft,
-    Optional, Refusal, RetryDraft, RuleFault, Submission, check_company_fields, check_day_field,
-    check_fields, check_limits_fields, check_retry_fields, check_size, total,
+    Company, CompanyDraft, Draft, DraftText, EntryDraft, EntryDrafts, Field, LimitDrafts, Limits,
+    LimitsDraft, Optional, Refusal, Retry, RetryDraft, RuleFault, Submission, check_company_fields,
+    check_day_field, check_fields, check_limits_fields, check_retry_fields, check_size, total,
 };
-use std::alloc::{AllocError, Global};
+use ach_fields::Id;
+use std::alloc::Global;
 use std::process::Abort;
-use std::test::Fail;
 
-fn text(alloc: Global, bytes: &[u8]) -> Result<Option<DraftText>, AllocError> {
-    Ok(Some(DraftText::copied(alloc, bytes)?))
+fn text(rt: &(impl Abort + Alloc<A = Global>), bytes: &[u8]) -> DraftText {
+    DraftText::copied(rt.alloc(), bytes).expect(rt, "a text")
 }
 
-// An entry with these cents, a prenote where there are none.
-fn entry(alloc: Global, cents: u64) -> Result<EntryDraft, AllocError> {
-    Ok(EntryDraft {
-        routing: text(alloc, b"091000019")?,
-        account: text(alloc, b"123456789")?,
-        kind: text(alloc, b"checking")?,
-        prenote: Optional::Given(cents == 0),
+// An entry, with payment information or without.
+fn entry(
+    rt: &(impl Abort + Alloc<A = Global>),
+    routing: &[u8],
+    prenote: Optional<bool>,
+    cents: u64,
+    has_info: bool,
+) -> EntryDraft {
+    let info = if has_info {
+        Optional::Given(text(rt, b"INVOICE 7"))
+    } else {
+        Optional::Absent
+    };
+    EntryDraft {
+        routing: Some(text(rt, routing)),
+        account: Some(text(rt, b"123456789")),
+        kind: Some(text(rt, b"checking")),
+        prenote,
         cents: Some(cents),
-        id: text(alloc, b"")?,
-        name: text(alloc, b"ANN LEE")?,
-        info: Optional::Given(DraftText::copied(alloc, b"INVOICE 7")?),
-    })
+        id: Some(text(rt, b"")),
+        name: Some(text(rt, b"ANN LEE")),
+        info,
+    }
 }
 
-fn draft(
-    alloc: Global,
-    asked: &[u8],
-    direction: &[u8],
-    amounts: &[u64],
-) -> Result<Draft, AllocError> {
-    let mut entries = Vec::new(alloc);
+// Entries with these cents, prenotes where there are none.
+fn entries(rt: &(impl Abort + Alloc<A = Global>), amounts: &[u64]) -> Vec<Option<EntryDraft>> {
+    let mut entries = Vec::new(rt.alloc());
     for amount in amounts {
-        entries.push(Some(entry(alloc, *amount)?))?;
+        let prenote = Optional::Given(*amount == 0);
+        let entry = entry(rt, b"091000019", prenote, *amount, true);
+        entries.push(Some(entry)).expect(rt, "an entry");
     }
-    Ok(Draft {
-        reference: text(alloc, b"PAY-1")?,
-        sec: text(alloc, b"PPD")?,
-        direction: text(alloc, direction)?,
-        description: text(alloc, b"PAYROLL")?,
-        day: text(alloc, asked)?,
+    entries
+}
+
+// What a body is read as that has these fields, and else right ones.
+fn read(
+    rt: &(impl Abort + Alloc<A = Global>),
+    reference: Option<DraftText>,
+    direction: &[u8],
+    description: &[u8],
+    asked: &[u8],
+    entries: Vec<Option<EntryDraft>>,
+) -> Result<Submission, RuleFault> {
+    let draft = Draft {
+        reference,
+        sec: Some(text(rt, b"PPD")),
+        direction: Some(text(rt, direction)),
+        description: Some(text(rt, description)),
+        day: Some(text(rt, asked)),
         entries: Some(EntryDrafts::new(entries)),
-    })
+    };
+    check_fields(rt.alloc(), &draft)
 }
 
 pub(super) fn submission(
-    rt: &impl Alloc<A = Global>,
+    rt: &(impl Abort + Alloc<A = Global>),
     asked: &[u8],
     direction: &[u8],
     amounts: &[u64],
-) -> Result<Submission, Fail> {
-    let draft = draft(rt.alloc(), asked, direction, amounts)?;
-    Ok(check_fields(rt.alloc(), &draft)?)
+) -> Submission {
+    let reference = Some(text(rt, b"PAY-1"));
+    let entries = entries(rt, amounts);
+    read(rt, reference, direction, b"PAYROLL", asked, entries).expect(rt, "a submission")
 }
 
-fn refused(field: Field, index: u64) -> Option<RuleFault> {
-    Some(RuleFault::Refused(Refusal::BadField { field, index }))
+fn bad(field: Field, index: u64) -> Refusal {
+    Refusal::BadField { field, index }
 }
 
 #[test]
-fn a_submission_is_read(rt: HostRuntime) -> Result<(), Fail> {
-    let submission = submission(&rt, b"2025-01-10", b"credit", &[150_000, 0])?;
+fn a_submission_is_read(rt: HostRuntime) {
+    let submission = submission(&rt, b"2025-01-10", b"credit", &[150_000, 0]);
     assert_eq!(rt; submission.reference.bytes(), b"PAY-1".as_slice());
     assert_eq!(rt; submission.day, day(&rt, b"2025-01-10"));
     let entries = submission.entries.as_slice();
     assert_eq!(rt; entries.len(), 2);
     assert_eq!(rt; entries[0].cents.get(), 150_000);
     assert!(rt; entries[0].info.is_some() && !entries[0].prenote && entries[1].prenote);
-    Ok(())
+}
+
+// What a body with these fields, and else right ones, is refused for.
+fn refused(
+    rt: &(impl Abort + Alloc<A = Global>),
+    reference: Option<DraftText>,
+    description: &[u8],
+    entries: Vec<Option<EntryDraft>>,
+) -> Option<RuleFault> {
+    read(
+        rt,
+        reference,
+        b"credit",
+        description,
+        b"2025-01-10",
+        entries,
+    )
+    .err()
 }
 
 #[test]
-fn the_first_bad_field_is_named(rt: HostRuntime) -> Result<(), Fail> {
-    let alloc = rt.alloc();
-    let mut bad = draft(alloc, b"2025-01-10", b"credit", &[1, 10_000_000_000])?;
-    assert_eq!(rt; check_fields(alloc, &bad).err(), refused(Field::Cents, 2));
-    bad.entries = Some(EntryDrafts::new(Vec::new(alloc)));
-    assert_eq!(rt; check_fields(alloc, &bad).err(), refused(Field::Entries, 0));
-    bad.description = text(alloc, b"RETRY PYMT")?;
-    assert_eq!(rt;
-        check_fields(alloc, &bad).err(),
-        refused(Field::Description, 0)
-    );
-    bad.reference = None;
-    assert_eq!(rt;
-        check_fields(alloc, &bad).err(),
-        refused(Field::Reference, 0)
-    );
-    let mut first = entry(alloc, 150_000)?;
-    first.routing = text(alloc, b"091000018")?;
-    let mut entries = Vec::new(alloc);
-    entries.push(Some(first))?;
-    entries.push(None)?;
-    let mut bad = draft(alloc, b"2025-01-10", b"credit", &[])?;
-    bad.entries = Some(EntryDrafts::new(entries));
-    assert_eq!(rt; check_fields(alloc, &bad).err(), refused(Field::Routing, 1));
-    Ok(())
+fn the_first_bad_field_is_named(rt: HostRuntime) {
+    let entry = entry(&rt, b"091000018", Optional::Absent, 150_000, true);
+    let bad_check = vec![in rt.alloc(); Some(entry), None].expect(&rt, "entries");
+    let large = entries(&rt, &[1, 10_000_000_000]);
+    let found = [
+        refused(&rt, Some(text(&rt, b"PAY-1")), b"PAYROLL", large),
+        refused(
+            &rt,
+            Some(text(&rt, b"PAY-1")),
+            b"PAYROLL",
+            entries(&rt, &[]),
+        ),
+        refused(
+            &rt,
+            Some(text(&rt, b"PAY-1")),
+            b"RETRY PYMT",
+            entries(&rt, &[]),
+        ),
+        refused(&rt, None, b"RETRY PYMT", entries(&rt, &[])),
+        refused(&rt, Some(text(&rt, b"PAY-1")), b"PAYROLL", bad_check),
+    ];
+    let wanted = [
+        bad(Field::Cents, 2),
+        bad(Field::Entries, 0),
+        bad(Field::Description, 0),
+        bad(Field::Reference, 0),
+        bad(Field::Routing, 1),
+    ];
+    assert_eq!(rt; found, wanted.map(|bad| Some(RuleFault::Refused(bad))));
 }
 
 #[test]
-fn a_submission_has_1000_entries_and_twelve_digits_of_cents(rt: HostRuntime) -> Result<(), Fail> {
+fn a_submission_has_1000_entries_and_twelve_digits_of_cents(rt: HostRuntime) {
     // How many entries of how many cents, the cents of one more, their total, and the answer.
     let rows = [
         (100, 9_999_999_999, 99, 999_999_999_999, Ok(())),
@@ -117,117 +161,122 @@ fn a_submission_has_1000_entries_and_twelve_digits_of_cents(rt: HostRuntime) -> 
         (1_000, 9_999_999_999, 1, 0, Err(Refusal::TooManyEntries)),
     ];
     for (count, cents, last, sum, wanted) in rows {
-        let mut amounts = Vec::new(rt.alloc());
-        for _ in 0..count {
-            amounts.push(cents)?;
-        }
-        amounts.push(last)?;
-        let submission = submission(&rt, b"2025-01-10", b"debit", &amounts)?;
+        let mut amounts = vec![in rt.alloc(); cents; count].expect(&rt, "amounts");
+        amounts.push(last).expect(&rt, "an amount");
+        let submission = submission(&rt, b"2025-01-10", b"debit", &amounts);
         assert_eq!(rt; check_size(&submission), wanted, "{count} of {cents}");
         let entries = submission.entries.as_slice();
         if entries.len() <= 1_000 {
             assert_eq!(rt; total(entries), sum);
         }
     }
-    Ok(())
 }
 
-// A submission of this entry alone.
-fn submission_of(alloc: Global, entry: EntryDraft) -> Result<Submission, Fail> {
-    let mut draft = draft(alloc, b"2025-01-10", b"credit", &[])?;
-    let mut entries = Vec::new(alloc);
-    entries.push(Some(entry))?;
-    draft.entries = Some(EntryDrafts::new(entries));
-    Ok(check_fields(alloc, &draft)?)
-}
-
-#[test]
-fn what_is_left_out_counts_as_its_default(rt: HostRuntime) -> Result<(), Fail> {
-    let alloc = rt.alloc();
-    let first = submission_of(alloc, entry(alloc, 150_000)?)?;
-    let mut no_prenote = entry(alloc, 150_000)?;
-    no_prenote.prenote = Optional::Absent;
-    assert!(rt; first.is_same(&submission_of(alloc, no_prenote)?));
-    let mut no_info = entry(alloc, 150_000)?;
-    no_info.info = Optional::Absent;
-    assert!(rt; !first.is_same(&submission_of(alloc, no_info)?));
-    Ok(())
+// A submission of one entry.
+fn one(
+    rt: &(impl Abort + Alloc<A = Global>),
+    prenote: Optional<bool>,
+    cents: u64,
+    has_info: bool,
+) -> Submission {
+    let entry = entry(rt, b"091000019", prenote, cents, has_info);
+    let entries = vec![in rt.alloc(); Some(entry)].expect(rt, "entries");
+    let reference = Some(text(rt, b"PAY-1"));
+    read(rt, reference, b"credit", b"PAYROLL", b"2025-01-10", entries).expect(rt, "a submission")
 }
 
 #[test]
-fn other_amounts_are_other_content(rt: HostRuntime) -> Result<(), Fail> {
-    let first = submission(&rt, b"2025-01-10", b"credit", &[150_000])?;
-    let again = submission(&rt, b"2025-01-10", b"credit", &[150_000])?;
-    assert!(rt; first.is_same(&again));
-    let other = submission(&rt, b"2025-01-10", b"credit", &[150_001])?;
-    assert!(rt; !first.is_same(&other));
-    Ok(())
+fn what_is_left_out_counts_as_its_default(rt: HostRuntime) {
+    let first = one(&rt, Optional::Given(false), 150_000, true);
+    // The prenote, the cents, whether there is information, and whether it is the same.
+    let rows = [
+        (Optional::Given(false), 150_000, true, true),
+        (Optional::Absent, 150_000, true, true),
+        (Optional::Given(false), 150_000, false, false),
+        (Optional::Given(false), 150_001, true, false),
+    ];
+    for (prenote, cents, has_info, wanted) in rows {
+        let other = one(&rt, prenote, cents, has_info);
+        assert_eq!(rt; first.is_same(&other), wanted, "{cents}, {has_info}");
+    }
 }
 
-#[test]
-fn a_retry_is_read(rt: HostRuntime) -> Result<(), Fail> {
-    let alloc = rt.alloc();
-    let mut draft = RetryDraft {
-        reference: text(alloc, b"RT-1")?,
-        of: text(alloc, b"PAY-2")?,
+fn retry(
+    rt: &(impl Abort + Alloc<A = Global>),
+    authorized: Optional<DraftText>,
+) -> Result<Retry, Refusal> {
+    let draft = RetryDraft {
+        reference: Some(text(rt, b"RT-1")),
+        of: Some(text(rt, b"PAY-2")),
         index: Some(1),
-        day: text(alloc, b"2025-01-22")?,
-        authorized: Optional::Given(DraftText::copied(alloc, b"2025-01-14")?),
+        day: Some(text(rt, b"2025-01-22")),
+        authorized,
     };
-    let retry = check_retry_fields(&draft).map_err(|_| "a retry")?;
-    assert_eq!(rt; retry.of.bytes(), b"PAY-2".as_slice());
-    assert_eq!(rt; retry.index, 1);
-    assert_eq!(rt; retry.authorized, Some(day(&rt, b"2025-01-14")));
-    let again = check_retry_fields(&draft).map_err(|_| "a retry")?;
-    assert!(rt; retry.is_same(&again));
-    draft.authorized = Optional::Given(DraftText::copied(alloc, b"2025-01-15")?);
-    let later = check_retry_fields(&draft).map_err(|_| "a retry")?;
-    assert!(rt; !retry.is_same(&later));
-    draft.authorized = Optional::Absent;
-    assert!(rt; check_retry_fields(&draft).is_ok_and(|retry| retry.authorized.is_none()));
-    draft.authorized = Optional::Wrong;
-    let wanted = Refusal::BadField {
-        field: Field::Authorized,
-        index: 0,
-    };
-    assert_eq!(rt; check_retry_fields(&draft).err(), Some(wanted));
-    Ok(())
+    check_retry_fields(&draft)
+}
+
+// A retry that was authorized on a day.
+fn authorized(rt: &(impl Abort + Alloc<A = Global>), bytes: &[u8]) -> Retry {
+    retry(rt, Optional::Given(text(rt, bytes))).expect(rt, "a retry")
 }
 
 #[test]
-fn companies_limits_and_days_are_read(rt: HostRuntime) -> Result<(), Fail> {
-    let alloc = rt.alloc();
-    let limits = LimitDrafts {
-        entry: Some(9_999_999_999),
+fn a_retry_is_read(rt: HostRuntime) {
+    let first = authorized(&rt, b"2025-01-14");
+    assert_eq!(rt; first.of.bytes(), b"PAY-2".as_slice());
+    assert_eq!(rt; first.index, 1);
+    assert_eq!(rt; first.authorized, Some(day(&rt, b"2025-01-14")));
+    assert!(rt; first.is_same(&authorized(&rt, b"2025-01-14")));
+    assert!(rt; !first.is_same(&authorized(&rt, b"2025-01-15")));
+    let unauthorized = retry(&rt, Optional::Absent).expect(&rt, "a retry");
+    assert!(rt; unauthorized.authorized.is_none());
+    let refused = retry(&rt, Optional::Wrong).err();
+    assert_eq!(rt; refused, Some(bad(Field::Authorized, 0)));
+}
+
+fn limits(entry: u64) -> LimitDrafts {
+    LimitDrafts {
+        entry: Some(entry),
         credit: Some(999_999_999_999_999),
         debit: Some(0),
-    };
-    let company = CompanyDraft {
-        id: text(alloc, b"MILL01")?,
-        name: text(alloc, b"MILL STREET")?,
-        key: text(alloc, b"mill-key")?,
-        limits,
+    }
+}
+
+fn company(rt: &(impl Abort + Alloc<A = Global>)) -> Company {
+    let draft = CompanyDraft {
+        id: Some(text(rt, b"MILL01")),
+        name: Some(text(rt, b"MILL STREET")),
+        key: Some(text(rt, b"mill-key")),
+        limits: limits(9_999_999_999),
         digest: [7; 32],
     };
-    let company = check_company_fields(&company).map_err(|_| "a company")?;
+    check_company_fields(&draft).expect(rt, "a company")
+}
+
+fn new_limits(rt: &(impl Abort + Alloc<A = Global>), entry: u64) -> Result<(Id, Limits), Refusal> {
+    let draft = LimitsDraft {
+        id: Some(text(rt, b"MILL01")),
+        limits: limits(entry),
+    };
+    check_limits_fields(&draft)
+}
+
+#[test]
+fn companies_and_limits_are_read(rt: HostRuntime) {
+    let company = company(&rt);
     assert_eq!(rt; company.id.bytes(), b"MILL01".as_slice());
     assert_eq!(rt; company.digest, [7; 32]);
     assert_eq!(rt; company.limits.credit, 999_999_999_999_999);
-    let mut draft = LimitsDraft {
-        id: text(alloc, b"MILL01")?,
-        limits,
-    };
-    let (id, read) = check_limits_fields(&draft).map_err(|_| "limits")?;
+    let (id, read) = new_limits(&rt, 9_999_999_999).expect(&rt, "limits");
     assert_eq!(rt; id, company.id);
     assert_eq!(rt; read, company.limits);
-    draft.limits.entry = Some(10_000_000_000);
-    let wanted = Refusal::BadField {
-        field: Field::EntryLimit,
-        index: 0,
-    };
-    assert_eq!(rt; check_limits_fields(&draft).err(), Some(wanted));
-    let last = check_day_field(&text(alloc, b"2096-12-31")?);
+    let refused = new_limits(&rt, 10_000_000_000).err();
+    assert_eq!(rt; refused, Some(bad(Field::EntryLimit, 0)));
+}
+
+#[test]
+fn a_desk_day_ends_with_2096(rt: HostRuntime) {
+    let last = check_day_field(&Some(text(&rt, b"2096-12-31")));
     assert_eq!(rt; last, Ok(day(&rt, b"2096-12-31")));
-    assert!(rt; check_day_field(&text(alloc, b"2097-01-01")?).is_err());
-    Ok(())
+    assert!(rt; check_day_field(&Some(text(&rt, b"2097-01-01"))).is_err());
 }
