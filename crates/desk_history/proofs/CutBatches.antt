@@ -5,7 +5,7 @@ use Rattle.std.specs.List.{AllByRecursion}
 use Rattle.std.proofs.lemmas.List.Elements.{recursion_from_All}
 use Rattle.std.proofs.lemmas.List.Sums.{sum_by-cons}
 use Rattle.ach_fields.specs.Cents.{most_cents}
-use Rattle.desk_plan.specs.Batch.{IsBatch}
+use Rattle.desk_plan.specs.Batch.{IsBatch, IsEntryCount}
 use Rattle.desk_rules.specs.declared.submission.Entry.{Entry}
 use Rattle.desk_rules.specs.Size.{total_of}
 use Rattle.desk_history.specs.Asking.{accepted}
@@ -18,10 +18,14 @@ use Rattle.desk_history.proofs.Ordered.{sizes}
 use Rattle.desk_history.proofs.Each.{each-all, each-weaker}
 use Rattle.desk_history.proofs.SentWith.{each-sending}
 
-sends_sized : (odfi : List ℕ) (H : List Pair) → AllByRecursion (λ s. IsSized s.accepted) (sends odfi H)
+-- it has as many entries and cents as a submission may
+abbrev IsSizedAs : Sending → Type 0
+IsSizedAs s = IsEntryCount (length (entries_in s)) × (total_of (entries_in s) ≤ most_cents)
+
+sends_sized : (odfi : List ℕ) (H : List Pair) → AllByRecursion IsSizedAs (sends odfi H)
 sends_sized odfi H =
-    each-sending (λ s. IsSized s.accepted) (part odfi H) (companies H)
-    (each-all _ (λ k. each-weaker IsSized _ (λ a sized _. sized) (accepted (part odfi H k.id)) (recursion_from_All IsSized (accepted (part odfi H k.id)) (sizes (part odfi H k.id)))) (companies H))
+    each-sending IsSizedAs (part odfi H) (companies H)
+    (each-all _ (λ k. each-weaker IsSized _ (λ a sized _. ((sized.some, sized.few), sized.total)) (accepted (part odfi H k.id)) (recursion_from_All IsSized (accepted (part odfi H k.id)) (sizes (part odfi H k.id)))) (companies H))
 
 -- an entry has one record, or two
 few_records : (info : Option (List ℕ)) → records_of info ≤ 2
@@ -44,13 +48,13 @@ other_within : (b : Bool) (cents most : ℕ) → cents ≤ most → (if b then 0
 other_within true cents most le = omega arith
 other_within false cents most le = le
 
-is_batch : (s : Sending) → IsSized s.accepted → IsBatch (plan_of s)
+is_batch : (s : Sending) → IsSizedAs s → IsBatch (plan_of s)
 is_batch s h = record {
-  entries = (h.some, h.few);
-  debits = either_within (is_debit_sending s) (total_of (entries_in s)) most_cents h.total;
-  credits = other_within (is_debit_sending s) (total_of (entries_in s)) most_cents h.total;
-  records = let records = records_within (entries_in s) in let few : length (entries_in s) ≤ 1000 = h.few in omega arith;
+  entries = h.0;
+  debits = either_within (is_debit_sending s) (total_of (entries_in s)) most_cents h.1;
+  credits = other_within (is_debit_sending s) (total_of (entries_in s)) most_cents h.1;
+  records = let records = records_within (entries_in s) in let few : length (entries_in s) ≤ 1000 = h.0.1 in omega arith;
 }
 
 pub sends_are_batches : (odfi : List ℕ) (H : List Pair) → AllByRecursion (λ s. IsBatch (plan_of s)) (sends odfi H)
-sends_are_batches odfi H = each-weaker (λ s. IsSized s.accepted) (λ s. IsBatch (plan_of s)) is_batch (sends odfi H) (sends_sized odfi H)
+sends_are_batches odfi H = each-weaker IsSizedAs (λ s. IsBatch (plan_of s)) is_batch (sends odfi H) (sends_sized odfi H)

@@ -58,7 +58,7 @@ others_posted c k (l ∷ ls) differ =
 
 -- a submission that the cut after these events sends, with its company
 abbrev sent_of : List Event → Company → Accepted → Sending
-sent_of P k a = record { company = k; accepted = a; settled = unwrap_or (settled (CutMade ∷ P) a) 0 }
+sent_of P k a = record { company = k; order = a.order; content = a.content; settled = unwrap_or (settled (CutMade ∷ P) a) 0 }
 
 -- does that cut send it, with money?
 abbrev is_paid : List Event → Accepted → Bool

@@ -159,13 +159,8 @@ entry_of cents = record {
 abbrev pub sending_of : Direction → List Entry → Sending
 sending_of direction entries = record {
   company = record { id = mill; name = codes "MILL STREET"; digest = digest; limits = wide_limits };
-  accepted = record {
-    order = 1;
-    place = record { before = 0; debit = is_debit direction; asked = 20521 };
-    content = record { reference = codes "NEW"; sec = Ppd; direction = direction; description = codes "DUES"; day = 20521; entries = entries };
-    retry = None;
-    original = None;
-  };
+  order = 1;
+  content = record { reference = codes "NEW"; sec = Ppd; direction = direction; description = codes "DUES"; day = 20521; entries = entries };
   settled = 20521;
 }
 

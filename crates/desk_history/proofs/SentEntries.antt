@@ -1,12 +1,14 @@
 -- Sent entries are entries of accepted submissions, and stay so.
-use Rattle.std.proofs.Common.{◌≡◌, ℕ, List, [], ◌∷◌, ◌++◌, map, Bool, true, refl, sym, ◌∙◌, subst}
-use Rattle.std.specs.Prelude.{All, Option, Some, None, is_some, unwrap_or, find, filter, zip, reverse, slice_index_or}
+use Rattle.std.proofs.Common.{◌≡◌, ℕ, ◌-◌, List, [], ◌∷◌, ◌++◌, map, Bool, true, refl, sym, ap, ◌∙◌, subst}
+use Rattle.std.specs.Prelude.{All, Option, Some, None, is_some, unwrap_or, find, filter, zip, reverse, slice_get, slice_index_or}
 use Rattle.std.specs.List.{flat_map, enumerate_from}
 use Rattle.std.proofs.lemmas.Bool.{and_parts}
 use Rattle.std.proofs.lemmas.List.Elements.{All-nil, All-append, All-push, All-weaker, All-map, All-filter, filter_passes}
 use Rattle.std.proofs.lemmas.List.Folds.{find-append}
 use Rattle.desk_plan.specs.Sequences.{ranges_of}
 use Rattle.desk_rules.specs.declared.company.Company.{Company}
+use Rattle.desk_rules.specs.declared.submission.Submission.{Submission}
+use Rattle.desk_rules.specs.LimitChecks.{is_debit}
 use Rattle.desk_history.specs.declared.row.SentEntry.{SentEntry}
 use Rattle.desk_history.specs.Part.{Event, CutMade}
 use Rattle.desk_history.specs.Accepted.{Accepted, is_called, settled, is_sent_next}
@@ -60,8 +62,11 @@ entry_kept (e ∷ es) P s h = entry_stays e (es ++ P) s (entry_kept es P s h)
 
 -- what a cut sends of a company with this part
 record IsSent (P : List Event) (s : Sending) : Type 0 where
-  pub called : accepted_under P s.accepted.content.reference ≡ Some s.accepted
-  pub settles : settled (CutMade ∷ P) s.accepted ≡ Some s.settled
+  pub accepted : Accepted
+  pub called : accepted_under P s.content.reference ≡ Some accepted
+  pub order : s.order ≡ accepted.order
+  pub content : s.content ≡ accepted.content
+  pub settles : settled (CutMade ∷ P) accepted ≡ Some s.settled
 
 some_of : (o : Option ℕ) → is_some o ≡ true → o ≡ Some (unwrap_or o 0)
 some_of None h = cc
@@ -71,8 +76,11 @@ sends_accepted : (parts : List ℕ → List Event) (k : Company) → All (λ s. 
 sends_accepted parts k =
     let P = parts k.id in
     let chosen = filter (is_sent_next P) (accepted P) in
-    All-map (λ s. IsSent (parts s.company.id) s) (λ a. record { company = k; accepted = a; settled = unwrap_or (settled (CutMade ∷ P) a) 0 }) chosen
+    All-map (λ s. IsSent (parts s.company.id) s) (λ a. record { company = k; order = a.order; content = a.content; settled = unwrap_or (settled (CutMade ∷ P) a) 0 }) chosen
     (λ i d h. record {
+      accepted = slice_index_or chosen i d;
+      order = refl;
+      content = refl;
       called = All-filter (is_sent_next P) (IsFoundIn (accepted P)) (accepted P) (each_found P) i d h;
       settles = some_of (settled (CutMade ∷ P) (slice_index_or chosen i d))
           (and_parts _ (is_some (settled (CutMade ∷ P) (slice_index_or chosen i d))) (filter_passes (is_sent_next P) (accepted P) i d h)).1;
@@ -84,14 +92,14 @@ batch_entries parts b is =
     (λ i d h.
     let stands = numbered 1 (entries_in b.sending) i d h in
     record {
-      accepted = b.sending.accepted;
+      accepted = is.accepted;
       called = is.called;
-      order = refl;
+      order = is.order;
       settles = is.settles;
       from = stands.0;
-      at = stands.1;
-      sec = refl;
-      debit = refl;
+      at = ap (λ (s : Submission). slice_get s.entries ((slice_index_or (enumerate_from 1 (entries_in b.sending)) i d).0 - 1)) (sym is.content) ∙ stands.1;
+      sec = ap (λ (s : Submission). s.sec) is.content;
+      debit = ap (λ (s : Submission). is_debit s.direction) is.content;
     })
 
 new_entries : (parts : List ℕ → List Event) (es : List SentEntry) (ks : List Company)

@@ -15,7 +15,7 @@ use Rattle.desk_history.proofs.Each.{each-all, each-append, each-map, each-filte
 
 -- what the next cut sends of a company, where it sends this submission
 abbrev pub sent_of : (List ℕ → List Event) → Company → Accepted → Sending
-sent_of parts k a = record { company = k; accepted = a; settled = unwrap_or (settled (CutMade ∷ parts k.id) a) 0 }
+sent_of parts k a = record { company = k; order = a.order; content = a.content; settled = unwrap_or (settled (CutMade ∷ parts k.id) a) 0 }
 
 -- a fact on each submission that a cut sends
 pub each-sending : (P : Sending → Type 0) (parts : List ℕ → List Event) (ks : List Company)

@@ -68,7 +68,7 @@ file_at odfi H d modifier = find (is_file d modifier) (files odfi H)
 -- ---- where a submission was printed
 
 abbrev pub is_batch_of : List ℕ → ℕ → ℕ × Batch → Bool
-is_batch_of c order x = bytes_eq x.1.sending.company.id c && x.1.sending.accepted.order == order
+is_batch_of c order x = bytes_eq x.1.sending.company.id c && x.1.sending.order == order
 
 abbrev pub printed_in : List ℕ → ℕ → File → List Printed
 printed_in c order f =
@@ -111,8 +111,8 @@ outgoing_batch odfi x = record {
     service_class = if is_debit_sending x.1.sending then 225 else 220;
     company_name = lent x.1.sending.company.name;
     company = lent x.1.sending.company.id;
-    sec = lent (sec_text x.1.sending.accepted.content.sec);
-    description = lent x.1.sending.accepted.content.description;
+    sec = lent (sec_text x.1.sending.content.sec);
+    description = lent x.1.sending.content.description;
     effective = day_ymd x.1.sending.settled;
     settlement = None;
     odfi = dfi_of odfi;

@@ -94,7 +94,7 @@ is_new H _ = true
 -- the submissions of a company that the next cut sends, by order number
 abbrev pub sending_of : (List ℕ → List Event) → Company → List Sending
 sending_of parts k =
-    map (λ a. record { company = k; accepted = a; settled = unwrap_or (settled (CutMade ∷ parts k.id) a) 0 })
+    map (λ a. record { company = k; order = a.order; content = a.content; settled = unwrap_or (settled (CutMade ∷ parts k.id) a) 0 })
     (filter (is_sent_next (parts k.id)) (accepted (parts k.id)))
 
 -- those of all companies, in the byte order of identifications

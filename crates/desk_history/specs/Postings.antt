@@ -29,7 +29,7 @@ if_any cents line = if nat_lt 0 cents then line ∷ [] else []
 abbrev pub sending_line : Sending → List Posting
 sending_line s =
     let total = total_of (entries_in s) in
-    if_any total (cut_line s.company.id (is_debit_sending s) total s.settled s.accepted.content.reference)
+    if_any total (cut_line s.company.id (is_debit_sending s) total s.settled s.content.reference)
 
 -- an entry that came back, valued on the desk day
 abbrev pub event_line : ℕ → SentEntry → Event → List Posting

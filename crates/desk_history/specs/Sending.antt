@@ -5,22 +5,23 @@ use Rattle.desk_plan.specs.declared.batch.Batch as plan
 use Rattle.desk_plan.specs.Sequences.{Sent, ranges_of}
 use Rattle.desk_rules.specs.declared.company.Company.{Company}
 use Rattle.desk_rules.specs.declared.submission.Entry.{Entry}
+use Rattle.desk_rules.specs.declared.submission.Submission.{Submission}
 use Rattle.desk_rules.specs.LimitChecks.{is_debit}
 use Rattle.desk_rules.specs.Size.{total_of}
 use Rattle.desk_history.specs.declared.row.SentEntry.{SentEntry}
-use Rattle.desk_history.specs.Accepted.{Accepted}
 
 -- a submission that a cut sends, with its company and the day on which it settles
 pub record Sending : Type 0 where
   pub company : Company
-  pub accepted : Accepted
+  pub order : ℕ
+  pub content : Submission
   pub settled : ℕ
 
 abbrev pub entries_in : Sending → List Entry
-entries_in s = s.accepted.content.entries
+entries_in s = s.content.entries
 
 abbrev pub is_debit_sending : Sending → Bool
-is_debit_sending s = is_debit s.accepted.content.direction
+is_debit_sending s = is_debit s.content.direction
 
 -- an entry's record, and that of its addenda
 abbrev pub records_of : Option (List ℕ) → ℕ
@@ -31,7 +32,7 @@ records_of (Some info) = 2
 abbrev pub plan_of : Sending → plan.Batch
 plan_of s = record {
   company = s.company.id;
-  order = s.accepted.order;
+  order = s.order;
   settled = s.settled;
   debits = if is_debit_sending s then total_of (entries_in s) else 0;
   credits = if is_debit_sending s then 0 else total_of (entries_in s);
@@ -48,11 +49,11 @@ abbrev pub sent_entry : Batch → ℕ → Entry → SentEntry
 sent_entry b index e = record {
   sequence = b.first + (index - 1);
   company = b.sending.company.id;
-  reference = b.sending.accepted.content.reference;
-  order = b.sending.accepted.order;
+  reference = b.sending.content.reference;
+  order = b.sending.order;
   index = index;
   settled = b.sending.settled;
-  sec = b.sending.accepted.content.sec;
+  sec = b.sending.content.sec;
   debit = is_debit_sending b.sending;
   entry = e;
 }
