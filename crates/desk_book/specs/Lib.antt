@@ -1,0 +1,9 @@
+pub mod OnBook
+pub mod BookLaws
+pub mod OnOperator
+pub mod OperatorLaws
+pub mod OnCut
+pub mod CutLaws
+pub mod OnIntake
+pub mod IntakeLaws
+pub mod OnMessages

@@ -1,0 +1,158 @@
+-- What a cut answers, and what it writes, from the book.
+use Rattle.std.specs.Prelude.{ℕ, ◌+◌, Bool, not, nat_le, List, map, filter, zip, length, sum_by, Some, Result, Ok, Err}
+use Rattle.std.specs.List.{enumerate_from, flat_map}
+use Rattle.desk_accounts.specs.Laws.{pairs}
+use Rattle.desk_plan.specs.Places.{most_files}
+use Rattle.desk_plan.specs.Reuse.{may_send}
+use Rattle.desk_plan.specs.Sequences.{ranges}
+use Rattle.desk_rules.specs.declared.refusal.Refusal.{Refusal}
+use Rattle.desk_rules.specs.declared.refusal.Refusal.TheVariants.{NoDay, TracesSpent, ModifiersSpent}
+use Rattle.desk_rules.specs.Chain.{◌>>=◌}
+use Rattle.desk_history.specs.declared.answer.Answer.{Answer}
+use Rattle.desk_history.specs.declared.identity.Identity.{Identity}
+use Rattle.desk_history.specs.declared.operations.CutDone.{CutDone}
+use Rattle.desk_history.specs.Book.{Book}
+use Rattle.desk_history.specs.Files.{File, runs_of, files_from, text_of}
+use Rattle.desk_history.specs.Operator.{cut_answer}
+use Rattle.desk_history.specs.Postings.{sending_line}
+use Rattle.desk_history.specs.Sending.{Sending, Batch, entries_in, plan_of, sent_as, sent_entries, batch_of}
+use Rattle.desk_history.specs.Standing.{is_due_row, settlement_of}
+use Rattle.desk_history.specs.State.{is_too_late}
+use Rattle.desk_history.specs.Words.{some_or, holds_or}
+use Rattle.desk_store.specs.declared.rows.FileRow.{FileRow}
+use Rattle.desk_store.specs.declared.rows.LapsedRow.{LapsedRow}
+use Rattle.desk_store.specs.declared.rows.SentRow.{SentRow}
+use Rattle.desk_store.specs.declared.store.Waiting.{Waiting}
+use Rattle.desk_store.specs.Reads.{waiting, last_sequence}
+use Rattle.desk_store.specs.Steps.{CutWrite, commit_cut}
+
+-- ---- what is due
+
+abbrev pub is_due : List ℕ → ℕ → Waiting → Bool
+is_due holidays today w = is_due_row holidays today w.row
+
+-- the day on which it would settle
+abbrev pub settles : List ℕ → ℕ → Waiting → ℕ
+settles holidays today w = settlement_of holidays today w.row
+
+-- a retry lapses where it would settle too long after its original
+abbrev pub lapses : List ℕ → ℕ → Waiting → Bool
+lapses holidays today w = is_too_late (Some (settles holidays today w)) w.original_settled
+
+abbrev pub due : List ℕ → ℕ → List Waiting → List Waiting
+due holidays today ws = filter (is_due holidays today) ws
+
+abbrev pub sending_of : List ℕ → ℕ → Waiting → Sending
+sending_of holidays today w = record { company = w.company; order = w.row.order; content = w.row.content; settled = settles holidays today w }
+
+-- what is sent, in the order in which it waits
+abbrev pub sending : List ℕ → ℕ → List Waiting → List Sending
+sending holidays today ws = map (sending_of holidays today) (filter (λ w. not (lapses holidays today w)) (due holidays today ws))
+
+abbrev pub lapsed_row : Waiting → LapsedRow
+lapsed_row w = record { company = w.company.id; order = w.row.order }
+
+-- what lapses
+abbrev pub lapsing : List ℕ → ℕ → List Waiting → List LapsedRow
+lapsing holidays today ws = map lapsed_row (filter (lapses holidays today) (due holidays today ws))
+
+-- ---- batches and files
+
+-- the sequences of what is sent, behind the last one
+abbrev pub ranges_after : ℕ → List Sending → List (ℕ × ℕ)
+ranges_after last ss = ranges last (map (λ b. b.entries) (map plan_of ss))
+
+abbrev pub batches_after : ℕ → List Sending → List Batch
+batches_after last ss = map batch_of (zip (ranges_after last ss) ss)
+
+-- ---- what a cut writes
+
+abbrev pub sent_row : File → ℕ × Batch → SentRow
+sent_row f x = record {
+  company = x.1.sending.company.id;
+  order = x.1.sending.order;
+  settled = x.1.sending.settled;
+  printed = record { day = f.day; modifier = f.modifier; batch = x.0 };
+}
+
+-- the submissions of a file, each with its place there
+abbrev pub sent_rows : File → List SentRow
+sent_rows f = map (sent_row f) (enumerate_from 1 f.batches)
+
+abbrev pub file_row : Identity → File → FileRow
+file_row identity f = record { day = f.day; modifier = f.modifier; text = text_of identity f }
+
+-- what a cut reads of the book, and its day
+pub record CutFacts : Type 0 where
+  pub identity : Identity
+  pub day : ℕ
+  pub holidays : List ℕ
+  -- the sequence of the last sent entry
+  pub last : ℕ
+  -- how many files the day has
+  pub made : ℕ
+  pub waiting : List Waiting
+
+abbrev pub sends : CutFacts → List Sending
+sends x = sending x.holidays x.day x.waiting
+
+abbrev pub lapsed_rows : CutFacts → List LapsedRow
+lapsed_rows x = lapsing x.holidays x.day x.waiting
+
+abbrev pub batches : CutFacts → List Batch
+batches x = batches_after x.last (sends x)
+
+abbrev pub files : CutFacts → List File
+files x = files_from x.day x.made (runs_of (batches x))
+
+abbrev pub cut_write : CutFacts → CutWrite
+cut_write x = record {
+  sent = flat_map sent_rows (files x);
+  lapsed = lapsed_rows x;
+  entries = flat_map sent_entries (batches x);
+  postings = pairs (flat_map sending_line (sends x));
+  files = map (file_row x.identity) (files x);
+}
+
+abbrev pub cut_done : CutFacts → CutDone
+cut_done x = record {
+  day = x.day;
+  entries = sum_by (λ s. length (entries_in s)) (sends x);
+  files = map (λ f. f.modifier) (files x);
+  lapsed = length (lapsed_rows x);
+}
+
+-- ---- a cut of the book
+
+abbrev pub cut_facts : Book → ℕ → CutFacts
+cut_facts b d = record {
+  identity = b.identity;
+  day = d;
+  holidays = b.holidays;
+  last = last_sequence b;
+  made = b.files_on d;
+  waiting = waiting b;
+}
+
+-- the facts of a cut that is made, or the first of NoDay, TracesSpent and ModifiersSpent
+abbrev pub cut_on : Book → Result CutFacts Refusal
+cut_on b = do
+  d ← some_or NoDay b.day
+  _ ← holds_or TracesSpent (may_send d (map sent_as b.sent) (map plan_of (sends (cut_facts b d))))
+  _ ← holds_or ModifiersSpent (nat_le (b.files_on d + length (files (cut_facts b d))) most_files)
+  Ok (cut_facts b d)
+
+abbrev pub done_of : Result CutFacts Refusal → Result CutDone Refusal
+done_of (Ok x) = Ok (cut_done x)
+done_of (Err why) = Err why
+
+abbrev pub cut_answer_on : Book → Answer
+cut_answer_on b = cut_answer (done_of (cut_on b))
+
+abbrev pub with_cut : Result CutFacts Refusal → Book → Book
+with_cut (Ok x) b = (commit_cut (cut_write x)).after b
+with_cut (Err why) b = b
+
+-- the book after a cut; a refusal leaves it as it was
+abbrev pub cut_after : Book → Book
+cut_after b = with_cut (cut_on b) b

@@ -1,0 +1,192 @@
+-- What an incoming file comes to, and what it writes, from the book.
+use Rattle.std.specs.Prelude.{ℕ, Bool, true, false, ◌&&◌, ◌||◌, ◌==◌, if◌then◌else◌, List, [], ◌∷◌, ◌++◌, map, filter_map, zip, Option, Some, None, option_map, Result, Ok, Err, bytes_eq}
+use Rattle.std.specs.List.{enumerate_from, flat_map, list_any}
+use Rattle.ach_files.specs.declared.facts.ItemFacts.{ItemFacts}
+use Rattle.ach_files.specs.declared.fault.Fault.{Fault}
+use Rattle.ach_files.specs.Facts.{FileFacts}
+use Rattle.desk_accounts.specs.Laws.{pairs}
+use Rattle.desk_rules.specs.declared.entry_fact.EntryState.{EntryState}
+use Rattle.desk_rules.specs.declared.entry_fact.EntryState.TheVariants as states
+use Rattle.desk_rules.specs.declared.refusal.Refusal.TheVariants.{NoDay, FileKeyReused}
+use Rattle.desk_rules.specs.Deadlines.{is_late}
+use Rattle.desk_history.specs.declared.answer.Answer.{Answer}
+use Rattle.desk_history.specs.declared.answer.Refusal.{Refusal}
+use Rattle.desk_history.specs.declared.answer.Refusal.TheVariants.{Rule, BadFile}
+use Rattle.desk_history.specs.declared.operations.Intake.{Intake}
+use Rattle.desk_history.specs.declared.operations.TakenFile.{TakenFile}
+use Rattle.desk_history.specs.declared.operations.Why.{Why}
+use Rattle.desk_history.specs.declared.operations.Why.TheVariants.{NoTrace, Differs, CodeOutside, AlreadyReturned}
+use Rattle.desk_history.specs.declared.row.Row.{Row}
+use Rattle.desk_history.specs.declared.row.SentEntry.{SentEntry}
+use Rattle.desk_history.specs.Book.{Book}
+use Rattle.desk_history.specs.Intake.{is_returned_event, intake_of, suspended}
+use Rattle.desk_history.specs.Operator.{intake_answer}
+use Rattle.desk_history.specs.Part.{Event, Returned, Changed}
+use Rattle.desk_history.specs.Postings.{item_line}
+use Rattle.desk_history.specs.Resolve.{◌>>=◌, Resolved, named, agrees, event_of}
+use Rattle.desk_history.specs.Standing.{row_under, state_at}
+use Rattle.desk_history.specs.Words.{some_or, holds_or}
+use Rattle.desk_store.specs.declared.rows.ChangedRow.{ChangedRow}
+use Rattle.desk_store.specs.declared.rows.ReturnedRow.{ReturnedRow}
+use Rattle.desk_store.specs.Steps.{IntakeWrite, commit_intake}
+
+-- ---- what an item names
+
+-- the sent entry that an item's trace names, and whether it was returned before the file
+pub record Named : Type 0 where
+  pub entry : SentEntry
+  pub returned : Bool
+
+abbrev pub is_back_state : EntryState → Bool
+is_back_state (states.Returned on code day late) = true
+is_back_state _ = false
+
+abbrev pub is_back_in : Option Row → ℕ → Bool
+is_back_in None index = false
+is_back_in (Some row) index = is_back_state (state_at row index)
+
+-- has the entry come back?
+abbrev pub is_back : Book → SentEntry → Bool
+is_back b e = is_back_in (row_under (b.rows e.company) e.reference) e.index
+
+abbrev pub named_on : Book → ItemFacts → Option Named
+named_on b item = option_map (λ e. record { entry = e; returned = is_back b e }) (named b.identity.odfi b.sent item)
+
+-- ---- what comes of the items
+
+-- the entry and the event of an item, or the first reason against them
+abbrev pub resolved_as : Option SentEntry → ItemFacts → Result Resolved Why
+resolved_as found item = do
+  e ← some_or NoTrace found
+  _ ← holds_or Differs (agrees e item)
+  event ← some_or CodeOutside (event_of e item)
+  Ok (record { entry = e; event = event })
+
+abbrev pub is_same_entry : SentEntry → SentEntry → Bool
+is_same_entry e other = bytes_eq e.company other.company && bytes_eq e.reference other.reference && e.index == other.index
+
+-- is it a return of an entry that came back before the file, or by an earlier item of it?
+abbrev pub is_again : List SentEntry → Bool → Resolved → Bool
+is_again earlier before x = is_returned_event x.event && (before || list_any (is_same_entry x.entry) earlier)
+
+abbrev pub unless_again : List SentEntry → Bool → Result Resolved Why → Result Resolved Why
+unless_again earlier before (Err why) = Err why
+unless_again earlier before (Ok x) = if is_again earlier before x then Err AlreadyReturned else Ok x
+
+abbrev pub was_returned : Option Named → Bool
+was_returned None = false
+was_returned (Some n) = n.returned
+
+-- what comes of an item behind others, of which these entries came back
+abbrev pub outcome_after : List SentEntry → ItemFacts → Option Named → Result Resolved Why
+outcome_after earlier item found = unless_again earlier (was_returned found) (resolved_as (option_map (λ n. n.entry) found) item)
+
+-- the entry that comes back by an item
+abbrev pub back_by : Result Resolved Why → List SentEntry
+back_by (Err why) = []
+back_by (Ok x) = if is_returned_event x.event then x.entry ∷ [] else []
+
+abbrev pub outcomes_after : List SentEntry → List (ItemFacts × Option Named) → List (Result Resolved Why)
+outcomes_after earlier [] = []
+outcomes_after earlier (x ∷ more) = outcome_after earlier x.0 x.1 ∷ outcomes_after (back_by (outcome_after earlier x.0 x.1) ++ earlier) more
+
+-- what comes of each item of a file, with what it names
+abbrev pub outcomes : List (ItemFacts × Option Named) → List (Result Resolved Why)
+outcomes xs = outcomes_after [] xs
+
+-- ---- what a file writes
+
+abbrev pub returned_as : List ℕ → ℕ → SentEntry → Event → Option ReturnedRow
+returned_as holidays d e (Returned reference index code information) = Some (record {
+  company = e.company;
+  row = record { code = code; day = d; index = index; info = information; late = is_late code e.settled d holidays; reference = reference };
+})
+returned_as holidays d e _ = None
+
+abbrev pub returned_row : List ℕ → ℕ → Result Resolved Why → Option ReturnedRow
+returned_row holidays d (Ok x) = returned_as holidays d x.entry x.event
+returned_row holidays d (Err why) = None
+
+abbrev pub changed_as : ℕ → SentEntry → Event → Option ChangedRow
+changed_as d e (Changed reference index code text) = Some (record {
+  company = e.company;
+  row = record { code = code; day = d; index = index; reference = reference; text = text };
+})
+changed_as d e _ = None
+
+abbrev pub changed_row : ℕ → Result Resolved Why → Option ChangedRow
+changed_row d (Ok x) = changed_as d x.entry x.event
+changed_row d (Err why) = None
+
+-- what an intake reads of the book, its day, and its file
+pub record IntakeFacts : Type 0 where
+  pub day : ℕ
+  pub holidays : List ℕ
+  pub key : List ℕ
+  pub digest : List ℕ
+  -- each item with what its trace names
+  pub items : List (ItemFacts × Option Named)
+
+abbrev pub counts : IntakeFacts → Intake
+counts x = intake_of x.holidays x.day (outcomes x.items)
+
+abbrev pub intake_write : IntakeFacts → IntakeWrite
+intake_write x =
+    let items = map (λ y. y.0) x.items in
+    record {
+      returned = filter_map (returned_row x.holidays x.day) (outcomes x.items);
+      changed = filter_map (changed_row x.day) (outcomes x.items);
+      suspense = filter_map (λ y. suspended x.key x.day y.0 y.1.0 y.1.1) (enumerate_from 1 (zip items (outcomes x.items)));
+      postings = pairs (flat_map (λ y. item_line x.day y.0 y.1) (zip items (outcomes x.items)));
+      file = record { key = x.key; digest = x.digest; answer = counts x };
+    }
+
+-- ---- an incoming file and the book
+
+abbrev pub intake_facts : Book → ℕ → FileFacts → IntakeFacts
+intake_facts b d f = record {
+  day = d;
+  holidays = b.holidays;
+  key = f.key;
+  digest = f.digest;
+  items = map (λ item. (item, named_on b item)) f.items;
+}
+
+-- what is done with a file: it is taken as a new one, answered as the first time, or refused
+pub data Taking : Type 0 where
+  New : IntakeFacts → Taking
+  Again : Intake → Taking
+  Refused : Refusal → Taking
+
+abbrev pub taking_known : List ℕ → TakenFile → Taking
+taking_known digest t = if bytes_eq t.digest digest then Again t.answer else Refused (Rule FileKeyReused)
+
+abbrev pub taking_file : Book → ℕ → FileFacts → Option TakenFile → Taking
+taking_file b d f None = New (intake_facts b d f)
+taking_file b d f (Some t) = taking_known f.digest t
+
+abbrev pub taking_on : Book → Option ℕ → Result FileFacts Fault → Taking
+taking_on b None file = Refused (Rule NoDay)
+taking_on b (Some d) (Err fault) = Refused (BadFile fault)
+taking_on b (Some d) (Ok f) = taking_file b d f (b.taken f.key)
+
+-- the first of NoDay, BadFile and FileKeyReused, or how the file is taken
+abbrev pub taking : Book → Result FileFacts Fault → Taking
+taking b file = taking_on b b.day file
+
+abbrev pub taking_answer : Taking → Answer
+taking_answer (New x) = intake_answer (Ok (counts x))
+taking_answer (Again counts) = intake_answer (Ok counts)
+taking_answer (Refused why) = intake_answer (Err why)
+
+abbrev pub with_taking : Taking → Book → Book
+with_taking (New x) b = (commit_intake (intake_write x)).after b
+with_taking (Again counts) b = b
+with_taking (Refused why) b = b
+
+abbrev pub file_answer_on : Result FileFacts Fault → Book → Answer
+file_answer_on file b = taking_answer (taking b file)
+
+-- the book after a file; one that was taken before, or is refused, leaves it as it was
+abbrev pub file_after : Result FileFacts Fault → Book → Book
+file_after file b = with_taking (taking b file) b

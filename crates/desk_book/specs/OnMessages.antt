@@ -1,0 +1,43 @@
+-- The answer to every message, and what it makes of the book, from the book.
+use Rattle.std.specs.Prelude.{◌≡◌, ℕ, List, ◌∷◌}
+use Rattle.desk_history.specs.declared.answer.Answer.{Answer}
+use Rattle.desk_history.specs.declared.identity.Identity.{Identity}
+use Rattle.desk_history.specs.Book.{Book, book_of}
+use Rattle.desk_history.specs.Message.{Message, Of, SetDay, SetHolidays, PutCompany, PutLimits, Cut, TakeFile, FileText, Settlement, Suspense, Pair}
+use Rattle.desk_history.specs.Operator.{answered, next, IsHistory}
+use Rattle.desk_book.specs.OnBook.{reply_on}
+use Rattle.desk_book.specs.BookLaws.{row_asked, with_new}
+use Rattle.desk_book.specs.OnOperator.{day_answer, day_after, holidays_answer, holidays_after, company_answer, company_after, limits_answer, limits_after, file_answer, settlement_answer, suspense_answer}
+use Rattle.desk_book.specs.OnCut.{cut_answer_on, cut_after}
+use Rattle.desk_book.specs.OnIntake.{file_answer_on, file_after}
+
+abbrev pub answer_on : Book → Message → Answer
+answer_on b (Of c r) = reply_on b c r
+answer_on b (SetDay text) = day_answer text b
+answer_on b (SetHolidays days) = holidays_answer days b
+answer_on b (PutCompany d) = company_answer d b
+answer_on b (PutLimits d) = limits_answer d b
+answer_on b Cut = cut_answer_on b
+answer_on b (TakeFile file) = file_answer_on file b
+answer_on b (FileText d modifier) = file_answer d modifier b
+answer_on b Settlement = settlement_answer b
+answer_on b Suspense = suspense_answer b
+
+abbrev pub after_on : Book → Message → Book
+after_on b (Of c r) = with_new c (row_asked b c r) b
+after_on b (SetDay text) = day_after text b
+after_on b (SetHolidays days) = holidays_after days b
+after_on b (PutCompany d) = company_after d b
+after_on b (PutLimits d) = limits_after d b
+after_on b Cut = cut_after b
+after_on b (TakeFile file) = file_after file b
+after_on b (FileText d modifier) = b
+after_on b Settlement = b
+after_on b Suspense = b
+
+-- the book tells each answer, and the book behind each message
+pub record BookTells : Type 0 where
+  pub answers : (identity : Identity) (key : List ℕ) (H : List Pair) (m : Message) → IsHistory identity H
+      → answered identity H m ≡ answer_on (book_of identity key H) m
+  pub steps : (identity : Identity) (key : List ℕ) (H : List Pair) (m : Message) → IsHistory identity H
+      → book_of identity key (next identity H m ∷ H) ≡ after_on (book_of identity key H) m
