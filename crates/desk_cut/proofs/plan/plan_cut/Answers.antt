@@ -1,0 +1,46 @@
+use Rattle.std.proofs.Common.{◌≡◌, ◌∙◌, ◌+◌, ℕ, List, length, sym, ap, map, rules}
+use Rattle.std.specs.Prelude.{nat_le, sum}
+use Rattle.desk_plan.specs.declared.batch.Batch.{Batch}
+use Rattle.desk_plan.specs.Places.{most_files}
+use Rattle.desk_plan.specs.Files.{division}
+use Rattle.desk_plan.specs.Runs.{in_runs}
+use Rattle.desk_history.specs.Files.{files_from}
+use Rattle.desk_cut.specs.Numbers.{batches_in, write_of, done_of}
+use Rattle.desk_cut.specs.Plan.{cut_of, plan_write}
+use Rattle.desk_cut.proofs.Planned.{whole, modifiers_are, may_take, is_plan, left, none_left}
+use Rattle.desk_cut.proofs.plan.plan_cut.Goals as goal
+
+pub returns-in_default : goal.returns-in_default
+returns-in_default c =
+    let x = cut_of c.args.identity.now c.args.day c.args.holidays.now c.args.last c.args.made c.args.waiting.now in
+    let n = c.in_ok-numbered.numbered in
+    let h = c.in_ok-numbered.ensures.ok in
+    let sizes : c.in_ok-sizes.sizes.items ≡ map length (division n.loads.items) = c.in_ok-sizes.ensures.sizes ∙ ap (λ (bs : List Batch). map length (division bs)) c.deref.ensures.value in
+    let count : length c.in_ok-sizes.sizes.items ≡ c.len.result = search rules in (
+      may_take x n c.args.latest.now _ h (sym c.are_past.ensures ∙ c.if-not-are_past.false),
+      modifiers_are x n c.in_ok-sizes.sizes.items h sizes
+          ∙ ap (λ k. nat_le (c.args.made + k) most_files) count
+          ∙ none_left _ c.args.made (sym c.made_before.ensures ∙ c.in_default.is),
+    )
+
+pub write-requires-clause-whole : goal.write-requires-clause-whole
+write-requires-clause-whole c =
+    let x = cut_of c.args.identity.now c.args.day c.args.holidays.now c.args.last c.args.made c.args.waiting.now in
+    ap (λ (l : List ℕ). sum l) c.deref-2.ensures.value
+    ∙ whole x c.in_ok-numbered.numbered c.in_ok-sizes.sizes.items c.in_ok-numbered.ensures.ok (c.in_ok-sizes.ensures.whole ∙ ap length c.deref.ensures.value)
+
+pub returns : goal.returns
+returns c =
+    let x = cut_of c.args.identity.now c.args.day c.args.holidays.now c.args.last c.args.made c.args.waiting.now in
+    let n = c.in_ok-numbered.numbered in
+    let h = c.in_ok-numbered.ensures.ok in
+    let sizes : c.deref-2.result.now ≡ map length (division n.loads.items) =
+    c.deref-2.ensures.value ∙ c.in_ok-sizes.ensures.sizes ∙ ap (λ (bs : List Batch). map length (division bs)) c.deref.ensures.value in
+    let count : length c.deref-2.result.now ≡ c.len.result = c.deref-2.ensures.len ∙ sym c.len.ensures in
+    let room = left _ c.args.made c.in-Some.made (sym c.made_before.ensures ∙ c.in-Some.is) in (
+      may_take x n c.args.latest.now _ h (sym c.are_past.ensures ∙ c.if-not-are_past.false),
+      modifiers_are x n c.deref-2.result.now h sizes ∙ ap (λ k. nat_le (c.args.made + k) most_files) count ∙ room.0,
+      is_plan x n c.deref-2.result.now c.in_ok-write.field-0 h sizes
+          (c.in_ok-write.ensures.write ∙ ap (λ made. write_of x.identity (files_from x.day made (in_runs c.deref-2.result.now (batches_in n))) n) room.1)
+          (c.in_ok-write.ensures.done ∙ ap (λ made. done_of x.day (files_from x.day made (in_runs c.deref-2.result.now (batches_in n))) n) room.1),
+    )

@@ -1,0 +1,14 @@
+use Rattle.std.proofs.Common.{◌≡◌, ◌++◌, ◌+◌, map, drop}
+use Rattle.std.specs.List.{enumerate_from}
+use Rattle.desk_history.specs.Files.{outgoing_entry}
+use Rattle.desk_history.specs.Sending.{sent_entry}
+use Rattle.desk_cut.specs.Plain.{plain_entry}
+use Rattle.desk_cut.specs.Sent.{batch_in, outgoing_entries}
+use Rattle.desk_cut.proofs.printing.push_outgoing.Given as goal
+
+-- the entries so far, and those that are left
+abbrev pub invariant-loop-index : goal.invariant-loop-index
+invariant-loop-index l =
+    map plain_entry l.outgoing.items
+    ++ map (outgoing_entry l.odfi) (map (λ x. sent_entry (batch_in l.batch) x.0 x.1) (enumerate_from (l.index + 1) (drop l.index l.entries)))
+    ≡ map plain_entry l.fn.outgoing.items ++ outgoing_entries l.odfi (batch_in l.batch)

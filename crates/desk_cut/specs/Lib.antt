@@ -1,0 +1,5 @@
+pub mod Faults
+pub mod Numbers
+pub mod Plain
+pub mod Plan
+pub mod Sent

@@ -1,0 +1,48 @@
+-- What comes of planning a cut.
+use Rattle.std.specs.Prelude.{◌≡◌, ⊤, ℕ, ◌+◌, Bool, true, false, nat_le, List, map, length, Option, Result, Ok, Err}
+use Rattle.desk_plan.specs.Places.{most_files}
+use Rattle.desk_plan.specs.Reuse.{may_send, latest_settled}
+use Rattle.desk_plan.specs.Sequences.{Sent, last_sequence, ranges_of}
+use Rattle.desk_history.specs.declared.identity.Identity.{Identity}
+use Rattle.desk_history.specs.Sending.{plan_of}
+use Rattle.desk_store.specs.declared.store.Waiting.{Waiting}
+use Rattle.desk_store.specs.Steps.{CutWrite}
+use Rattle.desk_book.specs.OnCut.{CutFacts, sends, files, cut_write, cut_done}
+use Rattle.desk_cut.specs.declared.fault.CutFault.{CutFault}
+use Rattle.desk_cut.specs.declared.fault.CutFault.TheVariants.{TracesSpent, ModifiersSpent}
+use Rattle.desk_cut.specs.declared.plan.CutPlan.{CutPlan}
+
+-- the cut of these values
+abbrev pub cut_of : Identity → ℕ → List ℕ → ℕ → ℕ → List Waiting → CutFacts
+cut_of identity day holidays last made waiting = record { identity = identity; day = day; holidays = holidays; last = last; made = made; waiting = waiting }
+
+-- The entries that were sent before are as the plan was told: they end with the last sequence, and for
+-- each range that a batch takes this is the latest day on which a youngest entry with one of its
+-- sequences settled.
+pub record IsTold (x : CutFacts) (latest : List (Option ℕ)) (sent : List Sent) : Type 0 where
+  pub last : last_sequence sent ≡ x.last
+  pub settled : latest ≡ map (latest_settled sent) (ranges_of sent (map plan_of (sends x)))
+
+-- whether the day has modifiers for the files
+abbrev pub has_modifiers : CutFacts → Bool
+has_modifiers x = nat_le (x.made + length (files x)) most_files
+
+-- what the plan has the store write
+abbrev pub plan_write : CutPlan → CutWrite
+plan_write p = record { sent = p.sent.items; lapsed = p.lapsed.items; entries = p.entries.items; postings = p.postings.items; files = p.files.items }
+
+-- a plan has all that the cut writes, and what it answers
+pub record IsPlan (x : CutFacts) (p : CutPlan) : Type 0 where
+  pub write : plan_write p ≡ cut_write x
+  pub done : p.done ≡ cut_done x
+
+-- the cut may take its sequences, whatever was sent before that is as told; or it may not
+abbrev pub MayTake : CutFacts → List (Option ℕ) → Bool → Type 0
+MayTake x latest may = (sent : List Sent) → IsTold x latest sent → may_send x.day sent (map plan_of (sends x)) ≡ may
+
+-- The plan of a cut that is not refused, or the first of TracesSpent and ModifiersSpent.
+abbrev pub Plans : CutFacts → List (Option ℕ) → Result CutPlan CutFault → Type 0
+Plans x latest (Ok p) = MayTake x latest true × (has_modifiers x ≡ true) × IsPlan x p
+Plans x latest (Err TracesSpent) = MayTake x latest false
+Plans x latest (Err ModifiersSpent) = MayTake x latest true × (has_modifiers x ≡ false)
+Plans x latest (Err fault) = ⊤

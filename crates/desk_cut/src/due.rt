@@ -1,0 +1,109 @@
+//! What is due on a day: what a cut sends, and what lapses.
+ghost use Rattle.std.specs.Prelude.{◌≡◌, ◌≤◌, ◌<◌, ◌+◌, IfOk, map, Some, All, if◌then◌else◌};
+ghost use Rattle.bank_days.specs.Day.{last_given};
+ghost use Rattle.desk_rules.specs.LimitChecks.{is_debit};
+ghost use Rattle.desk_history.specs.State.{is_too_late};
+ghost use Rattle.desk_book.specs.OnCut.{is_due, settles, sending, lapsing, lapsed_row};
+ghost use Rattle.desk_cut.specs.Sent.{sending_in};
+
+use crate::fault::PlanFault;
+use bank_days::{Calendar, Day};
+use desk_rules::Direction;
+use desk_store::{LapsedRow, Waiting};
+use std::alloc::Global;
+
+/// The last day that a calendar may be given: 2100-06-30.
+const LAST_GIVEN: i64 = 47_662;
+
+/// A submission that a cut sends, with the day on which it settles.
+#[derive(Clone, Copy)]
+pub(crate) struct Sending<'a> {
+    pub(crate) waiting: &'a Waiting,
+    pub(crate) settled: Day,
+}
+
+/// What a cut decides.
+#[derive(Drop)]
+pub(crate) struct Decided<'a> {
+    pub(crate) sent: Vec<Sending<'a>>,
+    pub(crate) lapsed: Vec<LapsedRow>,
+}
+
+// By how many banking days a direction is sent ahead.
+fn days_ahead(direction: Direction) -> u8
+    ensures value { result ≡ (if is_debit direction then 1 else 2) }
+{
+    match direction {
+        Direction::Credit => 2,
+        Direction::Debit => 1,
+    }
+}
+
+fn is_due(waiting: &Waiting, day: Day, holidays: &Calendar) -> bool
+    requires today { day ≤ last_given }
+    requires asked { waiting.now.row.content.day ≤ last_given }
+    ensures { result ≡ is_due holidays.now day waiting.now }
+{
+    let content = &waiting.row.content;
+    let horizon = holidays.nth_after(day, days_ahead(content.direction));
+    holidays.roll(content.day) <= horizon
+}
+
+// The day on which it would settle.
+fn settles(waiting: &Waiting, day: Day, holidays: &Calendar) -> Day
+    requires today { day ≤ last_given }
+    requires asked { waiting.now.row.content.day ≤ last_given }
+    ensures value { result ≡ settles holidays.now day waiting.now }
+    ensures later { day < result }
+{
+    let asked = waiting.row.content.day;
+    holidays.roll(asked).max(holidays.next(day))
+}
+
+// Would it settle too long after its original?
+fn is_too_late(settles: Day, original: Option<Day>) -> bool
+    ensures { result ≡ is_too_late (Some settles) original }
+{
+    match original {
+        Some(original) => desk_rules::is_too_late(original, settles),
+        None => false,
+    }
+}
+
+/// What is sent and what lapses, in the order in which it waits.
+pub(crate) fn decide<'a>(
+    alloc: Global,
+    day: Day,
+    holidays: &Calendar,
+    waiting: &'a [Waiting],
+) -> Result<Decided<'a>, PlanFault>
+    ensures sent { IfOk result (λ d. map sending_in d.sent.items ≡ sending holidays.now day waiting.now) }
+    ensures later { IfOk result (λ d. All (λ s. day < s.settled) d.sent.items) }
+    ensures lapsed { IfOk result (λ d. d.lapsed.items ≡ lapsing holidays.now day waiting.now) }
+{
+    let mut sent = Vec::new(alloc);
+    let mut lapsed = Vec::new(alloc);
+    if day.number() > LAST_GIVEN {
+        return Err(PlanFault::Unprintable);
+    }
+    for one in waiting {
+        if one.row.content.day.number() > LAST_GIVEN {
+            return Err(PlanFault::Unprintable);
+        }
+        if is_due(one, day, holidays) {
+            let settled = settles(one, day, holidays);
+            if is_too_late(settled, one.original_settled) {
+                lapsed.push(LapsedRow {
+                    company: one.company.id,
+                    order: one.row.order,
+                })?;
+            } else {
+                sent.extend_from_slice(&[Sending {
+                    waiting: one,
+                    settled,
+                }])?;
+            }
+        }
+    }
+    Ok(Decided { sent, lapsed })
+}

@@ -1,0 +1,57 @@
+ghost use Rattle.std.specs.Prelude.{◌≡◌};
+ghost use Rattle.desk_cut.specs.Faults.{fault_of};
+
+use std::alloc::{AllocError, AllocFailed};
+
+/// Why a cut is not planned.
+#[derive(Clone, Copy, Debug, PartialEq, Eq, Drop)]
+pub enum CutFault {
+    /// A batch would take a sequence that may not be used.
+    TracesSpent,
+    /// The day has no modifiers left for the files.
+    ModifiersSpent,
+    /// What waits has a value that stands in no history, and cannot be printed.
+    Unprintable,
+    /// Memory was refused.
+    NoMemory,
+}
+
+/// Why there is no plan of a cut that is not refused.
+#[derive(Clone, Copy, Debug, PartialEq, Eq, Drop)]
+pub(crate) enum PlanFault {
+    Unprintable,
+    NoMemory,
+}
+
+impl From<AllocError> for PlanFault {
+    fn from(_error: AllocError) -> PlanFault {
+        PlanFault::NoMemory
+    }
+}
+
+impl<T: Drop> From<AllocFailed<T>> for PlanFault {
+    fn from(_error: AllocFailed<T>) -> PlanFault {
+        PlanFault::NoMemory
+    }
+}
+
+impl From<AllocError> for CutFault {
+    ghost use Rattle.desk_cut.specs.declared.fault.CutFault.TheVariants.{NoMemory};
+
+    ghost from_gives = { λ _ e. e ≡ NoMemory };
+
+    fn from(_error: AllocError) -> CutFault {
+        CutFault::NoMemory
+    }
+}
+
+impl From<PlanFault> for CutFault {
+    ghost from_gives = { λ fault e. e ≡ fault_of fault };
+
+    fn from(fault: PlanFault) -> CutFault {
+        match fault {
+            PlanFault::Unprintable => CutFault::Unprintable,
+            PlanFault::NoMemory => CutFault::NoMemory,
+        }
+    }
+}

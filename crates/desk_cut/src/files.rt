@@ -1,0 +1,119 @@
+//! The files of a cut: which batches each has, their rows and their texts.
+ghost use Rattle.std.specs.Prelude.{◌≡◌, ◌≤◌, ◌+◌, ◌++◌, All, IfOk, OnOk, length, map, sum};
+ghost use Rattle.std.specs.List.{flat_map};
+ghost use Rattle.desk_plan.specs.Files.{IsSize, most_batches};
+ghost use Rattle.desk_plan.specs.Places.{most_files};
+ghost use Rattle.desk_plan.specs.Runs.{in_runs};
+ghost use Rattle.desk_history.specs.Files.{files_from};
+ghost use Rattle.desk_book.specs.OnCut.{sent_rows, file_row};
+ghost use Rattle.desk_cut.specs.Sent.{batch_in, file_in};
+
+use crate::batches::Batch;
+use crate::fault::PlanFault;
+use crate::printing::text_of;
+use bank_days::Day;
+use desk_history::{Identity, Listed, Printed};
+use desk_plan::modifier;
+use desk_store::{FileRow, SentRow};
+use std::alloc::{AllocError, Global};
+
+/// A file that the cut makes.
+#[derive(Clone, Copy)]
+pub(crate) struct File<'a> {
+    pub(crate) day: Day,
+    pub(crate) modifier: u8,
+    pub(crate) batches: &'a [Batch<'a>],
+}
+
+/// The files with these sizes, on a day that has so many already.
+pub(crate) fn files_of<'a>(
+    alloc: Global,
+    day: Day,
+    made: u32,
+    sizes: &[usize],
+    batches: &'a [Batch<'a>],
+) -> Result<Vec<File<'a>>, PlanFault>
+    requires made { made + length sizes.now ≤ most_files }
+    requires sizes { All IsSize sizes.now }
+    requires whole { sum sizes.now ≡ length batches.now }
+    ensures files { IfOk result (λ files. map file_in files.items ≡ files_from day made (in_runs sizes.now (map batch_in batches.now))) }
+    ensures sizes { IfOk result (λ files. All (λ f. length f.batches.now ≤ most_batches) files.items) }
+{
+    let mut files = Vec::new(alloc);
+    let mut from = 0;
+    for (index, size) in sizes.iter().enumerate() {
+        let Some(modifier) = modifier(made + index as u32) else {
+            return Err(PlanFault::Unprintable);
+        };
+        let to = from + *size;
+        files.extend_from_slice(&[File {
+            day,
+            modifier,
+            batches: &batches[from..to],
+        }])?;
+        from = to;
+    }
+    Ok(files)
+}
+
+// Adds a file's submissions, each with its place there.
+fn push_rows(rows: &mut Vec<SentRow>, file: &File<'_>) -> Result<(), AllocError>
+    ensures { OnOk result (rows.new.items ≡ rows.old.items ++ sent_rows (file_in file.now)) }
+{
+    for (index, batch) in file.batches.iter().enumerate() {
+        rows.push(SentRow {
+            company: batch.waiting.company.id,
+            order: batch.waiting.row.order,
+            settled: batch.settled,
+            printed: Printed {
+                day: file.day,
+                modifier: file.modifier,
+                batch: index as u64 + 1,
+            },
+        })?;
+    }
+    Ok(())
+}
+
+/// The submissions of all files, each with its place.
+pub(crate) fn rows_of(alloc: Global, files: &[File<'_>]) -> Result<Vec<SentRow>, AllocError>
+    ensures { IfOk result (λ rows. rows.items ≡ flat_map sent_rows (map file_in files.now)) }
+{
+    let mut rows = Vec::new(alloc);
+    for file in files {
+        push_rows(&mut rows, file)?;
+    }
+    Ok(rows)
+}
+
+/// The files with their texts.
+pub(crate) fn texts_of(
+    alloc: Global,
+    identity: &Identity,
+    files: &[File<'_>],
+) -> Result<Vec<FileRow>, PlanFault>
+    requires { All (λ f. length f.batches.now ≤ most_batches) files.now }
+    ensures { IfOk result (λ rows. rows.items ≡ map (file_row identity.now) (map file_in files.now)) }
+{
+    let mut rows = Vec::new(alloc);
+    for file in files {
+        let text = text_of(alloc, identity, file.day, file.modifier, file.batches)?;
+        rows.push(FileRow {
+            day: file.day,
+            modifier: file.modifier,
+            text: Listed::new(text),
+        })?;
+    }
+    Ok(rows)
+}
+
+/// The modifiers of the files, in order.
+pub(crate) fn modifiers_of(alloc: Global, files: &[File<'_>]) -> Result<Vec<u8>, AllocError>
+    ensures { IfOk result (λ modifiers. modifiers.items ≡ map (λ f. f.modifier) (map file_in files.now)) }
+{
+    let mut modifiers = Vec::new(alloc);
+    for file in files {
+        modifiers.push(file.modifier)?;
+    }
+    Ok(modifiers)
+}

@@ -1,0 +1,22 @@
+//! The plan of a cut: what is sent and what lapses of the submissions that wait, the batches and files
+//! with their sequences and texts, and all that is written of them.
+//!
+//! Nothing here reads or writes a store. `ranges_of_cut` says which sequences the batches would take, so
+//! that the caller can look up when these were used last, and `plan_cut` plans the cut or refuses it.
+#![tactic(auto)]
+
+mod batches;
+mod due;
+mod fault;
+mod files;
+mod loads;
+mod numbers;
+mod plan;
+mod postings;
+mod printing;
+
+pub use fault::CutFault;
+pub use plan::{CutPlan, plan_cut, ranges_of_cut};
+
+#[cfg(test)]
+mod tests;
