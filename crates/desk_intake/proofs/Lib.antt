@@ -1,0 +1,4 @@
+pub mod Counting
+pub mod Judging
+pub mod Keys
+pub mod Plans

@@ -1,0 +1,36 @@
+//! The answer to a file.
+ghost use Rattle.std.specs.Prelude.{◌≡◌, count_by, length};
+
+use bank_days::Day;
+use desk_history::{Intake, SuspenseRow};
+use desk_store::{ChangedRow, ReturnedRow};
+
+fn late_among(returned: &[ReturnedRow]) -> usize
+    ensures { result ≡ count_by (λ r. r.row.late) returned.now }
+{
+    returned.iter().filter(|returned| returned.row.late).count()
+}
+
+/// What the rows count.
+pub(crate) fn counts(
+    day: Day,
+    returned: &[ReturnedRow],
+    changed: &[ChangedRow],
+    suspense: &[SuspenseRow],
+) -> Intake
+    ensures { result ≡ record {
+      changes = length changed.now;
+      day = day;
+      late = count_by (λ r. r.row.late) returned.now;
+      returns = length returned.now;
+      suspense = length suspense.now;
+    } }
+{
+    Intake {
+        changes: changed.len() as u64,
+        day,
+        late: late_among(returned) as u64,
+        returns: returned.len() as u64,
+        suspense: suspense.len() as u64,
+    }
+}

@@ -1,0 +1,82 @@
+//! The postings of a file.
+ghost use Rattle.std.specs.Prelude.{◌≡◌, ◌++◌, [], map, unwrap_or, IfOk, OnOk};
+ghost use Rattle.std.specs.List.{flat_map};
+ghost use Rattle.desk_accounts.specs.Laws.{pairs};
+ghost use Rattle.desk_history.specs.Postings.{event_line, is_debit_code, item_line, suspended_line};
+ghost use Rattle.desk_intake.specs.Outcomes.{judged_as, met_as, outcome_of};
+
+use crate::agreement::is_return as is_return_item;
+use crate::judged::Judged;
+use crate::met::{Met, Reaction};
+use ach_files::ItemFacts;
+use bank_days::Day;
+use desk_accounts::{Posting, post_return, post_suspense};
+use std::alloc::{AllocError, Global};
+
+// The money of an entry that comes back.
+fn returned_pair(met: &Met, day: Day) -> Option<[Posting; 2]>
+    ensures { unwrap_or result [] ≡ pairs (event_line day met.now.entry (met_as met.now).event) }
+{
+    let Reaction::Return { .. } = met.reaction else {
+        return None;
+    };
+    let entry = &met.entry;
+    post_return(
+        entry.company,
+        entry.debit,
+        entry.entry.cents,
+        day,
+        entry.reference,
+        entry.index,
+    )
+}
+
+fn is_debit_code(transaction: u8) -> bool
+    ensures { result ≡ is_debit_code transaction }
+{
+    transaction % 10 >= 5
+}
+
+// The money of a return in suspense.
+fn suspended_pair(item: &ItemFacts, day: Day) -> Option<[Posting; 2]>
+    ensures { unwrap_or result [] ≡ pairs (suspended_line day item.now) }
+{
+    if !is_return_item(item) {
+        return None;
+    }
+    post_suspense(is_debit_code(item.transaction_code), item.amount, day)
+}
+
+// The two lines of an item, if it moves money.
+fn pair_of(judged: &Judged, day: Day) -> Option<[Posting; 2]>
+    ensures { unwrap_or result [] ≡ pairs (item_line day judged.now.item (outcome_of judged.now)) }
+{
+    match &judged.outcome {
+        Ok(met) => returned_pair(met, day),
+        Err(_) => suspended_pair(&judged.item, day),
+    }
+}
+
+fn push_pair(postings: &mut Vec<Posting>, pair: Option<[Posting; 2]>) -> Result<(), AllocError>
+    ensures { OnOk result (postings.new.items ≡ postings.old.items ++ unwrap_or pair []) }
+{
+    if let Some(pair) = pair {
+        postings.extend_from_slice(&pair)?;
+    }
+    Ok(())
+}
+
+/// The lines of companies and of suspense, each with its opposite behind it.
+pub(crate) fn postings_of(
+    alloc: Global,
+    judged: &[Judged],
+    day: Day,
+) -> Result<Vec<Posting>, AllocError>
+    ensures { IfOk result (λ postings. postings.items ≡ pairs (flat_map (λ y. item_line day y.0 y.1) (map judged_as judged.now))) }
+{
+    let mut postings = Vec::new(alloc);
+    for one in judged {
+        push_pair(&mut postings, pair_of(one, day))?;
+    }
+    Ok(postings)
+}
