@@ -1,6 +1,11 @@
-pub mod Holidays
-pub mod Standings
-pub mod Replies
-pub mod Kept
-pub mod NewRows
-pub mod Steps
+pub mod Applied
+pub mod Adding
+pub mod Asked
+pub mod FileReading
+pub mod Onward
+pub mod Planned
+pub mod Submits
+pub mod RetryVerdicts
+pub mod Runs
+pub mod Traceless
+pub mod Zips

@@ -1,2 +1,8 @@
-pub mod OnBook
-pub mod BookLaws
+pub mod Answered
+pub mod Answering
+pub mod Applying
+pub mod Cutting
+pub mod RowWords
+pub mod Running
+pub mod Taking
+pub mod Verdicts

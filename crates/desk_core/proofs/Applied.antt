@@ -1,0 +1,32 @@
+-- What a call comes to by the book is what it comes to by the history.
+use Rattle.std.proofs.Common.{◌≡◌, ◌⊎◌, ◌∙◌, sym, ℕ, List, inl, inr}
+use Rattle.std.specs.Prelude.{Result, Ok, Err}
+use Rattle.desk_history.specs.declared.answer.Answer.{Answer}
+use Rattle.desk_history.specs.declared.call.Call.{Call}
+use Rattle.desk_history.specs.declared.identity.Identity.{Identity}
+use Rattle.desk_history.specs.Book.{Book, book_of}
+use Rattle.desk_history.specs.Message.{Message, Of, Pair}
+use Rattle.desk_history.specs.Request.{Request}
+use Rattle.desk_store.specs.declared.store.StoreFault.{StoreFault}
+use Rattle.desk_book.specs.OnMessages.{BookTells}
+use Rattle.desk_core.specs.Applying.{AnswersCall, LeavesMessage, IsAsked, IsOwnReply, LeavesOn}
+
+pub own_reply : BookTells → (old new : Book → Type 0) (call : Call) (identity : Identity) (key : List ℕ) (H : List Pair) (c : List ℕ) (r : Request) (result : Result Answer StoreFault)
+    → AnswersCall old call result new → IsAsked old call identity key H (Of c r) → IsOwnReply identity H c r result
+own_reply tells old new call identity key H c r (Ok a) answers asked =
+    (answers (Of c r) asked.message (book_of identity key H) asked.book).0 ∙ sym (tells.answers identity key H (Of c r) asked.history)
+own_reply tells old new call identity key H c r (Err fault) answers asked = tt
+
+pub leaves_on : BookTells → (holds old new : Book → Type 0) (call : Call) (identity : Identity) (key : List ℕ) (H : List Pair) (m : Message) (found : Book) (result : Result Answer StoreFault)
+    → LeavesMessage holds old call result new → IsAsked holds call identity key H m → new found → LeavesOn old identity key H m result found
+leaves_on tells holds old new call identity key H m found (Ok a) leaves asked more =
+    let step = tells.steps identity key H m asked.history in
+    elim (leaves m asked.message (book_of identity key H) found asked.book more) [
+      | inl same ↦ inl (same.0, step ∙ same.1)
+      | inr made ↦ inr (made ∙ sym step)
+    ]
+leaves_on tells holds old new call identity key H m found (Err fault) leaves asked more =
+    elim (leaves m asked.message (book_of identity key H) found asked.book more) [
+      | inl before ↦ inl before
+      | inr made ↦ inr (made ∙ sym (tells.steps identity key H m asked.history))
+    ]

@@ -1,0 +1,27 @@
+-- What a call that answers from a store says.
+use Rattle.std.specs.Prelude.{◌≡◌, ◌⊎◌, ◌↔◌, ℕ, Bool, IsTrue, List, Some, Result, Ok, Err}
+use Rattle.desk_history.specs.declared.answer.Answer.{Answer}
+use Rattle.desk_history.specs.Book.{Book}
+use Rattle.desk_store.specs.declared.store.Caller.{Caller}
+use Rattle.desk_store.specs.declared.store.StoreFault.{StoreFault}
+use Rattle.desk_store.specs.Reads.{key_of}
+
+-- The answer is this one of the book, and the store then holds that book; or the store could not act,
+-- and holds the same one.
+abbrev pub Answers : (Book → Type 0) → Result Answer StoreFault → (Book → Answer) → (Book → Book) → (Book → Type 0) → Type 0
+Answers old (Ok a) answer after new = (b : Book) → old b → (a ≡ answer b) × new (after b)
+Answers old (Err fault) answer after new = (b : Book) → old b → new b
+
+-- What a crash may leave after a call: nothing new where it wrote nothing, the book that it made where it
+-- wrote; and where the store could not act, either.
+abbrev pub LeavesCall : (Book → Type 0) → (Book → Type 0) → Result Answer StoreFault → (Book → Book) → (Book → Type 0) → Type 0
+LeavesCall holds old (Ok a) after new = (b found : Book) → holds b → new found → (old found × (after b ≡ b)) ⊎ (found ≡ after b)
+LeavesCall holds old (Err fault) after new = (b found : Book) → holds b → new found → old found ⊎ (found ≡ after b)
+
+-- ---- who may call
+
+-- Yes exactly where the caller is the operator or a registered company, and has a key of that digest; or
+-- the store could not act. It holds the same book.
+abbrev pub Allows : (Book → Type 0) → Result Bool StoreFault → Caller → List ℕ → (Book → Type 0) → Type 0
+Allows old (Ok allowed) caller digest new = (b : Book) → old b → (IsTrue allowed ↔ (key_of caller b ≡ Some digest)) × new b
+Allows old (Err fault) caller digest new = (b : Book) → old b → new b

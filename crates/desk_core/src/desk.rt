@@ -1,0 +1,82 @@
+ghost use Rattle.std.specs.Prelude.{◌≡◌};
+ghost use Rattle.desk_store.specs.Words.{LeavesRead};
+ghost use Rattle.desk_core.specs.Answering.{Allows};
+ghost use Rattle.desk_core.specs.Applying.{Goes, Replies, LeavesBook};
+ghost use Rattle.desk_core.specs.Running.{Runs};
+
+use crate::allowing::allow;
+use crate::applying::respond;
+use desk_history::{Answer, Call};
+use desk_store::{Caller, Store, StoreFault};
+use std::alloc::Global;
+use std::marker::Model;
+
+/// A desk, over its store. Clauses see the store.
+#[derive(Drop)]
+pub struct Desk<S> {
+    store: S,
+}
+
+impl<S> Model for Desk<S> {
+    ghost Value = { S };
+
+    ghost view = { λ d. d.store };
+
+    ghost inverse = { λ s. record { store = s } };
+}
+
+impl<S> Desk<S> {
+    /// The desk of a store.
+    pub fn new(store: S) -> Desk<S>
+        ensures { result ≡ store }
+    {
+        Desk { store }
+    }
+
+    /// Its store.
+    pub fn into_store(self) -> S
+        ensures { result ≡ self }
+    {
+        self.store
+    }
+}
+
+impl<S: Store> Desk<S> {
+    /// Answers a call, with the one write that it makes.
+    pub fn apply(&mut self, alloc: Global, call: Call) -> Result<Answer, StoreFault>
+        ensures before { S.is_clean self.new → S.is_clean self.old }
+        ensures goes { S.is_clean self.new → Goes (S.holds self.old) call result (S.holds self.new) }
+        ensures replies { S.is_clean self.new → Replies (S.holds self.old) call result }
+        ensures left { S.is_clean self.new → LeavesBook (S.holds self.old) (S.may_leave self.old) call result (S.may_leave self.new) }
+    {
+        desk_book::book_tells();
+        respond(&mut self.store, alloc, call)
+    }
+
+    /// Answers calls in their order. Where the store could not act, the calls before are done.
+    pub fn apply_all(&mut self, alloc: Global, calls: Vec<Call>) -> Result<Vec<Answer>, StoreFault>
+        ensures before { S.is_clean self.new → S.is_clean self.old }
+        ensures runs { S.is_clean self.new → Runs (S.holds self.old) calls.items result (S.holds self.new) }
+    {
+        let mut answers = Vec::with_capacity(alloc, calls.len())?;
+        for call in calls {
+            let answer = self.apply(alloc, call)?;
+            answers.push(answer)?;
+        }
+        Ok(answers)
+    }
+
+    /// Is this the digest of the caller's key? The operator has one, and each registered company.
+    pub fn allow(
+        &mut self,
+        alloc: Global,
+        caller: Caller,
+        digest: [u8; 32],
+    ) -> Result<bool, StoreFault>
+        ensures before { S.is_clean self.new → S.is_clean self.old }
+        ensures allows { S.is_clean self.new → Allows (S.holds self.old) result caller digest (S.holds self.new) }
+        ensures left { S.is_clean self.new → LeavesRead (S.may_leave self.old) (S.may_leave self.new) }
+    {
+        allow(&mut self.store, alloc, caller, digest)
+    }
+}

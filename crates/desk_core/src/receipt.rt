@@ -1,0 +1,46 @@
+//! The receipt of a submission.
+ghost use Rattle.std.specs.Prelude.{◌≡◌, IfOk};
+ghost use Rattle.desk_rules.specs.Size.{total_of};
+ghost use Rattle.desk_core.specs.Answered.{receipt_answer};
+ghost use Rattle.desk_core.specs.RowWords.{receipt_for};
+
+use ach_fields::Cents;
+use desk_history::{Answer, Done, Receipt, Refusal};
+use desk_rules::{Entry, Submission};
+use desk_store::StoreFault;
+
+/// The most entries of a submission.
+const MOST_ENTRIES: usize = 1_000;
+
+/// The sum of the entries of a submission. What was accepted has no more entries, and no larger a sum.
+pub(crate) fn sum(entries: &[Entry]) -> Result<Cents, StoreFault>
+    ensures { IfOk result (λ c. c ≡ total_of entries.now) }
+{
+    if entries.len() > MOST_ENTRIES {
+        return Err(StoreFault::Unavailable);
+    }
+    Cents::new(desk_rules::total(entries)).ok_or(StoreFault::Unavailable)
+}
+
+/// The receipt of a submission with this order number.
+pub(crate) fn receipt(content: &Submission, order: u64) -> Result<Receipt, StoreFault>
+    ensures { IfOk result (λ r. r ≡ receipt_for content.now order) }
+{
+    let entries = content.entries.as_slice();
+    Ok(Receipt {
+        cents: sum(entries)?,
+        entries: entries.len() as u64,
+        order,
+        reference: content.reference,
+    })
+}
+
+/// The answer with a receipt, or the refusal.
+pub(crate) fn receipt_answer(judged: Result<Receipt, desk_rules::Refusal>) -> Answer
+    ensures { result ≡ receipt_answer judged }
+{
+    match judged {
+        Ok(receipt) => Answer::Done(Done::Submitted(receipt)),
+        Err(why) => Answer::Refused(Refusal::Rule(why)),
+    }
+}

@@ -1,0 +1,177 @@
+//! Calls from words: who calls, what is asked, and with what.
+use super::incoming::incoming;
+use crate::{Call, Listed};
+use ach_fields::{Id, Ref};
+use bank_days::Day;
+use desk_rules::{
+    CompanyDraft, Draft, DraftText, EntryDraft, EntryDrafts, LimitDrafts, LimitsDraft, Optional,
+    RetryDraft,
+};
+use std::alloc::Global;
+use std::process::Abort;
+
+/// The digest of each company's key.
+pub(super) const COMPANY_DIGEST: [u8; 32] = [1; 32];
+
+// The word with this number; empty where there are fewer.
+fn word(line: &str, number: usize) -> &str {
+    line.split(' ').nth(number).unwrap_or("")
+}
+
+// What stands behind the first two words.
+fn behind_two(line: &str) -> &str {
+    line.splitn(3, ' ').nth(2).unwrap_or("")
+}
+
+fn number(rt: &impl Abort, word: &str) -> u64 {
+    word.parse::<u64>().ok().expect(rt, "a number")
+}
+
+fn draft_text(rt: &(impl Abort + Alloc<A = Global>), word: &str) -> DraftText {
+    DraftText::copied(rt.alloc(), word.as_bytes())
+        .ok()
+        .expect(rt, "memory")
+}
+
+fn text(rt: &(impl Abort + Alloc<A = Global>), word: &str) -> Option<DraftText> {
+    Some(draft_text(rt, word))
+}
+
+fn id(rt: &impl Abort, word: &str) -> Id {
+    Id::new(word.as_bytes()).ok().expect(rt, "a company")
+}
+
+// A prenote where there are no cents.
+fn entry(rt: &(impl Abort + Alloc<A = Global>), routing: &str, cents: u64) -> EntryDraft {
+    EntryDraft {
+        routing: text(rt, routing),
+        account: text(rt, "123456789"),
+        kind: text(rt, "checking"),
+        prenote: Optional::Given(cents == 0),
+        cents: Some(cents),
+        id: text(rt, "E1"),
+        name: text(rt, "ANN LEE"),
+        info: Optional::Absent,
+    }
+}
+
+// Behind five words stand the amounts.
+fn entries(rt: &(impl Abort + Alloc<A = Global>), line: &str) -> EntryDrafts {
+    let mut entries = Vec::new(rt.alloc());
+    for cents in line.split(' ').skip(6) {
+        let entry = entry(rt, word(line, 5), number(rt, cents));
+        entries.push(Some(entry)).ok().expect(rt, "memory");
+    }
+    EntryDrafts::new(entries)
+}
+
+// `COMPANY submit REFERENCE DIRECTION DAY ROUTING CENTS ..`
+fn draft(rt: &(impl Abort + Alloc<A = Global>), line: &str) -> Draft {
+    let debit = word(line, 3) == "debit";
+    Draft {
+        reference: text(rt, word(line, 2)),
+        sec: text(rt, "PPD"),
+        direction: text(rt, word(line, 3)),
+        description: text(rt, if debit { "DUES" } else { "PAYROLL" }),
+        day: text(rt, word(line, 4)),
+        entries: Some(entries(rt, line)),
+    }
+}
+
+fn authorized(rt: &(impl Abort + Alloc<A = Global>), day: &str) -> Optional<DraftText> {
+    if day.is_empty() {
+        Optional::Absent
+    } else {
+        Optional::Given(draft_text(rt, day))
+    }
+}
+
+// `COMPANY retry REFERENCE OF INDEX DAY [AUTHORIZED]`
+fn retry(rt: &(impl Abort + Alloc<A = Global>), line: &str) -> RetryDraft {
+    RetryDraft {
+        reference: text(rt, word(line, 2)),
+        of: text(rt, word(line, 3)),
+        index: Some(number(rt, word(line, 4))),
+        day: text(rt, word(line, 5)),
+        authorized: authorized(rt, word(line, 6)),
+    }
+}
+
+// Behind the third word: `ENTRY CREDIT DEBIT`.
+fn limits(rt: &impl Abort, line: &str) -> LimitDrafts {
+    LimitDrafts {
+        entry: Some(number(rt, word(line, 3))),
+        credit: Some(number(rt, word(line, 4))),
+        debit: Some(number(rt, word(line, 5))),
+    }
+}
+
+fn company(rt: &(impl Abort + Alloc<A = Global>), line: &str) -> CompanyDraft {
+    CompanyDraft {
+        id: text(rt, word(line, 2)),
+        name: text(rt, "MILL STREET"),
+        key: text(rt, "mill-street-key"),
+        limits: limits(rt, line),
+        digest: COMPANY_DIGEST,
+    }
+}
+
+fn new_limits(rt: &(impl Abort + Alloc<A = Global>), line: &str) -> LimitsDraft {
+    LimitsDraft {
+        id: text(rt, word(line, 2)),
+        limits: limits(rt, line),
+    }
+}
+
+fn bytes(rt: &(impl Abort + Alloc<A = Global>), text: &str) -> Listed<u8> {
+    let bytes = Vec::from_slice(rt.alloc(), text.as_bytes())
+        .ok()
+        .expect(rt, "memory");
+    Listed::new(bytes)
+}
+
+// `desk file DAY MODIFIER`
+fn file(rt: &impl Abort, line: &str) -> Call {
+    let day = Day::read(word(line, 2).as_bytes()).expect(rt, "a day");
+    let modifier = word(line, 3).as_bytes().first().expect(rt, "a modifier");
+    Call::FileText(day, *modifier)
+}
+
+fn operator_call(rt: &(impl Abort + Alloc<A = Global>), line: &str) -> Call {
+    match word(line, 1) {
+        "company" => Call::PutCompany(company(rt, line)),
+        "limits" => Call::PutLimits(new_limits(rt, line)),
+        "day" => Call::SetDay(text(rt, word(line, 2))),
+        "holidays" => Call::SetHolidays(bytes(rt, behind_two(line))),
+        "items" => Call::TakeFile(Listed::new(incoming(rt, line))),
+        "take" => Call::TakeFile(bytes(rt, behind_two(line))),
+        "cut" => Call::Cut,
+        "file" => file(rt, line),
+        "settlement" => Call::Settlement,
+        _ => Call::SuspenseItems,
+    }
+}
+
+fn company_call(rt: &(impl Abort + Alloc<A = Global>), company: Id, line: &str) -> Call {
+    match word(line, 1) {
+        "submit" => Call::Submit(company, draft(rt, line)),
+        "retry" => Call::Retry(company, retry(rt, line)),
+        "look" => {
+            let reference = Ref::new(word(line, 2).as_bytes());
+            Call::LookUp(company, reference.ok().expect(rt, "a reference"))
+        }
+        "returns" => Call::ReturnsOf(company),
+        "changes" => Call::ChangesOf(company),
+        "statement" => Call::StatementOf(company),
+        "rates" => Call::RatesOf(company),
+        _ => Call::ExposureOf(company),
+    }
+}
+
+/// The call of a line: `desk` or a company, and what is asked.
+pub(super) fn call_of(rt: &(impl Abort + Alloc<A = Global>), line: &str) -> Call {
+    match word(line, 0) {
+        "desk" => operator_call(rt, line),
+        company => company_call(rt, id(rt, company), line),
+    }
+}

@@ -1,0 +1,168 @@
+//! Companies, days, holidays, limits and submissions.
+use super::calls::COMPANY_DIGEST;
+use super::script::{BAKE, DAY, HOLIDAYS, MILL, OPERATOR_DIGEST, PAY_1, follow, holds, new_store};
+use crate::{Caller, Desk};
+use ach_fields::Id;
+use std::test::Fail;
+
+// A repeated reference is answered as it was, or refused with other content.
+#[test]
+fn a_submission_is_sent_again(rt: HostRuntime) {
+    holds(
+        &rt,
+        &[
+            MILL,
+            HOLIDAYS,
+            DAY,
+            PAY_1,
+            PAY_1,
+            (
+                "MILL01 submit PAY-1 credit 2025-01-10 091000019 150001",
+                "RefReused",
+            ),
+            (
+                "MILL01 look PAY-1",
+                "PAY-1 order 1 2025-01-10; 1 150000 held",
+            ),
+            (
+                "MILL01 submit PAY-2 debit 2025-01-10 091000019 2500",
+                "PAY-2 order 2 entries 1 cents 2500",
+            ),
+        ],
+    );
+}
+
+// References and order numbers are each company's own.
+#[test]
+fn two_companies_use_one_reference(rt: HostRuntime) {
+    holds(
+        &rt,
+        &[
+            MILL,
+            BAKE,
+            DAY,
+            PAY_1,
+            (
+                "BAKE01 submit PAY-1 credit 2025-01-10 091000019 150001",
+                "PAY-1 order 1 entries 1 cents 150001",
+            ),
+            (
+                "MILL01 look PAY-1",
+                "PAY-1 order 1 2025-01-10; 1 150000 held",
+            ),
+            (
+                "BAKE01 look PAY-1",
+                "PAY-1 order 1 2025-01-10; 1 150001 held",
+            ),
+            ("BAKE01 look PAY-2", "none"),
+            (
+                "BAKE01 exposure",
+                "credit 150001 of 999999999999999, debit 0 of 999999999999999",
+            ),
+        ],
+    );
+}
+
+// What is held counts against the limit; a refused reference stays free.
+#[test]
+fn a_limit_is_reached(rt: HostRuntime) {
+    holds(
+        &rt,
+        &[
+            MILL,
+            DAY,
+            (
+                "desk limits MILL01 9999999999 200000 999999999999999",
+                "MILL01",
+            ),
+            PAY_1,
+            (
+                "MILL01 submit PAY-3 credit 2025-01-10 091000019 50001",
+                "CreditLimit",
+            ),
+            ("MILL01 look PAY-3", "none"),
+            (
+                "MILL01 submit PAY-3 credit 2025-01-10 091000019 50000",
+                "PAY-3 order 2 entries 1 cents 50000",
+            ),
+            (
+                "MILL01 exposure",
+                "credit 200000 of 200000, debit 0 of 999999999999999",
+            ),
+        ],
+    );
+}
+
+// From the day after the desk day to the sixtieth.
+#[test]
+fn days_that_may_be_asked_for(rt: HostRuntime) {
+    holds(
+        &rt,
+        &[
+            MILL,
+            HOLIDAYS,
+            DAY,
+            ("MILL01 submit A credit 2025-01-08 091000019 1", "DateRange"),
+            ("MILL01 submit A credit 2025-03-10 091000019 1", "DateRange"),
+            (
+                "MILL01 submit A credit 2025-01-09 091000019 1",
+                "A order 1 entries 1 cents 1",
+            ),
+            (
+                "MILL01 submit B credit 2025-03-09 091000019 1",
+                "B order 2 entries 1 cents 1",
+            ),
+        ],
+    );
+}
+
+// Before any day nothing is taken, whatever it says; an unknown company is told that first.
+#[test]
+fn no_day_was_set(rt: HostRuntime) {
+    holds(
+        &rt,
+        &[
+            (
+                "MILL01 submit PAY-1 credit 2025-01-10 091000019 150000",
+                "NoCompany",
+            ),
+            MILL,
+            ("desk company MILL01 0 0 0", "CompanyExists"),
+            ("desk limits BAKE01 0 0 0", "NoCompany"),
+            (
+                "MILL01 submit PAY-1 credit 2025-01-10 091000019 150000",
+                "NoDay",
+            ),
+            (
+                "MILL01 submit PAY-1 credit 2025-01-10 091000018 150000",
+                "NoDay",
+            ),
+            ("MILL01 exposure", "NoDay"),
+            HOLIDAYS,
+            ("desk day 2025-01-18", "NotBankingDay"),
+            ("desk day 2025-01-20", "NotBankingDay"),
+            DAY,
+            ("desk day 2025-01-08", "DayNotLater"),
+            (
+                "MILL01 submit PAY-1 credit 2025-01-10 091000018 150000",
+                "BadField",
+            ),
+            PAY_1,
+        ],
+    );
+}
+
+// The operator and registered companies are known by their own keys.
+#[test]
+fn who_may_call(rt: HostRuntime) -> Result<(), Fail> {
+    let mut desk = Desk::new(new_store(&rt));
+    assert!(rt; !follow(&rt, &mut desk, &[MILL]));
+    let mill = Caller::Company(Id::new(b"MILL01").ok().expect(&rt, "a company"));
+    let bake = Caller::Company(Id::new(b"BAKE01").ok().expect(&rt, "a company"));
+    assert!(rt; desk.allow(rt.alloc(), Caller::Operator, OPERATOR_DIGEST)?);
+    assert!(rt; !desk.allow(rt.alloc(), Caller::Operator, COMPANY_DIGEST)?);
+    assert!(rt; desk.allow(rt.alloc(), mill, COMPANY_DIGEST)?);
+    assert!(rt; !desk.allow(rt.alloc(), mill, OPERATOR_DIGEST)?);
+    assert!(rt; !desk.allow(rt.alloc(), bake, COMPANY_DIGEST)?);
+    Ok(())
+}

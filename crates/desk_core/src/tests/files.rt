@@ -1,0 +1,278 @@
+//! Files of returns and changes.
+use super::script::{BAKE, DAY, HOLIDAYS, MILL, PAY_2, holds};
+
+const NINTH: (&str, &str) = ("desk day 2025-01-09", "2025-01-09");
+
+const CUT: (&str, &str) = ("desk cut", "2025-01-09 sent 1 in [A], lapsed 0");
+
+const FOURTEENTH: (&str, &str) = ("desk day 2025-01-14", "2025-01-14");
+
+const ONE_RETURN: &str = "2025-01-14 returns 1 late 0 changes 0 suspense 0";
+
+/// The return of the first debit, with its account.
+macro_rules! returned {
+    ($account:literal) => {
+        concat!(
+            "desk take 101 121042882 0610001462501140930A094101OUR BANK               ACH OPERATOR                   \n5225MILL STREET                         MILL01    PPDDUES            2501140141091000010000001\n626121042882",
+            $account,
+            "        0000002500E2             BOB RAY                 1091000010000007\n799R01121042880000001      09100001                                            091000010000007\n82250000020012104288000000002500000000000000MILL01                             091000010000001\n9000001000001000000020012104288000000002500000000000000                                       \n"
+        )
+    };
+}
+
+const RETURNED: (&str, &str) = (returned!("123456789"), ONE_RETURN);
+
+// The same file again changes nothing and is answered as the first time, also on a later day.
+#[test]
+fn a_file_is_taken_twice(rt: HostRuntime) {
+    holds(
+        &rt,
+        &[
+            MILL,
+            HOLIDAYS,
+            (returned!("123456789"), "NoDay"),
+            DAY,
+            PAY_2,
+            NINTH,
+            CUT,
+            FOURTEENTH,
+            RETURNED,
+            RETURNED,
+            ("MILL01 returns", "returns; R01 2025-01-14 1 PAY-2"),
+            ("desk day 2025-01-15", "2025-01-15"),
+            RETURNED,
+            (returned!("123456780"), "FileKeyReused"),
+            ("desk take 1", "BadLength at record 1"),
+            (
+                "MILL01 look PAY-2",
+                "PAY-2 order 1 2025-01-10; 1 2500 R01 2025-01-14",
+            ),
+            (
+                "MILL01 statement",
+                "balance 0; 2500 2025-01-10 0 PAY-2; -2500 2025-01-14 1 PAY-2",
+            ),
+        ],
+    );
+}
+
+// What meets no entry stands in suspense, with its money.
+#[test]
+fn four_returns_in_suspense(rt: HostRuntime) {
+    holds(
+        &rt,
+        &[
+            MILL,
+            HOLIDAYS,
+            DAY,
+            PAY_2,
+            (
+                "MILL01 submit PAY-3 debit 2025-01-10 091000019 2500",
+                "PAY-3 order 2 entries 1 cents 2500",
+            ),
+            NINTH,
+            ("desk cut", "2025-01-09 sent 2 in [A], lapsed 0"),
+            FOURTEENTH,
+            RETURNED,
+            (
+                "desk items B PPD R01/9/2500/26 R01/2/2600/26 R31/2/2500/26 R01/1/2500/26",
+                "2025-01-14 returns 0 late 0 changes 0 suspense 4",
+            ),
+            (
+                "desk suspense",
+                "suspense; 1 2500 NoTrace; 2 2600 Differs; 3 2500 CodeOutside; 4 2500 AlreadyReturned",
+            ),
+            (
+                "desk settlement",
+                "balance 7600; -5000 2025-01-10; 12600 2025-01-14",
+            ),
+            (
+                "MILL01 look PAY-3",
+                "PAY-3 order 2 2025-01-10; 1 2500 sent 2025-01-10",
+            ),
+        ],
+    );
+}
+
+// One entry twice in a file: the second stands in suspense.
+#[test]
+fn a_file_returns_an_entry_twice(rt: HostRuntime) {
+    holds(
+        &rt,
+        &[
+            MILL,
+            HOLIDAYS,
+            DAY,
+            PAY_2,
+            NINTH,
+            CUT,
+            FOURTEENTH,
+            (
+                "desk items B PPD R01/1/2500/26 R09/1/2500/26",
+                "2025-01-14 returns 1 late 0 changes 0 suspense 1",
+            ),
+            ("desk suspense", "suspense; 2 2500 AlreadyReturned"),
+            ("MILL01 returns", "returns; R01 2025-01-14 1 PAY-2"),
+        ],
+    );
+}
+
+// A return of two banking days, over a holiday: the third day is late.
+#[test]
+fn returns_in_time_and_late(rt: HostRuntime) {
+    let days = [
+        (
+            "desk day 2025-01-22",
+            "2025-01-22",
+            "2025-01-22 returns 1 late 0 changes 0 suspense 0",
+        ),
+        (
+            "desk day 2025-01-23",
+            "2025-01-23",
+            "2025-01-23 returns 1 late 1 changes 0 suspense 0",
+        ),
+    ];
+    for (line, day, answer) in days {
+        holds(
+            &rt,
+            &[
+                MILL,
+                HOLIDAYS,
+                ("desk day 2025-01-16", "2025-01-16"),
+                (
+                    "MILL01 submit D debit 2025-01-17 091000019 2500",
+                    "D order 1 entries 1 cents 2500",
+                ),
+                ("desk cut", "2025-01-16 sent 1 in [A], lapsed 0"),
+                (line, day),
+                ("desk items A PPD R01/1/2500/26", answer),
+            ],
+        );
+    }
+}
+
+// A return of sixty days: the next banking day is in time, the one after late.
+#[test]
+fn unauthorized_in_time_and_late(rt: HostRuntime) {
+    let days = [
+        (
+            "desk day 2025-03-12",
+            "2025-03-12",
+            "2025-03-12 returns 1 late 0 changes 0 suspense 0",
+        ),
+        (
+            "desk day 2025-03-13",
+            "2025-03-13",
+            "2025-03-13 returns 1 late 1 changes 0 suspense 0",
+        ),
+    ];
+    for (line, day, answer) in days {
+        holds(
+            &rt,
+            &[
+                MILL,
+                HOLIDAYS,
+                DAY,
+                PAY_2,
+                NINTH,
+                CUT,
+                (line, day),
+                ("desk items A PPD R10/1/2500/26", answer),
+            ],
+        );
+    }
+}
+
+// A change is listed and leaves its entry sent; one outside the codes or in another batch does not.
+#[test]
+fn changes_of_an_entry(rt: HostRuntime) {
+    holds(
+        &rt,
+        &[
+            MILL,
+            HOLIDAYS,
+            DAY,
+            PAY_2,
+            NINTH,
+            CUT,
+            FOURTEENTH,
+            (
+                "desk items A COR C01/1/0/26",
+                "2025-01-14 returns 0 late 0 changes 1 suspense 0",
+            ),
+            (
+                "MILL01 changes",
+                "changes; C01 2025-01-14 1 PAY-2 987654321",
+            ),
+            (
+                "MILL01 look PAY-2",
+                "PAY-2 order 1 2025-01-10; 1 2500 sent 2025-01-10",
+            ),
+            (
+                "desk items B COR C15/1/0/26",
+                "2025-01-14 returns 0 late 0 changes 0 suspense 1",
+            ),
+            (
+                "desk items C PPD C01/1/0/26",
+                "2025-01-14 returns 0 late 0 changes 0 suspense 1",
+            ),
+            ("desk suspense", "suspense; 1 0 CodeOutside; 1 0 Differs"),
+        ],
+    );
+}
+
+// What a company is told where it is served alone.
+const TOLD: [(&str, &str); 5] = [
+    (
+        "MILL01 look PAY-2",
+        "PAY-2 order 1 2025-01-10; 1 2500 R01 2025-01-14",
+    ),
+    ("MILL01 returns", "returns; R01 2025-01-14 1 PAY-2"),
+    (
+        "MILL01 statement",
+        "balance 0; 2500 2025-01-10 0 PAY-2; -2500 2025-01-14 1 PAY-2",
+    ),
+    (
+        "MILL01 exposure",
+        "credit 0 of 999999999999999, debit 0 of 999999999999999",
+    ),
+    ("MILL01 rates", "overall 1 of 1, unauthorized 0"),
+];
+
+#[test]
+fn a_company_is_served_alone(rt: HostRuntime) {
+    holds(
+        &rt,
+        &[
+            MILL, HOLIDAYS, DAY, PAY_2, NINTH, CUT, FOURTEENTH, RETURNED, TOLD[0], TOLD[1],
+            TOLD[2], TOLD[3], TOLD[4],
+        ],
+    );
+}
+
+// Forty entries of another company take the traces before it: it is told the same.
+#[test]
+fn a_company_is_served_beside_another(rt: HostRuntime) {
+    holds(
+        &rt,
+        &[
+            MILL,
+            BAKE,
+            HOLIDAYS,
+            DAY,
+            (
+                "BAKE01 submit B debit 2025-01-10 091000019 1 1 1 1 1 1 1 1 1 1 1 1 1 1 1 1 1 1 1 1 1 1 1 1 1 1 1 1 1 1 1 1 1 1 1 1 1 1 1 1",
+                "B order 1 entries 40 cents 40",
+            ),
+            PAY_2,
+            NINTH,
+            ("desk cut", "2025-01-09 sent 41 in [A], lapsed 0"),
+            FOURTEENTH,
+            ("desk items A PPD R01/41/2500/26", ONE_RETURN),
+            TOLD[0],
+            TOLD[1],
+            TOLD[2],
+            TOLD[3],
+            TOLD[4],
+        ],
+    );
+}

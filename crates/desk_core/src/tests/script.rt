@@ -1,0 +1,90 @@
+//! Scripts of calls and answers.
+use super::answers::words_of;
+use super::calls::call_of;
+use crate::{Desk, FaultyStore, Identity, ListStore, Store};
+use ach_fields::{Routing, ShortText};
+use std::alloc::Global;
+use std::process::Abort;
+
+/// The digest of the operator's key.
+pub(super) const OPERATOR_DIGEST: [u8; 32] = [7; 32];
+
+// Lines of most scripts, with their answers.
+pub(super) const MILL: (&str, &str) = (
+    "desk company MILL01 9999999999 999999999999999 999999999999999",
+    "MILL01",
+);
+
+pub(super) const BAKE: (&str, &str) = (
+    "desk company BAKE01 9999999999 999999999999999 999999999999999",
+    "BAKE01",
+);
+
+pub(super) const HOLIDAYS: (&str, &str) = ("desk holidays 2025-01-20", "holidays 1");
+
+pub(super) const DAY: (&str, &str) = ("desk day 2025-01-08", "2025-01-08");
+
+pub(super) const PAY_1: (&str, &str) = (
+    "MILL01 submit PAY-1 credit 2025-01-10 091000019 150000",
+    "PAY-1 order 1 entries 1 cents 150000",
+);
+
+pub(super) const PAY_2: (&str, &str) = (
+    "MILL01 submit PAY-2 debit 2025-01-10 091000019 2500",
+    "PAY-2 order 1 entries 1 cents 2500",
+);
+
+// More calls of the store than a script makes.
+const MOST_CALLS: u64 = 1_000;
+
+fn name(rt: &impl Abort, text: &[u8]) -> ShortText<23> {
+    ShortText::new(text).ok().expect(rt, "a name")
+}
+
+fn routing(rt: &impl Abort, text: &[u8]) -> Routing {
+    Routing::parse(text).ok().expect(rt, "a routing number")
+}
+
+/// A new store of the sample bank.
+pub(super) fn new_store(rt: &(impl Abort + Alloc<A = Global>)) -> ListStore {
+    let identity = Identity {
+        odfi: routing(rt, b"121042882"),
+        odfi_name: name(rt, b"OUR BANK"),
+        destination: routing(rt, b"061000146"),
+        destination_name: name(rt, b"ACH OPERATOR"),
+    };
+    ListStore::new(rt.alloc(), identity, OPERATOR_DIGEST)
+}
+
+/// Each call of a script is answered as beside it. What the store could not act on is asked once more:
+/// was that so?
+pub(super) fn follow<S: Store>(
+    rt: &(impl Abort + Alloc<A = Global>),
+    desk: &mut Desk<S>,
+    script: &[(&str, &str)],
+) -> bool {
+    let mut asked_again = false;
+    for (line, wanted) in script {
+        let mut given = desk.apply(rt.alloc(), call_of(rt, line));
+        if given.is_err() {
+            asked_again = true;
+            given = desk.apply(rt.alloc(), call_of(rt, line));
+        }
+        let answer = given.ok().expect(rt, "an answer");
+        let words = words_of(rt, &answer);
+        assert_eq!(rt; words.as_str(), *wanted, "{line}");
+    }
+    asked_again
+}
+
+/// A script over lists, and with each call of the store refused in turn, until none is.
+pub(super) fn holds(rt: &(impl Abort + Alloc<A = Global>), script: &[(&str, &str)]) {
+    assert!(rt; !follow(rt, &mut Desk::new(new_store(rt)), script));
+    for call in 1..MOST_CALLS {
+        let mut desk = Desk::new(FaultyStore::new(new_store(rt), call));
+        if !follow(rt, &mut desk, script) {
+            return;
+        }
+    }
+    assert!(rt; false, "the script makes more calls of the store");
+}
