@@ -9,18 +9,15 @@ const FOURTEENTH: (&str, &str) = ("desk day 2025-01-14", "2025-01-14");
 
 const ONE_RETURN: &str = "2025-01-14 returns 1 late 0 changes 0 suspense 0";
 
-/// The return of the first debit, with its account.
-macro_rules! returned {
-    ($account:literal) => {
-        concat!(
-            "desk take 101 121042882 0610001462501140930A094101OUR BANK               ACH OPERATOR                   \n5225MILL STREET                         MILL01    PPDDUES            2501140141091000010000001\n626121042882",
-            $account,
-            "        0000002500E2             BOB RAY                 1091000010000007\n799R01121042880000001      09100001                                            091000010000007\n82250000020012104288000000002500000000000000MILL01                             091000010000001\n9000001000001000000020012104288000000002500000000000000                                       \n"
-        )
-    };
-}
+/// The return of the first debit.
+const FILE: &str =
+    "desk take 101 121042882 0610001462501140930A094101OUR BANK               ACH OPERATOR                   \n5225MILL STREET                         MILL01    PPDDUES            2501140141091000010000001\n626121042882123456789        0000002500E2             BOB RAY                 1091000010000007\n799R01121042880000001      09100001                                            091000010000007\n82250000020012104288000000002500000000000000MILL01                             091000010000001\n9000001000001000000020012104288000000002500000000000000                                       \n";
 
-const RETURNED: (&str, &str) = (returned!("123456789"), ONE_RETURN);
+/// The same with another account.
+const OTHER_FILE: &str =
+    "desk take 101 121042882 0610001462501140930A094101OUR BANK               ACH OPERATOR                   \n5225MILL STREET                         MILL01    PPDDUES            2501140141091000010000001\n626121042882123456780        0000002500E2             BOB RAY                 1091000010000007\n799R01121042880000001      09100001                                            091000010000007\n82250000020012104288000000002500000000000000MILL01                             091000010000001\n9000001000001000000020012104288000000002500000000000000                                       \n";
+
+const RETURNED: (&str, &str) = (FILE, ONE_RETURN);
 
 // The same file again changes nothing and is answered as the first time, also on a later day.
 #[test]
@@ -30,7 +27,7 @@ fn a_file_is_taken_twice(rt: HostRuntime) {
         &[
             MILL,
             HOLIDAYS,
-            (returned!("123456789"), "NoDay"),
+            (FILE, "NoDay"),
             DAY,
             PAY_2,
             NINTH,
@@ -41,7 +38,7 @@ fn a_file_is_taken_twice(rt: HostRuntime) {
             ("MILL01 returns", "returns; R01 2025-01-14 1 PAY-2"),
             ("desk day 2025-01-15", "2025-01-15"),
             RETURNED,
-            (returned!("123456780"), "FileKeyReused"),
+            (OTHER_FILE, "FileKeyReused"),
             ("desk take 1", "BadLength at record 1"),
             (
                 "MILL01 look PAY-2",

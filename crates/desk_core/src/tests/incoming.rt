@@ -16,8 +16,20 @@ fn part(word: &str, number: usize) -> &str {
     word.split('/').nth(number).unwrap_or("")
 }
 
-fn digits(rt: &impl Abort, word: &str) -> u64 {
-    word.parse::<u64>().ok().expect(rt, "a number")
+fn sequence(rt: &impl Abort, item: &str) -> u32 {
+    part(item, 1).parse::<u32>().ok().expect(rt, "a sequence")
+}
+
+fn cents(rt: &impl Abort, item: &str) -> Cents {
+    let cents = part(item, 2).parse::<u64>().ok().expect(rt, "a number");
+    Cents::new(cents).expect(rt, "an amount")
+}
+
+fn transaction(rt: &impl Abort, item: &str) -> u8 {
+    part(item, 3)
+        .parse::<u8>()
+        .ok()
+        .expect(rt, "a transaction code")
 }
 
 fn routing(rt: &impl Abort, text: &[u8]) -> Routing {
@@ -28,8 +40,8 @@ fn date(rt: &impl Abort) -> Ymd {
     Ymd::new(25, 1, 14).ok().expect(rt, "a date")
 }
 
-fn trace(rt: &impl Abort, dfi: u32, sequence: u64) -> Trace {
-    Trace::new(dfi, sequence as u32).ok().expect(rt, "a trace")
+fn trace(rt: &impl Abort, dfi: u32, sequence: u32) -> Trace {
+    Trace::new(dfi, sequence).ok().expect(rt, "a trace")
 }
 
 fn addenda<'a>(code: &'a str, answered: &'a [u8; 15], own: Trace) -> Addenda<'a> {
@@ -56,11 +68,11 @@ fn addenda<'a>(code: &'a str, answered: &'a [u8; 15], own: Trace) -> Addenda<'a>
 fn entry<'a>(rt: &impl Abort, item: &'a str, answered: &'a [u8; 15]) -> OutgoingEntry<'a> {
     let own = trace(rt, RECEIVER, 7);
     OutgoingEntry {
-        transaction: digits(rt, part(item, 3)) as u8,
+        transaction: transaction(rt, item),
         dfi: ODFI,
         check_digit: 2,
         account: b"123456789",
-        cents: Cents::new(digits(rt, part(item, 2))).expect(rt, "an amount"),
+        cents: cents(rt, item),
         identification: b"E1",
         name: b"ANN LEE",
         trace: own,
@@ -71,7 +83,7 @@ fn entry<'a>(rt: &impl Abort, item: &'a str, answered: &'a [u8; 15]) -> Outgoing
 fn traces(rt: &(impl Abort + Alloc<A = Global>), line: &str) -> Vec<[u8; 15]> {
     let mut traces = Vec::new(rt.alloc());
     for item in line.split(' ').skip(4) {
-        let answered = trace(rt, ODFI, digits(rt, part(item, 1)));
+        let answered = trace(rt, ODFI, sequence(rt, item));
         traces.push(answered.text()).ok().expect(rt, "memory");
     }
     traces
@@ -84,10 +96,8 @@ fn entries<'a>(
 ) -> Vec<OutgoingEntry<'a>> {
     let mut entries = Vec::new(rt.alloc());
     for (item, answered) in line.split(' ').skip(4).zip(traces) {
-        entries
-            .push(entry(rt, item, answered))
-            .ok()
-            .expect(rt, "memory");
+        let one = [entry(rt, item, answered)];
+        entries.extend_from_slice(&one).ok().expect(rt, "memory");
     }
     entries
 }
