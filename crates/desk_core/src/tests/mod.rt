@@ -8,3 +8,4 @@ mod files;
 mod incoming;
 mod money;
 mod script;
+mod sequences;

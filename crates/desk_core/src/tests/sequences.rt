@@ -1,0 +1,109 @@
+//! Sequences at their end, and used again.
+use super::script::{HOLIDAYS, MILL, follow, new_store};
+use crate::{CutRows, Desk, ListStore, SentEntry, Store};
+use ach_fields::{Cents, Id, Ref, Routing, ShortText};
+use bank_days::Day;
+use desk_rules::{AccountKind, Entry, SecCode};
+use std::alloc::Global;
+use std::process::Abort;
+
+fn short_text<const N: usize>(rt: &impl Abort, text: &[u8]) -> ShortText<N> {
+    ShortText::new(text).ok().expect(rt, "a text")
+}
+
+// An entry of 1.00 that settled on 2025-03-03.
+fn sent(rt: &impl Abort, sequence: u32) -> SentEntry {
+    SentEntry {
+        sequence,
+        company: Id::new(b"BAKE01").ok().expect(rt, "a company"),
+        reference: Ref::new(b"OLD").ok().expect(rt, "a reference"),
+        order: 1,
+        index: 1,
+        settled: Day::read(b"2025-03-03").expect(rt, "a day"),
+        sec: SecCode::Ppd,
+        debit: true,
+        entry: Entry {
+            routing: Routing::parse(b"091000019")
+                .ok()
+                .expect(rt, "a routing number"),
+            account: short_text(rt, b"123456789"),
+            kind: AccountKind::Checking,
+            prenote: false,
+            cents: Cents::new(100).expect(rt, "an amount"),
+            id: short_text(rt, b"E1"),
+            name: short_text(rt, b"ANN LEE"),
+            info: None,
+        },
+    }
+}
+
+// A store that has sent almost as many entries as there are sequences.
+fn old_store(rt: &(impl Abort + Alloc<A = Global>)) -> ListStore {
+    let mut store = new_store(rt);
+    let entries = [sent(rt, 1), sent(rt, 2), sent(rt, 9_999_998)];
+    let rows = CutRows {
+        sent: &[],
+        lapsed: &[],
+        entries: &entries,
+        postings: &[],
+        files: &[],
+    };
+    store.commit_cut(rt.alloc(), &rows).ok().expect(rt, "a cut");
+    store
+}
+
+// A batch of two begins again at 1 once the entries there settled 366 days ago; a return then meets the
+// new entry.
+#[test]
+fn a_batch_begins_again(rt: HostRuntime) {
+    let script = [
+        MILL,
+        HOLIDAYS,
+        ("desk day 2026-03-03", "2026-03-03"),
+        (
+            "MILL01 submit T debit 2026-03-04 091000019 2500 2600",
+            "T order 1 entries 2 cents 5100",
+        ),
+        ("desk cut", "TracesSpent"),
+        (
+            "MILL01 look T",
+            "T order 1 2026-03-04; 1 2500 held; 2 2600 held",
+        ),
+        ("desk day 2026-03-04", "2026-03-04"),
+        ("desk cut", "2026-03-04 sent 2 in [A], lapsed 0"),
+        (
+            "desk items A PPD R01/1/2500/26",
+            "2026-03-04 returns 1 late 0 changes 0 suspense 0",
+        ),
+        (
+            "desk items B PPD R01/2/100/26",
+            "2026-03-04 returns 0 late 0 changes 0 suspense 1",
+        ),
+        ("desk suspense", "suspense; 1 100 Differs"),
+    ];
+    assert!(rt; !follow(&rt, &mut Desk::new(old_store(&rt)), &script));
+}
+
+// The last sequence goes to a batch of one, and the next batch begins at 1.
+#[test]
+fn the_last_sequence_is_used(rt: HostRuntime) {
+    let script = [
+        MILL,
+        HOLIDAYS,
+        ("desk day 2026-03-04", "2026-03-04"),
+        (
+            "MILL01 submit O debit 2026-03-05 091000019 700",
+            "O order 1 entries 1 cents 700",
+        ),
+        (
+            "MILL01 submit T debit 2026-03-05 091000019 2500 2600",
+            "T order 2 entries 2 cents 5100",
+        ),
+        ("desk cut", "2026-03-04 sent 3 in [A], lapsed 0"),
+        (
+            "desk items A PPD R01/9999999/700/26 R01/1/2500/26 R01/2/2600/26",
+            "2026-03-04 returns 3 late 0 changes 0 suspense 0",
+        ),
+    ];
+    assert!(rt; !follow(&rt, &mut Desk::new(old_store(&rt)), &script));
+}
