@@ -1,78 +1,106 @@
--- The verdict of a retry's draft, by what is asked first.
-use Rattle.std.proofs.Common.{◌≡◌, ℕ, ◌+◌, List, Bool, true, false, length, refl, ap, ◌∙◌}
-use Rattle.std.specs.Prelude.{if◌then◌else◌, Option, Some, None, option_map, Result, Ok, Err}
+-- What the desk comes to is the verdict of the request.
+use Rattle.std.proofs.Common.{◌≡◌, ℕ, ◌+◌, List, [], ◌∷◌, Bool, true, false, ◌||◌, length, refl, sym, ap, ◌∙◌, inl, inr}
+use Rattle.std.specs.Prelude.{if◌then◌else◌, find, Option, Some, None, option_map, Result, Ok, Err}
 use Rattle.std.specs.List.{list_any}
+use Rattle.std.proofs.lemmas.Bool.{cases_Bool}
+use Rattle.std.proofs.lemmas.Slice.Eq.{bytes_eq-Decides}
 use Rattle.desk_rules.specs.declared.company.Limits.{Limits}
+use Rattle.desk_rules.specs.declared.draft.Draft.{Draft}
 use Rattle.desk_rules.specs.declared.draft.RetryDraft.{RetryDraft}
 use Rattle.desk_rules.specs.declared.refusal.Refusal.{Refusal}
-use Rattle.desk_rules.specs.declared.refusal.Refusal.TheVariants.{NoCompany, NoDay}
+use Rattle.desk_rules.specs.declared.refusal.Refusal.TheVariants.{NoCompany, NoDay, RefReused, NoEntry}
 use Rattle.desk_rules.specs.declared.submission.Retry.{Retry}
+use Rattle.desk_rules.specs.declared.submission.Submission.{Submission}
 use Rattle.desk_rules.specs.Chain.{◌>>=◌}
+use Rattle.desk_rules.specs.LimitChecks.{limits_verdict}
 use Rattle.desk_rules.specs.Retry.{retry_of}
+use Rattle.desk_rules.specs.RetryRule.{retry_verdict}
+use Rattle.desk_rules.specs.Size.{size_of}
+use Rattle.desk_rules.specs.Submission.{submission_of}
 use Rattle.desk_history.specs.declared.row.Row.{Row}
+use Rattle.desk_history.specs.Accepted.{content_of}
 use Rattle.desk_history.specs.Book.{Book}
+use Rattle.desk_history.specs.Reply.{answer_of}
 use Rattle.desk_history.specs.Request as request
-use Rattle.desk_history.specs.Request.{Request}
-use Rattle.desk_history.specs.Standing.{row_called, retry_row}
+use Rattle.desk_history.specs.Standing.{RowEntry, row_called, row_under, row_next, unless_known, is_plain_row, is_retry_row, row_entry_of, attempts_in, facts_in, new_submission_row, new_retry_row}
 use Rattle.desk_history.specs.Words.{some_or}
-use Rattle.desk_book.specs.OnBook.{standing_in}
-use Rattle.desk_book.specs.BookLaws.{new_row, row_asked, with_new}
-use Rattle.desk_core.specs.Verdicts.{added_of, verdict_of, refused_verdict, verdict_on, asked_on, retry_on, with_added, IsNextOf}
-use Rattle.desk_book.proofs.NewRows.{IsNext, retry_next}
+use Rattle.desk_core.specs.declared.verdict.Verdict.{Verdict}
+use Rattle.desk_book.specs.BookLaws.{new_row}
+use Rattle.desk_book.specs.OnBook.{standing_in, receipt_of}
+use Rattle.desk_core.specs.RowWords.{judged}
+use Rattle.desk_core.specs.Verdicts.{added_of, verdict_on, known_verdict, fresh_verdict, reference_verdict, submission_on, retry_on, asked_on, asked_verdict}
+use Rattle.desk_book.proofs.NewRows.{found_among}
 
--- ---- a chain of what is asked first
+-- the verdict of a company that has these rows, by the row that answers
+abbrev verdict_of : List Row → Result Row Refusal → Verdict
+verdict_of rs x = record { answer = answer_of (receipt_of x); added = option_map (added_of rs) (new_row rs x) }
 
--- the limits and the day
-abbrev asked_of : Option Limits → Option ℕ → Result (Limits × ℕ) Refusal
-asked_of limits today = some_or NoCompany limits >>= (λ l. some_or NoDay today >>= (λ d. Ok (l, d)))
+-- by its row and whether another has its reference
+abbrev row_verdict : List Row → Row → Bool → Verdict
+row_verdict rs row t = record { answer = answer_of (receipt_of (Ok row)); added = option_map (added_of rs) (if t then None else Some row) }
 
-abbrev row_of : Option Limits → Option ℕ → Result Retry Refusal → (Limits → ℕ → Retry → Result Row Refusal) → Result Row Refusal
-row_of limits today r row = some_or NoCompany limits >>= (λ l. some_or NoDay today >>= (λ d. r >>= (λ r. row l d r)))
+-- ---- a reference
 
-unasked_chain : (limits : Option Limits) (today : Option ℕ) (r : Result Retry Refusal) (row : Limits → ℕ → Retry → Result Row Refusal) (why : Refusal)
-    → asked_of limits today ≡ Err why → row_of limits today r row ≡ Err why
-unasked_chain None today r row why is = cc
-unasked_chain (Some l) None r row why is = cc
-unasked_chain (Some l) (Some d) r row why is = cc
+-- a known row answers, and none is added
+known : (rs : List Row) (reference : List ℕ) (row : Row) → row_under rs reference ≡ Some row → (t : Bool) → verdict_of rs (if t then Ok row else Err RefReused) ≡ known_verdict t row
+known rs reference row found true = ap (row_verdict rs row) among where
+  among : list_any (row_called row.content.reference) rs ≡ true
+  among = found_among (row_called reference) (row_called row.content.reference) rs row found ((bytes_eq-Decides row.content.reference row.content.reference).1 refl)
+known rs reference row found false = refl
 
-asked_chain : (limits : Option Limits) (today : Option ℕ) (r : Result Retry Refusal) (row : Limits → ℕ → Retry → Result Row Refusal) (p : Limits × ℕ)
-    → asked_of limits today ≡ Ok p → row_of limits today r row ≡ r >>= (λ r. row p.0 p.1 r)
-asked_chain None today r row p is = cc
-asked_chain (Some l) None r row p is = cc
-asked_chain (Some l) (Some d) r row p is = ap (λ (q : Limits × ℕ). r >>= (λ r. row q.0 q.1 r)) same where
-  same : (l, d) ≡ p
-  same = cc
+-- where none is found, none has it
+none_among : {X : Type 0} (p : X → Bool) (xs : List X) → find p xs ≡ None → list_any p xs ≡ false
+none_among p [] none = refl
+none_among {X} p (y ∷ ys) none = elim (cases_Bool (p y)) [
+  | inl here ↦
+      let is : Some y ≡ None = ap (λ (t : Bool). if t then Some y else find p ys) (sym here) ∙ none in
+      cc
+  | inr away ↦ ap (λ (t : Bool). t || list_any p ys) away ∙ none_among p ys (ap (λ (t : Bool). if t then Some y else find p ys) (sym away) ∙ none)
+]
 
--- ---- the verdict
+-- what passes two checks is added under a reference that none has
+checked : (rs : List Row) (retry : Option Retry) (first second : Result (Unit {0}) Refusal) (s : Submission) → row_under rs s.reference ≡ None
+    → verdict_of rs (first >>= (λ _. second >>= (λ _. Ok (row_next rs s retry)))) ≡ fresh_verdict (length rs + 1) retry (first >>= (λ _. second >>= (λ _. Ok s)))
+checked rs retry (Err why) second s none = refl
+checked rs retry (Ok _) (Err why) s none = refl
+checked rs retry (Ok _) (Ok _) s none = ap (row_verdict rs (row_next rs s retry)) (none_among (row_called s.reference) rs none)
 
-pub unasked : (b : Book) (c : List ℕ) (d : RetryDraft) (why : Refusal) → asked_on b c ≡ Err why → verdict_on b c (request.Retry d) ≡ refused_verdict why
-unasked b c d why is = ap (verdict_of (b.rows c)) (unasked_chain (standing_in b c).limits b.day (retry_of d) _ why is)
+-- the row that has the reference answers, else what is judged anew
+unless_known_told : (rs : List Row) (same : Row → Bool) (reference : List ℕ) (x : Result Row Refusal) (fresh : Verdict) → (row_under rs reference ≡ None → verdict_of rs x ≡ fresh)
+    → verdict_of rs (unless_known same (row_under rs reference) x) ≡ reference_verdict same (row_under rs reference) fresh
+unless_known_told rs same reference x fresh is = by (row_under rs reference) refl where
+  by : (o : Option Row) → row_under rs reference ≡ o → verdict_of rs (unless_known same o x) ≡ reference_verdict same o fresh
+  by None none = is none
+  by (Some row) found = known rs reference row found (same row)
 
-pub bad_fields : (b : Book) (c : List ℕ) (d : RetryDraft) (p : Limits × ℕ) (why : Refusal) → asked_on b c ≡ Ok p → retry_of d ≡ Err why → verdict_on b c (request.Retry d) ≡ refused_verdict why
-bad_fields b c d p why is bad =
-    ap (verdict_of (b.rows c)) (asked_chain (standing_in b c).limits b.day (retry_of d) _ p is)
-    ∙ rw bad refl
+-- ---- a draft
 
-pub good_fields : (b : Book) (c : List ℕ) (d : RetryDraft) (p : Limits × ℕ) (r : Retry) → asked_on b c ≡ Ok p → retry_of d ≡ Ok r → verdict_on b c (request.Retry d) ≡ retry_on b c p.0 p.1 r
-good_fields b c d p r is good =
-    ap (verdict_of (b.rows c)) (asked_chain (standing_in b c).limits b.day (retry_of d) _ p is)
-    ∙ rw good refl
+-- the company, the day and the fields come first
+told : {A : Type 0} (rs : List Row) (limits : Option Limits) (today : Option ℕ) (fields : Result A Refusal) (row : Limits → ℕ → A → Result Row Refusal) (judge : Limits → ℕ → A → Verdict)
+    → ((l : Limits) (d : ℕ) (x : A) → verdict_of rs (row l d x) ≡ judge l d x)
+    → asked_verdict (some_or NoCompany limits >>= (λ l. some_or NoDay today >>= (λ d. Ok (l, d)))) fields judge
+    ≡ verdict_of rs (some_or NoCompany limits >>= (λ l. some_or NoDay today >>= (λ d. fields >>= (λ x. row l d x))))
+told rs None today fields row judge each = refl
+told rs (Some l) None fields row judge each = refl
+told rs (Some l) (Some d) (Err why) row judge each = refl
+told rs (Some l) (Some d) (Ok x) row judge each = sym (each l d x)
 
--- ---- the write
+pub submission_told : (b : Book) (c : List ℕ) (d : Draft) → asked_verdict (asked_on b c) (submission_of d) (submission_on b c) ≡ verdict_on b c (request.Submit d)
+submission_told b c d = told (b.rows c) (standing_in b c).limits b.day (submission_of d) _ (submission_on b c) (λ limits today s.
+    unless_known_told (b.rows c) (is_plain_row s) s.reference (new_submission_row (standing_in b c) limits today s) _
+    (checked (b.rows c) None (size_of s) (limits_verdict s today limits (facts_in (b.rows c)) b.holidays) s))
 
--- what a retry adds is the company's next row
-pub retry_is_next : (b : Book) (c : List ℕ) (d : RetryDraft) → IsNextOf c (verdict_on b c (request.Retry d)).added b
-retry_is_next b c d = by (retry_row (standing_in b c) d) (retry_next (standing_in b c) d) where
-  by : (x : Result Row Refusal) → IsNext (b.rows c) x → IsNextOf c (option_map added_of (new_row (b.rows c) x)) b
-  by (Err why) next = tt
-  by (Ok row) next = new (list_any (row_called row.content.reference) (b.rows c)) (λ none. ap (λ (row : Row). row.order) (next none)) where
-    new : (t : Bool) → (t ≡ false → row.order ≡ length (b.rows c) + 1) → IsNextOf c (option_map added_of (if t then None else Some row)) b
-    new true is = tt
-    new false is = is refl
+-- by the entry that it names
+retry_named : (rs : List Row) (holidays : List ℕ) (limits : Limits) (today : ℕ) (r : Retry) → row_under rs r.reference ≡ None → (o : Result RowEntry Refusal)
+    → verdict_of rs (o >>= (λ o. retry_verdict (attempts_in rs o) r.day r.authorized today holidays >>= (λ _.
+    limits_verdict (content_of r o.row.content o.entry) today limits (facts_in rs) holidays >>= (λ _.
+    Ok (row_next rs (content_of r o.row.content o.entry) (Some r))))))
+    ≡ fresh_verdict (length rs + 1) (Some r) (o >>= (λ o. judged rs holidays limits today r o))
+retry_named rs holidays limits today r none (Err why) = refl
+retry_named rs holidays limits today r none (Ok o) = checked rs (Some r) (retry_verdict (attempts_in rs o) r.day r.authorized today holidays)
+    (limits_verdict (content_of r o.row.content o.entry) today limits (facts_in rs) holidays) (content_of r o.row.content o.entry) none
 
--- the book with what a verdict adds is the book with the row that was asked for
-pub added_asked : (b : Book) (c : List ℕ) (r : Request) → with_added c (verdict_on b c r).added b ≡ with_new c (row_asked b c r) b
-added_asked b c r = by (row_asked b c r) where
-  by : (o : Option Row) → with_added c (option_map added_of o) b ≡ with_new c o b
-  by None = refl
-  by (Some row) = refl
+pub retry_told : (b : Book) (c : List ℕ) (d : RetryDraft) → asked_verdict (asked_on b c) (retry_of d) (retry_on b c) ≡ verdict_on b c (request.Retry d)
+retry_told b c d = told (b.rows c) (standing_in b c).limits b.day (retry_of d) _ (retry_on b c) (λ limits today r.
+    unless_known_told (b.rows c) (is_retry_row r) r.reference (new_retry_row (standing_in b c) limits today r) _
+    (λ none. retry_named (b.rows c) b.holidays limits today r none (some_or NoEntry (row_entry_of (b.rows c) r))))

@@ -1,11 +1,9 @@
 pub mod Applied
 pub mod Adding
+pub mod Alike
 pub mod Asked
 pub mod FileReading
-pub mod Onward
 pub mod Planned
-pub mod Submits
-pub mod RetryVerdicts
 pub mod Runs
 pub mod Traceless
 pub mod Zips

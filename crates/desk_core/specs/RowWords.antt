@@ -14,7 +14,7 @@ use Rattle.desk_rules.specs.Attempts.{attempt_of}
 use Rattle.desk_rules.specs.Chain.{◌>>=◌}
 use Rattle.desk_rules.specs.LimitChecks.{is_debit, limits_verdict}
 use Rattle.desk_rules.specs.RetryRule.{retry_verdict}
-use Rattle.desk_rules.specs.Size.{total_of}
+use Rattle.desk_rules.specs.Size.{size_of, total_of}
 use Rattle.desk_history.specs.declared.reports.Receipt.{Receipt}
 use Rattle.desk_history.specs.declared.row.Row.{Row}
 use Rattle.desk_history.specs.Accepted.{content_of}
@@ -33,12 +33,23 @@ entry_in row index e = record { row = row; index = index; entry = e }
 abbrev pub attempts_at : List Row → Row → ℕ → List Attempt
 attempts_at rs row index = filter_map attempt_of (state_at row index ∷ map (λ other. state_at other 1) (retry_rows rs row.content.reference index))
 
+-- what is within a company's limits, or its first refusal
+abbrev pub within_limits : List Row → List ℕ → Limits → ℕ → Submission → Result Submission Refusal
+within_limits rs holidays limits today s = do
+  _ ← limits_verdict s today limits (facts_in rs) holidays
+  Ok s
+
+-- the content of a new submission, or its first refusal
+abbrev pub submitted : List Row → List ℕ → Limits → ℕ → Submission → Result Submission Refusal
+submitted rs holidays limits today s = do
+  _ ← size_of s
+  within_limits rs holidays limits today s
+
 -- the content of a retry of this entry, or its first refusal
 abbrev pub judged : List Row → List ℕ → Limits → ℕ → Retry → RowEntry → Result Submission Refusal
 judged rs holidays limits today r o = do
   _ ← retry_verdict (attempts_in rs o) r.day r.authorized today holidays
-  _ ← limits_verdict (content_of r o.row.content o.entry) today limits (facts_in rs) holidays
-  Ok (content_of r o.row.content o.entry)
+  within_limits rs holidays limits today (content_of r o.row.content o.entry)
 
 -- the content of a retry, or its first refusal
 abbrev pub retried : List Row → List ℕ → Limits → ℕ → Retry → Result Submission Refusal

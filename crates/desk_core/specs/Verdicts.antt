@@ -1,8 +1,8 @@
 -- What a request comes to: its answer, and the row that it adds.
-use Rattle.std.specs.Prelude.{◌≡◌, ◌⊎◌, ⊤, ℕ, List, Option, Some, None, option_map, Result, Ok, Err}
+use Rattle.std.specs.Prelude.{◌≡◌, ◌⊎◌, ⊤, ℕ, ◌+◌, Bool, true, false, List, length, Option, Some, None, option_map, Result, Ok, Err}
 use Rattle.desk_rules.specs.declared.company.Limits.{Limits}
 use Rattle.desk_rules.specs.declared.refusal.Refusal.{Refusal}
-use Rattle.desk_rules.specs.declared.refusal.Refusal.TheVariants.{NoCompany, NoDay}
+use Rattle.desk_rules.specs.declared.refusal.Refusal.TheVariants.{NoCompany, NoDay, RefReused}
 use Rattle.desk_rules.specs.declared.submission.Retry.{Retry}
 use Rattle.desk_rules.specs.declared.submission.Submission.{Submission}
 use Rattle.desk_rules.specs.Chain.{◌>>=◌}
@@ -11,47 +11,62 @@ use Rattle.desk_history.specs.declared.answer.Answer.TheVariants as answers
 use Rattle.desk_history.specs.declared.answer.Done.TheVariants as done
 use Rattle.desk_history.specs.declared.answer.Refusal.TheVariants.{Rule}
 use Rattle.desk_history.specs.declared.row.Row.{Row}
-use Rattle.desk_history.specs.Reply.{answer_of}
 use Rattle.desk_history.specs.Book.{Book}
 use Rattle.desk_history.specs.Request.{Request}
-use Rattle.desk_history.specs.Standing.{Standing, row_under, unless_known, is_retry_row, new_retry_row}
+use Rattle.desk_history.specs.Standing.{row_under, is_plain_row, is_retry_row}
 use Rattle.desk_history.specs.Words.{some_or}
 use Rattle.desk_store.specs.declared.store.StoreFault.{StoreFault}
 use Rattle.desk_store.specs.Steps.{add_submission}
 use Rattle.desk_core.specs.declared.verdict.NewRow.{NewRow}
 use Rattle.desk_core.specs.declared.verdict.Verdict.{Verdict}
-use Rattle.desk_book.specs.OnBook.{standing_in, receipt_of, reply_on}
-use Rattle.desk_book.specs.BookLaws.{new_row, row_asked}
-use Rattle.desk_core.specs.RowWords.{receipt_for}
+use Rattle.desk_book.specs.OnBook.{standing_in, reply_on}
+use Rattle.desk_book.specs.BookLaws.{row_asked}
+use Rattle.desk_core.specs.RowWords.{receipt_for, submitted, retried}
 
-abbrev pub added_of : Row → NewRow
-added_of row = record { order = row.order; content = row.content; retry = row.retry }
+-- a row, as a company with these rows adds it
+abbrev pub added_of : List Row → Row → NewRow
+added_of rs row = record { order = length rs + 1; content = row.content; retry = row.retry }
 
--- the verdict of a company that has these rows, by the row that answers
-abbrev pub verdict_of : List Row → Result Row Refusal → Verdict
-verdict_of rs x = record { answer = answer_of (receipt_of x); added = option_map added_of (new_row rs x) }
+-- the verdict of a company's request
+abbrev pub verdict_on : Book → List ℕ → Request → Verdict
+verdict_on b c r = record { answer = reply_on b c r; added = option_map (added_of (b.rows c)) (row_asked b c r) }
 
-abbrev pub standing_of : Limits → ℕ → List ℕ → List Row → Standing
-standing_of limits today holidays rs = record { limits = Some limits; day = Some today; holidays = holidays; rows = rs }
+-- ---- how the desk comes to it
 
--- a known row answers, and none is added
-abbrev pub known_verdict : Result Row Refusal → Verdict
-known_verdict x = record { answer = answer_of (receipt_of x); added = None }
+-- nothing is added
+abbrev pub refused_verdict : Refusal → Verdict
+refused_verdict why = record { answer = answers.Refused (Rule why); added = None }
 
--- the verdict of a new retry, by its content
+-- where a row has the reference: what is the same is answered as it was the first time
+abbrev pub known_verdict : Bool → Row → Verdict
+known_verdict true row = record { answer = answers.Done (done.Submitted (receipt_for row.content row.order)); added = None }
+known_verdict false row = refused_verdict RefReused
+
+-- where none has it
 abbrev pub fresh_verdict : ℕ → Option Retry → Result Submission Refusal → Verdict
-fresh_verdict order retry (Err why) = record { answer = answers.Refused (Rule why); added = None }
+fresh_verdict order retry (Err why) = refused_verdict why
 fresh_verdict order retry (Ok s) = record {
   answer = answers.Done (done.Submitted (receipt_for s order));
   added = Some (record { order = order; content = s; retry = retry });
 }
 
-abbrev pub refused_verdict : Refusal → Verdict
-refused_verdict why = record { answer = answers.Refused (Rule why); added = None }
+-- by the row that has the reference, if one has
+abbrev pub reference_verdict : (Row → Bool) → Option Row → Verdict → Verdict
+reference_verdict same None fresh = fresh
+reference_verdict same (Some row) fresh = known_verdict (same row) row
 
--- the verdict of a company's request
-abbrev pub verdict_on : Book → List ℕ → Request → Verdict
-verdict_on b c r = record { answer = reply_on b c r; added = option_map added_of (row_asked b c r) }
+-- a submission whose fields are right
+abbrev pub submission_on : Book → List ℕ → Limits → ℕ → Submission → Verdict
+submission_on b c limits today s =
+    reference_verdict (is_plain_row s) (row_under (b.rows c) s.reference) (fresh_verdict (length (b.rows c) + 1) None (submitted (b.rows c) b.holidays limits today s))
+
+-- a retry whose fields are right, of a company with these rows
+abbrev pub retry_among : List Row → List ℕ → Limits → ℕ → Retry → Verdict
+retry_among rs holidays limits today r =
+    reference_verdict (is_retry_row r) (row_under rs r.reference) (fresh_verdict (length rs + 1) (Some r) (retried rs holidays limits today r))
+
+abbrev pub retry_on : Book → List ℕ → Limits → ℕ → Retry → Verdict
+retry_on b c limits today r = retry_among (b.rows c) b.holidays limits today r
 
 -- the limits of a registered company, and the desk day
 abbrev pub asked_on : Book → List ℕ → Result (Limits × ℕ) Refusal
@@ -60,13 +75,11 @@ asked_on b c = do
   today ← some_or NoDay b.day
   Ok (limits, today)
 
--- the verdict of a retry of a company with these rows and limits
-abbrev pub retry_among : List Row → List ℕ → Limits → ℕ → Retry → Verdict
-retry_among rs holidays limits today r =
-    verdict_of rs (unless_known (is_retry_row r) (row_under rs r.reference) (new_retry_row (standing_of limits today holidays rs) limits today r))
-
-abbrev pub retry_on : Book → List ℕ → Limits → ℕ → Retry → Verdict
-retry_on b c limits today r = retry_among (b.rows c) b.holidays limits today r
+-- a draft: the company and the day come first, then its fields
+abbrev pub asked_verdict : {A : Type 0} → Result (Limits × ℕ) Refusal → Result A Refusal → (Limits → ℕ → A → Verdict) → Verdict
+asked_verdict (Err why) fields judge = refused_verdict why
+asked_verdict (Ok on) (Err why) judge = refused_verdict why
+asked_verdict (Ok on) (Ok x) judge = judge on.0 on.1 x
 
 -- ---- the write of a verdict
 

@@ -42,7 +42,12 @@ impl<S> Desk<S> {
 }
 
 impl<S: Store> Desk<S> {
-    /// Answers a call, with the one write that it makes.
+    /// Answers a call, with the one write that it makes. A refusal by a rule is an answer too, and
+    /// writes nothing.
+    ///
+    /// `Unavailable` where memory was refused or the store could not act: the store holds the book that
+    /// it held, and the call may be made again. The answer is made before the write, so that what was
+    /// written is answered.
     pub fn apply(&mut self, alloc: Global, call: Call) -> Result<Answer, StoreFault>
         ensures before { S.is_clean self.new → S.is_clean self.old }
         ensures goes { S.is_clean self.new → Goes (S.holds self.old) call result (S.holds self.new) }
@@ -53,7 +58,8 @@ impl<S: Store> Desk<S> {
         respond(&mut self.store, alloc, call)
     }
 
-    /// Answers calls in their order. Where the store could not act, the calls before are done.
+    /// Answers calls in their order. `Unavailable` where the store could not act on one of them: those
+    /// before it are done, and their answers are lost.
     pub fn apply_all(&mut self, alloc: Global, calls: Vec<Call>) -> Result<Vec<Answer>, StoreFault>
         ensures before { S.is_clean self.new → S.is_clean self.old }
         ensures runs { S.is_clean self.new → Runs (S.holds self.old) calls.items result (S.holds self.new) }
@@ -67,6 +73,7 @@ impl<S: Store> Desk<S> {
     }
 
     /// Is this the digest of the caller's key? The operator has one, and each registered company.
+    /// `Unavailable` where the store could not act.
     pub fn allow(
         &mut self,
         alloc: Global,

@@ -6,12 +6,13 @@
 
 mod allowing;
 mod applying;
+mod asking;
 mod cutting;
 mod desk;
 mod facts;
 mod file_reading;
 mod found;
-mod known;
+mod laws;
 mod looking;
 mod naming;
 mod operating;
@@ -43,6 +44,7 @@ pub use desk_store::{
     Caller, ChangedRow, CutRows, FaultyStore, FileRow, IntakeRows, Items, LapsedRow, ListStore,
     ReturnedRow, SentRow, Store, StoreFault, Waiting,
 };
+pub use laws::{desk_alone, two_desks};
 
 #[cfg(test)]
 mod tests;

@@ -1,11 +1,10 @@
 //! The receipt of a submission.
 ghost use Rattle.std.specs.Prelude.{◌≡◌, IfOk};
 ghost use Rattle.desk_rules.specs.Size.{total_of};
-ghost use Rattle.desk_core.specs.Answered.{receipt_answer};
 ghost use Rattle.desk_core.specs.RowWords.{receipt_for};
 
 use ach_fields::Cents;
-use desk_history::{Answer, Done, Receipt, Refusal};
+use desk_history::Receipt;
 use desk_rules::{Entry, Submission};
 use desk_store::StoreFault;
 
@@ -33,14 +32,4 @@ pub(crate) fn receipt(content: &Submission, order: u64) -> Result<Receipt, Store
         order,
         reference: content.reference,
     })
-}
-
-/// The answer with a receipt, or the refusal.
-pub(crate) fn receipt_answer(judged: Result<Receipt, desk_rules::Refusal>) -> Answer
-    ensures { result ≡ receipt_answer judged }
-{
-    match judged {
-        Ok(receipt) => Answer::Done(Done::Submitted(receipt)),
-        Err(why) => Answer::Refused(Refusal::Rule(why)),
-    }
 }

@@ -1,18 +1,15 @@
 //! The verdict of a retry, from what the desk has of its company.
-ghost use Rattle.std.specs.Prelude.{◌≡◌, if◌then◌else◌, IfOk, Ok, Err, option_map};
-ghost use Rattle.desk_rules.specs.declared.refusal.Refusal.TheVariants.{RefReused};
-ghost use Rattle.desk_history.specs.Reply.{answer_of};
+ghost use Rattle.std.specs.Prelude.{◌≡◌, IfOk, option_map};
 ghost use Rattle.desk_history.specs.Standing.{is_retry_row, row_under};
-ghost use Rattle.desk_book.specs.OnBook.{receipt_of};
 ghost use Rattle.desk_core.specs.RowWords.{entry_in, judged, retried};
-ghost use Rattle.desk_core.specs.Verdicts.{fresh_verdict, retry_among};
+ghost use Rattle.desk_core.specs.Verdicts.{retry_among};
 
-use crate::receipt::receipt;
-use crate::retrying::{content_of, entry_named, first_of_attempts, first_of_limits};
-use crate::verdict::{NewRow, Verdict};
+use crate::asking::{fresh_verdict, known_verdict, within_limits};
+use crate::retrying::{content_of, entry_named, first_of_attempts};
+use crate::verdict::Verdict;
 use ach_fields::Ref;
 use bank_days::{Calendar, Day};
-use desk_history::{Answer, Done, Refusal, Row};
+use desk_history::Row;
 use desk_rules::{Entry, Limits, Retry, Submission};
 use desk_store::StoreFault;
 use std::alloc::Global;
@@ -34,10 +31,7 @@ fn judged(
         return Ok(Err(why));
     }
     let content = content_of(alloc, retry, &row.content, entry)?;
-    if let Err(why) = first_of_limits(alloc, rows, &content, today, limits, calendar)? {
-        return Ok(Err(why));
-    }
-    Ok(Ok(content))
+    within_limits(alloc, rows, calendar, limits, today, content)
 }
 
 /// The row with a reference.
@@ -82,46 +76,8 @@ fn retried(
     judged(alloc, rows, calendar, limits, today, retry, row, entry)
 }
 
-/// The answer where a row has the reference: an equal retry answers as the first did.
-fn known_answer(row: &Row, retry: &Retry) -> Result<Answer, StoreFault>
-    ensures { IfOk result (λ answer. answer ≡ answer_of (receipt_of (if is_retry_row retry.now row.now then Ok row.now else Err RefReused))) }
-{
-    if !is_retry_row(retry, row) {
-        return Ok(Answer::Refused(Refusal::Rule(desk_rules::Refusal::RefReused)));
-    }
-    Ok(Answer::Done(Done::Submitted(receipt(&row.content, row.order)?)))
-}
-
-/// The verdict where no row has the reference.
-fn fresh_verdict(
-    order: u64,
-    retry: Option<Retry>,
-    content: Result<Submission, desk_rules::Refusal>,
-) -> Result<Verdict, StoreFault>
-    ensures { IfOk result (λ verdict. verdict ≡ fresh_verdict order retry content) }
-{
-    match content {
-        Err(why) => Ok(Verdict {
-            answer: Answer::Refused(Refusal::Rule(why)),
-            added: None,
-        }),
-        Ok(content) => {
-            let receipt = receipt(&content, order)?;
-            Ok(Verdict {
-                answer: Answer::Done(Done::Submitted(receipt)),
-                added: Some(NewRow {
-                    order,
-                    content,
-                    retry,
-                }),
-            })
-        }
-    }
-}
-
 /// The verdict of a retry whose fields are right, by its company's rows.
-#[tactic(auto, using(crate::proofs::RetryVerdicts::known, crate::proofs::RetryVerdicts::fresh))]
-pub(crate) fn retry_verdict(
+pub(crate) fn retry_among(
     alloc: Global,
     rows: &[Row],
     calendar: &Calendar,
@@ -132,10 +88,7 @@ pub(crate) fn retry_verdict(
     ensures { IfOk result (λ verdict. verdict ≡ retry_among rows.now calendar.now limits.now today retry.now) }
 {
     if let Some(row) = row_under(rows, retry.reference) {
-        return Ok(Verdict {
-            answer: known_answer(row, retry)?,
-            added: None,
-        });
+        return known_verdict(row, is_retry_row(retry, row));
     }
     let content = retried(alloc, rows, calendar, limits, today, retry)?;
     fresh_verdict(rows.len() as u64 + 1, Some(*retry), content)

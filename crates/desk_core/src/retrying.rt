@@ -2,20 +2,18 @@
 ghost use Rattle.std.specs.Prelude.{◌≡◌, ◌-◌, ◌++◌, [], ◌∷◌, IfOk, OnOk, map, filter_map, option_map, slice_get, unwrap_or};
 ghost use Rattle.desk_rules.specs.declared.entry_fact.EntryState.TheVariants.{Held};
 ghost use Rattle.desk_rules.specs.Attempts.{attempt_of};
-ghost use Rattle.desk_rules.specs.LimitChecks.{limits_verdict};
 ghost use Rattle.desk_rules.specs.RetryRule.{retry_verdict};
 ghost use Rattle.desk_history.specs.Accepted.{content_of};
 ghost use Rattle.desk_history.specs.Retries.{is_same_entry};
-ghost use Rattle.desk_history.specs.Standing.{facts_in, row_entry_at, state_at, retry_rows};
+ghost use Rattle.desk_history.specs.Standing.{row_entry_at, state_at, retry_rows};
 ghost use Rattle.desk_core.specs.RowWords.{attempts_at, entry_in};
 
-use crate::facts::{is_rule_day, ruled_facts};
+use crate::facts::is_rule_day;
 use ach_fields::{Ref, ShortText};
 use bank_days::{Calendar, Day};
 use desk_history::Row;
 use desk_rules::{
-    Attempt, Direction, Entries, Entry, EntryState, Limits, Refusal, Retry, Submission,
-    check_submission, may_retry,
+    Attempt, Direction, Entries, Entry, EntryState, Refusal, Retry, Submission, may_retry,
 };
 use desk_store::StoreFault;
 use std::alloc::{AllocError, Global};
@@ -159,19 +157,4 @@ pub(crate) fn first_of_attempts(
         return Err(StoreFault::Unavailable);
     }
     Ok(may_retry(&tried, retry.day, retry.authorized, today, calendar))
-}
-
-/// Is the retry within the company's limits? A desk sends nothing that settles after 2100-01-31.
-pub(crate) fn first_of_limits(
-    alloc: Global,
-    rows: &[Row],
-    content: &Submission,
-    today: Day,
-    limits: &Limits,
-    calendar: &Calendar,
-) -> Result<Result<(), Refusal>, StoreFault>
-    ensures { IfOk result (λ verdict. verdict ≡ limits_verdict content.now today limits.now (facts_in rows.now) calendar.now) }
-{
-    let facts = ruled_facts(alloc, rows)?;
-    Ok(check_submission(content, today, limits, &facts, calendar))
 }

@@ -1,36 +1,63 @@
 -- The latest of the settlements of a range of sequences.
-use Rattle.std.proofs.Common.{◌≡◌, ℕ, zero, suc, ◌+◌, List, [], ◌∷◌, ◌++◌, Option, Some, None, refl, ap, ◌∙◌, arith}
-use Rattle.std.specs.Prelude.{filter_map, max}
-use Rattle.std.specs.List.{range_with_len, reduce}
-use Rattle.std.proofs.lemmas.List.{append-nil}
+use Rattle.std.proofs.Common.{◌≡◌, ℕ, zero, suc, ◌+◌, ◌<◌, ◌≤◌, ◌==◌, List, [], ◌∷◌, ◌++◌, map, reverse, set, sym, Bool, true, false, Option, Some, None, refl, ap, ◌∙◌, arith}
+use Rattle.std.specs.Prelude.{filter_map, find, max, if◌then◌else◌, option_map}
+use Rattle.std.specs.List.{range_with_len, reduce, cons_option}
+use Rattle.std.proofs.lemmas.Bool.{eq-eqb, ne_eqb}
+use Rattle.std.proofs.lemmas.List.{append-nil, reverse-append}
 use Rattle.std.proofs.lemmas.List.Elements.{filter_map-append}
 use Rattle.std.proofs.lemmas.List.Sums.{fold_push}
-use Rattle.desk_store.specs.Finds.{later_of}
+use Rattle.desk_store.specs.Finds.{later_of, with_settlement}
+use Rattle.desk_history.specs.declared.row.SentEntry.{SentEntry}
+use Rattle.desk_plan.specs.Reuse.{settlement, has_sequence}
+use Rattle.desk_history.specs.Sending.{sent_as}
 
--- one more number
-range_more : (a n : ℕ) → range_with_len a (suc n) ≡ range_with_len a n ++ (a + n) ∷ []
-range_more a zero = let e : a ≡ a + 0 = omega arith in ap (λ x. x ∷ []) e
-range_more a (suc n) =
-    let next : a + 1 + n ≡ a + suc n = omega arith in
-    ap (λ more. a ∷ more) (range_more (a + 1) n ∙ ap (λ x. range_with_len (a + 1) n ++ x ∷ []) next)
+-- ---- the latest of days
 
 reduce_push : (days : List ℕ) (d : ℕ) → reduce max (days ++ d ∷ []) ≡ later_of (reduce max days) (Some d)
 reduce_push [] d = refl
 reduce_push (e ∷ days) d = ap Some (fold_push max e days d)
 
-reduce_more : (days : List ℕ) (f : ℕ → Option ℕ) (x : ℕ) (o : Option ℕ) → f x ≡ o → reduce max (days ++ filter_map f (x ∷ [])) ≡ later_of (reduce max days) o
-reduce_more days f x None e = rw e (ap (reduce max) (append-nil days) ∙ same (reduce max days)) where
+reduce_more : (days : List ℕ) (o : Option ℕ) → reduce max (days ++ filter_map (λ d. d) (o ∷ [])) ≡ later_of (reduce max days) o
+reduce_more days None = ap (reduce max) (append-nil days) ∙ same (reduce max days) where
   same : (o : Option ℕ) → o ≡ later_of o None
   same None = refl
   same (Some d) = refl
-reduce_more days f x (Some d) e = rw e (reduce_push days d)
+reduce_more days (Some d) = reduce_push days d
 
--- one more sequence
-pub latest_more : (f : ℕ → Option ℕ) (a n x : ℕ) → a + n ≡ x →
-    reduce max (filter_map f (range_with_len a (n + 1))) ≡ later_of (reduce max (filter_map f (range_with_len a n))) (f x)
-latest_more f a n x e =
-    let next : n + 1 ≡ suc n = omega arith in
-    ap (λ k. reduce max (filter_map f (range_with_len a k))) next
-    ∙ ap (λ xs. reduce max (filter_map f xs)) (range_more a n ∙ ap (λ y. range_with_len a n ++ y ∷ []) e)
-    ∙ ap (reduce max) (filter_map-append f (range_with_len a n) (x ∷ []))
-    ∙ reduce_more (filter_map f (range_with_len a n)) f x (f x) refl
+-- one more day
+pub latest_more : (days : List (Option ℕ)) (o : Option ℕ) → reduce max (filter_map (λ d. d) (days ++ o ∷ [])) ≡ later_of (reduce max (filter_map (λ d. d) days)) o
+latest_more days o = ap (reduce max) (filter_map-append (λ d. d) days (o ∷ [])) ∙ reduce_more (filter_map (λ d. d) days) o
+
+-- those that there are of a list's elements
+pub kept_of_all : (f : ℕ → Option ℕ) (xs : List ℕ) → filter_map (λ d. d) (map f xs) ≡ filter_map f xs
+kept_of_all f [] = refl
+kept_of_all f (x ∷ xs) = ap (cons_option (f x)) (kept_of_all f xs)
+
+-- ---- the settlements of a range with that of one more entry
+
+module _ (e : SentEntry) (f : ℕ → Option ℕ) where
+  -- its sequence is outside of the range
+  pub settled_outside : (a n : ℕ) → ((t : ℕ) → a ≤ t → t < a + n → e.sequence ≡ t → ⊥) → map (with_settlement e f) (range_with_len a n) ≡ map f (range_with_len a n)
+  settled_outside a zero apart = refl
+  settled_outside a (suc n) apart =
+      let differ : (e.sequence == a) ≡ false = ne_eqb e.sequence a (apart a (omega arith) (omega arith)) in
+      (λ i. (if differ i then Some e.settled else f a) ∷ settled_outside (a + 1) n (λ t low high. apart t (omega arith) (omega arith)) i)
+
+  -- or within it
+  pub settled_within : (a n k : ℕ) → e.sequence ≡ a + k → k < n → map (with_settlement e f) (range_with_len a n) ≡ set (map f (range_with_len a n)) k (Some e.settled)
+  settled_within a zero k is within = absurd (omega arith)
+  settled_within a (suc n) zero is within =
+      let same : (e.sequence == a) ≡ true = eq-eqb e.sequence a (omega arith) in
+      (λ i. (if same i then Some e.settled else f a) ∷ settled_outside (a + 1) n (λ t low high e. omega arith) i)
+  settled_within a (suc n) (suc k) is within =
+      let differ : (e.sequence == a) ≡ false = ne_eqb e.sequence a (λ e. omega (arith, e)) in
+      (λ i. (if differ i then Some e.settled else f a) ∷ settled_within (a + 1) n k (omega arith) (omega arith) i)
+
+-- the settlement of a sequence with one more entry
+pub settled_more : (sent : List SentEntry) (e : SentEntry) (s : ℕ) → with_settlement e (settlement (map sent_as (reverse sent))) s ≡ settlement (map sent_as (reverse (sent ++ e ∷ []))) s
+settled_more sent e s =
+    of_test (e.sequence == s)
+    ∙ ap (λ (es : List SentEntry). settlement (map sent_as es) s) (sym (reverse-append sent (e ∷ []))) where
+      of_test : (t : Bool) → (if t then Some e.settled else settlement (map sent_as (reverse sent)) s) ≡ option_map (λ x. x.settled) (if t then Some (sent_as e) else find (has_sequence s) (map sent_as (reverse sent)))
+      of_test true = refl
+      of_test false = refl

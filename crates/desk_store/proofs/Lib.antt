@@ -5,5 +5,6 @@ pub mod Numbered
 pub mod DaySums
 pub mod Latest
 pub mod Traced
+pub mod Indexed
 pub mod Places
 pub mod Added

@@ -2,6 +2,7 @@
 use Rattle.std.specs.Prelude.{ℕ, ◌==◌, nat_lt, if◌then◌else◌, List, [], ◌∷◌, map, filter, bytes_eq, option_and_then, max, Option, Some, None, ℤ, ◌+ℤ◌}
 use Rattle.desk_rules.specs.declared.company.Company.{Company}
 use Rattle.desk_history.specs.declared.row.Row.{Row}
+use Rattle.desk_history.specs.declared.row.SentEntry.{SentEntry}
 use Rattle.desk_history.specs.Standing.{row_under, is_held}
 use Rattle.desk_store.specs.declared.list_store.Kept.{Kept}
 use Rattle.desk_store.specs.declared.store.Waiting.{Waiting}
@@ -25,6 +26,10 @@ abbrev pub later_of : Option ℕ → Option ℕ → Option ℕ
 later_of None d = d
 later_of (Some d) None = Some d
 later_of (Some d) (Some e) = Some (max d e)
+
+-- the settlements of sequences, with that of one more entry
+abbrev pub with_settlement : SentEntry → (ℕ → Option ℕ) → ℕ → Option ℕ
+with_settlement e f s = if e.sequence == s then Some e.settled else f s
 
 -- sums by day with one more amount on a day
 abbrev pub with_sum : ℕ → ℤ → List (ℕ × ℤ) → List (ℕ × ℤ)

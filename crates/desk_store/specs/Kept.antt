@@ -3,6 +3,7 @@ use Rattle.std.specs.Prelude.{◌≡◌, map}
 use Rattle.desk_history.specs.Book.{Book}
 use Rattle.desk_store.specs.declared.list_store.Kept.{Kept}
 use Rattle.desk_store.specs.declared.list_store.ListStore.{ListStore}
+use Rattle.desk_store.specs.Indexed.{IsIndexed}
 use Rattle.desk_store.specs.Rows.{Rows, CompanyRow, flat_book}
 
 abbrev pub row_in : Kept → CompanyRow
@@ -29,6 +30,11 @@ rows_in s = record {
   taken = s.taken.items;
 }
 
--- it holds the book that its rows are, and no other
-abbrev pub IsHeld : ListStore → Book → Type 0
-IsHeld s b = b ≡ flat_book (rows_in s)
+-- the book that its rows are, and no other
+abbrev pub IsBookOf : ListStore → Book → Type 0
+IsBookOf s b = b ≡ flat_book (rows_in s)
+
+-- it holds that book, and finds by its index what the book has
+pub record IsHeld (s : ListStore) (b : Book) : Type 0 where
+  pub book : IsBookOf s b
+  pub indexed : IsIndexed s.sent.items s.traces

@@ -3,6 +3,7 @@ pub mod Steps
 pub mod Words
 pub mod Reads
 pub mod Written
+pub mod Indexed
 pub mod Kept
 pub mod Changes
 pub mod Finds

@@ -1,5 +1,5 @@
 -- The flat lists of a store, each in the order of its key, and the book that they are.
-use Rattle.std.specs.Prelude.{ℕ, ◌+◌, Bool, ◌&&◌, ◌==◌, List, map, filter, find, count_by, reverse, Option, option_map, bytes_eq}
+use Rattle.std.specs.Prelude.{ℕ, Bool, ◌&&◌, ◌==◌, List, map, filter, find, count_by, reverse, Option, option_map, bytes_eq}
 use Rattle.desk_accounts.specs.declared.posting.Posting.{Posting}
 use Rattle.desk_accounts.specs.Balance.{lines_of}
 use Rattle.desk_rules.specs.declared.company.Company.{Company}

@@ -1,5 +1,5 @@
 -- What each write makes of a book, and when it may be made.
-use Rattle.std.specs.Prelude.{◌≡◌, ⊤, ℕ, ◌+◌, Bool, false, ◌&&◌, ◌==◌, if◌then◌else◌, List, [], ◌∷◌, ◌++◌, map, filter, find, fold, length, replicate, reverse, count_by, Option, Some, None, is_none, option_map, bytes_eq}
+use Rattle.std.specs.Prelude.{◌≡◌, ⊤, ℕ, ◌+◌, ◌&&◌, ◌==◌, if◌then◌else◌, List, [], ◌∷◌, ◌++◌, map, find, fold, length, reverse, Option, Some, None, is_none, bytes_eq}
 use Rattle.std.specs.List.{enumerate_from}
 use Rattle.desk_accounts.specs.declared.posting.Posting.{Posting}
 use Rattle.desk_accounts.specs.Balance.{lines_of}

@@ -50,11 +50,11 @@ impl FaultyStore {
 
 impl Store for FaultyStore {
     ghost use Rattle.std.specs.Prelude.{⊤};
-    ghost use Rattle.desk_store.specs.Kept.{IsHeld};
+    ghost use Rattle.desk_store.specs.Kept.{IsBookOf, IsHeld};
 
     ghost holds = { λ f. IsHeld f.store };
 
-    ghost may_leave = { λ f. IsHeld f.store };
+    ghost may_leave = { λ f. IsBookOf f.store };
 
     ghost is_clean = { λ _. ⊤ };
 

@@ -19,6 +19,7 @@ mod list_store_calls;
 mod list_writes;
 mod rows;
 mod store;
+mod trace_index;
 
 pub use faulty::FaultyStore;
 pub use list_store::ListStore;

@@ -61,6 +61,7 @@ impl Change for ReturnedRow {
 pub(crate) fn write_intake(store: &mut ListStore, intake: &IntakeRows<'_>) -> Result<(), AllocError>
     ensures ok { OnOk result (rows_in store.new ≡ intake_in (intake_rows intake.now) (rows_in store.old)) }
     ensures err { OnErr result (rows_in store.new ≡ rows_in store.old) }
+    ensures index { store.new.traces ≡ store.old.traces }
 {
     store.returned.reserve(intake.returned.len())?;
     store.changed.reserve(intake.changed.len())?;

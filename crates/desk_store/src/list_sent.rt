@@ -1,37 +1,23 @@
-//! What the lists in memory say of the entries that were sent.
-ghost use Rattle.std.specs.Prelude.{◌≡◌, ◌%◌, ◌==◌, ◌&&◌, map, find, reverse};
+//! What the lists in memory say of the sequences that were sent.
+ghost use Rattle.std.specs.Prelude.{◌≡◌, ℕ, Option, None, map, reverse, replicate, filter_map, max, length, IfOk};
+ghost use Rattle.std.specs.List.{range_with_len, reduce};
 ghost use Rattle.desk_plan.specs.Reuse as plan;
 ghost use Rattle.desk_plan.specs.Sequences.{last_sequence};
-ghost use Rattle.desk_history.specs.Resolve.{has_trace};
 ghost use Rattle.desk_history.specs.Sending.{sent_as};
-ghost use Rattle.desk_store.specs.Finds.{later_of};
+ghost use Rattle.desk_store.specs.Finds.{later_of, with_settlement};
 
-use ach_fields::{Routing, Trace};
 use bank_days::Day;
 use desk_history::SentEntry;
+use std::alloc::{AllocError, Global};
 
 /// The sequence of the last entry, 0 where there is none.
 pub(crate) fn last_of(sent: &[SentEntry]) -> u32
     ensures { result ≡ last_sequence (map sent_as (reverse sent.now)) }
 {
-    let mut last = 0;
-    for entry in sent {
-        last = entry.sequence;
+    match sent.last() {
+        Some(entry) => entry.sequence,
+        None => 0,
     }
-    last
-}
-
-/// The settlement of the youngest entry that has a sequence.
-fn settled_as(sent: &[SentEntry], sequence: u32) -> Option<Day>
-    ensures { result ≡ plan.settlement (map sent_as (reverse sent.now)) sequence }
-{
-    let mut settled = None;
-    for entry in sent {
-        if entry.sequence == sequence {
-            settled = Some(entry.settled);
-        }
-    }
-    settled
 }
 
 fn later(first: Option<Day>, second: Option<Day>) -> Option<Day>
@@ -44,35 +30,64 @@ fn later(first: Option<Day>, second: Option<Day>) -> Option<Day>
     }
 }
 
-/// The latest settlement of the youngest entries of sequences from the first to the last.
-pub(crate) fn latest_among(sent: &[SentEntry], from: u32, to: u32) -> Option<Day>
-    ensures { result ≡ plan.latest_settled (map sent_as (reverse sent.now)) (from, to) }
+fn no_days(alloc: Global, count: usize) -> Result<Vec<Option<Day>>, AllocError>
+    ensures { IfOk result (λ days. days.items ≡ replicate count None) }
+{
+    Ok(vec![in alloc; None; count]?)
+}
+
+/// An entry's settlement takes the place of its sequence.
+fn settle_at(days: &mut Vec<Option<Day>>, from: u32, entry: &SentEntry)
+    ensures { (f : ℕ → Option ℕ) → days.old.items ≡ map f (range_with_len from (length days.old.items)) → days.new.items ≡ map (with_settlement entry.now f) (range_with_len from (length days.old.items)) }
+{
+    if entry.sequence >= from {
+        let at = (entry.sequence - from) as usize;
+        if at < days.len() {
+            days[at] = Some(entry.settled);
+        }
+    }
+}
+
+/// The settlement of the youngest entry of each sequence, as many from the first on.
+fn settled_among(
+    alloc: Global,
+    sent: &[SentEntry],
+    from: u32,
+    count: usize,
+) -> Result<Vec<Option<Day>>, AllocError>
+    ensures { IfOk result (λ days. days.items ≡ map (plan.settlement (map sent_as (reverse sent.now))) (range_with_len from count)) }
+{
+    let mut days = no_days(alloc, count)?;
+    for entry in sent {
+        settle_at(&mut days, from, entry);
+    }
+    Ok(days)
+}
+
+/// The latest of days, where there are any.
+fn latest_of(days: &[Option<Day>]) -> Option<Day>
+    ensures { result ≡ reduce max (filter_map (λ d. d) days.now) }
 {
     let mut latest = None;
-    for sequence in u64::from(from)..u64::from(to) + 1 {
-        latest = later(latest, settled_as(sent, sequence as u32));
+    for day in days {
+        latest = later(latest, *day);
     }
     latest
 }
 
-/// Has an entry of a bank this trace? A trace has the last seven digits of a sequence.
-fn is_traced(entry: &SentEntry, odfi: Routing, trace: Trace) -> bool
-    ensures { result ≡ has_trace odfi trace entry.now }
+/// The latest settlement of the youngest entries of sequences from the first to the last.
+pub(crate) fn latest_among(
+    alloc: Global,
+    sent: &[SentEntry],
+    from: u32,
+    to: u32,
+) -> Result<Option<Day>, AllocError>
+    ensures { IfOk result (λ latest. latest ≡ plan.latest_settled (map sent_as (reverse sent.now)) (from, to)) }
 {
-    ach_fields::numbers_and_digits();
-    let _text = trace.text();
-    odfi.dfi() == trace.dfi() && entry.sequence % 10_000_000 == trace.sequence()
-}
-
-/// The youngest entry that has a trace.
-pub(crate) fn youngest_as(sent: &[SentEntry], odfi: Routing, trace: Trace) -> Option<SentEntry>
-    ensures { result ≡ find (has_trace odfi trace) (reverse sent.now) }
-{
-    let mut youngest = None;
-    for entry in sent {
-        if is_traced(entry, odfi, trace) {
-            youngest = Some(*entry);
-        }
+    if to < from {
+        return Ok(None);
     }
-    youngest
+    let count = (to - from) as usize + 1;
+    let days = settled_among(alloc, sent, from, count)?;
+    Ok(latest_of(&days))
 }

@@ -1,10 +1,10 @@
 //! A store that keeps lists in memory.
-ghost use Rattle.std.specs.Prelude.{◌≡◌, []};
+ghost use Rattle.std.specs.Prelude.{[]};
 ghost use Rattle.desk_history.specs.Book.{book_of};
-ghost use Rattle.desk_store.specs.Kept.{rows_in};
-ghost use Rattle.desk_store.specs.Rows.{flat_book};
+ghost use Rattle.desk_store.specs.Kept.{IsHeld};
 
 use crate::rows::{ChangedRow, FileRow, ReturnedRow, SentRow};
+use crate::trace_index::TraceIndex;
 use ach_fields::Id;
 use bank_days::{Calendar, Day};
 use desk_accounts::Posting;
@@ -37,6 +37,7 @@ pub struct ListStore {
     pub(crate) changed: Vec<ChangedRow>,
     pub(crate) postings: Vec<Posting>,
     pub(crate) sent: Vec<SentEntry>,
+    pub(crate) traces: TraceIndex,
     pub(crate) printed: Vec<SentRow>,
     pub(crate) suspense: Vec<SuspenseRow>,
     pub(crate) files: Vec<FileRow>,
@@ -46,7 +47,7 @@ pub struct ListStore {
 impl ListStore {
     /// The store of a new desk, with the SHA-256 digest of the operator's key.
     pub fn new(alloc: Global, identity: Identity, operator_key: [u8; 32]) -> ListStore
-        ensures { flat_book (rows_in result) ≡ book_of identity operator_key [] }
+        ensures { IsHeld result (book_of identity operator_key []) }
     {
         ListStore {
             identity,
@@ -59,6 +60,7 @@ impl ListStore {
             changed: Vec::new(alloc),
             postings: Vec::new(alloc),
             sent: Vec::new(alloc),
+            traces: TraceIndex::new(alloc),
             printed: Vec::new(alloc),
             suspense: Vec::new(alloc),
             files: Vec::new(alloc),

@@ -4,7 +4,7 @@ use crate::list_cut::write_cut;
 use crate::list_intake::write_intake;
 use crate::list_items::{changes_of, count_on, lines_of, returns_of, taken_under, text_at};
 use crate::list_reads::{all_waiting, company_among, copy_of, row_called, rows_of};
-use crate::list_sent::{last_of, latest_among, youngest_as};
+use crate::list_sent::{last_of, latest_among};
 use crate::list_store::ListStore;
 use crate::list_writes::{held, limit_company, place_of};
 use crate::store::{Caller, CutRows, IntakeRows, Items, Store, StoreFault, Waiting};
@@ -17,12 +17,12 @@ use std::alloc::Global;
 
 impl Store for ListStore {
     ghost use Rattle.std.specs.Prelude.{⊤};
-    ghost use Rattle.desk_store.specs.Kept.{IsHeld};
+    ghost use Rattle.desk_store.specs.Kept.{IsBookOf, IsHeld};
 
     ghost holds = { IsHeld };
 
-    // A crash leaves what it holds.
-    ghost may_leave = { IsHeld };
+    // A crash leaves the book that it holds. It leaves no index: what begins again makes one.
+    ghost may_leave = { IsBookOf };
 
     ghost is_clean = { λ _. ⊤ };
 
@@ -80,11 +80,11 @@ impl Store for ListStore {
 
     fn latest_settled(
         &mut self,
-        _alloc: Global,
+        alloc: Global,
         from: u32,
         to: u32,
     ) -> Result<Option<Day>, StoreFault> {
-        Ok(latest_among(&self.sent, from, to))
+        Ok(latest_among(alloc, &self.sent, from, to)?)
     }
 
     fn files_on(&mut self, _alloc: Global, day: Day) -> Result<u64, StoreFault> {
@@ -92,7 +92,8 @@ impl Store for ListStore {
     }
 
     fn sent_as(&mut self, _alloc: Global, trace: Trace) -> Result<Option<SentEntry>, StoreFault> {
-        Ok(youngest_as(&self.sent, self.identity.odfi, trace))
+        self.traces.cover(&self.sent)?;
+        Ok(self.traces.named(self.identity.odfi, trace))
     }
 
     fn items_of(&mut self, alloc: Global, company: Id) -> Result<Items, StoreFault> {

@@ -4,7 +4,7 @@ use crate::{
     ReturnRow, Settlement, Statement, SuspenseRow,
 };
 use bank_days::Day;
-use desk_rules::EntryState;
+use desk_rules::{EntryState, Rate};
 use std::alloc::Global;
 use std::fmt::Write;
 use std::process::Abort;
@@ -103,15 +103,17 @@ fn settlement(rt: &impl Abort, out: &mut String, s: &Settlement) {
     }
 }
 
+fn rate(rt: &impl Abort, out: &mut String, name: &str, rate: Rate) {
+    let over = if rate.over { " over" } else { "" };
+    write!(out, "{name} {} of {}{over}", rate.n, rate.d)
+        .ok()
+        .expect(rt, "memory");
+}
+
 fn rates(rt: &impl Abort, out: &mut String, r: &DayRates) {
-    let rates = r.rates;
-    write!(
-        out,
-        "overall {} of {}, unauthorized {}",
-        rates.overall.n, rates.overall.d, rates.unauthorized.n
-    )
-    .ok()
-    .expect(rt, "memory");
+    rate(rt, out, "unauthorized", r.rates.unauthorized);
+    rate(rt, out, ", administrative", r.rates.administrative);
+    rate(rt, out, ", overall", r.rates.overall);
 }
 
 fn cut(rt: &impl Abort, out: &mut String, c: &CutDone) {

@@ -1,6 +1,6 @@
 //! Files that cuts make.
-use super::script::{DAY, HOLIDAYS, MILL, PAY_1, PAY_2, follow, holds, new_store};
-use crate::Desk;
+use super::script::{DAY, HOLIDAYS, MILL, MOST_CALLS, PAY_1, PAY_2, follow, holds, new_store};
+use crate::{Desk, FaultyStore, Store};
 use std::alloc::Global;
 use std::process::Abort;
 
@@ -78,21 +78,26 @@ fn receipt_words(rt: &(impl Abort + Alloc<A = Global>), reference: u64) -> Strin
         .expect(rt, "memory")
 }
 
-// What does not fit a file goes into the next one; a day has 36 files.
+// Fills a day with 36 files; was a call asked again? What does not fit a file goes into the next one.
+fn fill_day<S: Store>(rt: &(impl Abort + Alloc<A = Global>), desk: &mut Desk<S>) -> bool {
+    let mut asked_again = follow(rt, desk, &[MILL, DAY]);
+    for reference in 1..37 {
+        let line = full_submission(rt, reference);
+        let receipt = receipt_words(rt, reference);
+        asked_again |= follow(rt, desk, &[(line.as_str(), receipt.as_str())]);
+    }
+    let cut = (
+        "desk cut",
+        "2025-01-08 sent 3636 in [ABCDEFGHIJKLMNOPQRSTUVWXYZ0123456789], lapsed 0",
+    );
+    asked_again |= follow(rt, desk, &[cut]);
+    asked_again
+}
+
+// A day has 36 files, and not one more; the next day begins anew.
 #[test]
 fn files_of_a_day(rt: HostRuntime) {
-    let mut desk = Desk::new(new_store(&rt));
-    assert!(rt; !follow(&rt, &mut desk, &[MILL, DAY]));
-    for reference in 1..37 {
-        let line = full_submission(&rt, reference);
-        let words = receipt_words(&rt, reference);
-        assert!(rt; !follow(&rt, &mut desk, &[(line.as_str(), words.as_str())]));
-    }
     let end = [
-        (
-            "desk cut",
-            "2025-01-08 sent 3636 in [ABCDEFGHIJKLMNOPQRSTUVWXYZ0123456789], lapsed 0",
-        ),
         (
             "MILL01 submit CENT credit 2025-01-09 091000019 1",
             "CENT order 37 entries 1 cents 1",
@@ -102,7 +107,14 @@ fn files_of_a_day(rt: HostRuntime) {
         ("desk day 2025-01-09", "2025-01-09"),
         ("desk cut", "2025-01-09 sent 1 in [A], lapsed 0"),
     ];
-    assert!(rt; !follow(&rt, &mut desk, &end));
+    for call in 1..MOST_CALLS {
+        let mut desk = Desk::new(FaultyStore::new(new_store(&rt), call));
+        let asked_again = fill_day(&rt, &mut desk);
+        if !follow(&rt, &mut desk, &end) && !asked_again {
+            return;
+        }
+    }
+    assert!(rt; false, "the script makes more calls of the store");
 }
 
 // One cent more than a file holds.

@@ -232,7 +232,10 @@ const TOLD: [(&str, &str); 5] = [
         "MILL01 exposure",
         "credit 0 of 999999999999999, debit 0 of 999999999999999",
     ),
-    ("MILL01 rates", "overall 1 of 1, unauthorized 0"),
+    (
+        "MILL01 rates",
+        "unauthorized 0 of 1, administrative 0 of 1, overall 1 of 1 over",
+    ),
 ];
 
 #[test]

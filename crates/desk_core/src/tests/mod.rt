@@ -7,5 +7,6 @@ mod cuts;
 mod files;
 mod incoming;
 mod money;
+mod rates;
 mod script;
 mod sequences;

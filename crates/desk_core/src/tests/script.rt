@@ -1,7 +1,7 @@
 //! Scripts of calls and answers.
 use super::answers::words_of;
 use super::calls::call_of;
-use crate::{Desk, FaultyStore, Identity, ListStore, Store};
+use crate::{CutRows, Desk, FaultyStore, Identity, ListStore, SentEntry, Store};
 use ach_fields::{Routing, ShortText};
 use std::alloc::Global;
 use std::process::Abort;
@@ -34,8 +34,8 @@ pub(super) const PAY_2: (&str, &str) = (
     "PAY-2 order 1 entries 1 cents 2500",
 );
 
-// More calls of the store than a script makes.
-const MOST_CALLS: u64 = 1_000;
+/// More calls of the store than a script makes.
+pub(super) const MOST_CALLS: u64 = 1_000;
 
 fn name(rt: &impl Abort, text: &[u8]) -> ShortText<23> {
     ShortText::new(text).ok().expect(rt, "a name")
@@ -77,14 +77,38 @@ pub(super) fn follow<S: Store>(
     asked_again
 }
 
-/// A script over lists, and with each call of the store refused in turn, until none is.
-pub(super) fn holds(rt: &(impl Abort + Alloc<A = Global>), script: &[(&str, &str)]) {
-    assert!(rt; !follow(rt, &mut Desk::new(new_store(rt)), script));
+/// A store of the sample bank that has sent these entries.
+fn store_behind(rt: &(impl Abort + Alloc<A = Global>), entries: &[SentEntry]) -> ListStore {
+    let mut store = new_store(rt);
+    let rows = CutRows {
+        sent: &[],
+        lapsed: &[],
+        entries,
+        postings: &[],
+        files: &[],
+    };
+    store.commit_cut(rt.alloc(), &rows).ok().expect(rt, "a cut");
+    store
+}
+
+/// A script over lists, and with each call of the store refused in turn, until none is; the store has
+/// sent these entries before.
+pub(super) fn holds_behind(
+    rt: &(impl Abort + Alloc<A = Global>),
+    entries: &[SentEntry],
+    script: &[(&str, &str)],
+) {
+    assert!(rt; !follow(rt, &mut Desk::new(store_behind(rt, entries)), script));
     for call in 1..MOST_CALLS {
-        let mut desk = Desk::new(FaultyStore::new(new_store(rt), call));
+        let mut desk = Desk::new(FaultyStore::new(store_behind(rt, entries), call));
         if !follow(rt, &mut desk, script) {
             return;
         }
     }
     assert!(rt; false, "the script makes more calls of the store");
+}
+
+/// The same over the store of a new desk.
+pub(super) fn holds(rt: &(impl Abort + Alloc<A = Global>), script: &[(&str, &str)]) {
+    holds_behind(rt, &[], script);
 }

@@ -1,10 +1,9 @@
 //! Sequences at their end, and used again.
-use super::script::{HOLIDAYS, MILL, follow, new_store};
-use crate::{CutRows, Desk, ListStore, SentEntry, Store};
+use super::script::{HOLIDAYS, MILL, holds_behind};
+use crate::SentEntry;
 use ach_fields::{Cents, Id, Ref, Routing, ShortText};
 use bank_days::Day;
 use desk_rules::{AccountKind, Entry, SecCode};
-use std::alloc::Global;
 use std::process::Abort;
 
 fn short_text<const N: usize>(rt: &impl Abort, text: &[u8]) -> ShortText<N> {
@@ -37,19 +36,9 @@ fn sent(rt: &impl Abort, sequence: u32) -> SentEntry {
     }
 }
 
-// A store that has sent almost as many entries as there are sequences.
-fn old_store(rt: &(impl Abort + Alloc<A = Global>)) -> ListStore {
-    let mut store = new_store(rt);
-    let entries = [sent(rt, 1), sent(rt, 2), sent(rt, 9_999_998)];
-    let rows = CutRows {
-        sent: &[],
-        lapsed: &[],
-        entries: &entries,
-        postings: &[],
-        files: &[],
-    };
-    store.commit_cut(rt.alloc(), &rows).ok().expect(rt, "a cut");
-    store
+// The desk has sent almost as many entries as there are sequences.
+fn old_entries(rt: &impl Abort) -> [SentEntry; 3] {
+    [sent(rt, 1), sent(rt, 2), sent(rt, 9_999_998)]
 }
 
 // A batch of two begins again at 1 once the entries there settled 366 days ago; a return then meets the
@@ -81,7 +70,7 @@ fn a_batch_begins_again(rt: HostRuntime) {
         ),
         ("desk suspense", "suspense; 1 100 Differs"),
     ];
-    assert!(rt; !follow(&rt, &mut Desk::new(old_store(&rt)), &script));
+    holds_behind(&rt, &old_entries(&rt), &script);
 }
 
 // The last sequence goes to a batch of one, and the next batch begins at 1.
@@ -105,5 +94,5 @@ fn the_last_sequence_is_used(rt: HostRuntime) {
             "2026-03-04 returns 3 late 0 changes 0 suspense 0",
         ),
     ];
-    assert!(rt; !follow(&rt, &mut Desk::new(old_store(&rt)), &script));
+    holds_behind(&rt, &old_entries(&rt), &script);
 }

@@ -92,7 +92,7 @@ fn submission(rt: &(impl Abort + Alloc<A = Global>), name: &[u8]) -> Result<Subm
     })
 }
 
-fn sent_entry(rt: &impl Abort) -> SentEntry {
+pub(super) fn sent_entry(rt: &impl Abort) -> SentEntry {
     SentEntry {
         sequence: 1,
         company: id(rt, b"MILL01"),

@@ -1,3 +1,5 @@
-//! That calls answer, and what a store does that refuses one.
+//! That calls answer, which entries traces name over several cuts, and what a store does that refuses
+//! a call.
 mod calls;
 mod faults;
+mod traces;

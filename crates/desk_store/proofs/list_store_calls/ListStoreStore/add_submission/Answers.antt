@@ -2,14 +2,14 @@ use Rattle.std.proofs.Common.{◌≡◌, ◌∙◌, ap, sym, ◌+◌, length, Li
 use Rattle.std.proofs.lemmas.List.{map-append}
 use Rattle.desk_history.specs.Book.{Book}
 use Rattle.desk_store.specs.Held.{held_row}
-use Rattle.desk_store.specs.Kept.{row_in, rows_in, IsHeld}
+use Rattle.desk_store.specs.Kept.{row_in, rows_in, IsBookOf}
 use Rattle.desk_store.specs.Rows.{CompanyRow, flat_book}
 use Rattle.desk_store.specs.Steps.{add_submission}
 use Rattle.desk_store.proofs.Added.{flat-add}
 use Rattle.desk_store.proofs.list_store_calls.ListStoreStore.add_submission.Goals as goal
 
 -- the book of the lists with one more
-added : (c : goal.In_ok-push) (b : Book) → IsHeld c.args.self.now b → c.args.order ≡ length (b.rows c.args.company) + 1 →
+added : (c : goal.In_ok-push) (b : Book) → IsBookOf c.args.self.now b → c.args.order ≡ length (b.rows c.args.company) + 1 →
     (add_submission c.args.company c.args.order c.args.content.now c.args.retry).after b ≡ flat_book (record (rows_in c.args.self.now) { submissions = map row_in c.push.new.self.items })
 added c b held next =
     let s = c.args.self.now in
@@ -24,7 +24,7 @@ added c b held next =
     ∙ sym (ap (λ (rows : List CompanyRow). flat_book (record (rows_in s) { submissions = rows })) pushed)
 
 pub returns-clause-write : goal.returns-clause-write
-returns-clause-write c = λ _ b held next. added c b held next
+returns-clause-write c = λ _ b held next. record { book = added c b held.book next; indexed = held.indexed }
 
 pub returns-clause-left : goal.returns-clause-left
-returns-clause-left c = λ _ b found held next is. is ∙ sym (added c b held next)
+returns-clause-left c = λ _ b found held next is. is ∙ sym (added c b held.book next)

@@ -1,0 +1,52 @@
+-- What the index of traces finds, as entries come behind and as it covers them.
+use Rattle.std.proofs.Common.{◌≡◌, ℕ, ◌+◌, ◌<◌, ◌%◌, ◌==◌, Bool, List, [], ◌∷◌, ◌++◌, take, length, get_or, Option, Some, None, false, refl, ap, sym, subst, ◌∙◌, arith}
+use Rattle.std.specs.Prelude.{find, if◌then◌else◌}
+use Rattle.std.specs.BTreeMap.{get, Updates}
+use Rattle.std.specs.Cmp.{unsigned_tied}
+use Rattle.std.specs.Ordering.{nat_cmp}
+use Rattle.std.proofs.Math.Seq.{take-length}
+use Rattle.std.proofs.lemmas.List.{reverse-append, take_more, take-append-le, length-append}
+use Rattle.desk_history.specs.declared.row.SentEntry.{SentEntry}
+use Rattle.desk_store.specs.declared.trace_index.TraceIndex.{TraceIndex}
+use Rattle.desk_store.specs.Indexed.{IsIndexed, ends_in, youngest_ending}
+
+-- the youngest with one more entry
+youngest_more : (sent : List SentEntry) (e : SentEntry) (digits : ℕ) → youngest_ending (sent ++ e ∷ []) digits ≡ (if e.sequence % 10_000_000 == digits then Some e else youngest_ending sent digits)
+youngest_more sent e digits = ap (λ (es : List SentEntry). find (ends_in digits) es) (reverse-append sent (e ∷ []))
+
+-- one more entry
+pub covers_more : (sent : List SentEntry) (old new : TraceIndex) (e : SentEntry) → old.indexed < length sent → e ≡ get_or sent old.indexed e
+    → Updates nat_cmp old.youngest new.youngest (e.sequence % 10_000_000) (Some e) → new.indexed ≡ old.indexed + 1 → IsIndexed sent old → IsIndexed sent new
+covers_more sent old new e some is put one held = record {
+  within = omega arith;
+  youngest = λ digits.
+      let before : List SentEntry = take old.indexed sent in
+      let more : take new.indexed sent ≡ before ++ e ∷ [] = ap (λ (n : ℕ). take n sent) one ∙ take_more sent old.indexed e some ∙ ap (λ (x : SentEntry). before ++ x ∷ []) (sym is) in
+      put.0 digits
+      ∙ ap (λ (t : Bool). if t then Some e else get nat_cmp old.youngest digits) (unsigned_tied (e.sequence % 10_000_000) digits)
+      ∙ ap (λ (o : Option SentEntry). if e.sequence % 10_000_000 == digits then Some e else o) (held.youngest digits)
+      ∙ sym (youngest_more before e digits)
+      ∙ ap (λ (es : List SentEntry). youngest_ending es digits) (sym more);
+}
+
+-- entries that come behind are not covered
+pub indexed_behind : (sent more : List SentEntry) (index : TraceIndex) → IsIndexed sent index → IsIndexed (sent ++ more) index
+indexed_behind sent more index held = record {
+  within = omega (arith, length-append sent more, held.within);
+  youngest = λ digits. held.youngest digits ∙ ap (λ (es : List SentEntry). youngest_ending es digits) (sym (take-append-le index.indexed sent more held.within));
+}
+
+-- one that covers all finds the youngest of all
+pub found_whole : (sent : List SentEntry) (index : TraceIndex) → IsIndexed sent index → index.indexed ≡ length sent → (digits : ℕ) → get nat_cmp index.youngest digits ≡ youngest_ending sent digits
+found_whole sent index held whole digits =
+    held.youngest digits ∙ ap (λ (es : List SentEntry). youngest_ending es digits) (ap (λ (n : ℕ). take n sent) whole ∙ take-length sent)
+
+-- nothing is found by a test that none passes
+pub none_found : (es : List SentEntry) → find (λ _. false) es ≡ None
+none_found [] = refl
+none_found (e ∷ es) = none_found es
+
+-- the same index is right of the same entries
+pub indexed_as : (sent found : List SentEntry) (old new : TraceIndex) → found ≡ sent → new ≡ old → IsIndexed sent old → IsIndexed found new
+indexed_as sent found old new same kept held =
+    subst (λ (es : List SentEntry). IsIndexed es new) (sym same) (subst (λ (t : TraceIndex). IsIndexed sent t) (sym kept) held)
