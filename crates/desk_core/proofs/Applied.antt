@@ -1,5 +1,5 @@
 -- What a call comes to by the book is what it comes to by the history.
-use Rattle.std.proofs.Common.{◌≡◌, ◌⊎◌, ◌∙◌, sym, ℕ, List, inl, inr}
+use Rattle.std.proofs.Common.{◌∙◌, sym, ℕ, List, inl, inr}
 use Rattle.std.specs.Prelude.{Result, Ok, Err}
 use Rattle.desk_history.specs.declared.answer.Answer.{Answer}
 use Rattle.desk_history.specs.declared.call.Call.{Call}

@@ -1,15 +1,15 @@
 -- What is read of the bytes of a file.
-use Rattle.std.proofs.Common.{◌≡◌, ◌∙◌, sym, ap, ℕ, List, [], ◌++◌, ◌⊎◌, inl, inr}
+use Rattle.std.proofs.Common.{◌≡◌, ◌∙◌, sym, ap, ℕ, List, [], ◌++◌, inl, inr}
 use Rattle.std.specs.Prelude.{MatchResult, Some, Result, Ok, Err}
 use Rattle.std.proofs.lemmas.List.{append-nil}
 use Rattle.ach_files.specs.declared.fault.Fault.{Fault}
 use Rattle.ach_files.specs.declared.fault.FileFault.TheVariants as faults
 use Rattle.ach_files.specs.Facts.{FileFacts}
 use Rattle.ach_files.specs.File.{IsReadAs}
-use Rattle.ach_files.specs.FirstFault.{Tells, at, early_fault, fault}
+use Rattle.ach_files.specs.FirstFault.{Tells, early_fault, fault}
 use Rattle.desk_history.specs.declared.call.Call.TheVariants as calls
 use Rattle.desk_history.specs.Calls.{IsFileOf, OneMessage}
-use Rattle.desk_history.specs.Message.{Message, TakeFile}
+use Rattle.desk_history.specs.Message.{TakeFile}
 
 -- bytes are read in one way
 pub read_once : OneMessage → (bytes : List ℕ) (r file : Result FileFacts Fault) → MatchResult r (IsReadAs bytes) (λ f. fault bytes ≡ Some f)

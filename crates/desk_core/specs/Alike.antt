@@ -1,5 +1,5 @@
 -- Two desks that answer a company alike.
-use Rattle.std.specs.Prelude.{◌≡◌, ◌<◌, ◌≤◌, ◌^◌, ℕ, List, length, count_by, Result, Ok, Err}
+use Rattle.std.specs.Prelude.{◌≡◌, ◌<◌, ◌≤◌, ◌^◌, ℕ, List, length, count_by, Result, Ok}
 use Rattle.desk_history.specs.declared.answer.Answer.{Answer}
 use Rattle.desk_history.specs.declared.call.Call.{Call}
 use Rattle.desk_history.specs.declared.identity.Identity.{Identity}

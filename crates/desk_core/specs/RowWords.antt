@@ -2,17 +2,14 @@
 use Rattle.std.specs.Prelude.{ℕ, ◌∷◌, List, length, map, filter_map, Result, Ok}
 use Rattle.desk_rules.specs.declared.attempt.Attempt.{Attempt}
 use Rattle.desk_rules.specs.declared.company.Limits.{Limits}
-use Rattle.desk_rules.specs.declared.entry_fact.EntryFact.{EntryFact}
-use Rattle.desk_rules.specs.declared.entry_fact.EntryState.{EntryState}
 use Rattle.desk_rules.specs.declared.refusal.Refusal.{Refusal}
 use Rattle.desk_rules.specs.declared.refusal.Refusal.TheVariants.{NoEntry}
-use Rattle.desk_rules.specs.declared.submission.Direction.{Direction}
 use Rattle.desk_rules.specs.declared.submission.Entry.{Entry}
 use Rattle.desk_rules.specs.declared.submission.Retry.{Retry}
 use Rattle.desk_rules.specs.declared.submission.Submission.{Submission}
 use Rattle.desk_rules.specs.Attempts.{attempt_of}
 use Rattle.desk_rules.specs.Chain.{◌>>=◌}
-use Rattle.desk_rules.specs.LimitChecks.{is_debit, limits_verdict}
+use Rattle.desk_rules.specs.LimitChecks.{limits_verdict}
 use Rattle.desk_rules.specs.RetryRule.{retry_verdict}
 use Rattle.desk_rules.specs.Size.{size_of, total_of}
 use Rattle.desk_history.specs.declared.reports.Receipt.{Receipt}

@@ -20,7 +20,7 @@ use Rattle.desk_book.specs.OnCut.{CutFacts, sends, batches, files, ranges_after,
 use Rattle.desk_cut.specs.declared.numbers.Numbered.{Numbered}
 use Rattle.desk_cut.specs.declared.plan.CutPlan.{CutPlan}
 use Rattle.desk_cut.specs.Numbers.{IsNumbered, batches_in, write_of, done_of}
-use Rattle.desk_cut.specs.Plan.{IsTold, MayTake, IsPlan, has_modifiers, plan_write}
+use Rattle.desk_cut.specs.Plan.{MayTake, IsPlan, has_modifiers, plan_write}
 
 -- these are the submissions of a cut, with their sequences
 abbrev pub IsOf : CutFacts → Numbered → Type 0

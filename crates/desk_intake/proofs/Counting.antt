@@ -1,12 +1,10 @@
 -- What the rows of a file count.
-use Rattle.std.proofs.Common.{◌≡◌, ◌∙◌, ap, sym, refl, ℕ, ◌+◌, List, [], ◌∷◌, length, map, Bool, false, cond, arith}
+use Rattle.std.proofs.Common.{◌≡◌, ◌∙◌, sym, refl, ℕ, ◌+◌, List, [], ◌∷◌, length, map, Bool, false, cond, arith}
 use Rattle.std.specs.Prelude.{◌&&◌, not, count_by, filter_map, is_some, Option, Some, None, Result, Ok, Err}
 use Rattle.std.specs.List.{cons_option, enumerate_from}
 use Rattle.std.proofs.lemmas.List.Sums.{sum_by-cons}
 use Rattle.desk_history.specs.declared.operations.Why.{Why}
-use Rattle.desk_history.specs.declared.row.SentEntry.{SentEntry}
 use Rattle.desk_history.specs.Intake.{is_event, is_late_return, is_late_event, is_return_taken, is_returned_event, suspended}
-use Rattle.desk_history.specs.Resolve.{Resolved}
 use Rattle.desk_store.specs.declared.rows.ReturnedRow.{ReturnedRow}
 use Rattle.desk_book.specs.OnIntake.{changed_as, changed_row, returned_as, returned_row}
 use Rattle.desk_intake.specs.declared.judged.Judged.{Judged}

@@ -1,5 +1,5 @@
 -- Entries have one key exactly where they are one entry.
-use Rattle.std.proofs.Common.{◌≡◌, ◌∙◌, ap, sym, refl, ℕ, ◌-◌, List, ◌++◌, length, take, replicate, Bool, true, false, ◌&&◌, ◌||◌, cond, arith}
+use Rattle.std.proofs.Common.{◌≡◌, ◌∙◌, ap, sym, refl, ℕ, ◌-◌, List, length, take, replicate, Bool, true, false, ◌&&◌, ◌||◌, cond, arith}
 use Rattle.std.specs.Prelude.{◌==◌, bytes_eq}
 use Rattle.std.specs.BTreeSet.{BTreeSet, Updates, contains}
 use Rattle.std.specs.Cmp.Lexicographic.{slice_cmp}

@@ -13,7 +13,6 @@ use Rattle.desk_history.specs.Postings.{item_line}
 use Rattle.desk_history.specs.Resolve.{Resolved}
 use Rattle.desk_store.specs.declared.rows.ChangedRow.{ChangedRow}
 use Rattle.desk_store.specs.declared.rows.ReturnedRow.{ReturnedRow}
-use Rattle.desk_store.specs.Steps.{IntakeWrite}
 use Rattle.desk_book.specs.OnIntake.{changed_row, intake_write, outcomes, returned_row}
 use Rattle.desk_intake.specs.declared.found.FoundItem.{FoundItem}
 use Rattle.desk_intake.specs.declared.judged.Judged.{Judged}

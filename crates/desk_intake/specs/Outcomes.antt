@@ -1,5 +1,5 @@
 -- What comes of the items of a file, as the values that the plan is made of.
-use Rattle.std.specs.Prelude.{ℕ, Bool, true, nat_le, List, [], ◌∷◌, ◌++◌, Option, Some, None, option_map, Result, Ok, Err}
+use Rattle.std.specs.Prelude.{Bool, true, nat_le, List, [], ◌∷◌, ◌++◌, Option, Some, None, option_map, Result, Ok, Err}
 use Rattle.ach_files.specs.declared.facts.ItemFacts.{ItemFacts}
 use Rattle.desk_rules.specs.Deadlines.{last_rule_day}
 use Rattle.desk_history.specs.declared.operations.Why.{Why}

@@ -1,4 +1,4 @@
-use Rattle.std.proofs.Common.{◌≡◌, [], ◌++◌, map, zip, sym, ap, ◌∙◌, arith, inl, inr, length, ℕ, refl}
+use Rattle.std.proofs.Common.{◌≡◌, ◌++◌, map, zip, sym, ap, ◌∙◌, arith, inl, inr, length, refl}
 use Rattle.std.proofs.lemmas.List.{append-nil, nil_from_length}
 use Rattle.std.proofs.lemmas.Slice.Zip.{length-zip, either_empty_from_Zip}
 use Rattle.desk_history.specs.Sending.{batch_of}

@@ -1,5 +1,4 @@
-use Rattle.std.proofs.Common.{◌≡◌, ◌≤◌, ◌<◌, ◌++◌, map, drop, All}
-use Rattle.bank_days.specs.Day.{last_given}
+use Rattle.std.proofs.Common.{◌≡◌, ◌<◌, ◌++◌, map, drop, All}
 use Rattle.desk_book.specs.OnCut.{sending, lapsing}
 use Rattle.desk_cut.specs.Sent.{sending_in}
 use Rattle.desk_cut.proofs.due.decide.Given as goal

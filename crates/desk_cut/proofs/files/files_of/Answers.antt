@@ -1,12 +1,10 @@
 use Rattle.std.proofs.Common.{◌≡◌, ◌≤◌, ◌<◌, ◌+◌, ◌-◌, ◌++◌, length, get_or, map, ℕ, List, [], ◌∷◌, take, drop, ap, ◌∙◌, sym, subst, arith, All}
-use Rattle.std.specs.Prelude.{sum, min}
-use Rattle.std.specs.List.{enumerate_from}
 use Rattle.std.proofs.lemmas.Grind.{common_steps}
 use Rattle.std.proofs.lemmas.List.{drop_more, take-map, drop-map, drop-drop, length-take}
 use Rattle.std.proofs.lemmas.List.Elements.{All-push}
 use Rattle.std.proofs.lemmas.Option.{get_or_from_slice_get}
 use Rattle.desk_plan.specs.Files.{most_batches}
-use Rattle.desk_plan.specs.Places.{modifiers, modifier_of, modifier_at}
+use Rattle.desk_plan.specs.Places.{modifiers, modifier_at}
 use Rattle.desk_plan.specs.Runs.{in_runs}
 use Rattle.desk_history.specs.Files as files
 use Rattle.desk_cut.specs.Sent.{batch_in, file_in}

@@ -1,5 +1,5 @@
 use Rattle.std.proofs.Common.{◌≡◌, take, map, All}
-use Rattle.desk_plan.specs.Batch.{IsBatch, IsEntryCount}
+use Rattle.desk_plan.specs.Batch.{IsEntryCount}
 use Rattle.desk_cut.proofs.loads.counts_of.Given as goal
 
 abbrev pub invariant-loop-load : goal.invariant-loop-load

@@ -1,5 +1,4 @@
 use Rattle.std.proofs.Common.{◌≡◌, ◌∙◌, ◌<◌, ℕ, Bool, true, ◌&&◌, All, List, map, ap, sym, subst}
-use Rattle.std.specs.Prelude.{Option}
 use Rattle.std.specs.List.{list_all}
 use Rattle.std.proofs.lemmas.List.Folds.{list_all-map}
 use Rattle.desk_plan.specs.declared.batch.Batch.{Batch}
@@ -8,7 +7,7 @@ use Rattle.desk_plan.specs.Laws.{ByRanges}
 use Rattle.desk_plan.specs.Reuse.{is_past, latest_settled, may_send}
 use Rattle.desk_plan.specs.Sequences.{Sent, last_sequence, ranges, ranges_of, are_apart}
 use Rattle.desk_history.specs.Sending.{plan_of}
-use Rattle.desk_book.specs.OnCut.{sending, ranges_after}
+use Rattle.desk_book.specs.OnCut.{sending}
 use Rattle.desk_cut.proofs.numbers.number.Goals as goal
 
 -- where no two ranges have a sequence in common, the cut may take its sequences if it may take those of each

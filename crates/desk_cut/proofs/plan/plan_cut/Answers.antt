@@ -6,7 +6,7 @@ use Rattle.desk_plan.specs.Files.{division}
 use Rattle.desk_plan.specs.Runs.{in_runs}
 use Rattle.desk_history.specs.Files.{files_from}
 use Rattle.desk_cut.specs.Numbers.{batches_in, write_of, done_of}
-use Rattle.desk_cut.specs.Plan.{cut_of, plan_write}
+use Rattle.desk_cut.specs.Plan.{cut_of}
 use Rattle.desk_cut.proofs.Planned.{whole, modifiers_are, may_take, is_plan, left, none_left}
 use Rattle.desk_cut.proofs.plan.plan_cut.Goals as goal
 

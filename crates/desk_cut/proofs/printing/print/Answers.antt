@@ -1,4 +1,4 @@
-use Rattle.std.proofs.Common.{◌≡◌, ◌∙◌}
+use Rattle.std.proofs.Common.{◌∙◌}
 use Rattle.desk_cut.proofs.Plain.{printed_same}
 use Rattle.desk_cut.proofs.printing.print.Goals as goal
 

@@ -1,4 +1,4 @@
-use Rattle.std.proofs.Common.{◌≡◌, ◌∙◌, List, ap, map}
+use Rattle.std.proofs.Common.{◌∙◌, List, ap}
 use Rattle.desk_intake.specs.declared.judged.Judged.{Judged}
 use Rattle.desk_intake.specs.Plans.{judged_write}
 use Rattle.desk_intake.proofs.Plans.{judged_whole}

@@ -1,8 +1,7 @@
 use Rattle.std.proofs.Common.{◌≡◌, ◌∷◌, ◌∙◌, sym, subst, List}
-use Rattle.std.specs.Prelude.{Result, Ok, Err}
+use Rattle.std.specs.Prelude.{Ok, Err}
 use Rattle.desk_history.specs.declared.answer.Answer.{Answer}
 use Rattle.desk_history.specs.declared.call.Call.{Call}
-use Rattle.desk_store.specs.declared.store.StoreFault.{StoreFault}
 use Rattle.desk_store.specs.declared.store.StoreFault.TheVariants.{Unavailable}
 use Rattle.desk_core.specs.Applying.{Goes}
 use Rattle.desk_core.proofs.Runs.{Progress, onward, refused, stopped, ended, err_ran, none_left}
