@@ -24,12 +24,20 @@ pub(crate) enum PlanFault {
 }
 
 impl From<AllocError> for PlanFault {
+    ghost use Rattle.desk_cut.specs.declared.fault.PlanFault.TheVariants.{NoMemory};
+
+    ghost from_gives = { λ _ e. e ≡ NoMemory };
+
     fn from(_error: AllocError) -> PlanFault {
         PlanFault::NoMemory
     }
 }
 
 impl<T: Drop> From<AllocFailed<T>> for PlanFault {
+    ghost use Rattle.desk_cut.specs.declared.fault.PlanFault.TheVariants.{NoMemory};
+
+    ghost from_gives = { λ _ e. e ≡ NoMemory };
+
     fn from(_error: AllocFailed<T>) -> PlanFault {
         PlanFault::NoMemory
     }
