@@ -31,7 +31,8 @@ TwoDesks here there =
     → IsCalled here call identity key H (Of c r) a → IsCalled there other second second_key G (Of c r) b
     → part identity.odfi H c ≡ part second.odfi G c → AreAlike a b
 
--- A desk answers a company's request like a desk that serves no one else.
+-- A desk answers a company's request like a desk that serves no one else, where it sent at most 9,999,999
+-- entries and the company had fewer than 10^21 returns and changes.
 abbrev pub DeskAlone : {S T : Type 0} → (S → Book → Type 0) → (T → Book → Type 0) → Type 0
 DeskAlone here there =
     (call other : Call) (identity : Identity) (key second_key : List ℕ) (H : List Pair) (c : List ℕ) (r : Request) (a b : Result Answer StoreFault)

@@ -58,8 +58,8 @@ impl<S: Store> Desk<S> {
         respond(&mut self.store, alloc, call)
     }
 
-    /// Answers calls in their order. `Unavailable` where the store could not act on one of them: those
-    /// before it are done, and their answers are lost.
+    /// Answers calls in their order. `Unavailable` where memory was refused or the store could not act:
+    /// some of the first calls are then done, and their answers are lost.
     pub fn apply_all(&mut self, alloc: Global, calls: Vec<Call>) -> Result<Vec<Answer>, StoreFault>
         ensures before { S.is_clean self.new → S.is_clean self.old }
         ensures runs { S.is_clean self.new → Runs (S.holds self.old) calls.items result (S.holds self.new) }

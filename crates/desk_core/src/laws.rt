@@ -3,16 +3,18 @@ ghost use Rattle.desk_core.specs.Alike.{TwoDesks, DeskAlone};
 
 use desk_store::Store;
 
-/// Two desks, over any two kinds of stores, answer a company's call alike where their histories have the
-/// same part of it, whatever others did.
+/// Two desks, over any two kinds of stores, give a company's call the same answer where both stores could
+/// act and their histories have the same part of the company, whatever others did.
 pub fn two_desks<S: Store, T: Store>()
     ensures { TwoDesks S.holds T.holds }
 {
     desk_history::two_worlds();
 }
 
-/// A desk answers a company's call like the desk that serves it alone: one behind the history that
-/// `served_alone` gives, of the messages of this company and of what came back to it.
+/// A desk and one that serves the company alone give its call the same answer where both stores could
+/// act: one behind the history of `served_alone`, of the messages that gave the company its events. So it
+/// is where the whole desk sent at most 9,999,999 entries and the company had fewer than 10^21 returns and
+/// changes.
 pub fn desk_alone<S: Store, T: Store>()
     ensures { DeskAlone S.holds T.holds }
 {

@@ -16,7 +16,7 @@ fn debits(rt: &(impl Abort + Alloc<A = Global>), count: u32) -> String {
 }
 
 // The debits of a line settle; the first comes back, and then the second.
-fn two_of<'a>(
+fn two_returns<'a>(
     rt: &(impl Abort + Alloc<A = Global>),
     line: &'a str,
     submitted: &'a str,
@@ -50,7 +50,7 @@ fn two_of<'a>(
 #[test]
 fn one_of_two_hundred(rt: HostRuntime) {
     let line = debits(&rt, 200);
-    two_of(
+    two_returns(
         &rt,
         line.as_str(),
         "D order 1 entries 200 cents 200",
@@ -64,7 +64,7 @@ fn one_of_two_hundred(rt: HostRuntime) {
 #[test]
 fn two_of_399(rt: HostRuntime) {
     let line = debits(&rt, 399);
-    two_of(
+    two_returns(
         &rt,
         line.as_str(),
         "D order 1 entries 399 cents 399",
