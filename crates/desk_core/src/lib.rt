@@ -45,6 +45,3 @@ pub use desk_store::{
     ReturnedRow, SentRow, Store, StoreFault, Waiting,
 };
 pub use laws::{desk_alone, two_desks};
-
-#[cfg(test)]
-mod tests;

@@ -1,5 +1,5 @@
 -- What is written of the numbered submissions of a cut is what the cut writes.
-use Rattle.std.proofs.Common.{◌≡◌, ◌∙◌, ℕ, ◌+◌, suc, Bool, true, false, List, [], ◌∷◌, map, zip, length, drop, refl, sym, ap, length-append}
+use Rattle.std.proofs.Common.{◌≡◌, ◌∙◌, ℕ, ◌+◌, suc, Bool, true, false, List, [], ◌∷◌, ◌++◌, map, zip, length, drop, refl, sym, ap, length-append}
 use Rattle.std.specs.Prelude.{sum, sum_by, nat_le, if◌then◌else◌, Option, Some, None}
 use Rattle.std.specs.List.{flat_map, list_all, enumerate_from}
 use Rattle.std.proofs.lemmas.List.{length-map}
@@ -7,19 +7,22 @@ use Rattle.std.proofs.lemmas.List.FromFn.{length-enumerate_from}
 use Rattle.std.proofs.lemmas.List.Sums.{sum_by-cons}
 use Rattle.std.proofs.lemmas.Slice.Zip.{seconds-zip}
 use Rattle.desk_accounts.specs.Laws.{pairs}
+use Rattle.desk_accounts.specs.Posting.{cut_line}
 use Rattle.desk_plan.specs.declared.batch.Batch as plan
 use Rattle.desk_plan.specs.Files.{division}
 use Rattle.desk_plan.specs.Places.{most_files}
 use Rattle.desk_plan.specs.Reuse.{is_past}
 use Rattle.desk_plan.specs.Runs.{in_runs}
 use Rattle.desk_plan.specs.Sequences.{ranges, range_after}
+use Rattle.desk_rules.specs.Size.{total_of}
 use Rattle.desk_history.specs.Files.{files_from}
-use Rattle.desk_history.specs.Postings.{sending_line}
-use Rattle.desk_history.specs.Sending.{Sending, Batch, plan_of, batch_of, entries_in, sent_entries}
+use Rattle.desk_history.specs.Postings.{if_any, sending_line}
+use Rattle.desk_history.specs.Sending.{Sending, Batch, is_debit_sending, plan_of, batch_of, entries_in, sent_entries}
 use Rattle.desk_book.specs.OnCut.{CutFacts, sends, batches, files, ranges_after, sent_rows, file_row}
 use Rattle.desk_cut.specs.declared.numbers.Numbered.{Numbered}
 use Rattle.desk_cut.specs.declared.plan.CutPlan.{CutPlan}
-use Rattle.desk_cut.specs.Numbers.{IsNumbered, batches_in, write_of, done_of}
+use Rattle.desk_cut.specs.Numbers.{IsNumbered, line_by, batches_in, write_of, done_of}
+use Rattle.desk_cut.specs.Sent.{sending_in}
 use Rattle.desk_cut.specs.Plan.{MayTake, IsPlan, has_modifiers, plan_write}
 
 -- these are the submissions of a cut, with their sequences
@@ -97,6 +100,23 @@ files_counted x n sizes h is =
 pub modifiers_are : (x : CutFacts) (n : Numbered) (sizes : List ℕ) → IsOf x n → sizes ≡ map length (division n.loads.items) → has_modifiers x ≡ nat_le (x.made + length sizes) most_files
 modifiers_are x n sizes h is = ap (λ k. nat_le (x.made + k) most_files) (files_counted x n sizes h is)
 
+-- ---- the postings
+
+-- what a submission takes tells its total
+total_told : (is_debit : Bool) (total : ℕ) → (if is_debit then (if is_debit then total else 0) else (if is_debit then 0 else total)) ≡ total
+total_told true total = refl
+total_told false total = refl
+
+line_told : (s : Sending) → line_by (s, plan_of s) ≡ sending_line s
+line_told s = ap (λ cents. if_any cents (cut_line s.company.id (is_debit_sending s) cents s.settled s.content.reference)) (total_told (is_debit_sending s) (total_of (entries_in s)))
+
+lines_told : (ss : List Sending) → flat_map line_by (zip ss (map plan_of ss)) ≡ flat_map sending_line ss
+lines_told [] = refl
+lines_told (s ∷ ss) = λ i. line_told s i ++ lines_told ss i
+
+lines_are : (x : CutFacts) (n : Numbered) → IsOf x n → flat_map line_by (zip (map sending_in n.sent.items) n.loads.items) ≡ flat_map sending_line (sends x)
+lines_are x n h = (λ i. flat_map line_by (zip (h.sent i) (h.loads i))) ∙ lines_told (sends x)
+
 -- ---- the plan
 
 pub may_take : (x : CutFacts) (n : Numbered) (latest : List (Option ℕ)) (may : Bool) → IsOf x n → list_all (is_past x.day) latest ≡ may → MayTake x latest may
@@ -113,7 +133,7 @@ is_plan x n sizes p h is written done =
         sent = flat_map sent_rows (same i);
         lapsed = h.lapsed i;
         entries = flat_map sent_entries (batches_are x n h i);
-        postings = pairs (flat_map sending_line (h.sent i));
+        postings = pairs (lines_are x n h i);
         files = map (file_row x.identity) (same i);
       });
       done = done ∙ (λ i. record {

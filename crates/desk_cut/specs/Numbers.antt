@@ -1,14 +1,17 @@
 -- The sequences of what a cut sends, as the code keeps them.
-use Rattle.std.specs.Prelude.{◌≡◌, ⊤, ℕ, true, false, List, map, zip, length}
+use Rattle.std.specs.Prelude.{◌≡◌, ⊤, ℕ, true, false, List, map, zip, length, if◌then◌else◌}
 use Rattle.std.specs.List.{list_all, flat_map}
 use Rattle.desk_accounts.specs.Laws.{pairs}
+use Rattle.desk_accounts.specs.declared.posting.Posting.{Posting}
+use Rattle.desk_accounts.specs.Posting.{cut_line}
+use Rattle.desk_plan.specs.declared.batch.Batch as plan
 use Rattle.desk_plan.specs.Reuse.{is_past, latest_settled, may_send}
 use Rattle.desk_plan.specs.Sequences.{Sent, last_sequence, ranges_of, are_apart}
 use Rattle.desk_history.specs.declared.identity.Identity.{Identity}
 use Rattle.desk_history.specs.declared.operations.CutDone.{CutDone}
 use Rattle.desk_history.specs.Files.{File}
-use Rattle.desk_history.specs.Postings.{sending_line}
-use Rattle.desk_history.specs.Sending.{Sending, Batch, plan_of, batch_of, sent_entries}
+use Rattle.desk_history.specs.Postings.{if_any}
+use Rattle.desk_history.specs.Sending.{Sending, Batch, is_debit_sending, plan_of, batch_of, sent_entries}
 use Rattle.desk_store.specs.declared.store.Waiting.{Waiting}
 use Rattle.desk_store.specs.Steps.{CutWrite}
 use Rattle.desk_book.specs.OnCut.{sending, lapsing, ranges_after, sent_rows, file_row}
@@ -40,6 +43,12 @@ HasNoRanges day last ss fault = ⊤
 abbrev pub sends_in : Numbered → List Sending
 sends_in n = map sending_in n.sent.items
 
+-- the line of a submission, its total told by what it takes of a file
+abbrev pub line_by : Sending × plan.Batch → List Posting
+line_by x =
+    let cents = if is_debit_sending x.0 then x.1.debits else x.1.credits in
+    if_any cents (cut_line x.0.company.id (is_debit_sending x.0) cents x.0.settled x.0.content.reference)
+
 abbrev pub batches_in : Numbered → List Batch
 batches_in n = map batch_of (zip n.ranges.items (sends_in n))
 
@@ -49,7 +58,7 @@ write_of identity files n = record {
   sent = flat_map sent_rows files;
   lapsed = n.lapsed.items;
   entries = flat_map sent_entries (batches_in n);
-  postings = pairs (flat_map sending_line (sends_in n));
+  postings = pairs (flat_map line_by (zip (sends_in n) n.loads.items));
   files = map (file_row identity) files;
 }
 

@@ -76,11 +76,20 @@ fn push_entries(sent: &mut Vec<SentEntry>, batch: &Batch<'_>) -> Result<(), Plan
     Ok(())
 }
 
+/// How many entries the batches have.
+pub(crate) fn count_of(batches: &[Batch<'_>]) -> usize {
+    let mut count: usize = 0;
+    for batch in batches {
+        count = count.saturating_add(batch.waiting.row.content.entries.as_slice().len());
+    }
+    count
+}
+
 /// The entries of the batches, in the order of their sequences.
 pub(crate) fn entries_of(alloc: Global, batches: &[Batch<'_>]) -> Result<Vec<SentEntry>, PlanFault>
     ensures { IfOk result (λ entries. entries.items ≡ flat_map sent_entries (map batch_in batches.now)) }
 {
-    let mut entries = Vec::new(alloc);
+    let mut entries = Vec::with_capacity(alloc, count_of(batches))?;
     for batch in batches {
         push_entries(&mut entries, batch)?;
     }

@@ -88,7 +88,7 @@ fn write(
     let batches = batches_of(alloc, &numbered.sent, &numbered.ranges)?;
     let files = files_of(alloc, day, made, sizes, &batches)?;
     let entries = entries_of(alloc, &batches)?;
-    let postings = postings_of(alloc, &numbered.sent)?;
+    let postings = postings_of(alloc, &numbered.sent, &numbered.loads)?;
     let done = CutDone {
         day,
         entries: entries.len() as u64,

@@ -1,37 +1,45 @@
 //! What a cut posts.
-ghost use Rattle.std.specs.Prelude.{◌≡◌, ◌++◌, IfOk, OnOk, map};
+ghost use Rattle.std.specs.Prelude.{◌≡◌, ◌++◌, IfOk, OnOk, map, zip};
 ghost use Rattle.std.specs.List.{flat_map};
 ghost use Rattle.desk_accounts.specs.Laws.{pairs};
-ghost use Rattle.desk_history.specs.Postings.{sending_line};
+ghost use Rattle.desk_cut.specs.Numbers.{line_by};
 ghost use Rattle.desk_cut.specs.Sent.{sending_in};
 
 use crate::due::Sending;
-use crate::fault::PlanFault;
-use crate::loads::{cents_of, is_debit};
+use crate::loads::is_debit;
 use desk_accounts::{Posting, post_cut};
-use std::alloc::Global;
+use desk_plan::Batch;
+use std::alloc::{AllocError, Global};
 
-// Adds the two lines of a submission with money.
-fn push_lines(postings: &mut Vec<Posting>, sending: &Sending<'_>) -> Result<(), PlanFault>
-    ensures { OnOk result (postings.new.items ≡ postings.old.items ++ pairs (sending_line (sending_in sending.now))) }
+// Adds the two lines of a submission with money, by what it takes of a file.
+fn push_lines(
+    postings: &mut Vec<Posting>,
+    sending: &Sending<'_>,
+    load: &Batch,
+) -> Result<(), AllocError>
+    ensures { OnOk result (postings.new.items ≡ postings.old.items ++ pairs (line_by (sending_in sending.now, load.now))) }
 {
     let company = sending.waiting.company.id;
     let content = &sending.waiting.row.content;
-    let cents = cents_of(content.entries.as_slice())?;
     let debit = is_debit(content.direction);
+    let cents = if debit { load.debits } else { load.credits };
     if let Some(lines) = post_cut(company, debit, cents, sending.settled, content.reference) {
         postings.extend_from_slice(&lines)?;
     }
     Ok(())
 }
 
-/// The lines of what is sent, each with its opposite.
-pub(crate) fn postings_of(alloc: Global, sent: &[Sending<'_>]) -> Result<Vec<Posting>, PlanFault>
-    ensures { IfOk result (λ postings. postings.items ≡ pairs (flat_map sending_line (map sending_in sent.now))) }
+/// The lines of what is sent, each with its opposite, by what each submission takes.
+pub(crate) fn postings_of(
+    alloc: Global,
+    sent: &[Sending<'_>],
+    loads: &[Batch],
+) -> Result<Vec<Posting>, AllocError>
+    ensures { IfOk result (λ postings. postings.items ≡ pairs (flat_map line_by (zip (map sending_in sent.now) loads.now))) }
 {
     let mut postings = Vec::new(alloc);
-    for sending in sent {
-        push_lines(&mut postings, sending)?;
+    for (sending, load) in sent.iter().zip(loads) {
+        push_lines(&mut postings, sending, load)?;
     }
     Ok(postings)
 }

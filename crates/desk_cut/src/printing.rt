@@ -10,7 +10,7 @@ ghost use Rattle.desk_history.specs.Resolve.{sec_text};
 ghost use Rattle.desk_cut.specs.Plain.{plain_addenda, plain_entry, plain_batch};
 ghost use Rattle.desk_cut.specs.Sent.{batch_in, outgoing_as, outgoing_entries, outgoing_of};
 
-use crate::batches::{Batch, sequence_of};
+use crate::batches::{Batch, count_of, sequence_of};
 use crate::fault::PlanFault;
 use crate::loads::is_debit;
 use ach_fields::{Routing, ShortText, Trace};
@@ -96,7 +96,7 @@ fn outgoing_entries<'a>(
 ) -> Result<Vec<OutgoingEntry<'a>>, PlanFault>
     ensures { IfOk result (λ out. map plain_entry out.items ≡ flat_map (outgoing_entries odfi) (map batch_in batches.now)) }
 {
-    let mut outgoing = Vec::new(alloc);
+    let mut outgoing = Vec::with_capacity(alloc, count_of(batches))?;
     for batch in batches {
         push_outgoing(&mut outgoing, odfi, batch)?;
     }

@@ -1,8 +1,8 @@
 //! Companies, days, holidays, limits and submissions.
 use super::calls::COMPANY_DIGEST;
 use super::script::{BAKE, DAY, HOLIDAYS, MILL, OPERATOR_DIGEST, PAY_1, follow, holds, new_store};
-use crate::{Caller, Desk};
 use ach_fields::Id;
+use desk_core::{Caller, Desk};
 use std::test::Fail;
 
 // A repeated reference is answered as it was, or refused with other content.

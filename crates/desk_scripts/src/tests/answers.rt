@@ -1,9 +1,9 @@
 //! Answers in words.
-use crate::{
+use bank_days::Day;
+use desk_core::{
     Answer, ChangeRow, CutDone, DayRates, Done, Exposure, Found, Intake, Listed, Receipt, Refusal,
     ReturnRow, Settlement, Statement, SuspenseRow,
 };
-use bank_days::Day;
 use desk_rules::{EntryState, Rate};
 use std::alloc::Global;
 use std::fmt::Write;

@@ -1,8 +1,8 @@
 //! Scripts of calls and answers.
 use super::answers::words_of;
 use super::calls::call_of;
-use crate::{CutRows, Desk, FaultyStore, Identity, ListStore, SentEntry, Store};
 use ach_fields::{Routing, ShortText};
+use desk_core::{CutRows, Desk, FaultyStore, Identity, ListStore, SentEntry, Store};
 use std::alloc::Global;
 use std::process::Abort;
 

@@ -1,8 +1,8 @@
 //! Sequences at their end, and used again.
 use super::script::{HOLIDAYS, MILL, holds_behind};
-use crate::SentEntry;
 use ach_fields::{Cents, Id, Ref, Routing, ShortText};
 use bank_days::Day;
+use desk_core::SentEntry;
 use desk_rules::{AccountKind, Entry, SecCode};
 use std::process::Abort;
 

@@ -1,6 +1,6 @@
 //! Files that cuts make.
 use super::script::{DAY, HOLIDAYS, MILL, MOST_CALLS, PAY_1, PAY_2, follow, holds, new_store};
-use crate::{Desk, FaultyStore, Store};
+use desk_core::{Desk, FaultyStore, Store};
 use std::alloc::Global;
 use std::process::Abort;
 

@@ -1,8 +1,8 @@
 //! Calls from words: who calls, what is asked, and with what.
 use super::incoming::incoming;
-use crate::{Call, Listed};
 use ach_fields::{Id, Ref};
 use bank_days::Day;
+use desk_core::{Call, Listed};
 use desk_rules::{
     CompanyDraft, Draft, DraftText, EntryDraft, EntryDrafts, LimitDrafts, LimitsDraft, Optional,
     RetryDraft,
