@@ -17,7 +17,7 @@ use Rattle.ach_files.specs.Outgoing.{entry_rows, entry_fits, batch_fits, batch_r
 use Rattle.ach_records.proofs.Texts.{fit_in}
 use Rattle.ach_files.proofs.Pages.{fit_both, around_fit}
 
-either : (a b : Bool) → (a || b) ≡ false → (a ≡ false) × (b ≡ false)
+pub either : (a b : Bool) → (a || b) ≡ false → (a ≡ false) × (b ≡ false)
 either false b h = (refl, h)
 either true b h = absurd cc
 
@@ -54,7 +54,7 @@ file_row_fits : (c : FileControlText) → c.batches < 10 ^ 6 → c.blocks < 10 ^
 unfolding row_fits
 file_row_fits c p q r s t u = and_from _ _ (below _ _ p) (and_from _ _ (below _ _ q) (and_from _ _ (below _ _ r) (and_from _ _ (below _ _ s) (and_from _ _ (below _ _ t) (and_from _ _ (below _ _ u) refl)))))
 
-batch_rows_fit : (b : OutgoingBatch) → batch_fits b ≡ true → (sums_in b).count ≤ 999999 → (sums_in b).debits ≤ 999999999999 → (sums_in b).credits ≤ 999999999999 → AllFit (batch_rows b)
+pub batch_rows_fit : (b : OutgoingBatch) → batch_fits b ≡ true → (sums_in b).count ≤ 999999 → (sums_in b).debits ≤ 999999999999 → (sums_in b).credits ≤ 999999999999 → AllFit (batch_rows b)
 unfolding batch_fits batch_rows
 batch_rows_fit b h count debits credits =
     let p = and_parts _ _ h in

@@ -15,6 +15,7 @@ pub mod Outgoings
 pub mod Controls
 pub mod Pages
 pub mod Fits
+pub mod Printing
 pub mod Made
 pub mod Items
 pub mod Trip

@@ -7,6 +7,7 @@ pub mod Items
 pub mod Kept
 pub mod Layout
 pub mod Outgoing
+pub mod Printing
 pub mod RecordFault
 pub mod Returned
 pub mod SoFar

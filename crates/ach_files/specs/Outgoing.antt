@@ -157,6 +157,14 @@ is_large s = nat_lt 999999999999 s.debits || nat_lt 999999999999 s.credits
 abbrev pub is_long_batch : OutgoingBatch → Bool
 is_long_batch b = nat_lt 999999 (sums_in b).count
 
+-- what is wrong with a batch, whatever file it stands in
+unfoldable pub batch_fault : OutgoingBatch → Option PrintFault
+batch_fault b =
+    if not (batch_fits b) then Some faults.BadField
+    else if is_large (sums_in b) then Some faults.TotalTooLarge
+    else if is_long_batch b then Some faults.TooManyRecords
+    else None
+
 -- are there over 999,999 records in a batch, or batches or blocks in the file?
 unfoldable pub has_many : Outgoing → Bool
 has_many o = list_any is_long_batch o.batches.now || (nat_lt 999999 (length o.batches.now) || nat_lt 999999 (blocks (main_count o)))

@@ -35,7 +35,7 @@ pub use laws::{
     long_bytes_have_faults, one_file, printed_is_file, rows_have_texts,
 };
 pub use outgoing::{Addenda, Outgoing, OutgoingBatch, OutgoingEntry, PrintFault};
-pub use print::print_file;
+pub use print::{Printer, print_file};
 pub use read::read_file;
 pub use reader::Reader;
 pub use taken::Taken;

@@ -1,6 +1,10 @@
 //! A file that is to be printed.
+ghost use Rattle.std.specs.Prelude.{◌≡◌};
+ghost use Rattle.ach_files.specs.declared.outgoing.PrintFault.TheVariants.{NoMemory};
+
 use ach_fields::{Cents, Trace};
 use ach_records::{BatchHeaderText, Change98Text, FileHeaderText, Return99Text};
+use std::alloc::AllocError;
 
 /// What stands after an entry.
 #[derive(Clone, Copy)]
@@ -63,4 +67,12 @@ pub enum PrintFault {
     TooManyRecords = 3,
     /// Memory ran out.
     NoMemory = 4,
+}
+
+impl From<AllocError> for PrintFault {
+    ghost from_gives = { λ _ e. e ≡ NoMemory };
+
+    fn from(_error: AllocError) -> PrintFault {
+        PrintFault::NoMemory
+    }
 }

@@ -11,16 +11,20 @@ ghost use Rattle.ach_files.specs.Outgoing.{entry_of, addenda_rows, entry_rows, e
 
 mod fields;
 mod limits;
+mod measures;
 mod page;
+mod printer;
 mod records;
 mod totals;
 
 use crate::outgoing::{Outgoing, PrintFault};
 use fields::fits;
 use limits::has_many;
-use page::put_file;
+use measures::measure;
+use page::{put_file, room_of};
+pub use printer::Printer;
 use std::alloc::Global;
-use totals::{is_large, sums_of_batches};
+use totals::is_large;
 
 /// Prints a file: its records with an LF after each, then the fewest records of nines that make their
 /// number a multiple of ten. Nothing is printed where a fault is told.
@@ -29,17 +33,20 @@ pub fn print_file(alloc: Global, outgoing: &Outgoing) -> Result<Vec<u8>, PrintFa
         (λ text. (print_fault outgoing.now ≡ None) × (text.items ≡ printed_outgoing outgoing.now))
         (λ f. ((f ≡ faults.NoMemory) × (print_fault outgoing.now ≡ None)) ⊎ (print_fault outgoing.now ≡ Some f)) }
 {
-    if !fits(outgoing) {
+    let measures = measure(outgoing.batches);
+    if !fits(outgoing, measures.fit) {
         return Err(PrintFault::BadField);
     }
-    let sums = sums_of_batches(outgoing.batches);
+    let sums = measures.sums;
     if is_large(&sums) {
         return Err(PrintFault::TotalTooLarge);
     }
-    if has_many(outgoing, &sums) {
+    if has_many(outgoing, measures.is_any_long, &sums) {
         return Err(PrintFault::TooManyRecords);
     }
-    let mut text = Vec::new(alloc);
+    let Ok(mut text) = Vec::with_capacity(alloc, room_of(outgoing, &sums)) else {
+        return Err(PrintFault::NoMemory);
+    };
     match put_file(&mut text, outgoing, &sums) {
         Ok(()) => Ok(text),
         Err(_) => Err(PrintFault::NoMemory),

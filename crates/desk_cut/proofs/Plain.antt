@@ -1,19 +1,22 @@
 -- The printed text depends only on what the slices hold, and not on where they are.
-use Rattle.std.proofs.Common.{◌≡◌, ◌∙◌, ap, sym, refl, ℕ, ◌+◌, ◌*◌, List, [], ◌∷◌, ◌++◌, map, length}
-use Rattle.std.specs.Prelude.{sum_by, replicate}
-use Rattle.std.specs.List.{flat_map}
-use Rattle.std.proofs.lemmas.List.{length-map}
-use Rattle.std.proofs.lemmas.List.Sums.{sum_by-cons}
-use Rattle.ach_records.specs.Print.{row_text, entry_row, batch_header_row, batch_control_row, file_header_row, file_control_row}
+use Rattle.std.proofs.Common.{◌≡◌, ◌∙◌, ap, sym, refl, arith, ℕ, ◌+◌, ◌<◌, get_or, take, List, [], ◌∷◌, ◌++◌, map, length, suc, length-append, length-take-le}
+use Rattle.std.specs.Prelude.{sum_by, min}
+use Rattle.std.specs.List.{enumerate_from, flat_map}
+use Rattle.std.proofs.lemmas.List.{length-map, map-append, take_more}
+use Rattle.std.proofs.lemmas.List.Concat.{flat_map-append}
+use Rattle.std.proofs.lemmas.List.Sums.{sum_by-cons, sum_by_push}
+use Rattle.ach_records.specs.declared.print.FileHeaderText.{FileHeaderText}
+use Rattle.ach_records.specs.Print.{Value, row_text, entry_row, batch_header_row, batch_control_row, file_header_row}
 use Rattle.ach_files.specs.declared.outgoing.Addenda.{Addenda}
 use Rattle.ach_files.specs.declared.outgoing.Addenda.TheVariants as addendas
-use Rattle.ach_files.specs.declared.outgoing.Outgoing.{Outgoing}
 use Rattle.ach_files.specs.declared.outgoing.OutgoingBatch.{OutgoingBatch}
 use Rattle.ach_files.specs.declared.outgoing.OutgoingEntry.{OutgoingEntry}
-use Rattle.ach_files.specs.Outgoing.{entry_of, entry_rows, entry_count, batch_sums, file_sums, sums_in, sums_of, main_count, batch_control, file_control, batch_rows, outgoing_rows, page, fillers, printed_outgoing, addenda_rows, is_there, debit_cents, credit_cents}
-use Rattle.ach_files.specs.Structure.{nines}
-use Rattle.ach_files.specs.Totals.{low, blocks}
-use Rattle.desk_cut.specs.Plain.{plain_addenda, plain_entry, plain_batch, plain_file}
+use Rattle.ach_files.specs.declared.print.printer.Printer.{Printer}
+use Rattle.ach_files.specs.declared.sums.Sums.{Sums}
+use Rattle.ach_files.specs.Outgoing.{entry_of, entry_rows, entry_count, batch_sums, file_sums, sums_in, batch_control, batch_rows, kept, page, addenda_rows, is_there, debit_cents, credit_cents}
+use Rattle.ach_files.specs.Printing.{HasPrinted}
+use Rattle.ach_files.specs.Totals.{low}
+use Rattle.desk_cut.specs.Plain.{plain_addenda, plain_entry, plain_batch, plain_file_header}
 
 sum_by-same : {X : Type 0} (f : X → ℕ) (g : X → X) → ((x : X) → f (g x) ≡ f x) → (xs : List X) → sum_by f (map g xs) ≡ sum_by f xs
 sum_by-same f g same [] = refl
@@ -65,34 +68,62 @@ batch_same b = λ i.
 
 -- ---- a file
 
-file_sums_same : (o : Outgoing) → sums_of (plain_file o) ≡ sums_of o
+-- one batch behind others, by what its slices hold
+rows_with : (before : List OutgoingBatch) (b wanted : OutgoingBatch) → plain_batch b ≡ wanted → flat_map batch_rows (before ++ b ∷ []) ≡ flat_map batch_rows (before ++ wanted ∷ [])
+rows_with before b wanted is =
+    flat_map-append batch_rows before (b ∷ [])
+    ∙ (λ i. flat_map batch_rows before ++ ((sym (batch_same b) ∙ ap batch_rows is) i ++ []))
+    ∙ sym (flat_map-append batch_rows before (wanted ∷ []))
+
+sums_with : (before : List OutgoingBatch) (b wanted : OutgoingBatch) → plain_batch b ≡ wanted → file_sums (before ++ b ∷ []) ≡ file_sums (before ++ wanted ∷ [])
 unfolding file_sums
-file_sums_same o = λ i. record {
-  count = sum_by-same (λ (b : OutgoingBatch). (sums_in b).count) plain_batch (λ b i. (sums_same b i).count) o.batches.now i;
-  hash = sum_by-same (λ (b : OutgoingBatch). low (sums_in b).hash) plain_batch (λ b i. low (sums_same b i).hash) o.batches.now i;
-  debits = sum_by-same (λ (b : OutgoingBatch). (sums_in b).debits) plain_batch (λ b i. (sums_same b i).debits) o.batches.now i;
-  credits = sum_by-same (λ (b : OutgoingBatch). (sums_in b).credits) plain_batch (λ b i. (sums_same b i).credits) o.batches.now i;
+sums_with before b wanted is =
+    let same : sums_in b ≡ sums_in wanted = sym (sums_same b) ∙ ap sums_in is in
+    λ i. record {
+      count = with_last (λ (s : Sums). s.count) same i;
+      hash = with_last (λ (s : Sums). low s.hash) same i;
+      debits = with_last (λ (s : Sums). s.debits) same i;
+      credits = with_last (λ (s : Sums). s.credits) same i;
+    } where
+      with_last : (f : Sums → ℕ) → sums_in b ≡ sums_in wanted → sum_by (λ c. f (sums_in c)) (before ++ b ∷ []) ≡ sum_by (λ c. f (sums_in c)) (before ++ wanted ∷ [])
+      with_last f same =
+          sum_by_push (λ (c : OutgoingBatch). f (sums_in c)) before b
+          ∙ ap (λ (s : Sums). sum_by (λ c. f (sums_in c)) before + f s) same
+          ∙ sym (sum_by_push (λ (c : OutgoingBatch). f (sums_in c)) before wanted)
+
+-- where what the slices of a batch hold is this, this one was printed
+pub same_printed : (p : Printer) (header : FileHeaderText) (before : List OutgoingBatch) (b wanted : OutgoingBatch) → plain_batch b ≡ wanted
+    → HasPrinted p header (before ++ b ∷ []) → HasPrinted p header (before ++ wanted ∷ [])
+same_printed p header before b wanted is h = record {
+  text = h.text ∙ ap (λ (rows : List (List Value)). page (map row_text (file_header_row header ∷ rows))) (rows_with before b wanted is);
+  count = h.count ∙ ap (λ n. min n 1000000) (length-append before (b ∷ []) ∙ sym (length-append before (wanted ∷ [])));
+  sums = h.sums ∙ ap kept (sums_with before b wanted is);
 }
 
-count_same : (o : Outgoing) → main_count (plain_file o) ≡ main_count o
-unfolding main_count
-count_same o = λ i. 2 + 2 * length-map o.batches.now plain_batch i + (file_sums_same o i).count
-
-control_same : (o : Outgoing) → file_control (plain_file o) ≡ file_control o
-control_same o = λ i. record {
-  batches = length-map o.batches.now plain_batch i;
-  blocks = blocks (count_same o i);
-  count = (file_sums_same o i).count;
-  hash = low (file_sums_same o i).hash;
-  debits = (file_sums_same o i).debits;
-  credits = (file_sums_same o i).credits;
+-- nor does the header
+pub header_same : (p : Printer) (header wanted : FileHeaderText) (batches : List OutgoingBatch) → plain_file_header header ≡ wanted
+    → HasPrinted p header batches → HasPrinted p wanted batches
+header_same p header wanted batches is h = record {
+  text = h.text ∙ ap (λ (w : FileHeaderText). page (map row_text (file_header_row w ∷ flat_map batch_rows batches))) is;
+  count = h.count;
+  sums = h.sums;
 }
 
-outgoing_same : (o : Outgoing) → outgoing_rows (plain_file o) ≡ outgoing_rows o
-unfolding outgoing_rows
-outgoing_same o = λ i.
-    file_header_row o.header ∷ flat_map-same batch_rows plain_batch batch_same o.batches.now i ++ file_control_row (control_same o i) ∷ []
+-- ---- numbered batches
 
--- where what the slices hold is this, the text is this one's
-pub printed_same : (o wanted : Outgoing) → plain_file o ≡ wanted → printed_outgoing o ≡ printed_outgoing wanted
-printed_same o wanted is = (λ i. page (map row_text (sym (outgoing_same o) i) ++ replicate (fillers (sym (count_same o) i)) nines)) ∙ ap printed_outgoing is
+pub numbered : {X Y : Type 0} (g : ℕ × X → Y) (n : ℕ) (xs : List X) (x : X) → map g (enumerate_from n (xs ++ x ∷ [])) ≡ map g (enumerate_from n xs) ++ g (n + length xs, x) ∷ []
+numbered {X} {Y} g n [] x = let here : n ≡ n + 0 = omega arith in ap (λ k. g (k, x) ∷ []) here
+numbered {X} {Y} g n (y ∷ xs) x =
+    let here : n + 1 + length xs ≡ n + suc (length xs) = omega arith in
+    ap (λ (l : List Y). g (n, y) ∷ l) (numbered g (n + 1) xs x ∙ ap (λ k. map g (enumerate_from (n + 1) xs) ++ g (k, x) ∷ []) here)
+
+-- one batch more
+pub numbered_more : {X Z Y : Type 0} (g : ℕ × Z → Y) (f : X → Z) (xs : List X) (i : ℕ) (x : X) → i < length xs → x ≡ get_or xs i x
+    → map g (enumerate_from 1 (map f (take i xs))) ++ g (i + 1, f x) ∷ [] ≡ map g (enumerate_from 1 (map f (take (i + 1) xs)))
+numbered_more {X} {Z} {Y} g f xs i x more is =
+    let count : 1 + length (map f (take i xs)) ≡ i + 1 = let taken : length (take i xs) ≡ i = length-take-le i xs (omega (arith, more)) in let mapped = length-map (take i xs) f in omega arith in
+    let next : map f (take (i + 1) xs) ≡ map f (take i xs) ++ f x ∷ [] =
+    ap (map f) (take_more xs i x more) ∙ map-append f (take i xs) (get_or xs i x ∷ []) ∙ ap (λ (y : X). map f (take i xs) ++ f y ∷ []) (sym is) in
+    ap (λ k. map g (enumerate_from 1 (map f (take i xs))) ++ g (k, f x) ∷ []) (sym count)
+    ∙ sym (numbered g 1 (map f (take i xs)) (f x))
+    ∙ ap (λ (l : List Z). map g (enumerate_from 1 l)) (sym next)

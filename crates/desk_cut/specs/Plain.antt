@@ -5,7 +5,6 @@ use Rattle.ach_records.specs.declared.print.BatchHeaderText.{BatchHeaderText}
 use Rattle.ach_records.specs.declared.print.FileHeaderText.{FileHeaderText}
 use Rattle.ach_files.specs.declared.outgoing.Addenda.{Addenda}
 use Rattle.ach_files.specs.declared.outgoing.Addenda.TheVariants as addendas
-use Rattle.ach_files.specs.declared.outgoing.Outgoing.{Outgoing}
 use Rattle.ach_files.specs.declared.outgoing.OutgoingBatch.{OutgoingBatch}
 use Rattle.ach_files.specs.declared.outgoing.OutgoingEntry.{OutgoingEntry}
 use Rattle.desk_history.specs.Files.{lent}
@@ -41,6 +40,3 @@ plain_file_header h = record h {
   destination_name = lent h.destination_name.now;
   origin_name = lent h.origin_name.now;
 }
-
-abbrev pub plain_file : Outgoing → Outgoing
-plain_file o = record { header = plain_file_header o.header; batches = lent (map plain_batch o.batches.now) }

@@ -1,10 +1,6 @@
 -- What the code keeps of what a cut sends, as the definitions have it.
-use Rattle.std.specs.Prelude.{ℕ, List, map, None}
-use Rattle.ach_files.specs.declared.outgoing.Outgoing.{Outgoing}
-use Rattle.ach_files.specs.declared.outgoing.OutgoingBatch.{OutgoingBatch}
+use Rattle.std.specs.Prelude.{ℕ, List, map}
 use Rattle.ach_files.specs.declared.outgoing.OutgoingEntry.{OutgoingEntry}
-use Rattle.bank_days.specs.Day.{day_ymd}
-use Rattle.desk_history.specs.declared.identity.Identity.{Identity}
 use Rattle.ach_fields.specs.Routing.{dfi_of, digit_at}
 use Rattle.desk_rules.specs.declared.submission.Entry.{Entry}
 use Rattle.desk_history.specs.Files.{lent, payment, transaction_of, outgoing_entry}
@@ -45,18 +41,3 @@ outgoing_as b trace e = record {
 -- the entries of a batch as they are printed
 abbrev pub outgoing_entries : List ℕ → history.Batch → List OutgoingEntry
 outgoing_entries odfi b = map (outgoing_entry odfi) (history.sent_entries b)
-
--- a file as it is printed
-abbrev pub outgoing_of : Identity → ℕ → List ℕ → List OutgoingBatch → Outgoing
-outgoing_of identity day modifier batches = record {
-  header = record {
-    destination = identity.destination;
-    origin = identity.odfi;
-    date = day_ymd day;
-    time = None;
-    modifier = lent modifier;
-    destination_name = lent identity.destination_name;
-    origin_name = lent identity.odfi_name;
-  };
-  batches = lent batches;
-}

@@ -76,8 +76,8 @@ fn push_entries(sent: &mut Vec<SentEntry>, batch: &Batch<'_>) -> Result<(), Plan
     Ok(())
 }
 
-/// How many entries the batches have.
-pub(crate) fn count_of(batches: &[Batch<'_>]) -> usize {
+// How many entries the batches have.
+fn count_of(batches: &[Batch<'_>]) -> usize {
     let mut count: usize = 0;
     for batch in batches {
         count = count.saturating_add(batch.waiting.row.content.entries.as_slice().len());

@@ -1,6 +1,7 @@
 ghost use Rattle.std.specs.Prelude.{◌≡◌};
 ghost use Rattle.desk_cut.specs.Faults.{fault_of};
 
+use ach_files::PrintFault;
 use std::alloc::{AllocError, AllocFailed};
 
 /// Why a cut is not planned.
@@ -40,6 +41,19 @@ impl<T: Drop> From<AllocFailed<T>> for PlanFault {
 
     fn from(_error: AllocFailed<T>) -> PlanFault {
         PlanFault::NoMemory
+    }
+}
+
+impl From<PrintFault> for PlanFault {
+    ghost use Rattle.desk_cut.specs.Faults.{print_fault_of};
+
+    ghost from_gives = { λ fault e. e ≡ print_fault_of fault };
+
+    fn from(fault: PrintFault) -> PlanFault {
+        match fault {
+            PrintFault::NoMemory => PlanFault::NoMemory,
+            _ => PlanFault::Unprintable,
+        }
     }
 }
 

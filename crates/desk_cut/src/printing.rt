@@ -1,25 +1,27 @@
 //! The text of a file that a cut makes.
-ghost use Rattle.std.specs.Prelude.{◌≡◌, ◌≤◌, ◌+◌, ◌++◌, IfOk, OnOk, length, map};
-ghost use Rattle.std.specs.List.{enumerate_from, flat_map};
+ghost use Rattle.std.specs.Prelude.{◌≡◌, ◌≤◌, ◌+◌, ◌++◌, ◌∷◌, [], List, IfOk, OnOk, length, map};
+ghost use Rattle.std.specs.List.{enumerate_from};
 ghost use Rattle.ach_fields.specs.Routing.{dfi_of};
 ghost use Rattle.ach_fields.specs.Trace.{trace_text};
-ghost use Rattle.ach_files.specs.Outgoing.{printed_outgoing};
+ghost use Rattle.ach_records.specs.declared.print.FileHeaderText.{FileHeaderText};
+ghost use Rattle.ach_files.specs.declared.outgoing.OutgoingBatch.{OutgoingBatch};
+ghost use Rattle.ach_files.specs.Printing.{HasPrinted};
 ghost use Rattle.desk_plan.specs.Files.{most_batches};
 ghost use Rattle.desk_history.specs.Files.{payment, transaction_of, outgoing_batch, text_of};
 ghost use Rattle.desk_history.specs.Resolve.{sec_text};
-ghost use Rattle.desk_cut.specs.Plain.{plain_addenda, plain_entry, plain_batch};
-ghost use Rattle.desk_cut.specs.Sent.{batch_in, outgoing_as, outgoing_entries, outgoing_of};
+ghost use Rattle.desk_cut.specs.Plain.{plain_addenda, plain_entry, plain_batch_header};
+ghost use Rattle.desk_cut.specs.Sent.{batch_in, outgoing_as, outgoing_entries};
 
-use crate::batches::{Batch, count_of, sequence_of};
+use crate::batches::{Batch, sequence_of};
 use crate::fault::PlanFault;
 use crate::loads::is_debit;
 use ach_fields::{Routing, ShortText, Trace};
-use ach_files::{Addenda, Outgoing, OutgoingBatch, OutgoingEntry, PrintFault, print_file};
+use ach_files::{Addenda, OutgoingBatch, OutgoingEntry, Printer};
 use ach_records::{BatchHeaderText, FileHeaderText};
 use bank_days::Day;
 use desk_history::Identity;
 use desk_rules::{AccountKind, Entry, SecCode};
-use std::alloc::{AllocError, Global};
+use std::alloc::Global;
 
 // 22 or 27 for checking, 32 or 37 for savings, one more for a prenote.
 fn transaction_of(debit: bool, entry: &Entry) -> u8
@@ -71,34 +73,19 @@ fn outgoing_entry<'a>(batch: &Batch<'_>, entry: &'a Entry, trace: Trace) -> Outg
     }
 }
 
-// Adds a batch's entries.
-fn push_outgoing<'a>(
-    outgoing: &mut Vec<OutgoingEntry<'a>>,
-    odfi: Routing,
-    batch: &Batch<'a>,
-) -> Result<(), PlanFault>
-    ensures { OnOk result (map plain_entry outgoing.new.items ≡ map plain_entry outgoing.old.items ++ outgoing_entries odfi (batch_in batch.now)) }
-{
-    let waiting = batch.waiting;
-    let entries = waiting.row.content.entries.as_slice();
-    for (index, entry) in entries.iter().enumerate() {
-        let trace = trace_of(odfi, batch, index as u64)?;
-        outgoing.extend_from_slice(&[outgoing_entry(batch, entry, trace)])?;
-    }
-    Ok(())
-}
-
-// The entries of all batches.
+// The entries of a batch.
 fn outgoing_entries<'a>(
     alloc: Global,
     odfi: Routing,
-    batches: &[Batch<'a>],
+    batch: &Batch<'a>,
 ) -> Result<Vec<OutgoingEntry<'a>>, PlanFault>
-    ensures { IfOk result (λ out. map plain_entry out.items ≡ flat_map (outgoing_entries odfi) (map batch_in batches.now)) }
+    ensures { IfOk result (λ out. map plain_entry out.items ≡ outgoing_entries odfi (batch_in batch.now)) }
 {
-    let mut outgoing = Vec::with_capacity(alloc, count_of(batches))?;
-    for batch in batches {
-        push_outgoing(&mut outgoing, odfi, batch)?;
+    let entries = batch.waiting.row.content.entries.as_slice();
+    let mut outgoing = Vec::with_capacity(alloc, entries.len())?;
+    for (index, entry) in entries.iter().enumerate() {
+        let trace = trace_of(odfi, batch, index as u64)?;
+        outgoing.extend_from_slice(&[outgoing_entry(batch, entry, trace)])?;
     }
     Ok(outgoing)
 }
@@ -112,19 +99,13 @@ fn sec_text(sec: SecCode) -> &'static [u8]
     }
 }
 
-// A batch with its number and its entries: 220 for credits, 225 for debits.
-fn outgoing_batch<'a>(
-    odfi: Routing,
-    number: u32,
-    batch: &Batch<'a>,
-    entries: &'a [OutgoingEntry<'a>],
-) -> OutgoingBatch<'a>
-    requires { map plain_entry entries.now ≡ outgoing_entries odfi (batch_in batch.now) }
-    ensures { plain_batch result ≡ outgoing_batch odfi (number, batch_in batch.now) }
+// The header of a batch with its number: 220 for credits, 225 for debits.
+fn batch_header<'a>(odfi: Routing, number: u32, batch: &Batch<'a>) -> BatchHeaderText<'a>
+    ensures { plain_batch_header result ≡ (outgoing_batch odfi (number, batch_in batch.now)).header }
 {
     let waiting = batch.waiting;
     let content = &waiting.row.content;
-    let header = BatchHeaderText {
+    BatchHeaderText {
         service_class: if is_debit(content.direction) {
             225
         } else {
@@ -138,56 +119,54 @@ fn outgoing_batch<'a>(
         settlement: None,
         odfi: odfi.dfi(),
         number,
-    };
-    OutgoingBatch { header, entries }
+    }
 }
 
-// The batches, numbered from 1, with their entries.
-fn outgoing_batches<'a>(
-    alloc: Global,
+// Prints a batch with its number and its entries.
+fn print_batch<'a>(
+    printer: &mut Printer,
     odfi: Routing,
-    batches: &[Batch<'a>],
+    number: u32,
+    batch: &Batch<'a>,
     entries: &'a [OutgoingEntry<'a>],
-) -> Result<Vec<OutgoingBatch<'a>>, AllocError>
-    requires few { length batches.now ≤ most_batches }
-    requires entries { map plain_entry entries.now ≡ flat_map (outgoing_entries odfi) (map batch_in batches.now) }
-    ensures { IfOk result (λ out. map plain_batch out.items ≡ map (outgoing_batch odfi) (enumerate_from 1 (map batch_in batches.now))) }
+) -> Result<(), PlanFault>
+    requires { map plain_entry entries.now ≡ outgoing_entries odfi (batch_in batch.now) }
+    ensures { (header : FileHeaderText) (before : List OutgoingBatch) → HasPrinted printer.old header before → OnOk result (HasPrinted printer.new header (before ++ outgoing_batch odfi (number, batch_in batch.now) ∷ [])) }
 {
-    let mut outgoing = Vec::new(alloc);
-    let mut from = 0;
-    for (index, batch) in batches.iter().enumerate() {
-        let to = from + batch.waiting.row.content.entries.as_slice().len();
-        let own = &entries[from..to];
-        outgoing.extend_from_slice(&[outgoing_batch(odfi, index as u32 + 1, batch, own)])?;
-        from = to;
-    }
-    Ok(outgoing)
+    let header: BatchHeaderText<'a> = batch_header(odfi, number, batch);
+    printer.put(&OutgoingBatch { header, entries })?;
+    Ok(())
 }
 
-// The text of a file with these batches.
-fn print<'a>(
+// Lays a batch out and prints it.
+fn put_batch(
     alloc: Global,
-    identity: &'a Identity,
-    day: Day,
-    modifier: &'a [u8],
-    batches: &'a [OutgoingBatch<'a>],
-) -> Result<Vec<u8>, PlanFault>
-    ensures { IfOk result (λ text. text.items ≡ printed_outgoing (outgoing_of identity.now day modifier.now (map plain_batch batches.now))) }
+    printer: &mut Printer,
+    odfi: Routing,
+    number: u32,
+    batch: &Batch<'_>,
+) -> Result<(), PlanFault>
+    ensures { (header : FileHeaderText) (before : List OutgoingBatch) → HasPrinted printer.old header before → OnOk result (HasPrinted printer.new header (before ++ outgoing_batch odfi (number, batch_in batch.now) ∷ [])) }
 {
-    let header = FileHeaderText {
-        destination: identity.destination,
-        origin: identity.odfi,
-        date: day.ymd(),
-        time: None,
-        modifier,
-        destination_name: identity.destination_name.bytes(),
-        origin_name: identity.odfi_name.bytes(),
-    };
-    match print_file(alloc, &Outgoing { header, batches }) {
-        Ok(text) => Ok(text),
-        Err(PrintFault::NoMemory) => Err(PlanFault::NoMemory),
-        Err(_) => Err(PlanFault::Unprintable),
+    let entries = outgoing_entries(alloc, odfi, batch)?;
+    // Lent again, since the entries live shorter than what the batch lends.
+    print_batch(printer, odfi, number, &*batch, &entries)
+}
+
+// Prints the batches, numbered from 1.
+fn put_batches(
+    alloc: Global,
+    printer: &mut Printer,
+    odfi: Routing,
+    batches: &[Batch<'_>],
+) -> Result<(), PlanFault>
+    requires { length batches.now ≤ most_batches }
+    ensures { (header : FileHeaderText) → HasPrinted printer.old header [] → OnOk result (HasPrinted printer.new header (map (outgoing_batch odfi) (enumerate_from 1 (map batch_in batches.now)))) }
+{
+    for (index, batch) in batches.iter().enumerate() {
+        put_batch(alloc, printer, odfi, index as u32 + 1, batch)?;
     }
+    Ok(())
 }
 
 /// The text of the file of a day with this modifier and these batches.
@@ -201,9 +180,17 @@ pub(crate) fn text_of(
     requires { length batches.now ≤ most_batches }
     ensures { IfOk result (λ text. text.items ≡ text_of identity.now (record { day = day; modifier = modifier; batches = map batch_in batches.now })) }
 {
-    let entries = outgoing_entries(alloc, identity.odfi, batches)?;
-    // Lent again, since the entries live shorter than what the batches lend.
-    let batches = outgoing_batches(alloc, identity.odfi, &*batches, &entries)?;
     let modifiers = [modifier];
-    print(alloc, identity, day, &modifiers, &batches)
+    let header = FileHeaderText {
+        destination: identity.destination,
+        origin: identity.odfi,
+        date: day.ymd(),
+        time: None,
+        modifier: &modifiers,
+        destination_name: identity.destination_name.bytes(),
+        origin_name: identity.odfi_name.bytes(),
+    };
+    let mut printer = Printer::new(alloc, &header)?;
+    put_batches(alloc, &mut printer, identity.odfi, batches)?;
+    Ok(printer.finish()?)
 }

@@ -41,21 +41,17 @@ fn fit_entries(entries: &[OutgoingEntry]) -> bool
 }
 
 #[tactic(auto, unfolding(crate::specs::Outgoing::batch_fits))]
-fn fits_batch(batch: &OutgoingBatch) -> bool
+pub fn fits_batch(batch: &OutgoingBatch) -> bool
     ensures { result ≡ batch_fits batch.now }
 {
     has_text(batch_header_record(&batch.header)) && fit_entries(batch.entries)
 }
 
-fn fit_batches(batches: &[OutgoingBatch]) -> bool
-    ensures { result ≡ list_all batch_fits batches.now }
-{
-    batches.iter().all(|batch| fits_batch(batch))
-}
-
+/// By whether each field of the batches has a text.
 #[tactic(auto, unfolding(crate::specs::Outgoing::fields_fit))]
-pub fn fits(outgoing: &Outgoing) -> bool
+pub fn fits(outgoing: &Outgoing, batches_fit: bool) -> bool
+    requires { batches_fit ≡ list_all batch_fits outgoing.now.batches.now }
     ensures { result ≡ fields_fit outgoing.now }
 {
-    has_text(file_header_record(&outgoing.header)) && fit_batches(outgoing.batches)
+    has_text(file_header_record(&outgoing.header)) && batches_fit
 }

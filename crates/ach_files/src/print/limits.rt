@@ -10,28 +10,16 @@ ghost use Rattle.ach_files.specs.declared.outgoing.PrintFault.TheVariants as fau
 ghost use Rattle.ach_files.specs.Outgoing.{entry_of, addenda_rows, entry_rows, entry_sums, batch_sums, file_sums, sums_in, sums_of, batch_control, file_control, batch_rows, outgoing_rows, page, printed_outgoing, fillers, main_count, entry_fits, batch_fits, fields_fit, has_many, is_long_batch, is_large, print_fault, kept, most, IsText, Puts, AllFit};
 
 use super::records::blocks_of;
-use super::totals::sums_of_entries;
-use crate::outgoing::{Outgoing, OutgoingBatch};
+use crate::outgoing::Outgoing;
 use crate::sums::Sums;
 
-fn is_long(batch: &OutgoingBatch) -> bool
-    ensures { result ≡ is_long_batch batch.now }
-{
-    sums_of_entries(batch.entries).count > 999_999
-}
-
-fn is_any_long(batches: &[OutgoingBatch]) -> bool
-    ensures { result ≡ list_any is_long_batch batches.now }
-{
-    batches.iter().any(|batch| is_long(batch))
-}
-
 #[tactic(auto, unfolding(crate::specs::Outgoing::has_many))]
-pub fn has_many(outgoing: &Outgoing, sums: &Sums) -> bool
-    requires { sums.now ≡ kept (sums_of outgoing.now) }
+pub fn has_many(outgoing: &Outgoing, is_any_long: bool, sums: &Sums) -> bool
+    requires long { is_any_long ≡ list_any is_long_batch outgoing.now.batches.now }
+    requires sums { sums.now ≡ kept (sums_of outgoing.now) }
     ensures { result ≡ has_many outgoing.now }
 {
-    if is_any_long(outgoing.batches) {
+    if is_any_long {
         return true;
     }
     if outgoing.batches.len() > 999_999 {

@@ -17,7 +17,7 @@ use crate::outgoing::{Addenda, Outgoing, OutgoingBatch, OutgoingEntry};
 use crate::sums::Sums;
 use std::alloc::AllocError;
 
-fn put(out: &mut Vec<u8>, text: &[u8; 94]) -> Result<(), AllocError>
+pub fn put(out: &mut Vec<u8>, text: &[u8; 94]) -> Result<(), AllocError>
     ensures { OnOk result (out.new.items ≡ out.old.items ++ (text.now ++ 10 ∷ [])) }
 {
     out.extend_from_slice(text.as_slice())?;
@@ -65,7 +65,7 @@ fn put_entries(out: &mut Vec<u8>, entries: &[OutgoingEntry]) -> Result<(), Alloc
     Ok(())
 }
 
-fn put_batch(out: &mut Vec<u8>, batch: &OutgoingBatch) -> Result<(), AllocError>
+pub fn put_batch(out: &mut Vec<u8>, batch: &OutgoingBatch) -> Result<(), AllocError>
     requires { AllFit (batch_rows batch.now) }
     ensures { OnOk result (Puts out.old.items out.new.items (batch_rows batch.now)) }
 {
@@ -97,7 +97,7 @@ fn put_rows(out: &mut Vec<u8>, outgoing: &Outgoing, sums: &Sums) -> Result<(), A
     Ok(())
 }
 
-fn put_fillers(out: &mut Vec<u8>, count: u64) -> Result<(), AllocError>
+pub fn put_fillers(out: &mut Vec<u8>, count: u64) -> Result<(), AllocError>
     ensures { OnOk result (out.new.items ≡ out.old.items ++ page (replicate count nines)) }
 {
     for _ in 0..count {
@@ -112,6 +112,14 @@ fn fillers(outgoing: &Outgoing, sums: &Sums) -> u64
     ensures { let n = 2 + 2 * length outgoing.now.batches.now + sums.now.count in result ≡ fillers n }
 {
     blocks_of(outgoing, sums) * 10 - main_count(outgoing, sums)
+}
+
+/// How many bytes the blocks of a file have, each of ten records with their LF.
+pub fn room_of(outgoing: &Outgoing, sums: &Sums) -> usize
+    requires few { length outgoing.now.batches.now ≤ 999999 }
+    requires sums { sums.now ≡ kept (sums_of outgoing.now) }
+{
+    blocks_of(outgoing, sums).saturating_mul(950) as usize
 }
 
 pub fn put_file(out: &mut Vec<u8>, outgoing: &Outgoing, sums: &Sums) -> Result<(), AllocError>

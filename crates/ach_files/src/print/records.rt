@@ -19,7 +19,7 @@ use ach_records::{
     print_file_control, print_file_header, print_return99,
 };
 
-fn record_of(outcome: Result<(), FieldFault>, text: [u8; 94]) -> Option<[u8; 94]>
+pub fn record_of(outcome: Result<(), FieldFault>, text: [u8; 94]) -> Option<[u8; 94]>
     ensures { (old : List ℕ) (values : List Value) → Prints outcome old text values → IsText result values }
 {
     match outcome {

@@ -9,7 +9,7 @@ ghost use Rattle.ach_files.specs.declared.sums.Sums.{Sums};
 ghost use Rattle.ach_files.specs.declared.outgoing.PrintFault.TheVariants as faults;
 ghost use Rattle.ach_files.specs.Outgoing.{entry_of, addenda_rows, entry_rows, entry_sums, batch_sums, file_sums, sums_in, sums_of, batch_control, file_control, batch_rows, outgoing_rows, page, printed_outgoing, fillers, main_count, entry_fits, batch_fits, fields_fit, has_many, is_long_batch, is_large, print_fault, kept, most, IsText, Puts, AllFit};
 
-use crate::outgoing::{Addenda, OutgoingBatch, OutgoingEntry};
+use crate::outgoing::{Addenda, OutgoingEntry};
 use crate::sums::{NO_SUMS, Sums};
 
 const MOST: u64 = 1_000_000_000_000;
@@ -25,7 +25,7 @@ fn add_up(a: u64, b: u64) -> u64
 }
 
 #[tactic(auto, using(crate::proofs::Outgoings::kept_added))]
-fn add_sums(a: Sums, b: Sums) -> Sums
+pub fn add_sums(a: Sums, b: Sums) -> Sums
     ensures { (x y : Sums) → a ≡ kept x → b ≡ kept y → result ≡ kept (added x y) }
 {
     Sums {
@@ -76,16 +76,6 @@ pub fn sums_of_entries(entries: &[OutgoingEntry]) -> Sums
     let mut sums = NO_SUMS;
     for entry in entries {
         sums = add_sums(sums, sums_of_entry(entry));
-    }
-    sums
-}
-
-pub fn sums_of_batches(batches: &[OutgoingBatch]) -> Sums
-    ensures { result ≡ kept (file_sums batches.now) }
-{
-    let mut sums = NO_SUMS;
-    for batch in batches {
-        sums = add_sums(sums, sums_of_entries(batch.entries));
     }
     sums
 }

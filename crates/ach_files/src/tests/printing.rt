@@ -1,7 +1,8 @@
 //! Files that are printed.
 use super::samples::{RETURNED, SENT, lines, read};
 use crate::{
-    Addenda, Outgoing, OutgoingBatch, OutgoingEntry, PrintFault, Reply, print_file, read_file,
+    Addenda, Outgoing, OutgoingBatch, OutgoingEntry, PrintFault, Printer, Reply, print_file,
+    read_file,
 };
 use ach_fields::{Cents, FieldFault, Routing, Trace, Ymd};
 use ach_records::{BatchHeaderText, Change98Text, FileHeaderText, Return99Text};
@@ -82,6 +83,30 @@ fn returns<'a>(
     Ok(entries)
 }
 
+// A file batch by batch.
+fn print_batches(rt: &HostRuntime, file: &Outgoing) -> Result<Vec<u8>, PrintFault> {
+    let mut printer = Printer::new(rt.alloc(), &file.header)?;
+    for batch in file.batches {
+        printer.put(batch)?;
+    }
+    printer.finish()
+}
+
+// A file printed both ways. Where they do not come to the same it is a fault that no test wants.
+fn printed(rt: &HostRuntime, file: &Outgoing) -> Result<Vec<u8>, PrintFault> {
+    let whole = print_file(rt.alloc(), file);
+    let is_same = match (&whole, &print_batches(rt, file)) {
+        (Ok(whole), Ok(batches)) => whole.as_slice() == batches.as_slice(),
+        (Err(whole), Err(batches)) => whole == batches,
+        _ => false,
+    };
+    if is_same {
+        whole
+    } else {
+        Err(PrintFault::NoMemory)
+    }
+}
+
 // A file of one batch that is sent.
 fn print_sent(
     rt: &HostRuntime,
@@ -113,7 +138,7 @@ fn print_sent(
         },
         batches: &batches,
     };
-    Ok(print_file(rt.alloc(), &file))
+    Ok(printed(rt, &file))
 }
 
 #[test]
@@ -141,7 +166,7 @@ fn print_incoming(
         },
         batches,
     };
-    Ok(print_file(rt.alloc(), &file))
+    Ok(printed(rt, &file))
 }
 
 fn print_returned(
@@ -329,5 +354,45 @@ fn no_batch(rt: HostRuntime) -> Result<(), Fail> {
     let text = print_incoming(&rt, &[])??;
     assert_eq!(rt; text.len(), 950);
     assert_eq!(rt; read(&rt, &text), Ok(0));
+    Ok(())
+}
+
+// Two batches of so many entries of the largest amount each.
+fn print_two(rt: &HostRuntime, count: usize) -> Result<Result<usize, PrintFault>, Fail> {
+    let entries = sent_entries(rt, count, b"ANN LEE")?;
+    let first = BatchHeaderText {
+        service_class: 220,
+        company_name: b"MILL STREET",
+        company: b"MILL01",
+        sec: b"PPD",
+        description: b"PAYROLL",
+        effective: Ymd::new(25, 1, 14)?,
+        settlement: None,
+        odfi: 12_104_288,
+        number: 1,
+    };
+    let second = BatchHeaderText { number: 2, ..first };
+    let batches = [
+        OutgoingBatch {
+            header: first,
+            entries: &entries,
+        },
+        OutgoingBatch {
+            header: second,
+            entries: &entries,
+        },
+    ];
+    Ok(outcome(print_incoming(rt, &batches)?))
+}
+
+#[test]
+fn two_batches(rt: HostRuntime) -> Result<(), Fail> {
+    assert_eq!(rt; print_two(&rt, 1)?, Ok(950));
+    assert_eq!(rt; print_two(&rt, 50)?, Ok(110 * 95));
+    assert_eq!(rt;
+        print_two(&rt, 51)?,
+        Err(PrintFault::TotalTooLarge),
+        "each batch is small enough, and the file is not"
+    );
     Ok(())
 }

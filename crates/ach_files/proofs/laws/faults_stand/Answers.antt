@@ -1,6 +1,5 @@
-use Rattle.std.proofs.Common.{◌≡◌, ℕ, List, [], Option, Some, ◌++◌, refl, ap, sym, ◌∙◌}
-use Rattle.ach_files.specs.FirstFault.{fault, early_fault, first_fault, or_else, end_fault}
-use Rattle.ach_files.specs.Layout.{layout}
+use Rattle.std.proofs.Common.{◌≡◌, ℕ, List, [], Some, ◌++◌, refl, ◌∙◌}
+use Rattle.ach_files.specs.FirstFault.{fault, early_fault}
 use Rattle.ach_files.specs.declared.fault.Fault.{Fault}
 use Rattle.ach_files.proofs.Firsts.{first_append}
 use Rattle.ach_files.proofs.laws.faults_stand.Goals as goal

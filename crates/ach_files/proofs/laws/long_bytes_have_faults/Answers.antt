@@ -1,4 +1,4 @@
-use Rattle.std.proofs.Common.{◌≡◌, ◌<◌, ◌+◌, ℕ, true, List, [], ◌∷◌, Option, None, Some, ◌++◌, length, take, drop, get_or, nat_le, refl, ap, sym, ◌∙◌, arith}
+use Rattle.std.proofs.Common.{◌≡◌, ◌<◌, ◌+◌, ℕ, true, List, [], ◌∷◌, Option, None, Some, ◌++◌, length, take, drop, get_or, nat_le, refl, ap, ◌∙◌, arith}
 use Rattle.std.proofs.lemmas.List.{length-take-le}
 use Rattle.ach_files.specs.FirstFault.{early_fault, first_fault, or_else, place_fault, record_of, at}
 use Rattle.ach_files.specs.Layout.{layout, move_at}

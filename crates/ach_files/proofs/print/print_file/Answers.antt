@@ -10,16 +10,19 @@ pub returns-then-is_large : goal.returns-then-is_large
 returns-then-is_large c =
     let o = c.args.outgoing.now in
     let fields : fields_fit o ≡ true = sym c.fits.ensures ∙ c.if-not-fits.false in
-    let large : is_large (sums_of o) ≡ true = sym (large_kept _ _ c.sums_of_batches-sums.ensures) ∙ sym c.is_large.ensures ∙ c.if-is_large.true in
+    let large : is_large (sums_of o) ≡ true = sym (large_kept _ _ c.measure-measures.ensures.sums) ∙ sym c.is_large.ensures ∙ c.if-is_large.true in
     inr (fault_large o fields large)
 
 pub returns-then-has_many : goal.returns-then-has_many
 returns-then-has_many c =
     let o = c.args.outgoing.now in
     let fields : fields_fit o ≡ true = sym c.fits.ensures ∙ c.if-not-fits.false in
-    let large : is_large (sums_of o) ≡ false = sym (large_kept _ _ c.sums_of_batches-sums.ensures) ∙ sym c.is_large.ensures ∙ c.if-is_large.false in
+    let large : is_large (sums_of o) ≡ false = sym (large_kept _ _ c.measure-measures.ensures.sums) ∙ sym c.is_large.ensures ∙ c.if-is_large.false in
     let many : has_many o ≡ true = sym c.has_many.ensures ∙ c.if-has_many.true in
     inr (fault_many o fields large many)
+
+pub room_of-requires-clause-few : goal.room_of-requires-clause-few
+room_of-requires-clause-few c = few_batches c.args.outgoing.now (sym c.has_many.ensures ∙ c.if-has_many.false)
 
 pub put_file-requires-clause-few : goal.put_file-requires-clause-few
 put_file-requires-clause-few c = few_batches c.args.outgoing.now (sym c.has_many.ensures ∙ c.if-has_many.false)
@@ -28,22 +31,30 @@ pub put_file-requires-clause-fit : goal.put_file-requires-clause-fit
 put_file-requires-clause-fit c =
     let o = c.args.outgoing.now in
     let fields : fields_fit o ≡ true = sym c.fits.ensures ∙ c.if-not-fits.false in
-    let large : is_large (sums_of o) ≡ false = sym (large_kept _ _ c.sums_of_batches-sums.ensures) ∙ sym c.is_large.ensures ∙ c.if-is_large.false in
+    let large : is_large (sums_of o) ≡ false = sym (large_kept _ _ c.measure-measures.ensures.sums) ∙ sym c.is_large.ensures ∙ c.if-is_large.false in
     let many : has_many o ≡ false = sym c.has_many.ensures ∙ c.if-has_many.false in
     rows_fit o fields large many
+
+pub returns-in_default : goal.returns-in_default
+returns-in_default c =
+    let o = c.args.outgoing.now in
+    let fields : fields_fit o ≡ true = sym c.fits.ensures ∙ c.if-not-fits.false in
+    let large : is_large (sums_of o) ≡ false = sym (large_kept _ _ c.measure-measures.ensures.sums) ∙ sym c.is_large.ensures ∙ c.if-is_large.false in
+    let many : has_many o ≡ false = sym c.has_many.ensures ∙ c.if-has_many.false in
+    inl (refl, no_fault o fields large many)
 
 pub returns-in-Err : goal.returns-in-Err
 returns-in-Err c =
     let o = c.args.outgoing.now in
     let fields : fields_fit o ≡ true = sym c.fits.ensures ∙ c.if-not-fits.false in
-    let large : is_large (sums_of o) ≡ false = sym (large_kept _ _ c.sums_of_batches-sums.ensures) ∙ sym c.is_large.ensures ∙ c.if-is_large.false in
+    let large : is_large (sums_of o) ≡ false = sym (large_kept _ _ c.measure-measures.ensures.sums) ∙ sym c.is_large.ensures ∙ c.if-is_large.false in
     let many : has_many o ≡ false = sym c.has_many.ensures ∙ c.if-has_many.false in
     inl (refl, no_fault o fields large many)
 
-pub returns-in-Ok : goal.returns-in-Ok
-returns-in-Ok c =
+pub returns-in-Ok-put_file : goal.returns-in-Ok-put_file
+returns-in-Ok-put_file c =
     let o = c.args.outgoing.now in
     let fields : fields_fit o ≡ true = sym c.fits.ensures ∙ c.if-not-fits.false in
-    let large : is_large (sums_of o) ≡ false = sym (large_kept _ _ c.sums_of_batches-sums.ensures) ∙ sym c.is_large.ensures ∙ c.if-is_large.false in
+    let large : is_large (sums_of o) ≡ false = sym (large_kept _ _ c.measure-measures.ensures.sums) ∙ sym c.is_large.ensures ∙ c.if-is_large.false in
     let many : has_many o ≡ false = sym c.has_many.ensures ∙ c.if-has_many.false in
-    (no_fault o fields large many, c.in-Ok.ensures ∙ ap (λ (l : List ℕ). l ++ printed_outgoing o) c.new-text.ensures.items)
+    (no_fault o fields large many, c.in-Ok-put_file.ensures ∙ ap (λ (l : List ℕ). l ++ printed_outgoing o) c.in-Ok.ensures.items)

@@ -1,6 +1,6 @@
-use Rattle.std.proofs.Common.{◌≡◌, ◌≤◌, ◌<◌, ◌+◌, ◌-◌, ◌++◌, length, get_or, map, ℕ, List, [], ◌∷◌, take, drop, ap, ◌∙◌, sym, subst, arith, All}
+use Rattle.std.proofs.Common.{◌≡◌, ◌≤◌, ◌<◌, ◌+◌, ◌-◌, ◌++◌, append_assoc, length, get_or, map, ℕ, List, [], ◌∷◌, take, drop, ap, ◌∙◌, sym, subst, arith, All}
 use Rattle.std.proofs.lemmas.Grind.{common_steps}
-use Rattle.std.proofs.lemmas.List.{drop_more, take-map, drop-map, drop-drop, length-take}
+use Rattle.std.proofs.lemmas.List.{drop_more, map-append, take-map, drop-map, drop-drop, length-take}
 use Rattle.std.proofs.lemmas.List.Elements.{All-push}
 use Rattle.std.proofs.lemmas.Option.{get_or_from_slice_get}
 use Rattle.desk_plan.specs.Files.{most_batches}
@@ -10,8 +10,11 @@ use Rattle.desk_history.specs.Files as files
 use Rattle.desk_cut.specs.Sent.{batch_in, file_in}
 use Rattle.desk_cut.specs.declared.batches.Batch.{Batch}
 use Rattle.desk_cut.specs.declared.files.File.{File}
-use Rattle.desk_cut.proofs.Parts.{pushed}
 use Rattle.desk_cut.proofs.files.files_of.Goals as goal
+
+-- one more is made
+pushed : {X Z : Type 0} (f : X → Z) (xs : List X) (x : X) (z : Z) (zs : List Z) → f x ≡ z → map f (xs ++ x ∷ []) ++ zs ≡ map f xs ++ (z ∷ zs)
+pushed {X} {Z} f xs x z zs same = ap (λ (l : List Z). l ++ zs) (map-append f xs (x ∷ [])) ∙ append_assoc (map f xs) (f x ∷ []) zs ∙ ap (λ (z : Z). map f xs ++ (z ∷ zs)) same
 
 -- the files of the sizes and the batches that are left
 abbrev left : ℕ → ℕ → List ℕ → List Batch → List files.File

@@ -1,10 +1,14 @@
-use Rattle.std.proofs.Common.{◌≡◌, ◌++◌, map, drop}
-use Rattle.std.specs.List.{flat_map}
+use Rattle.std.proofs.Common.{◌≡◌, ◌++◌, ◌+◌, map, drop}
+use Rattle.std.specs.List.{enumerate_from}
+use Rattle.desk_history.specs.Files.{outgoing_entry}
+use Rattle.desk_history.specs.Sending.{sent_entry}
 use Rattle.desk_cut.specs.Plain.{plain_entry}
 use Rattle.desk_cut.specs.Sent.{batch_in, outgoing_entries}
 use Rattle.desk_cut.proofs.printing.outgoing_entries.Given as goal
 
-abbrev pub invariant-loop-batch : goal.invariant-loop-batch
-invariant-loop-batch l =
-    map plain_entry l.outgoing.items ++ flat_map (outgoing_entries l.odfi) (map batch_in (drop l.batch-index l.batches))
-    ≡ flat_map (outgoing_entries l.odfi) (map batch_in l.batches)
+-- the entries so far, and those that are left
+abbrev pub invariant-loop-index : goal.invariant-loop-index
+invariant-loop-index l =
+    map plain_entry l.outgoing.items
+    ++ map (outgoing_entry l.odfi) (map (λ x. sent_entry (batch_in l.batch) x.0 x.1) (enumerate_from (l.index + 1) (drop l.index l.entries)))
+    ≡ outgoing_entries l.odfi (batch_in l.batch)

@@ -10,6 +10,6 @@ pub returns : goal.returns
 unfolding has_many
 returns c =
     let o = c.args.outgoing.now in
-    let any : list_any is_long_batch o.batches.now ≡ false = sym c.is_any_long.ensures ∙ c.if-is_any_long.false in
+    let any : list_any is_long_batch o.batches.now ≡ false = sym c.requires.long ∙ c.if-is_any_long.false in
     let few : nat_lt 999999 (length o.batches.now) ≡ false = le-ltb _ _ c.if-outgoing-gt999999.false in
-    rw (any, few) (ap (nat_lt 999999) c.blocks_of.ensures ∙ many_kept o c.args.sums.now c.requires)
+    rw (any, few) (ap (nat_lt 999999) c.blocks_of.ensures ∙ many_kept o c.args.sums.now c.requires.sums)
