@@ -4,7 +4,7 @@
 //! control, and fillers, each record of 94 characters followed by nothing, LF or CR LF. `read_file`
 //! reads one that is whole in memory, `Reader` one that comes in pieces; both tell the first fault, by
 //! the first byte at which something is wrong. `print_file` prints one, with the counts, hashes and
-//! totals of its controls.
+//! totals of its controls; `Printer` prints one batch by batch.
 //!
 //! `Item`s and `ItemFacts` are read, an `Outgoing` is printed. The structs of an `Outgoing` hold
 //! references beside typed values, which `Vec::push` cannot take today: a list of them grows by
