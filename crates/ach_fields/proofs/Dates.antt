@@ -1,6 +1,5 @@
 -- Texts of dates.
-use Rattle.std.proofs.Common.{◌≡◌, ℕ, ◌+◌, ◌-◌, ◌^◌, ◌<◌, ◌≤◌, ◌++◌, List, true, false, ◌&&◌, length, take, drop, take_at, ap, sym, ◌∙◌, arith, length-append, append_assoc}
-use Rattle.std.specs.List.{list_all}
+use Rattle.std.proofs.Common.{◌≡◌, ℕ, ◌≤◌, ◌++◌, true, length, take, drop, take_at, ap, ◌∙◌, arith, length-append, append_assoc}
 use Rattle.std.proofs.lemmas.List.{drop_at}
 use Rattle.std.proofs.lemmas.List.Folds.{list_all-append}
 use Rattle.std.proofs.lemmas.Bool.{and_from, and_parts, eq-eqb, leb-true}
@@ -37,8 +36,8 @@ spells yy mm dd h =
     let ml : length m ≡ 2 = length-digits 2 mm in
     let yml : length (y ++ m) ≡ 4 = omega (arith, length-append y m, yl, ml) in
     let year : number (take 2 (y ++ m ++ d)) ≡ yy = ap (λ s. number (take 2 s)) whole ∙ ap number (take_at y (m ++ d) 2 yl) ∙ number-digits 2 yy (omega (arith, p.year)) in
-    let behind : drop 2 (y ++ m ++ d) ≡ m ++ d = ap (drop 2) whole ∙ drop_at y (m ++ d) 2 yl in
-    let month : number (take 2 (drop 2 (y ++ m ++ d))) ≡ mm = ap (λ s. number (take 2 s)) behind ∙ ap number (take_at m d 2 ml) ∙ number-digits 2 mm (omega (arith, p.month)) in
+    let after : drop 2 (y ++ m ++ d) ≡ m ++ d = ap (drop 2) whole ∙ drop_at y (m ++ d) 2 yl in
+    let month : number (take 2 (drop 2 (y ++ m ++ d))) ≡ mm = ap (λ s. number (take 2 s)) after ∙ ap number (take_at m d 2 ml) ∙ number-digits 2 mm (omega (arith, p.month)) in
     let day : number (drop 4 (y ++ m ++ d)) ≡ dd = ap number (drop_at (y ++ m) d 4 yml) ∙ number-digits 2 dd (omega (arith, p.day)) in
     (λ i. is_date (year i) (month i) (day i)) ∙ h
 

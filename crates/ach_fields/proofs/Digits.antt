@@ -1,13 +1,12 @@
 -- The number that digits spell, and the digits of a number.
-use Rattle.std.proofs.Common.{◌≡◌, ℕ, zero, suc, ◌+◌, ◌-◌, ◌*◌, ◌/◌, ◌%◌, ◌^◌, ◌<◌, ◌≤◌, Bool, true, false, List, [], ◌∷◌, ◌++◌, length, get_or, set, take, drop, refl, sym, ap, ◌∙◌, subst, arith, inl, inr, append_assoc, length-append}
+use Rattle.std.proofs.Common.{◌≡◌, ℕ, zero, suc, ◌+◌, ◌-◌, ◌*◌, ◌/◌, ◌%◌, ◌^◌, ◌<◌, ◌≤◌, true, List, [], ◌∷◌, ◌++◌, length, get_or, set, take, drop, refl, sym, ap, ◌∙◌, subst, arith, inl, inr, append_assoc, length-append}
 use Rattle.std.proofs.Math.Nat.{add-suc}
 use Rattle.std.proofs.Math.Numerals.{suc-eq-add-one}
 use Rattle.std.proofs.lemmas.List.{append-nil, drop-set, take_more, take_all}
-use Rattle.std.specs.List.{list_all, AllPass}
 use Rattle.std.proofs.lemmas.List.Elements.{All-take, All-drop}
 use Rattle.std.proofs.lemmas.List.Sums.{fold_more, fold_push, AllPass-from_list_all, list_all-from_AllPass}
 use Rattle.std.proofs.lemmas.List.Folds.{list_all_at, list_all-append}
-use Rattle.std.proofs.lemmas.Bool.{cases_Bool, and_from, and_parts, le-leb}
+use Rattle.std.proofs.lemmas.Bool.{cases_Bool, and_from, le-leb}
 use Rattle.std.proofs.lemmas.Bool.Decides.{nat_tests}
 use Rattle.std.proofs.lemmas.Nat.{pow-add}
 use Rattle.std.proofs.Math.Nat.{pow-le-pow_right}
@@ -85,10 +84,10 @@ digits-split a (suc b) m n lt =
     let ten : 10 ^ suc b ≡ 10 ^ b * 10 = ap (λ k. 10 ^ k) (suc-eq-add-one b) ∙ pow-add 10 b 1 in
     let less : n / 10 < 10 ^ b = omega (arith, subst (λ (k : ℕ). n < k) ten lt) in
     let whole : m * 10 ^ suc b + n ≡ (m * 10 ^ b) * 10 + n = ap (λ k. m * k + n) ten ∙ omega arith in
-    let front : (m * 10 ^ suc b + n) / 10 ≡ m * 10 ^ b + n / 10 = ap (λ k. k / 10) whole ∙ omega arith in
+    let prefix : (m * 10 ^ suc b + n) / 10 ≡ m * 10 ^ b + n / 10 = ap (λ k. k / 10) whole ∙ omega arith in
     let last : (m * 10 ^ suc b + n) % 10 ≡ n % 10 = ap (λ k. k % 10) whole ∙ omega arith in
     ap (λ k. digits k (m * 10 ^ suc b + n)) (add-suc a b)
-    ∙ (λ i. digits (a + b) (front i) ++ (48 + last i) ∷ [])
+    ∙ (λ i. digits (a + b) (prefix i) ++ (48 + last i) ∷ [])
     ∙ ap (λ (s : List ℕ). s ++ (48 + n % 10) ∷ []) (digits-split a b m (n / 10) less)
     ∙ append_assoc (digits a m) (digits b (n / 10)) ((48 + n % 10) ∷ [])
 

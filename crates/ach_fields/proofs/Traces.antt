@@ -1,6 +1,5 @@
 -- Texts of traces.
-use Rattle.std.proofs.Common.{◌≡◌, ℕ, ◌++◌, true, length, ap, ◌∙◌, arith, length-append}
-use Rattle.std.specs.List.{list_all}
+use Rattle.std.proofs.Common.{◌≡◌, ℕ, ◌++◌, true, length, ◌∙◌, arith, length-append}
 use Rattle.std.proofs.lemmas.List.Folds.{list_all-append}
 use Rattle.std.proofs.lemmas.Bool.{and_from, eq-eqb}
 use Rattle.ach_fields.specs.Characters.{is_digit}

@@ -1,6 +1,7 @@
 pub mod Cents
 pub mod Characters
 pub mod Digits
+pub mod FaultNumbers
 pub mod Laws
 pub mod Names
 pub mod Number

@@ -14,8 +14,8 @@ without_blanks_after [] = []
 without_blanks_after (c ∷ s) = if list_all is_blank (c ∷ s) then [] else c ∷ without_blanks_after s
 
 -- the text with blanks after it, up to a width
-unfoldable pub padded : ℕ → List ℕ → List ℕ
-padded width s = s ++ replicate (width - length s) 32
+unfoldable pub with_blanks_after : ℕ → List ℕ → List ℕ
+with_blanks_after width s = s ++ replicate (width - length s) 32
 
 -- the text in a field
 abbrev pub text_in : List ℕ → Result (List ℕ) FieldFault
@@ -25,7 +25,7 @@ text_in s = if list_all is_printable s then Ok (without_blanks_after s) else Err
 abbrev pub text_field : ℕ → List ℕ → Result (List ℕ) FieldFault
 text_field width s =
     if nat_lt width (length s) then Err TooLong
-    else (if list_all is_printable s then Ok (padded width s) else Err NotText)
+    else (if list_all is_printable s then Ok (with_blanks_after width s) else Err NotText)
 
 -- neither the first nor the last character is a blank
 abbrev pub is_trimmed : List ℕ → Bool

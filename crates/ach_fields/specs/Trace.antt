@@ -5,6 +5,11 @@ use Rattle.ach_fields.specs.declared.fault.FieldFault.{FieldFault}
 use Rattle.ach_fields.specs.declared.fault.FieldFault.TheVariants.{TooLong, NotDigit}
 use Rattle.ach_fields.specs.Characters.{is_digit}
 use Rattle.ach_fields.specs.Digits.{digits, number}
+use Rattle.ach_fields.specs.Routing.{most_dfi}
+
+-- seven digits
+abbrev pub most_sequence : ℕ
+most_sequence = 9_999_999
 
 -- fifteen digits
 abbrev pub is_trace : List ℕ → Bool
@@ -17,7 +22,7 @@ trace_text dfi sequence = digits 8 dfi ++ digits 7 sequence
 -- the trace of a bank's number and a sequence
 abbrev pub trace_of : ℕ → ℕ → Result (List ℕ) FieldFault
 trace_of dfi sequence =
-    if nat_le dfi 99_999_999 && nat_le sequence 9_999_999 then Ok (trace_text dfi sequence) else Err TooLong
+    if nat_le dfi most_dfi && nat_le sequence most_sequence then Ok (trace_text dfi sequence) else Err TooLong
 
 -- the trace that a text is
 abbrev pub trace_in : List ℕ → Result (List ℕ) FieldFault

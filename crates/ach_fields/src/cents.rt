@@ -3,13 +3,13 @@ ghost use Rattle.ach_fields.specs.Cents.{cents_of, most_cents};
 
 use std::marker::Model;
 
-/// The largest amount.
-const MOST_CENTS: u64 = 999_999_999_999;
+/// The largest amount has twelve digits of cents.
+pub const MOST_CENTS: u64 = 999_999_999_999;
 
-/// An amount of money in cents, of at most twelve digits, as the total fields of files hold.
+/// `Cents` is an amount of money in cents, of at most twelve digits, as the total fields of files hold.
 #[derive(Clone, Copy, Debug, PartialEq, Eq, PartialOrd, Ord)]
 pub struct Cents {
-    amount: u64,
+    cents: u64,
 }
 
 // Clauses see the number.
@@ -19,30 +19,30 @@ impl Model for Cents {
 
     ghost Value = { ℕ };
 
-    ghost view = { λ c. c.amount };
+    ghost view = { λ c. c.cents };
 
-    ghost invariant = { λ c. c.amount ≤ most_cents };
+    ghost invariant = { λ c. c.cents ≤ most_cents };
 
-    ghost inverse = { λ n. record { amount = n } };
+    ghost inverse = { λ n. record { cents = n } };
 }
 
 impl Cents {
-    /// The amount, or `None` above 999,999,999,999.
-    pub fn new(amount: u64) -> Option<Cents>
-        ensures { result ≡ cents_of amount }
+    /// Gives the amount of so many cents, or `None` above 999,999,999,999.
+    pub fn new(cents: u64) -> Option<Cents>
+        ensures { result ≡ cents_of cents }
     {
-        if amount <= MOST_CENTS {
-            Some(Cents { amount })
+        if cents <= MOST_CENTS {
+            Some(Cents { cents })
         } else {
             None
         }
     }
 
-    /// How many cents it is.
+    /// Says how many cents it is.
     pub fn get(self) -> u64
         ensures value { result ≡ self }
         ensures within { self ≤ most_cents }
     {
-        self.amount
+        self.cents
     }
 }

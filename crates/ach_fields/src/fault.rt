@@ -1,14 +1,27 @@
-/// Why a field is refused.
+ghost use Rattle.std.specs.Prelude.{◌≡◌};
+
+/// A `FieldFault` says why a field is refused.
 #[derive(Clone, Copy, Debug, PartialEq, Eq, Drop)]
 pub enum FieldFault {
     /// Something else stands where a digit is wanted, or digits are missing.
     NotDigit = 1,
-    /// A character that the field may not have, or a text that may not be so short.
+    /// A character stands there that the field may not have, or the text is shorter than it may be.
     NotText = 2,
-    /// More characters than the field has room for.
+    /// There are more characters than the field has room for.
     TooLong = 3,
     /// The check digit does not complete the routing number.
     BadCheck = 4,
-    /// No month or no day of a month.
+    /// The digits name no month or no day of a month.
     BadDate = 5,
+}
+
+impl FieldFault {
+    ghost use Rattle.ach_fields.specs.FaultNumbers.{number_of};
+
+    /// Gives the number of the fault.
+    pub fn number(self) -> u8
+        ensures { result ≡ number_of self }
+    {
+        self as u8
+    }
 }

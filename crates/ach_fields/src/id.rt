@@ -6,10 +6,10 @@ use crate::characters::are_id_characters;
 use crate::packed::Packed;
 use std::marker::Model;
 
-/// The longest identification.
+/// The longest identification has so many characters.
 const MOST_CHARACTERS: usize = 10;
 
-/// The identification of a company: 1 to 10 of `A-Z 0-9`.
+/// An `Id` is the identification of a company: 1 to 10 of `A-Z 0-9`.
 #[derive(Clone, Copy, Debug, PartialEq, Eq)]
 pub struct Id {
     packed: Packed<MOST_CHARACTERS>,
@@ -30,8 +30,9 @@ impl Model for Id {
 }
 
 impl Id {
-    /// The identification of these characters: `TooLong` past 10, else `NotText` where there is none
-    /// or one that an identification may not have.
+    /// Gives the identification of these characters.
+    ///
+    /// More than 10 are `TooLong`; none, or one that an identification may not have, is `NotText`.
     pub fn new(bytes: &[u8]) -> Result<Id, FieldFault>
         ensures { result ≡ id_of bytes.now }
     {
@@ -46,7 +47,7 @@ impl Id {
         })
     }
 
-    /// Its characters.
+    /// Gives its characters.
     pub fn bytes(&self) -> &[u8]
         ensures value { result.now ≡ self.now }
         ensures valid { IsTrue (is_id self.now) }

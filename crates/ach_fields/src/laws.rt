@@ -1,4 +1,4 @@
-//! Laws of fields: text and value name each other.
+//! The laws of fields say that text and value name each other.
 ghost use Rattle.ach_fields.specs.Laws.{NumbersAndDigits, TextsAndFields};
 
 /// A number that was written with leading zeros is read again, and digits that were read are written

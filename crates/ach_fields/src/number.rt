@@ -1,4 +1,4 @@
-//! Numbers in fields: digits at the right, zeros before them.
+//! A number stands at the right of its field, with zeros before it.
 ghost use Rattle.std.specs.Prelude.{◌≡◌, ◌≤◌, ◌<◌, ◌^◌, length, true, IfOk, nat_lt};
 ghost use Rattle.std.specs.List.{list_all};
 ghost use Rattle.ach_fields.specs.Characters.{is_digit};
@@ -9,10 +9,10 @@ ghost use Rattle.ach_fields.specs.Puts.{Puts};
 use crate::FieldFault;
 use crate::characters::are_digits;
 
-/// The most digits of a number field.
+/// A number field has at most so many digits.
 const MOST_DIGITS: usize = 18;
 
-/// The number in a field of 1 to 18 digits.
+/// Gives the number in a field of 1 to 18 digits.
 ///
 /// A longer field is `TooLong`; an empty one, or one with another character, is `NotDigit`.
 pub fn take_number(field: &[u8]) -> Result<u64, FieldFault>
@@ -44,8 +44,7 @@ pub(crate) fn number(digits: &[u8]) -> u64
 
 /// Writes a number into a field of 1 to 18 bytes, with zeros before it.
 ///
-/// `TooLong`, and the field as it was, where the field has another length or too few bytes for the
-/// number.
+/// A field of another length, or with too few bytes for the number, is `TooLong`, and stays as it was.
 pub fn put_number(number: u64, field: &mut [u8]) -> Result<(), FieldFault>
     ensures { Puts (number_field (length field.old) number) result field.old field.new }
 {

@@ -2,7 +2,7 @@ ghost use Rattle.std.specs.Prelude.{◌≡◌, ◌≤◌, ◌-◌, ◌++◌, len
 
 use std::marker::Model;
 
-/// At most `N` bytes, in the value itself, so that it is `Copy`.
+/// A `Packed` holds at most `N` bytes in the value itself, so that it is `Copy`.
 #[derive(Clone, Copy, Debug, PartialEq, Eq)]
 pub struct Packed<const N: usize> {
     bytes: [u8; N],
@@ -12,7 +12,7 @@ pub struct Packed<const N: usize> {
 // Clauses see the bytes in use. The others are zero, so that the list gives the fields back.
 impl<const N: usize> Model for Packed<N> {
     ghost use Rattle.std.specs.Prelude.{◌≡◌, ◌≤◌, ◌-◌, ◌++◌, List, ℕ, length, take, drop, replicate};
-    ghost use Rattle.ach_fields.specs.Padding.{padded_gives_back, taken_length};
+    ghost use Rattle.ach_fields.specs.Padding.{used_and_zeros, used_length};
 
     ghost Value = { List ℕ };
 
@@ -23,13 +23,13 @@ impl<const N: usize> Model for Packed<N> {
     ghost inverse = { λ s. record { bytes = s ++ replicate (N - length s) 0; len = length s } };
 
     ghost inverse_ok = { λ t h i. record {
-      bytes = padded_gives_back N t.len t.bytes h.0 h.1 h.2 i;
-      len = taken_length N t.len t.bytes h.0 h.1 i;
+      bytes = used_and_zeros N t.len t.bytes h.0 h.1 h.2 i;
+      len = used_length N t.len t.bytes h.0 h.1 i;
     } };
 }
 
 impl<const N: usize> Packed<N> {
-    /// These bytes.
+    /// Packs these bytes.
     pub fn new(bytes: &[u8]) -> Packed<N>
         requires { length bytes.now ≤ N }
         ensures { result ≡ bytes.now }
@@ -40,7 +40,7 @@ impl<const N: usize> Packed<N> {
         }
     }
 
-    /// The bytes in use.
+    /// Gives the bytes in use.
     pub fn bytes(&self) -> &[u8]
         ensures { result.now ≡ self.now }
     {

@@ -6,10 +6,10 @@ use crate::characters::are_reference_characters;
 use crate::packed::Packed;
 use std::marker::Model;
 
-/// The longest reference.
+/// The longest reference has so many characters.
 const MOST_CHARACTERS: usize = 20;
 
-/// The reference by which a company names a submission: 1 to 20 of `A-Z a-z 0-9 - _ .`
+/// A `Ref` is the reference by which a company names a submission: 1 to 20 of `A-Z a-z 0-9 - _ .`
 #[derive(Clone, Copy, Debug, PartialEq, Eq)]
 pub struct Ref {
     packed: Packed<MOST_CHARACTERS>,
@@ -30,8 +30,9 @@ impl Model for Ref {
 }
 
 impl Ref {
-    /// The reference of these characters: `TooLong` past 20, else `NotText` where there is none or
-    /// one that a reference may not have.
+    /// Gives the reference of these characters.
+    ///
+    /// More than 20 are `TooLong`; none, or one that a reference may not have, is `NotText`.
     pub fn new(bytes: &[u8]) -> Result<Ref, FieldFault>
         ensures { result ≡ reference_of bytes.now }
     {
@@ -46,7 +47,7 @@ impl Ref {
         })
     }
 
-    /// Its characters.
+    /// Gives its characters.
     pub fn bytes(&self) -> &[u8]
         ensures value { result.now ≡ self.now }
         ensures valid { IsTrue (is_reference self.now) }

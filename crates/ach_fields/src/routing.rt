@@ -1,17 +1,20 @@
 ghost use Rattle.std.specs.Prelude.{◌≡◌, ◌≤◌, ◌-◌, ℕ, IsTrue, slice_index};
 ghost use Rattle.ach_fields.specs.Digits.{digits};
-ghost use Rattle.ach_fields.specs.Routing.{routing_of, is_routing, dfi_of, IsCheckDigit, weighted_sum};
+ghost use Rattle.ach_fields.specs.Routing.{routing_of, is_routing, dfi_of, most_dfi, IsCheckDigit, weighted_sum};
 
 use crate::FieldFault;
 use crate::characters::are_digits;
 use crate::number::number;
 use std::marker::Model;
 
-/// How many digits a routing number has.
+/// A routing number has so many digits.
 const WIDTH: usize = 9;
 
-/// The routing number of a bank: the eight digits of its DFI, and the check digit that completes
-/// them.
+/// The number of a bank has eight digits.
+pub const MOST_DFI: u32 = 99_999_999;
+
+/// A `Routing` is the routing number of a bank: the eight digits of its DFI, and the check digit that
+/// completes them.
 ///
 /// By the routing number's own rule the first eight digits are weighted 3 7 1 3 7 1 3 7, and the
 /// ninth makes the sum a multiple of ten.
@@ -35,8 +38,10 @@ impl Model for Routing {
 }
 
 impl Routing {
-    /// The routing number of nine digits: more bytes are `TooLong`, fewer or another character
-    /// `NotDigit`, and then `BadCheck` where the ninth is not the check digit.
+    /// Gives the routing number of nine digits.
+    ///
+    /// More bytes are `TooLong`, fewer or another character `NotDigit`; then it is `BadCheck` where the
+    /// ninth is not the check digit.
     pub fn parse(bytes: &[u8]) -> Result<Routing, FieldFault>
         ensures { result ≡ routing_of bytes.now }
     {
@@ -54,23 +59,23 @@ impl Routing {
         Ok(Routing { digits })
     }
 
-    /// The first eight digits: the number of the bank.
+    /// Gives the number of the bank, which is the first eight digits.
     pub fn dfi(&self) -> u32
         ensures value { result ≡ dfi_of self.now }
-        ensures within { result ≤ 99_999_999 }
+        ensures within { result ≤ most_dfi }
     {
         let digits = &self.digits;
         number(&digits[..8]) as u32
     }
 
-    /// The check digit.
+    /// Gives the check digit.
     pub fn digit(&self) -> u8
         ensures { result ≡ slice_index self.now 8 - 48 }
     {
         self.digits[8].saturating_sub(b'0')
     }
 
-    /// The nine digits.
+    /// Gives the nine digits.
     pub fn text(&self) -> [u8; WIDTH]
         ensures value { result ≡ self.now }
         ensures valid { IsTrue (is_routing self.now) }
@@ -79,11 +84,11 @@ impl Routing {
     }
 }
 
-/// The digit that completes the weighted sum of a bank's eight digits to a multiple of ten: there is
-/// exactly one.
+/// Gives the digit that completes the weighted sum of a bank's eight digits to a multiple of ten: there
+/// is exactly one.
 #[tactic(auto, unfolding(crate::specs::Digits::digits))]
 pub fn check_digit(dfi: u32) -> u8
-    requires { dfi ≤ 99_999_999 }
+    requires { dfi ≤ most_dfi }
     ensures completes { IsCheckDigit (digits 8 dfi) result }
     ensures only { (x : ℕ) → IsCheckDigit (digits 8 dfi) x → x ≡ result }
 {

@@ -6,7 +6,7 @@ use crate::characters::are_printable;
 use crate::packed::Packed;
 use std::marker::Model;
 
-/// A text of at most `N` characters, blank to `~`, with no blank at either end. It may be empty.
+/// A `ShortText` has at most `N` characters, blank to `~`, and no blank at either end. It may be empty.
 #[derive(Clone, Copy, Debug, PartialEq, Eq)]
 pub struct ShortText<const N: usize> {
     packed: Packed<N>,
@@ -27,8 +27,10 @@ impl<const N: usize> Model for ShortText<N> {
 }
 
 impl<const N: usize> ShortText<N> {
-    /// The text of these characters: `TooLong` past `N`, else `NotText` where a character is no blank
-    /// to `~` or a blank stands at an end.
+    /// Gives the text of these characters.
+    ///
+    /// More than `N` are `TooLong`; a character that is no blank to `~`, or a blank at an end, is
+    /// `NotText`.
     pub fn new(bytes: &[u8]) -> Result<ShortText<N>, FieldFault>
         ensures { result ≡ short_text_of N bytes.now }
     {
@@ -43,7 +45,7 @@ impl<const N: usize> ShortText<N> {
         })
     }
 
-    /// Its characters.
+    /// Gives its characters.
     pub fn bytes(&self) -> &[u8]
         ensures value { result.now ≡ self.now }
         ensures valid { IsTrue (is_short_text N self.now) }

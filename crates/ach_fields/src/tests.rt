@@ -1,7 +1,7 @@
-//! Values from outside: routing numbers in use, and the fields of files that banks exchange.
+//! The values come from outside: routing numbers in use, and the fields of files that banks exchange.
 use crate::{
     Cents, FieldFault, Id, Ref, Routing, ShortText, Trace, Ymd, check_digit, put_number, put_text,
-    take_number, take_text,
+    take_number, take_text, without_blanks_after,
 };
 
 #[test]
@@ -29,6 +29,20 @@ fn routing_numbers(rt: HostRuntime) {
     }
     assert_eq!(rt; check_digit(9_100_001), 9);
     assert_eq!(rt; check_digit(0), 0);
+}
+
+#[test]
+fn fault_numbers(rt: HostRuntime) {
+    let faults = [
+        FieldFault::NotDigit,
+        FieldFault::NotText,
+        FieldFault::TooLong,
+        FieldFault::BadCheck,
+        FieldFault::BadDate,
+    ];
+    for (index, fault) in faults.iter().enumerate() {
+        assert_eq!(rt; fault.number() as usize, index + 1);
+    }
 }
 
 #[test]
@@ -70,6 +84,10 @@ fn texts(rt: HostRuntime) {
         Ok(b"  MILL STREET".as_slice())
     );
     assert_eq!(rt; take_text(b"    "), Ok(b"".as_slice()));
+    assert_eq!(rt;
+        without_blanks_after(b" MILL\tSTREET  "),
+        b" MILL\tSTREET".as_slice()
+    );
     assert_eq!(rt; take_text(b"MILL\tSTREET"), Err(FieldFault::NotText));
     let mut field = *b"................";
     assert_eq!(rt; put_text(b"MILL STREET", &mut field), Ok(()));

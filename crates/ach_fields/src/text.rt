@@ -1,4 +1,4 @@
-//! Texts in fields: characters at the left, blanks after them.
+//! A text stands at the left of its field, with blanks after it.
 ghost use Rattle.std.specs.Prelude.{◌≡◌, length, MatchResult, Ok, Err};
 ghost use Rattle.ach_fields.specs.Text.{text_in, text_field, without_blanks_after};
 ghost use Rattle.ach_fields.specs.Puts.{Puts};
@@ -6,9 +6,9 @@ ghost use Rattle.ach_fields.specs.Puts.{Puts};
 use crate::FieldFault;
 use crate::characters::are_printable;
 
-/// The text in a field, without the blanks at its end.
+/// Gives the text in a field, without the blanks at its end.
 ///
-/// `NotText` where a character is no blank to `~`.
+/// It is `NotText` where a character is no blank to `~`.
 pub fn take_text(field: &[u8]) -> Result<&[u8], FieldFault>
     ensures { MatchResult result (λ text. text_in field.now ≡ Ok text.now) (λ f. text_in field.now ≡ Err f) }
 {
@@ -18,8 +18,8 @@ pub fn take_text(field: &[u8]) -> Result<&[u8], FieldFault>
     Ok(without_blanks_after(field))
 }
 
-// The text without the blanks at its end.
-fn without_blanks_after(text: &[u8]) -> &[u8]
+/// Gives a text without the blanks at its end, as `take_text` does.
+pub fn without_blanks_after(text: &[u8]) -> &[u8]
     ensures { result.now ≡ without_blanks_after text.now }
 {
     let mut len = text.len();
@@ -31,8 +31,8 @@ fn without_blanks_after(text: &[u8]) -> &[u8]
 
 /// Writes a text into a field, with blanks after it.
 ///
-/// `TooLong` where the field has too few bytes, else `NotText` where a character is no blank to `~`;
-/// the field is then as it was.
+/// It is `TooLong` where the field has too few bytes, else `NotText` where a character is no blank to
+/// `~`; the field then stays as it was.
 pub fn put_text(text: &[u8], field: &mut [u8]) -> Result<(), FieldFault>
     ensures { Puts (text_field (length field.old) text.now) result field.old field.new }
 {

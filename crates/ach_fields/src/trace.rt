@@ -1,25 +1,24 @@
 ghost use Rattle.std.specs.Prelude.{◌≡◌, ◌≤◌, IsTrue};
-ghost use Rattle.ach_fields.specs.Trace.{trace_of, trace_in, is_trace, dfi_in, sequence_in, trace_text};
+ghost use Rattle.ach_fields.specs.Trace.{trace_of, trace_in, is_trace, dfi_in, sequence_in, most_sequence, trace_text};
+ghost use Rattle.ach_fields.specs.Routing.{most_dfi};
 
 use crate::FieldFault;
 use crate::characters::are_digits;
 use crate::number::{number, put_digits};
+use crate::routing::MOST_DFI;
 use std::marker::Model;
 
-/// How many digits a trace has.
+/// A trace has so many digits.
 const WIDTH: usize = 15;
 
-/// How many of them name the bank.
+/// So many of them name the bank.
 const DFI_WIDTH: usize = 8;
 
-/// The largest number of a bank.
-const MOST_DFI: u32 = 99_999_999;
+/// A sequence has seven digits.
+pub const MOST_SEQUENCE: u32 = 9_999_999;
 
-/// The largest sequence.
-const MOST_SEQUENCE: u32 = 9_999_999;
-
-/// The trace number of an entry: the eight digits of the bank that originated it, then a sequence of
-/// seven.
+/// A `Trace` is the trace number of an entry: the eight digits of the bank that originated it, then a
+/// sequence of seven.
 #[derive(Clone, Copy, Debug, PartialEq, Eq)]
 pub struct Trace {
     digits: [u8; WIDTH],
@@ -40,8 +39,9 @@ impl Model for Trace {
 }
 
 impl Trace {
-    /// The trace of a bank's number and a sequence: `TooLong` where the bank has more than eight
-    /// digits or the sequence more than seven.
+    /// Gives the trace of a bank's number and a sequence.
+    ///
+    /// It is `TooLong` where the bank has more than eight digits or the sequence more than seven.
     pub fn new(dfi: u32, sequence: u32) -> Result<Trace, FieldFault>
         ensures { result ≡ trace_of dfi sequence }
     {
@@ -53,7 +53,7 @@ impl Trace {
         })
     }
 
-    /// The trace of fifteen digits: more bytes are `TooLong`, fewer or another character `NotDigit`.
+    /// Gives the trace of fifteen digits: more bytes are `TooLong`, fewer or another character `NotDigit`.
     pub fn parse(bytes: &[u8]) -> Result<Trace, FieldFault>
         ensures { result ≡ trace_in bytes.now }
     {
@@ -68,25 +68,25 @@ impl Trace {
         Ok(Trace { digits })
     }
 
-    /// The number of the bank.
+    /// Gives the number of the bank.
     pub fn dfi(&self) -> u32
         ensures value { result ≡ dfi_in self.now }
-        ensures within { result ≤ 99_999_999 }
+        ensures within { result ≤ most_dfi }
     {
         let digits = &self.digits;
         number(&digits[..DFI_WIDTH]) as u32
     }
 
-    /// The sequence.
+    /// Gives the sequence.
     pub fn sequence(&self) -> u32
         ensures value { result ≡ sequence_in self.now }
-        ensures within { result ≤ 9_999_999 }
+        ensures within { result ≤ most_sequence }
     {
         let digits = &self.digits;
         number(&digits[DFI_WIDTH..]) as u32
     }
 
-    /// The fifteen digits.
+    /// Gives the fifteen digits.
     pub fn text(&self) -> [u8; WIDTH]
         ensures value { result ≡ self.now }
         ensures valid { IsTrue (is_trace self.now) }
@@ -96,7 +96,7 @@ impl Trace {
 }
 
 fn trace_text(dfi: u32, sequence: u32) -> [u8; WIDTH]
-    requires { sequence ≤ 9_999_999 }
+    requires { sequence ≤ most_sequence }
     ensures { result ≡ trace_text dfi sequence }
 {
     let mut text = [0; WIDTH];

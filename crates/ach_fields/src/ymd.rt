@@ -7,11 +7,11 @@ use crate::characters::are_digits;
 use crate::number::{number, put_digits};
 use std::marker::Model;
 
-/// How many digits a date has.
+/// A date has so many digits.
 const WIDTH: usize = 6;
 
-/// A date as files write it, YYMMDD: a year of two digits, a month from 1 to 12 and a day from 1 to
-/// 31. It need not be a day of the calendar.
+/// A `Ymd` is a date as files write it, YYMMDD: a year of two digits, a month from 1 to 12 and a day
+/// from 1 to 31. It need not be a day of the calendar.
 #[derive(Clone, Copy, Debug, PartialEq, Eq)]
 pub struct Ymd {
     text: [u8; WIDTH],
@@ -32,7 +32,7 @@ impl Model for Ymd {
 }
 
 impl Ymd {
-    /// The date with these parts, or `BadDate`.
+    /// Gives the date with these parts, or `BadDate`.
     pub fn new(yy: u8, mm: u8, dd: u8) -> Result<Ymd, FieldFault>
         ensures { result ≡ date_of yy mm dd }
     {
@@ -44,8 +44,9 @@ impl Ymd {
         })
     }
 
-    /// The date that six digits spell: another character is `NotDigit`, and then `BadDate` where
-    /// there is no such month or day.
+    /// Gives the date that six digits spell.
+    ///
+    /// Another character is `NotDigit`; then it is `BadDate` where there is no such month or day.
     pub fn parse(text: &[u8; WIDTH]) -> Result<Ymd, FieldFault>
         ensures { result ≡ date_in text.now }
     {
@@ -58,7 +59,7 @@ impl Ymd {
         Ok(Ymd { text: *text })
     }
 
-    /// The six digits.
+    /// Gives the six digits.
     pub fn print(&self) -> [u8; WIDTH]
         ensures value { result ≡ self.now }
         ensures valid { IsTrue (is_date_text self.now) }

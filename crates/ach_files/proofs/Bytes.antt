@@ -6,8 +6,8 @@ use Rattle.std.proofs.lemmas.Bool.{le-leb, lt-leb, eq-eqb}
 use Rattle.std.proofs.lemmas.List.{take_more_set, length-set}
 use Rattle.ach_files.specs.declared.fault.FileFault.TheVariants as faults
 use Rattle.ach_files.specs.RecordFault.{record_fault}
-use Rattle.ach_files.specs.Layout.{Move, Put, AfterRecord, Layout, move_at, moved, next, is_end}
-use Rattle.ach_files.specs.FirstFault.{byte_fault, move_fault, map_fault, place_fault, record_of, at}
+use Rattle.ach_files.specs.Layout.{Move, Put, AfterRecord, Layout, move_at, layout_after_move, next_layout, is_end}
+use Rattle.ach_files.specs.FirstFault.{byte_fault, move_fault, map_fault, place_fault, record_of, fault_at}
 
 -- the record that is whole
 pub whole_is : (part : List ℕ) (count b : ℕ) → length part ≡ 94 → count ≡ 93 → set part count b ≡ take count part ++ b ∷ []
@@ -23,13 +23,13 @@ whole_fault_is records part count b plain printable len e =
     let l : length (take count part ++ b ∷ []) ≡ 94 = ap length (sym w) ∙ omega (arith, length-set part count b) in
     rw (plain, printable, eq-eqb _ _ l, w) refl
 
-pub whole_moved : (l : Layout) (part : List ℕ) (count b : ℕ) → length part ≡ 94 → count ≡ 93 → moved l b (Put (take count part)) ≡ record { records = l.records ++ set part count b ∷ []; place = AfterRecord }
+pub whole_moved : (l : Layout) (part : List ℕ) (count b : ℕ) → length part ≡ 94 → count ≡ 93 → layout_after_move l b (Put (take count part)) ≡ record { records = l.records ++ set part count b ∷ []; place = AfterRecord }
 whole_moved l part count b len e =
     let k : length (take count part) ≡ 93 = omega (arith, length-take count part) in
     rw (eq-eqb _ _ k, whole_is part count b len e) refl
 
 -- where the limit is passed
-pub fault_large : (n : ℕ) (l : Layout) (b : ℕ) (m : Move) → m ≡ move_at l.place b → 4194304 ≤ n → place_fault n l b ≡ Some (at (record_of l.records m) faults.TooLarge)
+pub fault_large : (n : ℕ) (l : Layout) (b : ℕ) (m : Move) → m ≡ move_at l.place b → 4194304 ≤ n → place_fault n l b ≡ Some (fault_at (record_of l.records m) faults.TooLarge)
 unfolding place_fault
 fault_large n l b m e le = rw (← e, le-leb _ _ le) refl
 
@@ -37,8 +37,8 @@ pub fault_small : (n : ℕ) (l : Layout) (b : ℕ) (m : Move) → m ≡ move_at 
 unfolding place_fault
 fault_small n l b m e lt = rw (← e, lt-leb _ _ lt) refl
 
-pub next_is : (l : Layout) (b : ℕ) (m : Move) → m ≡ move_at l.place b → next l b ≡ moved l b m
-unfolding next
+pub next_is : (l : Layout) (b : ℕ) (m : Move) → m ≡ move_at l.place b → next_layout l b ≡ layout_after_move l b m
+unfolding next_layout
 next_is l b m e = rw (← e) refl
 
 pub match_ok : {A E : Type 0} (r : Result A E) (P P2 : A → Type 0) (Q Q2 : E → Type 0) (X : Type 0) → MatchResult r P Q → OnOk r X → ((x : A) → P x → X → P2 x) → ((e : E) → Q e → Q2 e) → MatchResult r P2 Q2

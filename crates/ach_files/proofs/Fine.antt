@@ -12,10 +12,10 @@ use Rattle.ach_files.specs.declared.fault.FileFault.TheVariants as faults
 use Rattle.ach_files.specs.declared.sums.Sums.{Sums}
 use Rattle.ach_files.specs.declared.stage.Stage.{Stage}
 use Rattle.ach_files.specs.declared.stage.Stage.TheVariants as stages
-use Rattle.ach_files.specs.Totals.{low, Agrees, control_batches, control_blocks, blocks, file_control_sums}
+use Rattle.ach_files.specs.Totals.{low_digits, Agrees, control_batches, control_blocks, blocks, file_control_sums}
 use Rattle.ach_files.specs.Structure.{nines}
-use Rattle.ach_files.specs.declared.stage.Done.{Done}
-use Rattle.ach_files.specs.RecordFault.{may_follow, is_misplaced, has_amount, is_forward, sums_differ, block_fault, control_fault, judged}
+use Rattle.ach_files.specs.declared.stage.BatchesSoFar.{BatchesSoFar}
+use Rattle.ach_files.specs.RecordFault.{may_follow, is_misplaced, has_amount, is_forward, sums_differ, block_fault, control_fault, fault_after_stage}
 
 -- a test that told nothing
 pub guard : (b : Bool) (f : FileFault) (o : Option FileFault) → cond b (Some f) o ≡ None → (b ≡ false) × (o ≡ None)
@@ -31,28 +31,28 @@ pub record Fine (stage : Stage) (n : ℕ) (kind : Kind) (text : List ℕ) : Type
   pub placed : is_misplaced stage kind ≡ false
   pub digits : has_digits kind text ≡ true
   pub forward : is_forward kind text ≡ false
-  pub amount : has_amount stage kind ≡ false
+  pub cents : has_amount stage kind ≡ false
   pub control : control_fault stage n kind text ≡ None
 
-placed_is : (follows misplaced amount : Bool) → not (follows || misplaced) ≡ false → (misplaced || amount) ≡ false → (follows ≡ true) × (misplaced ≡ false) × (amount ≡ false)
+placed_is : (follows misplaced cents : Bool) → not (follows || misplaced) ≡ false → (misplaced || cents) ≡ false → (follows ≡ true) × (misplaced ≡ false) × (cents ≡ false)
 placed_is true false false e h = (refl, refl, refl)
 placed_is false false false e h = absurd cc
 placed_is f true a e h = absurd cc
 placed_is f false true e h = absurd cc
 
-pub is_fine : (stage : Stage) (n : ℕ) (kind : Kind) (text : List ℕ) → judged stage n kind text ≡ None → Fine stage n kind text
-unfolding judged
+pub is_fine : (stage : Stage) (n : ℕ) (kind : Kind) (text : List ℕ) → fault_after_stage stage n kind text ≡ None → Fine stage n kind text
+unfolding fault_after_stage
 is_fine stage n kind text e =
     let a = guard (not (may_follow stage kind || is_misplaced stage kind)) faults.BadOrder _ e in
     let b = guard (not (has_digits kind text)) faults.BadNumber _ a.1 in
     let c = guard (is_forward kind text) faults.ForwardEntry _ b.1 in
     let d = guard (is_misplaced stage kind || has_amount stage kind) faults.BadAddenda _ c.1 in
     let p = placed_is (may_follow stage kind) (is_misplaced stage kind) (has_amount stage kind) a.0 d.0 in
-    record { follows = p.0; placed = p.1; digits = not_false _ b.0; forward = c.0; amount = p.2; control = d.1 }
+    record { follows = p.0; placed = p.1; digits = not_false _ b.0; forward = c.0; cents = p.2; control = d.1 }
 
-pub fine_is : (stage : Stage) (n : ℕ) (kind : Kind) (text : List ℕ) → Fine stage n kind text → judged stage n kind text ≡ None
-unfolding judged
-fine_is stage n kind text f = rw (f.follows, f.placed, f.digits, f.forward, f.amount) f.control
+pub fine_is : (stage : Stage) (n : ℕ) (kind : Kind) (text : List ℕ) → Fine stage n kind text → fault_after_stage stage n kind text ≡ None
+unfolding fault_after_stage
+fine_is stage n kind text f = rw (f.follows, f.placed, f.digits, f.forward, f.cents) f.control
 
 never_other : (stage : Stage) → may_follow stage kinds.Other ≡ true → ⊥
 never_other stages.BeforeHeader e = cc
@@ -79,7 +79,7 @@ known_is stage _ e = refl
 pub agrees_is : (told sums : Sums) → sums_differ told sums ≡ None → Agrees told sums
 agrees_is told sums e =
     let a = guard (not (told.count == sums.count)) faults.BadCount _ e in
-    let b = guard (not (told.hash == low sums.hash)) faults.BadHash _ a.1 in
+    let b = guard (not (told.hash == low_digits sums.hash)) faults.BadHash _ a.1 in
     let c = guard (not (told.debits == sums.debits)) faults.BadTotal _ b.1 in
     let d = guard (not (told.credits == sums.credits)) faults.BadTotal _ c.1 in
     record { count = eqb-true _ _ (not_false _ a.0); hash = eqb-true _ _ (not_false _ b.0); debits = eqb-true _ _ (not_false _ c.0); credits = eqb-true _ _ (not_false _ d.0) }
@@ -95,7 +95,7 @@ block_none : (n : ℕ) (text : List ℕ) (o : Option FileFault) → block_fault 
 block_none n text None e = (refl, eqb-true _ _ (blocks_agree (control_blocks text == blocks n) e))
 block_none n text (Some f) e = absurd cc
 
-pub file_control_is : (d : Done) (n : ℕ) (text : List ℕ) → control_fault (stages.BetweenBatches d) n kinds.FileControl text ≡ None
+pub file_control_is : (d : BatchesSoFar) (n : ℕ) (text : List ℕ) → control_fault (stages.BetweenBatches d) n kinds.FileControl text ≡ None
     → (control_batches text ≡ d.batches) × Agrees (file_control_sums text) d.sums × (control_blocks text ≡ blocks n)
 unfolding control_fault
 file_control_is d n text e =
@@ -103,7 +103,7 @@ file_control_is d n text e =
     let b = block_none n text (sums_differ (file_control_sums text) d.sums) a.1 in
     (eqb-true _ _ (not_false _ a.0), agrees_is (file_control_sums text) d.sums b.0, b.1)
 
-pub is_file_control : (d : Done) (n : ℕ) (text : List ℕ) → control_batches text ≡ d.batches → Agrees (file_control_sums text) d.sums → control_blocks text ≡ blocks n
+pub is_file_control : (d : BatchesSoFar) (n : ℕ) (text : List ℕ) → control_batches text ≡ d.batches → Agrees (file_control_sums text) d.sums → control_blocks text ≡ blocks n
     → control_fault (stages.BetweenBatches d) n kinds.FileControl text ≡ None
 unfolding control_fault
 is_file_control d n text a b c = rw (eq-eqb _ _ a, is_agreed _ _ b, eq-eqb _ _ c) refl

@@ -3,12 +3,12 @@ use Rattle.std.proofs.Common.{subst, zero, ◌-◌, take_all, length-drop, ◌�
 use Rattle.std.proofs.lemmas.List.{append-nil, take_more, take-append-drop}
 use Rattle.std.proofs.lemmas.List.Sums.{fold_push}
 use Rattle.ach_files.specs.declared.fault.Fault.{Fault}
-use Rattle.ach_files.specs.Layout.{next, layout, start}
+use Rattle.ach_files.specs.Layout.{next_layout, layout, start}
 use Rattle.ach_files.specs.FirstFault.{first_fault, early_fault, place_fault, or_else, Tells}
 
-pub layout_more : (bytes : List ℕ) (b : ℕ) → layout (bytes ++ b ∷ []) ≡ next (layout bytes) b
+pub layout_more : (bytes : List ℕ) (b : ℕ) → layout (bytes ++ b ∷ []) ≡ next_layout (layout bytes) b
 unfolding layout
-layout_more bytes b = fold_push next start bytes b
+layout_more bytes b = fold_push next_layout start bytes b
 
 or_assoc : (x y z : Option Fault) → or_else (or_else x y) z ≡ or_else x (or_else y z)
 or_assoc None y z = refl
@@ -47,9 +47,9 @@ pub tells_first : (f : Fault) (o p : Option Fault) → Tells f o → Tells f (or
 tells_first f o p (inl memory) = inl memory
 tells_first f o p (inr here) = inr (rw here refl)
 
--- a fault that is told in a front of the piece
-pub tells_front : (seen piece : List ℕ) (n : ℕ) (f : Fault) → Tells f (early_fault (seen ++ take n piece)) → Tells f (early_fault (seen ++ piece))
-tells_front seen piece n f told =
+-- a fault that is told in a prefix of the piece
+pub tells_prefix : (seen piece : List ℕ) (n : ℕ) (f : Fault) → Tells f (early_fault (seen ++ take n piece)) → Tells f (early_fault (seen ++ piece))
+tells_prefix seen piece n f told =
     let e : seen ++ piece ≡ (seen ++ take n piece) ++ drop n piece = ap (λ p. seen ++ p) (sym (take-append-drop n piece)) ∙ sym (append_assoc seen (take n piece) (drop n piece)) in
     subst (λ (o : Option Fault). Tells f o) (sym (ap early_fault e ∙ first_append [] (seen ++ take n piece) (drop n piece))) (tells_first f (early_fault (seen ++ take n piece)) (first_fault (seen ++ take n piece) (drop n piece)) told)
 

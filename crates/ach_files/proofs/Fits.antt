@@ -1,5 +1,5 @@
 -- Where no fault is told, each row has a text, the controls too.
-use Rattle.std.proofs.Common.{◌≡◌, ℕ, ◌+◌, ◌*◌, ◌^◌, ◌<◌, ◌≤◌, Bool, true, false, ◌&&◌, ◌||◌, List, [], ◌∷◌, length, refl, sym, ◌∙◌, arith, inl, inr, Some, None}
+use Rattle.std.proofs.Common.{◌≡◌, ℕ, ◌+◌, ◌*◌, ◌^◌, ◌<◌, ◌≤◌, Bool, true, false, ◌&&◌, ◌||◌, List, [], ◌∷◌, length, refl, sym, ◌∙◌, arith, inl, inr, Some}
 use Rattle.std.specs.Prelude.{nat_lt, nat_le, min}
 use Rattle.std.specs.List.{list_all, list_any, flat_map}
 use Rattle.std.proofs.lemmas.Bool.{and_parts, and_from, lt-ltb, ltb-false, cases_lt, le-ltb}
@@ -7,13 +7,13 @@ use Rattle.std.proofs.lemmas.List.Sums.{sum_by-cons}
 use Rattle.ach_records.specs.Print.{row_fits, batch_header_row, batch_control_row, file_control_row, file_header_row}
 use Rattle.ach_records.specs.declared.print.BatchHeaderText.{BatchHeaderText}
 use Rattle.ach_records.specs.declared.print.FileControlText.{FileControlText}
-use Rattle.ach_files.specs.Totals.{low, blocks}
+use Rattle.ach_files.specs.Totals.{low_digits, blocks}
 use Rattle.ach_files.specs.declared.outgoing.OutgoingEntry.{OutgoingEntry}
 use Rattle.ach_files.specs.declared.outgoing.OutgoingBatch.{OutgoingBatch}
 use Rattle.ach_files.specs.declared.outgoing.Outgoing.{Outgoing}
 use Rattle.ach_files.specs.declared.outgoing.PrintFault.TheVariants as faults
 use Rattle.ach_files.specs.declared.sums.Sums.{Sums}
-use Rattle.ach_files.specs.Outgoing.{entry_rows, entry_fits, batch_fits, batch_rows, batch_control, file_control, outgoing_rows, fields_fit, is_large, is_long_batch, has_many, sums_in, sums_of, file_sums, main_count, print_fault, AllFit, kept, most}
+use Rattle.ach_files.specs.Outgoing.{entry_rows, entry_fits, batch_fits, batch_rows, batch_control, file_control, outgoing_rows, fields_fit, is_large, is_long_batch, has_many, sums_in, sums_of, file_sums, main_count, print_fault, AllFit, capped_sums, sums_cap}
 use Rattle.ach_records.proofs.Texts.{fit_in}
 use Rattle.ach_files.proofs.Pages.{fit_both, around_fit}
 
@@ -45,12 +45,12 @@ unfolding row_fits
 control_row_fits b fits count debits credits =
     let h = header_fits b.header fits in
     let c : nat_lt (sums_in b).count (10 ^ 6) ≡ true = below _ _ (omega arith) in
-    let g : nat_lt (low (sums_in b).hash) (10 ^ 10) ≡ true = below _ _ (omega arith) in
+    let g : nat_lt (low_digits (sums_in b).hash) (10 ^ 10) ≡ true = below _ _ (omega arith) in
     let d : nat_lt (sums_in b).debits (10 ^ 12) ≡ true = below _ _ (omega arith) in
     let e : nat_lt (sums_in b).credits (10 ^ 12) ≡ true = below _ _ (omega arith) in
     and_from _ _ h.service (and_from _ _ c (and_from _ _ g (and_from _ _ d (and_from _ _ e (and_from _ _ h.company (and_from _ _ h.odfi (and_from _ _ h.number refl)))))))
 
-file_row_fits : (c : FileControlText) → c.batches < 10 ^ 6 → c.blocks < 10 ^ 6 → c.count < 10 ^ 8 → c.hash < 10 ^ 10 → c.debits < 10 ^ 12 → c.credits < 10 ^ 12 → row_fits (file_control_row c) ≡ true
+pub file_row_fits : (c : FileControlText) → c.batches < 10 ^ 6 → c.blocks < 10 ^ 6 → c.count < 10 ^ 8 → c.hash < 10 ^ 10 → c.debits < 10 ^ 12 → c.credits < 10 ^ 12 → row_fits (file_control_row c) ≡ true
 unfolding row_fits
 file_row_fits c p q r s t u = and_from _ _ (below _ _ p) (and_from _ _ (below _ _ q) (and_from _ _ (below _ _ r) (and_from _ _ (below _ _ s) (and_from _ _ (below _ _ t) (and_from _ _ (below _ _ u) refl)))))
 
@@ -87,14 +87,6 @@ rows_fit o fields large many =
     (batches_fit o.batches.now p.1 m.0 debits credits)
     (file_row_fits (file_control o) (omega arith) (omega arith) (omega arith) (omega arith) (omega arith) (omega arith))
 
-pub few_batches : (o : Outgoing) → has_many o ≡ false → length o.batches.now ≤ 999999
-unfolding has_many
-few_batches o many = let m = either _ _ many in let n = either _ _ m.1 in ltb-false _ _ n.0
-
-pub no_fault : (o : Outgoing) → fields_fit o ≡ true → is_large (sums_of o) ≡ false → has_many o ≡ false → print_fault o ≡ None
-unfolding print_fault
-no_fault o p q r = rw (p, q, r) refl
-
 pub fault_field : (o : Outgoing) → fields_fit o ≡ false → print_fault o ≡ Some faults.BadField
 unfolding print_fault
 fault_field o p = rw p refl
@@ -107,13 +99,13 @@ pub fault_many : (o : Outgoing) → fields_fit o ≡ true → is_large (sums_of 
 unfolding print_fault
 fault_many o p q r = rw (p, q, r) refl
 
-capped_large : (n : ℕ) → nat_lt 999999999999 (min n most) ≡ nat_lt 999999999999 n
+capped_large : (n : ℕ) → nat_lt 999999999999 (min n sums_cap) ≡ nat_lt 999999999999 n
 capped_large n =
     elim (cases_lt 999999999999 n) [
-      | inl lt ↦ lt-ltb 999999999999 (min n most) (omega arith) ∙ sym (lt-ltb 999999999999 n lt)
-      | inr le ↦ le-ltb 999999999999 (min n most) (omega arith) ∙ sym (le-ltb 999999999999 n le)
+      | inl lt ↦ lt-ltb 999999999999 (min n sums_cap) (omega arith) ∙ sym (lt-ltb 999999999999 n lt)
+      | inr le ↦ le-ltb 999999999999 (min n sums_cap) (omega arith) ∙ sym (le-ltb 999999999999 n le)
     ]
 
-pub large_kept : (s x : Sums) → s ≡ kept x → is_large s ≡ is_large x
-unfolding kept
+pub large_kept : (s x : Sums) → s ≡ capped_sums x → is_large s ≡ is_large x
+unfolding capped_sums
 large_kept s x e = rw (e, capped_large x.debits, capped_large x.credits) refl

@@ -9,7 +9,7 @@ use Rattle.std.proofs.lemmas.List.Elements.{All-head, All-tail}
 use Rattle.std.proofs.lemmas.Bool.{ne_eqb, eq-eqb}
 use Rattle.ach_files.specs.declared.fault.Fault.{Fault}
 use Rattle.ach_files.specs.RecordFault.{record_fault}
-use Rattle.ach_files.specs.Layout.{begins, Place, InRecord, AfterRecord, AfterReturn, AfterLine, InTail, Move, Put, Layout, move_at, moved, next, is_end, layout, start}
+use Rattle.ach_files.specs.Layout.{may_begin, Place, InRecord, AfterRecord, AfterReturn, AfterLine, InTail, Move, Put, Layout, move_at, layout_after_move, next_layout, is_end, layout, start}
 use Rattle.ach_files.specs.FirstFault.{byte_fault, move_fault, map_fault, place_fault, or_else, first_fault, early_fault}
 use Rattle.std.proofs.lemmas.List.Sums.{fold-append}
 use Rattle.ach_files.proofs.Firsts.{layout_more, first_append}
@@ -18,19 +18,19 @@ use Rattle.ach_files.proofs.Runs.{Whole}
 
 abbrev pub faults : ℕ → Layout → List ℕ → Option Fault
 faults n l [] = None
-faults n l (b ∷ bs) = or_else (place_fault n l b) (faults (n + 1) (next l b) bs)
+faults n l (b ∷ bs) = or_else (place_fault n l b) (faults (n + 1) (next_layout l b) bs)
 
 pub first_faults : (seen xs : List ℕ) → first_fault seen xs ≡ faults (length seen) (layout seen) xs
 unfolding first_fault
 first_faults seen [] = refl
 first_faults seen (b ∷ bs) =
     let n : length (seen ++ b ∷ []) ≡ length seen + 1 = omega (arith, length-append seen (b ∷ [])) in
-    let e : first_fault (seen ++ b ∷ []) bs ≡ faults (length seen + 1) (next (layout seen) b) bs = first_faults (seen ++ b ∷ []) bs ∙ rw (n, layout_more seen b) refl in
+    let e : first_fault (seen ++ b ∷ []) bs ≡ faults (length seen + 1) (next_layout (layout seen) b) bs = first_faults (seen ++ b ∷ []) bs ∙ rw (n, layout_more seen b) refl in
     ap (or_else (place_fault (length seen) (layout seen) b)) e
 
 pub record Passes (n : ℕ) (l : Layout) (xs : List ℕ) (l2 : Layout) : Type 0 where
   pub none : faults n l xs ≡ None
-  pub comes : fold next l xs ≡ l2
+  pub comes : fold next_layout l xs ≡ l2
 
 both_none : (x y : Option Fault) → or_else x y ≡ None → (x ≡ None) × (y ≡ None)
 both_none None y e = (refl, e)
@@ -44,11 +44,11 @@ pass_on n l [] ys m k h g =
     rw start g2
 pass_on n l (x ∷ xs) ys m k h g =
     let z : n + length (x ∷ xs) ≡ (n + 1) + length xs = omega arith in
-    let p = both_none (place_fault n l x) (faults (n + 1) (next l x) xs) h.none in
-    let rest = pass_on (n + 1) (next l x) xs ys m k (record { none = p.1; comes = h.comes }) (rw z at g) in
+    let p = both_none (place_fault n l x) (faults (n + 1) (next_layout l x) xs) h.none in
+    let rest = pass_on (n + 1) (next_layout l x) xs ys m k (record { none = p.1; comes = h.comes }) (rw z at g) in
     record { none = rw p.0 rest.none; comes = rest.comes }
 
-pub one_passes : (n : ℕ) (l : Layout) (b : ℕ) (m : Move) → m ≡ move_at l.place b → n < 4194304 → move_fault l.records b m ≡ None → Passes n l (b ∷ []) (moved l b m)
+pub one_passes : (n : ℕ) (l : Layout) (b : ℕ) (m : Move) → m ≡ move_at l.place b → n < 4194304 → move_fault l.records b m ≡ None → Passes n l (b ∷ []) (layout_after_move l b m)
 one_passes n l b m e lt none = record { none = rw (fault_small n l b m e lt, none) refl; comes = next_is l b m e }
 
 plain_is : (b : ℕ) → IsPrintable b → is_end b ≡ false
@@ -75,7 +75,7 @@ last_tells n rs done b len p lt =
 -- these bytes end a record, and nothing is wrong with them but what is wrong with the record
 pub record Judges (n : ℕ) (rs : List (List ℕ)) (place : Place) (text xs : List ℕ) : Type 0 where
   pub tells : faults n (record { records = rs; place = place }) xs ≡ map_fault (length rs + 1) (record_fault rs text)
-  pub comes : fold next (record { records = rs; place = place }) xs ≡ record { records = rs ++ text ∷ []; place = AfterRecord }
+  pub comes : fold next_layout (record { records = rs; place = place }) xs ≡ record { records = rs ++ text ∷ []; place = AfterRecord }
 
 or_right : (x : Option Fault) → or_else x None ≡ x
 or_right None = refl
@@ -107,23 +107,23 @@ same_fault : (n : ℕ) (rs : List (List ℕ)) (place : Place) (b : ℕ) → move
 unfolding place_fault move_at
 same_fault n rs place b e = rw e refl
 
-same_next : (rs : List (List ℕ)) (place : Place) (b : ℕ) → move_at place b ≡ Put [] → next (record { records = rs; place = place }) b ≡ next (record { records = rs; place = InRecord [] }) b
-unfolding next move_at
+same_next : (rs : List (List ℕ)) (place : Place) (b : ℕ) → move_at place b ≡ Put [] → next_layout (record { records = rs; place = place }) b ≡ next_layout (record { records = rs; place = InRecord [] }) b
+unfolding next_layout move_at
 same_next rs place b e = rw e refl
 
 -- a whole record
 pub record_judges : (n : ℕ) (rs : List (List ℕ)) (place : Place) (t : List ℕ) → Begins place → Whole t → n + length t ≤ 4194304 → Judges n rs place t t
-record_judges n rs place [] begins w room = let l = w.len in absurd (omega arith)
-record_judges n rs place (b ∷ todo) begins w room =
-    let e = begins b (plain_is b (All-head IsPrintable b todo w.printable)) in
+record_judges n rs place [] may_begin w room = let l = w.len in absurd (omega arith)
+record_judges n rs place (b ∷ todo) may_begin w room =
+    let e = may_begin b (plain_is b (All-head IsPrintable b todo w.printable)) in
     let l = w.len in
     let h = inside rs todo n [] b (omega arith) w.printable room in
     record { tells = rw (same_fault n rs place b e, same_next rs place b e) h.tells; comes = rw (same_next rs place b e) h.comes }
 
 pub record_passes : (n : ℕ) (rs : List (List ℕ)) (place : Place) (t : List ℕ) → Begins place → Whole t → record_fault rs t ≡ None → n + length t ≤ 4194304
     → Passes n (record { records = rs; place = place }) t (record { records = rs ++ t ∷ []; place = AfterRecord })
-record_passes n rs place t begins w none room =
-    let h = record_judges n rs place t begins w room in
+record_passes n rs place t may_begin w none room =
+    let h = record_judges n rs place t may_begin w room in
     record { none = h.tells ∙ ap (map_fault (length rs + 1)) none; comes = h.comes }
 
 -- bytes without a fault, and a whole record after them
@@ -133,12 +133,12 @@ pub record Reads (seen text : List ℕ) : Type 0 where
 
 pub record_read : (seen text : List ℕ) → early_fault seen ≡ None → Begins (layout seen).place → Whole text → length seen + length text ≤ 4194304 → Reads seen text
 unfolding layout
-record_read seen text fine begins w room =
+record_read seen text fine may_begin w room =
     let l = layout seen in
-    let h = record_judges (length seen) l.records l.place text begins w room in
+    let h = record_judges (length seen) l.records l.place text may_begin w room in
     record {
       tells = first_append [] seen text ∙ ap (λ o. or_else o (first_fault seen text)) fine ∙ first_faults seen text ∙ h.tells;
-      comes = fold-append next start seen text ∙ h.comes;
+      comes = fold-append next_layout start seen text ∙ h.comes;
     }
 
 pub or_false : (x y : Bool) → (x || y) ≡ false → (x ≡ false) × (y ≡ false)
@@ -149,7 +149,7 @@ nothing_is : (bytes : List ℕ) → (length bytes == 0) ≡ true → bytes ≡ [
 nothing_is bytes e = nil_from_length bytes (eqb-true _ _ e)
 
 -- where a record may begin, any byte but CR and LF begins one
-pub begins_is : (place : Place) → begins place ≡ true → Begins place
+pub begins_is : (place : Place) → may_begin place ≡ true → Begins place
 unfolding move_at
 begins_is (InRecord bytes) e b plain = ap Put (nothing_is bytes e)
 begins_is AfterRecord e b plain = let p = or_false (b == 10) (b == 13) plain in rw (p.0, p.1) refl

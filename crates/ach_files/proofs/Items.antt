@@ -15,28 +15,29 @@ use Rattle.ach_files.specs.declared.outgoing.Addenda.{Addenda}
 use Rattle.ach_files.specs.declared.outgoing.Addenda.TheVariants as addendas
 use Rattle.ach_files.specs.declared.outgoing.OutgoingEntry.{OutgoingEntry}
 use Rattle.ach_files.specs.Structure.{Item, item_records}
-use Rattle.ach_files.specs.Facts.{transaction_code}
+use Rattle.ach_records.specs.Record.{entry_transaction_code}
 use Rattle.ach_files.specs.File.{IsItem}
 use Rattle.ach_records.specs.Record.{IsRecord}
-use Rattle.ach_files.specs.Totals.{sums_of_items, direction, is_debit, debit_of, credit_of}
+use Rattle.ach_records.specs.Record.{entry_direction}
+use Rattle.ach_files.specs.Totals.{sums_of_items, is_debit, debit_of, credit_of}
 use Rattle.ach_files.specs.Outgoing.{entry_of, entry_rows, addenda_rows, entry_fits, entry_count, debit_cents, credit_cents, is_debit_entry, batch_sums, AllFit}
-use Rattle.ach_files.specs.Returned.{IsReply, IsAnswer, addenda_text, item_of}
+use Rattle.ach_files.specs.ReturnsAndChanges.{IsReturnOrChange, IsReturnOrChangeEntry, addenda_text, item_of}
 use Rattle.ach_files.proofs.Adding.{same_sums}
 use Rattle.ach_files.proofs.Made.{entry_made, change_made, return_made}
 
 -- the parts of an entry's row
 pub record EntryReads (e : EntryText) : Type 0 where
-  pub code : transaction_code (row_text (entry_row e)) ≡ e.transaction
+  pub code : entry_transaction_code (row_text (entry_row e)) ≡ e.transaction
   pub dfi : entry_dfi (row_text (entry_row e)) ≡ e.dfi
   pub cents : entry_cents (row_text (entry_row e)) ≡ e.cents
-  pub direction : direction (row_text (entry_row e)) ≡ 48 + e.transaction % 10
+  pub direction : entry_direction (row_text (entry_row e)) ≡ 48 + e.transaction % 10
 
-second_is : (e : EntryText) → direction (row_text (entry_row e)) ≡ 48 + e.transaction % 10
+second_is : (e : EntryText) → entry_direction (row_text (entry_row e)) ≡ 48 + e.transaction % 10
 unfolding row_text digits
 second_is e = refl
 
 pub entry_reads : (e : EntryText) → row_fits (entry_row e) ≡ true → EntryReads e
-unfolding transaction_code entry_dfi entry_cents
+unfolding entry_transaction_code entry_dfi entry_cents
 entry_reads e fits =
     let rest : List Value = Words 15 e.identification.now ∷ Words 22 e.name.now ∷ Words 2 [] ∷ Number 1 (cond e.has_addenda 1 0) ∷ Words 15 e.trace ∷ [] in
     let tail : List Value = Number 1 e.check_digit ∷ Words 17 e.account.now ∷ Number 10 e.cents ∷ rest in
@@ -47,19 +48,19 @@ entry_reads e fits =
       direction = second_is e;
     }
 
-reply_made : (a : Addenda) (trace : List ℕ) (cents c2 : ℕ) → AllFit (addenda_rows trace a) → IsReply a cents → c2 ≡ cents → IsRecord kinds.Return99 (addenda_text trace a) ⊎ (IsRecord kinds.Change98 (addenda_text trace a) × (c2 ≡ 0))
+reply_made : (a : Addenda) (trace : List ℕ) (cents c2 : ℕ) → AllFit (addenda_rows trace a) → IsReturnOrChange a cents → c2 ≡ cents → IsRecord kinds.Return99 (addenda_text trace a) ⊎ (IsRecord kinds.Change98 (addenda_text trace a) × (c2 ≡ 0))
 reply_made (addendas.Return r) trace cents c2 h z e = inl (return_made r ((and_parts (row_fits (return99_row r)) true h).0))
 reply_made (addendas.Change c) trace cents c2 h z e = inr (change_made c ((and_parts (row_fits (change98_row c)) true h).0), e ∙ z)
 reply_made addendas.Absent trace cents c2 h z e = absurd z
 reply_made (addendas.Payment i) trace cents c2 h z e = absurd z
 
-reply_rows : (a : Addenda) (trace : List ℕ) (cents : ℕ) → IsReply a cents → map row_text (addenda_rows trace a) ≡ addenda_text trace a ∷ []
+reply_rows : (a : Addenda) (trace : List ℕ) (cents : ℕ) → IsReturnOrChange a cents → map row_text (addenda_rows trace a) ≡ addenda_text trace a ∷ []
 reply_rows (addendas.Return r) trace cents z = refl
 reply_rows (addendas.Change c) trace cents z = refl
 reply_rows addendas.Absent trace cents z = absurd z
 reply_rows (addendas.Payment i) trace cents z = absurd z
 
-reply_count : (a : Addenda) (trace : List ℕ) (cents : ℕ) → IsReply a cents → length (addenda_rows trace a) ≡ 1
+reply_count : (a : Addenda) (trace : List ℕ) (cents : ℕ) → IsReturnOrChange a cents → length (addenda_rows trace a) ≡ 1
 reply_count (addendas.Return r) trace cents z = refl
 reply_count (addendas.Change c) trace cents z = refl
 reply_count addendas.Absent trace cents z = absurd z
@@ -86,27 +87,27 @@ direction_of : (d t : ℕ) → d ≡ 48 + t % 10 → (t % 10 ≡ 1) ⊎ (t % 10 
 direction_of d t e (inl one) = inl (omega arith)
 direction_of d t e (inr six) = inr (omega arith)
 
-pub entry_is : (e : OutgoingEntry) → entry_fits e ≡ true → IsAnswer e → EntryIs e
+pub entry_is : (e : OutgoingEntry) → entry_fits e ≡ true → IsReturnOrChangeEntry e → EntryIs e
 unfolding entry_fits entry_rows item_of
 entry_is e h a =
     let p = and_parts (row_fits (entry_row (entry_of e))) (list_all row_fits (addenda_rows e.trace e.addenda)) h in
     let r = entry_reads (entry_of e) p.0 in
     let test : is_debit (row_text (entry_row (entry_of e))) ≡ is_debit_entry e = ap (nat_le 53) r.direction ∙ debit_test (e.transaction % 10) in
     record {
-      item = record { entry = entry_made (entry_of e) p.0; direction = direction_of _ e.transaction r.direction a.code; addenda = reply_made e.addenda e.trace e.cents _ p.1 a.reply r.cents };
-      rows = ap (λ ts. row_text (entry_row (entry_of e)) ∷ ts) (reply_rows e.addenda e.trace e.cents a.reply);
-      count = omega (arith, reply_count e.addenda e.trace e.cents a.reply);
+      item = record { entry = entry_made (entry_of e) p.0; direction = direction_of _ e.transaction r.direction a.code; addenda = reply_made e.addenda e.trace e.cents _ p.1 a.return_or_change r.cents };
+      rows = ap (λ ts. row_text (entry_row (entry_of e)) ∷ ts) (reply_rows e.addenda e.trace e.cents a.return_or_change);
+      count = omega (arith, reply_count e.addenda e.trace e.cents a.return_or_change);
       dfi = r.dfi;
       cents = r.cents;
       debit = rw (test, r.cents) refl;
       credit = rw (test, r.cents) refl;
     }
 
-pub entries_are : (es : List OutgoingEntry) → list_all entry_fits es ≡ true → All IsAnswer es → All EntryIs es
+pub entries_are : (es : List OutgoingEntry) → list_all entry_fits es ≡ true → All IsReturnOrChangeEntry es → All EntryIs es
 entries_are [] h a = All-nil EntryIs
 entries_are (e ∷ es) h a =
     let p = and_parts (entry_fits e) (list_all entry_fits es) h in
-    All-cons EntryIs e es (entry_is e p.0 (All-head IsAnswer e es a)) (entries_are es p.1 (All-tail IsAnswer e es a))
+    All-cons EntryIs e es (entry_is e p.0 (All-head IsReturnOrChangeEntry e es a)) (entries_are es p.1 (All-tail IsReturnOrChangeEntry e es a))
 
 pub sum_same : {X Y : Type 0} (P : X → Type 0) (h : X → Y) (f : Y → ℕ) (g : X → ℕ) (xs : List X) → All P xs → ((x : X) → P x → f (h x) ≡ g x) → sum_by f (map h xs) ≡ sum_by g xs
 sum_same P h f g [] a e = refl

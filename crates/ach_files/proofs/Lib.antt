@@ -11,6 +11,7 @@ pub mod Inside
 pub mod Passes
 pub mod Printed
 pub mod Outcome
+pub mod OutOfMemory
 pub mod Outgoings
 pub mod Controls
 pub mod Pages

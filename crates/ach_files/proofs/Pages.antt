@@ -1,13 +1,14 @@
 -- Printing one record after the other.
-use Rattle.std.proofs.Common.{subst, ◌≡◌, ℕ, zero, suc, ◌+◌, ◌<◌, true, List, [], ◌∷◌, ◌++◌, map, length, take, get_or, replicate, refl, sym, ap, ◌∙◌, arith, append_assoc}
-use Rattle.std.specs.Prelude.{OnOk, Result, Ok, Err, Option, Some, None, IsSome}
+use Rattle.std.proofs.Common.{subst, ◌≡◌, ℕ, zero, suc, ◌+◌, ◌<◌, true, false, List, [], ◌∷◌, ◌++◌, map, length, take, get_or, replicate, refl, sym, ap, ◌∙◌, arith, append_assoc}
+use Rattle.std.specs.Prelude.{OnOk, OnErr, is_err, Result, Ok, Err, Option, Some, None, IsSome}
 use Rattle.std.specs.List.{list_all, flat_map}
 use Rattle.std.proofs.lemmas.Bool.{and_parts, and_from}
 use Rattle.std.proofs.lemmas.List.{append-nil, take_more, map-append, replicate_more}
+use Rattle.std.proofs.Math.Seq.{take-append_seam}
 use Rattle.std.proofs.lemmas.List.Folds.{list_all-append}
 use Rattle.std.proofs.lemmas.List.Concat.{flat_map-append}
 use Rattle.ach_records.specs.Print.{Value, row_fits, row_text}
-use Rattle.ach_files.specs.Outgoing.{page, AllFit, IsText}
+use Rattle.ach_files.specs.Outgoing.{page, AllFit, BeginsWith, IsText}
 
 pub page_append : (a b : List (List ℕ)) → page (a ++ b) ≡ page a ++ page b
 page_append a b = flat_map-append (λ (r : List ℕ). r ++ 10 ∷ []) a b
@@ -61,6 +62,22 @@ around start one two three first last rows e f g =
 
 pub page_two : (start one two : List ℕ) (first : List Value) (rows : List (List Value)) → one ≡ start ++ (row_text first ++ 10 ∷ []) → two ≡ one ++ page (map row_text rows) → two ≡ start ++ page (map row_text (first ∷ rows))
 page_two start one two first rows e f = f ∙ ap (λ (l : List ℕ). l ++ page (map row_text rows)) e ∙ append_assoc start (row_text first ++ 10 ∷ []) (page (map row_text rows))
+
+-- what begins with bytes has them first
+pub take_begins : (old new : List ℕ) → BeginsWith new old → take (length old) new ≡ old
+take_begins old new h = ap (take (length old)) h.1 ∙ take-append_seam old h.0
+
+-- what begins with more begins with less
+pub begins_more : (old mid new x : List ℕ) → mid ≡ old ++ x → BeginsWith new mid → BeginsWith new old
+begins_more old mid new x e h = (x ++ h.0, h.1 ∙ ap (λ (l : List ℕ). l ++ h.0) e ∙ append_assoc old x h.0)
+
+pub when_ok : {A E : Type 0} (r : Result A E) (P : Type 0) → is_err r ≡ false → OnOk r P → P
+when_ok (Ok x) P is h = h
+when_ok (Err e) P is h = absurd cc
+
+pub when_err : {A E : Type 0} (r : Result A E) (P : Type 0) → is_err r ≡ true → OnErr r P → P
+when_err (Ok x) P is h = absurd cc
+when_err (Err e) P is h = h
 
 pub on_ok : {A E : Type 0} (r : Result A E) (P Q : Type 0) → OnOk r P → (P → Q) → OnOk r Q
 on_ok (Ok x) P Q h f = f h

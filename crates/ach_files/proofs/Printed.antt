@@ -3,7 +3,7 @@ use Rattle.std.proofs.Common.{◌≡◌, ℕ, ◌≤◌, List, [], ◌∷◌, �
 use Rattle.std.specs.List.{flat_map, All}
 use Rattle.std.proofs.lemmas.List.{append-nil}
 use Rattle.std.proofs.lemmas.List.Elements.{All-nil, All-cons}
-use Rattle.ach_files.specs.Structure.{File, records_of, printed}
+use Rattle.ach_files.specs.Structure.{File, records_of, file_text}
 use Rattle.ach_files.specs.File.{Line, IsLineEnd, IsCrLf, IsFile, AreRecords}
 
 with_lf : List ℕ → Line
@@ -24,7 +24,7 @@ unfolding with_lf
 lf_bytes [] = refl
 lf_bytes (r ∷ rs) = ap (λ t. (r ++ 10 ∷ []) ++ t) (lf_bytes rs)
 
-pub printed_file : (f : File) → AreRecords f → length (printed f) ≤ 4194304 → IsFile (printed f) f
+pub printed_file : (f : File) → AreRecords f → length (file_text f) ≤ 4194304 → IsFile (file_text f) f
 printed_file f r size = record {
   size = size;
   records = r;

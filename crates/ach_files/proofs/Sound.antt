@@ -14,10 +14,10 @@ use Rattle.ach_files.specs.declared.fault.Fault.{Fault}
 use Rattle.ach_files.specs.Structure.{File, records_of}
 use Rattle.ach_files.specs.File.{Line, IsLineEnd, IsCrLf, IsTextOf, IsFile}
 use Rattle.ach_records.specs.Record.{IsRecord}
-use Rattle.ach_files.specs.SoFar.{Closed, sofar, followed}
+use Rattle.ach_files.specs.SoFar.{Closed, file_so_far, with_record_of}
 use Rattle.ach_files.specs.RecordFault.{stage_of, record_fault}
-use Rattle.ach_files.specs.Layout.{Place, InRecord, AfterRecord, AfterReturn, AfterLine, InTail, Move, Put, Layout, move_at, moved, next, is_end, layout}
-use Rattle.ach_files.specs.FirstFault.{byte_fault, whole_fault, move_fault, map_fault, place_fault, at, or_else, first_fault, early_fault, end_fault, fault, is_inside}
+use Rattle.ach_files.specs.Layout.{Place, InRecord, AfterRecord, AfterReturn, AfterLine, InTail, Move, Put, Layout, move_at, layout_after_move, next_layout, is_end, layout}
+use Rattle.ach_files.specs.FirstFault.{byte_fault, whole_fault, move_fault, map_fault, place_fault, fault_at, or_else, first_fault, early_fault, end_fault, fault, is_inside}
 use Rattle.ach_files.proofs.Firsts.{layout_more}
 use Rattle.ach_files.proofs.Fine.{guard, is_fine, not_false, known_is}
 use Rattle.ach_files.proofs.Good.{Good, all_records, good_step, records_step}
@@ -55,8 +55,8 @@ Laid seen records place = Last seen records place
 
 pub record Sound (seen : List ℕ) (l : Layout) : Type 0 where
   pub size : length seen ≤ 4194304
-  pub good : Good (sofar l.records)
-  pub all : l.records ≡ all_records (sofar l.records)
+  pub good : Good (file_so_far l.records)
+  pub all : l.records ≡ all_records (file_so_far l.records)
   pub laid : Laid seen l.records l.place
 
 -- one line more
@@ -86,8 +86,8 @@ no_fault n l b m e h =
 whole_none : (records : List (List ℕ)) (text : List ℕ) → length text ≡ 94 → whole_fault records text ≡ None → record_fault records text ≡ None
 whole_none records text len e = rw (eq-eqb _ _ len) at e
 
-pub put_sound : (seen : List ℕ) (records : List (List ℕ)) (place : Place) (bytes : List ℕ) (b : ℕ) → length seen < 4194304 → Good (sofar records) → records ≡ all_records (sofar records)
-    → Lines seen records bytes → length bytes < 94 → All IsPrintable bytes → byte_fault records bytes b ≡ None → Sound (seen ++ b ∷ []) (moved (record { records = records; place = place }) b (Put bytes))
+pub put_sound : (seen : List ℕ) (records : List (List ℕ)) (place : Place) (bytes : List ℕ) (b : ℕ) → length seen < 4194304 → Good (file_so_far records) → records ≡ all_records (file_so_far records)
+    → Lines seen records bytes → length bytes < 94 → All IsPrintable bytes → byte_fault records bytes b ≡ None → Sound (seen ++ b ∷ []) (layout_after_move (record { records = records; place = place }) b (Put bytes))
 put_sound seen records place bytes b size good all lines short printable e =
     let g = guard (is_end b) faults.BadLength _ e in
     let p = guard (not (is_printable b)) faults.BadByte _ g.1 in
@@ -101,13 +101,13 @@ put_sound seen records place bytes b size good all lines short printable e =
           let t = bytes ++ b ∷ [] in
           let whole : length t ≡ 94 = omega arith in
           let none = whole_none records t whole p.1 in
-          let fine = is_fine (stage_of (sofar records)) (length records + 1) (kind_of t) t none in
-          let r : IsRecord (kind_of t) t = record { known = known_is (stage_of (sofar records)) (kind_of t) fine.follows; len = whole; printable = all_tested t pr; kind_is = refl; digits = fine.digits } in
-          let n : length records + 1 ≡ length (all_records (sofar records)) + 1 = ap (λ rs. length rs + 1) all in
-          let step : all_records (followed (sofar records) (kind_of t) t) ≡ all_records (sofar records) ++ t ∷ [] = records_step (sofar records) (length records + 1) (kind_of t) t r fine in
+          let fine = is_fine (stage_of (file_so_far records)) (length records + 1) (kind_of t) t none in
+          let r : IsRecord (kind_of t) t = record { known = known_is (stage_of (file_so_far records)) (kind_of t) fine.follows; len = whole; printable = all_tested t pr; kind_is = refl; digits = fine.digits } in
+          let n : length records + 1 ≡ length (all_records (file_so_far records)) + 1 = ap (λ rs. length rs + 1) all in
+          let step : all_records (with_record_of (file_so_far records) (kind_of t) t) ≡ all_records (file_so_far records) ++ t ∷ [] = records_step (file_so_far records) (length records + 1) (kind_of t) t r fine in
           rw (eq-eqb _ _ is) (record {
             size = sz;
-            good = rw (sofar_more records t) (good_step (sofar records) (length records + 1) (kind_of t) t good n r fine);
+            good = rw (sofar_more records t) (good_step (file_so_far records) (length records + 1) (kind_of t) t good n r fine);
             all = rw (sofar_more records t) (ap (λ rs. rs ++ t ∷ []) all ∙ sym step);
             laid = record { before = records; text = t; end = []; records_are = refl; lines = rw (append-nil t) (rest_more seen records bytes b lines); ending = refl };
           })
@@ -138,9 +138,9 @@ line_run e (inr h) = rw h (All-cons IsCrLf 13 (10 ∷ []) (inr refl) (All-cons I
 return_run : (e : List ℕ) → IsEnding AfterReturn e → All IsCrLf e
 return_run e h = rw h (All-cons IsCrLf 13 [] (inr refl) (All-nil IsCrLf))
 
-module _ (seen : List ℕ) (records : List (List ℕ)) (b : ℕ) (size : length seen < 4194304) (good : Good (sofar records)) (all : records ≡ all_records (sofar records)) where
-  after_record : Last seen records AfterRecord → move_fault records b (move_at AfterRecord b) ≡ None → Sound (seen ++ b ∷ []) (next (record { records = records; place = AfterRecord }) b)
-  unfolding move_at next
+module _ (seen : List ℕ) (records : List (List ℕ)) (b : ℕ) (size : length seen < 4194304) (good : Good (file_so_far records)) (all : records ≡ all_records (file_so_far records)) where
+  after_record : Last seen records AfterRecord → move_fault records b (move_at AfterRecord b) ≡ None → Sound (seen ++ b ∷ []) (next_layout (record { records = records; place = AfterRecord }) b)
+  unfolding move_at next_layout
   after_record h f =
       elim (cases_Bool (b == 10)) [
         | inl lf ↦ rw lf (record { size = grown seen b size; good = good; all = all; laid = last_more seen records AfterRecord AfterLine b h (λ e i. inl (cc (i, eqb-true _ _ lf))) })
@@ -150,8 +150,8 @@ module _ (seen : List ℕ) (records : List (List ℕ)) (b : ℕ) (size : length 
         ]
       ]
 
-  after_return : Last seen records AfterReturn → move_fault records b (move_at AfterReturn b) ≡ None → Sound (seen ++ b ∷ []) (next (record { records = records; place = AfterReturn }) b)
-  unfolding move_at next
+  after_return : Last seen records AfterReturn → move_fault records b (move_at AfterReturn b) ≡ None → Sound (seen ++ b ∷ []) (next_layout (record { records = records; place = AfterReturn }) b)
+  unfolding move_at next_layout
   after_return h f =
       elim (cases_Bool (b == 10)) [
         | inl lf ↦ rw lf (record { size = grown seen b size; good = good; all = all; laid = last_more seen records AfterReturn AfterLine b h (λ e i. inr (cc (i, eqb-true _ _ lf))) })
@@ -161,34 +161,34 @@ module _ (seen : List ℕ) (records : List (List ℕ)) (b : ℕ) (size : length 
         ]
       ]
 
-  after_line : Last seen records AfterLine → move_fault records b (move_at AfterLine b) ≡ None → Sound (seen ++ b ∷ []) (next (record { records = records; place = AfterLine }) b)
-  unfolding move_at next
+  after_line : Last seen records AfterLine → move_fault records b (move_at AfterLine b) ≡ None → Sound (seen ++ b ∷ []) (next_layout (record { records = records; place = AfterLine }) b)
+  unfolding move_at next_layout
   after_line h f =
       elim (cases_Bool (is_end b)) [
         | inl e ↦ rw e (record { size = grown seen b size; good = good; all = all; laid = last_more seen records AfterLine InTail b h (λ x i. All-push IsCrLf x b (line_run x i) (crlf_is b e)) })
         | inr not_lf ↦ rw not_lf (put_sound seen records AfterLine [] b size good all (begun seen records AfterLine h (λ e i. inr i)) (omega arith) (All-nil IsPrintable) (rw not_lf at f))
       ]
 
-  in_tail : Last seen records InTail → move_fault records b (move_at InTail b) ≡ None → Sound (seen ++ b ∷ []) (next (record { records = records; place = InTail }) b)
-  unfolding move_at next
+  in_tail : Last seen records InTail → move_fault records b (move_at InTail b) ≡ None → Sound (seen ++ b ∷ []) (next_layout (record { records = records; place = InTail }) b)
+  unfolding move_at next_layout
   in_tail h f =
       elim (cases_Bool (is_end b)) [
         | inl e ↦ rw e (record { size = grown seen b size; good = good; all = all; laid = last_more seen records InTail InTail b h (λ x i. All-push IsCrLf x b i (crlf_is b e)) })
         | inr not_lf ↦ let g : ◌≡◌ {A = Option FileFault} (Some faults.BadLength) None = rw not_lf at f in absurd cc
       ]
 
-  in_record : (bytes : List ℕ) → Laid seen records (InRecord bytes) → move_fault records b (move_at (InRecord bytes) b) ≡ None → Sound (seen ++ b ∷ []) (next (record { records = records; place = InRecord bytes }) b)
-  unfolding move_at next
+  in_record : (bytes : List ℕ) → Laid seen records (InRecord bytes) → move_fault records b (move_at (InRecord bytes) b) ≡ None → Sound (seen ++ b ∷ []) (next_layout (record { records = records; place = InRecord bytes }) b)
+  unfolding move_at next_layout
   in_record bytes h f = put_sound seen records (InRecord bytes) bytes b size good all h.0 h.1 h.2 f
 
-  at_place : (place : Place) → Laid seen records place → move_fault records b (move_at place b) ≡ None → Sound (seen ++ b ∷ []) (next (record { records = records; place = place }) b)
+  at_place : (place : Place) → Laid seen records place → move_fault records b (move_at place b) ≡ None → Sound (seen ++ b ∷ []) (next_layout (record { records = records; place = place }) b)
   at_place (InRecord bytes) h f = in_record bytes h f
   at_place AfterRecord h f = after_record h f
   at_place AfterReturn h f = after_return h f
   at_place AfterLine h f = after_line h f
   at_place InTail h f = in_tail h f
 
-pub sound_step : (seen : List ℕ) (l : Layout) (b : ℕ) → Sound seen l → place_fault (length seen) l b ≡ None → Sound (seen ++ b ∷ []) (next l b)
+pub sound_step : (seen : List ℕ) (l : Layout) (b : ℕ) → Sound seen l → place_fault (length seen) l b ≡ None → Sound (seen ++ b ∷ []) (next_layout l b)
 sound_step seen l b s e =
     let n = no_fault (length seen) l b (move_at l.place b) refl e in
     at_place seen l.records b n.0 s.good s.all l.place s.laid n.1
@@ -208,7 +208,7 @@ sound_on seen (b ∷ rest) s e =
     rw (← append_assoc seen (b ∷ []) rest) (sound_on (seen ++ b ∷ []) rest one p.1)
 
 sound_start : Sound [] (layout [])
-unfolding layout sofar
+unfolding layout file_so_far
 sound_start = record {
   size = omega arith;
   good = tt;
@@ -227,7 +227,7 @@ inside_is b bytes e = let h : length (b ∷ bytes) ≡ 0 = eqb-true _ _ (not_fal
 
 end_none : (l : Layout) → end_fault l ≡ None → is_inside l.place ≡ false
 unfolding end_fault
-end_none l e = end_guard (is_inside l.place) (at (length l.records + 1) faults.BadLength) _ e
+end_none l e = end_guard (is_inside l.place) (fault_at (length l.records + 1) faults.BadLength) _ e
 
 last_is : (seen : List ℕ) (records : List (List ℕ)) (place : Place) → Last seen records place → ((e : List ℕ) → IsEnding place e → All IsCrLf e) → IsTextOf records seen
 last_is seen records place h run =
@@ -249,7 +249,7 @@ text_is seen records AfterReturn h e = last_is seen records AfterReturn h return
 text_is seen records AfterLine h e = last_is seen records AfterLine h line_run
 text_is seen records InTail h e = last_is seen records InTail h (λ x i. i)
 
-pub file_is : (bytes : List ℕ) (f : File) → fault bytes ≡ None → sofar (layout bytes).records ≡ Closed f → IsFile bytes f
+pub file_is : (bytes : List ℕ) (f : File) → fault bytes ≡ None → file_so_far (layout bytes).records ≡ Closed f → IsFile bytes f
 file_is bytes f e closed =
     let p = or_none (early_fault bytes) (end_fault (layout bytes)) e in
     let s : Sound bytes (layout bytes) = sound_on [] bytes sound_start p.0 in

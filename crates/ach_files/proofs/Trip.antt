@@ -17,11 +17,11 @@ use Rattle.ach_files.specs.declared.outgoing.Outgoing.{Outgoing}
 use Rattle.ach_files.specs.declared.outgoing.PrintFault.{PrintFault}
 use Rattle.ach_files.specs.declared.outgoing.PrintFault.TheVariants as faults
 use Rattle.ach_files.specs.declared.sums.Sums.{Sums}
-use Rattle.ach_files.specs.Structure.{Batch, item_records, batch_records, main_records, printed, nines}
+use Rattle.ach_files.specs.Structure.{Batch, item_records, batch_records, main_records, file_text, nines}
 use Rattle.ach_files.specs.File.{IsItem, IsBatch, IsFile, AreRecords}
-use Rattle.ach_files.specs.Totals.{Agrees, sums_of_items, sums_of_batches, batch_control_sums, file_control_sums, control_sums, control_batches, control_blocks, blocks, low}
-use Rattle.ach_files.specs.Outgoing.{entry_rows, entry_fits, batch_fits, batch_rows, batch_control, batch_sums, file_control, file_sums, sums_in, sums_of, outgoing_rows, printed_outgoing, main_count, fillers, fields_fit, is_large, has_many, print_fault, AllFit, page}
-use Rattle.ach_files.specs.Returned.{IsAnswer, AreAnswers, item_of, batch_of, file_of}
+use Rattle.ach_files.specs.Totals.{Agrees, sums_of_items, sums_of_batches, batch_control_sums, file_control_sums, control_batches, control_blocks, blocks, low_digits}
+use Rattle.ach_files.specs.Outgoing.{entry_rows, entry_fits, batch_fits, batch_rows, batch_control, batch_sums, file_control, file_sums, sums_in, sums_of, outgoing_rows, outgoing_text, main_count, filler_count, fields_fit, is_large, has_many, print_fault, AllFit, page}
+use Rattle.ach_files.specs.ReturnsAndChanges.{IsReturnOrChangeEntry, AreReturnsAndChanges, item_of, batch_of, file_of}
 use Rattle.ach_files.proofs.Adding.{same_sums}
 use Rattle.ach_files.proofs.Made.{header_made, batch_made, control_made, file_made}
 use Rattle.ach_files.proofs.Items.{EntryIs, entries_are, items_sums, sum_same}
@@ -38,7 +38,7 @@ pub record ControlReads (c : BatchControlText) : Type 0 where
   pub credits : (batch_control_sums (row_text (batch_control_row c))).credits ≡ c.credits
 
 control_reads : (c : BatchControlText) → row_fits (batch_control_row c) ≡ true → ControlReads c
-unfolding control_sums
+unfolding batch_control_sums
 control_reads c fits =
     let rest : List Value = Words 10 c.company.now ∷ Words 19 [] ∷ Words 6 [] ∷ Number 8 c.odfi ∷ Number 7 c.number ∷ [] in
     record {
@@ -57,7 +57,7 @@ pub record FileReads (c : FileControlText) : Type 0 where
   pub credits : (file_control_sums (row_text (file_control_row c))).credits ≡ c.credits
 
 file_reads : (c : FileControlText) → row_fits (file_control_row c) ≡ true → FileReads c
-unfolding control_sums control_batches control_blocks
+unfolding file_control_sums control_batches control_blocks
 file_reads c fits =
     let rest : List Value = Words 39 [] ∷ [] in
     record {
@@ -91,7 +91,7 @@ items_rows (e ∷ es) a =
 around_rows : (first last : List Value) (rows : List (List Value)) (texts : List (List ℕ)) → map row_text rows ≡ texts → map row_text (first ∷ rows ++ last ∷ []) ≡ row_text first ∷ texts ++ row_text last ∷ []
 around_rows first last rows texts e = ap (λ ts. row_text first ∷ ts) (map-append row_text rows (last ∷ []) ∙ ap (λ ts. ts ++ row_text last ∷ []) e)
 
-pub batch_is : (b : OutgoingBatch) → batch_fits b ≡ true → AllFit (batch_rows b) → All IsAnswer b.entries.now → BatchIs b
+pub batch_is : (b : OutgoingBatch) → batch_fits b ≡ true → AllFit (batch_rows b) → All IsReturnOrChangeEntry b.entries.now → BatchIs b
 unfolding batch_fits batch_rows batch_of
 batch_is b h fit a =
     let es = b.entries.now in
@@ -113,12 +113,12 @@ batch_is b h fit a =
       entries = are;
     }
 
-pub batches_are : (bs : List OutgoingBatch) → list_all batch_fits bs ≡ true → AllFit (flat_map batch_rows bs) → All (λ (b : OutgoingBatch). All IsAnswer b.entries.now) bs → All BatchIs bs
+pub batches_are : (bs : List OutgoingBatch) → list_all batch_fits bs ≡ true → AllFit (flat_map batch_rows bs) → All (λ (b : OutgoingBatch). All IsReturnOrChangeEntry b.entries.now) bs → All BatchIs bs
 batches_are [] h fit a = All-nil BatchIs
 batches_are (b ∷ bs) h fit a =
     let p = and_parts (batch_fits b) (list_all batch_fits bs) h in
     let q = fit_append (batch_rows b) (flat_map batch_rows bs) fit in
-    All-cons BatchIs b bs (batch_is b p.0 q.0 (All-head (λ (b : OutgoingBatch). All IsAnswer b.entries.now) b bs a)) (batches_are bs p.1 q.1 (All-tail (λ (b : OutgoingBatch). All IsAnswer b.entries.now) b bs a))
+    All-cons BatchIs b bs (batch_is b p.0 q.0 (All-head (λ (b : OutgoingBatch). All IsReturnOrChangeEntry b.entries.now) b bs a)) (batches_are bs p.1 q.1 (All-tail (λ (b : OutgoingBatch). All IsReturnOrChangeEntry b.entries.now) b bs a))
 
 batches_all : (bs : List OutgoingBatch) → All BatchIs bs → All IsBatch (map batch_of bs)
 batches_all [] a = All-nil IsBatch
@@ -135,7 +135,7 @@ batches_sums : (bs : List OutgoingBatch) → All BatchIs bs → sums_of_batches 
 unfolding sums_of_batches file_sums
 batches_sums bs a = same_sums _ _ _ _ _ _ _ _
     (sum_same BatchIs batch_of (λ (b : Batch). (sums_of_items b.items).count) (λ (b : OutgoingBatch). (sums_in b).count) bs a (λ b p. ap (λ (s : Sums). s.count) p.sums))
-    (sum_same BatchIs batch_of (λ (b : Batch). low (sums_of_items b.items).hash) (λ (b : OutgoingBatch). low (sums_in b).hash) bs a (λ b p. ap (λ (s : Sums). low s.hash) p.sums))
+    (sum_same BatchIs batch_of (λ (b : Batch). low_digits (sums_of_items b.items).hash) (λ (b : OutgoingBatch). low_digits (sums_in b).hash) bs a (λ b p. ap (λ (s : Sums). low_digits s.hash) p.sums))
     (sum_same BatchIs batch_of (λ (b : Batch). (sums_of_items b.items).debits) (λ (b : OutgoingBatch). (sums_in b).debits) bs a (λ b p. ap (λ (s : Sums). s.debits) p.sums))
     (sum_same BatchIs batch_of (λ (b : Batch). (sums_of_items b.items).credits) (λ (b : OutgoingBatch). (sums_in b).credits) bs a (λ b p. ap (λ (s : Sums). s.credits) p.sums))
 
@@ -180,9 +180,9 @@ file_made_of o h c a =
       blocks = reads.blocks ∙ ap blocks (sym long);
     }
 
-same_text : (o : Outgoing) → All BatchIs o.batches.now → printed_outgoing o ≡ printed (file_of o)
+same_text : (o : Outgoing) → All BatchIs o.batches.now → outgoing_text o ≡ file_text (file_of o)
 unfolding file_of
-same_text o a = ap (λ ts. page (ts ++ replicate (fillers (main_count o)) nines)) (file_rows o a)
+same_text o a = ap (λ ts. page (ts ++ replicate (filler_count (main_count o)) nines)) (file_rows o a)
 
 pub record Sound (o : Outgoing) : Type 0 where
   pub fields : fields_fit o ≡ true
@@ -207,7 +207,7 @@ pub record Parts (o : Outgoing) : Type 0 where
   pub control : row_fits (file_control_row (file_control o)) ≡ true
   pub batches : All BatchIs o.batches.now
 
-pub parts_are : (o : Outgoing) → print_fault o ≡ None → AreAnswers o → Parts o
+pub parts_are : (o : Outgoing) → print_fault o ≡ None → AreReturnsAndChanges o → Parts o
 unfolding fields_fit outgoing_rows
 parts_are o e a =
     let s = no_fault_is o e in
@@ -215,7 +215,7 @@ parts_are o e a =
     let f = around_fits (file_header_row o.header) (file_control_row (file_control o)) (flat_map batch_rows o.batches.now) (rows_fit o s.fields s.large s.many) in
     record { header = p.0; control = f.2; batches = batches_are o.batches.now p.1 f.1 a }
 
-pub read_again : (o : Outgoing) → print_fault o ≡ None → AreAnswers o → length (printed_outgoing o) ≤ 4194304 → IsFile (printed_outgoing o) (file_of o)
+pub read_again : (o : Outgoing) → print_fault o ≡ None → AreReturnsAndChanges o → length (outgoing_text o) ≤ 4194304 → IsFile (outgoing_text o) (file_of o)
 read_again o e a size =
     let p = parts_are o e a in
     let text = same_text o p.batches in

@@ -1,16 +1,17 @@
 -- Which bytes are a file, and of which records.
 use Rattle.std.specs.Prelude.{◌≡◌, ℕ, ◌≤◌, ◌⊎◌, List, [], ◌∷◌, ◌++◌, map, length}
 use Rattle.std.specs.List.{flat_map, All}
-use Rattle.ach_records.specs.Record.{IsRecord, entry_cents}
+use Rattle.ach_records.specs.Record.{IsRecord, entry_cents, entry_direction}
 use Rattle.ach_records.specs.declared.Kind.TheVariants as kinds
 use Rattle.ach_files.specs.Structure.{Item, Batch, File, main_records, records_of}
+use Rattle.ach_files.specs.Limits.{most_bytes}
 use Rattle.ach_files.specs.Facts.{FileFacts, facts_in}
-use Rattle.ach_files.specs.Totals.{direction, sums_of_items, sums_of_batches, batch_control_sums, file_control_sums, control_batches, control_blocks, blocks, Agrees}
+use Rattle.ach_files.specs.Totals.{sums_of_items, sums_of_batches, batch_control_sums, file_control_sums, control_batches, control_blocks, blocks, Agrees}
 
 -- a return or a change: the second digit of the code is 1 or 6, and one 99 follows, or, where the amount is zero, one 98
 pub record IsItem (i : Item) : Type 0 where
   pub entry : IsRecord kinds.Entry i.entry
-  pub direction : (direction i.entry ≡ 49) ⊎ (direction i.entry ≡ 54)
+  pub direction : (entry_direction i.entry ≡ 49) ⊎ (entry_direction i.entry ≡ 54)
   pub addenda : IsRecord kinds.Return99 i.addenda ⊎ (IsRecord kinds.Change98 i.addenda × (entry_cents i.entry ≡ 0))
 
 pub record IsBatch (b : Batch) : Type 0 where
@@ -19,7 +20,7 @@ pub record IsBatch (b : Batch) : Type 0 where
   pub control : IsRecord kinds.BatchControl b.control
   pub sums : Agrees (batch_control_sums b.control) (sums_of_items b.items)
 
--- each record is of its kind, and the controls say what the records come to
+-- each record is of its kind, and the controls say the counts and sums of the records
 pub record AreRecords (f : File) : Type 0 where
   pub header : IsRecord kinds.FileHeader f.header
   pub batches : All IsBatch f.batches
@@ -51,7 +52,7 @@ pub record IsTextOf (records : List (List ℕ)) (bytes : List ℕ) : Type 0 wher
 
 -- at most 4 MiB, and the text of good records
 pub record IsFile (bytes : List ℕ) (f : File) : Type 0 where
-  pub size : length bytes ≤ 4194304
+  pub size : length bytes ≤ most_bytes
   pub records : AreRecords f
   pub text : IsTextOf (records_of f) bytes
 

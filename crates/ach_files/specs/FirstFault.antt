@@ -4,8 +4,9 @@ use Rattle.std.specs.Prelude.{◌≡◌, ◌⊎◌, ℕ, ◌+◌, Bool, false, n
 use Rattle.ach_files.specs.declared.fault.FileFault.{FileFault}
 use Rattle.ach_files.specs.declared.fault.FileFault.TheVariants as faults
 use Rattle.ach_files.specs.declared.fault.Fault.{Fault}
-use Rattle.ach_files.specs.SoFar.{Sofar, Closed, sofar}
+use Rattle.ach_files.specs.SoFar.{FileSoFar, Closed, file_so_far}
 use Rattle.ach_files.specs.RecordFault.{record_fault}
+use Rattle.ach_files.specs.Limits.{most_bytes}
 use Rattle.ach_files.specs.Layout.{Place, InRecord, Move, Put, Go, Stray, is_end, move_at, Layout, layout}
 
 -- the record in which the byte stands
@@ -14,8 +15,8 @@ record_of records (Put _) = length records + 1
 record_of records (Go _) = length records
 record_of records Stray = length records
 
-abbrev pub at : ℕ → FileFault → Fault
-at n kind = record { kind = kind; at = n }
+abbrev pub fault_at : ℕ → FileFault → Fault
+fault_at n kind = record { kind = kind; at = n }
 
 abbrev pub whole_fault : List (List ℕ) → List ℕ → Option FileFault
 whole_fault records text = if length text == 94 then record_fault records text else None
@@ -34,31 +35,31 @@ move_fault records b Stray = Some faults.BadLength
 
 abbrev pub map_fault : ℕ → Option FileFault → Option Fault
 map_fault n None = None
-map_fault n (Some f) = Some (at n f)
+map_fault n (Some f) = Some (fault_at n f)
 
 -- what is wrong at the byte b, where n bytes come before it and are laid out so
 unfoldable pub place_fault : ℕ → Layout → ℕ → Option Fault
 place_fault n l b =
     map_fault (record_of l.records (move_at l.place b))
-    (if nat_le 4194304 n then Some faults.TooLarge else move_fault l.records b (move_at l.place b))
+    (if nat_le most_bytes n then Some faults.TooLarge else move_fault l.records b (move_at l.place b))
 
 -- what is wrong at the end of the input
-abbrev pub order_end : ℕ → Sofar → Option Fault
-order_end n (Closed _) = None
-order_end n _ = Some (at n faults.BadOrder)
+abbrev pub order_fault_at_end : ℕ → FileSoFar → Option Fault
+order_fault_at_end n (Closed _) = None
+order_fault_at_end n _ = Some (fault_at n faults.BadOrder)
 
 -- inside a record
 abbrev pub is_inside : Place → Bool
 is_inside (InRecord bytes) = not (length bytes == 0)
 is_inside _ = false
 
-abbrev pub end_at : List (List ℕ) → Place → Option Fault
-end_at records place =
-    if is_inside place then Some (at (length records + 1) faults.BadLength)
-    else order_end (length records + 1) (sofar records)
+abbrev pub place_end_fault : List (List ℕ) → Place → Option Fault
+place_end_fault records place =
+    if is_inside place then Some (fault_at (length records + 1) faults.BadLength)
+    else order_fault_at_end (length records + 1) (file_so_far records)
 
 unfoldable pub end_fault : Layout → Option Fault
-end_fault l = end_at l.records l.place
+end_fault l = place_end_fault l.records l.place
 
 abbrev pub or_else : Option Fault → Option Fault → Option Fault
 or_else (Some f) _ = Some f
@@ -77,9 +78,9 @@ early_fault bytes = first_fault [] bytes
 abbrev pub fault : List ℕ → Option Fault
 fault bytes = or_else (early_fault bytes) (end_fault (layout bytes))
 
--- want of memory, or this fault
+-- out of memory, or this fault
 abbrev pub Tells : Fault → Option Fault → Type 0
-Tells f fault = (f ≡ at 0 faults.NoMemory) ⊎ (fault ≡ Some f)
+Tells f fault = (f ≡ fault_at 0 faults.NoMemory) ⊎ (fault ≡ Some f)
 
 abbrev pub TellsKind : FileFault → Option FileFault → Type 0
 TellsKind f fault = (f ≡ faults.NoMemory) ⊎ (fault ≡ Some f)

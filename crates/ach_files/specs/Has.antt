@@ -1,20 +1,20 @@
 -- What a reader has read.
-use Rattle.std.specs.Prelude.{◌≡◌, ℕ, List, length, Some, None}
+use Rattle.std.specs.Prelude.{◌≡◌, ℕ, List, length, Option, Some, None, vec_capacity}
 use Rattle.sha2.specs.Hashers.{Holds256}
 use Rattle.ach_files.specs.declared.recogniser.Recogniser.{Recogniser}
 use Rattle.ach_files.specs.declared.reader.Reader.{Reader}
-use Rattle.ach_files.specs.SoFar.{sofar, facts_so_far, digested_so_far}
+use Rattle.ach_files.specs.SoFar.{file_so_far, facts_so_far, digest_message_so_far}
 use Rattle.ach_files.specs.RecordFault.{stage_of}
 use Rattle.ach_files.specs.Layout.{Layout, layout}
 use Rattle.ach_files.specs.FirstFault.{early_fault}
-use Rattle.ach_files.specs.Kept.{place_of}
+use Rattle.ach_files.specs.ReaderState.{place_of}
 
 -- it has taken these records
 pub record HasRecords (r : Recogniser) (records : List (List ℕ)) : Type 0 where
   pub count : r.records ≡ length records
-  pub stage : r.stage ≡ stage_of (sofar records)
-  pub facts : r.facts.items ≡ facts_so_far (sofar records)
-  pub digest : Holds256 r.hasher (digested_so_far (sofar records))
+  pub stage : r.stage ≡ stage_of (file_so_far records)
+  pub facts : r.facts.items ≡ facts_so_far (file_so_far records)
+  pub digest : Holds256 r.hasher (digest_message_so_far (file_so_far records))
 
 -- the records and the place of a layout
 pub record HasLayout (r : Recogniser) (l : Layout) : Type 0 where
@@ -40,3 +40,14 @@ pub record HasRead (r : Reader) (bytes : List ℕ) : Type 0 where
 -- it has told a fault, or has finished: each call answers Failed
 abbrev pub HasFailed : Reader → Type 0
 HasFailed r = r.state ≡ None
+
+-- for how many items there is room without more memory
+abbrev pub item_room : Recogniser → ℕ
+item_room r = vec_capacity r.facts
+
+abbrev pub state_room : Option Recogniser → ℕ
+state_room (Some r) = item_room r
+state_room None = 0
+
+abbrev pub reader_room : Reader → ℕ
+reader_room r = state_room r.state

@@ -12,12 +12,12 @@ pub data Place : Type 0 where
   InTail : Place
 
 -- a record may begin here
-abbrev pub begins : Place → Bool
-begins (InRecord bytes) = length bytes == 0
-begins AfterRecord = true
-begins AfterReturn = false
-begins AfterLine = true
-begins InTail = false
+abbrev pub may_begin : Place → Bool
+may_begin (InRecord bytes) = length bytes == 0
+may_begin AfterRecord = true
+may_begin AfterReturn = false
+may_begin AfterLine = true
+may_begin InTail = false
 
 -- what a byte does: it is one of a record, of which these came before it; it leads to another place; or it may not stand there
 pub data Move : Type 0 where
@@ -41,18 +41,18 @@ pub record Layout : Type 0 where
   pub records : List (List ℕ)
   pub place : Place
 
-abbrev pub moved : Layout → ℕ → Move → Layout
-moved l b (Put bytes) =
+abbrev pub layout_after_move : Layout → ℕ → Move → Layout
+layout_after_move l b (Put bytes) =
     if length bytes == 93 then record { records = l.records ++ (bytes ++ b ∷ []) ∷ []; place = AfterRecord }
     else record { records = l.records; place = InRecord (bytes ++ b ∷ []) }
-moved l b (Go place) = record { records = l.records; place = place }
-moved l b Stray = l
+layout_after_move l b (Go place) = record { records = l.records; place = place }
+layout_after_move l b Stray = l
 
-unfoldable pub next : Layout → ℕ → Layout
-next l b = moved l b (move_at l.place b)
+unfoldable pub next_layout : Layout → ℕ → Layout
+next_layout l b = layout_after_move l b (move_at l.place b)
 
 abbrev pub start : Layout
 start = record { records = []; place = InRecord [] }
 
 unfoldable pub layout : List ℕ → Layout
-layout bytes = fold next start bytes
+layout bytes = fold next_layout start bytes

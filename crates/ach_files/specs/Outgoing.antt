@@ -1,9 +1,10 @@
 -- A file that is to be printed: its rows, its sums, and its text.
-use Rattle.std.specs.Prelude.{◌≡◌, ℕ, ◌+◌, ◌-◌, ◌*◌, ◌%◌, Bool, true, false, not, ◌&&◌, ◌||◌, List, [], ◌∷◌, ◌++◌, map, length, replicate, Option, Some, None, if◌then◌else◌, nat_le, nat_lt, min}
+use Rattle.std.specs.Prelude.{◌≡◌, ◌⊎◌, ℕ, ◌+◌, ◌-◌, ◌*◌, ◌%◌, Bool, true, false, not, ◌&&◌, ◌||◌, List, [], ◌∷◌, ◌++◌, map, length, replicate, Option, Some, None, if◌then◌else◌, nat_le, nat_lt, min}
 use Rattle.std.specs.List.{list_all, list_any, sum_by, flat_map}
 use Rattle.ach_records.specs.declared.print.EntryText.{EntryText}
 use Rattle.ach_records.specs.declared.print.BatchControlText.{BatchControlText}
 use Rattle.ach_records.specs.declared.print.FileControlText.{FileControlText}
+use Rattle.ach_records.specs.declared.print.FileHeaderText.{FileHeaderText}
 use Rattle.ach_records.specs.Print.{Value, row_fits, row_text, entry_row, file_header_row, batch_header_row, addenda05_row, change98_row, return99_row, batch_control_row, file_control_row}
 use Rattle.ach_files.specs.declared.sums.Sums.{Sums}
 use Rattle.ach_files.specs.declared.outgoing.Addenda.{Addenda}
@@ -14,13 +15,15 @@ use Rattle.ach_files.specs.declared.outgoing.Outgoing.{Outgoing}
 use Rattle.ach_files.specs.declared.outgoing.PrintFault.{PrintFault}
 use Rattle.ach_files.specs.declared.outgoing.PrintFault.TheVariants as faults
 use Rattle.ach_files.specs.Structure.{nines}
-use Rattle.ach_files.specs.Totals.{low, blocks}
+use Rattle.ach_fields.specs.Cents.{most_cents}
+use Rattle.ach_files.specs.Limits.{six_digits}
+use Rattle.ach_files.specs.Totals.{low_digits, blocks}
 
 -- ---- rows
 
-abbrev pub is_there : Addenda → Bool
-is_there addendas.Absent = false
-is_there _ = true
+abbrev pub has_addenda : Addenda → Bool
+has_addenda addendas.Absent = false
+has_addenda _ = true
 
 -- a record 6 tells by its indicator whether an addenda follows
 abbrev pub entry_of : OutgoingEntry → EntryText
@@ -32,7 +35,7 @@ entry_of e = record {
   cents = e.cents;
   identification = e.identification;
   name = e.name;
-  has_addenda = is_there e.addenda;
+  has_addenda = has_addenda e.addenda;
   trace = e.trace;
 }
 
@@ -77,7 +80,7 @@ sums_in b = batch_sums b.entries.now
 unfoldable pub file_sums : List OutgoingBatch → Sums
 file_sums batches = record {
   count = sum_by (λ b. (sums_in b).count) batches;
-  hash = sum_by (λ b. low (sums_in b).hash) batches;
+  hash = sum_by (λ b. low_digits (sums_in b).hash) batches;
   debits = sum_by (λ b. (sums_in b).debits) batches;
   credits = sum_by (λ b. (sums_in b).credits) batches;
 }
@@ -96,7 +99,7 @@ abbrev pub batch_control : OutgoingBatch → BatchControlText
 batch_control b = record {
   service_class = b.header.service_class;
   count = (sums_in b).count;
-  hash = low (sums_in b).hash;
+  hash = low_digits (sums_in b).hash;
   debits = (sums_in b).debits;
   credits = (sums_in b).credits;
   company = b.header.company;
@@ -109,7 +112,7 @@ file_control o = record {
   batches = length o.batches.now;
   blocks = blocks (main_count o);
   count = (sums_of o).count;
-  hash = low (sums_of o).hash;
+  hash = low_digits (sums_of o).hash;
   debits = (sums_of o).debits;
   credits = (sums_of o).credits;
 }
@@ -124,19 +127,19 @@ outgoing_rows o = file_header_row o.header ∷ flat_map batch_rows o.batches.now
 -- ---- the text
 
 -- the fewest records that make the number a multiple of ten
-abbrev pub fillers : ℕ → ℕ
-fillers n = blocks n * 10 - n
+abbrev pub filler_count : ℕ → ℕ
+filler_count n = blocks n * 10 - n
 
 -- the texts of the records, in order
-abbrev pub outgoing_texts : Outgoing → List (List ℕ)
-outgoing_texts o = map row_text (outgoing_rows o) ++ replicate (fillers (main_count o)) nines
+abbrev pub outgoing_records : Outgoing → List (List ℕ)
+outgoing_records o = map row_text (outgoing_rows o) ++ replicate (filler_count (main_count o)) nines
 
 -- the records with LF after each
 abbrev pub page : List (List ℕ) → List ℕ
 page texts = flat_map (λ r. r ++ 10 ∷ []) texts
 
-abbrev pub printed_outgoing : Outgoing → List ℕ
-printed_outgoing o = page (outgoing_texts o)
+abbrev pub outgoing_text : Outgoing → List ℕ
+outgoing_text o = page (outgoing_records o)
 
 -- ---- the faults
 
@@ -152,10 +155,10 @@ fields_fit o = row_fits (file_header_row o.header) && list_all batch_fits o.batc
 
 -- does a total exceed twelve digits? No batch has more than the file.
 abbrev pub is_large : Sums → Bool
-is_large s = nat_lt 999999999999 s.debits || nat_lt 999999999999 s.credits
+is_large s = nat_lt most_cents s.debits || nat_lt most_cents s.credits
 
 abbrev pub is_long_batch : OutgoingBatch → Bool
-is_long_batch b = nat_lt 999999 (sums_in b).count
+is_long_batch b = nat_lt six_digits (sums_in b).count
 
 -- what is wrong with a batch, whatever file it stands in
 unfoldable pub batch_fault : OutgoingBatch → Option PrintFault
@@ -167,21 +170,32 @@ batch_fault b =
 
 -- are there over 999,999 records in a batch, or batches or blocks in the file?
 unfoldable pub has_many : Outgoing → Bool
-has_many o = list_any is_long_batch o.batches.now || (nat_lt 999999 (length o.batches.now) || nat_lt 999999 (blocks (main_count o)))
+has_many o = list_any is_long_batch o.batches.now || (nat_lt six_digits (length o.batches.now) || nat_lt six_digits (blocks (main_count o)))
 
-unfoldable pub print_fault : Outgoing → Option PrintFault
-print_fault o =
-    if not (fields_fit o) then Some faults.BadField
-    else if is_large (sums_of o) then Some faults.TotalTooLarge
+-- what is wrong with a header
+abbrev pub header_fault : FileHeaderText → Option PrintFault
+header_fault h = if not (row_fits (file_header_row h)) then Some faults.BadField else None
+
+-- what is wrong with the numbers of the file control
+abbrev pub totals_fault : Outgoing → Option PrintFault
+totals_fault o =
+    if is_large (sums_of o) then Some faults.TotalTooLarge
     else if has_many o then Some faults.TooManyRecords
     else None
 
--- ---- what the code keeps of sums: the low ten digits of the hash, and of the others whether they are small
-abbrev pub most : ℕ
-most = 1000000000000
+unfoldable pub print_fault : Outgoing → Option PrintFault
+print_fault o = if not (fields_fit o) then Some faults.BadField else totals_fault o
 
-unfoldable pub kept : Sums → Sums
-kept s = record { count = min s.count most; hash = low s.hash; debits = min s.debits most; credits = min s.credits most }
+-- out of memory where nothing is wrong, or this fault
+abbrev pub TellsPrint : PrintFault → Option PrintFault → Type 0
+TellsPrint f fault = ((f ≡ faults.NoMemory) × (fault ≡ None)) ⊎ (fault ≡ Some f)
+
+-- ---- what the code keeps of sums: the low ten digits of the hash, and of the others whether they are small
+abbrev pub sums_cap : ℕ
+sums_cap = most_cents + 1
+
+unfoldable pub capped_sums : Sums → Sums
+capped_sums s = record { count = min s.count sums_cap; hash = low_digits s.hash; debits = min s.debits sums_cap; credits = min s.credits sums_cap }
 
 -- ---- printing
 
@@ -190,9 +204,13 @@ abbrev pub IsText : Option (List ℕ) → List Value → Type 0
 IsText (Some text) values = (row_fits values ≡ true) × (text ≡ row_text values)
 IsText None values = row_fits values ≡ false
 
--- the records stand behind the old bytes now
+-- the records stand after the old bytes now
 abbrev pub Puts : List ℕ → List ℕ → List (List Value) → Type 0
 Puts old new rows = new ≡ old ++ page (map row_text rows)
+
+-- the new bytes begin with the old ones
+abbrev pub BeginsWith : List ℕ → List ℕ → Type 0
+BeginsWith new old = (more : List ℕ) × (new ≡ old ++ more)
 
 -- each of the rows has a text
 abbrev pub AllFit : List (List Value) → Type 0

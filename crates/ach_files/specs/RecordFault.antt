@@ -1,37 +1,36 @@
 -- What is wrong with a record, judged against sums over the lists of the records before it.
 use Rattle.std.specs.Prelude.{ℕ, ◌+◌, Bool, true, false, not, ◌&&◌, ◌||◌, List, length, Option, Some, None, if◌then◌else◌, ◌==◌}
-use Rattle.ach_records.specs.Record.{kind_of, has_digits, entry_dfi, entry_cents, batch_sec, header_key}
+use Rattle.ach_records.specs.Record.{kind_of, has_digits, entry_transaction_code, entry_direction, entry_dfi, entry_cents, batch_sec, header_key}
 use Rattle.ach_records.specs.declared.Kind.{Kind}
 use Rattle.ach_records.specs.declared.Kind.TheVariants as kinds
 use Rattle.ach_files.specs.declared.fault.FileFault.{FileFault}
 use Rattle.ach_files.specs.declared.fault.FileFault.TheVariants as faults
 use Rattle.ach_files.specs.declared.sums.Sums.{Sums}
-use Rattle.ach_files.specs.declared.stage.Done.{Done}
+use Rattle.ach_files.specs.declared.stage.BatchesSoFar.{BatchesSoFar}
 use Rattle.ach_files.specs.declared.stage.OpenBatch.{OpenBatch}
 use Rattle.ach_files.specs.declared.stage.PendingEntry.{PendingEntry}
 use Rattle.ach_files.specs.declared.stage.Stage.{Stage}
 use Rattle.ach_files.specs.declared.stage.Stage.TheVariants as stages
 use Rattle.ach_files.specs.Structure.{Item, Batch}
-use Rattle.ach_files.specs.Totals.{direction, is_debit, sums_of_items, sums_of_batches, batch_control_sums, file_control_sums, control_batches, control_blocks, blocks, low}
-use Rattle.ach_files.specs.Facts.{transaction_code}
-use Rattle.ach_files.specs.SoFar.{Sofar, BeforeHeader, BetweenBatches, InBatch, AwaitingAddenda, Closed, sofar}
+use Rattle.ach_files.specs.Totals.{is_debit, sums_of_items, sums_of_batches, batch_control_sums, file_control_sums, control_batches, control_blocks, blocks, low_digits}
+use Rattle.ach_files.specs.SoFar.{FileSoFar, BeforeHeader, BetweenBatches, InBatch, AwaitingAddenda, Closed, file_so_far}
 
--- ---- what the records so far come to: sums over the lists
+-- ---- the stage of the records so far: sums over the lists
 
-abbrev pub done_of : List ℕ → List Batch → Done
-done_of h bs = record { key = header_key h; batches = length bs; sums = sums_of_batches bs }
+abbrev pub batches_so_far : List ℕ → List Batch → BatchesSoFar
+batches_so_far h bs = record { key = header_key h; batches = length bs; sums = sums_of_batches bs }
 
-abbrev pub open_of : List ℕ → List Item → OpenBatch
-open_of b is = record { sec = batch_sec b; sums = sums_of_items is }
+abbrev pub open_batch : List ℕ → List Item → OpenBatch
+open_batch b is = record { sec = batch_sec b; sums = sums_of_items is }
 
-abbrev pub pending_of : List ℕ → PendingEntry
-pending_of e = record { transaction_code = transaction_code e; dfi = entry_dfi e; amount = entry_cents e; debit = is_debit e }
+abbrev pub pending_entry_of : List ℕ → PendingEntry
+pending_entry_of e = record { transaction_code = entry_transaction_code e; dfi = entry_dfi e; cents = entry_cents e; is_debit = is_debit e }
 
-abbrev pub stage_of : Sofar → Stage
+abbrev pub stage_of : FileSoFar → Stage
 stage_of BeforeHeader = stages.BeforeHeader
-stage_of (BetweenBatches h bs) = stages.BetweenBatches (done_of h bs)
-stage_of (InBatch h bs b is) = stages.InBatch (done_of h bs) (open_of b is)
-stage_of (AwaitingAddenda h bs b is e) = stages.AwaitingAddenda (done_of h bs) (open_of b is) (pending_of e)
+stage_of (BetweenBatches h bs) = stages.BetweenBatches (batches_so_far h bs)
+stage_of (InBatch h bs b is) = stages.InBatch (batches_so_far h bs) (open_batch b is)
+stage_of (AwaitingAddenda h bs b is e) = stages.AwaitingAddenda (batches_so_far h bs) (open_batch b is) (pending_entry_of e)
 stage_of (Closed f) = stages.Closed (header_key f.header)
 
 -- ---- the faults at the last byte of a record
@@ -60,18 +59,18 @@ is_misplaced _ _ = false
 
 -- a 98 whose entry's amount isn't zero
 abbrev pub has_amount : Stage → Kind → Bool
-has_amount (stages.AwaitingAddenda _ _ w) kinds.Change98 = not (w.amount == 0)
+has_amount (stages.AwaitingAddenda _ _ w) kinds.Change98 = not (w.cents == 0)
 has_amount _ _ = false
 
 -- a 6 whose code's second digit is neither 1 nor 6
 abbrev pub is_forward : Kind → List ℕ → Bool
-is_forward kinds.Entry text = not (direction text == 49) && not (direction text == 54)
+is_forward kinds.Entry text = not (entry_direction text == 49) && not (entry_direction text == 54)
 is_forward _ _ = false
 
 abbrev pub sums_differ : Sums → Sums → Option FileFault
 sums_differ told sums =
     if not (told.count == sums.count) then Some faults.BadCount
-    else if not (told.hash == low sums.hash) then Some faults.BadHash
+    else if not (told.hash == low_digits sums.hash) then Some faults.BadHash
     else if not (told.debits == sums.debits) then Some faults.BadTotal
     else if not (told.credits == sums.credits) then Some faults.BadTotal
     else None
@@ -89,9 +88,9 @@ control_fault (stages.BetweenBatches d) n kinds.FileControl text =
     else block_fault n text (sums_differ (file_control_sums text) d.sums)
 control_fault _ n _ text = None
 
--- what is wrong with the n-th record, where the records before it come to the stage
-unfoldable pub judged : Stage → ℕ → Kind → List ℕ → Option FileFault
-judged stage n kind text =
+-- what is wrong with the n-th record, where the records before it led to the stage
+unfoldable pub fault_after_stage : Stage → ℕ → Kind → List ℕ → Option FileFault
+fault_after_stage stage n kind text =
     if not (may_follow stage kind || is_misplaced stage kind) then Some faults.BadOrder
     else if not (has_digits kind text) then Some faults.BadNumber
     else if is_forward kind text then Some faults.ForwardEntry
@@ -100,4 +99,4 @@ judged stage n kind text =
 
 -- what is wrong with a record after these
 abbrev pub record_fault : List (List ℕ) → List ℕ → Option FileFault
-record_fault before text = judged (stage_of (sofar before)) (length before + 1) (kind_of text) text
+record_fault before text = fault_after_stage (stage_of (file_so_far before)) (length before + 1) (kind_of text) text

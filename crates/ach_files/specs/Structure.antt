@@ -35,9 +35,9 @@ abbrev pub records_of : File → List (List ℕ)
 records_of f = main_records f ++ replicate f.fillers nines
 
 -- the message of the digest: the records through the 9, without line ends
-abbrev pub digested : File → List ℕ
-digested f = flat_map (λ r. r) (main_records f)
+abbrev pub digest_message : File → List ℕ
+digest_message f = flat_map (λ r. r) (main_records f)
 
 -- the records with LF after each
-abbrev pub printed : File → List ℕ
-printed f = flat_map (λ r. r ++ 10 ∷ []) (records_of f)
+abbrev pub file_text : File → List ℕ
+file_text f = flat_map (λ r. r ++ 10 ∷ []) (records_of f)

@@ -1,30 +1,32 @@
-//! What is taken from an item.
+//! `ItemFacts` are what is taken from an item.
 use ach_fields::Cents;
 
-/// The addenda of an item: a return with its information, or a notification of change with the
-/// corrected data. The texts are as they stand in the record, with the blanks at their end.
+/// A `ReturnOrChange` is the addenda of an item: a return with its information, or a notification of
+/// change with the corrected data. The texts are as they stand in the record, with the blanks at their
+/// end.
 #[derive(Clone, Copy, Debug, PartialEq, Eq)]
-pub enum Reply {
-    /// An addenda 99.
+pub enum ReturnOrChange {
+    /// It is an addenda 99, with its information.
     Return([u8; 44]),
-    /// An addenda 98.
+    /// It is an addenda 98, with the corrected data.
     Change([u8; 29]),
 }
 
-/// What an item of a file says: a returned or changed entry with its addenda.
+/// `ItemFacts` are what an item of a file says: a returned or changed entry with its addenda.
 #[derive(Clone, Copy, Debug, PartialEq, Eq)]
 pub struct ItemFacts {
-    /// The SEC code of its batch.
+    /// It is the SEC code of its batch.
     pub sec_code: [u8; 3],
-    /// The transaction code, of two digits.
+    /// It is the transaction code, of two digits.
     pub transaction_code: u8,
-    /// Zero for a change.
-    pub amount: Cents,
-    /// The return code or change code.
+    /// It is the amount in cents, zero for a change.
+    pub cents: Cents,
+    /// It is the return code or change code.
     pub code: [u8; 3],
-    /// The trace number of the entry that it answers.
+    /// It is the trace number of the entry that is returned or changed.
     pub original_trace: [u8; 15],
-    /// The receiving DFI of that entry.
+    /// It is the receiving DFI of that entry.
     pub original_dfi: [u8; 8],
-    pub reply: Reply,
+    /// It is the addenda itself.
+    pub return_or_change: ReturnOrChange,
 }

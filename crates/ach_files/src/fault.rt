@@ -1,24 +1,23 @@
-//! What can be wrong with a file.
+//! A `Fault` says what is wrong with a file.
 ghost use Rattle.std.specs.Prelude.{◌≡◌};
 
-/// What is wrong at a place of a file. Several at one place are told in this order.
+/// A `FileFault` says what is wrong at a place of a file. Several at one place are told in this order.
 #[derive(Clone, Copy, Debug, PartialEq, Eq, Drop)]
 pub enum FileFault {
-    /// A byte after the first 4,194,304.
+    /// A byte stands after the first 4,194,304.
     TooLarge = 1,
     /// A record ends early, by a CR, an LF or the end of the input, or something else than CR and LF
     /// follows the last one.
     BadLength = 2,
-    /// A character that records may not have.
+    /// A character stands there that records may not have.
     BadByte = 3,
-    /// A record that may not follow those before it, or the end of the input before the file control.
+    /// The record may not follow those before it, or the input ends before the file control.
     BadOrder = 4,
-    /// Something else than digits in a field that holds a number.
+    /// Something else than digits stands in a field that holds a number.
     BadNumber = 5,
-    /// An entry that is neither a return nor a change.
+    /// The entry is neither a return nor a change.
     ForwardEntry = 6,
-    /// An addenda that is missing, one too many, of another type, or a change of an entry with an
-    /// amount.
+    /// An addenda is missing, one too many, of another type, or a change of an entry with an amount.
     BadAddenda = 7,
     /// A control says another number of batches or of entries and addenda.
     BadCount = 8,
@@ -34,7 +33,8 @@ pub enum FileFault {
     Failed = 13,
 }
 
-/// A fault, and the number of the record in which it stands, from 1; 0 where it stands in none.
+/// A `Fault` is what is wrong, and the number of the record in which it stands, from 1; 0 where it stands
+/// in none.
 #[derive(Clone, Copy, Debug, PartialEq, Eq, Drop)]
 pub struct Fault {
     pub kind: FileFault,
@@ -43,8 +43,16 @@ pub struct Fault {
 
 impl FileFault {
     ghost use Rattle.ach_files.specs.FaultNames.{name_of};
+    ghost use Rattle.ach_files.specs.FaultNumbers.{number_of};
 
-    /// The name of the fault.
+    /// Gives the number of the fault.
+    pub fn number(self) -> u8
+        ensures { result ≡ number_of self }
+    {
+        self as u8
+    }
+
+    /// Gives the name of the fault.
     pub fn name(self) -> &'static str
         ensures { result.now ≡ name_of self }
     {

@@ -1,7 +1,9 @@
-//! A file that is whole in memory.
-ghost use Rattle.std.specs.Prelude.{◌≡◌, ◌<◌, Some, MatchResult, IsTrue, ◌↔◌, [], length, slice_get};
+//! An `Incoming` is a file that is whole in memory.
+ghost use Rattle.std.specs.Prelude.{◌≡◌, ◌<◌, Some, MatchResult, IfErr, IsTrue, ◌↔◌, [], length, slice_get};
 ghost use Rattle.ach_files.specs.File.{IsReadAs};
-ghost use Rattle.ach_files.specs.FirstFault.{Tells, fault};
+ghost use Rattle.ach_files.specs.FirstFault.{Tells, fault, fault_at};
+ghost use Rattle.ach_files.specs.Memory.{RunsOut};
+ghost use Rattle.ach_files.specs.declared.fault.FileFault.TheVariants as faults;
 
 use crate::facts::ItemFacts;
 use crate::fault::Fault;
@@ -10,8 +12,8 @@ use crate::taken::Taken;
 use std::alloc::Global;
 use std::marker::Model;
 
-/// A file that was read. It lends its items, and none of its calls takes memory. Contracts see its
-/// bytes and what is taken from it.
+/// An `Incoming` is a file that was read. It lends its items, and none of its calls takes memory.
+/// Contracts see its bytes and what is taken from it.
 #[derive(Drop)]
 pub struct Incoming<'a> {
     bytes: &'a [u8],
@@ -26,7 +28,7 @@ impl<'a> Model for Incoming<'a> {
     ghost view = { λ i. record { bytes = i.bytes.now; facts = i.taken } };
 }
 
-/// An item of a file: a returned or changed entry with its addenda.
+/// An `Item` is an item of a file: a returned or changed entry with its addenda.
 #[derive(Clone, Copy)]
 pub struct Item<'a> {
     facts: &'a ItemFacts,
@@ -35,7 +37,7 @@ pub struct Item<'a> {
 impl Item<'_> {
     ghost use Rattle.ach_files.specs.Items.{item_facts};
 
-    /// What the item says.
+    /// Tells what the item says.
     pub fn facts(&self) -> ItemFacts
         ensures { result ≡ item_facts self.now }
     {
@@ -46,28 +48,28 @@ impl Item<'_> {
 impl<'a> Incoming<'a> {
     ghost use Rattle.ach_files.specs.Items.{item_facts};
 
-    /// The bytes that were read.
+    /// Gives the bytes that were read.
     pub fn bytes(&self) -> &'a [u8]
         ensures { result.now ≡ self.now.bytes }
     {
         self.bytes
     }
 
-    /// Positions 14 to 34 of the file header: origin, date, time and modifier.
+    /// Gives positions 14 to 34 of the file header: origin, date, time and modifier.
     pub fn key(&self) -> [u8; 21]
         ensures { result ≡ self.now.facts.key }
     {
         self.taken.key()
     }
 
-    /// The SHA-256 of the records through the file control, without line ends.
+    /// Gives the SHA-256 of the records through the file control, without line ends.
     pub fn digest(&self) -> [u8; 32]
         ensures { result ≡ self.now.facts.digest }
     {
         self.taken.digest()
     }
 
-    /// How many items it has.
+    /// Says how many items it has.
     pub fn len(&self) -> usize
         ensures { result ≡ length self.now.facts.items }
     {
@@ -81,7 +83,7 @@ impl<'a> Incoming<'a> {
         self.taken.items().is_empty()
     }
 
-    /// An item, counted from 0 in the order of the file.
+    /// Gives an item, counted from 0 in the order of the file.
     pub fn item(&self, index: usize) -> Item<'_>
         requires { index < length self.now.facts.items }
         ensures { slice_get self.now.facts.items index ≡ Some (item_facts result) }
@@ -93,9 +95,10 @@ impl<'a> Incoming<'a> {
     }
 
     pub(crate) fn read(alloc: Global, bytes: &'a [u8]) -> Result<Incoming<'a>, Fault>
-        ensures { MatchResult result
+        ensures read { MatchResult result
             (λ incoming. (incoming.bytes ≡ bytes.now) × IsReadAs bytes.now incoming.facts)
             (λ f. Tells f (fault bytes.now)) }
+        ensures memory { IfErr result (λ f. f ≡ fault_at 0 faults.NoMemory → RunsOut 0 [] bytes.now) }
     {
         let mut reader = Reader::new(alloc);
         reader.feed(bytes)?;

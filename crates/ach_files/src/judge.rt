@@ -1,18 +1,21 @@
-//! What is wrong with a record.
+//! A record is judged by its own fields and by the records before it.
 
-ghost use Rattle.std.specs.Prelude.{◌≡◌, ◌+◌, ◌≤◌, ◌<◌, ◌^◌, ℕ, List, true, false, Some, None, length, IsNone, slice_index};
-ghost use Rattle.ach_records.specs.Layout.{part};
-ghost use Rattle.ach_fields.specs.Digits.{number, AreDigits};
+ghost use Rattle.std.specs.Prelude.{◌≡◌, ◌+◌, ◌≤◌, true, false, Some, None, IsNone};
 ghost use Rattle.ach_records.specs.Record.{has_digits};
 ghost use Rattle.ach_records.specs.declared.Kind.TheVariants as kinds;
 ghost use Rattle.ach_files.specs.declared.stage.Stage.TheVariants as stages;
-ghost use Rattle.ach_files.specs.Totals.{control_sums, batch_control_sums, direction, is_debit};
-ghost use Rattle.ach_files.specs.RecordFault.{may_follow, is_misplaced, has_amount, is_forward, sums_differ, control_fault, judged};
+ghost use Rattle.ach_files.specs.Totals.{batch_control_sums, file_control_sums};
+ghost use Rattle.ach_files.specs.Limits.{most_bytes};
+ghost use Rattle.ach_files.specs.RecordFault.{may_follow, is_misplaced, has_amount, is_forward, sums_differ, control_fault, fault_after_stage};
 
 use crate::fault::FileFault;
-use crate::stage::{Done, Stage};
-use crate::sums::Sums;
-use ach_records::{Kind, has_digits, number_at};
+use crate::stage::{BatchesSoFar, Stage};
+use crate::sums::{Sums, low_digits};
+use ach_records::{
+    Kind, batch_control_count, batch_control_credits, batch_control_debits, batch_control_hash,
+    entry_direction, file_control_batches, file_control_blocks, file_control_count,
+    file_control_credits, file_control_debits, file_control_hash, has_digits,
+};
 
 fn may_follow(stage: &Stage, kind: Kind) -> bool
     ensures { result ≡ may_follow stage.now kind }
@@ -42,7 +45,7 @@ fn has_amount(stage: &Stage, kind: Kind) -> bool
     ensures { result ≡ has_amount stage.now kind }
 {
     match (stage, kind) {
-        (Stage::AwaitingAddenda(_, _, entry), Kind::Change98) => entry.amount.get() != 0,
+        (Stage::AwaitingAddenda(_, _, entry), Kind::Change98) => entry.cents.get() != 0,
         _ => false,
     }
 }
@@ -51,7 +54,10 @@ fn is_forward(kind: Kind, text: &[u8; 94]) -> bool
     ensures { result ≡ is_forward kind text.now }
 {
     match kind {
-        Kind::Entry => text[2] != b'1' && text[2] != b'6',
+        Kind::Entry => {
+            let direction = entry_direction(text);
+            direction != b'1' && direction != b'6'
+        }
         _ => false,
     }
 }
@@ -62,7 +68,7 @@ fn sums_differ(told: &Sums, sums: &Sums) -> Option<FileFault>
     if told.count != sums.count {
         return Some(FileFault::BadCount);
     }
-    if told.hash != sums.hash % 10_000_000_000 {
+    if told.hash != low_digits(sums.hash) {
         return Some(FileFault::BadHash);
     }
     if told.debits != sums.debits || told.credits != sums.credits {
@@ -71,43 +77,46 @@ fn sums_differ(told: &Sums, sums: &Sums) -> Option<FileFault>
     None
 }
 
-#[tactic(auto, unfolding(crate::specs::Totals::control_sums))]
-fn control_sums(text: &[u8; 94], from: usize, width: usize) -> Sums
-    requires narrow { (1 ≤ width) × (width ≤ 8) }
-    requires within { from + width + 34 ≤ 94 }
-    requires digits { AreDigits (part from (width + 34) text.now) }
-    ensures { result ≡ control_sums from width text.now }
+#[tactic(auto, unfolding(crate::specs::Totals::batch_control_sums))]
+fn batch_control_sums(text: &[u8; 94]) -> Sums
+    requires { has_digits kinds.BatchControl text.now ≡ true }
+    ensures { result ≡ batch_control_sums text.now }
 {
     Sums {
-        count: number_at(text, from, width),
-        hash: number_at(text, from + width, 10),
-        debits: number_at(text, from + width + 10, 12),
-        credits: number_at(text, from + width + 22, 12),
+        count: batch_control_count(text),
+        hash: batch_control_hash(text),
+        debits: batch_control_debits(text).get(),
+        credits: batch_control_credits(text).get(),
     }
 }
 
-fn batch_control_fault(sums: &Sums, text: &[u8; 94]) -> Option<FileFault>
-    requires { has_digits kinds.BatchControl text.now ≡ true }
-    ensures { result ≡ sums_differ (batch_control_sums text.now) sums.now }
+#[tactic(auto, unfolding(crate::specs::Totals::file_control_sums))]
+fn file_control_sums(text: &[u8; 94]) -> Sums
+    requires { has_digits kinds.FileControl text.now ≡ true }
+    ensures { result ≡ file_control_sums text.now }
 {
-    let told = control_sums(text, 4, 6);
-    sums_differ(&told, sums)
+    Sums {
+        count: file_control_count(text),
+        hash: file_control_hash(text),
+        debits: file_control_debits(text).get(),
+        credits: file_control_credits(text).get(),
+    }
 }
 
 #[tactic(auto, unfolding(crate::specs::RecordFault::control_fault, crate::specs::Totals::control_batches, crate::specs::Totals::control_blocks))]
-fn file_control_fault(done: &Done, number: u32, text: &[u8; 94]) -> Option<FileFault>
+fn file_control_fault(so_far: &BatchesSoFar, number: u32, text: &[u8; 94]) -> Option<FileFault>
     requires digits { has_digits kinds.FileControl text.now ≡ true }
-    requires few { number < 5000000 }
-    ensures { result ≡ control_fault (stages.BetweenBatches done.now) number kinds.FileControl text.now }
+    requires few { number ≤ most_bytes }
+    ensures { result ≡ control_fault (stages.BetweenBatches so_far.now) number kinds.FileControl text.now }
 {
-    if number_at(text, 1, 6) != done.batches {
+    if file_control_batches(text) != so_far.batches {
         return Some(FileFault::BadCount);
     }
-    let told = control_sums(text, 13, 8);
-    if let Some(fault) = sums_differ(&told, &done.sums) {
+    let told = file_control_sums(text);
+    if let Some(fault) = sums_differ(&told, &so_far.sums) {
         return Some(fault);
     }
-    if number_at(text, 7, 6) != ((number + 9) / 10) as u64 {
+    if file_control_blocks(text) != ((number + 9) / 10) as u64 {
         return Some(FileFault::BadBlock);
     }
     None
@@ -116,21 +125,26 @@ fn file_control_fault(done: &Done, number: u32, text: &[u8; 94]) -> Option<FileF
 #[tactic(auto, unfolding(crate::specs::RecordFault::control_fault))]
 fn control_fault(stage: &Stage, number: u32, kind: Kind, text: &[u8; 94]) -> Option<FileFault>
     requires digits { has_digits kind text.now ≡ true }
-    requires few { number < 5000000 }
+    requires few { number ≤ most_bytes }
     ensures { result ≡ control_fault stage.now number kind text.now }
 {
     match (stage, kind) {
-        (Stage::InBatch(_, open), Kind::BatchControl) => batch_control_fault(&open.sums, text),
-        (Stage::BetweenBatches(done), Kind::FileControl) => file_control_fault(done, number, text),
+        (Stage::InBatch(_, open), Kind::BatchControl) => sums_differ(
+            &batch_control_sums(text),
+            &open.sums,
+        ),
+        (Stage::BetweenBatches(so_far), Kind::FileControl) => file_control_fault(
+            so_far, number, text,
+        ),
         _ => None,
     }
 }
 
-/// What is wrong with the record of that number, where the records before it come to the stage.
-#[tactic(auto, unfolding(crate::specs::RecordFault::judged))]
+/// Says what is wrong with the record of that number, where the records before it led to the stage.
+#[tactic(auto, unfolding(crate::specs::RecordFault::fault_after_stage))]
 pub fn judge(stage: &Stage, number: u32, kind: Kind, text: &[u8; 94]) -> Option<FileFault>
-    requires { number < 5000000 }
-    ensures value { result ≡ judged stage.now number kind text.now }
+    requires { number ≤ most_bytes }
+    ensures value { result ≡ fault_after_stage stage.now number kind text.now }
     ensures follows { IsNone result → may_follow stage.now kind ≡ true }
     ensures digits { IsNone result → has_digits kind text.now ≡ true }
 {

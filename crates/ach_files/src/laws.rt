@@ -1,8 +1,9 @@
-//! Laws of the definitions.
+//! The definitions have these laws.
 
 ghost use Rattle.std.specs.Prelude.{◌≡◌, ℕ, List, Some, None, length, ◌≤◌};
 ghost use Rattle.ach_files.specs.File.{IsFile, AreRecords};
-ghost use Rattle.ach_files.specs.Structure.{File, printed};
+ghost use Rattle.ach_files.specs.Limits.{most_bytes};
+ghost use Rattle.ach_files.specs.Structure.{File, file_text};
 ghost use Rattle.ach_files.specs.FirstFault.{early_fault, fault};
 ghost use Rattle.ach_files.specs.declared.fault.Fault.{Fault};
 ghost use Rattle.std.specs.Prelude.{map, ◌<◌, ◌+◌, ◌%◌, ◌++◌};
@@ -10,8 +11,8 @@ ghost use Rattle.std.specs.List.{flat_map};
 ghost use Rattle.ach_records.specs.Record.{header_key};
 ghost use Rattle.ach_files.specs.Facts.{file_facts};
 ghost use Rattle.ach_files.specs.declared.outgoing.Outgoing.{Outgoing};
-ghost use Rattle.ach_files.specs.Outgoing.{print_fault, printed_outgoing, fillers, AllFit, outgoing_rows};
-ghost use Rattle.ach_files.specs.Returned.{AreAnswers, file_of, outgoing_key, outgoing_facts};
+ghost use Rattle.ach_files.specs.Outgoing.{print_fault, outgoing_text, filler_count, AllFit, outgoing_rows};
+ghost use Rattle.ach_files.specs.ReturnsAndChanges.{AreReturnsAndChanges, file_of, outgoing_key, outgoing_facts};
 
 /// Bytes are a file exactly where they have no fault.
 pub fn file_or_fault()
@@ -26,29 +27,29 @@ pub fn one_file()
 
 /// The text of a file of good records is that file, where it isn't too long.
 pub fn printed_is_file()
-    ensures { (f : File) → AreRecords f → length (printed f) ≤ 4194304 → IsFile (printed f) f }
+    ensures { (f : File) → AreRecords f → length (file_text f) ≤ most_bytes → IsFile (file_text f) f }
 {}
 
 /// A printed file of returns and changes is that file, where it isn't too long.
-pub fn answers_are_read()
-    ensures { (o : Outgoing) → print_fault o ≡ None → AreAnswers o → length (printed_outgoing o) ≤ 4194304 → IsFile (printed_outgoing o) (file_of o) }
+pub fn returns_and_changes_are_read()
+    ensures { (o : Outgoing) → print_fault o ≡ None → AreReturnsAndChanges o → length (outgoing_text o) ≤ most_bytes → IsFile (outgoing_text o) (file_of o) }
 {}
 
-/// Where no fault is told, each row has a text: those of the controls too.
+/// Where no fault is told, each row has a text, those of the controls too.
 pub fn rows_have_texts()
     ensures { (o : Outgoing) → print_fault o ≡ None → AllFit (outgoing_rows o) }
 {}
 
-/// What is read from it: the key, and what the items say.
-pub fn answers_say()
+/// The key and what the items say are read again as they were given.
+pub fn facts_are_read_again()
     ensures key { (o : Outgoing) → print_fault o ≡ None → header_key (file_of o).header ≡ outgoing_key o }
-    ensures facts { (o : Outgoing) → print_fault o ≡ None → AreAnswers o → file_facts (file_of o) ≡ flat_map (λ b. map (outgoing_facts b.header.sec.now) b.entries.now) o.batches.now }
+    ensures facts { (o : Outgoing) → print_fault o ≡ None → AreReturnsAndChanges o → file_facts (file_of o) ≡ flat_map (λ b. map (outgoing_facts b.header.sec.now) b.entries.now) o.batches.now }
 {}
 
 /// The fillers are the fewest that make the number of records a multiple of ten.
 pub fn fillers_are_few()
-    ensures whole { (n : ℕ) → (n + fillers n) % 10 ≡ 0 }
-    ensures few { (n : ℕ) → fillers n < 10 }
+    ensures whole { (n : ℕ) → (n + filler_count n) % 10 ≡ 0 }
+    ensures few { (n : ℕ) → filler_count n < 10 }
 {}
 
 /// A fault that is found among the first bytes is the fault of every input that begins with them.
@@ -58,5 +59,5 @@ pub fn faults_stand()
 
 /// More than 4,194,304 bytes have a fault, whatever they are, in the first 4,194,305.
 pub fn long_bytes_have_faults()
-    ensures { (bytes : List ℕ) → 4_194_304 < length bytes → (f : Fault) × (early_fault bytes ≡ Some f) }
+    ensures { (bytes : List ℕ) → most_bytes < length bytes → (f : Fault) × (early_fault bytes ≡ Some f) }
 {}

@@ -1,12 +1,12 @@
-//! Whole ACH files: reading files of returns and notifications of change, and printing files.
+//! Files of returns and notifications of change are read here, and ACH files of any entries printed.
 //!
-//! A file is at most 4,194,304 bytes: a file header, batches of entries each with one addenda, a file
-//! control, and fillers, each record of 94 characters followed by nothing, LF or CR LF. `read_file`
+//! A file that is read has at most 4,194,304 bytes: a file header, batches of entries each with one
+//! addenda, a file control, and fillers, each record of 94 characters followed by nothing, LF or CR LF. `read_file`
 //! reads one that is whole in memory, `Reader` one that comes in pieces; both tell the first fault, by
 //! the first byte at which something is wrong. `print_file` prints one, with the counts, hashes and
 //! totals of its controls; `Printer` prints one batch by batch.
 //!
-//! `Item`s and `ItemFacts` are read, an `Outgoing` is printed. The structs of an `Outgoing` hold
+//! `Item`s and their `ItemFacts` are read, and an `Outgoing` is printed. The structs of an `Outgoing` hold
 //! references beside typed values, which `Vec::push` cannot take today: a list of them grows by
 //! `extend_from_slice(&[entry])`.
 #![tactic(auto)]
@@ -17,6 +17,7 @@ mod fault;
 mod incoming;
 mod judge;
 mod laws;
+mod limits;
 mod outgoing;
 mod place;
 mod print;
@@ -27,18 +28,15 @@ mod stage;
 mod sums;
 mod taken;
 
-pub use facts::{ItemFacts, Reply};
+pub use facts::{ItemFacts, ReturnOrChange};
 pub use fault::{Fault, FileFault};
 pub use incoming::{Incoming, Item};
 pub use laws::{
-    answers_are_read, answers_say, faults_stand, file_or_fault, fillers_are_few,
-    long_bytes_have_faults, one_file, printed_is_file, rows_have_texts,
+    facts_are_read_again, faults_stand, file_or_fault, fillers_are_few, long_bytes_have_faults,
+    one_file, printed_is_file, returns_and_changes_are_read, rows_have_texts,
 };
 pub use outgoing::{Addenda, Outgoing, OutgoingBatch, OutgoingEntry, PrintFault};
 pub use print::{Printer, print_file};
 pub use read::read_file;
 pub use reader::Reader;
 pub use taken::Taken;
-
-#[cfg(test)]
-mod tests;

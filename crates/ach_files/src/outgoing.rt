@@ -1,4 +1,4 @@
-//! A file that is to be printed.
+//! An `Outgoing` is a file that is to be printed.
 ghost use Rattle.std.specs.Prelude.{◌≡◌};
 ghost use Rattle.ach_files.specs.declared.outgoing.PrintFault.TheVariants.{NoMemory};
 
@@ -6,56 +6,56 @@ use ach_fields::{Cents, Trace};
 use ach_records::{BatchHeaderText, Change98Text, FileHeaderText, Return99Text};
 use std::alloc::AllocError;
 
-/// What stands after an entry.
+/// An `Addenda` is what stands after an entry.
 #[derive(Clone, Copy)]
 pub enum Addenda<'a> {
-    /// Nothing.
+    /// Nothing stands there.
     Absent,
-    /// The payment information of an addenda 05, whose digits are those of the entry's trace.
+    /// It is the payment information of an addenda 05, whose digits are those of the entry's trace.
     Payment(&'a [u8]),
-    /// An addenda 98.
+    /// It is an addenda 98.
     Change(Change98Text<'a>),
-    /// An addenda 99.
+    /// It is an addenda 99.
     Return(Return99Text<'a>),
 }
 
-/// An entry and its addenda. The addenda indicator follows from the addenda.
+/// An `OutgoingEntry` is an entry and its addenda. The addenda indicator follows from the addenda.
 #[derive(Clone, Copy)]
 pub struct OutgoingEntry<'a> {
-    /// The transaction code, of two digits.
+    /// It is the transaction code, of two digits.
     pub transaction: u8,
-    /// The receiving DFI, of eight digits.
+    /// It is the receiving DFI, of eight digits.
     pub dfi: u32,
-    /// The ninth digit of the receiver's routing number.
+    /// It is the ninth digit of the receiver's routing number.
     pub check_digit: u8,
-    /// At most 17 characters.
+    /// It has at most 17 characters.
     pub account: &'a [u8],
-    /// At most ten digits.
+    /// It is the amount in cents, of at most ten digits.
     pub cents: Cents,
-    /// At most 15 characters.
+    /// It has at most 15 characters.
     pub identification: &'a [u8],
-    /// At most 22 characters.
+    /// It has at most 22 characters.
     pub name: &'a [u8],
     pub trace: Trace,
     pub addenda: Addenda<'a>,
 }
 
-/// A batch. Its control says again the service class, company, originating DFI and number of its
-/// header; its count, hash and totals are those of the entries.
+/// An `OutgoingBatch` is a batch. Its control says again the service class, company, originating DFI
+/// and number of its header; its count, hash and totals are those of the entries.
 #[derive(Clone, Copy)]
 pub struct OutgoingBatch<'a> {
     pub header: BatchHeaderText<'a>,
     pub entries: &'a [OutgoingEntry<'a>],
 }
 
-/// A file. Its counts, hash, totals and fillers follow from the batches.
+/// An `Outgoing` is a file. Its counts, hash, totals and fillers follow from the batches.
 #[derive(Clone, Copy)]
 pub struct Outgoing<'a> {
     pub header: FileHeaderText<'a>,
     pub batches: &'a [OutgoingBatch<'a>],
 }
 
-/// Why a file is not printed. Of several the first is told.
+/// A `PrintFault` says why a file is not printed. Of several the first is told.
 #[derive(Clone, Copy, Debug, PartialEq, Eq, Drop)]
 pub enum PrintFault {
     /// A field does not fit its width, or has a character that records may not have.
@@ -67,6 +67,17 @@ pub enum PrintFault {
     TooManyRecords = 3,
     /// Memory ran out.
     NoMemory = 4,
+}
+
+impl PrintFault {
+    ghost use Rattle.ach_files.specs.FaultNumbers.{print_number_of};
+
+    /// Gives the number of the fault.
+    pub fn number(self) -> u8
+        ensures { result ≡ print_number_of self }
+    {
+        self as u8
+    }
 }
 
 impl From<AllocError> for PrintFault {

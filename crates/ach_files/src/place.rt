@@ -1,26 +1,27 @@
-//! Where the next byte stands.
+//! A `Position` says where the next byte stands.
 
-ghost use Rattle.std.specs.Prelude.{◌≡◌, ◌≤◌, ◌<◌, ℕ, List, length};
-ghost use Rattle.ach_files.specs.Layout.{move_at, is_end, begins};
+ghost use Rattle.std.specs.Prelude.{◌≡◌, ◌≤◌, ℕ, List, length};
+ghost use Rattle.ach_files.specs.Layout.{move_at, is_end, may_begin};
 ghost use Rattle.ach_files.specs.FirstFault.{record_of, is_inside};
-ghost use Rattle.ach_files.specs.Kept.{place_of, move_of, filled, step_filled};
+ghost use Rattle.ach_files.specs.Limits.{most_bytes};
+ghost use Rattle.ach_files.specs.ReaderState.{place_of, move_of, part_length, step_part_length};
 
-/// Where the next byte stands.
+/// A `Position` says where the next byte stands.
 #[derive(Clone, Copy)]
 pub enum Position {
-    /// In a record, of which so many bytes came.
+    /// It stands in a record, of which so many bytes came.
     InRecord(usize),
-    /// Right after a record.
+    /// It stands right after a record.
     AfterRecord,
-    /// After a CR that follows a record.
+    /// It stands after a CR that follows a record.
     AfterReturn,
-    /// After the LF or CR LF that follows a record.
+    /// It stands after the LF or CR LF that follows a record.
     AfterLine,
-    /// In the run of CR and LF that ends a file.
+    /// It stands in the run of CR and LF that ends a file.
     InTail,
 }
 
-/// What a byte does.
+/// A `Step` is what a byte does.
 #[derive(Clone, Copy)]
 pub enum Step {
     /// It is one of a record, of which so many bytes came before it.
@@ -38,12 +39,12 @@ pub fn is_line_end(byte: u8) -> bool
     byte == b'\n' || byte == b'\r'
 }
 
-/// What the next byte does. After a record one LF or one CR LF is skipped; a CR or LF after that begins
-/// the tail, in which only they may stand.
+/// Says what the next byte does. After a record one LF or one CR LF is skipped; a CR or LF after that
+/// begins the tail, in which only they may stand.
 #[tactic(auto, unfolding(crate::specs::Layout::move_at))]
 pub fn step_of(position: Position, byte: u8) -> Step
     ensures place { (part : List ℕ) → move_of part result ≡ move_at (place_of part position) byte }
-    ensures inside { step_filled result ≤ filled position }
+    ensures inside { step_part_length result ≤ part_length position }
 {
     match position {
         Position::InRecord(count) => Step::Put(count),
@@ -64,9 +65,9 @@ pub fn step_of(position: Position, byte: u8) -> Step
     }
 }
 
-/// The record in which a byte stands that does this step after so many records.
+/// Numbers the record in which a byte stands that does this step after so many records.
 pub fn record_of(step: Step, records: u32) -> u32
-    requires { records < 5000000 }
+    requires { records ≤ most_bytes }
     ensures { (before : List (List ℕ)) (part : List ℕ) → records ≡ length before → result ≡ record_of before (move_of part step) }
 {
     match step {
@@ -78,7 +79,7 @@ pub fn record_of(step: Step, records: u32) -> u32
 /// Did some bytes of a record come, and not all?
 #[tactic(auto, using(std::proofs::lemmas::Grind::common_steps))]
 pub fn is_inside(position: Position) -> bool
-    ensures { (part : List ℕ) → filled position ≤ length part → result ≡ is_inside (place_of part position) }
+    ensures { (part : List ℕ) → part_length position ≤ length part → result ≡ is_inside (place_of part position) }
 {
     match position {
         Position::InRecord(count) => count > 0,
@@ -88,8 +89,8 @@ pub fn is_inside(position: Position) -> bool
 
 /// May a record begin here?
 #[tactic(auto, using(std::proofs::lemmas::Grind::common_steps))]
-pub fn begins(position: Position) -> bool
-    ensures { (part : List ℕ) → filled position ≤ length part → result ≡ begins (place_of part position) }
+pub fn may_begin(position: Position) -> bool
+    ensures { (part : List ℕ) → part_length position ≤ length part → result ≡ may_begin (place_of part position) }
 {
     match position {
         Position::InRecord(count) => count == 0,

@@ -1,5 +1,5 @@
-//! Reading a file in pieces.
-ghost use Rattle.std.specs.Prelude.{◌≡◌, ◌++◌, [], List, ℕ, Some, None, Err, MatchResult};
+//! A `Reader` reads a file in pieces.
+ghost use Rattle.std.specs.Prelude.{◌≡◌, ◌++◌, [], List, ℕ, Some, None, Err, IfErr, MatchResult};
 ghost use Rattle.ach_files.specs.FirstFault.{Tells};
 ghost use Rattle.ach_files.specs.declared.fault.FileFault.TheVariants as faults;
 
@@ -13,7 +13,8 @@ const FAILED: Fault = Fault {
     at: 0,
 };
 
-/// Reads a file that comes in pieces: it tells what `read_file` tells of all the pieces together.
+/// A `Reader` reads a file that comes in pieces: it tells what `read_file` tells of all the
+/// pieces together.
 ///
 /// It keeps one record in part, running sums, the state of the digest, and what the items say. A fault
 /// is told by the `feed` whose piece holds its byte, one at the end of the input by `finish`. After a
@@ -24,11 +25,12 @@ pub struct Reader {
 }
 
 impl Reader {
-    ghost use Rattle.ach_files.specs.Has.{HasRead, HasFailed};
+    ghost use Rattle.ach_files.specs.Has.{HasRead, HasFailed, reader_room};
     ghost use Rattle.ach_files.specs.File.{IsReadAs};
-    ghost use Rattle.ach_files.specs.FirstFault.{early_fault, fault, at};
+    ghost use Rattle.ach_files.specs.Memory.{RunsOut};
+    ghost use Rattle.ach_files.specs.FirstFault.{early_fault, fault, fault_at};
 
-    /// A reader of a file of which nothing came yet. It takes no memory until the first item.
+    /// Begins a file of which nothing came yet. It takes no memory until the first item.
     pub fn new(alloc: Global) -> Reader
         ensures { HasRead result [] }
     {
@@ -42,7 +44,9 @@ impl Reader {
         ensures read { (bytes : List ℕ) → HasRead self.old bytes → MatchResult result
             (λ _. (early_fault (bytes ++ piece.now) ≡ None) × HasRead self.new (bytes ++ piece.now))
             (λ f. Tells f (early_fault (bytes ++ piece.now)) × HasFailed self.new) }
-        ensures failed { HasFailed self.old → (result ≡ Err (at 0 faults.Failed)) × HasFailed self.new }
+        // Memory runs out only where an item needs it, before any fault.
+        ensures memory { (bytes : List ℕ) → HasRead self.old bytes → IfErr result (λ f. f ≡ fault_at 0 faults.NoMemory → RunsOut (reader_room self.old) bytes piece.now) }
+        ensures failed { HasFailed self.old → (result ≡ Err (fault_at 0 faults.Failed)) × HasFailed self.new }
         ensures nothing { piece.now ≡ [] → self.new ≡ self.old }
     {
         if self.state.is_none() {
@@ -59,12 +63,12 @@ impl Reader {
         Ok(())
     }
 
-    /// Ends the input: what is taken from the file, or the fault at its end.
+    /// Ends the input, and gives what is taken from the file, or the fault at its end.
     pub fn finish(&mut self) -> Result<Taken, Fault>
         ensures read { (bytes : List ℕ) → HasRead self.old bytes → MatchResult result
             (λ taken. IsReadAs bytes taken)
             (λ f. fault bytes ≡ Some f) }
-        ensures failed { HasFailed self.old → result ≡ Err (at 0 faults.Failed) }
+        ensures failed { HasFailed self.old → result ≡ Err (fault_at 0 faults.Failed) }
         ensures done { HasFailed self.new }
     {
         let Some(recogniser) = self.state.take() else {

@@ -1,20 +1,22 @@
-//! What is kept of the bytes so far.
+//! A `Recogniser` keeps what matters of the bytes so far.
 
 ghost use Rattle.std.specs.List.{list_all};
 ghost use Rattle.ach_fields.specs.Characters.{is_printable};
-ghost use Rattle.std.specs.Prelude.{IfOk, true, ◌≡◌, ◌+◌, ◌*◌, ◌≤◌, ◌<◌, ◌^◌, ◌++◌, ◌∷◌, [], ℕ, List, Some, None, length, take, MatchResult, OnOk, IfErr, Option, nat_le, ◌&&◌, Err};
-ghost use Rattle.ach_files.specs.Kept.{filled, weight, room, digested_text, move_of, place_of};
+ghost use Rattle.std.specs.Prelude.{IfOk, true, ◌≡◌, ◌+◌, ◌≤◌, ◌<◌, ◌++◌, ◌∷◌, [], ℕ, List, Some, None, length, take, MatchResult, OnOk, IfErr, Option, Err, OnErr, IsSome, vec_capacity, vec_len};
+ghost use Rattle.ach_files.specs.Limits.{most_bytes};
+ghost use Rattle.ach_files.specs.ReaderState.{part_length, weight, most_weight, digest_text, place_of};
 ghost use Rattle.std.specs.Option.{option_to_list};
 ghost use Rattle.sha2.specs.Hashers.{Holds256};
 ghost use Rattle.ach_files.specs.declared.fault.FileFault.TheVariants as faults;
 ghost use Rattle.ach_files.specs.declared.fault.FileFault.{FileFault};
-ghost use Rattle.ach_files.specs.FirstFault.{Tells, TellsKind, map_fault, record_of, is_inside};
+ghost use Rattle.ach_files.specs.FirstFault.{Tells, TellsKind, map_fault, record_of, is_inside, fault_at};
 
-use crate::advance::{advance, complete};
+use crate::advance::{advance, completed_item};
 use crate::facts::ItemFacts;
 use crate::fault::{Fault, FileFault};
 use crate::judge::judge;
-use crate::place::{Position, Step, begins, is_inside, is_line_end, record_of, step_of};
+use crate::limits::MOST_BYTES;
+use crate::place::{Position, Step, is_inside, is_line_end, may_begin, record_of, step_of};
 use crate::stage::Stage;
 use crate::taken::Taken;
 use ach_fields::{are_printable, is_printable};
@@ -22,9 +24,8 @@ use ach_records::{Kind, kind_of};
 use sha2::{Digest, Sha256};
 use std::alloc::Global;
 
-const LIMIT: u32 = 4_194_304;
-
-/// What is kept of the bytes so far: one record in part, running sums, the digest's state and the items.
+/// A `Recogniser` keeps of the bytes so far one record in part, running sums, the state of the digest and
+/// the items.
 #[derive(Drop)]
 pub struct Recogniser {
     taken: u32,
@@ -34,15 +35,18 @@ pub struct Recogniser {
     stage: Stage,
     hasher: Sha256,
     facts: Vec<ItemFacts>,
-    ghost size: { taken ≤ 4194304 },
+    ghost size: { taken ≤ most_bytes },
     ghost few: { records ≤ taken },
-    ghost inside: { filled position < 94 },
-    ghost small: { weight stage ≤ room records },
+    ghost inside: { part_length position < 94 },
+    ghost small: { weight stage ≤ most_weight records },
 }
 
-fn keep(facts: &mut Vec<ItemFacts>, item: Option<ItemFacts>) -> Result<(), FileFault>
+fn keep_item(facts: &mut Vec<ItemFacts>, item: Option<ItemFacts>) -> Result<(), FileFault>
     ensures ok { OnOk result (facts.new.items ≡ facts.old.items ++ option_to_list item) }
     ensures err { IfErr result (λ f. f ≡ faults.NoMemory) }
+    // It gives up only where there is an item, and the items fill their room.
+    ensures full { OnErr result (IsSome item × (vec_capacity facts.old ≤ vec_len facts.old)) }
+    ensures room { OnOk result (vec_capacity facts.old ≤ vec_capacity facts.new) }
 {
     if let Some(item) = item {
         if facts.push(item).is_err() {
@@ -53,7 +57,7 @@ fn keep(facts: &mut Vec<ItemFacts>, item: Option<ItemFacts>) -> Result<(), FileF
 }
 
 fn digest_record(hasher: &mut Sha256, kind: Kind, text: &[u8; 94])
-    ensures { (m : List ℕ) → Holds256 hasher.old m → Holds256 hasher.new (m ++ digested_text kind text.now) }
+    ensures { (m : List ℕ) → Holds256 hasher.old m → Holds256 hasher.new (m ++ digest_text kind text.now) }
 {
     match kind {
         Kind::Filler => {}
@@ -61,9 +65,10 @@ fn digest_record(hasher: &mut Sha256, kind: Kind, text: &[u8; 94])
     }
 }
 
-// The fault of that kind in that record; want of memory stands in none.
-fn told(kind: FileFault, number: u32) -> Fault
-    ensures { (o : Option FileFault) → TellsKind kind o → Tells result (map_fault number o) }
+// The fault of that kind in that record; out of memory stands in none.
+fn fault_in_record(kind: FileFault, number: u32) -> Fault
+    ensures value { (o : Option FileFault) → TellsKind kind o → Tells result (map_fault number o) }
+    ensures memory { result ≡ fault_at 0 faults.NoMemory → kind ≡ faults.NoMemory }
 {
     match kind {
         FileFault::NoMemory => Fault { kind, at: 0 },
@@ -73,12 +78,13 @@ fn told(kind: FileFault, number: u32) -> Fault
 
 impl Recogniser {
     ghost use Rattle.ach_files.specs.RecordFault.{record_fault};
-    ghost use Rattle.ach_files.specs.SoFar.{BeforeHeader, Closed, sofar};
-    ghost use Rattle.ach_files.specs.Layout.{Layout, next, start, moved, Put, layout, begins};
-    ghost use Rattle.ach_files.specs.FirstFault.{place_fault, at, byte_fault, early_fault, end_fault};
+    ghost use Rattle.ach_files.specs.SoFar.{BeforeHeader, Closed, file_so_far};
+    ghost use Rattle.ach_files.specs.Layout.{Layout, next_layout, layout_after_move, Put, layout, may_begin};
+    ghost use Rattle.ach_files.specs.FirstFault.{place_fault, byte_fault, early_fault, end_fault};
     ghost use Rattle.ach_files.specs.Structure.{File};
     ghost use Rattle.ach_files.specs.Facts.{facts_in};
-    ghost use Rattle.ach_files.specs.Has.{HasRecords, HasLayout, Has, HasBytes};
+    ghost use Rattle.ach_files.specs.Has.{HasRecords, HasLayout, Has, HasBytes, item_room};
+    ghost use Rattle.ach_files.specs.Memory.{RunsOut, items_in, item_count};
     ghost use Rattle.ach_files.specs.declared.place.Position.TheVariants as positions;
 
     pub fn new(alloc: Global) -> Recogniser
@@ -103,13 +109,15 @@ impl Recogniser {
             (λ _. (record_fault records self.old.part ≡ None) × HasRecords self.new (records ++ self.old.part ∷ []))
             (λ f. TellsKind f (record_fault records self.old.part)) }
         ensures position { OnOk result ((self.new.position ≡ positions.AfterRecord) × (self.new.taken ≡ self.old.taken)) }
+        ensures memory { (records : List (List ℕ)) → HasRecords self.old records → IfErr result (λ f. f ≡ faults.NoMemory → (record_fault records self.old.part ≡ None) × (item_room self.old < items_in (records ++ self.old.part ∷ []))) }
+        ensures room { OnOk result (item_room self.old ≤ item_room self.new) }
     {
         let kind = kind_of(&self.part);
         if let Some(fault) = judge(&self.stage, number, kind, &self.part) {
             return Err(fault);
         }
-        let item = complete(&self.stage, kind, &self.part);
-        keep(&mut self.facts, item)?;
+        let item = completed_item(&self.stage, kind, &self.part);
+        keep_item(&mut self.facts, item)?;
         digest_record(&mut self.hasher, kind, &self.part);
         self.stage = advance(self.stage, self.records, kind, &self.part);
         self.records = number;
@@ -122,9 +130,11 @@ impl Recogniser {
         requires count { count < 94 }
         requires room { self.old.records < self.old.taken }
         ensures layout { (l : Layout) → HasRecords self.old l.records → MatchResult result
-            (λ _. (byte_fault l.records (take count self.old.part) byte ≡ None) × HasLayout self.new (moved l byte (Put (take count self.old.part))))
+            (λ _. (byte_fault l.records (take count self.old.part) byte ≡ None) × HasLayout self.new (layout_after_move l byte (Put (take count self.old.part))))
             (λ f. TellsKind f (byte_fault l.records (take count self.old.part) byte)) }
         ensures taken { OnOk result (self.new.taken ≡ self.old.taken) }
+        ensures memory { (l : Layout) → HasRecords self.old l.records → IfErr result (λ f. f ≡ faults.NoMemory → (byte_fault l.records (take count self.old.part) byte ≡ None) × (item_room self.old < items_in (layout_after_move l byte (Put (take count self.old.part))).records)) }
+        ensures room { OnOk result (item_room self.old ≤ item_room self.new) }
     {
         if is_line_end(byte) {
             return Err(FileFault::BadLength);
@@ -143,13 +153,15 @@ impl Recogniser {
 
     // Takes the next byte.
     fn take(&mut self, byte: u8) -> Result<(), Fault>
-        ensures { (l : Layout) (n : ℕ) → Has self.old l n → MatchResult result
-            (λ _. (place_fault n l byte ≡ None) × Has self.new (next l byte) (n + 1))
+        ensures read { (l : Layout) (n : ℕ) → Has self.old l n → MatchResult result
+            (λ _. (place_fault n l byte ≡ None) × Has self.new (next_layout l byte) (n + 1))
             (λ f. Tells f (place_fault n l byte)) }
+        ensures memory { (l : Layout) (n : ℕ) → Has self.old l n → IfErr result (λ f. f ≡ fault_at 0 faults.NoMemory → (place_fault n l byte ≡ None) × (item_room self.old < items_in (next_layout l byte).records)) }
+        ensures room { OnOk result (item_room self.old ≤ item_room self.new) }
     {
         let step = step_of(self.position, byte);
         let at = record_of(step, self.records);
-        if self.taken >= LIMIT {
+        if self.taken >= MOST_BYTES {
             return Err(Fault {
                 kind: FileFault::TooLarge,
                 at,
@@ -159,7 +171,7 @@ impl Recogniser {
         match step {
             Step::Put(count) => match self.put(count, byte) {
                 Ok(()) => Ok(()),
-                Err(kind) => Err(told(kind, at)),
+                Err(kind) => Err(fault_in_record(kind, at)),
             },
             Step::Go(position) => {
                 self.position = position;
@@ -176,17 +188,19 @@ impl Recogniser {
     fn take_whole(&mut self, text: &[u8]) -> Result<(), Fault>
         requires whole { length text.now ≡ 94 }
         requires printable { list_all is_printable text.now ≡ true }
-        requires room { self.old.taken + 94 ≤ 4194304 }
-        ensures { (bytes : List ℕ) → begins (layout bytes).place ≡ true → HasBytes self.old bytes → MatchResult result
+        requires room { self.old.taken + 94 ≤ most_bytes }
+        ensures read { (bytes : List ℕ) → may_begin (layout bytes).place ≡ true → HasBytes self.old bytes → MatchResult result
             (λ _. HasBytes self.new (bytes ++ text.now))
             (λ f. Tells f (early_fault (bytes ++ text.now))) }
+        ensures memory { (bytes : List ℕ) → may_begin (layout bytes).place ≡ true → HasBytes self.old bytes → IfErr result (λ f. f ≡ fault_at 0 faults.NoMemory → (early_fault (bytes ++ text.now) ≡ None) × (item_room self.old < item_count (bytes ++ text.now))) }
+        ensures room { OnOk result (item_room self.old ≤ item_room self.new) }
     {
         self.part.copy_from_slice(text);
         self.taken += 94;
         let number = self.records + 1;
         match self.take_record(number) {
             Ok(()) => Ok(()),
-            Err(kind) => Err(told(kind, number)),
+            Err(kind) => Err(fault_in_record(kind, number)),
         }
     }
 
@@ -194,10 +208,10 @@ impl Recogniser {
     fn is_at_record(&self, bytes: &[u8]) -> bool
         ensures whole { result ≡ true → 94 ≤ length bytes.now }
         ensures printable { result ≡ true → list_all is_printable (take 94 bytes.now) ≡ true }
-        ensures room { result ≡ true → self.now.taken + 94 ≤ 4194304 }
-        ensures begins { result ≡ true → begins (place_of self.now.part self.now.position) ≡ true }
+        ensures room { result ≡ true → self.now.taken + 94 ≤ most_bytes }
+        ensures may_begin { result ≡ true → may_begin (place_of self.now.part self.now.position) ≡ true }
     {
-        if bytes.len() < 94 || self.taken > LIMIT - 94 || !begins(self.position) {
+        if bytes.len() < 94 || self.taken > MOST_BYTES - 94 || !may_begin(self.position) {
             return false;
         }
         are_printable(&bytes[..94])
@@ -210,6 +224,8 @@ impl Recogniser {
         ensures read { (seen : List ℕ) → HasBytes self.old seen → MatchResult result
             (λ count. HasBytes self.new (seen ++ take count bytes.now))
             (λ f. Tells f (early_fault (seen ++ bytes.now))) }
+        ensures memory { (seen : List ℕ) → HasBytes self.old seen → IfErr result (λ f. f ≡ fault_at 0 faults.NoMemory → RunsOut (item_room self.old) seen bytes.now) }
+        ensures room { OnOk result (item_room self.old ≤ item_room self.new) }
     {
         if self.is_at_record(bytes) {
             self.take_whole(&bytes[..94])?;
@@ -221,9 +237,10 @@ impl Recogniser {
 
     // Takes the next bytes.
     pub fn take_all(&mut self, piece: &[u8]) -> Result<(), Fault>
-        ensures { (bytes : List ℕ) → HasBytes self.old bytes → MatchResult result
+        ensures read { (bytes : List ℕ) → HasBytes self.old bytes → MatchResult result
             (λ _. HasBytes self.new (bytes ++ piece.now))
             (λ f. Tells f (early_fault (bytes ++ piece.now))) }
+        ensures memory { (bytes : List ℕ) → HasBytes self.old bytes → IfErr result (λ f. f ≡ fault_at 0 faults.NoMemory → RunsOut (item_room self.old) bytes piece.now) }
     {
         let mut next = 0;
         while next < piece.len() {
@@ -236,7 +253,7 @@ impl Recogniser {
     #[tactic(auto, unfolding(crate::specs::FirstFault::end_fault))]
     pub fn end(self) -> Result<Taken, Fault>
         ensures { (l : Layout) → HasLayout self l → MatchResult result
-            (λ taken. (end_fault l ≡ None) × (f : File) × (sofar l.records ≡ Closed f) × (taken ≡ facts_in f))
+            (λ taken. (end_fault l ≡ None) × (f : File) × (file_so_far l.records ≡ Closed f) × (taken ≡ facts_in f))
             (λ f. end_fault l ≡ Some f) }
     {
         let at = self.records + 1;

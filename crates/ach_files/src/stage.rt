@@ -1,39 +1,41 @@
-//! What the records so far come to.
+//! A `Stage` is what the records so far amount to.
 use crate::sums::Sums;
 use ach_fields::Cents;
 
-/// The file header and the batches that are whole.
+/// `BatchesSoFar` are the file header and the batches that are whole.
 #[derive(Clone, Copy)]
-pub struct Done {
-    /// Origin, date, time and modifier.
+pub struct BatchesSoFar {
+    /// These are origin, date, time and modifier.
     pub key: [u8; 21],
+    /// The header is followed by so many whole batches.
     pub batches: u64,
     pub sums: Sums,
 }
 
-/// The batch that is open.
+/// An `OpenBatch` is the batch that is not whole yet.
 #[derive(Clone, Copy)]
 pub struct OpenBatch {
     pub sec: [u8; 3],
     pub sums: Sums,
 }
 
-/// The entry whose addenda is awaited.
+/// A `PendingEntry` is the entry whose addenda is awaited.
 #[derive(Clone, Copy)]
 pub struct PendingEntry {
     pub transaction_code: u8,
     pub dfi: u64,
-    pub amount: Cents,
-    pub debit: bool,
+    /// It is the amount in cents.
+    pub cents: Cents,
+    pub is_debit: bool,
 }
 
-/// Where a file stands after a record.
+/// A `Stage` says where a file stands after a record.
 #[derive(Clone, Copy)]
 pub enum Stage {
     BeforeHeader,
-    BetweenBatches(Done),
-    InBatch(Done, OpenBatch),
-    AwaitingAddenda(Done, OpenBatch, PendingEntry),
-    /// After the file control, with the file's key.
+    BetweenBatches(BatchesSoFar),
+    InBatch(BatchesSoFar, OpenBatch),
+    AwaitingAddenda(BatchesSoFar, OpenBatch, PendingEntry),
+    /// The file control came; this is the file's key.
     Closed([u8; 21]),
 }

@@ -1,10 +1,10 @@
-//! What is taken from a file.
+//! `Taken` is what a reader takes from a file.
 ghost use Rattle.std.specs.Prelude.{◌≡◌};
 
 use crate::facts::ItemFacts;
 use std::marker::Model;
 
-/// What is taken from a whole file. Contracts see its three parts.
+/// `Taken` is what is taken from a whole file. Contracts see its three parts.
 #[derive(Drop)]
 pub struct Taken {
     key: [u8; 21],
@@ -27,28 +27,28 @@ impl Taken {
         Taken { key, digest, items }
     }
 
-    /// Positions 14 to 34 of the file header: origin, date, time and modifier.
+    /// Gives positions 14 to 34 of the file header: origin, date, time and modifier.
     pub fn key(&self) -> [u8; 21]
         ensures { result ≡ self.now.key }
     {
         self.key
     }
 
-    /// The SHA-256 of the records through the file control, without line ends.
+    /// Gives the SHA-256 of the records through the file control, without line ends.
     pub fn digest(&self) -> [u8; 32]
         ensures { result ≡ self.now.digest }
     {
         self.digest
     }
 
-    /// The items, in the order of the file.
+    /// Lends the items, in the order of the file.
     pub fn items(&self) -> &[ItemFacts]
         ensures { result.now ≡ self.now.items }
     {
         &self.items
     }
 
-    /// The items, without a copy.
+    /// Gives the items, without a copy.
     pub fn into_items(self) -> Vec<ItemFacts>
         ensures { result.items ≡ self.items }
     {

@@ -5,7 +5,7 @@ use Rattle.std.proofs.lemmas.List.Sums.{sum_by-cons}
 use Rattle.std.proofs.lemmas.List.{drop_all, drop-drop, length-take-le}
 use Rattle.ach_records.specs.Layout.{Column, layout, part, fields_from, fields_of}
 use Rattle.ach_records.specs.Record.{IsRecord, is_record_kind}
-use Rattle.ach_records.specs.Laws.{widths, joined}
+use Rattle.ach_records.specs.Laws.{widths, text_of_fields}
 use Rattle.ach_records.specs.declared.Kind.{Kind}
 use Rattle.ach_records.specs.declared.Kind.TheVariants as kinds
 use Rattle.ach_records.proofs.Texts.{part_is}
@@ -18,21 +18,21 @@ widths_in cs = map (λ c. c.width) cs
 headed : (f : List ℕ) (fs : List (List ℕ)) (w : ℕ) (ws : List ℕ) → ◌≡◌ {A = List ℕ} (length f ∷ map length fs) (w ∷ ws) → (length f ≡ w) × (map length fs ≡ ws)
 headed f fs w ws h = (cc, cc)
 
-cut_behind : (cs : List Column) (from : ℕ) (before : List ℕ) (fields : List (List ℕ)) → length before ≡ from → map length fields ≡ widths_in cs
-    → fields_from from cs (before ++ joined fields) ≡ fields
-cut_behind [] from before [] e h = refl
-cut_behind [] from before (f ∷ fs) e h = absurd cc
-cut_behind (c ∷ cs) from before [] e h = absurd cc
-cut_behind (c ∷ cs) from before (f ∷ fs) e h =
+cut_after : (cs : List Column) (from : ℕ) (before : List ℕ) (fields : List (List ℕ)) → length before ≡ from → map length fields ≡ widths_in cs
+    → fields_from from cs (before ++ text_of_fields fields) ≡ fields
+cut_after [] from before [] e h = refl
+cut_after [] from before (f ∷ fs) e h = absurd cc
+cut_after (c ∷ cs) from before [] e h = absurd cc
+cut_after (c ∷ cs) from before (f ∷ fs) e h =
     let p = headed f fs c.width (widths_in cs) h in
-    let first : part from c.width (before ++ (f ++ joined fs)) ≡ f = part_is before f (joined fs) from c.width e p.0 in
+    let first : part from c.width (before ++ (f ++ text_of_fields fs)) ≡ f = part_is before f (text_of_fields fs) from c.width e p.0 in
     let on : length (before ++ f) ≡ from + c.width = length-append before f ∙ (λ i. e i + p.0 i) in
-    let rest : fields_from (from + c.width) cs (before ++ (f ++ joined fs)) ≡ fs
-    = ap (fields_from (from + c.width) cs) (sym (append_assoc before f (joined fs))) ∙ cut_behind cs (from + c.width) (before ++ f) fs on p.1 in
+    let rest : fields_from (from + c.width) cs (before ++ (f ++ text_of_fields fs)) ≡ fs
+    = ap (fields_from (from + c.width) cs) (sym (append_assoc before f (text_of_fields fs))) ∙ cut_after cs (from + c.width) (before ++ f) fs on p.1 in
     (λ i. first i ∷ rest i)
 
-pub fields_cut : (kind : Kind) (fields : List (List ℕ)) → map length fields ≡ widths kind → fields_of kind (joined fields) ≡ fields
-fields_cut kind fields h = cut_behind (layout kind) 0 [] fields refl h
+pub fields_cut : (kind : Kind) (fields : List (List ℕ)) → map length fields ≡ widths kind → fields_of kind (text_of_fields fields) ≡ fields
+fields_cut kind fields h = cut_after (layout kind) 0 [] fields refl h
 
 -- ---- fields that were cut are joined again
 
@@ -40,7 +40,7 @@ part_on : (from w : ℕ) (text : List ℕ) → part from w text ++ drop (from + 
 unfolding part
 part_on from w text = ap (λ (l : List ℕ). take w (drop from text) ++ l) (sym (drop-drop w from text)) ∙ take-append-drop w (drop from text)
 
-join_from : (cs : List Column) (from : ℕ) (text : List ℕ) → from + sum_by (λ c. c.width) cs ≡ length text → joined (fields_from from cs text) ≡ drop from text
+join_from : (cs : List Column) (from : ℕ) (text : List ℕ) → from + sum_by (λ c. c.width) cs ≡ length text → text_of_fields (fields_from from cs text) ≡ drop from text
 join_from [] from text e = sym (drop_all from text (omega (arith, e)))
 join_from (c ∷ cs) from text e =
     let on : from + c.width + sum_by (λ c. c.width) cs ≡ length text = omega (arith, sum_by-cons (λ (d : Column). d.width) c cs, e) in
@@ -72,7 +72,7 @@ widths_sum kinds.Other h = absurd cc
 whole : (kind : Kind) (text : List ℕ) → IsRecord kind text → 0 + sum_by (λ c. c.width) (layout kind) ≡ length text
 whole kind text r = omega (arith, widths_sum kind r.known, r.len)
 
-pub fields_joined : (kind : Kind) (text : List ℕ) → IsRecord kind text → joined (fields_of kind text) ≡ text
+pub fields_joined : (kind : Kind) (text : List ℕ) → IsRecord kind text → text_of_fields (fields_of kind text) ≡ text
 fields_joined kind text r = join_from (layout kind) 0 text (whole kind text r)
 
 pub fields_lengths : (kind : Kind) (text : List ℕ) → IsRecord kind text → map length (fields_of kind text) ≡ widths kind

@@ -1,63 +1,83 @@
--- Digit fields that lie side by side.
-use Rattle.std.proofs.Common.{◌≡◌, ℕ, ◌+◌, ◌-◌, ◌≤◌, true, List, ◌++◌, take, drop, sym, ap, ◌∙◌, arith, take-take}
-use Rattle.std.specs.List.{AllPass}
-use Rattle.std.proofs.lemmas.List.{drop-take, drop-drop}
-use Rattle.std.proofs.Math.Seq.{take-add}
-use Rattle.std.proofs.lemmas.List.Sums.{AllPass-from_list_all, list_all-from_AllPass}
-use Rattle.std.proofs.lemmas.List.Elements.{All-take, All-drop}
-use Rattle.std.proofs.lemmas.List.Folds.{list_all-append}
-use Rattle.std.proofs.lemmas.Bool.{and_parts, and_from}
-use Rattle.ach_fields.specs.Characters.{is_digit}
+-- The digit fields of a record, each on its own.
+use Rattle.std.proofs.Common.{◌≡◌, ℕ, true, List}
+use Rattle.std.proofs.lemmas.Bool.{and_parts}
 use Rattle.ach_fields.specs.Digits.{AreDigits}
-use Rattle.ach_records.specs.Layout.{part}
+use Rattle.ach_records.specs.Layout.{field}
 use Rattle.ach_records.specs.Record.{has_digits}
 use Rattle.ach_records.specs.declared.Kind.TheVariants as kinds
 
-part_in_part : (text : List ℕ) (a w k v : ℕ) → k + v ≤ w → part (a + k) v text ≡ take v (drop k (part a w text))
-unfolding part
-part_in_part text a w k v fits =
-    let m : k + (w - k) ≡ w = omega arith in
-    let one : drop k (take w (drop a text)) ≡ take (w - k) (drop k (drop a text)) = ap (λ n. drop k (take n (drop a text))) (sym m) ∙ drop-take k (w - k) (drop a text) in
-    let le : v ≤ w - k = omega arith in
-    sym (ap (take v) one ∙ take-take v (w - k) (drop k (drop a text)) le ∙ ap (take v) (drop-drop k a text))
+pub record EntryDigits (text : List ℕ) : Type 0 where
+  pub code : AreDigits (field kinds.Entry "transaction code" text)
+  pub dfi : AreDigits (field kinds.Entry "receiving DFI" text)
+  pub cents : AreDigits (field kinds.Entry "cents" text)
 
--- part of a run of digits is digits
-pub digits_part : (text : List ℕ) (a w b v : ℕ) → AreDigits (part a w text) → a ≤ b → b + v ≤ a + w → AreDigits (part b v text)
-digits_part text a w b v h le fits =
-    let whole : AllPass is_digit (part a w text) = AllPass-from_list_all is_digit (part a w text) h in
-    let e : b ≡ a + (b - a) = omega arith in
-    let room : (b - a) + v ≤ w = omega arith in
-    let split : part b v text ≡ take v (drop (b - a) (part a w text)) = ap (λ n. part n v text) e ∙ part_in_part text a w (b - a) v room in
-    rw split (list_all-from_AllPass is_digit _ (All-take (λ x. is_digit x ≡ true) v _ (All-drop (λ x. is_digit x ≡ true) (b - a) _ whole)))
-
--- two parts side by side
-pub part_more : (text : List ℕ) (a v w : ℕ) → part a (v + w) text ≡ part a v text ++ part (a + v) w text
-unfolding part
-part_more text a v w = take-add v w (drop a text) ∙ ap (λ (l : List ℕ). take v (drop a text) ++ take w l) (drop-drop v a text)
-
--- two runs of digits side by side are one
-pub digits_more : (text : List ℕ) (a v w : ℕ) → AreDigits (part a v text) → AreDigits (part (a + v) w text) → AreDigits (part a (v + w) text)
-digits_more text a v w h k = rw (part_more text a v w) (list_all-append is_digit (part a v text) (part (a + v) w text) ∙ and_from _ _ h k)
-
--- transaction code and receiving DFI, and the amount
-pub entry_digits : (text : List ℕ) → has_digits kinds.Entry text ≡ true → AreDigits (part 1 10 text) × AreDigits (part 29 10 text)
+entry_digits : (text : List ℕ) → has_digits kinds.Entry text ≡ true → EntryDigits text
 unfolding has_digits
 entry_digits text h =
     let p = and_parts _ _ h in
     let q = and_parts _ _ p.1 in
-    (digits_more text 1 2 8 p.0 q.0, (and_parts _ _ q.1).0)
+    record { code = p.0; dfi = q.0; cents = (and_parts _ _ q.1).0 }
 
--- count, hash and totals
-pub batch_control_digits : (text : List ℕ) → has_digits kinds.BatchControl text ≡ true → AreDigits (part 4 40 text)
+pub transaction_code_digits : (text : List ℕ) → has_digits kinds.Entry text ≡ true → AreDigits (field kinds.Entry "transaction code" text)
+transaction_code_digits text h = (entry_digits text h).code
+
+pub receiving_dfi_digits : (text : List ℕ) → has_digits kinds.Entry text ≡ true → AreDigits (field kinds.Entry "receiving DFI" text)
+receiving_dfi_digits text h = (entry_digits text h).dfi
+
+pub cents_digits : (text : List ℕ) → has_digits kinds.Entry text ≡ true → AreDigits (field kinds.Entry "cents" text)
+cents_digits text h = (entry_digits text h).cents
+
+pub record AddendaDigits (text : List ℕ) : Type 0 where
+  pub sequence : AreDigits (field kinds.Addenda05 "sequence" text)
+  pub entry_sequence : AreDigits (field kinds.Addenda05 "entry sequence" text)
+
+addenda_digits : (text : List ℕ) → has_digits kinds.Addenda05 text ≡ true → AddendaDigits text
+unfolding has_digits
+addenda_digits text h =
+    let p = and_parts _ _ h in
+    record { sequence = p.0; entry_sequence = (and_parts _ _ p.1).0 }
+
+pub sequence_digits : (text : List ℕ) → has_digits kinds.Addenda05 text ≡ true → AreDigits (field kinds.Addenda05 "sequence" text)
+sequence_digits text h = (addenda_digits text h).sequence
+
+pub entry_sequence_digits : (text : List ℕ) → has_digits kinds.Addenda05 text ≡ true → AreDigits (field kinds.Addenda05 "entry sequence" text)
+entry_sequence_digits text h = (addenda_digits text h).entry_sequence
+
+pub record BatchControlDigits (text : List ℕ) : Type 0 where
+  pub count : AreDigits (field kinds.BatchControl "count" text)
+  pub hash : AreDigits (field kinds.BatchControl "entry hash" text)
+  pub debits : AreDigits (field kinds.BatchControl "total debits" text)
+  pub credits : AreDigits (field kinds.BatchControl "total credits" text)
+
+batch_control_digits : (text : List ℕ) → has_digits kinds.BatchControl text ≡ true → BatchControlDigits text
 unfolding has_digits
 batch_control_digits text h =
     let p = and_parts _ _ h in
     let q = and_parts _ _ p.1 in
     let r = and_parts _ _ q.1 in
-    digits_more text 4 6 34 p.0 (digits_more text 10 10 24 q.0 (digits_more text 20 12 12 r.0 ((and_parts _ _ r.1).0)))
+    record { count = p.0; hash = q.0; debits = r.0; credits = (and_parts _ _ r.1).0 }
 
--- batches, blocks, count, hash and totals
-pub file_control_digits : (text : List ℕ) → has_digits kinds.FileControl text ≡ true → AreDigits (part 1 54 text)
+pub batch_count_digits : (text : List ℕ) → has_digits kinds.BatchControl text ≡ true → AreDigits (field kinds.BatchControl "count" text)
+batch_count_digits text h = (batch_control_digits text h).count
+
+pub batch_hash_digits : (text : List ℕ) → has_digits kinds.BatchControl text ≡ true → AreDigits (field kinds.BatchControl "entry hash" text)
+batch_hash_digits text h = (batch_control_digits text h).hash
+
+pub batch_debits_digits : (text : List ℕ) → has_digits kinds.BatchControl text ≡ true → AreDigits (field kinds.BatchControl "total debits" text)
+batch_debits_digits text h = (batch_control_digits text h).debits
+
+pub batch_credits_digits : (text : List ℕ) → has_digits kinds.BatchControl text ≡ true → AreDigits (field kinds.BatchControl "total credits" text)
+batch_credits_digits text h = (batch_control_digits text h).credits
+
+pub record FileControlDigits (text : List ℕ) : Type 0 where
+  pub batches : AreDigits (field kinds.FileControl "batch count" text)
+  pub blocks : AreDigits (field kinds.FileControl "block count" text)
+  pub count : AreDigits (field kinds.FileControl "count" text)
+  pub hash : AreDigits (field kinds.FileControl "entry hash" text)
+  pub debits : AreDigits (field kinds.FileControl "total debits" text)
+  pub credits : AreDigits (field kinds.FileControl "total credits" text)
+
+file_control_digits : (text : List ℕ) → has_digits kinds.FileControl text ≡ true → FileControlDigits text
 unfolding has_digits
 file_control_digits text h =
     let p = and_parts _ _ h in
@@ -65,4 +85,22 @@ file_control_digits text h =
     let r = and_parts _ _ q.1 in
     let s = and_parts _ _ r.1 in
     let t = and_parts _ _ s.1 in
-    digits_more text 1 6 48 p.0 (digits_more text 7 6 42 q.0 (digits_more text 13 8 34 r.0 (digits_more text 21 10 24 s.0 (digits_more text 31 12 12 t.0 ((and_parts _ _ t.1).0)))))
+    record { batches = p.0; blocks = q.0; count = r.0; hash = s.0; debits = t.0; credits = (and_parts _ _ t.1).0 }
+
+pub file_batches_digits : (text : List ℕ) → has_digits kinds.FileControl text ≡ true → AreDigits (field kinds.FileControl "batch count" text)
+file_batches_digits text h = (file_control_digits text h).batches
+
+pub file_blocks_digits : (text : List ℕ) → has_digits kinds.FileControl text ≡ true → AreDigits (field kinds.FileControl "block count" text)
+file_blocks_digits text h = (file_control_digits text h).blocks
+
+pub file_count_digits : (text : List ℕ) → has_digits kinds.FileControl text ≡ true → AreDigits (field kinds.FileControl "count" text)
+file_count_digits text h = (file_control_digits text h).count
+
+pub file_hash_digits : (text : List ℕ) → has_digits kinds.FileControl text ≡ true → AreDigits (field kinds.FileControl "entry hash" text)
+file_hash_digits text h = (file_control_digits text h).hash
+
+pub file_debits_digits : (text : List ℕ) → has_digits kinds.FileControl text ≡ true → AreDigits (field kinds.FileControl "total debits" text)
+file_debits_digits text h = (file_control_digits text h).debits
+
+pub file_credits_digits : (text : List ℕ) → has_digits kinds.FileControl text ≡ true → AreDigits (field kinds.FileControl "total credits" text)
+file_credits_digits text h = (file_control_digits text h).credits

@@ -6,11 +6,11 @@ use Rattle.std.proofs.lemmas.List.Sums.{sum_by-cons}
 use Rattle.std.proofs.lemmas.List.Folds.{list_all-append}
 use Rattle.std.proofs.lemmas.List.Concat.{flat_map-append}
 use Rattle.ach_fields.specs.Characters.{is_digit}
-use Rattle.ach_fields.specs.Text.{padded}
+use Rattle.ach_fields.specs.Text.{with_blanks_after}
 use Rattle.ach_records.specs.Layout.{Column, Class, Fixed, Digits, Text, Blank, layout, part, fields_from, fields_of, digit_fields_from, with_digits}
 use Rattle.ach_records.specs.Record.{kind_of, kind_by_first, addenda_kind, has_digits, is_record_kind}
 use Rattle.ach_records.specs.Print.{Value, Constant, Number, Words, width_of, value_bytes, value_fits, row_fits, row_text, file_header_row, batch_header_row, entry_row, addenda05_row, change98_row, return99_row, batch_control_row, file_control_row, filler_row}
-use Rattle.ach_records.specs.Laws.{SayAll, Printed, PrintedIsViewed, widths, joined}
+use Rattle.ach_records.specs.Laws.{SayAll, IsViewedIfPrinted, PrintedIsViewed, widths, text_of_fields}
 use Rattle.ach_records.specs.declared.Kind.{Kind}
 use Rattle.ach_records.specs.declared.Kind.TheVariants as kinds
 use Rattle.ach_records.specs.declared.print.FileHeaderText.{FileHeaderText}
@@ -21,7 +21,7 @@ use Rattle.ach_records.specs.declared.print.Change98Text.{Change98Text}
 use Rattle.ach_records.specs.declared.print.Return99Text.{Return99Text}
 use Rattle.ach_records.specs.declared.print.BatchControlText.{BatchControlText}
 use Rattle.ach_records.specs.declared.print.FileControlText.{FileControlText}
-use Rattle.ach_records.proofs.Texts.{value_len, row_len, row_printable, is_plain, is_number, value_digits, width_optional, plain_optional}
+use Rattle.ach_records.proofs.Texts.{value_len, row_len, row_printable, is_plain, is_number, value_digits, width_number_or_blanks, plain_number_or_blanks}
 use Rattle.ach_records.proofs.Cuts.{fields_cut, widths_sum}
 use Rattle.ach_records.proofs.Said.{say_all}
 
@@ -34,7 +34,7 @@ bytes_long (v ∷ vs) h =
     let p = and_parts (value_fits v) (list_all value_fits vs) h in
     (λ i. value_len v p.0 i ∷ bytes_long vs p.1 i)
 
-joined_is : (vs : List Value) → joined (map value_bytes vs) ≡ row_text vs
+joined_is : (vs : List Value) → text_of_fields (map value_bytes vs) ≡ row_text vs
 unfolding row_text
 joined_is [] = refl
 joined_is (v ∷ vs) = ap (λ (l : List ℕ). value_bytes v ++ l) (joined_is vs)
@@ -94,7 +94,7 @@ record Suits (kind : Kind) (vs : List Value) : Type 0 where
   numbers : numbers_fit (layout kind) vs ≡ true
   kind_is : kind_of (row_text vs) ≡ kind
 
-viewed : (kind : Kind) (vs : List Value) → Suits kind vs → Printed kind vs
+viewed : (kind : Kind) (vs : List Value) → Suits kind vs → IsViewedIfPrinted kind vs
 unfolding has_digits
 viewed kind vs s h =
     let fields = row_fields kind vs h s.wide in
@@ -120,7 +120,7 @@ and_false false = refl
 
 -- a row that ends in blanks is no filler
 ends_blank : (vs : List Value) → list_all nine (row_text (vs ++ Words 39 [] ∷ [])) ≡ false
-unfolding row_text padded
+unfolding row_text with_blanks_after
 ends_blank vs =
     let last : list_all nine (flat_map value_bytes (Words 39 [] ∷ [])) ≡ false = refl in
     ap (list_all nine) (flat_map-append value_bytes vs (Words 39 [] ∷ []))
@@ -132,8 +132,8 @@ file_header : (h : FileHeaderText) → Suits kinds.FileHeader (file_header_row h
 unfolding kind_of kind_by_first row_text
 file_header h = record {
   known = refl;
-  wide = λ i. 1 ∷ 2 ∷ 10 ∷ 10 ∷ 6 ∷ width_optional 4 h.time i ∷ 1 ∷ 3 ∷ 2 ∷ 1 ∷ 23 ∷ 23 ∷ 8 ∷ [];
-  plain = ap (λ b. b && true) (plain_optional 4 h.time);
+  wide = λ i. 1 ∷ 2 ∷ 10 ∷ 10 ∷ 6 ∷ width_number_or_blanks 4 h.time i ∷ 1 ∷ 3 ∷ 2 ∷ 1 ∷ 23 ∷ 23 ∷ 8 ∷ [];
+  plain = ap (λ b. b && true) (plain_number_or_blanks 4 h.time);
   numbers = refl;
   kind_is = refl;
 }
@@ -142,8 +142,8 @@ batch_header : (h : BatchHeaderText) → Suits kinds.BatchHeader (batch_header_r
 unfolding kind_of kind_by_first row_text
 batch_header h = record {
   known = refl;
-  wide = λ i. 1 ∷ 3 ∷ 16 ∷ 20 ∷ 10 ∷ 3 ∷ 10 ∷ 6 ∷ 6 ∷ width_optional 3 h.settlement i ∷ 1 ∷ 8 ∷ 7 ∷ [];
-  plain = ap (λ b. b && true) (plain_optional 3 h.settlement);
+  wide = λ i. 1 ∷ 3 ∷ 16 ∷ 20 ∷ 10 ∷ 3 ∷ 10 ∷ 6 ∷ 6 ∷ width_number_or_blanks 3 h.settlement i ∷ 1 ∷ 8 ∷ 7 ∷ [];
+  plain = ap (λ b. b && true) (plain_number_or_blanks 3 h.settlement);
   numbers = refl;
   kind_is = refl;
 }
@@ -168,12 +168,12 @@ batch_control : (c : BatchControlText) → Suits kinds.BatchControl (batch_contr
 unfolding kind_of kind_by_first row_text
 batch_control c = record { known = refl; wide = refl; plain = refl; numbers = refl; kind_is = refl }
 
-front : FileControlText → List Value
-front c = Constant (57 ∷ []) ∷ Number 6 c.batches ∷ Number 6 c.blocks ∷ Number 8 c.count ∷ Number 10 c.hash ∷ Number 12 c.debits ∷ Number 12 c.credits ∷ []
+prefix : FileControlText → List Value
+prefix c = Constant (57 ∷ []) ∷ Number 6 c.batches ∷ Number 6 c.blocks ∷ Number 8 c.count ∷ Number 10 c.hash ∷ Number 12 c.debits ∷ Number 12 c.credits ∷ []
 
 not_nines : (c : FileControlText) → list_all nine (row_text (file_control_row c)) ≡ false
-unfolding front
-not_nines c = ends_blank (front c)
+unfolding prefix
+not_nines c = ends_blank (prefix c)
 
 first_nine : (c : FileControlText) → kind_by_first (slice_index (row_text (file_control_row c)) 0) (row_text (file_control_row c)) ≡ kinds.FileControl
 unfolding kind_by_first row_text

@@ -114,9 +114,9 @@ pub put_long : (line out : List ℕ) (at w k : ℕ) (fields : List Field) (i : �
     → at + sum_by field_width (drop i fields) ≡ 94 → length line ≡ 94 → length out ≡ w → k ≡ w → length (put_mid at k line out) ≡ 94
 put_long line out at w k fields i x lt is e h long same kw =
     let step : at + w + sum_by field_width (drop (i + 1) fields) ≡ 94 = widths_step at w fields i x lt is e h in
-    let behind : length (drop k (drop at line)) ≡ length line - at - k = length-drop k (drop at line) ∙ ap (λ n. n - k) (length-drop at line) in
-    let front : length (take at line) ≡ at = length-take-le at line (omega (arith, step, long)) in
-    length-append (take at line) (out ++ drop k (drop at line)) ∙ omega (arith, length-append out (drop k (drop at line)), behind, front, step, long, same, kw)
+    let after : length (drop k (drop at line)) ≡ length line - at - k = length-drop k (drop at line) ∙ ap (λ n. n - k) (length-drop at line) in
+    let prefix : length (take at line) ≡ at = length-take-le at line (omega (arith, step, long)) in
+    length-append (take at line) (out ++ drop k (drop at line)) ∙ omega (arith, length-append out (drop k (drop at line)), after, prefix, step, long, same, kw)
 
 -- ---- no field left
 

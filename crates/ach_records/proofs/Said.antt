@@ -8,13 +8,13 @@ use Rattle.std.proofs.lemmas.List.Folds.{list_all-append}
 use Rattle.std.proofs.lemmas.Nat.{pow-add}
 use Rattle.ach_fields.specs.Characters.{is_printable}
 use Rattle.ach_fields.specs.Digits.{number, digits, AreDigits}
-use Rattle.ach_fields.specs.Text.{padded}
+use Rattle.ach_fields.specs.Text.{with_blanks_after}
 use Rattle.ach_fields.proofs.Digits.{length-digits, number-digits, AreDigits-digits, digits-number, number_more, digit_at}
-use Rattle.ach_fields.proofs.Texts.{length-padded}
+use Rattle.ach_fields.proofs.Texts.{length-with_blanks_after}
 use Rattle.ach_records.specs.Layout.{fields_of}
 use Rattle.ach_records.specs.Record.{IsRecord}
 use Rattle.ach_records.specs.Print.{Value, Constant, Number, Words, value_bytes, value_fits, row_fits, row_text}
-use Rattle.ach_records.specs.Laws.{Says, SayAll, Spells, joined}
+use Rattle.ach_records.specs.Laws.{Says, SayAll, Spells, text_of_fields}
 use Rattle.ach_records.specs.declared.Kind.{Kind}
 use Rattle.ach_records.proofs.Cuts.{fields_joined}
 
@@ -23,7 +23,7 @@ use Rattle.ach_records.proofs.Cuts.{fields_joined}
 says : (v : Value) → value_fits v ≡ true → Says v (value_bytes v)
 says (Constant text) h = refl
 says (Number w n) h = record { long = length-digits w n; digits = AreDigits-digits w n; value = number-digits w n (ltb-true n (10 ^ w) h) }
-says (Words w t) h = (length-padded w t (leb-true _ _ ((and_parts (nat_le (length t) w) (list_all is_printable t) h).0)), refl)
+says (Words w t) h = (length-with_blanks_after w t (leb-true _ _ ((and_parts (nat_le (length t) w) (list_all is_printable t) h).0)), refl)
 
 pub say_all : (vs : List Value) → row_fits vs ≡ true → SayAll vs (map value_bytes vs)
 unfolding row_fits
@@ -56,8 +56,8 @@ number_bytes w n bytes s =
     let there : number bytes < 10 ^ length bytes = subst (λ (l : List ℕ). number l < 10 ^ length bytes) all below in
     (subst (λ (k : ℕ). k < 10 ^ w) s.value (subst (λ (k : ℕ). number bytes < 10 ^ k) s.long there), (λ i. digits (sym s.long i) (sym s.value i)) ∙ digits-number bytes s.digits)
 
-words_bytes : (w : ℕ) (t bytes : List ℕ) → length bytes ≡ w → bytes ≡ padded w t → list_all is_printable bytes ≡ true → value_fits (Words w t) ≡ true
-unfolding padded
+words_bytes : (w : ℕ) (t bytes : List ℕ) → length bytes ≡ w → bytes ≡ with_blanks_after w t → list_all is_printable bytes ≡ true → value_fits (Words w t) ≡ true
+unfolding with_blanks_after
 words_bytes w t bytes long e h =
     let len : length (t ++ replicate (w - length t) 32) ≡ w = ap length (sym e) ∙ long in
     let short : length t ≤ w = omega (arith, len, length-append t (replicate (w - length t) 32)) in
@@ -70,13 +70,13 @@ said (Constant text) bytes s h = (refl, sym s)
 said (Number w n) bytes s h = let p = number_bytes w n bytes s in (lt-ltb n (10 ^ w) p.0, p.1)
 said (Words w t) bytes s h = (words_bytes w t bytes s.0 s.1 h, sym s.1)
 
-all_said : (vs : List Value) (fs : List (List ℕ)) → SayAll vs fs → list_all is_printable (joined fs) ≡ true → (row_fits vs ≡ true) × (row_text vs ≡ joined fs)
+all_said : (vs : List Value) (fs : List (List ℕ)) → SayAll vs fs → list_all is_printable (text_of_fields fs) ≡ true → (row_fits vs ≡ true) × (row_text vs ≡ text_of_fields fs)
 unfolding row_fits row_text
 all_said [] [] s h = (refl, refl)
 all_said [] (f ∷ fs) s h = absurd s
 all_said (v ∷ vs) [] s h = absurd s
 all_said (v ∷ vs) (f ∷ fs) s h =
-    let parts = and_parts (list_all is_printable f) (list_all is_printable (joined fs)) (sym (list_all-append is_printable f (joined fs)) ∙ h) in
+    let parts = and_parts (list_all is_printable f) (list_all is_printable (text_of_fields fs)) (sym (list_all-append is_printable f (text_of_fields fs)) ∙ h) in
     let one = said v f s.0 parts.0 in
     let rest = all_said vs fs s.1 parts.1 in
     (and_from _ _ one.0 rest.0, λ i. one.1 i ++ rest.1 i)

@@ -8,11 +8,11 @@ use Rattle.std.proofs.lemmas.List.Folds.{list_all-append}
 use Rattle.std.proofs.lemmas.List.Concat.{flat_map-append}
 use Rattle.ach_fields.specs.Characters.{is_digit, is_printable}
 use Rattle.ach_fields.specs.Digits.{number, digits, AreDigits}
-use Rattle.ach_fields.specs.Text.{padded}
+use Rattle.ach_fields.specs.Text.{with_blanks_after}
 use Rattle.ach_fields.proofs.Digits.{length-digits, number-digits, AreDigits-digits, digit_bounds}
-use Rattle.ach_fields.proofs.Texts.{length-padded}
+use Rattle.ach_fields.proofs.Texts.{length-with_blanks_after}
 use Rattle.ach_records.specs.Layout.{part}
-use Rattle.ach_records.specs.Print.{Value, Constant, Number, Words, width_of, value_bytes, value_fits, row_fits, row_text, optional}
+use Rattle.ach_records.specs.Print.{Value, Constant, Number, Words, width_of, value_bytes, value_fits, row_fits, row_text, number_or_blanks}
 
 -- a field in its place
 pub part_is : (before text after : List ℕ) (from width : ℕ) → length before ≡ from → length text ≡ width → part from width (before ++ (text ++ after)) ≡ text
@@ -37,7 +37,7 @@ part_of_row before mid after from width e f =
 pub value_len : (v : Value) → value_fits v ≡ true → length (value_bytes v) ≡ width_of v
 value_len (Constant text) h = refl
 value_len (Number width n) h = length-digits width n
-value_len (Words width text) h = length-padded width text (leb-true _ _ ((and_parts _ _ h).0))
+value_len (Words width text) h = length-with_blanks_after width text (leb-true _ _ ((and_parts _ _ h).0))
 
 pub row_len : (vs : List Value) → row_fits vs ≡ true → length (row_text vs) ≡ sum_by width_of vs
 unfolding row_fits row_text
@@ -112,8 +112,8 @@ blanks_printable : (n : ℕ) → list_all is_printable (replicate n 32) ≡ true
 blanks_printable zero = refl
 blanks_printable (suc n) = blanks_printable n
 
-words_printable : (width : ℕ) (text : List ℕ) → list_all is_printable text ≡ true → list_all is_printable (padded width text) ≡ true
-unfolding padded
+words_printable : (width : ℕ) (text : List ℕ) → list_all is_printable text ≡ true → list_all is_printable (with_blanks_after width text) ≡ true
+unfolding with_blanks_after
 words_printable width text h = list_all-append is_printable text (replicate (width - length text) 32) ∙ and_from _ _ h (blanks_printable (width - length text))
 
 value_printable : (v : Value) → value_fits v ≡ true → is_plain v ≡ true → list_all is_printable (value_bytes v) ≡ true
@@ -129,10 +129,10 @@ row_printable (v ∷ vs) h p =
     let r = and_parts (is_plain v) (list_all is_plain vs) p in
     list_all-append is_printable (value_bytes v) (flat_map value_bytes vs) ∙ and_from _ _ (value_printable v q.0 r.0) (row_printable vs q.1 r.1)
 
-pub width_optional : (width : ℕ) (o : Option ℕ) → width_of (optional width o) ≡ width
-width_optional width (Some n) = refl
-width_optional width None = refl
+pub width_number_or_blanks : (width : ℕ) (o : Option ℕ) → width_of (number_or_blanks width o) ≡ width
+width_number_or_blanks width (Some n) = refl
+width_number_or_blanks width None = refl
 
-pub plain_optional : (width : ℕ) (o : Option ℕ) → is_plain (optional width o) ≡ true
-plain_optional width (Some n) = refl
-plain_optional width None = refl
+pub plain_number_or_blanks : (width : ℕ) (o : Option ℕ) → is_plain (number_or_blanks width o) ≡ true
+plain_number_or_blanks width (Some n) = refl
+plain_number_or_blanks width None = refl

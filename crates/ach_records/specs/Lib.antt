@@ -1,3 +1,4 @@
+pub mod FaultNumbers
 pub mod Laws
 pub mod Layout
 pub mod Print

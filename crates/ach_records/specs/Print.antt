@@ -4,7 +4,7 @@ use Rattle.std.specs.List.{list_all, flat_map}
 use Prim.Native.String.{String}
 use Rattle.ach_fields.specs.Characters.{is_printable}
 use Rattle.ach_fields.specs.Digits.{digits}
-use Rattle.ach_fields.specs.Text.{padded}
+use Rattle.ach_fields.specs.Text.{with_blanks_after}
 use Rattle.ach_fields.specs.Trace.{sequence_in}
 use Rattle.ach_fields.specs.declared.fault.FieldFault.{FieldFault}
 use Rattle.ach_fields.specs.declared.fault.FieldFault.TheVariants as faults
@@ -37,7 +37,7 @@ width_of (Words width text) = width
 abbrev pub value_bytes : Value → List ℕ
 value_bytes (Constant text) = text
 value_bytes (Number width n) = digits width n
-value_bytes (Words width text) = padded width text
+value_bytes (Words width text) = with_blanks_after width text
 
 -- has the value a text of its width?
 abbrev pub value_fits : Value → Bool
@@ -85,37 +85,37 @@ abbrev pub words : List ℕ → ℕ → Value
 words text width = Words width text
 
 -- a number of so many digits, or blanks
-abbrev pub optional : ℕ → Option ℕ → Value
-optional width (Some n) = Number width n
-optional width None = Words width []
+abbrev pub number_or_blanks : ℕ → Option ℕ → Value
+number_or_blanks width (Some n) = Number width n
+number_or_blanks width None = Words width []
 
-abbrev pub perhaps : Option ℕ → ℕ → Value
-perhaps n width = optional width n
+abbrev pub figure_or_blanks : Option ℕ → ℕ → Value
+figure_or_blanks n width = number_or_blanks width n
 
 -- a value with the name of its field
-pub record Given : Type 0 where
+pub record NamedValue : Type 0 where
   pub name : String
   pub value : ℕ → Value
 
-abbrev pub given : String → (ℕ → Value) → Given
-given name value = record { name = name; value = value }
+abbrev pub named_value : String → (ℕ → Value) → NamedValue
+named_value name value = record { name = name; value = value }
 
-abbrev pub value_in : Column → Given → Value
+abbrev pub value_in : Column → NamedValue → Value
 value_in c g = if is_named c g.name then g.value c.width else Constant []
 
 -- the columns in order: constants and blanks by their class, and in the others the given values, in order and by name
-abbrev pub filled_from : Column → Class → (List Given → List Value) → List Given → List Value
-filled_from c (Fixed text) rest gs = Constant (codes text) ∷ rest gs
-filled_from c Blank rest gs = Words c.width [] ∷ rest gs
-filled_from c _ rest (g ∷ gs) = value_in c g ∷ rest gs
-filled_from c _ rest [] = []
+abbrev pub column_values_from : Column → Class → (List NamedValue → List Value) → List NamedValue → List Value
+column_values_from c (Fixed text) rest gs = Constant (codes text) ∷ rest gs
+column_values_from c Blank rest gs = Words c.width [] ∷ rest gs
+column_values_from c _ rest (g ∷ gs) = value_in c g ∷ rest gs
+column_values_from c _ rest [] = []
 
-abbrev pub filled : List Column → List Given → List Value
-filled [] gs = []
-filled (c ∷ cs) gs = filled_from c c.class (filled cs) gs
+abbrev pub column_values : List Column → List NamedValue → List Value
+column_values [] gs = []
+column_values (c ∷ cs) gs = column_values_from c c.class (column_values cs) gs
 
-abbrev pub row_of : Kind → List Given → List Value
-row_of kind gs = filled (layout kind) gs
+abbrev pub row_of : Kind → List NamedValue → List Value
+row_of kind gs = column_values (layout kind) gs
 
 -- a routing number with the blank before it
 abbrev pub with_blank : List ℕ → List ℕ
@@ -123,87 +123,87 @@ with_blank routing = 32 ∷ routing
 
 abbrev pub file_header_row : FileHeaderText → List Value
 file_header_row h = row_of kinds.FileHeader (
-    given "immediate destination" (words (with_blank h.destination))
-    ∷ given "immediate origin" (words (with_blank h.origin))
-    ∷ given "creation date" (words h.date)
-    ∷ given "creation time" (perhaps h.time)
-    ∷ given "modifier" (words h.modifier.now)
-    ∷ given "destination name" (words h.destination_name.now)
-    ∷ given "origin name" (words h.origin_name.now)
+    named_value "immediate destination" (words (with_blank h.destination))
+    ∷ named_value "immediate origin" (words (with_blank h.origin))
+    ∷ named_value "creation date" (words h.date)
+    ∷ named_value "creation time" (figure_or_blanks h.time)
+    ∷ named_value "modifier" (words h.modifier.now)
+    ∷ named_value "destination name" (words h.destination_name.now)
+    ∷ named_value "origin name" (words h.origin_name.now)
     ∷ [])
 
 abbrev pub batch_header_row : BatchHeaderText → List Value
 batch_header_row h = row_of kinds.BatchHeader (
-    given "service class" (figure h.service_class)
-    ∷ given "company name" (words h.company_name.now)
-    ∷ given "company identification" (words h.company.now)
-    ∷ given "SEC code" (words h.sec.now)
-    ∷ given "entry description" (words h.description.now)
-    ∷ given "effective entry date" (words h.effective)
-    ∷ given "settlement date" (perhaps h.settlement)
-    ∷ given "originating DFI" (figure h.odfi)
-    ∷ given "batch number" (figure h.number)
+    named_value "service class" (figure h.service_class)
+    ∷ named_value "company name" (words h.company_name.now)
+    ∷ named_value "company identification" (words h.company.now)
+    ∷ named_value "SEC code" (words h.sec.now)
+    ∷ named_value "entry description" (words h.description.now)
+    ∷ named_value "effective entry date" (words h.effective)
+    ∷ named_value "settlement date" (figure_or_blanks h.settlement)
+    ∷ named_value "originating DFI" (figure h.odfi)
+    ∷ named_value "batch number" (figure h.number)
     ∷ [])
 
 abbrev pub entry_row : EntryText → List Value
 entry_row e = row_of kinds.Entry (
-    given "transaction code" (figure e.transaction)
-    ∷ given "receiving DFI" (figure e.dfi)
-    ∷ given "check digit" (figure e.check_digit)
-    ∷ given "account" (words e.account.now)
-    ∷ given "cents" (figure e.cents)
-    ∷ given "identification" (words e.identification.now)
-    ∷ given "name" (words e.name.now)
-    ∷ given "addenda indicator" (figure (if e.has_addenda then 1 else 0))
-    ∷ given "trace" (words e.trace)
+    named_value "transaction code" (figure e.transaction)
+    ∷ named_value "receiving DFI" (figure e.dfi)
+    ∷ named_value "check digit" (figure e.check_digit)
+    ∷ named_value "account" (words e.account.now)
+    ∷ named_value "cents" (figure e.cents)
+    ∷ named_value "identification" (words e.identification.now)
+    ∷ named_value "name" (words e.name.now)
+    ∷ named_value "addenda indicator" (figure (if e.has_addenda then 1 else 0))
+    ∷ named_value "trace" (words e.trace)
     ∷ [])
 
 abbrev pub addenda05_row : Addenda05Text → List Value
 addenda05_row a = row_of kinds.Addenda05 (
-    given "payment information" (words a.information.now)
-    ∷ given "sequence" (figure 1)
-    ∷ given "entry sequence" (figure (sequence_in a.trace))
+    named_value "payment information" (words a.information.now)
+    ∷ named_value "sequence" (figure 1)
+    ∷ named_value "entry sequence" (figure (sequence_in a.trace))
     ∷ [])
 
 abbrev pub change98_row : Change98Text → List Value
 change98_row c = row_of kinds.Change98 (
-    given "change code" (words c.code.now)
-    ∷ given "original trace" (words c.original_trace.now)
-    ∷ given "original receiving DFI" (words c.original_dfi.now)
-    ∷ given "corrected data" (words c.corrected.now)
-    ∷ given "trace" (words c.trace)
+    named_value "change code" (words c.code.now)
+    ∷ named_value "original trace" (words c.original_trace.now)
+    ∷ named_value "original receiving DFI" (words c.original_dfi.now)
+    ∷ named_value "corrected data" (words c.corrected.now)
+    ∷ named_value "trace" (words c.trace)
     ∷ [])
 
 abbrev pub return99_row : Return99Text → List Value
 return99_row r = row_of kinds.Return99 (
-    given "return code" (words r.code.now)
-    ∷ given "original trace" (words r.original_trace.now)
-    ∷ given "date of death" (words r.date_of_death.now)
-    ∷ given "original receiving DFI" (words r.original_dfi.now)
-    ∷ given "information" (words r.information.now)
-    ∷ given "trace" (words r.trace)
+    named_value "return code" (words r.code.now)
+    ∷ named_value "original trace" (words r.original_trace.now)
+    ∷ named_value "date of death" (words r.date_of_death.now)
+    ∷ named_value "original receiving DFI" (words r.original_dfi.now)
+    ∷ named_value "information" (words r.information.now)
+    ∷ named_value "trace" (words r.trace)
     ∷ [])
 
 abbrev pub batch_control_row : BatchControlText → List Value
 batch_control_row c = row_of kinds.BatchControl (
-    given "service class" (figure c.service_class)
-    ∷ given "count" (figure c.count)
-    ∷ given "entry hash" (figure c.hash)
-    ∷ given "total debits" (figure c.debits)
-    ∷ given "total credits" (figure c.credits)
-    ∷ given "company identification" (words c.company.now)
-    ∷ given "originating DFI" (figure c.odfi)
-    ∷ given "batch number" (figure c.number)
+    named_value "service class" (figure c.service_class)
+    ∷ named_value "count" (figure c.count)
+    ∷ named_value "entry hash" (figure c.hash)
+    ∷ named_value "total debits" (figure c.debits)
+    ∷ named_value "total credits" (figure c.credits)
+    ∷ named_value "company identification" (words c.company.now)
+    ∷ named_value "originating DFI" (figure c.odfi)
+    ∷ named_value "batch number" (figure c.number)
     ∷ [])
 
 abbrev pub file_control_row : FileControlText → List Value
 file_control_row c = row_of kinds.FileControl (
-    given "batch count" (figure c.batches)
-    ∷ given "block count" (figure c.blocks)
-    ∷ given "count" (figure c.count)
-    ∷ given "entry hash" (figure c.hash)
-    ∷ given "total debits" (figure c.debits)
-    ∷ given "total credits" (figure c.credits)
+    named_value "batch count" (figure c.batches)
+    ∷ named_value "block count" (figure c.blocks)
+    ∷ named_value "count" (figure c.count)
+    ∷ named_value "entry hash" (figure c.hash)
+    ∷ named_value "total debits" (figure c.debits)
+    ∷ named_value "total credits" (figure c.credits)
     ∷ [])
 
 abbrev pub filler_row : List Value

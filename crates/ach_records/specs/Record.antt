@@ -51,8 +51,13 @@ pub record IsRecord (kind : Kind) (text : List ℕ) : Type 0 where
 
 -- ---- the fields that a reader of files takes
 
-unfoldable pub entry_code : List ℕ → List ℕ
-entry_code text = field kinds.Entry "transaction code" text
+-- the transaction code as a number
+unfoldable pub entry_transaction_code : List ℕ → ℕ
+entry_transaction_code text = number (field kinds.Entry "transaction code" text)
+
+-- the second digit of the transaction code, as a character
+abbrev pub entry_direction : List ℕ → ℕ
+entry_direction text = slice_index text 2
 
 unfoldable pub entry_dfi : List ℕ → ℕ
 entry_dfi text = number (field kinds.Entry "receiving DFI" text)

@@ -3,12 +3,12 @@ use Rattle.std.specs.Prelude.{◌≡◌, ℕ, Bool, true, ◌&&◌, List, length
 use Rattle.ach_fields.specs.declared.fault.FieldFault.{FieldFault}
 use Rattle.ach_records.specs.declared.row.Field.{Field}
 use Rattle.ach_records.specs.declared.row.Field.TheVariants as fields
-use Rattle.ach_records.specs.Print.{Value, Constant, Number, Words, optional, with_blank, value_fault, value_bytes}
+use Rattle.ach_records.specs.Print.{Value, Constant, Number, Words, number_or_blanks, with_blank, value_fault, value_bytes}
 
 abbrev pub value_of : Field → Value
 value_of (fields.Constant text) = Constant text.now
 value_of (fields.Number width n) = Number width n
-value_of (fields.Optional width n) = optional width n
+value_of (fields.Optional width n) = number_or_blanks width n
 value_of (fields.Words width text) = Words width text.now
 value_of (fields.Routing routing) = Words 10 (with_blank routing)
 value_of (fields.Date date) = Words 6 date

@@ -1,13 +1,13 @@
-//! Fields by their place.
+//! A field is found by its place.
 ghost use Rattle.std.specs.Prelude.{◌≡◌, ◌+◌, ◌≤◌, ◌<◌, ◌^◌, length};
 ghost use Rattle.ach_fields.specs.Digits.{number, AreDigits};
 ghost use Rattle.ach_records.specs.Layout.{part};
 
 use ach_fields::take_number;
 
-/// So many bytes from an offset.
+/// Gives so many bytes from an offset.
 #[tactic(auto, unfolding(crate::specs::Layout::part))]
-pub fn bytes_at<const N: usize>(text: &[u8; 94], from: usize) -> [u8; N]
+pub(crate) fn bytes_at<const N: usize>(text: &[u8; 94], from: usize) -> [u8; N]
     requires { from + N ≤ 94 }
     ensures { result ≡ part from N text.now }
 {
@@ -16,7 +16,7 @@ pub fn bytes_at<const N: usize>(text: &[u8; 94], from: usize) -> [u8; N]
     out
 }
 
-/// The field at an offset, as it stands.
+/// Gives the field at an offset, as it stands.
 #[tactic(auto, unfolding(crate::specs::Layout::part))]
 pub(crate) fn text_at(text: &[u8; 94], from: usize, width: usize) -> &[u8]
     requires { from + width ≤ 94 }
@@ -26,9 +26,9 @@ pub(crate) fn text_at(text: &[u8; 94], from: usize, width: usize) -> &[u8]
     &text[from..from + width]
 }
 
-/// The number that the digits of a field spell.
+/// Gives the number that the digits of a field spell.
 #[tactic(auto, unfolding(crate::specs::Layout::part))]
-pub fn number_at(text: &[u8; 94], from: usize, width: usize) -> u64
+pub(crate) fn number_at(text: &[u8; 94], from: usize, width: usize) -> u64
     requires filled { 1 ≤ width }
     requires short { width ≤ 18 }
     requires within { from + width ≤ 94 }

@@ -1,4 +1,4 @@
-//! The kind of a record, and its digit fields.
+//! The first characters say the kind of a record, and the kind its digit fields.
 ghost use Rattle.std.specs.Prelude.{◌≡◌, ◌==◌};
 ghost use Rattle.std.specs.List.{list_all};
 ghost use Rattle.ach_records.specs.Record.{kind_of, has_digits};
@@ -12,7 +12,7 @@ fn is_filler(text: &[u8; 94]) -> bool
     text.iter().all(|b| *b == b'9')
 }
 
-/// The kind of a text of 94 bytes.
+/// Gives the kind of a text of 94 bytes.
 #[tactic(auto, unfolding(crate::specs::Record::kind_of, crate::specs::Record::kind_by_first, crate::specs::Record::addenda_kind))]
 pub fn kind_of(text: &[u8; 94]) -> Kind
     ensures { result ≡ kind_of text.now }

@@ -1,4 +1,4 @@
-//! Laws of records: fields, printing and viewing belong together.
+//! The laws of records say that fields, printing and viewing belong together.
 ghost use Rattle.ach_records.specs.Laws.{PrintedIsViewed, RecordsAreFields, ViewedIsPrinted};
 
 /// A record is its fields at their widths, one after the other, and there is one way to cut it.

@@ -1,7 +1,7 @@
-//! The nine records of ACH files, as the layouts of the Nacha rules have them: 94 bytes each, viewed
-//! by their fields and printed from values.
+//! ACH files have nine kinds of records, by the layouts of the Nacha rules. Each has 94 bytes, which are
+//! viewed by their fields and printed from values.
 //!
-//! The layouts are the tables in `specs/Layout.antt`: each field with its name, its width and its class.
+//! The layouts are the tables in `specs/Layout.antt`: each field has a name, a width and a class there.
 //! Nothing here takes memory.
 #![tactic(auto)]
 
@@ -10,12 +10,12 @@ mod fields;
 mod kinds;
 mod laws;
 mod print;
+mod readers;
 mod reading;
 mod row;
 mod views;
 
 pub use fault::RecordFault;
-pub use fields::{bytes_at, number_at};
 pub use kinds::{has_digits, kind_of};
 pub use laws::{printed_is_viewed, records_are_fields, viewed_is_printed};
 pub use print::{
@@ -23,6 +23,13 @@ pub use print::{
     FileHeaderText, Return99Text, print_addenda05, print_batch_control, print_batch_header,
     print_change98, print_entry, print_file_control, print_file_header, print_filler,
     print_return99,
+};
+pub use readers::{
+    addenda_code, addenda_original_dfi, addenda_original_trace, batch_control_count,
+    batch_control_credits, batch_control_debits, batch_control_hash, batch_sec, change_data,
+    entry_cents, entry_dfi, entry_direction, entry_transaction_code, file_control_batches,
+    file_control_blocks, file_control_count, file_control_credits, file_control_debits,
+    file_control_hash, header_key, return_information,
 };
 pub use reading::view;
 pub use views::{
@@ -33,31 +40,31 @@ pub use views::{
 #[cfg(test)]
 mod tests;
 
-/// The kind of a record.
+/// A `Kind` is the kind of a record.
 ///
 /// It goes by the first character, and for a `7` by the two after it; 94 nines are a filler.
 #[derive(Clone, Copy, Debug, PartialEq, Eq)]
 pub enum Kind {
-    /// A `1`: where the file comes from and where it goes.
+    /// A `1` says where the file comes from and where it goes.
     FileHeader,
-    /// A `5`: the company and the kind of entries of a batch.
+    /// A `5` says the company and the kind of entries of a batch.
     BatchHeader,
-    /// A `6`: one payment.
+    /// A `6` is one payment.
     Entry,
-    /// A `705`: information about a payment.
+    /// A `705` is information about a payment.
     Addenda05,
-    /// A `798`: a notification of change.
+    /// A `798` is a notification of change.
     Change98,
-    /// A `799`: a return.
+    /// A `799` is a return.
     Return99,
-    /// A `7` of another type, which is no record.
+    /// A `7` of another type is no record.
     OtherAddenda,
-    /// An `8`: count, hash and totals of a batch.
+    /// An `8` says count, hash and totals of a batch.
     BatchControl,
-    /// A `9`: counts, hash and totals of a file.
+    /// A `9` says counts, hash and totals of a file.
     FileControl,
-    /// 94 nines, which fill the last block.
+    /// These are 94 nines, which fill the last block.
     Filler,
-    /// Another first character, which is no record.
+    /// Another first character begins no record.
     Other,
 }

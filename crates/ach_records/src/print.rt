@@ -1,151 +1,151 @@
-//! Printing records.
-ghost use Rattle.std.specs.Prelude.{◌≡◌, ◌∷◌, if◌then◌else◌};
+//! Records are printed here.
+ghost use Rattle.std.specs.Prelude.{◌≡◌, if◌then◌else◌};
 ghost use Rattle.ach_records.specs.Print.{Prints, row_text, file_header_row, batch_header_row, entry_row, addenda05_row, change98_row, return99_row, batch_control_row, file_control_row, filler_row};
 
 use crate::row::{Field, print_fields};
 use ach_fields::{Cents, FieldFault, Routing, Trace, Ymd};
 
-/// What a file header says.
+/// A `FileHeaderText` is what a file header says.
 #[derive(Clone, Copy)]
 pub struct FileHeaderText<'a> {
-    /// The immediate destination.
+    /// It is the immediate destination.
     pub destination: Routing,
-    /// The immediate origin.
+    /// It is the immediate origin.
     pub origin: Routing,
-    /// The day of creation.
+    /// It is the day of creation.
     pub date: Ymd,
-    /// The time of creation as a number HHMM, or blank.
+    /// It is the time of creation as a number HHMM, or blank.
     pub time: Option<u16>,
-    /// One character that tells the files of a day apart.
+    /// It is one character that tells the files of a day apart.
     pub modifier: &'a [u8],
-    /// At most 23 characters.
+    /// It has at most 23 characters.
     pub destination_name: &'a [u8],
-    /// At most 23 characters.
+    /// It has at most 23 characters.
     pub origin_name: &'a [u8],
 }
 
-/// What a batch header says.
+/// A `BatchHeaderText` is what a batch header says.
 #[derive(Clone, Copy)]
 pub struct BatchHeaderText<'a> {
-    /// 200 for credits and debits, 220 for credits, 225 for debits.
+    /// It is 200 for credits and debits, 220 for credits, 225 for debits.
     pub service_class: u16,
-    /// At most 16 characters.
+    /// It has at most 16 characters.
     pub company_name: &'a [u8],
-    /// The company identification, at most 10 characters.
+    /// It is the company identification, at most 10 characters.
     pub company: &'a [u8],
-    /// The standard entry class code, at most 3 characters.
+    /// It is the standard entry class code, at most 3 characters.
     pub sec: &'a [u8],
-    /// The entry description, at most 10 characters.
+    /// It is the entry description, at most 10 characters.
     pub description: &'a [u8],
-    /// The effective entry date.
+    /// It is the effective entry date.
     pub effective: Ymd,
-    /// The settlement date as a day of the year, or blank.
+    /// It is the settlement date as a day of the year, or blank.
     pub settlement: Option<u16>,
-    /// The originating DFI, of eight digits.
+    /// It is the originating DFI, of eight digits.
     pub odfi: u32,
-    /// The batch number, of at most seven digits.
+    /// It is the batch number, of at most seven digits.
     pub number: u32,
 }
 
-/// What an entry says.
+/// An `EntryText` is what an entry says.
 #[derive(Clone, Copy)]
 pub struct EntryText<'a> {
-    /// The transaction code, of two digits.
+    /// It is the transaction code, of two digits.
     pub transaction: u8,
-    /// The receiving DFI, of eight digits.
+    /// It is the receiving DFI, of eight digits.
     pub dfi: u32,
-    /// The ninth digit of the receiver's routing number.
+    /// It is the ninth digit of the receiver's routing number.
     pub check_digit: u8,
-    /// The account number, at most 17 characters.
+    /// It is the account number, at most 17 characters.
     pub account: &'a [u8],
-    /// The amount, of at most ten digits.
+    /// It is the amount in cents, of at most ten digits.
     pub cents: Cents,
-    /// The receiver's identification, at most 15 characters.
+    /// It is the receiver's identification, at most 15 characters.
     pub identification: &'a [u8],
-    /// The receiver's name, at most 22 characters.
+    /// It is the receiver's name, at most 22 characters.
     pub name: &'a [u8],
     /// Does a record 7 follow?
     pub has_addenda: bool,
-    /// The trace of the entry.
+    /// It is the trace of the entry.
     pub trace: Trace,
 }
 
-/// What an addenda 05 says.
+/// An `Addenda05Text` is what an addenda 05 says.
 #[derive(Clone, Copy)]
 pub struct Addenda05Text<'a> {
-    /// The payment information, at most 80 characters.
+    /// It is the payment information, at most 80 characters.
     pub information: &'a [u8],
-    /// The trace of the entry, whose sequence is printed.
+    /// It is the trace of the entry, whose sequence is printed.
     pub trace: Trace,
 }
 
-/// What a notification of change says.
+/// A `Change98Text` is what a notification of change says.
 #[derive(Clone, Copy)]
 pub struct Change98Text<'a> {
-    /// The change code, at most 3 characters.
+    /// It is the change code, at most 3 characters.
     pub code: &'a [u8],
-    /// The trace of the original entry, at most 15 characters.
+    /// It is the trace of the original entry, at most 15 characters.
     pub original_trace: &'a [u8],
-    /// The receiving DFI of the original entry, at most 8 characters.
+    /// It is the receiving DFI of the original entry, at most 8 characters.
     pub original_dfi: &'a [u8],
-    /// The corrected data, at most 29 characters.
+    /// It is the corrected data, at most 29 characters.
     pub corrected: &'a [u8],
-    /// The trace of the notification.
+    /// It is the trace of the notification.
     pub trace: Trace,
 }
 
-/// What a return says.
+/// A `Return99Text` is what a return says.
 #[derive(Clone, Copy)]
 pub struct Return99Text<'a> {
-    /// The return code, at most 3 characters.
+    /// It is the return code, at most 3 characters.
     pub code: &'a [u8],
-    /// The trace of the original entry, at most 15 characters.
+    /// It is the trace of the original entry, at most 15 characters.
     pub original_trace: &'a [u8],
-    /// The date of death, at most 6 characters.
+    /// It is the date of death, at most 6 characters.
     pub date_of_death: &'a [u8],
-    /// The receiving DFI of the original entry, at most 8 characters.
+    /// It is the receiving DFI of the original entry, at most 8 characters.
     pub original_dfi: &'a [u8],
-    /// The addenda information, at most 44 characters.
+    /// It is the addenda information, at most 44 characters.
     pub information: &'a [u8],
-    /// The trace of the return.
+    /// It is the trace of the return.
     pub trace: Trace,
 }
 
-/// What a batch control says.
+/// A `BatchControlText` is what a batch control says.
 #[derive(Clone, Copy)]
 pub struct BatchControlText<'a> {
-    /// As in the header of the batch.
+    /// It is as in the header of the batch.
     pub service_class: u16,
-    /// How many records 6 and 7 the batch has, of at most six digits.
+    /// It says how many records 6 and 7 the batch has, of at most six digits.
     pub count: u64,
-    /// The low ten digits of the sum of the receiving DFIs.
+    /// It is the low ten digits of the sum of the receiving DFIs.
     pub hash: u64,
-    /// The sum of the debits.
+    /// It is the sum of the debits, in cents.
     pub debits: Cents,
-    /// The sum of the credits.
+    /// It is the sum of the credits, in cents.
     pub credits: Cents,
-    /// As in the header of the batch.
+    /// It is as in the header of the batch.
     pub company: &'a [u8],
-    /// As in the header of the batch.
+    /// It is as in the header of the batch.
     pub odfi: u32,
-    /// As in the header of the batch.
+    /// It is as in the header of the batch.
     pub number: u32,
 }
 
-/// What a file control says.
+/// A `FileControlText` is what a file control says.
 #[derive(Clone, Copy)]
 pub struct FileControlText {
-    /// How many batches the file has, of at most six digits.
+    /// It says how many batches the file has, of at most six digits.
     pub batches: u64,
-    /// How many blocks of ten records, of at most six digits.
+    /// It says how many blocks of ten records, of at most six digits.
     pub blocks: u64,
-    /// How many records 6 and 7, of at most eight digits.
+    /// It says how many records 6 and 7, of at most eight digits.
     pub count: u64,
-    /// The low ten digits of the sum of the hashes of the batches.
+    /// It is the low ten digits of the sum of the hashes of the batches.
     pub hash: u64,
-    /// The sum of the debits.
+    /// It is the sum of the debits, in cents.
     pub debits: Cents,
-    /// The sum of the credits.
+    /// It is the sum of the credits, in cents.
     pub credits: Cents,
 }
 
@@ -157,7 +157,7 @@ fn indicator(has_addenda: bool) -> u64
 
 /// Prints a file header.
 ///
-/// A field that has no text is `TooLong` or `NotText`, and the record is then as it was.
+/// A field that has no text is `TooLong` or `NotText`, and the record then stays as it was.
 pub fn print_file_header(header: &FileHeaderText, out: &mut [u8; 94]) -> Result<(), FieldFault>
     ensures { Prints result out.old out.new (file_header_row header.now) }
 {
@@ -183,7 +183,7 @@ pub fn print_file_header(header: &FileHeaderText, out: &mut [u8; 94]) -> Result<
 
 /// Prints a batch header.
 ///
-/// A field that has no text is `TooLong` or `NotText`, and the record is then as it was.
+/// A field that has no text is `TooLong` or `NotText`, and the record then stays as it was.
 pub fn print_batch_header(header: &BatchHeaderText, out: &mut [u8; 94]) -> Result<(), FieldFault>
     ensures { Prints result out.old out.new (batch_header_row header.now) }
 {
@@ -209,7 +209,7 @@ pub fn print_batch_header(header: &BatchHeaderText, out: &mut [u8; 94]) -> Resul
 
 /// Prints an entry.
 ///
-/// A field that has no text is `TooLong` or `NotText`, and the record is then as it was.
+/// A field that has no text is `TooLong` or `NotText`, and the record then stays as it was.
 pub fn print_entry(entry: &EntryText, out: &mut [u8; 94]) -> Result<(), FieldFault>
     ensures { Prints result out.old out.new (entry_row entry.now) }
 {
@@ -233,7 +233,7 @@ pub fn print_entry(entry: &EntryText, out: &mut [u8; 94]) -> Result<(), FieldFau
 
 /// Prints an addenda 05, the first of its entry.
 ///
-/// A field that has no text is `TooLong` or `NotText`, and the record is then as it was.
+/// A field that has no text is `TooLong` or `NotText`, and the record then stays as it was.
 pub fn print_addenda05(addenda: &Addenda05Text, out: &mut [u8; 94]) -> Result<(), FieldFault>
     ensures { Prints result out.old out.new (addenda05_row addenda.now) }
 {
@@ -250,7 +250,7 @@ pub fn print_addenda05(addenda: &Addenda05Text, out: &mut [u8; 94]) -> Result<()
 
 /// Prints a notification of change.
 ///
-/// A field that has no text is `TooLong` or `NotText`, and the record is then as it was.
+/// A field that has no text is `TooLong` or `NotText`, and the record then stays as it was.
 pub fn print_change98(addenda: &Change98Text, out: &mut [u8; 94]) -> Result<(), FieldFault>
     ensures { Prints result out.old out.new (change98_row addenda.now) }
 {
@@ -271,7 +271,7 @@ pub fn print_change98(addenda: &Change98Text, out: &mut [u8; 94]) -> Result<(), 
 
 /// Prints a return.
 ///
-/// A field that has no text is `TooLong` or `NotText`, and the record is then as it was.
+/// A field that has no text is `TooLong` or `NotText`, and the record then stays as it was.
 pub fn print_return99(addenda: &Return99Text, out: &mut [u8; 94]) -> Result<(), FieldFault>
     ensures { Prints result out.old out.new (return99_row addenda.now) }
 {
@@ -291,7 +291,7 @@ pub fn print_return99(addenda: &Return99Text, out: &mut [u8; 94]) -> Result<(), 
 
 /// Prints a batch control.
 ///
-/// A field that has no text is `TooLong` or `NotText`, and the record is then as it was.
+/// A field that has no text is `TooLong` or `NotText`, and the record then stays as it was.
 pub fn print_batch_control(control: &BatchControlText, out: &mut [u8; 94]) -> Result<(), FieldFault>
     ensures { Prints result out.old out.new (batch_control_row control.now) }
 {
@@ -315,7 +315,7 @@ pub fn print_batch_control(control: &BatchControlText, out: &mut [u8; 94]) -> Re
 
 /// Prints a file control.
 ///
-/// A number that has too many digits is `TooLong`, and the record is then as it was.
+/// A number that has too many digits is `TooLong`, and the record then stays as it was.
 pub fn print_file_control(control: &FileControlText, out: &mut [u8; 94]) -> Result<(), FieldFault>
     ensures { Prints result out.old out.new (file_control_row control.now) }
 {

@@ -1,5 +1,5 @@
-//! Viewing 94 bytes as a record.
-ghost use Rattle.std.specs.Prelude.{◌≡◌, ◌+◌, ◌≤◌, not, List, ℕ, Some, None, MatchResult, IfSome, IsOk, length, ◌<◌};
+//! Here 94 bytes are viewed as a record.
+ghost use Rattle.std.specs.Prelude.{◌≡◌, ◌+◌, ◌≤◌, not, Some, None, MatchResult, IfSome, IsOk, length, ◌<◌};
 ghost use Rattle.std.specs.List.{position};
 ghost use Rattle.ach_fields.specs.Characters.{is_digit, is_printable};
 ghost use Rattle.ach_records.specs.Record.{IsRecord, kind_of};
@@ -7,7 +7,6 @@ ghost use Rattle.ach_records.specs.Layout.{digit_fields};
 ghost use Rattle.ach_records.specs.View.{bad_byte, bad_digit, digit_fault, kind_fault, view_fault};
 ghost use Rattle.ach_records.specs.Views.{Views};
 ghost use Rattle.ach_records.specs.declared.Kind.{Kind};
-ghost use Rattle.ach_records.specs.declared.fault.RecordFault.TheVariants as faults;
 
 use crate::fields::text_at;
 use crate::kinds::kind_of;
@@ -118,7 +117,7 @@ fn record_of(kind: Kind, text: &[u8; 94]) -> Record<'_>
     }
 }
 
-/// The 94 bytes as a record, or their first fault.
+/// Views the 94 bytes as a record, or tells their first fault.
 ///
 /// A byte that is no blank to `~` is `BadByte`. Then the first character decides, `BadType`, and for
 /// a 7 the two after it, `BadAddendaType`; 94 nines are a filler. Then something else than a digit in

@@ -1,27 +1,27 @@
-//! Printing a row of fields, each at its width.
-ghost use Rattle.std.specs.Prelude.{◌≡◌, ◌≤◌, length, map, true};
+//! A row of fields is printed here, each at its width.
+ghost use Rattle.std.specs.Prelude.{◌≡◌, length, map, true};
 ghost use Rattle.std.specs.List.{list_all, sum_by};
 ghost use Rattle.ach_records.specs.Print.{Prints, with_blank};
 ghost use Rattle.ach_records.specs.Row.{value_of, field_width, is_narrow, PutsValue};
 
 use ach_fields::{FieldFault, Routing, Trace, Ymd, put_number, put_text};
 
-/// A field that is to be printed.
+/// A `Field` is to be printed.
 #[derive(Clone, Copy)]
 pub enum Field<'a> {
-    /// A text as it stands.
+    /// It is a text as it stands.
     Constant(&'a [u8]),
-    /// A number in so many digits, with zeros before it.
+    /// It is a number in so many digits, with zeros before it.
     Number(usize, u64),
-    /// The same, or blanks.
+    /// It is such a number, or blanks.
     Optional(usize, Option<u16>),
-    /// A text of so many bytes, with blanks after it.
+    /// It is a text of so many bytes, with blanks after it.
     Words(usize, &'a [u8]),
-    /// A routing number, with a blank before it.
+    /// It is a routing number, with a blank before it.
     Routing(Routing),
-    /// A date.
+    /// It is a date.
     Date(Ymd),
-    /// A trace.
+    /// It is a trace.
     Trace(Trace),
 }
 

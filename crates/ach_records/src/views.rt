@@ -1,4 +1,4 @@
-//! A view for each kind of record: it borrows the 94 bytes, and has a reader for each field.
+//! Each kind of record has a view: it borrows the 94 bytes, and has a reader for each field.
 //!
 //! Digit fields are read as numbers, all others as they stand, with the blanks at their end.
 
@@ -22,25 +22,25 @@ pub use file_header::FileHeader;
 pub use filler::Filler;
 pub use return99::Return99;
 
-/// A record, by its kind.
+/// A `Record` is the view of a record, by its kind.
 #[derive(Clone, Copy)]
 pub enum Record<'a> {
-    /// A record 1.
+    /// This is a record 1.
     FileHeader(FileHeader<'a>),
-    /// A record 5.
+    /// This is a record 5.
     BatchHeader(BatchHeader<'a>),
-    /// A record 6.
+    /// This is a record 6.
     Entry(Entry<'a>),
-    /// A record 705.
+    /// This is a record 705.
     Addenda05(Addenda05<'a>),
-    /// A record 798.
+    /// This is a record 798.
     Change98(Change98<'a>),
-    /// A record 799.
+    /// This is a record 799.
     Return99(Return99<'a>),
-    /// A record 8.
+    /// This is a record 8.
     BatchControl(BatchControl<'a>),
-    /// A record 9.
+    /// This is a record 9.
     FileControl(FileControl<'a>),
-    /// 94 nines.
+    /// These are 94 nines.
     Filler(Filler<'a>),
 }

@@ -6,7 +6,7 @@ use Rattle.std.proofs.lemmas.Bool.{cases_lt, cases_Bool, false≢true}
 use Rattle.std.proofs.lemmas.Bool.Decides.{nat_tests}
 use Rattle.std.specs.List.{list_any}
 use Rattle.bank_days.specs.Day.{is_workday, weekday}
-use Rattle.bank_days.specs.Calendar.{is_banking, banking_days, first_from, IsNthAfter, nth_after, IsFirstFrom, rolled}
+use Rattle.bank_days.specs.Calendar.{is_banking, banking_days, first_from, IsNthAfter, nth_after, IsFirstFrom, roll}
 
 -- one day more
 days_suc : (hs : List ℕ) (d k : ℕ) → banking_days hs d (suc k) ≡ banking_days hs d k + cond (is_banking hs (d + suc k)) 1 0
@@ -105,7 +105,7 @@ none_banking hs d k (suc j) none low high =
       | inr other ↦ other
     ]
 
--- a day behind each one of the list is not in it
+-- a day after each one of the list is not in it
 unlisted : (hs : List ℕ) (b d : ℕ) → All (λ h. h ≤ b) hs → b < d → list_any (λ h. h == d) hs ≡ false
 unlisted hs b d all later =
     list_any_none (λ h. h == d) hs (λ k e h. let le : get_or hs k e ≤ b = all k e h in let ne : get_or hs k e ≢ d = omega arith in grind (arith, nat_tests))
@@ -115,7 +115,7 @@ weekend hs b d all later no-banking =
     let off : is_workday d ≡ false = rw (unlisted hs b d all later, and-true) at no-banking in
     grind (arith, nat_tests)
 
--- of three days behind the list one is a banking day
+-- of three days after the list one is a banking day
 three_days : (hs : List ℕ) (b : ℕ) → All (λ h. h ≤ b) hs → is_banking hs (b + 1) ≡ false → is_banking hs (b + 2) ≡ false → is_banking hs (b + 3) ≡ false → ⊥
 three_days hs b all one two three =
     let first = weekend hs b (b + 1) all (omega arith) one in
@@ -221,7 +221,7 @@ pub first_here : (hs : List ℕ) (d : ℕ) → is_banking hs d ≡ true → IsFi
 first_here hs d banking = record { from = omega arith; banking = banking; first = λ k le other. le }
 
 -- a day is rolled to the first banking day from it on
-pub rolled_first : (hs : List ℕ) (d b : ℕ) → All (λ h. h ≤ b) hs → d ≤ b → b + 3 ≤ 48211 → IsFirstFrom hs d (rolled hs d) × (rolled hs d ≤ b + 3)
+pub rolled_first : (hs : List ℕ) (d b : ℕ) → All (λ h. h ≤ b) hs → d ≤ b → b + 3 ≤ 48211 → IsFirstFrom hs d (roll hs d) × (roll hs d ≤ b + 3)
 rolled_first hs d b all le near =
     elim (cases_Bool (is_banking hs d)) [
       | inl banking ↦ rw banking (first_here hs d banking, omega arith)

@@ -1,4 +1,4 @@
--- The records of a text, by those that were read from its front.
+-- The records of a text, by those that were read first.
 use Rattle.std.proofs.Common.{◌≡◌, ℕ, zero, suc, ◌+◌, ◌-◌, ◌<◌, ◌≤◌, arith, refl, sym, ap, ◌∙◌, inl, inr, ◌⊎◌, List, [], ◌∷◌, ◌++◌, length, Some, None, append-nil}
 use Rattle.std.proofs.lemmas.Bool.{cases_Bool}
 use Rattle.csv.specs.Machine.{Read, next_record, step, is_end, fields_after, field_after, ends_at_end}
@@ -32,7 +32,7 @@ shorter cfg s f p (c ∷ rest) q e =
           ]
     ]
 
--- none is left behind the end
+-- none is left after the end
 none_left : (cfg : Config) (rows : List (List (List ℕ))) (s2 : State) (ys : List ℕ) → Reached cfg st.StartRecord [] rows s2 ys → rows ≡ []
 unfolding Reached next_record
 none_left cfg [] s2 ys h = refl
@@ -50,7 +50,7 @@ few cfg s xs (r ∷ rs) s2 ys h =
           rw none (omega arith)
     ]
 
--- those that were read stand at the front
+-- those that were read are a prefix
 front : (cfg : Config) (n : ℕ) (s : State) (xs : List ℕ) (rows : List (List (List ℕ))) (s2 : State) (ys : List ℕ) → Reached cfg s xs rows s2 ys → length rows ≤ n
     → records_from cfg n s xs ≡ rows ++ records_from cfg (n - length rows) s2 ys
 unfolding Reached records_from

@@ -16,7 +16,7 @@ use Rattle.bank_days.proofs.DayTexts.{within}
 use Rattle.bank_days.specs.Laws.{IsList, IsFirstFault}
 use Rattle.bank_days.proofs.HolidayRows.{Taken, last_of-push, taken_none, taken_more, all_taken, fault_row}
 
--- a higher number behind the last
+-- a higher number after the last
 pub increasing_push : (xs : List ℕ) (y : ℕ) → IsStrictlyIncreasing xs → (0 < length xs → get_or xs (length xs - 1) 0 < y) → IsStrictlyIncreasing (xs ++ y ∷ [])
 increasing_push xs y h last k lt =
     let long : length (xs ++ y ∷ []) ≡ length xs + 1 = length-append xs (y ∷ []) ∙ refl in
@@ -39,7 +39,7 @@ behind_last days d some later =
     let test : nat_lt (get_or days (length days - 1) 0) d ≡ true = rw last at later in
     grind (arith, nat_tests)
 
--- what a row has that may stand behind days
+-- what a row has that may stand after days
 record MayFollow (days : List ℕ) (row : Option ℕ) : Type 0 where
   day : ℕ
   is : row ≡ Some day
@@ -63,7 +63,7 @@ may_follow days (Some d) e =
       few = grind (arith, nat_tests);
     }
 
--- what rows come to
+-- the outcome of rows
 abbrev Outcome : List (Option ℕ) → Type 0
 Outcome rows = ((days : List ℕ) × IsList rows days × (holidays_of_rows rows ≡ Ok days)) ⊎ ((fault : CalendarFault) × IsFirstFault rows fault × (holidays_of_rows rows ≡ Err fault))
 

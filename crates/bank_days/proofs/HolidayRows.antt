@@ -23,7 +23,7 @@ first_is : (n : ℕ) (before row : Option ℕ) (rows : List (Option ℕ)) → fi
 unfolding first_fault
 first_is n before row rows = refl
 
--- these rows were taken as these days: the first fault is that of the rows behind them
+-- these rows were taken as these days: the first fault is that of the rows after them
 pub record Taken (rows : List (Option ℕ)) (days : List ℕ) : Type 0 where
   pub are : rows ≡ map (λ d. Some d) days
   pub behind : (more : List (Option ℕ)) → first_fault 1 None (rows ++ more) ≡ first_fault (length days + 1) (last_of days) more

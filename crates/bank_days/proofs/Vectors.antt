@@ -2,7 +2,7 @@
 use Rattle.std.proofs.Common.{◌≡◌, ◌+◌, [], ◌∷◌, Some, None, Ok, Err, false, refl}
 use Rattle.std.specs.Prelude.{codes}
 use Rattle.bank_days.specs.Day.{day_of, is_workday}
-use Rattle.bank_days.specs.Calendar.{nth_after, next_banking, rolled}
+use Rattle.bank_days.specs.Calendar.{nth_after, next_banking, roll}
 use Rattle.bank_days.specs.HolidayList.{holidays_in}
 use Rattle.bank_days.specs.OnLiterals.{bank_days_on_literals}
 use Rattle.bank_days.specs.declared.calendar_fault.CalendarFault.TheVariants.{BadRow, NotAscending}
@@ -39,7 +39,7 @@ other_spelling = refl
 saturday : is_workday 20_106 ≡ false
 saturday = refl
 
--- behind Thursday 2025-01-16 Friday, then the weekend and the holiday, then Tuesday
+-- after Thursday 2025-01-16 Friday, then the weekend and the holiday, then Tuesday
 first_after : nth_after (20_108 ∷ []) 20_104 1 ≡ 20_105
 unfolding bank_days_on_literals
 first_after = refl
@@ -48,11 +48,11 @@ second_after : nth_after (20_108 ∷ []) 20_104 2 ≡ 20_109
 unfolding bank_days_on_literals
 second_after = refl
 
-over_the_weekend : rolled (20_108 ∷ []) 20_106 ≡ 20_109
+over_the_weekend : roll (20_108 ∷ []) 20_106 ≡ 20_109
 unfolding bank_days_on_literals
 over_the_weekend = refl
 
--- day 60 behind 2025-01-10 is 03-11
+-- day 60 after 2025-01-10 is 03-11
 sixty_days : next_banking (20_108 ∷ []) (20_098 + 60) ≡ 20_159
 unfolding bank_days_on_literals
 sixty_days = refl

@@ -2,7 +2,7 @@
 use Rattle.std.specs.Prelude.{◌≡◌, ◌<◌, ◌≤◌, ℕ, zero, suc, ◌+◌, ◌-◌, Bool, true, not, ◌&&◌, ◌==◌, if◌then◌else◌, List, length, All}
 use Rattle.std.specs.List.{list_any}
 use Rattle.std.specs.List.Sorted.{IsStrictlyIncreasing}
-use Rattle.bank_days.specs.Day.{last_given, last_day, is_workday}
+use Rattle.bank_days.specs.Day.{last_argument_day, last_day, is_workday}
 
 -- the most days of a holiday list
 abbrev pub most_holidays : ℕ
@@ -12,7 +12,7 @@ most_holidays = 400
 pub record AreHolidays (holidays : List ℕ) : Type 0 where
   pub ascending : IsStrictlyIncreasing holidays
   pub few : length holidays ≤ most_holidays
-  pub bounded : All (λ h. h ≤ last_given) holidays
+  pub bounded : All (λ h. h ≤ last_argument_day) holidays
 
 -- not a Saturday, not a Sunday, not in the list
 abbrev pub is_banking : List ℕ → ℕ → Bool
@@ -29,7 +29,7 @@ pub record IsNthAfter (holidays : List ℕ) (d n e : ℕ) : Type 0 where
   pub banking : is_banking holidays e ≡ true
   pub count : banking_days holidays d (e - d) ≡ n
 
--- the first number that passes a test, of so many from a number on, or the one behind them
+-- the first number that passes a test, of so many from a number on, or the one after them
 unfoldable pub first_from : (ℕ → Bool) → ℕ → ℕ → ℕ
 first_from p zero at = at
 first_from p (suc more) at = if p at then at else first_from p more (at + 1)
@@ -43,8 +43,8 @@ abbrev pub next_banking : List ℕ → ℕ → ℕ
 next_banking holidays d = nth_after holidays d 1
 
 -- d where it is a banking day, else the next one
-abbrev pub rolled : List ℕ → ℕ → ℕ
-rolled holidays d = if is_banking holidays d then d else next_banking holidays d
+abbrev pub roll : List ℕ → ℕ → ℕ
+roll holidays d = if is_banking holidays d then d else next_banking holidays d
 
 -- e is the first banking day from d on
 pub record IsFirstFrom (holidays : List ℕ) (d e : ℕ) : Type 0 where

@@ -9,12 +9,12 @@ abbrev pub first_day : ℕ
 first_day = 10_957
 
 -- 2099-12-31, the last day that a text names
-abbrev pub last_named : ℕ
-last_named = 47_481
+abbrev pub last_read_day : ℕ
+last_read_day = 47_481
 
 -- 2100-06-30, the last day that a call may be given
-abbrev pub last_given : ℕ
-last_given = 47_662
+abbrev pub last_argument_day : ℕ
+last_argument_day = 47_662
 
 -- 2101-12-31
 abbrev pub last_day : ℕ

@@ -26,7 +26,7 @@ abbrev pub is_after : Option ℕ → ℕ → Bool
 is_after None d = true
 is_after (Some before) d = nat_lt before d
 
--- why row n may not stand in a list, behind the row before it
+-- why row n may not stand in a list, after the row before it
 abbrev pub row_fault : ℕ → Option ℕ → Option ℕ → Option CalendarFault
 row_fault n before None = Some (BadRow n)
 row_fault n before (Some d) =

@@ -5,8 +5,8 @@ use Rattle.std.specs.List.Sorted.{IsStrictlyIncreasing}
 use Rattle.ach_fields.specs.Ymd.{is_date_text as is_ymd}
 use Rattle.bank_days.specs.declared.date.Date.{Date}
 use Rattle.bank_days.specs.Date.{is_date, is_date_character, date_of_number, number_of_date}
-use Rattle.bank_days.specs.Day.{first_day, last_named, last_given, last_day, day_of, day_text, day_ymd}
-use Rattle.bank_days.specs.Calendar.{most_holidays, AreHolidays, IsNthAfter, IsFirstFrom, nth_after, rolled}
+use Rattle.bank_days.specs.Day.{first_day, last_read_day, last_argument_day, last_day, day_of, day_text, day_ymd}
+use Rattle.bank_days.specs.Calendar.{most_holidays, AreHolidays, IsNthAfter, IsFirstFrom, nth_after, roll}
 use Rattle.bank_days.specs.declared.calendar_fault.CalendarFault.{CalendarFault}
 use Rattle.bank_days.specs.HolidayList.{last_of, row_fault, holidays_of_rows, holidays_in}
 
@@ -16,15 +16,15 @@ pub record DaysAndDates : Type 0 where
   pub number : (n : ℕ) → number_of_date (date_of_number n) ≡ n
   pub date : (d : Date) → is_date d ≡ true → 1970 ≤ d.year → date_of_number (number_of_date d) ≡ d
   pub first_is : date_of_number first_day ≡ record { year = 2000; month = 1; day = 1 }
-  pub last_named_is : date_of_number last_named ≡ record { year = 2099; month = 12; day = 31 }
-  pub last_given_is : date_of_number last_given ≡ record { year = 2100; month = 6; day = 30 }
+  pub last_named_is : date_of_number last_read_day ≡ record { year = 2099; month = 12; day = 31 }
+  pub last_given_is : date_of_number last_argument_day ≡ record { year = 2100; month = 6; day = 30 }
   pub last_is : date_of_number last_day ≡ record { year = 2101; month = 12; day = 31 }
 
 -- texts are written as they were read, and read as they were written
 pub record DaysAndTexts : Type 0 where
   pub written : (s : List ℕ) (n : ℕ) → day_of s ≡ Some n → day_text n ≡ s
-  pub within : (s : List ℕ) (n : ℕ) → day_of s ≡ Some n → (first_day ≤ n) × (n ≤ last_named)
-  pub read : (n : ℕ) → first_day ≤ n → n ≤ last_named → day_of (day_text n) ≡ Some n
+  pub within : (s : List ℕ) (n : ℕ) → day_of s ≡ Some n → (first_day ≤ n) × (n ≤ last_read_day)
+  pub read : (n : ℕ) → first_day ≤ n → n ≤ last_read_day → day_of (day_text n) ≡ Some n
   pub long : (n : ℕ) → length (day_text n) ≡ 10
   pub plain : (n : ℕ) → list_all is_date_character (day_text n) ≡ true
   pub short : (n : ℕ) → day_ymd n ≡ take 2 (drop 2 (day_text n)) ++ take 2 (drop 5 (day_text n)) ++ drop 8 (day_text n)
@@ -39,8 +39,8 @@ pub record NthBankingDays : Type 0 where
 
 -- a day is rolled to the first banking day from it on
 pub record RolledDays : Type 0 where
-  pub first : (holidays : List ℕ) (d last : ℕ) → All (λ h. h ≤ last) holidays → d ≤ last → last + 3 ≤ last_day → IsFirstFrom holidays d (rolled holidays d)
-  pub soon : (holidays : List ℕ) (d last : ℕ) → All (λ h. h ≤ last) holidays → d ≤ last → last + 3 ≤ last_day → rolled holidays d ≤ last + 3
+  pub first : (holidays : List ℕ) (d last : ℕ) → All (λ h. h ≤ last) holidays → d ≤ last → last + 3 ≤ last_day → IsFirstFrom holidays d (roll holidays d)
+  pub soon : (holidays : List ℕ) (d last : ℕ) → All (λ h. h ≤ last) holidays → d ≤ last → last + 3 ≤ last_day → roll holidays d ≤ last + 3
 
 -- these days, ascending and not too many, are the rows
 pub record IsList (rows : List (Option ℕ)) (days : List ℕ) : Type 0 where
@@ -48,7 +48,7 @@ pub record IsList (rows : List (Option ℕ)) (days : List ℕ) : Type 0 where
   pub ascending : IsStrictlyIncreasing days
   pub few : length days ≤ most_holidays
 
--- the rows begin with a list, and this is the fault of the row behind it
+-- the rows begin with a list, and this is the fault of the row after it
 pub record IsFirstFault (rows : List (Option ℕ)) (fault : CalendarFault) : Type 0 where
   pub front : List (Option ℕ)
   pub days : List ℕ
@@ -63,4 +63,4 @@ pub record HolidayLists : Type 0 where
   pub made : (rows : List (Option ℕ)) (days : List ℕ) → holidays_of_rows rows ≡ Ok days → IsList rows days
   pub makes : (rows : List (Option ℕ)) (days : List ℕ) → IsList rows days → holidays_of_rows rows ≡ Ok days
   pub refused : (rows : List (Option ℕ)) (fault : CalendarFault) → holidays_of_rows rows ≡ Err fault → IsFirstFault rows fault
-  pub read : (s days : List ℕ) → holidays_in s ≡ Ok days → AreHolidays days × All (λ h. h ≤ last_named) days
+  pub read : (s days : List ℕ) → holidays_in s ≡ Ok days → AreHolidays days × All (λ h. h ≤ last_read_day) days

@@ -2,8 +2,8 @@ ghost use Rattle.std.specs.List.{list_any};
 ghost use Rattle.std.specs.List.Sorted.{IsStrictlyIncreasing};
 ghost use Rattle.std.specs.Prelude.{◌≡◌, ◌⊎◌, ◌==◌, ◌≤◌, ◌+◌, ◌*◌, [], ◌∷◌, ◌++◌, Some, None, All, max, length, IfOk, IfErr, IfSome, OnOk};
 ghost use Rattle.std.specs.Option.{ForSome};
-ghost use Rattle.bank_days.specs.Day.{last_named, last_given, last_day};
-ghost use Rattle.bank_days.specs.Calendar.{AreHolidays, IsNthAfter, IsFirstFrom, is_banking, nth_after, next_banking, rolled};
+ghost use Rattle.bank_days.specs.Day.{last_read_day, last_argument_day};
+ghost use Rattle.bank_days.specs.Calendar.{AreHolidays, IsNthAfter, IsFirstFrom, is_banking, nth_after, next_banking, roll};
 ghost use Rattle.bank_days.specs.HolidayList.{Gives, holidays_in, holidays_of_days, last_of, row_fault};
 
 use crate::row::{day_behind, day_of_row};
@@ -12,7 +12,7 @@ use csv::ReaderBuilder;
 use std::alloc::{AllocError, Global};
 use std::marker::Model;
 
-/// A bank's list of holidays: at most 400 days, ascending.
+/// A `Calendar` is a bank's list of holidays: at most 400 days, ascending.
 #[derive(Debug, Drop)]
 pub struct Calendar {
     days: Vec<Day>,
@@ -31,7 +31,7 @@ impl Model for Calendar {
 }
 
 impl Calendar {
-    /// The list without a day. It takes no memory.
+    /// Gives the list without a day. It takes no memory.
     pub fn empty(alloc: Global) -> Calendar
         ensures { result ≡ [] }
     {
@@ -40,10 +40,10 @@ impl Calendar {
         }
     }
 
-    /// The list of these days. The first at fault decides: it is `NotAscending` where it is not after
-    /// the one before, else `TooMany` where it is the 401st.
+    /// Gives the list of these days. The first day at fault decides: it is `NotAscending` where it
+    /// is not after the one before, else `TooMany` where it is the 401st.
     pub fn from_days(alloc: Global, days: &[Day]) -> Result<Calendar, CalendarFault>
-        requires { All (λ d. d ≤ last_given) days.now }
+        requires { All (λ d. d ≤ last_argument_day) days.now }
         ensures { Gives (holidays_of_days days.now) result }
     {
         let mut calendar = Calendar::empty(alloc);
@@ -56,15 +56,15 @@ impl Calendar {
         Ok(calendar)
     }
 
-    /// The list that a text of CSV spells, without a header: a day `YYYY-MM-DD` in each row.
+    /// Reads the list that a text of CSV spells, without a header: a day `YYYY-MM-DD` in each row.
     ///
-    /// Rows are what `csv` makes of the text: blank lines are none, a field may be quoted, and a byte
-    /// order mark at the start is dropped. The first row at fault decides: it is `BadRow` where it is
-    /// no day of the years 2000 to 2099, else `NotAscending` where its day is not after that of the row
-    /// before, else `TooMany` where it is the 401st.
+    /// Rows are what `csv` makes of the text: blank lines are none, a field may be quoted, and a
+    /// byte order mark at the start is dropped. The first row at fault decides: it is `BadRow`
+    /// where it is no day of the years 2000 to 2099, else `NotAscending` where its day is not after
+    /// that of the row before, else `TooMany` where it is the 401st.
     pub fn read(alloc: Global, text: &[u8]) -> Result<Calendar, CalendarFault>
         ensures value { Gives (holidays_in text.now) result }
-        ensures within { IfOk result (All (λ h. h ≤ last_named)) }
+        ensures within { IfOk result (All (λ h. h ≤ last_read_day)) }
     {
         let reader = ReaderBuilder::new()
             .has_headers(false)
@@ -83,9 +83,9 @@ impl Calendar {
         Ok(calendar)
     }
 
-    // One more row: its day, or why it may not stand behind the others.
+    // One more row: its day, or why it may not stand after the others.
     fn push(&mut self, row: Option<Day>) -> Result<(), CalendarFault>
-        requires { ForSome row (λ d. d ≤ last_given) }
+        requires { ForSome row (λ d. d ≤ last_argument_day) }
         ensures ok { OnOk result (IfSome row (λ d. self.new ≡ self.old ++ d ∷ [])) }
         ensures fits { OnOk result (row_fault (length self.old + 1) (last_of self.old) row ≡ None) }
         ensures err { IfErr result (λ f. (f ≡ CalendarFault.NoMemory) ⊎ (row_fault (length self.old + 1) (last_of self.old) row ≡ Some f)) }
@@ -100,7 +100,7 @@ impl Calendar {
         Ok(())
     }
 
-    /// A copy.
+    /// Copies the list.
     pub fn try_clone(&self, alloc: Global) -> Result<Calendar, AllocError>
         ensures { IfOk result (λ copy. copy ≡ self.now) }
     {
@@ -118,9 +118,9 @@ impl Calendar {
 
     // The first banking day after a day.
     fn following(&self, day: Day) -> Day
-        requires { day ≤ last_given + 3 }
+        requires { day ≤ last_argument_day + 3 }
         ensures next { IsNthAfter self.now day 1 result }
-        ensures soon { result ≤ max day last_given + 3 }
+        ensures soon { result ≤ max day last_argument_day + 3 }
     {
         // No holiday is after the last day that a call may be given, so the search ends.
         let _days = &self.days;
@@ -131,34 +131,34 @@ impl Calendar {
         next
     }
 
-    /// The first banking day after a day.
+    /// Gives the first banking day after a day.
     pub fn next(&self, day: Day) -> Day
-        requires { day ≤ last_given }
+        requires { day ≤ last_argument_day }
         ensures value { result ≡ next_banking self.now day }
         ensures counted { IsNthAfter self.now day 1 result }
-        ensures within { result ≤ last_given + 3 }
+        ensures within { result ≤ last_argument_day + 3 }
     {
         self.following(day)
     }
 
-    /// The first or the second banking day after a day.
+    /// Gives the first or the second banking day after a day.
     pub fn nth_after(&self, day: Day, n: u8) -> Day
-        requires day { day ≤ last_given }
+        requires day { day ≤ last_argument_day }
         requires count { (1 ≤ n) × (n ≤ 2) }
         ensures value { result ≡ nth_after self.now day n }
         ensures counted { IsNthAfter self.now day n result }
-        ensures within { result ≤ last_given + 3 * n }
+        ensures within { result ≤ last_argument_day + 3 * n }
     {
         let first = self.next(day);
         if n == 1 { first } else { self.following(first) }
     }
 
-    /// The day itself where it is a banking day, else the next one.
+    /// Gives the day itself where it is a banking day, else the next one.
     pub fn roll(&self, day: Day) -> Day
-        requires { day ≤ last_given }
-        ensures value { result ≡ rolled self.now day }
+        requires { day ≤ last_argument_day }
+        ensures value { result ≡ roll self.now day }
         ensures first { IsFirstFrom self.now day result }
-        ensures within { result ≤ last_given + 3 }
+        ensures within { result ≤ last_argument_day + 3 }
     {
         if self.is_banking(day) {
             day
@@ -167,7 +167,7 @@ impl Calendar {
         }
     }
 
-    /// The days of the list, ascending.
+    /// Gives the days of the list, ascending.
     pub fn holidays(&self) -> &[Day]
         ensures value { result.now ≡ self.now }
         ensures valid { AreHolidays self.now }

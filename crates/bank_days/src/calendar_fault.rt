@@ -1,4 +1,4 @@
-/// Why a holiday list is refused. Rows count from 1.
+/// A `CalendarFault` says why a holiday list is refused. Rows count from 1.
 #[derive(Clone, Copy, Debug, PartialEq, Eq)]
 pub enum CalendarFault {
     /// The row is no day `YYYY-MM-DD` of the years 2000 to 2099.
@@ -7,6 +7,6 @@ pub enum CalendarFault {
     NotAscending(u32),
     /// There are more than 400 rows.
     TooMany,
-    /// Memory was refused.
+    /// The reader is out of memory.
     NoMemory,
 }

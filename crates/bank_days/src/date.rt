@@ -1,14 +1,14 @@
 ghost use Rattle.std.specs.Prelude.{◌≡◌, ◌≤◌, ◌%◌, ◌+◌, pos, IsTrue, IfSome};
 ghost use Rattle.std.specs.Int.{IsInRange};
 ghost use Rattle.jiff_core.specs.Date.{epoch_day};
-ghost use Rattle.bank_days.specs.Day.{first_day, last_named, last_day, is_workday};
+ghost use Rattle.bank_days.specs.Day.{first_day, last_read_day, last_day, is_workday};
 ghost use Rattle.ach_fields.specs.Ymd.{date_text as short_text};
 
 use ach_fields::{Ymd, take_number};
 use jiff::civil::{self, Weekday};
 use jiff_core::civil::Date as PlainDate;
 
-/// A year, a month and a day of the month. The calendar need not have the day.
+/// A `Date` is a year, a month and a day of the month. The calendar need not have the day.
 #[derive(Clone, Copy)]
 pub(crate) struct Date {
     pub year: u16,
@@ -20,7 +20,7 @@ impl Date {
     ghost use Rattle.bank_days.specs.Date.{date_in, date_of_number, date_text, is_date, number_of_date};
     ghost use Rattle.bank_days.specs.Day.{day_at};
 
-    /// The date that a text `YYYY-MM-DD` spells.
+    /// Reads the date that a text `YYYY-MM-DD` spells.
     #[tactic(auto, unfolding(crate::specs::Date::date_in))]
     pub fn read(text: &[u8]) -> Option<Date>
         ensures { result ≡ date_in text.now }
@@ -38,7 +38,7 @@ impl Date {
         })
     }
 
-    /// The date that a day's number names.
+    /// Gives the date that a day's number names.
     pub fn of_number(number: u32) -> Date
         requires { number ≤ last_day }
         ensures value { result ≡ date_of_number number }
@@ -53,10 +53,11 @@ impl Date {
         }
     }
 
-    /// The number of the day with this date, if the calendar has it in the years 2000 to 2099.
+    /// Gives the number of the day with this date, if the calendar has it in the years 2000 to
+    /// 2099.
     pub fn number(self) -> Option<u32>
         ensures value { result ≡ day_at self }
-        ensures within { IfSome result (IsInRange first_day last_named) }
+        ensures within { IfSome result (IsInRange first_day last_read_day) }
     {
         // Months and days past these would not fit the casts; the library judges the others.
         if self.year < 2000 || self.year > 2099 || self.month > 12 || self.day > 31 {
@@ -66,7 +67,7 @@ impl Date {
         Some(date.to_plain().to_unix_epoch_day() as u32)
     }
 
-    /// The text `YYYY-MM-DD`.
+    /// Gives the text `YYYY-MM-DD`.
     #[tactic(auto, unfolding(crate::specs::Date::date_text, ach_fields::specs::Digits::digits))]
     pub fn text(self) -> [u8; 10]
         ensures { result ≡ date_text self }
@@ -88,7 +89,7 @@ impl Date {
         ]
     }
 
-    /// The text `YYMMDD`.
+    /// Gives the text `YYMMDD`.
     pub fn ymd(self) -> Ymd
         requires { IsTrue (is_date self) }
         ensures { result ≡ short_text (self.year % 100) self.month self.day }

@@ -1,17 +1,17 @@
 ghost use Rattle.std.specs.Prelude.{◌≡◌, ◌≤◌, ◌<◌, ◌+◌, pos, IsTrue, IfSome};
-ghost use Rattle.bank_days.specs.Day.{last_named, last_given, last_day, is_day, day_of, day_at, day_text, day_ymd, day_from_number, is_workday};
+ghost use Rattle.bank_days.specs.Day.{last_read_day, last_argument_day, last_day, is_day, day_of, day_text, day_ymd, day_from_number, is_workday};
 
 use crate::date::{Date, is_workday};
 use ach_fields::Ymd;
 use std::marker::Model;
 
-/// The number of 2000-01-01.
+/// This is the number of 2000-01-01.
 const FIRST: i64 = 10_957;
 
-/// The number of 2101-12-31.
+/// This is the number of 2101-12-31.
 const LAST: i64 = 48_211;
 
-/// A day from 2000-01-01 to 2101-12-31.
+/// A `Day` is a day from 2000-01-01 to 2101-12-31.
 #[derive(Clone, Copy, Debug, PartialEq, Eq, PartialOrd, Ord)]
 pub struct Day {
     number: u32,
@@ -32,17 +32,18 @@ impl Model for Day {
 }
 
 impl Day {
-    /// The day that a text `YYYY-MM-DD` names: a day of the calendar, in the years 2000 to 2099.
+    /// Reads the day that a text `YYYY-MM-DD` names: a day of the calendar, in the years 2000 to
+    /// 2099.
     #[tactic(auto, unfolding(crate::specs::Day::day_of))]
     pub fn read(text: &[u8]) -> Option<Day>
         ensures value { result ≡ day_of text.now }
-        ensures within { IfSome result (λ d. d ≤ last_named) }
+        ensures within { IfSome result (λ d. d ≤ last_read_day) }
     {
         let number = Date::read(text)?.number()?;
         Some(Day { number })
     }
 
-    /// The day with this number, where 1970-01-01 is 0.
+    /// Gives the day with this number, where 1970-01-01 is 0.
     pub fn from_number(number: i64) -> Option<Day>
         ensures { result ≡ day_from_number number }
     {
@@ -54,7 +55,7 @@ impl Day {
         })
     }
 
-    /// Its number, where 1970-01-01 is 0.
+    /// Gives its number, where 1970-01-01 is 0.
     pub fn number(self) -> i64
         ensures value { result ≡ pos self }
         ensures valid { IsTrue (is_day self) }
@@ -62,7 +63,7 @@ impl Day {
         i64::from(self.number)
     }
 
-    /// The text `YYYY-MM-DD`.
+    /// Gives the text `YYYY-MM-DD`.
     #[tactic(auto, unfolding(crate::specs::Day::day_text))]
     pub fn text(self) -> [u8; 10]
         ensures { result ≡ day_text self }
@@ -70,7 +71,7 @@ impl Day {
         Date::of_number(self.number).text()
     }
 
-    /// The text `YYMMDD`, as files write dates.
+    /// Gives the text `YYMMDD`, as files write dates.
     #[tactic(auto, unfolding(crate::specs::Day::day_ymd))]
     pub fn ymd(self) -> Ymd
         ensures { result ≡ day_ymd self }
@@ -78,9 +79,9 @@ impl Day {
         Date::of_number(self.number).ymd()
     }
 
-    /// The day so many days later.
+    /// Gives the day so many days later.
     pub fn plus(self, days: u32) -> Day
-        requires day { self ≤ last_given }
+        requires day { self ≤ last_argument_day }
         requires days { days ≤ 366 }
         ensures { result ≡ self + days }
     {

@@ -1,20 +1,20 @@
-//! The rows of a holiday list.
+//! The rows of a holiday list are read here.
 ghost use Rattle.std.specs.Prelude.{◌≡◌, ◌≤◌, ◌+◌, Some, None, length, IfOk, IfErr, IfSome, OnOk};
 ghost use Rattle.csv.specs.Records.{fields_of};
-ghost use Rattle.bank_days.specs.Day.{last_named};
+ghost use Rattle.bank_days.specs.Day.{last_read_day};
 ghost use Rattle.bank_days.specs.Calendar.{most_holidays};
 ghost use Rattle.bank_days.specs.HolidayList.{last_of, row_day, row_fault};
 
 use crate::{CalendarFault, Day};
 use csv::ByteRecord;
 
-/// The most rows of a list.
+/// A list has at most so many rows.
 const MOST_ROWS: usize = 400;
 
-/// The day of a row that has one field, the text of a day.
+/// Gives the day of a row that has one field, the text of a day.
 pub(crate) fn day_of_row(row: &ByteRecord) -> Option<Day>
     ensures value { result ≡ row_day (fields_of row.now) }
-    ensures within { IfSome result (λ d. d ≤ last_named) }
+    ensures within { IfSome result (λ d. d ≤ last_read_day) }
 {
     if row.len() != 1 {
         return None;
@@ -22,7 +22,7 @@ pub(crate) fn day_of_row(row: &ByteRecord) -> Option<Day>
     Day::read(row.get(0)?)
 }
 
-/// The day of a row that may stand behind these days, or why it may not.
+/// Gives the day of a row that may stand after these days, or says why it may not.
 pub(crate) fn day_behind(days: &[Day], row: Option<Day>) -> Result<Day, CalendarFault>
     requires { length days.now ≤ most_holidays }
     ensures ok { IfOk result (λ d. row ≡ Some d) }

@@ -14,7 +14,7 @@ sum_from amount start (x ∷ xs) =
     let b = sum_from amount (pos 0 +ℤ amount x) xs in
     omega (arith, ints)
 
--- the sum with one more in front
+-- the sum with one more before the others
 pub sum_front : {X : Type 0} (amount : X → ℤ) (x : X) (xs : List X) → sum_of amount (x ∷ xs) ≡ amount x +ℤ sum_of amount xs
 sum_front amount x xs = let a = sum_from amount (pos 0 +ℤ amount x) xs in omega (arith, ints)
 

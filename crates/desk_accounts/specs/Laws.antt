@@ -8,7 +8,7 @@ use Rattle.desk_accounts.specs.Posting.{same_account, with_opposite}
 use Rattle.desk_accounts.specs.Balance.{lines_of, lines_until, total, balance, days_balance, day_sums, AreDaySums}
 use Rattle.desk_accounts.specs.Sums.{sum_of}
 
--- lines, each with its opposite behind it
+-- lines, each with its opposite after it
 abbrev pub pairs : List Posting → List Posting
 pairs lines = flat_map with_opposite lines
 

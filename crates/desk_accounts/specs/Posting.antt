@@ -23,8 +23,8 @@ abbrev pub with_opposite : Posting → List Posting
 with_opposite line = line ∷ opposite line ∷ []
 
 -- the pair of a line, or none for zero cents
-abbrev pub posted : ℕ → Posting → Option (List Posting)
-posted cents line = if cents == 0 then None else Some (with_opposite line)
+abbrev pub posting_pair : ℕ → Posting → Option (List Posting)
+posting_pair cents line = if cents == 0 then None else Some (with_opposite line)
 
 -- the cut takes a credit's cents from the account of the company and brings it a debit's
 abbrev pub cut_cents : Bool → ℕ → ℤ

@@ -3,7 +3,7 @@ ghost use Rattle.desk_accounts.specs.Posting.{same_account};
 
 use ach_fields::Id;
 
-/// Whose account it is.
+/// An `Account` says whose account it is.
 #[derive(Clone, Copy, Debug, PartialEq, Eq)]
 pub enum Account {
     /// A company that sends entries.

@@ -1,4 +1,4 @@
-//! Balances: sums of the lines that are valued on or before a day.
+//! Balances are sums of the lines that are valued on or before a day.
 ghost use Rattle.std.specs.Prelude.{◌≡◌, ℤ, pos, ◌+ℤ◌, if◌then◌else◌, ◌&&◌, nat_le, Some, None, MatchOption};
 ghost use Rattle.desk_accounts.specs.Posting.{same_account};
 ghost use Rattle.desk_accounts.specs.Balance.{balance, fits_i128, IsDaysBalance, SumLeaves};
@@ -6,7 +6,8 @@ ghost use Rattle.desk_accounts.specs.Balance.{balance, fits_i128, IsDaysBalance,
 use crate::{Account, Posting};
 use bank_days::Day;
 
-/// The balance of an account on a day: the sum of its lines valued on or before the day, in cents.
+/// Gives the balance of an account on a day: the sum of its lines valued on or before the day, in
+/// cents.
 ///
 /// No slice has so many lines that the sum would not fit.
 pub fn balance(postings: &[Posting], account: Account, day: Day) -> i128
@@ -30,10 +31,10 @@ fn share(posting: &Posting, account: &Account, day: Day) -> i64
     }
 }
 
-/// The balance of an account on a day, from the sums of its lines by value day: the sum of the rows
-/// of a day on or before it, in cents.
+/// Gives the balance of an account on a day, in cents, from the sums of its lines by value day: the
+/// sum of the rows of a day on or before it.
 ///
-/// `None` where the sum of the first rows, however many, leaves an `i128`.
+/// It is `None` where the sum of the first rows, however many, leaves an `i128`.
 pub fn balance_of_days(rows: &[(Day, i128)], day: Day) -> Option<i128>
     ensures { MatchOption result (SumLeaves day rows.now) (IsDaysBalance day rows.now) }
 {

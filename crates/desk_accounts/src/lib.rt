@@ -1,8 +1,8 @@
-//! The accounts of the desk: postings in pairs that sum to zero, and balances.
+//! This crate keeps the accounts of the desk: postings in pairs that sum to zero, and balances.
 //!
-//! Each company has an account; the operator has one, and one holds returns whose entry is not known
-//! until somebody looks at them. Money is posted from one account to another, so the sum of all
-//! accounts is zero on every day. Nothing here takes memory.
+//! Each company has an account; the operator has one, and one holds returns whose entry is not
+//! known until somebody looks at them. Money is posted from one account to another, so the sum of
+//! all accounts is zero on every day. Nothing here takes memory.
 #![tactic(auto)]
 
 mod account;

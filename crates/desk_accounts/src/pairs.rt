@@ -1,16 +1,16 @@
-//! What the desk posts: each time a line, and its opposite on the operator's account.
+//! The desk posts in pairs: each time a line, and its opposite on the operator's account.
 ghost use Rattle.std.specs.Prelude.{◌≡◌, ◌≤◌, ◌==◌, if◌then◌else◌, None, Some, unsigned_abs};
-ghost use Rattle.desk_accounts.specs.Posting.{posted, opposite, with_opposite, cut_line, return_line, suspense_line, cut_cents, return_cents};
+ghost use Rattle.desk_accounts.specs.Posting.{posting_pair, opposite, cut_line, return_line, suspense_line, cut_cents};
 
 use crate::{Account, Cause, Posting};
 use ach_fields::{Cents, Id, Ref};
 use bank_days::Day;
 
-/// The two lines of a submission that was cut, or `None` for zero cents: the company's, then the
-/// operator's.
+/// Gives the two lines of a submission that was cut, or `None` for zero cents: the company's, then
+/// the operator's.
 ///
-/// A credit's cents go from the company to the operator, a debit's from the operator to the company.
-/// The value day is the settlement date.
+/// A credit's cents go from the company to the operator, a debit's from the operator to the
+/// company. The value day is the settlement date.
 pub fn post_cut(
     company: Id,
     debit: bool,
@@ -18,7 +18,7 @@ pub fn post_cut(
     value_day: Day,
     reference: Ref,
 ) -> Option<[Posting; 2]>
-    ensures { result ≡ posted cents (cut_line company debit cents value_day reference) }
+    ensures { result ≡ posting_pair cents (cut_line company debit cents value_day reference) }
 {
     let sent = signed(debit, cents);
     let line = Posting {
@@ -29,11 +29,11 @@ pub fn post_cut(
         reference: Some(reference),
         idx: 0,
     };
-    posted(line)
+    posting_pair(line)
 }
 
-/// The two lines of an entry that was returned, or `None` for zero cents: the company's, then the
-/// operator's.
+/// Gives the two lines of an entry that was returned, or `None` for zero cents: the company's, then
+/// the operator's.
 ///
 /// A credit's cents come back to the company, a debit's go back to the operator. The value day is
 /// the desk day on which the return was taken.
@@ -45,7 +45,7 @@ pub fn post_return(
     reference: Ref,
     idx: u64,
 ) -> Option<[Posting; 2]>
-    ensures { result ≡ posted cents (return_line company debit cents value_day reference idx) }
+    ensures { result ≡ posting_pair cents (return_line company debit cents value_day reference idx) }
 {
     let returned = -signed(debit, cents);
     let line = Posting {
@@ -56,13 +56,13 @@ pub fn post_return(
         reference: Some(reference),
         idx,
     };
-    posted(line)
+    posting_pair(line)
 }
 
-/// The two lines of a return whose entry is not known, or `None` for zero cents: suspense's, in the
-/// place of a company's, then the operator's.
+/// Gives the two lines of a return whose entry is not known, or `None` for zero cents: suspense's,
+/// in the place of a company's, then the operator's.
 pub fn post_suspense(debit: bool, cents: Cents, value_day: Day) -> Option<[Posting; 2]>
-    ensures { result ≡ posted cents (suspense_line debit cents value_day) }
+    ensures { result ≡ posting_pair cents (suspense_line debit cents value_day) }
 {
     let held = -signed(debit, cents);
     let line = Posting {
@@ -73,7 +73,7 @@ pub fn post_suspense(debit: bool, cents: Cents, value_day: Day) -> Option<[Posti
         reference: None,
         idx: 0,
     };
-    posted(line)
+    posting_pair(line)
 }
 
 // What the cut adds to the account of the company.
@@ -86,9 +86,9 @@ fn signed(debit: bool, cents: Cents) -> i64
 }
 
 // The line and its opposite, or none for zero cents.
-fn posted(line: Posting) -> Option<[Posting; 2]>
+fn posting_pair(line: Posting) -> Option<[Posting; 2]>
     requires { unsigned_abs line.cents ≤ 999_999_999_999 }
-    ensures { result ≡ posted (unsigned_abs line.cents) line }
+    ensures { result ≡ posting_pair (unsigned_abs line.cents) line }
 {
     if line.cents == 0 {
         return None;

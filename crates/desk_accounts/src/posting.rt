@@ -2,7 +2,7 @@ use crate::Account;
 use ach_fields::Ref;
 use bank_days::Day;
 
-/// What a posting comes from.
+/// A `Cause` says why something was posted.
 #[derive(Clone, Copy, Debug, PartialEq, Eq)]
 pub enum Cause {
     /// A submission was sent.
@@ -11,16 +11,16 @@ pub enum Cause {
     Return,
 }
 
-/// A line of an account.
+/// A `Posting` is a line of an account.
 #[derive(Clone, Copy, Debug, PartialEq, Eq)]
 pub struct Posting {
-    /// Whose line it is.
+    /// The account whose line it is.
     pub account: Account,
     /// The first day on which it counts.
     pub value_day: Day,
-    /// What it adds to the account, in cents: below zero where it takes.
+    /// The cents that it adds to the account, below zero where it takes.
     pub cents: i64,
-    /// What it comes from.
+    /// The cause for which it was posted.
     pub cause: Cause,
     /// The company's reference of the submission; none where the entry is not known.
     pub reference: Option<Ref>,

@@ -1,9 +1,9 @@
 -- The book tells all messages, since it tells each kind.
 use Rattle.std.proofs.Common.{◌≡◌, ℕ, List, ◌∷◌}
 use Rattle.desk_history.specs.declared.identity.Identity.{Identity}
-use Rattle.desk_history.specs.Book.{book_of}
+use Rattle.desk_book.specs.Book.{book_of}
 use Rattle.desk_history.specs.Message.{Message, Of, SetDay, SetHolidays, PutCompany, PutLimits, Cut, TakeFile, FileText, Settlement, Suspense, Pair}
-use Rattle.desk_history.specs.Operator.{answered, next, IsHistory}
+use Rattle.desk_history.specs.Operator.{answer_to, next_pair, IsHistory}
 use Rattle.desk_book.specs.BookLaws.{TellsReplies, StepsOfMessages}
 use Rattle.desk_book.specs.OperatorLaws.{TellsOperator, StepsOfOperator}
 use Rattle.desk_book.specs.CutLaws.{TellsCut}
@@ -12,7 +12,7 @@ use Rattle.desk_book.specs.OnMessages.{answer_on, after_on, BookTells}
 
 pub book_tells : TellsReplies → StepsOfMessages → TellsOperator → StepsOfOperator → TellsCut → TellsIntake → BookTells
 book_tells replies steps operator sets cut file = record { answers = answers; steps = behind } where
-  answers : (identity : Identity) (key : List ℕ) (H : List Pair) (m : Message) → IsHistory identity H → answered identity H m ≡ answer_on (book_of identity key H) m
+  answers : (identity : Identity) (key : List ℕ) (H : List Pair) (m : Message) → IsHistory identity H → answer_to identity H m ≡ answer_on (book_of identity key H) m
   answers identity key H (Of c r) is = replies.replies identity key H c r is
   answers identity key H (SetDay text) is = operator.day identity key H text
   answers identity key H (SetHolidays days) is = operator.holidays identity key H days
@@ -24,7 +24,7 @@ book_tells replies steps operator sets cut file = record { answers = answers; st
   answers identity key H Settlement is = operator.settlement identity key H
   answers identity key H Suspense is = operator.suspense identity key H
 
-  behind : (identity : Identity) (key : List ℕ) (H : List Pair) (m : Message) → IsHistory identity H → book_of identity key (next identity H m ∷ H) ≡ after_on (book_of identity key H) m
+  behind : (identity : Identity) (key : List ℕ) (H : List Pair) (m : Message) → IsHistory identity H → book_of identity key (next_pair identity H m ∷ H) ≡ after_on (book_of identity key H) m
   behind identity key H (Of c r) is = steps.asked identity key H c r is
   behind identity key H (SetDay text) is = sets.day identity key H text
   behind identity key H (SetHolidays days) is = sets.holidays identity key H days

@@ -8,16 +8,17 @@ use Rattle.std.proofs.lemmas.Simd.{map-map}
 use Rattle.desk_plan.specs.declared.batch.Batch as plan
 use Rattle.desk_plan.specs.Files.{division}
 use Rattle.desk_plan.specs.Laws.{OneDivision}
-use Rattle.desk_plan.specs.Places.{modifier_at}
-use Rattle.desk_plan.specs.Runs.{flat, flat-in_runs}
+use Rattle.desk_plan.specs.Modifiers.{modifier_at}
+use Rattle.desk_plan.specs.Runs.{flat}
+use Rattle.desk_plan.proofs.Runs.{flat-in_runs}
 use Rattle.desk_plan.specs.Sequences.{range_after}
-use Rattle.desk_history.specs.declared.row.Printed.{Printed}
-use Rattle.desk_history.specs.Files.{File, runs_of, files_from, is_batch_of, printed_in}
-use Rattle.desk_history.specs.Sending.{Sending, Batch, entries_in, plan_of}
-use Rattle.desk_history.specs.Standing as standing
-use Rattle.desk_store.proofs.FlatRows.{first_more}
-use Rattle.desk_store.specs.declared.rows.SentRow.{SentRow}
-use Rattle.desk_book.specs.OnCut.{batches_after, sent_row, sent_rows, CutFacts, sends, files}
+use Rattle.desk_history.specs.declared.sent_entry.FilePlace.{FilePlace}
+use Rattle.desk_history.specs.Files.{File, runs_of, files_from, is_batch_of, places_in_file}
+use Rattle.desk_history.specs.Sendings.{Sending, NumberedBatch, entries_in, plan_of}
+use Rattle.desk_book.specs.Standing as standing
+use Rattle.desk_book.proofs.Finds.{first_more}
+use Rattle.desk_book.specs.declared.flat_rows.SentRow.{SentRow}
+use Rattle.desk_book.specs.OnCut.{batches_after, sent_row, sent_rows, CutFacts, cut_sendings, files}
 use Rattle.desk_book.proofs.CutRowsOnBook.{sending_turn}
 use Rattle.desk_book.proofs.Turns.{Turn}
 
@@ -33,11 +34,11 @@ without_numbers g n [] = refl
 without_numbers {Y = Y} g n (x ∷ xs) = ap (λ (more : List Y). g x ∷ more) (without_numbers g (n + 1) xs)
 
 -- and of that of a batch
-abbrev batch_turn : Batch → List ℕ × Turn
+abbrev batch_turn : NumberedBatch → List ℕ × Turn
 batch_turn b = sending_turn b.sending
 
 -- the rows that files write are those of their batches
-files_turn : (day made : ℕ) (runs : List (List Batch)) → map sent_turn (flat_map sent_rows (files_from day made runs)) ≡ map batch_turn (flat runs)
+files_turn : (day made : ℕ) (runs : List (List NumberedBatch)) → map sent_turn (flat_map sent_rows (files_from day made runs)) ≡ map batch_turn (flat runs)
 files_turn day made [] = refl
 files_turn day made (run ∷ runs) =
     let f : File = record { day = day; modifier = modifier_at made; batches = run } in
@@ -51,39 +52,39 @@ batches_turn last [] = refl
 batches_turn last (s ∷ ss) = ap (λ (more : List (List ℕ × Turn)). sending_turn s ∷ more) (batches_turn (range_after last (length (entries_in s))).1 ss)
 
 -- the runs of batches are the batches
-flat_runs : OneDivision → (bs : List Batch) → flat (runs_of bs) ≡ bs
+flat_runs : OneDivision → (bs : List NumberedBatch) → flat (runs_of bs) ≡ bs
 flat_runs law bs =
     let plans : List plan.Batch = map (λ b. plan_of b.sending) bs in
     flat-in_runs (map length (division plans)) bs (law.count plans ∙ length-map bs (λ b. plan_of b.sending))
 
 -- the files hold what the cut sends, in its order
-pub files_hold_sends : OneDivision → (x : CutFacts) → map sent_turn (flat_map sent_rows (files x)) ≡ map sending_turn (sends x)
+pub files_hold_sends : OneDivision → (x : CutFacts) → map sent_turn (flat_map sent_rows (files x)) ≡ map sending_turn (cut_sendings x)
 files_hold_sends law x =
-    files_turn x.day x.made (runs_of (batches_after x.last (sends x)))
-    ∙ ap (map batch_turn) (flat_runs law (batches_after x.last (sends x)))
-    ∙ batches_turn x.last (sends x)
+    files_turn x.day x.made (runs_of (batches_after x.last (cut_sendings x)))
+    ∙ ap (map batch_turn) (flat_runs law (batches_after x.last (cut_sendings x)))
+    ∙ batches_turn x.last (cut_sendings x)
 
 -- ---- printed places
 
 -- the place of a row, if it is of the submission
-abbrev pub printed_by : List ℕ → ℕ → SentRow → List Printed
+abbrev pub printed_by : List ℕ → ℕ → SentRow → List FilePlace
 printed_by c order s = if bytes_eq s.company c && s.order == order then s.printed ∷ [] else []
 
 -- those of one file
-places_of : (c : List ℕ) (order : ℕ) (f : File) (xs : List (ℕ × Batch))
+places_of : (c : List ℕ) (order : ℕ) (f : File) (xs : List (ℕ × NumberedBatch))
     → flat_map (printed_by c order) (map (sent_row f) xs) ≡ map (λ x. record { day = f.day; modifier = f.modifier; batch = x.0 }) (filter (is_batch_of c order) xs)
 places_of c order f [] = refl
 places_of c order f (x ∷ xs) =
-    let place : ℕ × Batch → Printed = λ y. record { day = f.day; modifier = f.modifier; batch = y.0 } in
+    let place : ℕ × NumberedBatch → FilePlace = λ y. record { day = f.day; modifier = f.modifier; batch = y.0 } in
     let rest = places_of c order f xs in
     elim (is_batch_of c order x) as (λ (t : Bool).
     (if t then place x ∷ [] else []) ++ flat_map (printed_by c order) (map (sent_row f) xs) ≡ map place (if t then x ∷ filter (is_batch_of c order) xs else filter (is_batch_of c order) xs)) [
-      | true ↦ ap (λ (more : List Printed). place x ∷ more) rest
+      | true ↦ ap (λ (more : List FilePlace). place x ∷ more) rest
       | false ↦ rest
     ]
 
 -- the rows of files say where they print a submission
-pub places_in_files : (c : List ℕ) (order : ℕ) (fs : List File) → flat_map (printed_by c order) (flat_map sent_rows fs) ≡ flat_map (printed_in c order) fs
+pub places_in_files : (c : List ℕ) (order : ℕ) (fs : List File) → flat_map (printed_by c order) (flat_map sent_rows fs) ≡ flat_map (places_in_file c order) fs
 places_in_files c order [] = refl
 places_in_files c order (f ∷ fs) =
     flat_map-append (printed_by c order) (sent_rows f) (flat_map sent_rows fs)

@@ -1,18 +1,18 @@
--- The submissions of each company behind what a cut of the book writes.
+-- The submissions of each company after what a cut of the book writes.
 use Rattle.std.proofs.Common.{◌≡◌, ℕ, List, [], map, Bool, true, false, not, ◌&&◌, refl, sym, ap, ◌∙◌}
 use Rattle.std.specs.Prelude.{if◌then◌else◌, fold, filter, find, Option, Some, None, is_some}
 use Rattle.std.specs.List.{flat_map}
 use Rattle.std.proofs.lemmas.List.{map-id}
 use Rattle.std.proofs.lemmas.Simd.{map-map}
-use Rattle.desk_rules.specs.declared.company.Company.{Company}
-use Rattle.desk_history.specs.declared.row.Row.{Row}
-use Rattle.desk_history.specs.Book.{Book}
+use Rattle.desk_rules.specs.declared.bodies.company.Company.{Company}
+use Rattle.desk_book.specs.declared.row.Row.{Row}
+use Rattle.desk_book.specs.Book.{Book}
 use Rattle.desk_history.specs.Operator.{has_id}
-use Rattle.desk_history.specs.Sending.{Sending}
-use Rattle.desk_history.specs.Standing.{is_held, is_due_row, settlement_of, sent_row, lapsed_row, cut_row}
-use Rattle.desk_history.proofs.Companies.{Apart}
-use Rattle.desk_store.specs.declared.rows.LapsedRow.{LapsedRow}
-use Rattle.desk_book.specs.OnCut.{sends, lapsed_rows, cut_facts}
+use Rattle.desk_history.specs.Sendings.{Sending}
+use Rattle.desk_book.specs.Standing.{is_held, is_due_row, settlement_of, sent_row, lapsed_row, cut_row}
+use Rattle.desk_history.proofs.Accounts.Companies.{Apart}
+use Rattle.desk_book.specs.declared.flat_rows.LapsedRow.{LapsedRow}
+use Rattle.desk_book.specs.OnCut.{cut_sendings, lapsed_rows, cut_facts}
 use Rattle.desk_book.proofs.CutOnRows.{is_late_row, is_sent_row, is_lapsed_row, sent_by_row}
 use Rattle.desk_book.proofs.CutSends.{sends_by_rows, lapsed_by_rows}
 use Rattle.desk_book.proofs.Passing.{map-flat_map}
@@ -73,7 +73,7 @@ module _ (b : Book) (d : ℕ) where
   -- ---- all companies
 
   -- what is sent, and what lapses, turns these rows
-  sends_turn : map sending_turn (sends (cut_facts b d)) ≡ flat_map (λ k. turns_of k.id (sent_turns k.id)) b.companies
+  sends_turn : map sending_turn (cut_sendings (cut_facts b d)) ≡ flat_map (λ k. turns_of k.id (sent_turns k.id)) b.companies
   sends_turn =
       let chosen : Company → List Row = λ k. filter (is_sent_row b.holidays d (b.rows k.id)) (b.rows k.id) in
       ap (map sending_turn) (sends_by_rows b d)
@@ -94,7 +94,7 @@ module _ (b : Book) (d : ℕ) where
 
   -- Where companies are apart, orders too, and who is no company has no submissions: each company's rows are cut.
   pub rows_turned : Apart b.companies → (c : List ℕ) → AreApart (b.rows c) → (find (has_id c) b.companies ≡ None → b.rows c ≡ [])
-      → fold (turned_at c) (fold (turned_at c) (b.rows c) (map sending_turn (sends (cut_facts b d)))) (map lapsed_turn (lapsed_rows (cut_facts b d)))
+      → fold (turned_at c) (fold (turned_at c) (b.rows c) (map sending_turn (cut_sendings (cut_facts b d)))) (map lapsed_turn (lapsed_rows (cut_facts b d)))
       ≡ map (cut_row b.holidays d (b.rows c)) (b.rows c)
   rows_turned companies c apart unknown =
       let all_sent = flat_map (λ (k : Company). turns_of k.id (sent_turns k.id)) b.companies in

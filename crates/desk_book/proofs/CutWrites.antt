@@ -2,28 +2,28 @@
 use Rattle.std.proofs.Common.{◌≡◌, ◌+◌, List, [], ◌∷◌, ◌++◌, map, ◌&&◌, refl, ap, ◌∙◌}
 use Rattle.std.specs.Prelude.{◌==◌, if◌then◌else◌, fold, reverse, Some, is_none}
 use Rattle.desk_accounts.specs.Balance.{lines_of}
-use Rattle.desk_history.specs.Book.{Book}
-use Rattle.desk_store.specs.declared.rows.FileRow.{FileRow}
-use Rattle.desk_store.specs.declared.rows.LapsedRow.{LapsedRow}
-use Rattle.desk_store.specs.declared.rows.SentRow.{SentRow}
-use Rattle.desk_store.specs.Rows.{is_file}
-use Rattle.desk_store.specs.Steps.{CutWrite, commit_cut, put_sent, put_lapsed, put_entries, put_postings, put_file}
+use Rattle.desk_book.specs.Book.{Book}
+use Rattle.desk_book.specs.declared.flat_rows.FileRow.{FileRow}
+use Rattle.desk_book.specs.declared.flat_rows.LapsedRow.{LapsedRow}
+use Rattle.desk_book.specs.declared.flat_rows.SentRow.{SentRow}
+use Rattle.desk_book.specs.Steps.{is_file}
+use Rattle.desk_book.specs.Steps.{CutWrite, commit_cut, put_sent_row, put_lapsed_row, put_entries, put_postings, put_file}
 use Rattle.desk_book.proofs.CutFiles.{sent_turn, printed_by}
 use Rattle.desk_book.proofs.CutRowsOnBook.{lapsed_turn}
 use Rattle.desk_book.proofs.Turns.{turned_at}
 
 -- the submissions that are sent, with their places
-sent_put : (ss : List SentRow) (b : Book) → fold put_sent b ss ≡ record b {
+sent_put : (ss : List SentRow) (b : Book) → fold put_sent_row b ss ≡ record b {
   rows = λ c. fold (turned_at c) (b.rows c) (map sent_turn ss);
   printed = λ c order. fold (λ ps s. ps ++ printed_by c order s) (b.printed c order) ss;
 }
 sent_put [] b = refl
-sent_put (s ∷ ss) b = sent_put ss (put_sent b s)
+sent_put (s ∷ ss) b = sent_put ss (put_sent_row b s)
 
 -- the retries that lapse
-lapsed_put : (ls : List LapsedRow) (b : Book) → fold put_lapsed b ls ≡ record b { rows = λ c. fold (turned_at c) (b.rows c) (map lapsed_turn ls) }
+lapsed_put : (ls : List LapsedRow) (b : Book) → fold put_lapsed_row b ls ≡ record b { rows = λ c. fold (turned_at c) (b.rows c) (map lapsed_turn ls) }
 lapsed_put [] b = refl
-lapsed_put (l ∷ ls) b = lapsed_put ls (put_lapsed b l)
+lapsed_put (l ∷ ls) b = lapsed_put ls (put_lapsed_row b l)
 
 -- the files
 files_put : (fs : List FileRow) (b : Book) → fold put_file b fs ≡ record b {
@@ -33,7 +33,7 @@ files_put : (fs : List FileRow) (b : Book) → fold put_file b fs ≡ record b {
 files_put [] b = refl
 files_put (f ∷ fs) b = files_put fs (put_file b f)
 
--- the book behind a cut
+-- the book after a cut
 abbrev pub cut_made : CutWrite → Book → Book
 cut_made x b = record b {
   rows = λ c. fold (turned_at c) (fold (turned_at c) (b.rows c) (map sent_turn x.sent)) (map lapsed_turn x.lapsed);
@@ -46,6 +46,6 @@ cut_made x b = record b {
 
 pub made_by_cut : (x : CutWrite) (b : Book) → (commit_cut x).after b ≡ cut_made x b
 made_by_cut x b =
-    ap (λ (b : Book). fold put_file (put_postings x.postings (put_entries x.entries (fold put_lapsed b x.lapsed))) x.files) (sent_put x.sent b)
+    ap (λ (b : Book). fold put_file (put_postings x.postings (put_entries x.entries (fold put_lapsed_row b x.lapsed))) x.files) (sent_put x.sent b)
     ∙ ap (λ (b : Book). fold put_file (put_postings x.postings (put_entries x.entries b)) x.files) (lapsed_put x.lapsed _)
     ∙ files_put x.files _

@@ -1,28 +1,28 @@
--- What comes of the items of a file, told from what they name and which entries came back.
+-- The resolutions of the items of a file, told from what they name and which entries came back.
 use Rattle.std.proofs.Common.{◌≡◌, ℕ, List, [], ◌∷◌, ◌++◌, map, Bool, true, false, not, ◌&&◌, ◌||◌, ◌==◌, refl, sym, ap, ◌∙◌, inl, inr}
 use Rattle.std.specs.Prelude.{if◌then◌else◌, Option, Some, None, option_map, is_some, Result, Ok, Err, bytes_eq}
 use Rattle.std.specs.List.{list_any}
 use Rattle.std.proofs.lemmas.Bool.{cases_Bool}
-use Rattle.std.proofs.lemmas.Bool.Decides.{same_from_decides, Decides-like, Decides-eqb}
 use Rattle.std.proofs.lemmas.Slice.Eq.{bytes_eq-Decides}
 use Rattle.ach_files.specs.declared.facts.ItemFacts.{ItemFacts}
-use Rattle.desk_history.specs.declared.operations.Why.{Why}
-use Rattle.desk_history.specs.declared.operations.Why.TheVariants.{AlreadyReturned}
-use Rattle.desk_history.specs.declared.row.SentEntry.{SentEntry}
+use Rattle.desk_history.specs.declared.operations.SuspenseReason.{SuspenseReason}
+use Rattle.desk_history.specs.declared.operations.SuspenseReason.TheVariants.{AlreadyReturned}
+use Rattle.desk_history.specs.declared.sent_entry.SentEntry.{SentEntry}
 use Rattle.desk_history.specs.Words.{or_else}
 use Rattle.desk_history.specs.Part.{Event}
-use Rattle.desk_history.specs.State.{TakenReturn, taken_after, returned, is_returned}
+use Rattle.desk_history.specs.State.{TakenReturn, new_return, return_of, is_returned}
 use Rattle.desk_history.specs.Resolve as history
-use Rattle.desk_history.specs.Resolve.{Resolved, named, event_of, resolved, given_by}
-use Rattle.desk_history.proofs.Resolving.{meets, event_holds}
-use Rattle.desk_book.specs.OnIntake.{Named, is_same_entry, is_again, resolved_as, unless_again, was_returned, back_by, outcome_after, outcomes_after}
+use Rattle.desk_history.specs.Resolve.{ResolvedItem, named_entry, event_of, resolve_entry, resolve, item_event}
+use Rattle.desk_history.proofs.Basics.Elements.{texts_turned, numbers_turned}
+use Rattle.desk_history.proofs.Sent.Resolving.{meets, event_holds}
+use Rattle.desk_book.specs.OnIntake.{NamedEntry, is_same_entry, is_repeated_return, unless_repeated, was_returned, entries_returned_by, resolution_after, resolutions_after}
 
 -- has the entry come back, by the parts of the companies?
 abbrev pub came_back : (List ℕ → List Event) → SentEntry → Bool
 came_back parts e = is_returned (parts e.company) e.reference e.index
 
 -- an entry that an item names, where this tells what came back
-abbrev pub named_by : (SentEntry → Bool) → Option SentEntry → Option Named
+abbrev pub named_by : (SentEntry → Bool) → Option SentEntry → Option NamedEntry
 named_by back found = option_map (λ e. record { entry = e; returned = back e }) found
 
 -- by these parts what came back are the entries before the file, and these of it
@@ -33,9 +33,9 @@ IsBackAfter before earlier parts = (e : SentEntry) → came_back parts e ≡ (be
 
 again_same : (parts : List ℕ → List Event) (before : SentEntry → Bool) (earlier : List SentEntry) (e : SentEntry) (item : ItemFacts) (event : Event)
     → IsBackAfter before earlier parts → event_of e item ≡ Some event
-    → history.is_again (parts e.company) event ≡ is_again earlier (before e) (record { entry = e; event = event })
+    → history.is_repeated_return (parts e.company) event ≡ is_repeated_return earlier (before e) (record { entry = e; event = event })
 again_same parts before earlier e item event back gives =
-    event_holds (λ event. history.is_again (parts e.company) event ≡ is_again earlier (before e) (record { entry = e; event = event })) e item event gives
+    event_holds (λ event. history.is_repeated_return (parts e.company) event ≡ is_repeated_return earlier (before e) (record { entry = e; event = event })) e item event gives
     (λ code information within. back e)
     (λ code text. refl)
 
@@ -45,26 +45,20 @@ entry_named before (Some e) = refl
 
 outcome_same : (odfi : List ℕ) (sent : List SentEntry) (parts : List ℕ → List Event) (before : SentEntry → Bool) (earlier : List SentEntry) (item : ItemFacts)
     → IsBackAfter before earlier parts
-    → history.outcome parts (resolved odfi sent item) ≡ outcome_after earlier item (named_by before (named odfi sent item))
+    → history.resolution parts (resolve odfi sent item) ≡ resolution_after earlier item (named_by before (named_entry odfi sent item))
 outcome_same odfi sent parts before earlier item back =
-    by (resolved odfi sent item) refl
-    ∙ ap (λ (found : Option SentEntry). unless_again earlier (was_returned (named_by before (named odfi sent item))) (resolved_as found item)) (sym (entry_named before (named odfi sent item)))
+    by (resolve odfi sent item) refl
+    ∙ ap (λ (found : Option SentEntry). unless_repeated earlier (was_returned (named_by before (named_entry odfi sent item))) (resolve_entry found item)) (sym (entry_named before (named_entry odfi sent item)))
   where
-    by : (r : Result Resolved Why) → resolved odfi sent item ≡ r
-        → history.outcome parts r ≡ unless_again earlier (was_returned (named_by before (named odfi sent item))) r
+    by : (r : Result ResolvedItem SuspenseReason) → resolve odfi sent item ≡ r
+        → history.resolution parts r ≡ unless_repeated earlier (was_returned (named_by before (named_entry odfi sent item))) r
     by (Err why) is = refl
     by (Ok x) is =
         let meeting = meets odfi sent item x is in
         ap (λ (t : Bool). if t then Err AlreadyReturned else Ok x) (again_same parts before earlier x.entry item x.event back meeting.gives)
-        ∙ ap (λ (found : Option SentEntry). unless_again earlier (was_returned (named_by before found)) (Ok x)) (sym meeting.names)
+        ∙ ap (λ (found : Option SentEntry). unless_repeated earlier (was_returned (named_by before found)) (Ok x)) (sym meeting.names)
 
 -- ---- what came back by it
-
-texts_turned : (xs ys : List ℕ) → bytes_eq xs ys ≡ bytes_eq ys xs
-texts_turned xs ys = same_from_decides (bytes_eq xs ys) (bytes_eq ys xs) (bytes_eq-Decides xs ys) (Decides-like (bytes_eq ys xs) sym sym (bytes_eq-Decides ys xs))
-
-numbers_turned : (m n : ℕ) → m == n ≡ n == m
-numbers_turned m n = same_from_decides (m == n) (n == m) (Decides-eqb m n) (Decides-like (n == m) sym sym (Decides-eqb n m))
 
 one_more : (o : Option TakenReturn) (t : Bool) (r : TakenReturn) → is_some (or_else o (if t then Some r else None)) ≡ (t || is_some o)
 one_more None true r = refl
@@ -81,11 +75,11 @@ either_turned false b c = refl
 back_by_event : (P : List Event) (before : Bool) (earlier : List SentEntry) (e x : SentEntry) (item : ItemFacts) (event : Event)
     → event_of x item ≡ Some event → bytes_eq e.company x.company ≡ true
     → is_returned P e.reference e.index ≡ (before || list_any (is_same_entry e) earlier)
-    → is_returned (event ∷ P) e.reference e.index ≡ (before || list_any (is_same_entry e) (back_by (Ok (record { entry = x; event = event })) ++ earlier))
+    → is_returned (event ∷ P) e.reference e.index ≡ (before || list_any (is_same_entry e) (entries_returned_by (Ok (record { entry = x; event = event })) ++ earlier))
 back_by_event P before earlier e x item event gives own back =
-    event_holds (λ event. is_returned (event ∷ P) e.reference e.index ≡ (before || list_any (is_same_entry e) (back_by (Ok (record { entry = x; event = event })) ++ earlier))) x item event gives
+    event_holds (λ event. is_returned (event ∷ P) e.reference e.index ≡ (before || list_any (is_same_entry e) (entries_returned_by (Ok (record { entry = x; event = event })) ++ earlier))) x item event gives
     (λ code information within.
-    one_more (returned P e.reference e.index None) (bytes_eq x.reference e.reference && x.index == e.index) (taken_after P code None)
+    one_more (return_of P e.reference e.index None) (bytes_eq x.reference e.reference && x.index == e.index) (new_return P code None)
     ∙ (λ i. (texts_turned x.reference e.reference i && numbers_turned x.index e.index i) || back i)
     ∙ either_turned (bytes_eq e.reference x.reference && e.index == x.index) before (list_any (is_same_entry e) earlier)
     ∙ ap (λ (t : Bool). before || ((t && bytes_eq e.reference x.reference && e.index == x.index) || list_any (is_same_entry e) earlier)) (sym own))
@@ -94,53 +88,53 @@ back_by_event P before earlier e x item event gives own back =
 -- and none of another company
 none_by_event : (before : Bool) (earlier : List SentEntry) (e x : SentEntry) (item : ItemFacts) (event : Event)
     → event_of x item ≡ Some event → bytes_eq e.company x.company ≡ false
-    → (before || list_any (is_same_entry e) earlier) ≡ (before || list_any (is_same_entry e) (back_by (Ok (record { entry = x; event = event })) ++ earlier))
+    → (before || list_any (is_same_entry e) earlier) ≡ (before || list_any (is_same_entry e) (entries_returned_by (Ok (record { entry = x; event = event })) ++ earlier))
 none_by_event before earlier e x item event gives other =
-    event_holds (λ event. (before || list_any (is_same_entry e) earlier) ≡ (before || list_any (is_same_entry e) (back_by (Ok (record { entry = x; event = event })) ++ earlier))) x item event gives
+    event_holds (λ event. (before || list_any (is_same_entry e) earlier) ≡ (before || list_any (is_same_entry e) (entries_returned_by (Ok (record { entry = x; event = event })) ++ earlier))) x item event gives
     (λ code information within. ap (λ (t : Bool). before || ((t && bytes_eq e.reference x.reference && e.index == x.index) || list_any (is_same_entry e) earlier)) (sym other))
     (λ code text. refl)
 
 back_more : (odfi : List ℕ) (sent : List SentEntry) (parts : List ℕ → List Event) (before : SentEntry → Bool) (earlier : List SentEntry) (item : ItemFacts)
     → IsBackAfter before earlier parts
-    → IsBackAfter before (back_by (history.outcome parts (resolved odfi sent item)) ++ earlier) (λ c. given_by c (parts c) (resolved odfi sent item) ++ parts c)
-back_more odfi sent parts before earlier item back e = by (resolved odfi sent item) refl where
-  own : (x : Resolved) → event_of x.entry item ≡ Some x.event → bytes_eq e.company x.entry.company ≡ true → (t : Bool)
+    → IsBackAfter before (entries_returned_by (history.resolution parts (resolve odfi sent item)) ++ earlier) (λ c. item_event c (parts c) (resolve odfi sent item) ++ parts c)
+back_more odfi sent parts before earlier item back e = by (resolve odfi sent item) refl where
+  own : (x : ResolvedItem) → event_of x.entry item ≡ Some x.event → bytes_eq e.company x.entry.company ≡ true → (t : Bool)
       → is_returned ((if true && not t then x.event ∷ [] else []) ++ parts e.company) e.reference e.index
-      ≡ (before e || list_any (is_same_entry e) (back_by (if t then Err AlreadyReturned else Ok x) ++ earlier))
+      ≡ (before e || list_any (is_same_entry e) (entries_returned_by (if t then Err AlreadyReturned else Ok x) ++ earlier))
   own x gives same true = back e
   own x gives same false = back_by_event (parts e.company) (before e) earlier e x.entry item x.event gives same (back e)
 
-  other : (x : Resolved) → event_of x.entry item ≡ Some x.event → bytes_eq e.company x.entry.company ≡ false → (t : Bool)
-      → is_returned (parts e.company) e.reference e.index ≡ (before e || list_any (is_same_entry e) (back_by (if t then Err AlreadyReturned else Ok x) ++ earlier))
+  other : (x : ResolvedItem) → event_of x.entry item ≡ Some x.event → bytes_eq e.company x.entry.company ≡ false → (t : Bool)
+      → is_returned (parts e.company) e.reference e.index ≡ (before e || list_any (is_same_entry e) (entries_returned_by (if t then Err AlreadyReturned else Ok x) ++ earlier))
   other x gives differ true = back e
   other x gives differ false = back e ∙ none_by_event (before e) earlier e x.entry item x.event gives differ
 
-  by : (r : Result Resolved Why) → resolved odfi sent item ≡ r
-      → is_returned (given_by e.company (parts e.company) r ++ parts e.company) e.reference e.index
-      ≡ (before e || list_any (is_same_entry e) (back_by (history.outcome parts r) ++ earlier))
+  by : (r : Result ResolvedItem SuspenseReason) → resolve odfi sent item ≡ r
+      → is_returned (item_event e.company (parts e.company) r ++ parts e.company) e.reference e.index
+      ≡ (before e || list_any (is_same_entry e) (entries_returned_by (history.resolution parts r) ++ earlier))
   by (Err why) is = back e
   by (Ok x) is =
       let gives = (meets odfi sent item x is).gives in
       elim (cases_Bool (bytes_eq x.entry.company e.company)) [
         | inl same ↦
             let company : x.entry.company ≡ e.company = (bytes_eq-Decides x.entry.company e.company).0 same in
-            ap (λ (t : Bool). is_returned ((if t && not (history.is_again (parts e.company) x.event) then x.event ∷ [] else []) ++ parts e.company) e.reference e.index) same
-            ∙ own x gives (texts_turned e.company x.entry.company ∙ same) (history.is_again (parts e.company) x.event)
-            ∙ ap (λ (c : List ℕ). before e || list_any (is_same_entry e) (back_by (if history.is_again (parts c) x.event then Err AlreadyReturned else Ok x) ++ earlier)) (sym company)
+            ap (λ (t : Bool). is_returned ((if t && not (history.is_repeated_return (parts e.company) x.event) then x.event ∷ [] else []) ++ parts e.company) e.reference e.index) same
+            ∙ own x gives (texts_turned e.company x.entry.company ∙ same) (history.is_repeated_return (parts e.company) x.event)
+            ∙ ap (λ (c : List ℕ). before e || list_any (is_same_entry e) (entries_returned_by (if history.is_repeated_return (parts c) x.event then Err AlreadyReturned else Ok x) ++ earlier)) (sym company)
         | inr differ ↦
-            ap (λ (t : Bool). is_returned ((if t && not (history.is_again (parts e.company) x.event) then x.event ∷ [] else []) ++ parts e.company) e.reference e.index) differ
-            ∙ other x gives (texts_turned e.company x.entry.company ∙ differ) (history.is_again (parts x.entry.company) x.event)
+            ap (λ (t : Bool). is_returned ((if t && not (history.is_repeated_return (parts e.company) x.event) then x.event ∷ [] else []) ++ parts e.company) e.reference e.index) differ
+            ∙ other x gives (texts_turned e.company x.entry.company ∙ differ) (history.is_repeated_return (parts x.entry.company) x.event)
       ]
 
 -- ---- all items
 
 pub outcomes_same : (odfi : List ℕ) (sent : List SentEntry) (before : SentEntry → Bool) (items : List ItemFacts) (parts : List ℕ → List Event) (earlier : List SentEntry)
     → IsBackAfter before earlier parts
-    → history.outcomes odfi sent parts items ≡ outcomes_after earlier (map (λ item. (item, named_by before (named odfi sent item))) items)
+    → history.resolutions odfi sent parts items ≡ resolutions_after earlier (map (λ item. (item, named_by before (named_entry odfi sent item))) items)
 outcomes_same odfi sent before [] parts earlier back = refl
 outcomes_same odfi sent before (item ∷ items) parts earlier back =
-    let next : List ℕ → List Event = λ c. given_by c (parts c) (resolved odfi sent item) ++ parts c in
-    let rest = map (λ item. (item, named_by before (named odfi sent item))) items in
-    ap (λ (os : List (Result Resolved Why)). history.outcome parts (resolved odfi sent item) ∷ os)
-    (outcomes_same odfi sent before items next (back_by (history.outcome parts (resolved odfi sent item)) ++ earlier) (back_more odfi sent parts before earlier item back))
-    ∙ ap (λ (o : Result Resolved Why). o ∷ outcomes_after (back_by o ++ earlier) rest) (outcome_same odfi sent parts before earlier item back)
+    let next : List ℕ → List Event = λ c. item_event c (parts c) (resolve odfi sent item) ++ parts c in
+    let rest = map (λ item. (item, named_by before (named_entry odfi sent item))) items in
+    ap (λ (os : List (Result ResolvedItem SuspenseReason)). history.resolution parts (resolve odfi sent item) ∷ os)
+    (outcomes_same odfi sent before items next (entries_returned_by (history.resolution parts (resolve odfi sent item)) ++ earlier) (back_more odfi sent parts before earlier item back))
+    ∙ ap (λ (o : Result ResolvedItem SuspenseReason). o ∷ resolutions_after (entries_returned_by o ++ earlier) rest) (outcome_same odfi sent parts before earlier item back)

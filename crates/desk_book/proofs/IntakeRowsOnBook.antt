@@ -5,38 +5,38 @@ use Rattle.std.specs.List.{enumerate_from, range_with_len}
 use Rattle.std.proofs.lemmas.List.Elements.{All-weaker}
 use Rattle.std.proofs.lemmas.Slice.Eq.{bytes_eq-Decides}
 use Rattle.ach_files.specs.declared.facts.ItemFacts.{ItemFacts}
-use Rattle.desk_rules.specs.declared.entry_fact.EntryState.{EntryState}
+use Rattle.desk_rules.specs.declared.rules.entry_fact.EntryState.{EntryState}
 use Rattle.desk_rules.specs.Deadlines.{is_late}
 use Rattle.desk_history.specs.declared.reports.ChangeRow.{ChangeRow}
 use Rattle.desk_history.specs.declared.reports.ReturnRow.{ReturnRow}
-use Rattle.desk_history.specs.declared.row.Row.{Row}
-use Rattle.desk_history.specs.declared.row.SentEntry.{SentEntry}
+use Rattle.desk_book.specs.declared.row.Row.{Row}
+use Rattle.desk_history.specs.declared.sent_entry.SentEntry.{SentEntry}
 use Rattle.desk_history.specs.Part.{Event, Returned, holidays, today}
-use Rattle.desk_history.specs.State.{TakenReturn, returned, state_from}
-use Rattle.desk_history.specs.Accepted.{Accepted, settled, lapsed, state_of}
-use Rattle.desk_history.specs.Asking.{accepted}
-use Rattle.desk_history.specs.Book.{rows, row_of}
+use Rattle.desk_history.specs.State.{TakenReturn, return_of, state_from}
+use Rattle.desk_history.specs.Accepted.{AcceptedSubmission, settlement_day, has_lapsed, state_of}
+use Rattle.desk_history.specs.Acceptance.{submissions}
+use Rattle.desk_book.specs.Book.{rows, row_of}
 use Rattle.desk_history.specs.Possible.{IsPossible}
-use Rattle.desk_history.specs.Reports.{accepted_under, settled_under, return_row, returns, changes}
-use Rattle.desk_history.specs.Resolve.{Resolved, event_of}
-use Rattle.desk_history.specs.RowLaws.{RowSteps}
+use Rattle.desk_history.specs.Reports.{submission_under, settlement_under, return_row, returns, changes}
+use Rattle.desk_history.specs.Resolve.{ResolvedItem, event_of}
+use Rattle.desk_book.specs.RowLaws.{RowSteps}
 use Rattle.desk_history.specs.SentLaws.{IsEntryOf}
-use Rattle.desk_history.specs.Standing as standing
-use Rattle.desk_history.specs.Standing.{returned_state}
-use Rattle.desk_history.proofs.Growing.{settled_parts}
-use Rattle.desk_history.proofs.OnRows.{mapped_alike}
-use Rattle.desk_history.proofs.Ordered.{IsFound, found_each}
-use Rattle.desk_history.proofs.Resolving.{event_holds}
-use Rattle.desk_store.specs.declared.rows.ChangedRow.{ChangedRow}
-use Rattle.desk_store.specs.declared.rows.ReturnedRow.{ReturnedRow}
-use Rattle.desk_store.specs.Steps.{back_state, back_row}
-use Rattle.desk_book.specs.OnIntake.{returned_as, returned_row, changed_as, changed_row}
+use Rattle.desk_book.specs.Standing as standing
+use Rattle.desk_book.specs.Standing.{returned_state}
+use Rattle.desk_history.proofs.Acceptance.Growing.{settled_parts}
+use Rattle.desk_book.proofs.OnRows.{mapped_alike}
+use Rattle.desk_history.proofs.Acceptance.Ordered.{IsFound, found_each}
+use Rattle.desk_history.proofs.Sent.Resolving.{event_holds}
+use Rattle.desk_book.specs.declared.flat_rows.ChangedRow.{ChangedRow}
+use Rattle.desk_book.specs.declared.flat_rows.ReturnedRow.{ReturnedRow}
+use Rattle.desk_book.specs.Steps.{returned_state_by, returned_row_by}
+use Rattle.desk_book.specs.OnIntake.{returned_row_of, returned_row, changed_row_of, changed_row}
 use Rattle.desk_book.proofs.IntakeItems.{step_by, StepsWith}
 
 -- ---- what a row of a file makes of one company
 
 abbrev pub rows_back : List ℕ → List Row → ReturnedRow → List Row
-rows_back c rs x = if bytes_eq x.company c then map (back_row x) rs else rs
+rows_back c rs x = if bytes_eq x.company c then map (returned_row_by x) rs else rs
 
 abbrev pub with_return : List ℕ → List ReturnRow → ReturnedRow → List ReturnRow
 with_return c xs x = if bytes_eq x.company c then xs ++ x.row ∷ [] else xs
@@ -61,22 +61,22 @@ states_alike f g h same from (k ∷ ks) = (λ i. same from k i ∷ states_alike 
 
 -- an entry that settled comes back late by the day on which it settled
 state_alike : (days : List ℕ) (d : ℕ) (e : SentEntry) (code : ℕ) (information : List ℕ) (late : Bool) (settles : Option ℕ) (t : Option TakenReturn) → late ≡ false → settles ≡ Some e.settled
-    → returned_state days d code (state_from late settles t) ≡ back_state (back_of days d e code information) (state_from late settles t)
+    → returned_state days d code (state_from late settles t) ≡ returned_state_by (back_of days d e code information) (state_from late settles t)
 state_alike days d e code information late settles t stands sent = rw (stands, sent) (by t) where
-  by : (t : Option TakenReturn) → returned_state days d code (state_from false (Some e.settled) t) ≡ back_state (back_of days d e code information) (state_from false (Some e.settled) t)
+  by : (t : Option TakenReturn) → returned_state days d code (state_from false (Some e.settled) t) ≡ returned_state_by (back_of days d e code information) (state_from false (Some e.settled) t)
   by None = refl
   by (Some t) = refl
 
-row_alike : (days : List ℕ) (d : ℕ) (P : List Event) (e : SentEntry) (code : ℕ) (information : List ℕ) (a : Accepted) → IsEntryOf P e → IsFound P a
-    → standing.returned_row days d e.reference e.index code (row_of P a) ≡ back_row (back_of days d e code information) (row_of P a)
+row_alike : (days : List ℕ) (d : ℕ) (P : List Event) (e : SentEntry) (code : ℕ) (information : List ℕ) (a : AcceptedSubmission) → IsEntryOf P e → IsFound P a
+    → standing.returned_row days d e.reference e.index code (row_of P a) ≡ returned_row_by (back_of days d e code information) (row_of P a)
 row_alike days d P e code information a is found =
     by (bytes_eq a.content.reference e.reference) refl
   where
-    own : bytes_eq a.content.reference e.reference ≡ true → settled P a ≡ Some e.settled
+    own : bytes_eq a.content.reference e.reference ≡ true → settlement_day P a ≡ Some e.settled
     own same =
-        let called : Some a ≡ Some is.accepted = sym found ∙ ap (accepted_under P) ((bytes_eq-Decides a.content.reference e.reference).0 same) ∙ is.called in
+        let called : Some a ≡ Some is.accepted = sym found ∙ ap (submission_under P) ((bytes_eq-Decides a.content.reference e.reference).0 same) ∙ is.called in
         let itself : a ≡ is.accepted = cc in
-        ap (settled P) itself ∙ is.settles
+        ap (settlement_day P) itself ∙ is.settles
 
     x : ReturnedRow
     x = back_of days d e code information
@@ -86,13 +86,13 @@ row_alike days d P e code information a is found =
 
     by : (t : Bool) → bytes_eq a.content.reference e.reference ≡ t
         → (if t then with_states (map (λ y. if y.0 == e.index then returned_state days d code y.1 else y.1) (enumerate_from 1 (row_of P a).states)) else row_of P a)
-        ≡ (if t then with_states (map (λ y. if y.0 == e.index then back_state x y.1 else y.1) (enumerate_from 1 (row_of P a).states)) else row_of P a)
+        ≡ (if t then with_states (map (λ y. if y.0 == e.index then returned_state_by x y.1 else y.1) (enumerate_from 1 (row_of P a).states)) else row_of P a)
     by true same =
         let settles = own same in
         let stands = (settled_parts P a e.settled settles).0 in
         ap with_states
-        (states_alike (λ i s. if i == e.index then returned_state days d code s else s) (λ i s. if i == e.index then back_state x s else s) (state_of P a)
-        (λ i k. ap (λ (s : EntryState). if i == e.index then s else state_of P a k) (state_alike days d e code information (lapsed P a) (settled P a) (returned P a.content.reference k (settled P a)) stands settles))
+        (states_alike (λ i s. if i == e.index then returned_state days d code s else s) (λ i s. if i == e.index then returned_state_by x s else s) (state_of P a)
+        (λ i k. ap (λ (s : EntryState). if i == e.index then s else state_of P a k) (state_alike days d e code information (has_lapsed P a) (settlement_day P a) (return_of P a.content.reference k (settlement_day P a)) stands settles))
         1 (range_with_len 1 (length a.content.entries)))
     by false other = refl
 
@@ -101,23 +101,23 @@ row_alike days d P e code information a is found =
 module _ (c : List ℕ) (d : ℕ) (days : List ℕ) where
   rows_after : RowSteps → (P : List Event) (e : SentEntry) (code : ℕ) (information : List ℕ) → IsEntryOf P e → today P ≡ d → holidays P ≡ days
       → IsPossible (Returned e.reference e.index code information ∷ P)
-      → rows (Returned e.reference e.index code information ∷ P) ≡ map (back_row (back_of days d e code information)) (rows P)
+      → rows (Returned e.reference e.index code information ∷ P) ≡ map (returned_row_by (back_of days d e code information)) (rows P)
   rows_after steps P e code information is on off possible =
-      let returned = standing.returned_row days d e.reference e.index code in
-      let back = back_row (back_of days d e code information) in
+      let return_of = standing.returned_row days d e.reference e.index code in
+      let back = returned_row_by (back_of days d e code information) in
       steps.returned P e.reference e.index code information possible
       ∙ (λ i. map (standing.returned_row (off i) (on i) e.reference e.index code) (rows P))
-      ∙ sym (mapped_alike (λ a. returned (row_of P a)) returned (row_of P) (accepted P) (λ _ _ _. refl))
-      ∙ mapped_alike (λ a. returned (row_of P a)) back (row_of P) (accepted P)
-      (All-weaker (IsFound P) (λ a. returned (row_of P a) ≡ back (row_of P a))
-      (λ a found. row_alike days d P e code information a is found) (accepted P) (found_each P))
+      ∙ sym (mapped_alike (λ a. return_of (row_of P a)) return_of (row_of P) (submissions P) (λ _ _ _. refl))
+      ∙ mapped_alike (λ a. return_of (row_of P a)) back (row_of P) (submissions P)
+      (All-weaker (IsFound P) (λ a. return_of (row_of P a) ≡ back (row_of P a))
+      (λ a found. row_alike days d P e code information a is found) (submissions P) (found_each P))
 
   -- a return of an entry of another company makes no step
   other_returned : {A : Type 0} (step : A → ReturnedRow → A) → ((a : A) (x : ReturnedRow) → bytes_eq x.company c ≡ false → step a x ≡ a)
-      → (a : A) (x : Resolved) (item : ItemFacts) → event_of x.entry item ≡ Some x.event → bytes_eq x.entry.company c ≡ false
+      → (a : A) (x : ResolvedItem) (item : ItemFacts) → event_of x.entry item ≡ Some x.event → bytes_eq x.entry.company c ≡ false
       → step_by step a (returned_row days d (Ok x)) ≡ a
   other_returned step none a x item gives differ =
-      event_holds (λ event. step_by step a (returned_as days d x.entry event) ≡ a) x.entry item x.event gives
+      event_holds (λ event. step_by step a (returned_row_of days d x.entry event) ≡ a) x.entry item x.event gives
       (λ code information within. none a (back_of days d x.entry code information) differ)
       (λ code text. refl)
 
@@ -128,27 +128,27 @@ module _ (c : List ℕ) (d : ℕ) (days : List ℕ) where
   rows_steps steps = record {
     none = λ why. refl;
     own = λ P x item gives company is on off possible.
-        event_holds (λ event. IsPossible (event ∷ P) → rows (event ∷ P) ≡ step_by (rows_back c) (rows P) (returned_as days d x.entry event)) x.entry item x.event gives
+        event_holds (λ event. IsPossible (event ∷ P) → rows (event ∷ P) ≡ step_by (rows_back c) (rows P) (returned_row_of days d x.entry event)) x.entry item x.event gives
         (λ code information within possible.
         rows_after steps P x.entry code information is on off possible
-        ∙ ap (λ (t : Bool). if t then map (back_row (back_of days d x.entry code information)) (rows P) else rows P) (sym (company_is x.entry company)))
+        ∙ ap (λ (t : Bool). if t then map (returned_row_by (back_of days d x.entry code information)) (rows P) else rows P) (sym (company_is x.entry company)))
         (λ code text _. steps.changed P x.entry.reference x.entry.index code text)
         possible;
-    other = other_returned (rows_back c) (λ rs x differ. ap (λ (t : Bool). if t then map (back_row x) rs else rs) differ);
+    other = other_returned (rows_back c) (λ rs x differ. ap (λ (t : Bool). if t then map (returned_row_by x) rs else rs) differ);
   }
 
   -- the return of an entry as the company reads it
   return_after : (P : List Event) (e : SentEntry) (code : ℕ) (information : List ℕ) → IsEntryOf P e → today P ≡ d → holidays P ≡ days
       → return_row P e.reference e.index code information ≡ (back_of days d e code information).row
   return_after P e code information is on off =
-      let settles : settled_under P e.reference ≡ Some e.settled = ap (option_and_then (settled P)) is.called ∙ is.settles in
+      let settles : settlement_under P e.reference ≡ Some e.settled = ap (option_and_then (settlement_day P)) is.called ∙ is.settles in
       (λ i. record { code = code; day = on i; index = e.index; info = information; late = is_late code (unwrap_or (settles i) 0) (on i) (off i); reference = e.reference })
 
   pub returns_steps : StepsWith c returns (returned_row days d) (with_return c) d days
   returns_steps = record {
     none = λ why. refl;
     own = λ P x item gives company is on off possible.
-        event_holds (λ event. returns (event ∷ P) ≡ step_by (with_return c) (returns P) (returned_as days d x.entry event)) x.entry item x.event gives
+        event_holds (λ event. returns (event ∷ P) ≡ step_by (with_return c) (returns P) (returned_row_of days d x.entry event)) x.entry item x.event gives
         (λ code information within.
         ap (λ (row : ReturnRow). returns P ++ row ∷ []) (return_after P x.entry code information is on off)
         ∙ ap (λ (t : Bool). if t then returns P ++ (back_of days d x.entry code information).row ∷ [] else returns P) (sym (company_is x.entry company)))
@@ -163,13 +163,13 @@ module _ (c : List ℕ) (d : ℕ) (days : List ℕ) where
   changes_steps = record {
     none = λ why. refl;
     own = λ P x item gives company is on off possible.
-        event_holds (λ event. changes (event ∷ P) ≡ step_by (with_change c) (changes P) (changed_as d x.entry event)) x.entry item x.event gives
+        event_holds (λ event. changes (event ∷ P) ≡ step_by (with_change c) (changes P) (changed_row_of d x.entry event)) x.entry item x.event gives
         (λ code information within. refl)
         (λ code text.
         ap (λ (day : ℕ). changes P ++ change_of x.entry code text day ∷ []) on
         ∙ ap (λ (t : Bool). if t then changes P ++ change_of x.entry code text d ∷ [] else changes P) (sym (company_is x.entry company)));
     other = λ a x item gives differ.
-        event_holds (λ event. step_by (with_change c) a (changed_as d x.entry event) ≡ a) x.entry item x.event gives
+        event_holds (λ event. step_by (with_change c) a (changed_row_of d x.entry event) ≡ a) x.entry item x.event gives
         (λ code information within. refl)
         (λ code text. ap (λ (t : Bool). if t then a ++ change_of x.entry code text d ∷ [] else a) differ);
   }

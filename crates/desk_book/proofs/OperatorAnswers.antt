@@ -7,12 +7,12 @@ use Rattle.desk_accounts.specs.declared.account.Account.TheVariants as accounts
 use Rattle.desk_accounts.specs.declared.posting.Posting.{Posting}
 use Rattle.desk_accounts.specs.Balance.{lines_of, value_days, lines_on, total, lines_until}
 use Rattle.desk_accounts.specs.Posting.{same_account}
-use Rattle.desk_rules.specs.declared.refusal.Refusal as rules
-use Rattle.desk_rules.specs.declared.refusal.Refusal.TheVariants.{NoDay, DayNotLater, NotBankingDay}
+use Rattle.desk_rules.specs.declared.refusals.refusal.Refusal as rules
+use Rattle.desk_rules.specs.declared.refusals.refusal.Refusal.TheVariants.{NoDay, DayNotLater, NotBankingDay}
 use Rattle.desk_rules.specs.Chain.{◌>>=◌}
 use Rattle.desk_rules.specs.Operator.{company_of, new_limits_of, desk_day_in}
-use Rattle.desk_history.specs.declared.answer.Done.{Done}
-use Rattle.desk_history.specs.declared.answer.Done.TheVariants as done
+use Rattle.desk_history.specs.declared.answer.Outcome.{Outcome}
+use Rattle.desk_history.specs.declared.answer.Outcome.TheVariants as done
 use Rattle.desk_history.specs.declared.operations.Settlement.{Settlement}
 use Rattle.desk_history.specs.History.{day}
 use Rattle.desk_history.specs.Postings.{postings, day_sum}
@@ -24,11 +24,11 @@ use Rattle.desk_book.specs.OperatorLaws.{TellsOperator}
 -- ---- the commands
 
 -- the answer to a value that has to pass a check, and to one that has to pass two
-checked : {A B : Type 0} (value : A → Done) (x : A) (check : Result B rules.Refusal) → answer_of (check >>= (λ _. Ok (value x))) ≡ done_as value (check >>= (λ _. Ok x))
+checked : {A B : Type 0} (value : A → Outcome) (x : A) (check : Result B rules.Refusal) → answer_of (check >>= (λ _. Ok (value x))) ≡ done_as value (check >>= (λ _. Ok x))
 checked value x (Ok _) = refl
 checked value x (Err why) = refl
 
-checked_twice : {A B C : Type 0} (value : A → Done) (x : A) (first : Result B rules.Refusal) (second : Result C rules.Refusal)
+checked_twice : {A B C : Type 0} (value : A → Outcome) (x : A) (first : Result B rules.Refusal) (second : Result C rules.Refusal)
     → answer_of (first >>= (λ _. second >>= (λ _. Ok (value x)))) ≡ done_as value (first >>= (λ _. second >>= (λ _. Ok x)))
 checked_twice value x (Ok _) second = checked value x second
 checked_twice value x (Err why) second = refl
@@ -40,7 +40,7 @@ day_told (Ok d) is_later is_banking = checked_twice done.Day d (holds_or DayNotL
 day_told (Err why) is_later is_banking = refl
 
 -- the answer to what is read from a draft, and has to pass a check
-one_more : {A B : Type 0} (value : A → Done) (r : Result A rules.Refusal) (check : A → Result B rules.Refusal)
+one_more : {A B : Type 0} (value : A → Outcome) (r : Result A rules.Refusal) (check : A → Result B rules.Refusal)
     → answer_of (r >>= (λ x. check x >>= (λ _. Ok (value x)))) ≡ done_as value (r >>= (λ x. check x >>= (λ _. Ok x)))
 one_more value (Ok x) check = checked value x (check x)
 one_more value (Err why) check = refl

@@ -9,7 +9,7 @@ use Rattle.std.proofs.lemmas.List.Sums.{length-filter}
 
 -- ---- one list
 
--- a test before what is made of an element, and two behind it
+-- a test before what is made of an element, and two after it
 pub passing : {X Y : Type 0} (held : X → Bool) (g : X → Y) (due test : Y → Bool) (xs : List X)
     → filter test (filter due (map g (filter held xs))) ≡ map g (filter (λ x. (held x && due (g x)) && test (g x)) xs)
 passing held g due test [] = refl

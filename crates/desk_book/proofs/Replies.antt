@@ -8,72 +8,59 @@ use Rattle.desk_accounts.specs.declared.posting.Posting.{Posting}
 use Rattle.desk_accounts.specs.Balance as accounts_balance
 use Rattle.desk_accounts.specs.Balance.{lines_of, lines_until}
 use Rattle.desk_accounts.specs.Posting.{same_account}
-use Rattle.desk_rules.specs.declared.refusal.Refusal as rules
-use Rattle.desk_rules.specs.declared.refusal.Refusal.TheVariants.{NoCompany, NoDay}
-use Rattle.desk_rules.specs.declared.submission.Entry.{Entry}
+use Rattle.desk_rules.specs.declared.refusals.refusal.Refusal as rules
+use Rattle.desk_rules.specs.declared.refusals.refusal.Refusal.TheVariants.{NoCompany, NoDay}
+use Rattle.desk_rules.specs.declared.bodies.submission.Entry.{Entry}
 use Rattle.desk_rules.specs.Chain.{◌>>=◌}
-use Rattle.desk_rules.specs.Exposure.{credit_exposure, debit_exposure}
-use Rattle.desk_rules.specs.ReturnRates.{rates}
-use Rattle.desk_rules.specs.Size.{total_of}
-use Rattle.desk_history.specs.declared.answer.Done.TheVariants as done
+use Rattle.desk_history.specs.declared.answer.Outcome.TheVariants as done
 use Rattle.desk_history.specs.declared.identity.Identity.{Identity}
-use Rattle.desk_history.specs.declared.reports.FoundEntry.{FoundEntry}
-use Rattle.desk_history.specs.declared.reports.Line.{Line}
+use Rattle.desk_history.specs.declared.reports.ReportedEntry.{ReportedEntry}
+use Rattle.desk_history.specs.declared.reports.StatementLine.{StatementLine}
 use Rattle.desk_history.specs.declared.reports.Statement.{Statement}
 use Rattle.desk_history.specs.Part.{Event}
-use Rattle.desk_history.specs.Accepted.{Accepted, state_of}
-use Rattle.desk_history.specs.Asking.{accepted, submitted, retried}
-use Rattle.desk_history.specs.Book.{rows, row_of, book_of}
+use Rattle.desk_history.specs.Accepted.{AcceptedSubmission, state_of}
+use Rattle.desk_history.specs.Acceptance.{submissions, accepted_submission, accepted_retry}
+use Rattle.desk_book.specs.Book.{rows, row_of, book_of}
 use Rattle.desk_history.specs.History.{part}
 use Rattle.desk_history.specs.Message.{Pair}
 use Rattle.desk_history.specs.Operator.{IsHistory}
 use Rattle.desk_history.specs.PostingLaws.{posting_of, CompanyLines}
 use Rattle.desk_history.specs.Reply as replies
-use Rattle.desk_history.specs.Reply.{answer_of, outcome}
+use Rattle.desk_history.specs.Reply.{answer_of, request_outcome}
 use Rattle.desk_history.specs.Reports as reports
-use Rattle.desk_history.specs.Reports.{tried, found_entry, found_as, accepted_under, found, lines, statement}
+use Rattle.desk_history.specs.Reports.{report, reported_entry, report_of, submission_under, submission_report, lines, statement}
 use Rattle.desk_history.specs.Request as request
 use Rattle.desk_history.specs.Request.{Request}
-use Rattle.desk_history.specs.RowLaws.{row_of_result, VerdictsOnRows}
-use Rattle.desk_history.specs.Standing.{Standing, standing, row_under, submission_row, retry_row}
+use Rattle.desk_book.specs.RowLaws.{row_of_result, VerdictsOnRows}
+use Rattle.desk_book.specs.Standing.{Standing, standing, row_under, submission_row, retry_row}
 use Rattle.desk_history.specs.Words.{some_or}
 use Rattle.desk_book.specs.OnBook as on_book
-use Rattle.desk_book.specs.OnBook.{standing_in, row_found, line_of, statement_on, exposure_on, outcome_on}
+use Rattle.desk_book.specs.OnBook.{standing_in, row_report, line_of, statement_on, outcome_on}
 use Rattle.desk_book.specs.BookLaws.{TellsReplies}
 use Rattle.desk_book.proofs.Standings.{SameStanding}
 
 -- ---- a submission that is looked up
 
-entries_found : (P : List Event) (a : Accepted) (n : ℕ) (es : List Entry) → map (λ x. found_entry P a x.0 x.1) (enumerate_from n es)
-    ≡ map (λ x. record { cents = x.1.0.cents; index = x.0; state = x.1.1 }) (enumerate_from n (zip es (map (state_of P a) (range_with_len n (length es)))))
+entries_found : (P : List Event) (a : AcceptedSubmission) (n : ℕ) (es : List Entry) → map (λ x. reported_entry (x.0, (x.1, state_of P a x.0))) (enumerate_from n es)
+    ≡ map reported_entry (enumerate_from n (zip es (map (state_of P a) (range_with_len n (length es)))))
 entries_found P a n [] = refl
-entries_found P a n (e ∷ es) = ap (λ (more : List FoundEntry). found_entry P a n e ∷ more) (entries_found P a (n + 1) es)
+entries_found P a n (e ∷ es) = ap (λ (more : List ReportedEntry). reported_entry (n, (e, state_of P a n)) ∷ more) (entries_found P a (n + 1) es)
 
-found_on_row : (P : List Event) (a : Accepted) → found_as P a ≡ row_found (row_of P a)
-found_on_row P a =
-    (λ i. record {
-      cents = total_of a.content.entries;
-      day = a.content.day;
-      direction = a.content.direction;
-      entries = entries_found P a 1 a.content.entries i;
-      tried = option_map tried a.retry;
-      order = a.order;
-      reference = a.content.reference;
-      sec = a.content.sec;
-    })
+found_on_row : (P : List Event) (a : AcceptedSubmission) → report_of P a ≡ row_report (row_of P a)
+found_on_row P a = ap (report a.content a.order a.retry) (entries_found P a 1 a.content.entries)
 
-found_in_rows : (P : List Event) (o : Option Accepted) → option_map (found_as P) o ≡ option_map row_found (option_map (row_of P) o)
+found_in_rows : (P : List Event) (o : Option AcceptedSubmission) → option_map (report_of P) o ≡ option_map row_report (option_map (row_of P) o)
 found_in_rows P None = refl
 found_in_rows P (Some a) = ap Some (found_on_row P a)
 
 -- ---- a statement
 
-lines_back : (c : List ℕ) (ls : List Line) → map line_of (map (posting_of c) ls) ≡ ls
+lines_back : (c : List ℕ) (ls : List StatementLine) → map line_of (map (posting_of c) ls) ≡ ls
 lines_back c [] = refl
-lines_back c (l ∷ ls) = ap (λ (more : List Line). l ∷ more) (lines_back c ls)
+lines_back c (l ∷ ls) = ap (λ (more : List StatementLine). l ∷ more) (lines_back c ls)
 
 -- every posting of a company counts on its account
-sum_back : (c : List ℕ) (day : ℕ) (sum : ℤ) (ls : List Line)
+sum_back : (c : List ℕ) (day : ℕ) (sum : ℤ) (ls : List StatementLine)
     → fold (λ s p. s +ℤ p.cents) sum (lines_until day (lines_of (accounts.Company c) (map (posting_of c) ls)))
     ≡ fold (λ s l. s +ℤ l.cents) sum (filter (λ l. nat_le l.day day) ls)
 sum_back c day sum [] = refl
@@ -83,31 +70,31 @@ sum_back c day sum (l ∷ ls) =
     ap (λ (t : Bool). fold (λ s (p : Posting). s +ℤ p.cents) sum (lines_until day (if t then posting_of c l ∷ rest else rest))) own
     ∙ elim (nat_le l.day day) as (λ (t : Bool).
     fold (λ s (p : Posting). s +ℤ p.cents) sum (if t then posting_of c l ∷ lines_until day rest else lines_until day rest)
-    ≡ fold (λ s (l : Line). s +ℤ l.cents) sum (if t then l ∷ filter (λ l. nat_le l.day day) ls else filter (λ l. nat_le l.day day) ls)) [
+    ≡ fold (λ s (l : StatementLine). s +ℤ l.cents) sum (if t then l ∷ filter (λ l. nat_le l.day day) ls else filter (λ l. nat_le l.day day) ls)) [
       | true ↦ sum_back c day (sum +ℤ l.cents) ls
       | false ↦ sum_back c day sum ls
     ]
 
 -- the statement of lines, and that of what was posted to the account
-abbrev statement_of : List Line → ℕ → Statement
+abbrev statement_of : List StatementLine → ℕ → Statement
 statement_of ls d = record { balance = reports.balance d ls; day = d; lines = ls }
 
 abbrev posted_statement : List ℕ → List Posting → ℕ → Statement
 posted_statement c ps d = record { balance = accounts_balance.balance (accounts.Company c) d ps; day = d; lines = map line_of ps }
 
-stated_on : (c : List ℕ) (ls : List Line) (ps : List Posting) → ps ≡ map (posting_of c) ls → (d : ℕ) → statement_of ls d ≡ posted_statement c ps d
+stated_on : (c : List ℕ) (ls : List StatementLine) (ps : List Posting) → ps ≡ map (posting_of c) ls → (d : ℕ) → statement_of ls d ≡ posted_statement c ps d
 stated_on c ls ps same d =
     sym (λ i. record { balance = sum_back c d (pos 0) ls i; day = d; lines = lines_back c ls i }) ∙ ap (λ (ps : List Posting). posted_statement c ps d) (sym same)
 
 -- ---- each request
 
-receipts : (P : List Event) (x : Result Accepted rules.Refusal) → replies.receipt_of x ≡ on_book.receipt_of (row_of_result P x)
+receipts : (P : List Event) (x : Result AcceptedSubmission rules.Refusal) → replies.receipt_of x ≡ on_book.receipt_of (row_of_result P x)
 receipts P (Ok a) = refl
 receipts P (Err why) = refl
 
 module _ (same_standing : SameStanding) (verdicts : VerdictsOnRows) (company_lines : CompanyLines) where
   same_outcome : (identity : Identity) (key : List ℕ) (H : List Pair) (c : List ℕ) → IsHistory identity H
-      → (r : Request) → outcome (part identity.odfi H c) r ≡ outcome_on (book_of identity key H) c r
+      → (r : Request) → request_outcome (part identity.odfi H c) r ≡ outcome_on (book_of identity key H) c r
   same_outcome identity key H c is = by where
     P : List Event
     P = part identity.odfi H c
@@ -115,12 +102,12 @@ module _ (same_standing : SameStanding) (verdicts : VerdictsOnRows) (company_lin
     same : standing P ≡ standing_in (book_of identity key H) c
     same = same_standing identity key H c is
 
-    by : (r : Request) → outcome P r ≡ outcome_on (book_of identity key H) c r
-    by (request.Submit d) = receipts P (submitted P (accepted P) d) ∙ ap on_book.receipt_of (verdicts.submitted P d ∙ ap (λ (st : Standing). submission_row st d) same)
-    by (request.Retry d) = receipts P (retried P (accepted P) d) ∙ ap on_book.receipt_of (verdicts.retried P d ∙ ap (λ (st : Standing). retry_row st d) same)
+    by : (r : Request) → request_outcome P r ≡ outcome_on (book_of identity key H) c r
+    by (request.Submit d) = receipts P (accepted_submission P (submissions P) d) ∙ ap on_book.receipt_of (verdicts.submitted P d ∙ ap (λ (st : Standing). submission_row st d) same)
+    by (request.Retry d) = receipts P (accepted_retry P (submissions P) d) ∙ ap on_book.receipt_of (verdicts.retried P d ∙ ap (λ (st : Standing). retry_row st d) same)
     by (request.LookUp reference) =
-        let seen : found P reference ≡ option_map row_found (row_under (rows P) reference) =
-        found_in_rows P (accepted_under P reference) ∙ ap (option_map row_found) (verdicts.under P reference) in
+        let seen : submission_report P reference ≡ option_map row_report (row_under (rows P) reference) =
+        found_in_rows P (submission_under P reference) ∙ ap (option_map row_report) (verdicts.under P reference) in
         (λ i. some_or NoCompany (same i).limits >>= (λ _. Ok (done.Found (seen i))))
     by request.Returns = ap (λ (st : Standing). some_or NoCompany st.limits >>= (λ _. Ok (done.Returns (reports.returns P)))) same
     by request.Changes = ap (λ (st : Standing). some_or NoCompany st.limits >>= (λ _. Ok (done.Changes (reports.changes P)))) same
@@ -129,15 +116,10 @@ module _ (same_standing : SameStanding) (verdicts : VerdictsOnRows) (company_lin
         Ok (done.Statement (stated_on c (lines P) ((book_of identity key H).lines (accounts.Company c)) (company_lines identity H c is) d i)))))
     by request.Rates =
         (λ i. some_or NoCompany (same i).limits >>= (λ _. some_or NoDay (same i).day >>= (λ d.
-        Ok (done.Rates (record { day = d; rates = rates (verdicts.facts P i) d })))))
+        Ok (done.Rates (reports.day_rates (verdicts.facts P i) d)))))
     by request.Exposure =
         (λ i. some_or NoCompany (same i).limits >>= (λ limits. some_or NoDay (same i).day >>= (λ d.
-        Ok (done.Exposure (record {
-          credit = credit_exposure (verdicts.facts P i) d;
-          debit = debit_exposure (verdicts.facts P i) d (same i).holidays;
-          day = d;
-          limits = limits;
-        })))))
+        Ok (done.Exposure (reports.exposure (verdicts.facts P i) (same i).holidays limits d)))))
 
   pub tells_replies : TellsReplies
   tells_replies = record {

@@ -2,14 +2,13 @@
 use Rattle.std.specs.Prelude.{◌≡◌, ℕ, List}
 use Rattle.std.proofs.Common.{sym}
 use Rattle.desk_history.specs.declared.identity.Identity.{Identity}
-use Rattle.desk_history.specs.Book.{rows, book_of}
+use Rattle.desk_book.specs.Book.{rows, book_of}
 use Rattle.desk_history.specs.History.{part}
 use Rattle.desk_history.specs.Message.{Pair}
 use Rattle.desk_history.specs.Operator.{IsHistory}
-use Rattle.desk_history.specs.Standing.{standing}
-use Rattle.desk_history.proofs.PartLimits.{same_day, same_limits}
+use Rattle.desk_book.specs.Standing.{standing}
+use Rattle.desk_history.proofs.Lines.PartLimits.{same_day, same_holidays, same_limits}
 use Rattle.desk_book.specs.OnBook.{standing_in}
-use Rattle.desk_book.proofs.Holidays.{same_holidays}
 
 abbrev pub SameStanding : Type 0
 SameStanding = (identity : Identity) (key : List ℕ) (H : List Pair) (c : List ℕ) → IsHistory identity H

@@ -5,12 +5,12 @@ use Rattle.std.specs.List.{flat_map, range_with_len, AllByRecursion}
 use Rattle.std.proofs.lemmas.Bool.{cases_Bool, eq-eqb, ne_eqb}
 use Rattle.std.proofs.lemmas.List.Sums.{fold-append}
 use Rattle.std.proofs.lemmas.Slice.Eq.{bytes_eq-Decides}
-use Rattle.desk_rules.specs.declared.company.Company.{Company}
-use Rattle.desk_history.specs.declared.row.Row.{Row}
+use Rattle.desk_rules.specs.declared.bodies.company.Company.{Company}
+use Rattle.desk_book.specs.declared.row.Row.{Row}
 use Rattle.desk_history.specs.Operator.{has_id}
-use Rattle.desk_history.proofs.Companies.{Apart}
-use Rattle.desk_history.proofs.Each.{each-map, each-weaker}
-use Rattle.desk_store.specs.Steps.{if_order}
+use Rattle.desk_history.proofs.Accounts.Companies.{Apart}
+use Rattle.desk_history.proofs.Basics.Each.{each-map, each-weaker}
+use Rattle.desk_book.specs.Steps.{if_order}
 
 -- ---- orders
 

@@ -1,13 +1,13 @@
 -- A cut after a history is a cut of its book.
 use Rattle.std.specs.Prelude.{◌≡◌, ℕ, List, ◌∷◌}
 use Rattle.desk_history.specs.declared.identity.Identity.{Identity}
-use Rattle.desk_history.specs.Book.{book_of}
+use Rattle.desk_book.specs.Book.{book_of}
 use Rattle.desk_history.specs.Message.{Cut, Pair}
-use Rattle.desk_history.specs.Operator.{answered, next, IsHistory}
+use Rattle.desk_history.specs.Operator.{answer_to, next_pair, IsHistory}
 use Rattle.desk_book.specs.OnCut.{cut_answer_on, cut_after}
 
 pub record TellsCut : Type 0 where
   pub answer : (identity : Identity) (key : List ℕ) (H : List Pair) → IsHistory identity H
-      → answered identity H Cut ≡ cut_answer_on (book_of identity key H)
+      → answer_to identity H Cut ≡ cut_answer_on (book_of identity key H)
   pub step : (identity : Identity) (key : List ℕ) (H : List Pair) → IsHistory identity H
-      → book_of identity key (next identity H Cut ∷ H) ≡ cut_after (book_of identity key H)
+      → book_of identity key (next_pair identity H Cut ∷ H) ≡ cut_after (book_of identity key H)

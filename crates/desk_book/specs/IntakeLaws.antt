@@ -3,13 +3,13 @@ use Rattle.std.specs.Prelude.{◌≡◌, ℕ, List, ◌∷◌, Result}
 use Rattle.ach_files.specs.declared.fault.Fault.{Fault}
 use Rattle.ach_files.specs.Facts.{FileFacts}
 use Rattle.desk_history.specs.declared.identity.Identity.{Identity}
-use Rattle.desk_history.specs.Book.{book_of}
+use Rattle.desk_book.specs.Book.{book_of}
 use Rattle.desk_history.specs.Message.{TakeFile, Pair}
-use Rattle.desk_history.specs.Operator.{answered, next, IsHistory}
+use Rattle.desk_history.specs.Operator.{answer_to, next_pair, IsHistory}
 use Rattle.desk_book.specs.OnIntake.{file_answer_on, file_after}
 
 pub record TellsIntake : Type 0 where
   pub answer : (identity : Identity) (key : List ℕ) (H : List Pair) (file : Result FileFacts Fault) → IsHistory identity H
-      → answered identity H (TakeFile file) ≡ file_answer_on file (book_of identity key H)
+      → answer_to identity H (TakeFile file) ≡ file_answer_on file (book_of identity key H)
   pub step : (identity : Identity) (key : List ℕ) (H : List Pair) (file : Result FileFacts Fault) → IsHistory identity H
-      → book_of identity key (next identity H (TakeFile file) ∷ H) ≡ file_after file (book_of identity key H)
+      → book_of identity key (next_pair identity H (TakeFile file) ∷ H) ≡ file_after file (book_of identity key H)

@@ -1,32 +1,26 @@
 -- The answers to a company, from what the book has of it.
-use Rattle.std.specs.Prelude.{ℕ, List, [], map, find, length, zip, option_map, unwrap_or, Result, Ok, Err}
+use Rattle.std.specs.Prelude.{ℕ, List, [], map, find, zip, option_map, unwrap_or, Result, Ok, Err}
 use Rattle.std.specs.List.{enumerate_from}
 use Rattle.desk_accounts.specs.declared.account.Account.TheVariants as accounts
 use Rattle.desk_accounts.specs.declared.posting.Posting.{Posting}
 use Rattle.desk_accounts.specs.Balance.{balance}
-use Rattle.desk_rules.specs.declared.company.Limits.{Limits}
-use Rattle.desk_rules.specs.declared.refusal.Refusal as rules
-use Rattle.desk_rules.specs.declared.refusal.Refusal.TheVariants.{NoCompany, NoDay}
+use Rattle.desk_rules.specs.declared.refusals.refusal.Refusal as rules
+use Rattle.desk_rules.specs.declared.refusals.refusal.Refusal.TheVariants.{NoCompany, NoDay}
 use Rattle.desk_rules.specs.Chain.{◌>>=◌}
-use Rattle.desk_rules.specs.Exposure.{credit_exposure, debit_exposure}
-use Rattle.desk_rules.specs.ReturnRates.{rates}
-use Rattle.desk_rules.specs.Size.{total_of}
 use Rattle.desk_history.specs.declared.answer.Answer.{Answer}
-use Rattle.desk_history.specs.declared.answer.Done.{Done}
-use Rattle.desk_history.specs.declared.answer.Done.TheVariants as done
-use Rattle.desk_history.specs.declared.reports.Found.{Found}
-use Rattle.desk_history.specs.declared.reports.Line.{Line}
-use Rattle.desk_history.specs.declared.reports.Receipt.{Receipt}
-use Rattle.desk_history.specs.declared.reports.Exposure.{Exposure}
+use Rattle.desk_history.specs.declared.answer.Outcome.{Outcome}
+use Rattle.desk_history.specs.declared.answer.Outcome.TheVariants as done
+use Rattle.desk_history.specs.declared.reports.SubmissionReport.{SubmissionReport}
+use Rattle.desk_history.specs.declared.reports.StatementLine.{StatementLine}
 use Rattle.desk_history.specs.declared.reports.Statement.{Statement}
-use Rattle.desk_history.specs.declared.row.Row.{Row}
-use Rattle.desk_history.specs.Book.{Book}
+use Rattle.desk_book.specs.declared.row.Row.{Row}
+use Rattle.desk_book.specs.Book.{Book}
 use Rattle.desk_history.specs.Operator.{has_id}
 use Rattle.desk_history.specs.Reply.{answer_of}
-use Rattle.desk_history.specs.Reports.{tried}
+use Rattle.desk_history.specs.Reports.{receipt, report, reported_entry, day_rates, exposure}
 use Rattle.desk_history.specs.Request as request
 use Rattle.desk_history.specs.Request.{Request}
-use Rattle.desk_history.specs.Standing.{Standing, row_under, facts_in, submission_row, retry_row}
+use Rattle.desk_book.specs.Standing.{Standing, row_under, facts_in, submission_row, retry_row}
 use Rattle.desk_history.specs.Words.{some_or}
 
 -- what a company's requests are judged by
@@ -38,29 +32,12 @@ standing_in b c = record {
   rows = b.rows c;
 }
 
-abbrev pub row_receipt : Row → Receipt
-row_receipt row = record {
-  cents = total_of row.content.entries;
-  entries = length row.content.entries;
-  order = row.order;
-  reference = row.content.reference;
-}
-
 -- a submission with the states of its entries
-abbrev pub row_found : Row → Found
-row_found row = record {
-  cents = total_of row.content.entries;
-  day = row.content.day;
-  direction = row.content.direction;
-  entries = map (λ x. record { cents = x.1.0.cents; index = x.0; state = x.1.1 }) (enumerate_from 1 (zip row.content.entries row.states));
-  tried = option_map tried row.retry;
-  order = row.order;
-  reference = row.content.reference;
-  sec = row.content.sec;
-}
+abbrev pub row_report : Row → SubmissionReport
+row_report row = report row.content row.order row.retry (map reported_entry (enumerate_from 1 (zip row.content.entries row.states)))
 
 -- a line of a company's account as its statement has it
-abbrev pub line_of : Posting → Line
+abbrev pub line_of : Posting → StatementLine
 line_of p = record { cause = p.cause; cents = p.cents; day = p.value_day; index = p.idx; reference = unwrap_or p.reference [] }
 
 abbrev pub statement_on : Book → List ℕ → ℕ → Statement
@@ -70,25 +47,17 @@ statement_on b c d = record {
   lines = map line_of (b.lines (accounts.Company c));
 }
 
-abbrev pub exposure_on : Standing → Limits → ℕ → Exposure
-exposure_on st limits d = record {
-  credit = credit_exposure (facts_in st.rows) d;
-  debit = debit_exposure (facts_in st.rows) d st.holidays;
-  day = d;
-  limits = limits;
-}
-
-abbrev pub receipt_of : Result Row rules.Refusal → Result Done rules.Refusal
-receipt_of (Ok row) = Ok (done.Submitted (row_receipt row))
+abbrev pub receipt_of : Result Row rules.Refusal → Result Outcome rules.Refusal
+receipt_of (Ok row) = Ok (done.Submitted (receipt row.content row.order))
 receipt_of (Err why) = Err why
 
--- what a request comes to, or its first refusal
-abbrev pub outcome_on : Book → List ℕ → Request → Result Done rules.Refusal
+-- the outcome of a request, or its first refusal
+abbrev pub outcome_on : Book → List ℕ → Request → Result Outcome rules.Refusal
 outcome_on b c (request.Submit d) = receipt_of (submission_row (standing_in b c) d)
 outcome_on b c (request.Retry d) = receipt_of (retry_row (standing_in b c) d)
 outcome_on b c (request.LookUp reference) = do
   _ ← some_or NoCompany (standing_in b c).limits
-  Ok (done.Found (option_map row_found (row_under (b.rows c) reference)))
+  Ok (done.Found (option_map row_report (row_under (b.rows c) reference)))
 outcome_on b c request.Returns = do
   _ ← some_or NoCompany (standing_in b c).limits
   Ok (done.Returns (b.returns c))
@@ -102,11 +71,11 @@ outcome_on b c request.Statement = do
 outcome_on b c request.Rates = do
   _ ← some_or NoCompany (standing_in b c).limits
   d ← some_or NoDay b.day
-  Ok (done.Rates (record { day = d; rates = rates (facts_in (b.rows c)) d }))
+  Ok (done.Rates (day_rates (facts_in (b.rows c)) d))
 outcome_on b c request.Exposure = do
   limits ← some_or NoCompany (standing_in b c).limits
   d ← some_or NoDay b.day
-  Ok (done.Exposure (exposure_on (standing_in b c) limits d))
+  Ok (done.Exposure (exposure (facts_in (b.rows c)) b.holidays limits d))
 
 -- the answer to a company, from the book
 abbrev pub reply_on : Book → List ℕ → Request → Answer

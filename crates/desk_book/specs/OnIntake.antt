@@ -1,121 +1,112 @@
--- What an incoming file comes to, and what it writes, from the book.
+-- The answer to an incoming file, and what it writes, from the book.
 use Rattle.std.specs.Prelude.{ℕ, Bool, true, false, ◌&&◌, ◌||◌, ◌==◌, if◌then◌else◌, List, [], ◌∷◌, ◌++◌, map, filter_map, zip, Option, Some, None, option_map, Result, Ok, Err, bytes_eq}
 use Rattle.std.specs.List.{enumerate_from, flat_map, list_any}
 use Rattle.ach_files.specs.declared.facts.ItemFacts.{ItemFacts}
 use Rattle.ach_files.specs.declared.fault.Fault.{Fault}
 use Rattle.ach_files.specs.Facts.{FileFacts}
 use Rattle.desk_accounts.specs.Laws.{pairs}
-use Rattle.desk_rules.specs.declared.entry_fact.EntryState.{EntryState}
-use Rattle.desk_rules.specs.declared.entry_fact.EntryState.TheVariants as states
-use Rattle.desk_rules.specs.declared.refusal.Refusal.TheVariants.{NoDay, FileKeyReused}
+use Rattle.desk_rules.specs.declared.rules.entry_fact.EntryState.{EntryState}
+use Rattle.desk_rules.specs.declared.rules.entry_fact.EntryState.TheVariants as states
+use Rattle.desk_rules.specs.declared.refusals.refusal.Refusal.TheVariants.{NoDay, FileKeyReused}
 use Rattle.desk_rules.specs.Deadlines.{is_late}
 use Rattle.desk_history.specs.declared.answer.Answer.{Answer}
-use Rattle.desk_history.specs.declared.answer.Refusal.{Refusal}
-use Rattle.desk_history.specs.declared.answer.Refusal.TheVariants.{Rule, BadFile}
+use Rattle.desk_history.specs.declared.answer.CallRefusal.{CallRefusal}
+use Rattle.desk_history.specs.declared.answer.CallRefusal.TheVariants.{Rule, BadFile}
 use Rattle.desk_history.specs.declared.operations.Intake.{Intake}
 use Rattle.desk_history.specs.declared.operations.TakenFile.{TakenFile}
-use Rattle.desk_history.specs.declared.operations.Why.{Why}
-use Rattle.desk_history.specs.declared.operations.Why.TheVariants.{NoTrace, Differs, CodeOutside, AlreadyReturned}
-use Rattle.desk_history.specs.declared.row.Row.{Row}
-use Rattle.desk_history.specs.declared.row.SentEntry.{SentEntry}
-use Rattle.desk_history.specs.Book.{Book}
-use Rattle.desk_history.specs.Intake.{is_returned_event, intake_of, suspended}
+use Rattle.desk_history.specs.declared.operations.SuspenseReason.{SuspenseReason}
+use Rattle.desk_history.specs.declared.operations.SuspenseReason.TheVariants.{AlreadyReturned}
+use Rattle.desk_book.specs.declared.row.Row.{Row}
+use Rattle.desk_history.specs.declared.sent_entry.SentEntry.{SentEntry}
+use Rattle.desk_book.specs.Book.{Book}
+use Rattle.desk_history.specs.Intake.{is_returned_event, intake_of, suspense_row}
 use Rattle.desk_history.specs.Operator.{intake_answer}
 use Rattle.desk_history.specs.Part.{Event, Returned, Changed}
 use Rattle.desk_history.specs.Postings.{item_line}
-use Rattle.desk_history.specs.Resolve.{◌>>=◌, Resolved, named, agrees, event_of}
-use Rattle.desk_history.specs.Standing.{row_under, state_at}
-use Rattle.desk_history.specs.Words.{some_or, holds_or}
-use Rattle.desk_store.specs.declared.rows.ChangedRow.{ChangedRow}
-use Rattle.desk_store.specs.declared.rows.ReturnedRow.{ReturnedRow}
-use Rattle.desk_store.specs.Steps.{IntakeWrite, commit_intake}
+use Rattle.desk_history.specs.Resolve.{ResolvedItem, named_entry, resolve_entry}
+use Rattle.desk_book.specs.Standing.{row_under, state_at}
+use Rattle.desk_book.specs.declared.flat_rows.ChangedRow.{ChangedRow}
+use Rattle.desk_book.specs.declared.flat_rows.ReturnedRow.{ReturnedRow}
+use Rattle.desk_book.specs.Steps.{IntakeWrite, commit_intake}
 
 -- ---- what an item names
 
 -- the sent entry that an item's trace names, and whether it was returned before the file
-pub record Named : Type 0 where
+pub record NamedEntry : Type 0 where
   pub entry : SentEntry
   pub returned : Bool
 
-abbrev pub is_back_state : EntryState → Bool
-is_back_state (states.Returned on code day late) = true
-is_back_state _ = false
+abbrev pub is_returned_state : EntryState → Bool
+is_returned_state (states.Returned on code day late) = true
+is_returned_state _ = false
 
-abbrev pub is_back_in : Option Row → ℕ → Bool
-is_back_in None index = false
-is_back_in (Some row) index = is_back_state (state_at row index)
+abbrev pub is_returned_in : Option Row → ℕ → Bool
+is_returned_in None index = false
+is_returned_in (Some row) index = is_returned_state (state_at row index)
 
 -- has the entry come back?
-abbrev pub is_back : Book → SentEntry → Bool
-is_back b e = is_back_in (row_under (b.rows e.company) e.reference) e.index
+abbrev pub is_returned_on : Book → SentEntry → Bool
+is_returned_on b e = is_returned_in (row_under (b.rows e.company) e.reference) e.index
 
-abbrev pub named_on : Book → ItemFacts → Option Named
-named_on b item = option_map (λ e. record { entry = e; returned = is_back b e }) (named b.identity.odfi b.sent item)
+abbrev pub named_entry_on : Book → ItemFacts → Option NamedEntry
+named_entry_on b item = option_map (λ e. record { entry = e; returned = is_returned_on b e }) (named_entry b.identity.odfi b.sent item)
 
--- ---- what comes of the items
-
--- the entry and the event of an item, or the first reason against them
-abbrev pub resolved_as : Option SentEntry → ItemFacts → Result Resolved Why
-resolved_as found item = do
-  e ← some_or NoTrace found
-  _ ← holds_or Differs (agrees e item)
-  event ← some_or CodeOutside (event_of e item)
-  Ok (record { entry = e; event = event })
+-- ---- the resolutions of the items
 
 abbrev pub is_same_entry : SentEntry → SentEntry → Bool
 is_same_entry e other = bytes_eq e.company other.company && bytes_eq e.reference other.reference && e.index == other.index
 
 -- is it a return of an entry that came back before the file, or by an earlier item of it?
-abbrev pub is_again : List SentEntry → Bool → Resolved → Bool
-is_again earlier before x = is_returned_event x.event && (before || list_any (is_same_entry x.entry) earlier)
+abbrev pub is_repeated_return : List SentEntry → Bool → ResolvedItem → Bool
+is_repeated_return earlier before x = is_returned_event x.event && (before || list_any (is_same_entry x.entry) earlier)
 
-abbrev pub unless_again : List SentEntry → Bool → Result Resolved Why → Result Resolved Why
-unless_again earlier before (Err why) = Err why
-unless_again earlier before (Ok x) = if is_again earlier before x then Err AlreadyReturned else Ok x
+abbrev pub unless_repeated : List SentEntry → Bool → Result ResolvedItem SuspenseReason → Result ResolvedItem SuspenseReason
+unless_repeated earlier before (Err why) = Err why
+unless_repeated earlier before (Ok x) = if is_repeated_return earlier before x then Err AlreadyReturned else Ok x
 
-abbrev pub was_returned : Option Named → Bool
+abbrev pub was_returned : Option NamedEntry → Bool
 was_returned None = false
 was_returned (Some n) = n.returned
 
--- what comes of an item behind others, of which these entries came back
-abbrev pub outcome_after : List SentEntry → ItemFacts → Option Named → Result Resolved Why
-outcome_after earlier item found = unless_again earlier (was_returned found) (resolved_as (option_map (λ n. n.entry) found) item)
+-- the resolution of an item after others, of which these entries came back
+abbrev pub resolution_after : List SentEntry → ItemFacts → Option NamedEntry → Result ResolvedItem SuspenseReason
+resolution_after earlier item found = unless_repeated earlier (was_returned found) (resolve_entry (option_map (λ n. n.entry) found) item)
 
 -- the entry that comes back by an item
-abbrev pub back_by : Result Resolved Why → List SentEntry
-back_by (Err why) = []
-back_by (Ok x) = if is_returned_event x.event then x.entry ∷ [] else []
+abbrev pub entries_returned_by : Result ResolvedItem SuspenseReason → List SentEntry
+entries_returned_by (Err why) = []
+entries_returned_by (Ok x) = if is_returned_event x.event then x.entry ∷ [] else []
 
-abbrev pub outcomes_after : List SentEntry → List (ItemFacts × Option Named) → List (Result Resolved Why)
-outcomes_after earlier [] = []
-outcomes_after earlier (x ∷ more) = outcome_after earlier x.0 x.1 ∷ outcomes_after (back_by (outcome_after earlier x.0 x.1) ++ earlier) more
+abbrev pub resolutions_after : List SentEntry → List (ItemFacts × Option NamedEntry) → List (Result ResolvedItem SuspenseReason)
+resolutions_after earlier [] = []
+resolutions_after earlier (x ∷ more) = resolution_after earlier x.0 x.1 ∷ resolutions_after (entries_returned_by (resolution_after earlier x.0 x.1) ++ earlier) more
 
--- what comes of each item of a file, with what it names
-abbrev pub outcomes : List (ItemFacts × Option Named) → List (Result Resolved Why)
-outcomes xs = outcomes_after [] xs
+-- the resolution of each item of a file, with what it names
+abbrev pub resolutions : List (ItemFacts × Option NamedEntry) → List (Result ResolvedItem SuspenseReason)
+resolutions xs = resolutions_after [] xs
 
 -- ---- what a file writes
 
-abbrev pub returned_as : List ℕ → ℕ → SentEntry → Event → Option ReturnedRow
-returned_as holidays d e (Returned reference index code information) = Some (record {
+abbrev pub returned_row_of : List ℕ → ℕ → SentEntry → Event → Option ReturnedRow
+returned_row_of holidays d e (Returned reference index code information) = Some (record {
   company = e.company;
   row = record { code = code; day = d; index = index; info = information; late = is_late code e.settled d holidays; reference = reference };
 })
-returned_as holidays d e _ = None
+returned_row_of holidays d e _ = None
 
-abbrev pub returned_row : List ℕ → ℕ → Result Resolved Why → Option ReturnedRow
-returned_row holidays d (Ok x) = returned_as holidays d x.entry x.event
+abbrev pub returned_row : List ℕ → ℕ → Result ResolvedItem SuspenseReason → Option ReturnedRow
+returned_row holidays d (Ok x) = returned_row_of holidays d x.entry x.event
 returned_row holidays d (Err why) = None
 
-abbrev pub changed_as : ℕ → SentEntry → Event → Option ChangedRow
-changed_as d e (Changed reference index code text) = Some (record {
+abbrev pub changed_row_of : ℕ → SentEntry → Event → Option ChangedRow
+changed_row_of d e (Changed reference index code text) = Some (record {
   company = e.company;
   row = record { code = code; day = d; index = index; reference = reference; text = text };
 })
-changed_as d e _ = None
+changed_row_of d e _ = None
 
-abbrev pub changed_row : ℕ → Result Resolved Why → Option ChangedRow
-changed_row d (Ok x) = changed_as d x.entry x.event
+abbrev pub changed_row : ℕ → Result ResolvedItem SuspenseReason → Option ChangedRow
+changed_row d (Ok x) = changed_row_of d x.entry x.event
 changed_row d (Err why) = None
 
 -- what an intake reads of the book, its day, and its file
@@ -125,19 +116,19 @@ pub record IntakeFacts : Type 0 where
   pub key : List ℕ
   pub digest : List ℕ
   -- each item with what its trace names
-  pub items : List (ItemFacts × Option Named)
+  pub items : List (ItemFacts × Option NamedEntry)
 
 abbrev pub counts : IntakeFacts → Intake
-counts x = intake_of x.holidays x.day (outcomes x.items)
+counts x = intake_of x.holidays x.day (resolutions x.items)
 
 abbrev pub intake_write : IntakeFacts → IntakeWrite
 intake_write x =
     let items = map (λ y. y.0) x.items in
     record {
-      returned = filter_map (returned_row x.holidays x.day) (outcomes x.items);
-      changed = filter_map (changed_row x.day) (outcomes x.items);
-      suspense = filter_map (λ y. suspended x.key x.day y.0 y.1.0 y.1.1) (enumerate_from 1 (zip items (outcomes x.items)));
-      postings = pairs (flat_map (λ y. item_line x.day y.0 y.1) (zip items (outcomes x.items)));
+      returned = filter_map (returned_row x.holidays x.day) (resolutions x.items);
+      changed = filter_map (changed_row x.day) (resolutions x.items);
+      suspense = filter_map (λ y. suspense_row x.key x.day y.0 y.1.0 y.1.1) (enumerate_from 1 (zip items (resolutions x.items)));
+      postings = pairs (flat_map (λ y. item_line x.day y.0 y.1) (zip items (resolutions x.items)));
       file = record { key = x.key; digest = x.digest; answer = counts x };
     }
 
@@ -149,14 +140,14 @@ intake_facts b d f = record {
   holidays = b.holidays;
   key = f.key;
   digest = f.digest;
-  items = map (λ item. (item, named_on b item)) f.items;
+  items = map (λ item. (item, named_entry_on b item)) f.items;
 }
 
 -- what is done with a file: it is taken as a new one, answered as the first time, or refused
 pub data Taking : Type 0 where
   New : IntakeFacts → Taking
   Again : Intake → Taking
-  Refused : Refusal → Taking
+  Refused : CallRefusal → Taking
 
 abbrev pub taking_known : List ℕ → TakenFile → Taking
 taking_known digest t = if bytes_eq t.digest digest then Again t.answer else Refused (Rule FileKeyReused)

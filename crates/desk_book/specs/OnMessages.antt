@@ -2,11 +2,11 @@
 use Rattle.std.specs.Prelude.{◌≡◌, ℕ, List, ◌∷◌}
 use Rattle.desk_history.specs.declared.answer.Answer.{Answer}
 use Rattle.desk_history.specs.declared.identity.Identity.{Identity}
-use Rattle.desk_history.specs.Book.{Book, book_of}
+use Rattle.desk_book.specs.Book.{Book, book_of}
 use Rattle.desk_history.specs.Message.{Message, Of, SetDay, SetHolidays, PutCompany, PutLimits, Cut, TakeFile, FileText, Settlement, Suspense, Pair}
-use Rattle.desk_history.specs.Operator.{answered, next, IsHistory}
+use Rattle.desk_history.specs.Operator.{answer_to, next_pair, IsHistory}
 use Rattle.desk_book.specs.OnBook.{reply_on}
-use Rattle.desk_book.specs.BookLaws.{row_asked, with_new}
+use Rattle.desk_book.specs.Requests.{added_row, with_added_row}
 use Rattle.desk_book.specs.OnOperator.{day_answer, day_after, holidays_answer, holidays_after, company_answer, company_after, limits_answer, limits_after, file_answer, settlement_answer, suspense_answer}
 use Rattle.desk_book.specs.OnCut.{cut_answer_on, cut_after}
 use Rattle.desk_book.specs.OnIntake.{file_answer_on, file_after}
@@ -24,7 +24,7 @@ answer_on b Settlement = settlement_answer b
 answer_on b Suspense = suspense_answer b
 
 abbrev pub after_on : Book → Message → Book
-after_on b (Of c r) = with_new c (row_asked b c r) b
+after_on b (Of c r) = with_added_row c (added_row b c r) b
 after_on b (SetDay text) = day_after text b
 after_on b (SetHolidays days) = holidays_after days b
 after_on b (PutCompany d) = company_after d b
@@ -35,9 +35,9 @@ after_on b (FileText d modifier) = b
 after_on b Settlement = b
 after_on b Suspense = b
 
--- the book tells each answer, and the book behind each message
+-- the book tells each answer, and the book after each message
 pub record BookTells : Type 0 where
   pub answers : (identity : Identity) (key : List ℕ) (H : List Pair) (m : Message) → IsHistory identity H
-      → answered identity H m ≡ answer_on (book_of identity key H) m
+      → answer_to identity H m ≡ answer_on (book_of identity key H) m
   pub steps : (identity : Identity) (key : List ℕ) (H : List Pair) (m : Message) → IsHistory identity H
-      → book_of identity key (next identity H m ∷ H) ≡ after_on (book_of identity key H) m
+      → book_of identity key (next_pair identity H m ∷ H) ≡ after_on (book_of identity key H) m

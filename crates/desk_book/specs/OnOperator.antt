@@ -4,26 +4,26 @@ use Rattle.bank_days.specs.Calendar.{is_banking}
 use Rattle.bank_days.specs.declared.calendar_fault.CalendarFault.{CalendarFault}
 use Rattle.desk_accounts.specs.declared.account.Account.TheVariants as accounts
 use Rattle.desk_accounts.specs.Balance.{balance, day_sums}
-use Rattle.desk_rules.specs.declared.company.Company.{Company}
-use Rattle.desk_rules.specs.declared.company.Limits.{Limits}
-use Rattle.desk_rules.specs.declared.draft.CompanyDraft.{CompanyDraft}
-use Rattle.desk_rules.specs.declared.draft.LimitsDraft.{LimitsDraft}
-use Rattle.desk_rules.specs.declared.refusal.Refusal as rules
-use Rattle.desk_rules.specs.declared.refusal.Refusal.TheVariants.{NoDay, DayNotLater, NotBankingDay, CompanyExists, NoCompany}
+use Rattle.desk_rules.specs.declared.bodies.company.Company.{Company}
+use Rattle.desk_rules.specs.declared.bodies.company.Limits.{Limits}
+use Rattle.desk_rules.specs.declared.bodies.draft.CompanyDraft.{CompanyDraft}
+use Rattle.desk_rules.specs.declared.bodies.draft.LimitsDraft.{LimitsDraft}
+use Rattle.desk_rules.specs.declared.refusals.refusal.Refusal as rules
+use Rattle.desk_rules.specs.declared.refusals.refusal.Refusal.TheVariants.{NoDay, DayNotLater, NotBankingDay, CompanyExists, NoCompany}
 use Rattle.desk_rules.specs.Chain.{◌>>=◌}
 use Rattle.desk_rules.specs.Operator.{company_of, new_limits_of, desk_day_in}
 use Rattle.desk_history.specs.declared.answer.Answer.{Answer}
 use Rattle.desk_history.specs.declared.answer.Answer.TheVariants as answers
-use Rattle.desk_history.specs.declared.answer.Done.{Done}
-use Rattle.desk_history.specs.declared.answer.Done.TheVariants as done
+use Rattle.desk_history.specs.declared.answer.Outcome.{Outcome}
+use Rattle.desk_history.specs.declared.answer.Outcome.TheVariants as done
 use Rattle.desk_history.specs.declared.operations.Settlement.{Settlement}
-use Rattle.desk_history.specs.Book.{Book}
+use Rattle.desk_book.specs.Book.{Book}
 use Rattle.desk_history.specs.Operator.{has_id, is_later, set_holidays}
 use Rattle.desk_history.specs.Postings.{day_sum}
 use Rattle.desk_history.specs.Reply.{answer_of}
 use Rattle.desk_history.specs.Words.{some_or, holds_or}
-use Rattle.desk_store.specs.Steps as steps
-use Rattle.desk_store.specs.Steps.{Step}
+use Rattle.desk_book.specs.Steps as steps
+use Rattle.desk_book.specs.Steps.{Step}
 
 -- ---- what a command sets, or why it is refused
 
@@ -50,7 +50,7 @@ new_limits ks d = do
   Ok x
 
 -- the answer to a command that sets this
-abbrev pub done_as : {A : Type 0} → (A → Done) → Result A rules.Refusal → Answer
+abbrev pub done_as : {A : Type 0} → (A → Outcome) → Result A rules.Refusal → Answer
 done_as value (Ok x) = answers.Done (value x)
 done_as value (Err why) = answer_of (Err why)
 

@@ -1,13 +1,15 @@
-//! Laws of the book.
+//! The laws of the book stand here.
 ghost use Rattle.desk_book.specs.BookLaws.{TellsReplies, StepsOfMessages};
 ghost use Rattle.desk_book.specs.OperatorLaws.{StepsOfOperator, TellsOperator};
+
+use crate::row_laws::{row_steps, verdicts_on_rows};
 
 /// What a company is answered, and what its requests are judged by, can be told from the book of the
 /// desk alone.
 pub fn tells_replies()
     ensures { TellsReplies }
 {
-    desk_history::verdicts_on_rows();
+    verdicts_on_rows();
     desk_history::company_lines();
 }
 
@@ -17,11 +19,11 @@ pub fn tells_replies()
 pub fn steps_of_messages()
     ensures { StepsOfMessages }
 {
-    desk_history::row_steps();
+    row_steps();
 }
 
-/// What the operator is answered can be told from the book of the desk alone, but what a cut or a file
-/// comes to.
+/// What the operator is answered can be told from the book of the desk alone; of a cut and of an
+/// incoming file other laws say so.
 pub fn tells_operator()
     ensures { TellsOperator }
 {}

@@ -1,15 +1,28 @@
-//! What the book of a desk tells: every answer, and what each message makes of the book.
+//! This crate has the book of a desk: its rows, its reads and its steps. The book tells every
+//! answer, and what each message makes of the book.
 //!
 //! The answers of a desk are defined over its history. A desk keeps a book and no history, so each
-//! definition is given here once more, over the book, and the laws say that both come to the same.
+//! definition is given here once more, over the book, and the laws say that both give the same.
 #![tactic(auto)]
 
 mod book_laws;
+mod caller;
 mod cut_laws;
+mod flat_rows;
+mod held_submission;
 mod intake_laws;
 mod message_laws;
+mod returns_and_changes;
+mod row;
+mod row_laws;
 
 pub use book_laws::{steps_of_messages, steps_of_operator, tells_operator, tells_replies};
+pub use caller::Caller;
 pub use cut_laws::tells_cut;
+pub use flat_rows::{ChangedRow, FileRow, LapsedRow, ReturnedRow, SentRow};
+pub use held_submission::HeldSubmission;
 pub use intake_laws::tells_intake;
 pub use message_laws::book_tells;
+pub use returns_and_changes::ReturnsAndChanges;
+pub use row::Row;
+pub use row_laws::{row_steps, rows_of_part, verdicts_on_rows};

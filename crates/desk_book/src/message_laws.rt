@@ -1,7 +1,7 @@
-//! All messages.
+//! The law of all messages stands here.
 ghost use Rattle.desk_book.specs.OnMessages.{BookTells};
 
-/// The answer to every message, and the book behind it, can be told from the book of the desk alone:
+/// The answer to every message, and the book after it, can be told from the book of the desk alone:
 /// for each history, what the book gives is what the history gives.
 pub fn book_tells()
     ensures { BookTells }

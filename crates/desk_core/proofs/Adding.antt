@@ -2,27 +2,27 @@
 use Rattle.std.proofs.Common.{◌≡◌, ℕ, List, refl, sym, ap, subst, ◌∙◌, inl, inr}
 use Rattle.std.specs.Prelude.{Option, Some, None, option_map, Result, Ok, Err}
 use Rattle.desk_history.specs.declared.answer.Answer.{Answer}
-use Rattle.desk_history.specs.declared.row.Row.{Row}
-use Rattle.desk_history.specs.Book.{Book}
+use Rattle.desk_book.specs.declared.row.Row.{Row}
+use Rattle.desk_book.specs.Book.{Book}
 use Rattle.desk_history.specs.Request.{Request}
 use Rattle.desk_store.specs.declared.store.StoreFault.{StoreFault}
-use Rattle.desk_core.specs.declared.verdict.Verdict.{Verdict}
+use Rattle.desk_core.specs.declared.company.verdict.Verdict.{Verdict}
 use Rattle.desk_core.specs.Answering.{Answers, LeavesCall}
-use Rattle.desk_book.specs.BookLaws.{row_asked, with_new}
+use Rattle.desk_book.specs.Requests.{added_row, with_added_row}
 use Rattle.desk_book.specs.OnBook.{reply_on}
-use Rattle.desk_core.specs.Verdicts.{added_of, verdict_on, with_added, IsNextOf, Adds, LeavesAdded}
+use Rattle.desk_core.specs.Verdicts.{row_to_add, verdict_on, with_added, IsNextOf, Adds, LeavesAdded}
 
 -- what is added is the company's next row, and makes of the book what the request does
-added : (c : List ℕ) (r : Request) (b : Book) (v : Verdict) → v ≡ verdict_on b c r → IsNextOf c v.added b × (with_added c v.added b ≡ with_new c (row_asked b c r) b)
-added c r b v is = subst (λ (x : Verdict). IsNextOf c x.added b × (with_added c x.added b ≡ with_new c (row_asked b c r) b)) (sym is) (by (row_asked b c r)) where
-  by : (o : Option Row) → IsNextOf c (option_map (added_of (b.rows c)) o) b × (with_added c (option_map (added_of (b.rows c)) o) b ≡ with_new c o b)
+added : (c : List ℕ) (r : Request) (b : Book) (v : Verdict) → v ≡ verdict_on b c r → IsNextOf c v.added b × (with_added c v.added b ≡ with_added_row c (added_row b c r) b)
+added c r b v is = subst (λ (x : Verdict). IsNextOf c x.added b × (with_added c x.added b ≡ with_added_row c (added_row b c r) b)) (sym is) (by (added_row b c r)) where
+  by : (o : Option Row) → IsNextOf c (option_map (row_to_add (b.rows c)) o) b × (with_added c (option_map (row_to_add (b.rows c)) o) b ≡ with_added_row c o b)
   by None = (tt, refl)
   by (Some row) = (refl, refl)
 
 pub answers_added : (c : List ℕ) (r : Request) (come_to : Book → Verdict) → ((b : Book) → come_to b ≡ verdict_on b c r)
     → (old mid new : Book → Type 0) (v : Verdict) (result : Result Answer StoreFault)
     → ((b : Book) → old b → (v ≡ come_to b) × mid b) → Adds mid result c v new
-    → Answers old result (λ b. reply_on b c r) (λ b. with_new c (row_asked b c r) b) new
+    → Answers old result (λ b. reply_on b c r) (λ b. with_added_row c (added_row b c r) b) new
 answers_added c r come_to told old mid new v (Ok a) reads adds = λ b held.
     let read = reads b held in
     let is : v ≡ verdict_on b c r = read.0 ∙ told b in
@@ -35,7 +35,7 @@ pub leaves_added : (c : List ℕ) (r : Request) (come_to : Book → Verdict) →
     → (old mid left_old left_mid left_new : Book → Type 0) (v : Verdict) (result : Result Answer StoreFault)
     → ((b : Book) → old b → (v ≡ come_to b) × mid b) → ((b : Book) → left_mid b → left_old b)
     → LeavesAdded mid left_mid result c v left_new
-    → LeavesCall old left_old result (λ b. with_new c (row_asked b c r) b) left_new
+    → LeavesCall old left_old result (λ b. with_added_row c (added_row b c r) b) left_new
 leaves_added c r come_to told old mid left_old left_mid left_new v (Ok a) reads left adds = λ b found held leaves.
     let read = reads b held in
     let more = added c r b v (read.0 ∙ told b) in

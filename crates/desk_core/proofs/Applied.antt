@@ -1,10 +1,10 @@
--- What a call comes to by the book is what it comes to by the history.
+-- The outcome of a call by the book is its outcome by the history.
 use Rattle.std.proofs.Common.{◌∙◌, sym, ℕ, List, inl, inr}
 use Rattle.std.specs.Prelude.{Result, Ok, Err}
 use Rattle.desk_history.specs.declared.answer.Answer.{Answer}
 use Rattle.desk_history.specs.declared.call.Call.{Call}
 use Rattle.desk_history.specs.declared.identity.Identity.{Identity}
-use Rattle.desk_history.specs.Book.{Book, book_of}
+use Rattle.desk_book.specs.Book.{Book, book_of}
 use Rattle.desk_history.specs.Message.{Message, Of, Pair}
 use Rattle.desk_history.specs.Request.{Request}
 use Rattle.desk_store.specs.declared.store.StoreFault.{StoreFault}

@@ -1,77 +1,77 @@
 -- The plan of a cut, as it was asked for.
 use Rattle.std.proofs.Common.{◌≡◌, ◌∙◌, ap, sym, subst, refl, ℕ, ◌+◌, List, map, length, Bool, true, false}
 use Rattle.std.specs.Prelude.{nat_le, Option, Result, Ok, Err}
-use Rattle.desk_plan.specs.Places.{most_files}
+use Rattle.desk_plan.specs.Modifiers.{most_files}
 use Rattle.desk_plan.specs.Reuse.{may_send}
 use Rattle.desk_plan.specs.Sequences.{ranges}
-use Rattle.desk_rules.specs.declared.refusal.Refusal.{Refusal}
-use Rattle.desk_rules.specs.declared.refusal.Refusal.TheVariants.{TracesSpent, ModifiersSpent}
+use Rattle.desk_rules.specs.declared.refusals.refusal.Refusal.{Refusal}
+use Rattle.desk_rules.specs.declared.refusals.refusal.Refusal.TheVariants.{TracesSpent, ModifiersSpent}
 use Rattle.desk_rules.specs.Chain.{◌>>=◌}
-use Rattle.desk_history.specs.Book.{Book}
-use Rattle.desk_history.specs.Sending.{plan_of, sent_as}
+use Rattle.desk_book.specs.Book.{Book}
+use Rattle.desk_history.specs.Sendings.{plan_of, sent_sequence}
 use Rattle.desk_history.specs.Words.{holds_or}
-use Rattle.desk_book.specs.OnCut.{CutFacts, sends, files, cut_facts}
+use Rattle.desk_book.specs.OnCut.{CutFacts, cut_sendings, files, cut_facts, cut_on_day}
 use Rattle.desk_cut.specs.declared.plan.CutPlan.{CutPlan}
 use Rattle.desk_cut.specs.declared.fault.CutFault.{CutFault}
 use Rattle.desk_cut.specs.declared.fault.CutFault.TheVariants as faults
 use Rattle.desk_cut.specs.Plan.{IsPlan, MayTake, Plans, has_modifiers}
-use Rattle.desk_core.specs.Cutting.{latest_of, cut_on_day, IsPlanned, refusal_of}
+use Rattle.desk_core.specs.Cutting.{latest_of, IsPlanned, refusal_of}
 
 -- ---- a cut on a day
 
 abbrev after_traces : Book → ℕ → Bool → Result CutFacts Refusal
-after_traces b d may = holds_or TracesSpent may >>= (λ _. holds_or ModifiersSpent (nat_le (b.files_on d + length (files (cut_facts b d))) most_files) >>= (λ _. Ok (cut_facts b d)))
+after_traces b d may = (holds_or TracesSpent may >>= (λ _. holds_or ModifiersSpent (nat_le (b.files_on d + length (files (cut_facts b d))) most_files))) >>= (λ _. Ok (cut_facts b d))
 
 abbrev after_modifiers : Book → ℕ → Bool → Result CutFacts Refusal
 after_modifiers b d has = holds_or ModifiersSpent has >>= (λ _. Ok (cut_facts b d))
 
-traces_spent : (b : Book) (d : ℕ) → may_send d (map sent_as b.sent) (map plan_of (sends (cut_facts b d))) ≡ false → cut_on_day d b ≡ Err TracesSpent
+traces_spent : (b : Book) (d : ℕ) → may_send d (map sent_sequence b.sent) (map plan_of (cut_sendings (cut_facts b d))) ≡ false → cut_on_day b d ≡ Err TracesSpent
 traces_spent b d may = ap (after_traces b d) may
 
-modifiers_spent : (b : Book) (d : ℕ) → may_send d (map sent_as b.sent) (map plan_of (sends (cut_facts b d))) ≡ true → has_modifiers (cut_facts b d) ≡ false → cut_on_day d b ≡ Err ModifiersSpent
+modifiers_spent : (b : Book) (d : ℕ) → may_send d (map sent_sequence b.sent) (map plan_of (cut_sendings (cut_facts b d))) ≡ true → has_modifiers (cut_facts b d) ≡ false → cut_on_day b d ≡ Err ModifiersSpent
 modifiers_spent b d may has = ap (after_traces b d) may ∙ ap (after_modifiers b d) has
 
-made : (b : Book) (d : ℕ) → may_send d (map sent_as b.sent) (map plan_of (sends (cut_facts b d))) ≡ true → has_modifiers (cut_facts b d) ≡ true → cut_on_day d b ≡ Ok (cut_facts b d)
+made : (b : Book) (d : ℕ) → may_send d (map sent_sequence b.sent) (map plan_of (cut_sendings (cut_facts b d))) ≡ true → has_modifiers (cut_facts b d) ≡ true → cut_on_day b d ≡ Ok (cut_facts b d)
 made b d may has = ap (after_traces b d) may ∙ ap (after_modifiers b d) has
 
 -- ---- what was planned for facts that are the book's
 
 abbrev IsTakenAs : CutFacts → List (ℕ × ℕ) → Type 0
-IsTakenAs x rs = rs ≡ ranges x.last (map (λ y. y.entries) (map plan_of (sends x)))
+IsTakenAs x rs = rs ≡ ranges x.last (map (λ y. y.entries) (map plan_of (cut_sendings x)))
 
 may_take : (b : Book) (x : CutFacts) (rs : List (ℕ × ℕ)) (latest : List (Option ℕ)) (may : Bool) → x ≡ cut_facts b x.day → IsTakenAs x rs → latest ≡ latest_of rs b
-    → MayTake x latest may → may_send x.day (map sent_as b.sent) (map plan_of (sends (cut_facts b x.day))) ≡ may
+    → MayTake x latest may → may_send x.day (map sent_sequence b.sent) (map plan_of (cut_sendings (cut_facts b x.day))) ≡ may
 may_take b x rs latest may is taken settled takes =
-    ap (λ (y : CutFacts). may_send x.day (map sent_as b.sent) (map plan_of (sends y))) (sym is)
-    ∙ takes (map sent_as b.sent) (record {
+    ap (λ (y : CutFacts). may_send x.day (map sent_sequence b.sent) (map plan_of (cut_sendings y))) (sym is)
+    ∙ takes (map sent_sequence b.sent) (record {
       last = sym (ap (λ (y : CutFacts). y.last) is);
       settled = settled ∙ ap (λ (rs : List (ℕ × ℕ)). latest_of rs b)
-          (taken ∙ ap (λ last. ranges last (map (λ y. y.entries) (map plan_of (sends x)))) (ap (λ (y : CutFacts). y.last) is));
+          (taken ∙ ap (λ last. ranges last (map (λ y. y.entries) (map plan_of (cut_sendings x)))) (ap (λ (y : CutFacts). y.last) is));
     })
 
 pub planned_cut : (b : Book) (x : CutFacts) (rs : List (ℕ × ℕ)) (latest : List (Option ℕ)) (p : CutPlan) → x ≡ cut_facts b x.day → IsTakenAs x rs → latest ≡ latest_of rs b
-    → MayTake x latest true × (has_modifiers x ≡ true) × IsPlan x p → IsPlanned (Ok p) (cut_on_day x.day b)
+    → MayTake x latest true × (has_modifiers x ≡ true) × IsPlan x p → IsPlanned (Ok p) (cut_on_day b x.day)
 planned_cut b x rs latest p is taken settled plans =
     subst (IsPlanned (Ok p)) (sym (made b x.day (may_take b x rs latest true is taken settled plans.0) (ap has_modifiers (sym is) ∙ plans.1)))
     (subst (λ (y : CutFacts). IsPlan y p) is plans.2)
 
 planned_without_traces : (b : Book) (x : CutFacts) (rs : List (ℕ × ℕ)) (latest : List (Option ℕ)) → x ≡ cut_facts b x.day → IsTakenAs x rs → latest ≡ latest_of rs b
-    → MayTake x latest false → IsPlanned (Err TracesSpent) (cut_on_day x.day b)
+    → MayTake x latest false → IsPlanned (Err TracesSpent) (cut_on_day b x.day)
 planned_without_traces b x rs latest is taken settled takes =
     subst (IsPlanned (Err TracesSpent)) (sym (traces_spent b x.day (may_take b x rs latest false is taken settled takes))) refl
 
 planned_without_modifiers : (b : Book) (x : CutFacts) (rs : List (ℕ × ℕ)) (latest : List (Option ℕ)) → x ≡ cut_facts b x.day → IsTakenAs x rs → latest ≡ latest_of rs b
-    → MayTake x latest true × (has_modifiers x ≡ false) → IsPlanned (Err ModifiersSpent) (cut_on_day x.day b)
+    → MayTake x latest true × (has_modifiers x ≡ false) → IsPlanned (Err ModifiersSpent) (cut_on_day b x.day)
 planned_without_modifiers b x rs latest is taken settled plans =
     subst (IsPlanned (Err ModifiersSpent)) (sym (modifiers_spent b x.day (may_take b x rs latest true is taken settled plans.0) (ap has_modifiers (sym is) ∙ plans.1))) refl
 
 pub planned_refused : (b : Book) (x : CutFacts) (rs : List (ℕ × ℕ)) (latest : List (Option ℕ)) (fault : CutFault) (why : Refusal) → x ≡ cut_facts b x.day → IsTakenAs x rs → latest ≡ latest_of rs b
-    → Plans x latest (Err fault) → refusal_of fault ≡ Ok why → IsPlanned (Err why) (cut_on_day x.day b)
+    → Plans x latest (Err fault) → refusal_of fault ≡ Ok why → IsPlanned (Err why) (cut_on_day b x.day)
 planned_refused b x rs latest faults.TracesSpent why is taken settled plans refuses =
     let same : TracesSpent ≡ why = cc in
-    subst (λ why. IsPlanned (Err why) (cut_on_day x.day b)) same (planned_without_traces b x rs latest is taken settled plans)
+    subst (λ why. IsPlanned (Err why) (cut_on_day b x.day)) same (planned_without_traces b x rs latest is taken settled plans)
 planned_refused b x rs latest faults.ModifiersSpent why is taken settled plans refuses =
     let same : ModifiersSpent ≡ why = cc in
-    subst (λ why. IsPlanned (Err why) (cut_on_day x.day b)) same (planned_without_modifiers b x rs latest is taken settled plans)
+    subst (λ why. IsPlanned (Err why) (cut_on_day b x.day)) same (planned_without_modifiers b x rs latest is taken settled plans)
 planned_refused b x rs latest faults.Unprintable why is taken settled plans refuses = cc
 planned_refused b x rs latest faults.NoMemory why is taken settled plans refuses = cc

@@ -10,7 +10,7 @@ use Rattle.ach_fields.specs.Characters.{is_digit}
 use Rattle.ach_fields.specs.Routing.{dfi_of}
 use Rattle.ach_fields.specs.Trace.{is_trace, trace_in, trace_text}
 use Rattle.ach_fields.proofs.Traces.{trace_text-is_trace}
-use Rattle.desk_history.specs.declared.row.SentEntry.{SentEntry}
+use Rattle.desk_history.specs.declared.sent_entry.SentEntry.{SentEntry}
 use Rattle.desk_history.specs.Resolve.{has_trace}
 
 trace_again : (s : List ℕ) → is_trace s ≡ true → trace_in s ≡ Ok s

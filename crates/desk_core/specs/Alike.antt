@@ -4,14 +4,14 @@ use Rattle.desk_history.specs.declared.answer.Answer.{Answer}
 use Rattle.desk_history.specs.declared.call.Call.{Call}
 use Rattle.desk_history.specs.declared.identity.Identity.{Identity}
 use Rattle.desk_history.specs.Alone.{alone, is_answer}
-use Rattle.desk_history.specs.Book.{Book}
-use Rattle.desk_history.specs.History.{part, sent}
+use Rattle.desk_book.specs.Book.{Book}
+use Rattle.desk_history.specs.History.{part, sent_entries}
 use Rattle.desk_history.specs.Message.{Message, Of, Pair}
 use Rattle.desk_history.specs.Request.{Request}
 use Rattle.desk_store.specs.declared.store.StoreFault.{StoreFault}
 use Rattle.desk_core.specs.Applying.{IsAsked, Goes}
 
--- A call was made of a desk whose store holds the book of this history, and this came of it.
+-- A call was made of a desk whose store holds the book of this history, and this is its outcome.
 pub record IsCalled {S : Type 0} (holds : S → Book → Type 0) (call : Call) (identity : Identity) (key : List ℕ) (H : List Pair) (m : Message) (result : Result Answer StoreFault) : Type 0 where
   pub before : S
   pub after : S
@@ -37,4 +37,4 @@ abbrev pub DeskAlone : {S T : Type 0} → (S → Book → Type 0) → (T → Boo
 DeskAlone here there =
     (call other : Call) (identity : Identity) (key second_key : List ℕ) (H : List Pair) (c : List ℕ) (r : Request) (a b : Result Answer StoreFault)
     → IsCalled here call identity key H (Of c r) a → IsCalled there other identity second_key (alone identity c H) (Of c r) b
-    → length (sent identity.odfi H) ≤ 9_999_999 → count_by is_answer (part identity.odfi H c) < 10 ^ 21 → AreAlike a b
+    → length (sent_entries identity.odfi H) ≤ 9_999_999 → count_by is_answer (part identity.odfi H c) < 10 ^ 21 → AreAlike a b

@@ -1,10 +1,10 @@
 -- What a call that answers from a store says.
 use Rattle.std.specs.Prelude.{◌≡◌, ◌⊎◌, ◌↔◌, ℕ, Bool, IsTrue, List, Some, Result, Ok, Err}
 use Rattle.desk_history.specs.declared.answer.Answer.{Answer}
-use Rattle.desk_history.specs.Book.{Book}
-use Rattle.desk_store.specs.declared.store.Caller.{Caller}
+use Rattle.desk_book.specs.Book.{Book}
+use Rattle.desk_book.specs.declared.caller.Caller.{Caller}
 use Rattle.desk_store.specs.declared.store.StoreFault.{StoreFault}
-use Rattle.desk_store.specs.Reads.{key_of}
+use Rattle.desk_book.specs.Reads.{key_of}
 
 -- The answer is this one of the book, and the store then holds that book; or the store could not act,
 -- and holds the same one.

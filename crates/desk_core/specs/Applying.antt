@@ -1,12 +1,12 @@
--- What a call of the desk comes to.
+-- The outcome of a call of the desk.
 use Rattle.std.specs.Prelude.{◌≡◌, ◌⊎◌, ℕ, List, ◌∷◌, Result, Ok, Err}
 use Rattle.desk_history.specs.declared.answer.Answer.{Answer}
 use Rattle.desk_history.specs.declared.call.Call.{Call}
 use Rattle.desk_history.specs.declared.identity.Identity.{Identity}
-use Rattle.desk_history.specs.Book.{Book, book_of}
+use Rattle.desk_book.specs.Book.{Book, book_of}
 use Rattle.desk_history.specs.Calls.{IsMessageOf}
 use Rattle.desk_history.specs.Message.{Message, Of, Pair}
-use Rattle.desk_history.specs.Operator.{answered, next, IsHistory}
+use Rattle.desk_history.specs.Operator.{answer_to, next_pair, IsHistory}
 use Rattle.desk_history.specs.Reply.{reply}
 use Rattle.desk_history.specs.History.{part}
 use Rattle.desk_history.specs.Request.{Request}
@@ -16,7 +16,7 @@ use Rattle.desk_core.specs.Answering.{Answers, LeavesCall}
 
 -- ---- by the book
 
--- the answer is that of the book to the call's message, and the store then holds the book behind it
+-- the answer is that of the book to the call's message, and the store then holds the book after it
 abbrev pub AnswersCall : (Book → Type 0) → Call → Result Answer StoreFault → (Book → Type 0) → Type 0
 AnswersCall old call result new = (m : Message) → IsMessageOf call m → Answers old result (λ b. answer_on b m) (λ b. after_on b m) new
 
@@ -32,11 +32,11 @@ pub record IsAsked (holds : Book → Type 0) (call : Call) (identity : Identity)
   pub message : IsMessageOf call m
 
 -- the book of the history with the message and its answer
-abbrev pub book_behind : Identity → List ℕ → List Pair → Message → Book
-book_behind identity key H m = book_of identity key (next identity H m ∷ H)
+abbrev pub book_after : Identity → List ℕ → List Pair → Message → Book
+book_after identity key H m = book_of identity key (next_pair identity H m ∷ H)
 
 abbrev pub GoesOn : Identity → List ℕ → List Pair → Message → Result Answer StoreFault → (Book → Type 0) → Type 0
-GoesOn identity key H m (Ok a) new = (a ≡ answered identity H m) × new (book_behind identity key H m)
+GoesOn identity key H m (Ok a) new = (a ≡ answer_to identity H m) × new (book_after identity key H m)
 GoesOn identity key H m (Err fault) new = new (book_of identity key H)
 
 -- For every history that the store's book stands for: the answer is that of the definitions, and the
@@ -53,8 +53,8 @@ abbrev pub Replies : (Book → Type 0) → Call → Result Answer StoreFault →
 Replies old call result = (identity : Identity) (key : List ℕ) (H : List Pair) (c : List ℕ) (r : Request) → IsAsked old call identity key H (Of c r) → IsOwnReply identity H c r result
 
 abbrev pub LeavesOn : (Book → Type 0) → Identity → List ℕ → List Pair → Message → Result Answer StoreFault → Book → Type 0
-LeavesOn old identity key H m (Ok a) found = (old found × (book_behind identity key H m ≡ book_of identity key H)) ⊎ (found ≡ book_behind identity key H m)
-LeavesOn old identity key H m (Err fault) found = old found ⊎ (found ≡ book_behind identity key H m)
+LeavesOn old identity key H m (Ok a) found = (old found × (book_after identity key H m ≡ book_of identity key H)) ⊎ (found ≡ book_after identity key H m)
+LeavesOn old identity key H m (Err fault) found = old found ⊎ (found ≡ book_after identity key H m)
 
 -- A crash after the call leaves what it could leave before, or the book of the history with this pair;
 -- where the call changed the book, the latter alone.

@@ -1,22 +1,17 @@
--- What the desk reads for a cut, and what comes of it.
-use Rattle.std.specs.Prelude.{◌≡◌, ℕ, ◌+◌, nat_le, List, map, length, Option, Result, Ok, Err}
-use Rattle.desk_plan.specs.Places.{most_files}
-use Rattle.desk_plan.specs.Reuse.{may_send}
-use Rattle.desk_rules.specs.declared.refusal.Refusal.{Refusal}
-use Rattle.desk_rules.specs.declared.refusal.Refusal.TheVariants.{TracesSpent, ModifiersSpent}
-use Rattle.desk_rules.specs.Chain.{◌>>=◌}
-use Rattle.desk_history.specs.Book.{Book}
-use Rattle.desk_history.specs.Sending.{plan_of, sent_as}
-use Rattle.desk_history.specs.Words.{holds_or}
+-- What the desk reads for a cut, and its outcome.
+use Rattle.std.specs.Prelude.{◌≡◌, ℕ, List, map, Option, Result, Ok, Err}
+use Rattle.desk_rules.specs.declared.refusals.refusal.Refusal.{Refusal}
+use Rattle.desk_rules.specs.declared.refusals.refusal.Refusal.TheVariants.{TracesSpent, ModifiersSpent}
+use Rattle.desk_book.specs.Book.{Book}
 use Rattle.desk_store.specs.declared.store.StoreFault.{StoreFault}
 use Rattle.desk_store.specs.declared.store.StoreFault.TheVariants.{Unavailable}
-use Rattle.desk_store.specs.Reads.{latest_settled}
-use Rattle.desk_book.specs.OnCut.{CutFacts, sends, files, cut_facts}
+use Rattle.desk_book.specs.Reads.{latest_settled}
+use Rattle.desk_book.specs.OnCut.{CutFacts, cut_facts, cut_on_day}
 use Rattle.desk_cut.specs.declared.fault.CutFault.{CutFault}
 use Rattle.desk_cut.specs.declared.fault.CutFault.TheVariants as faults
 use Rattle.desk_cut.specs.declared.plan.CutPlan.{CutPlan}
 use Rattle.desk_cut.specs.Plan.{IsPlan}
-use Rattle.desk_core.specs.declared.cutting.CutReads.{CutReads}
+use Rattle.desk_core.specs.declared.operator.cut.CutReads.{CutReads}
 
 abbrev pub facts_in : CutReads → CutFacts
 facts_in x = record { identity = x.identity; day = x.day; holidays = x.holidays; last = x.last; made = x.made; waiting = x.waiting.items }
@@ -24,13 +19,6 @@ facts_in x = record { identity = x.identity; day = x.day; holidays = x.holidays;
 -- for each range of sequences, the latest day on which a youngest entry with one of them settled
 abbrev pub latest_of : List (ℕ × ℕ) → Book → List (Option ℕ)
 latest_of ranges b = map (λ r. latest_settled r.0 r.1 b) ranges
-
--- the facts of a cut that is made on a day, or its first refusal
-abbrev pub cut_on_day : ℕ → Book → Result CutFacts Refusal
-cut_on_day d b = do
-  _ ← holds_or TracesSpent (may_send d (map sent_as b.sent) (map plan_of (sends (cut_facts b d))))
-  _ ← holds_or ModifiersSpent (nat_le (b.files_on d + length (files (cut_facts b d))) most_files)
-  Ok (cut_facts b d)
 
 -- the plan of the cut that is made, or its refusal
 abbrev pub IsPlanned : Result CutPlan Refusal → Result CutFacts Refusal → Type 0
@@ -40,10 +28,10 @@ IsPlanned _ _ = ⊥
 
 -- What was planned for these facts is the cut of each book that has them; or the store could not act.
 abbrev pub Plans : (Book → Type 0) → CutFacts → Result (Result CutPlan Refusal) StoreFault → (Book → Type 0) → Type 0
-Plans old x (Ok planned) new = (b : Book) → old b → x ≡ cut_facts b x.day → IsPlanned planned (cut_on_day x.day b) × new b
+Plans old x (Ok planned) new = (b : Book) → old b → x ≡ cut_facts b x.day → IsPlanned planned (cut_on_day b x.day) × new b
 Plans old x (Err fault) new = (b : Book) → old b → new b
 
--- why a cut is refused; what stands in no history, and want of memory, refuse nothing
+-- why a cut is refused; what stands in no history refuses nothing, nor does being out of memory
 abbrev pub refusal_of : CutFault → Result Refusal StoreFault
 refusal_of faults.TracesSpent = Ok TracesSpent
 refusal_of faults.ModifiersSpent = Ok ModifiersSpent

@@ -1,6 +1,6 @@
 -- What a call reads of the book, where contracts see it as another value.
 use Rattle.std.specs.Prelude.{◌≡◌, Result, Ok, Err}
-use Rattle.desk_history.specs.Book.{Book}
+use Rattle.desk_book.specs.Book.{Book}
 use Rattle.desk_store.specs.declared.store.StoreFault.{StoreFault}
 
 -- What was read is seen as this value of the book, or the store could not act; it holds the same book.

@@ -4,14 +4,15 @@ ghost use Rattle.desk_core.specs.Answering.{Allows};
 ghost use Rattle.desk_core.specs.Applying.{Goes, Replies, LeavesBook};
 ghost use Rattle.desk_core.specs.Running.{Runs};
 
-use crate::allowing::allow;
-use crate::applying::respond;
+use crate::allow::allow;
+use crate::respond::respond;
+use desk_book::Caller;
 use desk_history::{Answer, Call};
-use desk_store::{Caller, Store, StoreFault};
+use desk_store::{Store, StoreFault};
 use std::alloc::Global;
 use std::marker::Model;
 
-/// A desk, over its store. Clauses see the store.
+/// A `Desk` is a desk over its store. Clauses see the store.
 #[derive(Drop)]
 pub struct Desk<S> {
     store: S,
@@ -26,14 +27,14 @@ impl<S> Model for Desk<S> {
 }
 
 impl<S> Desk<S> {
-    /// The desk of a store.
+    /// Makes the desk of a store.
     pub fn new(store: S) -> Desk<S>
         ensures { result ≡ store }
     {
         Desk { store }
     }
 
-    /// Its store.
+    /// Gives its store.
     pub fn into_store(self) -> S
         ensures { result ≡ self }
     {
@@ -45,9 +46,9 @@ impl<S: Store> Desk<S> {
     /// Answers a call, with the one write that it makes. A refusal by a rule is an answer too, and
     /// writes nothing.
     ///
-    /// `Unavailable` where memory was refused or the store could not act: the store holds the book that
-    /// it held, and the call may be made again. The answer is made before the write, so that what was
-    /// written is answered.
+    /// It is `Unavailable` where the desk is out of memory or the store could not act: the store
+    /// holds the book that it held, and the call may be made again. The answer is made before the
+    /// write, so that what was written is answered.
     pub fn apply(&mut self, alloc: Global, call: Call) -> Result<Answer, StoreFault>
         ensures before { S.is_clean self.new → S.is_clean self.old }
         ensures goes { S.is_clean self.new → Goes (S.holds self.old) call result (S.holds self.new) }
@@ -58,8 +59,8 @@ impl<S: Store> Desk<S> {
         respond(&mut self.store, alloc, call)
     }
 
-    /// Answers calls in their order. `Unavailable` where memory was refused or the store could not act:
-    /// some of the first calls are then done, and their answers are lost.
+    /// Answers calls in their order. It is `Unavailable` where the desk is out of memory or the
+    /// store could not act: some of the first calls are then done, and their answers are lost.
     pub fn apply_all(&mut self, alloc: Global, calls: Vec<Call>) -> Result<Vec<Answer>, StoreFault>
         ensures before { S.is_clean self.new → S.is_clean self.old }
         ensures runs { S.is_clean self.new → Runs (S.holds self.old) calls.items result (S.holds self.new) }
@@ -73,7 +74,7 @@ impl<S: Store> Desk<S> {
     }
 
     /// Is this the digest of the caller's key? The operator has one, and each registered company.
-    /// `Unavailable` where the store could not act.
+    /// It is `Unavailable` where the store could not act.
     pub fn allow(
         &mut self,
         alloc: Global,

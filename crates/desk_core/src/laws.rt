@@ -1,4 +1,4 @@
-//! Laws of all desks.
+//! The laws of all desks stand here.
 ghost use Rattle.desk_core.specs.Alike.{TwoDesks, DeskAlone};
 
 use desk_store::Store;
@@ -11,10 +11,10 @@ pub fn two_desks<S: Store, T: Store>()
     desk_history::two_worlds();
 }
 
-/// A desk and one that serves the company alone give its call the same answer where both stores could
-/// act: one behind the history of `served_alone`, of the messages that gave the company its events. So it
-/// is where the whole desk sent at most 9,999,999 entries and the company had fewer than 10^21 returns and
-/// changes.
+/// A desk and one that serves the company alone give its call the same answer where both stores
+/// could act: the latter after the history of `served_alone`, of the messages that gave the company
+/// its events. So it is where the whole desk sent at most 9,999,999 entries and the company had
+/// fewer than 10^21 returns and changes.
 pub fn desk_alone<S: Store, T: Store>()
     ensures { DeskAlone S.holds T.holds }
 {

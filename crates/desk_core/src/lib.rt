@@ -1,47 +1,33 @@
-//! The desk: its calls and their answers, over any store.
+//! This crate is the desk: its calls and their answers, over any store.
 //!
-//! What the desk means stands in `desk_history`, what it keeps in `desk_store`, and what its book tells
-//! in `desk_book`; their public names are this crate's too.
+//! What the desk means stands in `desk_history`, what it keeps in `desk_store`, and what its book
+//! tells in `desk_book`; their public names are this crate's too.
 #![tactic(auto)]
 
-mod allowing;
-mod applying;
-mod asking;
-mod cutting;
+mod allow;
+mod company;
 mod desk;
-mod facts;
-mod file_reading;
-mod found;
+mod guards;
 mod laws;
-mod looking;
-mod naming;
-mod operating;
-mod operator_reads;
-mod receipt;
-mod retry_call;
-mod retry_verdict;
-mod retrying;
-mod statement;
-mod submitting;
-mod taking;
-mod verdict;
+mod operator;
+mod refuse;
+mod respond;
+mod retry;
 
 pub use desk::Desk;
 pub use desk_book::{
-    book_tells, steps_of_messages, steps_of_operator, tells_cut, tells_intake, tells_operator,
-    tells_replies,
+    Caller, ChangedRow, FileRow, HeldSubmission, LapsedRow, ReturnedRow, ReturnsAndChanges, Row,
+    SentRow, book_tells, row_steps, rows_of_part, steps_of_messages, steps_of_operator, tells_cut,
+    tells_intake, tells_operator, tells_replies, verdicts_on_rows,
 };
 pub use desk_cut::{CutFault, CutPlan, plan_cut, ranges_of_cut};
 pub use desk_history::{
-    Answer, Call, ChangeRow, CutDone, DayRates, DaySum, Done, Exposure, Found, FoundEntry,
-    Identity, Intake, Line, Listed, Printed, Receipt, Refusal, ReturnRow, Row, SentEntry,
-    Settlement, Statement, SuspenseRow, TakenFile, Tried, Why, accepted_cuts, accepted_in_order,
-    accounts_cancel, company_lines, one_message, possible_parts, row_steps, rows_of_part,
-    sent_are_accepted, served_alone, traces_name, traces_of_cuts, two_worlds, verdicts_on_rows,
+    Answer, Call, CallRefusal, ChangeRow, CutSummary, DayRates, DaySum, Exposure, FilePlace,
+    Identity, Intake, ListOf, Outcome, Receipt, ReportedEntry, RetriedEntry, ReturnRow, SentEntry,
+    Settlement, Statement, StatementLine, SubmissionReport, SuspenseReason, SuspenseRow, TakenFile,
+    accepted_cuts, accepted_in_order, accounts_cancel, company_lines, one_message, possible_parts,
+    sent_are_accepted, served_alone, traces_name, traces_of_cuts, two_worlds,
 };
-pub use desk_intake::{FoundItem, IntakeFault, IntakePlan, Named, plan_intake};
-pub use desk_store::{
-    Caller, ChangedRow, CutRows, FaultyStore, FileRow, IntakeRows, Items, LapsedRow, ListStore,
-    ReturnedRow, SentRow, Store, StoreFault, Waiting,
-};
+pub use desk_intake::{FoundItem, IntakeFault, IntakePlan, NamedEntry, plan_intake};
+pub use desk_store::{CutRows, FaultyStore, IntakeRows, ListStore, Store, StoreFault};
 pub use laws::{desk_alone, two_desks};

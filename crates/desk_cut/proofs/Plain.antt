@@ -1,21 +1,21 @@
 -- The printed text depends only on what the slices hold, and not on where they are.
 use Rattle.std.proofs.Common.{◌≡◌, ◌∙◌, ap, sym, refl, arith, ℕ, ◌+◌, ◌<◌, get_or, take, List, [], ◌∷◌, ◌++◌, map, length, suc, length-append, length-take-le}
 use Rattle.std.specs.Prelude.{sum_by, min}
-use Rattle.std.specs.List.{enumerate_from, flat_map}
+use Rattle.std.specs.List.{enumerate_from, flat_map, list_all}
 use Rattle.std.proofs.lemmas.List.{length-map, map-append, take_more}
 use Rattle.std.proofs.lemmas.List.Concat.{flat_map-append}
 use Rattle.std.proofs.lemmas.List.Sums.{sum_by-cons, sum_by_push}
 use Rattle.ach_records.specs.declared.print.FileHeaderText.{FileHeaderText}
-use Rattle.ach_records.specs.Print.{Value, row_text, entry_row, batch_header_row, batch_control_row, file_header_row}
+use Rattle.ach_records.specs.Print.{Value, row_fits, row_text, entry_row, batch_header_row, batch_control_row, file_header_row}
 use Rattle.ach_files.specs.declared.outgoing.Addenda.{Addenda}
 use Rattle.ach_files.specs.declared.outgoing.Addenda.TheVariants as addendas
 use Rattle.ach_files.specs.declared.outgoing.OutgoingBatch.{OutgoingBatch}
 use Rattle.ach_files.specs.declared.outgoing.OutgoingEntry.{OutgoingEntry}
 use Rattle.ach_files.specs.declared.print.printer.Printer.{Printer}
 use Rattle.ach_files.specs.declared.sums.Sums.{Sums}
-use Rattle.ach_files.specs.Outgoing.{entry_of, entry_rows, entry_count, batch_sums, file_sums, sums_in, batch_control, batch_rows, kept, page, addenda_rows, is_there, debit_cents, credit_cents}
+use Rattle.ach_files.specs.Outgoing.{entry_of, entry_rows, entry_count, batch_sums, file_sums, sums_in, batch_control, batch_rows, capped_sums, page, addenda_rows, has_addenda, debit_cents, credit_cents}
 use Rattle.ach_files.specs.Printing.{HasPrinted}
-use Rattle.ach_files.specs.Totals.{low}
+use Rattle.ach_files.specs.Totals.{low_digits}
 use Rattle.desk_cut.specs.Plain.{plain_addenda, plain_entry, plain_batch, plain_file_header}
 
 sum_by-same : {X : Type 0} (f : X → ℕ) (g : X → X) → ((x : X) → f (g x) ≡ f x) → (xs : List X) → sum_by f (map g xs) ≡ sum_by f xs
@@ -28,7 +28,7 @@ flat_map-same f g same (x ∷ xs) = λ i. same x i ++ flat_map-same f g same xs 
 
 -- ---- an entry
 
-there : (a : Addenda) → is_there (plain_addenda a) ≡ is_there a
+there : (a : Addenda) → has_addenda (plain_addenda a) ≡ has_addenda a
 there addendas.Absent = refl
 there (addendas.Payment information) = refl
 there (addendas.Change c) = refl
@@ -61,14 +61,14 @@ batch_same b = λ i.
     batch_header_row b.header ∷ flat_map-same entry_rows plain_entry rows_same b.entries.now i
     ++ batch_control_row (record (batch_control b) {
       count = (sums_same b i).count;
-      hash = low (sums_same b i).hash;
+      hash = low_digits (sums_same b i).hash;
       debits = (sums_same b i).debits;
       credits = (sums_same b i).credits;
     }) ∷ []
 
 -- ---- a file
 
--- one batch behind others, by what its slices hold
+-- one batch after others, by what its slices hold
 rows_with : (before : List OutgoingBatch) (b wanted : OutgoingBatch) → plain_batch b ≡ wanted → flat_map batch_rows (before ++ b ∷ []) ≡ flat_map batch_rows (before ++ wanted ∷ [])
 rows_with before b wanted is =
     flat_map-append batch_rows before (b ∷ [])
@@ -81,7 +81,7 @@ sums_with before b wanted is =
     let same : sums_in b ≡ sums_in wanted = sym (sums_same b) ∙ ap sums_in is in
     λ i. record {
       count = with_last (λ (s : Sums). s.count) same i;
-      hash = with_last (λ (s : Sums). low s.hash) same i;
+      hash = with_last (λ (s : Sums). low_digits s.hash) same i;
       debits = with_last (λ (s : Sums). s.debits) same i;
       credits = with_last (λ (s : Sums). s.credits) same i;
     } where
@@ -95,15 +95,17 @@ sums_with before b wanted is =
 pub same_printed : (p : Printer) (header : FileHeaderText) (before : List OutgoingBatch) (b wanted : OutgoingBatch) → plain_batch b ≡ wanted
     → HasPrinted p header (before ++ b ∷ []) → HasPrinted p header (before ++ wanted ∷ [])
 same_printed p header before b wanted is h = record {
+  fits = ap (λ (rows : List (List Value)). list_all row_fits (file_header_row header ∷ rows)) (sym (rows_with before b wanted is)) ∙ h.fits;
   text = h.text ∙ ap (λ (rows : List (List Value)). page (map row_text (file_header_row header ∷ rows))) (rows_with before b wanted is);
   count = h.count ∙ ap (λ n. min n 1000000) (length-append before (b ∷ []) ∙ sym (length-append before (wanted ∷ [])));
-  sums = h.sums ∙ ap kept (sums_with before b wanted is);
+  sums = h.sums ∙ ap capped_sums (sums_with before b wanted is);
 }
 
 -- nor does the header
 pub header_same : (p : Printer) (header wanted : FileHeaderText) (batches : List OutgoingBatch) → plain_file_header header ≡ wanted
     → HasPrinted p header batches → HasPrinted p wanted batches
 header_same p header wanted batches is h = record {
+  fits = ap (λ (w : FileHeaderText). list_all row_fits (file_header_row w ∷ flat_map batch_rows batches)) (sym is) ∙ h.fits;
   text = h.text ∙ ap (λ (w : FileHeaderText). page (map row_text (file_header_row w ∷ flat_map batch_rows batches))) is;
   count = h.count;
   sums = h.sums;

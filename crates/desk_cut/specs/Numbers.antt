@@ -6,42 +6,42 @@ use Rattle.desk_accounts.specs.declared.posting.Posting.{Posting}
 use Rattle.desk_accounts.specs.Posting.{cut_line}
 use Rattle.desk_plan.specs.declared.batch.Batch as plan
 use Rattle.desk_plan.specs.Reuse.{is_past, latest_settled, may_send}
-use Rattle.desk_plan.specs.Sequences.{Sent, last_sequence, ranges_of, are_apart}
+use Rattle.desk_plan.specs.Sequences.{SentSequence, last_sequence, ranges_of, are_apart}
 use Rattle.desk_history.specs.declared.identity.Identity.{Identity}
-use Rattle.desk_history.specs.declared.operations.CutDone.{CutDone}
+use Rattle.desk_history.specs.declared.operations.CutSummary.{CutSummary}
 use Rattle.desk_history.specs.Files.{File}
 use Rattle.desk_history.specs.Postings.{if_any}
-use Rattle.desk_history.specs.Sending.{Sending, Batch, is_debit_sending, plan_of, batch_of, sent_entries}
-use Rattle.desk_store.specs.declared.store.Waiting.{Waiting}
-use Rattle.desk_store.specs.Steps.{CutWrite}
-use Rattle.desk_book.specs.OnCut.{sending, lapsing, ranges_after, sent_rows, file_row}
+use Rattle.desk_history.specs.Sendings.{Sending, NumberedBatch, is_debit_sending, plan_of, batch_of, batch_entries}
+use Rattle.desk_book.specs.declared.held_submission.HeldSubmission.{HeldSubmission}
+use Rattle.desk_book.specs.Steps.{CutWrite}
+use Rattle.desk_book.specs.OnCut.{sendings, lapses_among, ranges_after, sent_rows, file_row}
 use Rattle.desk_cut.specs.declared.fault.CutFault.{CutFault}
 use Rattle.desk_cut.specs.declared.fault.CutFault.TheVariants.{TracesSpent, ModifiersSpent}
-use Rattle.desk_cut.specs.declared.numbers.Numbered.{Numbered}
+use Rattle.desk_cut.specs.declared.numbers.NumberedCut.{NumberedCut}
 use Rattle.desk_cut.specs.Sent.{sending_in}
 
 -- What is sent with its sequences, and what lapses. The cut may take them where those of each range may
 -- be used.
-pub record IsNumbered (holidays : List ℕ) (day last : ℕ) (waiting : List Waiting) (n : Numbered) : Type 0 where
-  pub sent : map sending_in n.sent.items ≡ sending holidays day waiting
-  pub lapsed : n.lapsed.items ≡ lapsing holidays day waiting
-  pub loads : n.loads.items ≡ map plan_of (sending holidays day waiting)
-  pub ranges : n.ranges.items ≡ ranges_after last (sending holidays day waiting)
-  pub apart : are_apart (ranges_after last (sending holidays day waiting)) ≡ true
-  pub may : (sent : List Sent) → last_sequence sent ≡ last
-      → may_send day sent (map plan_of (sending holidays day waiting))
-      ≡ list_all (is_past day) (map (latest_settled sent) (ranges_of sent (map plan_of (sending holidays day waiting))))
+pub record IsNumbered (holidays : List ℕ) (day last : ℕ) (waiting : List HeldSubmission) (n : NumberedCut) : Type 0 where
+  pub sent : map sending_in n.sent.items ≡ sendings holidays day waiting
+  pub lapsed : n.lapsed.items ≡ lapses_among holidays day waiting
+  pub loads : n.loads.items ≡ map plan_of (sendings holidays day waiting)
+  pub ranges : n.ranges.items ≡ ranges_after last (sendings holidays day waiting)
+  pub apart : are_apart (ranges_after last (sendings holidays day waiting)) ≡ true
+  pub may : (sent : List SentSequence) → last_sequence sent ≡ last
+      → may_send day sent (map plan_of (sendings holidays day waiting))
+      ≡ list_all (is_past day) (map (latest_settled sent) (ranges_of sent (map plan_of (sendings holidays day waiting))))
 
 -- Two batches would have a sequence in common; or what waits stands in no history, or memory was refused.
 abbrev pub HasNoRanges : ℕ → ℕ → List Sending → CutFault → Type 0
-HasNoRanges day last ss TracesSpent = (are_apart (ranges_after last ss) ≡ false) × ((sent : List Sent) → last_sequence sent ≡ last → may_send day sent (map plan_of ss) ≡ false)
+HasNoRanges day last ss TracesSpent = (are_apart (ranges_after last ss) ≡ false) × ((sent : List SentSequence) → last_sequence sent ≡ last → may_send day sent (map plan_of ss) ≡ false)
 HasNoRanges day last ss ModifiersSpent = ⊥
 HasNoRanges day last ss fault = ⊤
 
 -- ---- what is written of them
 
-abbrev pub sends_in : Numbered → List Sending
-sends_in n = map sending_in n.sent.items
+abbrev pub sendings_in : NumberedCut → List Sending
+sendings_in n = map sending_in n.sent.items
 
 -- the line of a submission, its total told by what it takes of a file
 abbrev pub line_by : Sending × plan.Batch → List Posting
@@ -49,23 +49,23 @@ line_by x =
     let cents = if is_debit_sending x.0 then x.1.debits else x.1.credits in
     if_any cents (cut_line x.0.company.id (is_debit_sending x.0) cents x.0.settled x.0.content.reference)
 
-abbrev pub batches_in : Numbered → List Batch
-batches_in n = map batch_of (zip n.ranges.items (sends_in n))
+abbrev pub batches_in : NumberedCut → List NumberedBatch
+batches_in n = map batch_of (zip n.ranges.items (sendings_in n))
 
 -- where these are the files
-abbrev pub write_of : Identity → List File → Numbered → CutWrite
+abbrev pub write_of : Identity → List File → NumberedCut → CutWrite
 write_of identity files n = record {
   sent = flat_map sent_rows files;
   lapsed = n.lapsed.items;
-  entries = flat_map sent_entries (batches_in n);
-  postings = pairs (flat_map line_by (zip (sends_in n) n.loads.items));
+  entries = flat_map batch_entries (batches_in n);
+  postings = pairs (flat_map line_by (zip (sendings_in n) n.loads.items));
   files = map (file_row identity) files;
 }
 
-abbrev pub done_of : ℕ → List File → Numbered → CutDone
-done_of day files n = record {
+abbrev pub summary_of : ℕ → List File → NumberedCut → CutSummary
+summary_of day files n = record {
   day = day;
-  entries = length (flat_map sent_entries (batches_in n));
+  entries = length (flat_map batch_entries (batches_in n));
   files = map (λ f. f.modifier) files;
   lapsed = length n.lapsed.items;
 }

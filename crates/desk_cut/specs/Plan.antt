@@ -1,27 +1,27 @@
--- What comes of planning a cut.
+-- The outcome of planning a cut.
 use Rattle.std.specs.Prelude.{◌≡◌, ⊤, ℕ, ◌+◌, Bool, true, false, nat_le, List, map, length, Option, Result, Ok, Err}
-use Rattle.desk_plan.specs.Places.{most_files}
+use Rattle.desk_plan.specs.Modifiers.{most_files}
 use Rattle.desk_plan.specs.Reuse.{may_send, latest_settled}
-use Rattle.desk_plan.specs.Sequences.{Sent, last_sequence, ranges_of}
+use Rattle.desk_plan.specs.Sequences.{SentSequence, last_sequence, ranges_of}
 use Rattle.desk_history.specs.declared.identity.Identity.{Identity}
-use Rattle.desk_history.specs.Sending.{plan_of}
-use Rattle.desk_store.specs.declared.store.Waiting.{Waiting}
-use Rattle.desk_store.specs.Steps.{CutWrite}
-use Rattle.desk_book.specs.OnCut.{CutFacts, sends, files, cut_write, cut_done}
+use Rattle.desk_history.specs.Sendings.{plan_of}
+use Rattle.desk_book.specs.declared.held_submission.HeldSubmission.{HeldSubmission}
+use Rattle.desk_book.specs.Steps.{CutWrite}
+use Rattle.desk_book.specs.OnCut.{CutFacts, cut_sendings, files, cut_write, cut_summary}
 use Rattle.desk_cut.specs.declared.fault.CutFault.{CutFault}
 use Rattle.desk_cut.specs.declared.fault.CutFault.TheVariants.{TracesSpent, ModifiersSpent}
 use Rattle.desk_cut.specs.declared.plan.CutPlan.{CutPlan}
 
 -- the cut of these values
-abbrev pub cut_of : Identity → ℕ → List ℕ → ℕ → ℕ → List Waiting → CutFacts
+abbrev pub cut_of : Identity → ℕ → List ℕ → ℕ → ℕ → List HeldSubmission → CutFacts
 cut_of identity day holidays last made waiting = record { identity = identity; day = day; holidays = holidays; last = last; made = made; waiting = waiting }
 
 -- The entries that were sent before are as the plan was told: they end with the last sequence, and for
 -- each range that a batch takes this is the latest day on which a youngest entry with one of its
 -- sequences settled.
-pub record IsTold (x : CutFacts) (latest : List (Option ℕ)) (sent : List Sent) : Type 0 where
+pub record IsTold (x : CutFacts) (latest : List (Option ℕ)) (sent : List SentSequence) : Type 0 where
   pub last : last_sequence sent ≡ x.last
-  pub settled : latest ≡ map (latest_settled sent) (ranges_of sent (map plan_of (sends x)))
+  pub settled : latest ≡ map (latest_settled sent) (ranges_of sent (map plan_of (cut_sendings x)))
 
 -- whether the day has modifiers for the files
 abbrev pub has_modifiers : CutFacts → Bool
@@ -34,11 +34,11 @@ plan_write p = record { sent = p.sent.items; lapsed = p.lapsed.items; entries = 
 -- a plan has all that the cut writes, and what it answers
 pub record IsPlan (x : CutFacts) (p : CutPlan) : Type 0 where
   pub write : plan_write p ≡ cut_write x
-  pub done : p.done ≡ cut_done x
+  pub done : p.done ≡ cut_summary x
 
 -- the cut may take its sequences, whatever was sent before that is as told; or it may not
 abbrev pub MayTake : CutFacts → List (Option ℕ) → Bool → Type 0
-MayTake x latest may = (sent : List Sent) → IsTold x latest sent → may_send x.day sent (map plan_of (sends x)) ≡ may
+MayTake x latest may = (sent : List SentSequence) → IsTold x latest sent → may_send x.day sent (map plan_of (cut_sendings x)) ≡ may
 
 -- The plan of a cut that is not refused, or the first of TracesSpent and ModifiersSpent.
 abbrev pub Plans : CutFacts → List (Option ℕ) → Result CutPlan CutFault → Type 0

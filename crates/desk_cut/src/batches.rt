@@ -1,39 +1,37 @@
-//! The batches of a cut, and their entries with their sequences.
+//! The batches of a cut stand here, and their entries with their sequences.
 ghost use Rattle.std.specs.Prelude.{◌≡◌, ◌+◌, ◌++◌, IfOk, OnOk, map, zip};
 ghost use Rattle.std.specs.List.{flat_map};
-ghost use Rattle.desk_history.specs.Sending.{batch_of, sent_entries};
+ghost use Rattle.desk_history.specs.Sendings.{batch_of, batch_entries};
 ghost use Rattle.desk_cut.specs.Sent.{sending_in, batch_in};
 
 use crate::due::Sending;
 use crate::fault::PlanFault;
-use crate::loads::is_debit;
+use ach_fields::MOST_SEQUENCE;
 use bank_days::Day;
+use desk_book::HeldSubmission;
 use desk_history::SentEntry;
-use desk_store::Waiting;
 use std::alloc::{AllocError, Global};
 
-/// The largest sequence: seven digits.
-const MOST_SEQUENCE: u64 = 9_999_999;
-
-/// A submission that is sent, with the day on which it settles and the sequence of its first entry.
+/// A `NumberedBatch` is a submission that is sent, with the day on which it settles and the
+/// sequence of its first entry.
 #[derive(Clone, Copy)]
-pub(crate) struct Batch<'a> {
-    pub(crate) waiting: &'a Waiting,
+pub(crate) struct NumberedBatch<'a> {
+    pub(crate) waiting: &'a HeldSubmission,
     pub(crate) settled: Day,
     pub(crate) first: u32,
 }
 
-/// The batches, each with its range of sequences.
+/// Gives the batches, each with its range of sequences.
 pub(crate) fn batches_of<'a>(
     alloc: Global,
     sent: &[Sending<'a>],
     ranges: &[(u32, u32)],
-) -> Result<Vec<Batch<'a>>, AllocError>
+) -> Result<Vec<NumberedBatch<'a>>, AllocError>
     ensures { IfOk result (λ batches. map batch_in batches.items ≡ map batch_of (zip ranges.now (map sending_in sent.now))) }
 {
     let mut batches = Vec::new(alloc);
     for (range, sending) in ranges.iter().zip(sent) {
-        batches.extend_from_slice(&[Batch {
+        batches.extend_from_slice(&[NumberedBatch {
             waiting: sending.waiting,
             settled: sending.settled,
             first: range.0,
@@ -42,23 +40,23 @@ pub(crate) fn batches_of<'a>(
     Ok(batches)
 }
 
-/// The sequence of a batch's entry, by how many entries stand before it.
-pub(crate) fn sequence_of(batch: &Batch<'_>, before: u64) -> Result<u32, PlanFault>
+/// Gives the sequence of a batch's entry, by how many entries stand before it.
+pub(crate) fn sequence_of(batch: &NumberedBatch<'_>, before: u64) -> Result<u32, PlanFault>
     ensures { IfOk result (λ sequence. sequence ≡ batch.now.first + before) }
 {
     match u64::from(batch.first).checked_add(before) {
-        Some(sequence) if sequence <= MOST_SEQUENCE => Ok(sequence as u32),
+        Some(sequence) if sequence <= u64::from(MOST_SEQUENCE) => Ok(sequence as u32),
         _ => Err(PlanFault::Unprintable),
     }
 }
 
 // Adds a batch's entries, with their sequences.
-fn push_entries(sent: &mut Vec<SentEntry>, batch: &Batch<'_>) -> Result<(), PlanFault>
-    ensures { OnOk result (sent.new.items ≡ sent.old.items ++ sent_entries (batch_in batch.now)) }
+fn push_entries(sent: &mut Vec<SentEntry>, batch: &NumberedBatch<'_>) -> Result<(), PlanFault>
+    ensures { OnOk result (sent.new.items ≡ sent.old.items ++ batch_entries (batch_in batch.now)) }
 {
     let row = &batch.waiting.row;
     let content = &row.content;
-    let debit = is_debit(content.direction);
+    let debit = content.direction.is_debit();
     for (index, entry) in content.entries.as_slice().iter().enumerate() {
         let sequence = sequence_of(batch, index as u64)?;
         sent.push(SentEntry {
@@ -77,7 +75,7 @@ fn push_entries(sent: &mut Vec<SentEntry>, batch: &Batch<'_>) -> Result<(), Plan
 }
 
 // How many entries the batches have.
-fn count_of(batches: &[Batch<'_>]) -> usize {
+fn count_of(batches: &[NumberedBatch<'_>]) -> usize {
     let mut count: usize = 0;
     for batch in batches {
         count = count.saturating_add(batch.waiting.row.content.entries.as_slice().len());
@@ -85,9 +83,12 @@ fn count_of(batches: &[Batch<'_>]) -> usize {
     count
 }
 
-/// The entries of the batches, in the order of their sequences.
-pub(crate) fn entries_of(alloc: Global, batches: &[Batch<'_>]) -> Result<Vec<SentEntry>, PlanFault>
-    ensures { IfOk result (λ entries. entries.items ≡ flat_map sent_entries (map batch_in batches.now)) }
+/// Gives the entries of the batches, in the order of their sequences.
+pub(crate) fn entries_of(
+    alloc: Global,
+    batches: &[NumberedBatch<'_>],
+) -> Result<Vec<SentEntry>, PlanFault>
+    ensures { IfOk result (λ entries. entries.items ≡ flat_map batch_entries (map batch_in batches.now)) }
 {
     let mut entries = Vec::with_capacity(alloc, count_of(batches))?;
     for batch in batches {

@@ -1,30 +1,30 @@
-//! What is due on a day: what a cut sends, and what lapses.
-ghost use Rattle.std.specs.Prelude.{◌≡◌, ◌≤◌, ◌<◌, ◌+◌, IfOk, map, Some, All, if◌then◌else◌};
-ghost use Rattle.bank_days.specs.Day.{last_given};
+//! A cut decides what is due on a day: some of it is sent, and some lapses.
+ghost use Rattle.std.specs.Prelude.{◌≡◌, ◌≤◌, ◌<◌, IfOk, map, Some, All, if◌then◌else◌};
+ghost use Rattle.bank_days.specs.Day.{last_argument_day};
 ghost use Rattle.desk_rules.specs.LimitChecks.{is_debit};
 ghost use Rattle.desk_history.specs.State.{is_too_late};
-ghost use Rattle.desk_book.specs.OnCut.{is_due, settles, sending, lapsing, lapsed_row};
+ghost use Rattle.desk_book.specs.OnCut.{is_due, settles, sendings, lapses_among};
 ghost use Rattle.desk_cut.specs.Sent.{sending_in};
 
 use crate::fault::PlanFault;
 use bank_days::{Calendar, Day};
+use desk_book::{HeldSubmission, LapsedRow};
 use desk_rules::Direction;
-use desk_store::{LapsedRow, Waiting};
 use std::alloc::Global;
 
-/// The last day that a calendar may be given: 2100-06-30.
+/// A calendar may be given no later day than 2100-06-30.
 const LAST_GIVEN: i64 = 47_662;
 
-/// A submission that a cut sends, with the day on which it settles.
+/// A `Sending` is a submission that a cut sends, with the day on which it settles.
 #[derive(Clone, Copy)]
 pub(crate) struct Sending<'a> {
-    pub(crate) waiting: &'a Waiting,
+    pub(crate) waiting: &'a HeldSubmission,
     pub(crate) settled: Day,
 }
 
-/// What a cut decides.
+/// A `Decision` says what a cut sends, and what lapses.
 #[derive(Drop)]
-pub(crate) struct Decided<'a> {
+pub(crate) struct Decision<'a> {
     pub(crate) sent: Vec<Sending<'a>>,
     pub(crate) lapsed: Vec<LapsedRow>,
 }
@@ -39,9 +39,9 @@ fn days_ahead(direction: Direction) -> u8
     }
 }
 
-fn is_due(waiting: &Waiting, day: Day, holidays: &Calendar) -> bool
-    requires today { day ≤ last_given }
-    requires asked { waiting.now.row.content.day ≤ last_given }
+fn is_due(waiting: &HeldSubmission, day: Day, holidays: &Calendar) -> bool
+    requires today { day ≤ last_argument_day }
+    requires asked { waiting.now.row.content.day ≤ last_argument_day }
     ensures { result ≡ is_due holidays.now day waiting.now }
 {
     let content = &waiting.row.content;
@@ -50,9 +50,9 @@ fn is_due(waiting: &Waiting, day: Day, holidays: &Calendar) -> bool
 }
 
 // The day on which it would settle.
-fn settles(waiting: &Waiting, day: Day, holidays: &Calendar) -> Day
-    requires today { day ≤ last_given }
-    requires asked { waiting.now.row.content.day ≤ last_given }
+fn settles(waiting: &HeldSubmission, day: Day, holidays: &Calendar) -> Day
+    requires today { day ≤ last_argument_day }
+    requires asked { waiting.now.row.content.day ≤ last_argument_day }
     ensures value { result ≡ settles holidays.now day waiting.now }
     ensures later { day < result }
 {
@@ -70,16 +70,16 @@ fn is_too_late(settles: Day, original: Option<Day>) -> bool
     }
 }
 
-/// What is sent and what lapses, in the order in which it waits.
+/// Gives what is sent and what lapses, in the order in which it waits.
 pub(crate) fn decide<'a>(
     alloc: Global,
     day: Day,
     holidays: &Calendar,
-    waiting: &'a [Waiting],
-) -> Result<Decided<'a>, PlanFault>
-    ensures sent { IfOk result (λ d. map sending_in d.sent.items ≡ sending holidays.now day waiting.now) }
+    waiting: &'a [HeldSubmission],
+) -> Result<Decision<'a>, PlanFault>
+    ensures sent { IfOk result (λ d. map sending_in d.sent.items ≡ sendings holidays.now day waiting.now) }
     ensures later { IfOk result (λ d. All (λ s. day < s.settled) d.sent.items) }
-    ensures lapsed { IfOk result (λ d. d.lapsed.items ≡ lapsing holidays.now day waiting.now) }
+    ensures lapsed { IfOk result (λ d. d.lapsed.items ≡ lapses_among holidays.now day waiting.now) }
 {
     let mut sent = Vec::new(alloc);
     let mut lapsed = Vec::new(alloc);
@@ -105,5 +105,5 @@ pub(crate) fn decide<'a>(
             }
         }
     }
-    Ok(Decided { sent, lapsed })
+    Ok(Decision { sent, lapsed })
 }

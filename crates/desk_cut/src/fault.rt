@@ -4,20 +4,20 @@ ghost use Rattle.desk_cut.specs.Faults.{fault_of};
 use ach_files::PrintFault;
 use std::alloc::{AllocError, AllocFailed};
 
-/// Why a cut is not planned.
+/// A `CutFault` says why a cut is not planned.
 #[derive(Clone, Copy, Debug, PartialEq, Eq, Drop)]
 pub enum CutFault {
     /// A batch would take a sequence that may not be used.
     TracesSpent,
     /// The day has no modifiers left for the files.
     ModifiersSpent,
-    /// What waits has a value that stands in no history, and cannot be printed.
+    /// A submission that waits has a value that stands in no history, and cannot be printed.
     Unprintable,
-    /// Memory was refused.
+    /// The plan is out of memory.
     NoMemory,
 }
 
-/// Why there is no plan of a cut that is not refused.
+/// A `PlanFault` says why there is no plan of a cut that is not refused.
 #[derive(Clone, Copy, Debug, PartialEq, Eq, Drop)]
 pub(crate) enum PlanFault {
     Unprintable,

@@ -1,37 +1,37 @@
-//! The files of a cut: which batches each has, their rows and their texts.
+//! The files of a cut stand here: which batches each has, their rows and their texts.
 ghost use Rattle.std.specs.Prelude.{◌≡◌, ◌≤◌, ◌+◌, ◌++◌, All, IfOk, OnOk, length, map, sum};
 ghost use Rattle.std.specs.List.{flat_map};
 ghost use Rattle.desk_plan.specs.Files.{IsSize, most_batches};
-ghost use Rattle.desk_plan.specs.Places.{most_files};
+ghost use Rattle.desk_plan.specs.Modifiers.{most_files};
 ghost use Rattle.desk_plan.specs.Runs.{in_runs};
 ghost use Rattle.desk_history.specs.Files.{files_from};
 ghost use Rattle.desk_book.specs.OnCut.{sent_rows, file_row};
 ghost use Rattle.desk_cut.specs.Sent.{batch_in, file_in};
 
-use crate::batches::Batch;
+use crate::batches::NumberedBatch;
 use crate::fault::PlanFault;
 use crate::printing::text_of;
 use bank_days::Day;
-use desk_history::{Identity, Listed, Printed};
+use desk_book::{FileRow, SentRow};
+use desk_history::{FilePlace, Identity, ListOf};
 use desk_plan::modifier;
-use desk_store::{FileRow, SentRow};
 use std::alloc::{AllocError, Global};
 
-/// A file that the cut makes.
+/// A `File` is a file that the cut makes.
 #[derive(Clone, Copy)]
 pub(crate) struct File<'a> {
     pub(crate) day: Day,
     pub(crate) modifier: u8,
-    pub(crate) batches: &'a [Batch<'a>],
+    pub(crate) batches: &'a [NumberedBatch<'a>],
 }
 
-/// The files with these sizes, on a day that has so many already.
+/// Gives the files with these sizes, on a day that has so many already.
 pub(crate) fn files_of<'a>(
     alloc: Global,
     day: Day,
     made: u32,
     sizes: &[usize],
-    batches: &'a [Batch<'a>],
+    batches: &'a [NumberedBatch<'a>],
 ) -> Result<Vec<File<'a>>, PlanFault>
     requires made { made + length sizes.now ≤ most_files }
     requires sizes { All IsSize sizes.now }
@@ -65,7 +65,7 @@ fn push_rows(rows: &mut Vec<SentRow>, file: &File<'_>) -> Result<(), AllocError>
             company: batch.waiting.company.id,
             order: batch.waiting.row.order,
             settled: batch.settled,
-            printed: Printed {
+            printed: FilePlace {
                 day: file.day,
                 modifier: file.modifier,
                 batch: index as u64 + 1,
@@ -75,7 +75,7 @@ fn push_rows(rows: &mut Vec<SentRow>, file: &File<'_>) -> Result<(), AllocError>
     Ok(())
 }
 
-/// The submissions of all files, each with its place.
+/// Gives the submissions of all files, each with its place.
 pub(crate) fn rows_of(alloc: Global, files: &[File<'_>]) -> Result<Vec<SentRow>, AllocError>
     ensures { IfOk result (λ rows. rows.items ≡ flat_map sent_rows (map file_in files.now)) }
 {
@@ -86,7 +86,7 @@ pub(crate) fn rows_of(alloc: Global, files: &[File<'_>]) -> Result<Vec<SentRow>,
     Ok(rows)
 }
 
-/// The files with their texts.
+/// Gives the files with their texts.
 pub(crate) fn texts_of(
     alloc: Global,
     identity: &Identity,
@@ -101,13 +101,13 @@ pub(crate) fn texts_of(
         rows.push(FileRow {
             day: file.day,
             modifier: file.modifier,
-            text: Listed::new(text),
+            text: ListOf::new(text),
         })?;
     }
     Ok(rows)
 }
 
-/// The modifiers of the files, in order.
+/// Gives the modifiers of the files, in order.
 pub(crate) fn modifiers_of(alloc: Global, files: &[File<'_>]) -> Result<Vec<u8>, AllocError>
     ensures { IfOk result (λ modifiers. modifiers.items ≡ map (λ f. f.modifier) (map file_in files.now)) }
 {

@@ -1,8 +1,9 @@
-//! The plan of a cut: what is sent and what lapses of the submissions that wait, the batches and files
-//! with their sequences and texts, and all that is written of them.
+//! This crate plans a cut: what is sent and what lapses of the submissions that wait, the batches
+//! and files with their sequences and texts, and all that is written of them.
 //!
-//! Nothing here reads or writes a store. `ranges_of_cut` says which sequences the batches would take, so
-//! that the caller can look up when these were used last, and `plan_cut` plans the cut or refuses it.
+//! Nothing here reads or writes a store. `ranges_of_cut` says which sequences the batches would
+//! take, so that the caller can look up when these were used last, and `plan_cut` plans the cut or
+//! refuses it.
 #![tactic(auto)]
 
 mod batches;

@@ -1,22 +1,19 @@
-//! What each submission takes of a file and of the sequences.
+//! Each submission takes something of a file and of the sequences: its load.
 ghost use Rattle.std.specs.Prelude.{◌≡◌, ◌≤◌, IfOk, OnOk, All, length, map, sum_by, if◌then◌else◌};
 ghost use Rattle.desk_plan.specs.Batch.{IsBatch, IsEntryCount};
-ghost use Rattle.desk_rules.specs.LimitChecks.{is_debit};
 ghost use Rattle.desk_rules.specs.Size.{total_of};
-ghost use Rattle.desk_history.specs.Sending.{entries_in, plan_of, records_of};
+ghost use Rattle.desk_history.specs.Sendings.{plan_of, records_of};
 ghost use Rattle.desk_cut.specs.Sent.{sending_in};
 
 use crate::due::Sending;
 use crate::fault::PlanFault;
 use ach_fields::Cents;
 use desk_plan::Batch;
-use desk_rules::{Direction, Entry};
+use desk_rules::{Entry, MOST_ENTRIES};
 use std::alloc::{AllocError, Global};
 
-/// The most entries of a submission.
-const MOST_ENTRIES: usize = 1_000;
-
-/// The sum of a submission's entries. One that was accepted has 1 to 1,000, and twelve digits of cents.
+/// Gives the sum of a submission's entries in cents. One that was accepted has 1 to 1,000 entries,
+/// and twelve digits of cents.
 pub(crate) fn cents_of(entries: &[Entry]) -> Result<Cents, PlanFault>
     ensures total { IfOk result (λ cents. cents ≡ total_of entries.now) }
     ensures count { OnOk result (IsEntryCount (length entries.now)) }
@@ -40,12 +37,6 @@ fn records_of(entries: &[Entry]) -> u32
     records
 }
 
-pub(crate) fn is_debit(direction: Direction) -> bool
-    ensures { result ≡ is_debit direction }
-{
-    direction == Direction::Debit
-}
-
 // The cents where the test holds, else none.
 fn cents_if(test: bool, cents: Cents) -> Result<Cents, PlanFault>
     ensures { IfOk result (λ given. given ≡ (if test then cents else 0)) }
@@ -63,7 +54,7 @@ fn load_of(sending: &Sending<'_>) -> Result<Batch, PlanFault>
     let content = &sending.waiting.row.content;
     let entries = content.entries.as_slice();
     let cents = cents_of(entries)?;
-    let debit = is_debit(content.direction);
+    let debit = content.direction.is_debit();
     Ok(Batch {
         company: sending.waiting.company.id,
         order: sending.waiting.row.order,
@@ -75,7 +66,7 @@ fn load_of(sending: &Sending<'_>) -> Result<Batch, PlanFault>
     })
 }
 
-/// What each takes, in order.
+/// Gives the load of each submission, in order.
 pub(crate) fn loads_of(alloc: Global, sent: &[Sending<'_>]) -> Result<Vec<Batch>, PlanFault>
     ensures value { IfOk result (λ loads. loads.items ≡ map plan_of (map sending_in sent.now)) }
     ensures batches { IfOk result (λ loads. All IsBatch loads.items) }
@@ -87,7 +78,7 @@ pub(crate) fn loads_of(alloc: Global, sent: &[Sending<'_>]) -> Result<Vec<Batch>
     Ok(loads)
 }
 
-/// How many entries each has.
+/// Gives the number of entries of each.
 pub(crate) fn counts_of(alloc: Global, loads: &[Batch]) -> Result<Vec<u32>, AllocError>
     requires { All IsBatch loads.now }
     ensures value { IfOk result (λ counts. counts.items ≡ map (λ b. b.entries) loads.now) }

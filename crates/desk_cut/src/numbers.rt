@@ -1,32 +1,32 @@
-//! The sequences of a cut.
+//! The sequences of a cut are planned here.
 ghost use Rattle.std.specs.Prelude.{◌≡◌, ◌<◌, All, IfOk, IfErr, map};
 ghost use Rattle.std.specs.List.{list_all};
 ghost use Rattle.desk_plan.specs.Batch.{IsBatch};
 ghost use Rattle.desk_plan.specs.Reuse.{is_past};
-ghost use Rattle.desk_history.specs.Sending.{plan_of};
-ghost use Rattle.desk_book.specs.OnCut.{sending, lapsing};
+ghost use Rattle.desk_history.specs.Sendings.{plan_of};
+ghost use Rattle.desk_book.specs.OnCut.{sendings, lapses_among};
 ghost use Rattle.desk_cut.specs.Numbers.{IsNumbered, HasNoRanges};
 ghost use Rattle.desk_cut.specs.Sent.{sending_in};
 
-use crate::due::{Decided, Sending, decide};
+use crate::due::{Decision, Sending, decide};
 use crate::fault::{CutFault, PlanFault};
 use crate::loads::{counts_of, loads_of};
 use bank_days::{Calendar, Day};
+use desk_book::{HeldSubmission, LapsedRow};
 use desk_plan::{Batch, NumberFault, is_past, plan_numbers};
-use desk_store::{LapsedRow, Waiting};
 use std::alloc::Global;
 
 // What a cut decides, and what each submission that it sends takes.
 #[derive(Drop)]
-struct Loaded<'a> {
+struct LoadedCut<'a> {
     sent: Vec<Sending<'a>>,
     lapsed: Vec<LapsedRow>,
     loads: Vec<Batch>,
 }
 
-/// The same with the first and the last sequence of each submission.
+/// A `NumberedCut` has what a cut sends, with the first and the last sequence of each submission.
 #[derive(Drop)]
-pub(crate) struct Numbered<'a> {
+pub(crate) struct NumberedCut<'a> {
     pub(crate) sent: Vec<Sending<'a>>,
     pub(crate) lapsed: Vec<LapsedRow>,
     pub(crate) loads: Vec<Batch>,
@@ -37,45 +37,45 @@ fn load<'a>(
     alloc: Global,
     day: Day,
     holidays: &Calendar,
-    waiting: &'a [Waiting],
-) -> Result<Loaded<'a>, PlanFault>
-    ensures sent { IfOk result (λ l. map sending_in l.sent.items ≡ sending holidays.now day waiting.now) }
-    ensures lapsed { IfOk result (λ l. l.lapsed.items ≡ lapsing holidays.now day waiting.now) }
-    ensures loads { IfOk result (λ l. l.loads.items ≡ map plan_of (sending holidays.now day waiting.now)) }
+    waiting: &'a [HeldSubmission],
+) -> Result<LoadedCut<'a>, PlanFault>
+    ensures sent { IfOk result (λ l. map sending_in l.sent.items ≡ sendings holidays.now day waiting.now) }
+    ensures lapsed { IfOk result (λ l. l.lapsed.items ≡ lapses_among holidays.now day waiting.now) }
+    ensures loads { IfOk result (λ l. l.loads.items ≡ map plan_of (sendings holidays.now day waiting.now)) }
     ensures batches { IfOk result (λ l. All IsBatch l.loads.items) }
     ensures later { IfOk result (λ l. All (λ b. day < b.settled) l.loads.items) }
 {
-    let Decided { sent, lapsed } = decide(alloc, day, holidays, waiting)?;
+    let Decision { sent, lapsed } = decide(alloc, day, holidays, waiting)?;
     let loads = loads_of(alloc, &sent)?;
-    Ok(Loaded {
+    Ok(LoadedCut {
         sent,
         lapsed,
         loads,
     })
 }
 
-/// What a cut sends with its sequences, and what lapses. `TracesSpent` where two batches would have a
-/// sequence in common; whether the entries of earlier cuts leave the ranges free is for the caller to
-/// see, from the latest settlement of each.
+/// Gives what a cut sends with its sequences, and what lapses. It is `TracesSpent` where two
+/// batches would have a sequence in common; whether the entries of earlier cuts leave the ranges
+/// free is for the caller to see, from the latest settlement of each.
 pub(crate) fn number<'a>(
     alloc: Global,
     day: Day,
     holidays: &Calendar,
     last: u32,
-    waiting: &'a [Waiting],
-) -> Result<Numbered<'a>, CutFault>
+    waiting: &'a [HeldSubmission],
+) -> Result<NumberedCut<'a>, CutFault>
     ensures ok { IfOk result (λ n. IsNumbered holidays.now day last waiting.now n) }
-    ensures err { IfErr result (λ fault. HasNoRanges day last (sending holidays.now day waiting.now) fault) }
+    ensures err { IfErr result (λ fault. HasNoRanges day last (sendings holidays.now day waiting.now) fault) }
 {
     desk_plan::by_ranges();
-    let Loaded {
+    let LoadedCut {
         sent,
         lapsed,
         loads,
     } = load(alloc, day, holidays, waiting)?;
     let counts = counts_of(alloc, &loads)?;
     match plan_numbers(alloc, last, &counts) {
-        Ok(ranges) => Ok(Numbered {
+        Ok(ranges) => Ok(NumberedCut {
             sent,
             lapsed,
             loads,

@@ -1,30 +1,27 @@
-//! The plan of a cut.
-ghost use Rattle.std.specs.Prelude.{◌≡◌, ◌≤◌, ◌+◌, All, IfOk, IfErr, OnOk, length, map, nat_le, sum, true, if◌then◌else◌, Some, None};
+//! A cut is planned here.
+ghost use Rattle.std.specs.Prelude.{◌≡◌, ◌≤◌, ◌+◌, All, IfOk, IfErr, OnOk, length, nat_le, sum, true, if◌then◌else◌, Some, None};
 ghost use Rattle.desk_plan.specs.Files.{IsSize};
-ghost use Rattle.desk_plan.specs.Places.{most_files};
+ghost use Rattle.desk_plan.specs.Modifiers.{most_files};
 ghost use Rattle.desk_plan.specs.Runs.{in_runs};
 ghost use Rattle.desk_plan.specs.Sequences.{are_apart};
 ghost use Rattle.desk_history.specs.Files.{files_from};
-ghost use Rattle.desk_book.specs.OnCut.{sending, ranges_after};
-ghost use Rattle.desk_cut.specs.Numbers.{HasNoRanges, batches_in, write_of, done_of};
+ghost use Rattle.desk_book.specs.OnCut.{sendings, ranges_after};
+ghost use Rattle.desk_cut.specs.Numbers.{HasNoRanges, batches_in, write_of, summary_of};
 ghost use Rattle.desk_cut.specs.Plan.{Plans, cut_of, plan_write};
 
 use crate::batches::{batches_of, entries_of};
 use crate::fault::{CutFault, PlanFault};
 use crate::files::{files_of, modifiers_of, rows_of, texts_of};
-use crate::numbers::{Numbered, are_past, number};
+use crate::numbers::{NumberedCut, are_past, number};
 use crate::postings::postings_of;
 use bank_days::{Calendar, Day};
 use desk_accounts::Posting;
-use desk_history::{CutDone, Identity, Listed, SentEntry};
-use desk_plan::divide;
-use desk_store::{FileRow, LapsedRow, SentRow, Waiting};
+use desk_book::{FileRow, HeldSubmission, LapsedRow, SentRow};
+use desk_history::{CutSummary, Identity, ListOf, SentEntry};
+use desk_plan::{MOST_FILES, divide};
 use std::alloc::Global;
 
-/// The most files of a day.
-const MOST_FILES: u64 = 36;
-
-/// What a cut does.
+/// A `CutPlan` is all that a cut does.
 #[derive(Drop)]
 pub struct CutPlan {
     /// The submissions that it sends, each with its place in a file.
@@ -37,24 +34,24 @@ pub struct CutPlan {
     pub postings: Vec<Posting>,
     /// The files, with their texts.
     pub files: Vec<FileRow>,
-    /// What the operator is told.
-    pub done: CutDone,
+    /// The summary that the operator is told.
+    pub done: CutSummary,
 }
 
-/// The first and the last sequence of each batch that a cut on a day would send, in order, by the
-/// sequence of the last entry that was sent.
+/// Gives the first and the last sequence of each batch that a cut on a day would send, in order, by
+/// the sequence of the last entry that was sent.
 ///
-/// `TracesSpent` where two batches would have a sequence in common.
+/// It is `TracesSpent` where two batches would have a sequence in common.
 pub fn ranges_of_cut(
     alloc: Global,
     day: Day,
     holidays: &Calendar,
     last: u32,
-    waiting: &[Waiting],
+    waiting: &[HeldSubmission],
 ) -> Result<Vec<(u32, u32)>, CutFault>
-    ensures ranges { IfOk result (λ ranges. ranges.items ≡ ranges_after last (sending holidays.now day waiting.now)) }
-    ensures apart { OnOk result (are_apart (ranges_after last (sending holidays.now day waiting.now)) ≡ true) }
-    ensures none { IfErr result (λ fault. HasNoRanges day last (sending holidays.now day waiting.now) fault) }
+    ensures ranges { IfOk result (λ ranges. ranges.items ≡ ranges_after last (sendings holidays.now day waiting.now)) }
+    ensures apart { OnOk result (are_apart (ranges_after last (sendings holidays.now day waiting.now)) ≡ true) }
+    ensures none { IfErr result (λ fault. HasNoRanges day last (sendings holidays.now day waiting.now) fault) }
 {
     let numbered = number(alloc, day, holidays, last, waiting)?;
     Ok(numbered.ranges)
@@ -77,22 +74,22 @@ fn write(
     day: Day,
     made: u32,
     sizes: &[usize],
-    numbered: Numbered<'_>,
+    numbered: NumberedCut<'_>,
 ) -> Result<CutPlan, PlanFault>
     requires made { made + length sizes.now ≤ most_files }
     requires sizes { All IsSize sizes.now }
     requires whole { sum sizes.now ≡ length (batches_in numbered) }
     ensures write { IfOk result (λ plan. plan_write plan ≡ write_of identity.now (files_from day made (in_runs sizes.now (batches_in numbered.entry))) numbered.entry) }
-    ensures done { IfOk result (λ plan. plan.done ≡ done_of day (files_from day made (in_runs sizes.now (batches_in numbered.entry))) numbered.entry) }
+    ensures done { IfOk result (λ plan. plan.done ≡ summary_of day (files_from day made (in_runs sizes.now (batches_in numbered.entry))) numbered.entry) }
 {
     let batches = batches_of(alloc, &numbered.sent, &numbered.ranges)?;
     let files = files_of(alloc, day, made, sizes, &batches)?;
     let entries = entries_of(alloc, &batches)?;
     let postings = postings_of(alloc, &numbered.sent, &numbered.loads)?;
-    let done = CutDone {
+    let done = CutSummary {
         day,
         entries: entries.len() as u64,
-        files: Listed::new(modifiers_of(alloc, &files)?),
+        files: ListOf::new(modifiers_of(alloc, &files)?),
         lapsed: numbered.lapsed.len() as u64,
     };
     Ok(CutPlan {
@@ -105,14 +102,14 @@ fn write(
     })
 }
 
-/// The plan of a cut on a day, behind the entry with the last sequence, where the day has so many files
-/// already. `latest` has for each of `ranges_of_cut` the latest day on which a youngest entry with one
-/// of its sequences settled.
+/// Plans a cut on a day, after the entry with the last sequence, where the day has so many files
+/// already. `latest` has for each of `ranges_of_cut` the latest day on which a youngest entry with
+/// one of its sequences settled.
 ///
-/// Refused in this order:
+/// A cut is refused in this order:
 ///
-/// - `TracesSpent`: a batch would take a sequence of another, or of an entry that settled less than 366
-///   days before the day;
+/// - `TracesSpent`: a batch would take a sequence of another, or of an entry that settled less than
+///   366 days before the day;
 /// - `ModifiersSpent`: the day has no modifiers left for the files.
 ///
 /// `Unprintable` and `NoMemory` may come in the place of any.
@@ -124,7 +121,7 @@ pub fn plan_cut(
     last: u32,
     made: u64,
     latest: &[Option<Day>],
-    waiting: &[Waiting],
+    waiting: &[HeldSubmission],
 ) -> Result<CutPlan, CutFault>
     ensures { Plans (cut_of identity.now day holidays.now last made waiting.now) latest.now result }
 {

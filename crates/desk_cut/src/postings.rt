@@ -1,4 +1,4 @@
-//! What a cut posts.
+//! A cut posts what it sends.
 ghost use Rattle.std.specs.Prelude.{◌≡◌, ◌++◌, IfOk, OnOk, map, zip};
 ghost use Rattle.std.specs.List.{flat_map};
 ghost use Rattle.desk_accounts.specs.Laws.{pairs};
@@ -6,7 +6,6 @@ ghost use Rattle.desk_cut.specs.Numbers.{line_by};
 ghost use Rattle.desk_cut.specs.Sent.{sending_in};
 
 use crate::due::Sending;
-use crate::loads::is_debit;
 use desk_accounts::{Posting, post_cut};
 use desk_plan::Batch;
 use std::alloc::{AllocError, Global};
@@ -21,7 +20,7 @@ fn push_lines(
 {
     let company = sending.waiting.company.id;
     let content = &sending.waiting.row.content;
-    let debit = is_debit(content.direction);
+    let debit = content.direction.is_debit();
     let cents = if debit { load.debits } else { load.credits };
     if let Some(lines) = post_cut(company, debit, cents, sending.settled, content.reference) {
         postings.extend_from_slice(&lines)?;
@@ -29,7 +28,7 @@ fn push_lines(
     Ok(())
 }
 
-/// The lines of what is sent, each with its opposite, by what each submission takes.
+/// Gives the lines of what is sent, each with its opposite, by what each submission takes.
 pub(crate) fn postings_of(
     alloc: Global,
     sent: &[Sending<'_>],

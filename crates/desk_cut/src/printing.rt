@@ -1,4 +1,4 @@
-//! The text of a file that a cut makes.
+//! A file that a cut makes gets its text here.
 ghost use Rattle.std.specs.Prelude.{◌≡◌, ◌≤◌, ◌+◌, ◌++◌, ◌∷◌, [], List, IfOk, OnOk, length, map};
 ghost use Rattle.std.specs.List.{enumerate_from};
 ghost use Rattle.ach_fields.specs.Routing.{dfi_of};
@@ -8,19 +8,17 @@ ghost use Rattle.ach_files.specs.declared.outgoing.OutgoingBatch.{OutgoingBatch}
 ghost use Rattle.ach_files.specs.Printing.{HasPrinted};
 ghost use Rattle.desk_plan.specs.Files.{most_batches};
 ghost use Rattle.desk_history.specs.Files.{payment, transaction_of, outgoing_batch, text_of};
-ghost use Rattle.desk_history.specs.Resolve.{sec_text};
 ghost use Rattle.desk_cut.specs.Plain.{plain_addenda, plain_entry, plain_batch_header};
 ghost use Rattle.desk_cut.specs.Sent.{batch_in, outgoing_as, outgoing_entries};
 
-use crate::batches::{Batch, sequence_of};
+use crate::batches::{NumberedBatch, sequence_of};
 use crate::fault::PlanFault;
-use crate::loads::is_debit;
 use ach_fields::{Routing, ShortText, Trace};
 use ach_files::{Addenda, OutgoingBatch, OutgoingEntry, Printer};
 use ach_records::{BatchHeaderText, FileHeaderText};
 use bank_days::Day;
 use desk_history::Identity;
-use desk_rules::{AccountKind, Entry, SecCode};
+use desk_rules::{AccountKind, Entry};
 use std::alloc::Global;
 
 // 22 or 27 for checking, 32 or 37 for savings, one more for a prenote.
@@ -46,7 +44,7 @@ fn payment(information: &Option<ShortText<80>>) -> Addenda<'_>
 }
 
 // The trace of a batch's entry, with so many before it.
-fn trace_of(odfi: Routing, batch: &Batch<'_>, before: u64) -> Result<Trace, PlanFault>
+fn trace_of(odfi: Routing, batch: &NumberedBatch<'_>, before: u64) -> Result<Trace, PlanFault>
     ensures { IfOk result (λ trace. trace ≡ trace_text (dfi_of odfi) (batch.now.first + before)) }
 {
     let sequence = sequence_of(batch, before)?;
@@ -57,11 +55,15 @@ fn trace_of(odfi: Routing, batch: &Batch<'_>, before: u64) -> Result<Trace, Plan
 }
 
 // A batch's entry with its trace.
-fn outgoing_entry<'a>(batch: &Batch<'_>, entry: &'a Entry, trace: Trace) -> OutgoingEntry<'a>
+fn outgoing_entry<'a>(
+    batch: &NumberedBatch<'_>,
+    entry: &'a Entry,
+    trace: Trace,
+) -> OutgoingEntry<'a>
     ensures { plain_entry result ≡ outgoing_as (batch_in batch.now) trace entry.now }
 {
     OutgoingEntry {
-        transaction: transaction_of(is_debit(batch.waiting.row.content.direction), entry),
+        transaction: transaction_of(batch.waiting.row.content.direction.is_debit(), entry),
         dfi: entry.routing.dfi(),
         check_digit: entry.routing.digit(),
         account: entry.account.bytes(),
@@ -77,7 +79,7 @@ fn outgoing_entry<'a>(batch: &Batch<'_>, entry: &'a Entry, trace: Trace) -> Outg
 fn outgoing_entries<'a>(
     alloc: Global,
     odfi: Routing,
-    batch: &Batch<'a>,
+    batch: &NumberedBatch<'a>,
 ) -> Result<Vec<OutgoingEntry<'a>>, PlanFault>
     ensures { IfOk result (λ out. map plain_entry out.items ≡ outgoing_entries odfi (batch_in batch.now)) }
 {
@@ -90,30 +92,21 @@ fn outgoing_entries<'a>(
     Ok(outgoing)
 }
 
-fn sec_text(sec: SecCode) -> &'static [u8]
-    ensures { result.now ≡ sec_text sec }
-{
-    match sec {
-        SecCode::Ppd => b"PPD",
-        SecCode::Ccd => b"CCD",
-    }
-}
-
 // The header of a batch with its number: 220 for credits, 225 for debits.
-fn batch_header<'a>(odfi: Routing, number: u32, batch: &Batch<'a>) -> BatchHeaderText<'a>
+fn batch_header<'a>(odfi: Routing, number: u32, batch: &NumberedBatch<'a>) -> BatchHeaderText<'a>
     ensures { plain_batch_header result ≡ (outgoing_batch odfi (number, batch_in batch.now)).header }
 {
     let waiting = batch.waiting;
     let content = &waiting.row.content;
     BatchHeaderText {
-        service_class: if is_debit(content.direction) {
+        service_class: if content.direction.is_debit() {
             225
         } else {
             220
         },
         company_name: waiting.company.name.bytes(),
         company: waiting.company.id.bytes(),
-        sec: sec_text(content.sec),
+        sec: content.sec.text(),
         description: content.description.bytes(),
         effective: batch.settled.ymd(),
         settlement: None,
@@ -127,7 +120,7 @@ fn print_batch<'a>(
     printer: &mut Printer,
     odfi: Routing,
     number: u32,
-    batch: &Batch<'a>,
+    batch: &NumberedBatch<'a>,
     entries: &'a [OutgoingEntry<'a>],
 ) -> Result<(), PlanFault>
     requires { map plain_entry entries.now ≡ outgoing_entries odfi (batch_in batch.now) }
@@ -144,7 +137,7 @@ fn put_batch(
     printer: &mut Printer,
     odfi: Routing,
     number: u32,
-    batch: &Batch<'_>,
+    batch: &NumberedBatch<'_>,
 ) -> Result<(), PlanFault>
     ensures { (header : FileHeaderText) (before : List OutgoingBatch) → HasPrinted printer.old header before → OnOk result (HasPrinted printer.new header (before ++ outgoing_batch odfi (number, batch_in batch.now) ∷ [])) }
 {
@@ -158,7 +151,7 @@ fn put_batches(
     alloc: Global,
     printer: &mut Printer,
     odfi: Routing,
-    batches: &[Batch<'_>],
+    batches: &[NumberedBatch<'_>],
 ) -> Result<(), PlanFault>
     requires { length batches.now ≤ most_batches }
     ensures { (header : FileHeaderText) → HasPrinted printer.old header [] → OnOk result (HasPrinted printer.new header (map (outgoing_batch odfi) (enumerate_from 1 (map batch_in batches.now)))) }
@@ -169,13 +162,13 @@ fn put_batches(
     Ok(())
 }
 
-/// The text of the file of a day with this modifier and these batches.
+/// Gives the text of the file of a day with this modifier and these batches.
 pub(crate) fn text_of(
     alloc: Global,
     identity: &Identity,
     day: Day,
     modifier: u8,
-    batches: &[Batch<'_>],
+    batches: &[NumberedBatch<'_>],
 ) -> Result<Vec<u8>, PlanFault>
     requires { length batches.now ≤ most_batches }
     ensures { IfOk result (λ text. text.items ≡ text_of identity.now (record { day = day; modifier = modifier; batches = map batch_in batches.now })) }

@@ -1,11 +1,12 @@
-//! Plans of two companies' submissions, a credit and a debit, for Friday 2025-01-10, cut on Thursday.
+//! Two companies' submissions, a credit and a debit, for Friday 2025-01-10 are cut here on
+//! Thursday.
 use crate::{CutFault, CutPlan, plan_cut, ranges_of_cut};
 use ach_fields::{Cents, Id, Ref, Routing, ShortText};
 use bank_days::{Calendar, Day};
 use desk_accounts::Account;
-use desk_history::{Identity, Listed, Row};
+use desk_book::{HeldSubmission, Row};
+use desk_history::{Identity, ListOf};
 use desk_rules::{AccountKind, Company, Direction, Entries, Entry, Limits, SecCode, Submission};
-use desk_store::Waiting;
 use std::alloc::Global;
 use std::process::Abort;
 use std::test::Fail;
@@ -83,7 +84,7 @@ fn waits(
     name: &[u8],
     direction: Direction,
     count: u32,
-) -> Result<Waiting, Fail> {
+) -> Result<HeldSubmission, Fail> {
     let content = Submission {
         reference: Ref::new(b"PAY-1").ok().expect(rt, "a reference"),
         sec: SecCode::Ppd,
@@ -92,7 +93,7 @@ fn waits(
         day: day(rt, b"2025-01-10"),
         entries: entries(rt, count)?,
     };
-    Ok(Waiting {
+    Ok(HeldSubmission {
         company: company(rt, name),
         row: Row {
             order: 1,
@@ -100,26 +101,26 @@ fn waits(
             retry: None,
             settled: None,
             lapsed: false,
-            states: Listed::new(Vec::new(rt.alloc())),
+            states: ListOf::new(Vec::new(rt.alloc())),
         },
         original_settled: None,
     })
 }
 
 // A credit of one entry and a debit of two.
-fn two(rt: &(impl Abort + Alloc<A = Global>)) -> Result<Vec<Waiting>, Fail> {
+fn two(rt: &(impl Abort + Alloc<A = Global>)) -> Result<Vec<HeldSubmission>, Fail> {
     let mut waiting = Vec::new(rt.alloc());
     waiting.push(waits(rt, b"BAKE01", Direction::Credit, 1)?)?;
     waiting.push(waits(rt, b"MILL01", Direction::Debit, 2)?)?;
     Ok(waiting)
 }
 
-// The plan behind the last sequence but one.
+// The plan after the last sequence but one.
 fn plan(
     rt: &(impl Abort + Alloc<A = Global>),
     made: u64,
     latest: &[Option<Day>],
-    waiting: &[Waiting],
+    waiting: &[HeldSubmission],
 ) -> Result<CutPlan, CutFault> {
     let holidays = Calendar::empty(rt.alloc());
     let today = day(rt, b"2025-01-09");

@@ -1,57 +1,23 @@
-mod Equal
+-- The lemmas, by the law that they serve:
+--   one_message            OneMessage
+--   two_worlds             Equal
+--   accepted_in_order      Acceptance
+--   sent_are_accepted      Sent, SentEntries
+--   possible_parts         Sent, PartsPossible
+--   accepted_cuts          Traces, AcceptedCuts
+--   traces_name            Traces, NamedTraces
+--   traces_of_cuts         Traces, TracesOfCuts
+--   accounts_cancel        Accounts
+--   company_lines          Lines
+--   served_alone           Alone
+-- Basics are lemmas on lists and checks that several laws stand on; Vectors are computed cases.
+pub mod Basics
 mod OneMessage
-pub mod Chains
-pub mod Growing
-pub mod Named
-pub mod Ordered
-pub mod Linked
-pub mod Elements
-pub mod Companies
-pub mod Resolving
-pub mod Given
-pub mod PartLimits
-pub mod SentEntries
-pub mod PartsPossible
-pub mod CutLines
-pub mod ItemLines
-pub mod CompanyLines
-pub mod Checks
-pub mod AcceptedCuts
-pub mod NamedTraces
-pub mod Each
-pub mod CompaniesOnce
-pub mod SentWith
-pub mod OwnLines
+mod Equal
+pub mod Acceptance
+pub mod Sent
+pub mod Traces
 pub mod Accounts
-pub mod SettlesAfter
-pub mod CutBatches
-pub mod Apart
-pub mod CutSequences
-pub mod TracesOfCuts
-mod OnLiterals
-mod Samples
-mod DayVectors
-mod SubmissionVectors
-mod RetryVectors
-mod StatementVectors
-mod CutVectors
-mod ReturnVectors
-mod HistoryVectors
-mod NumberVectors
-mod FileVectors
-mod ManyFilesVectors
-mod TextVectors
-pub mod Unreturned
-pub mod OnRows
-pub mod RetriesOnRows
-pub mod CutRows
-pub mod ReturnedRows
-pub mod RowSteps
-pub mod LoneCompany
-pub mod LoneCuts
-pub mod Lone
-pub mod LoneMessages
-pub mod CutAlone
-pub mod LoneItems
-pub mod FilesAlone
-pub mod ServedAlone
+pub mod Lines
+pub mod Alone
+mod Vectors

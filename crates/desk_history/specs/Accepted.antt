@@ -1,9 +1,9 @@
 -- An accepted submission or retry.
 use Rattle.std.specs.Prelude.{ℕ, ◌+◌, Bool, List, [], ◌∷◌, length, Option, bytes_eq, codes}
-use Rattle.desk_rules.specs.declared.entry_fact.EntryState.{EntryState}
-use Rattle.desk_rules.specs.declared.submission.Entry.{Entry}
-use Rattle.desk_rules.specs.declared.submission.Retry.{Retry}
-use Rattle.desk_rules.specs.declared.submission.Submission.{Submission}
+use Rattle.desk_rules.specs.declared.rules.entry_fact.EntryState.{EntryState}
+use Rattle.desk_rules.specs.declared.bodies.submission.Entry.{Entry}
+use Rattle.desk_rules.specs.declared.bodies.submission.Retry.{Retry}
+use Rattle.desk_rules.specs.declared.bodies.submission.Submission.{Submission}
 use Rattle.desk_rules.specs.LimitChecks.{is_debit}
 use Rattle.desk_history.specs.Part.{Event}
 use Rattle.desk_history.specs.State as state
@@ -11,35 +11,35 @@ use Rattle.desk_history.specs.State.{Place}
 
 -- The n-th accepted one has order n. A retry's content is that of a submission of the one entry; it
 -- keeps what was asked, and its original's place.
-pub record Accepted : Type 0 where
+pub record AcceptedSubmission : Type 0 where
   pub order : ℕ
   pub place : Place
   pub content : Submission
   pub retry : Option Retry
   pub original : Option Place
 
-abbrev pub is_called : List ℕ → Accepted → Bool
+abbrev pub is_called : List ℕ → AcceptedSubmission → Bool
 is_called reference a = bytes_eq a.content.reference reference
 
-abbrev pub settled : List Event → Accepted → Option ℕ
-settled P a = state.settled P a.place a.original
+abbrev pub settlement_day : List Event → AcceptedSubmission → Option ℕ
+settlement_day P a = state.settlement_day P a.place a.original
 
-abbrev pub lapsed : List Event → Accepted → Bool
-lapsed P a = state.lapsed P a.place a.original
+abbrev pub has_lapsed : List Event → AcceptedSubmission → Bool
+has_lapsed P a = state.has_lapsed P a.place a.original
 
-abbrev pub is_sent_next : List Event → Accepted → Bool
+abbrev pub is_sent_next : List Event → AcceptedSubmission → Bool
 is_sent_next P a = state.is_sent_next P a.place a.original
 
-abbrev pub lapses_next : List Event → Accepted → Bool
+abbrev pub lapses_next : List Event → AcceptedSubmission → Bool
 lapses_next P a = state.lapses_next P a.place a.original
 
 -- the state of its entry with this number
-abbrev pub state_of : List Event → Accepted → ℕ → EntryState
+abbrev pub state_of : List Event → AcceptedSubmission → ℕ → EntryState
 state_of P a index = state.state_of P a.place a.original a.content.reference index
 
 -- what is accepted next after these events: its place and its order number
-abbrev pub accepted_next : List Event → List Accepted → Submission → Option Retry → Option Place → Accepted
-accepted_next P A s retry original = record {
+abbrev pub next_submission : List Event → List AcceptedSubmission → Submission → Option Retry → Option Place → AcceptedSubmission
+next_submission P A s retry original = record {
   order = length A + 1;
   place = record { before = length P; debit = is_debit s.direction; asked = s.day };
   content = s;

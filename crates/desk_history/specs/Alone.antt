@@ -4,17 +4,18 @@ use Rattle.ach_fields.specs.Digits.{digits}
 use Rattle.ach_fields.specs.Routing.{dfi_of}
 use Rattle.ach_fields.specs.Trace.{trace_text}
 use Rattle.ach_files.specs.declared.facts.ItemFacts.{ItemFacts}
-use Rattle.ach_files.specs.declared.facts.Reply.TheVariants as replies
+use Rattle.ach_files.specs.declared.facts.ReturnOrChange.TheVariants as kinds
 use Rattle.ach_files.specs.Facts.{FileFacts}
 use Rattle.desk_rules.specs.ReturnCodes.{code_text}
 use Rattle.desk_history.specs.declared.identity.Identity.{Identity}
 use Rattle.desk_history.specs.Request.{Request}
 use Rattle.desk_history.specs.Part.{Event, Returned, Changed}
 use Rattle.desk_history.specs.Message.{Message, Of, TakeFile, Pair, is_accepted}
-use Rattle.desk_history.specs.declared.row.SentEntry.{SentEntry}
-use Rattle.desk_history.specs.Resolve.{sec_text, returned_transaction, receiving_dfi}
-use Rattle.desk_history.specs.History.{given, is_new, part, sent}
-use Rattle.desk_history.specs.Operator.{next, answered, IsHistory}
+use Rattle.desk_history.specs.declared.sent_entry.SentEntry.{SentEntry}
+use Rattle.desk_history.specs.Resolve.{returned_transaction, receiving_dfi}
+use Rattle.desk_rules.specs.Fields.{sec_text}
+use Rattle.desk_history.specs.History.{events_for, is_new, part, sent_entries}
+use Rattle.desk_history.specs.Operator.{next_pair, answer_to, IsHistory}
 
 -- a return or a change
 abbrev pub is_answer : Event → Bool
@@ -30,35 +31,35 @@ abbrev pub return_item : List ℕ → ℕ → List ℕ → SentEntry → ItemFac
 return_item odfi code information e = record {
   sec_code = sec_text e.sec;
   transaction_code = returned_transaction e;
-  amount = e.entry.cents;
+  cents = e.entry.cents;
   code = code_text code;
   original_trace = trace_text (dfi_of odfi) e.sequence;
   original_dfi = receiving_dfi e;
-  reply = replies.Return information;
+  return_or_change = kinds.Return information;
 }
 
 abbrev pub change_item : List ℕ → List ℕ → List ℕ → SentEntry → ItemFacts
 change_item odfi code text e = record {
   sec_code = codes "COR";
   transaction_code = returned_transaction e;
-  amount = 0;
+  cents = 0;
   code = code;
   original_trace = trace_text (dfi_of odfi) e.sequence;
   original_dfi = receiving_dfi e;
-  reply = replies.Change text;
+  return_or_change = kinds.Change text;
 }
 
 abbrev pub item_for : List ℕ → List ℕ → List SentEntry → Event → Option ItemFacts
-item_for odfi c sent (Returned reference index code information) = option_map (return_item odfi code information) (find (is_entry c reference index) sent)
-item_for odfi c sent (Changed reference index code text) = option_map (change_item odfi code text) (find (is_entry c reference index) sent)
-item_for odfi c sent _ = None
+item_for odfi c sent_entries (Returned reference index code information) = option_map (return_item odfi code information) (find (is_entry c reference index) sent_entries)
+item_for odfi c sent_entries (Changed reference index code text) = option_map (change_item odfi code text) (find (is_entry c reference index) sent_entries)
+item_for odfi c sent_entries _ = None
 
 -- the file of one item; its key is the event's number among returns and changes, and no bytes are made
 abbrev pub file_for : Identity → List ℕ → List Pair → Event → FileFacts
 file_for identity c G e = record {
   key = digits 21 (count_by is_answer (part identity.odfi G c) + 1);
   digest = replicate 32 0;
-  items = option_to_list (item_for identity.odfi c (sent identity.odfi G) e);
+  items = option_to_list (item_for identity.odfi c (sent_entries identity.odfi G) e);
 }
 
 -- the desk is given a file for each of these events, the newest first
@@ -66,20 +67,20 @@ abbrev pub with_files : Identity → List ℕ → List Event → List Pair → L
 with_files identity c [] G = G
 with_files identity c (e ∷ es) G =
     let before = with_files identity c es G in
-    next identity before (TakeFile (Ok (file_for identity c before e))) ∷ before
+    next_pair identity before (TakeFile (Ok (file_for identity c before e))) ∷ before
 
 -- the desk is given a message that gave events, or files in the place of a file
 abbrev pub with_message : Identity → List ℕ → Message → List Event → List Pair → List Pair
 with_message identity c m [] G = G
 with_message identity c (TakeFile file) es G = with_files identity c es G
-with_message identity c m (e ∷ es) G = next identity G m ∷ G
+with_message identity c m (e ∷ es) G = next_pair identity G m ∷ G
 
 -- A new desk is told the messages that gave the company's events, in their order, and nothing else.
 abbrev pub alone : Identity → List ℕ → List Pair → List Pair
 alone identity c [] = []
 alone identity c (x ∷ H) =
     with_message identity c x.message
-    (given identity.odfi (sent identity.odfi H) (is_new H x.message) c (is_accepted x.answer) x.message (part identity.odfi H c))
+    (events_for identity.odfi (sent_entries identity.odfi H) (is_new H x.message) c (is_accepted x.answer) x.message (part identity.odfi H c))
     (alone identity c H)
 
 abbrev pub IsOf : List ℕ → Message → Type 0
@@ -94,10 +95,10 @@ pub record IsServedAlone (identity : Identity) (H : List Pair) (c : List ℕ) : 
   pub history : IsHistory identity (alone identity c H)
   pub accepted : All (λ x. IsAcceptedOrOf c x) (alone identity c H)
   pub same_part : part identity.odfi (alone identity c H) c ≡ part identity.odfi H c
-  pub same_answers : (r : Request) → answered identity (alone identity c H) (Of c r) ≡ answered identity H (Of c r)
+  pub same_answers : (r : Request) → answer_to identity (alone identity c H) (Of c r) ≡ answer_to identity H (Of c r)
 
 -- so it is where the desk sent at most 9,999,999 entries and the company had fewer than 10^21 returns and changes
 abbrev pub ServedAlone : Type 0
 ServedAlone = (identity : Identity) (H : List Pair) (c : List ℕ) → IsHistory identity H
-    → length (sent identity.odfi H) ≤ 9_999_999 → count_by is_answer (part identity.odfi H c) < 10 ^ 21
+    → length (sent_entries identity.odfi H) ≤ 9_999_999 → count_by is_answer (part identity.odfi H c) < 10 ^ 21
     → IsServedAlone identity H c

@@ -2,38 +2,38 @@
 use Rattle.std.specs.Prelude.{ℕ, Bool, true, false, ◌&&◌, if◌then◌else◌, List, [], ◌∷◌, ◌++◌, map, filter, find, Option, Some, None, option_map, option_to_list, option_and_then, is_none, unwrap_or, Ok, bytes_eq}
 use Rattle.std.specs.List.{flat_map}
 use Rattle.std.specs.Result.{result_ok}
-use Rattle.desk_rules.specs.declared.company.Company.{Company}
-use Rattle.desk_rules.specs.declared.company.Limits.{Limits}
+use Rattle.desk_rules.specs.declared.bodies.company.Company.{Company}
+use Rattle.desk_rules.specs.declared.bodies.company.Limits.{Limits}
 use Rattle.desk_rules.specs.Operator.{company_of, new_limits_of, desk_day_of}
 use Rattle.desk_history.specs.Request as request
 use Rattle.desk_history.specs.Request.{Request}
 use Rattle.desk_history.specs.Words.{or_else, is_before}
 use Rattle.desk_history.specs.Part.{Event, DaySet, HolidaysSet, Registered, Limited, Asked, CutMade, is_registered}
-use Rattle.desk_history.specs.Accepted.{settled, is_sent_next}
-use Rattle.desk_history.specs.Asking.{accepted}
+use Rattle.desk_history.specs.Accepted.{settlement_day, is_sent_next}
+use Rattle.desk_history.specs.Acceptance.{submissions}
 use Rattle.desk_history.specs.Message.{Message, Of, SetDay, SetHolidays, PutCompany, PutLimits, Cut, TakeFile, Pair, is_accepted}
-use Rattle.desk_history.specs.declared.row.SentEntry.{SentEntry}
-use Rattle.desk_history.specs.Sending.{Sending, sent_with}
-use Rattle.desk_history.specs.Resolve.{given_items}
+use Rattle.desk_history.specs.declared.sent_entry.SentEntry.{SentEntry}
+use Rattle.desk_history.specs.Sendings.{Sending, with_sendings}
+use Rattle.desk_history.specs.Resolve.{item_events}
 
 -- ---- what an accepted message sets
 
-abbrev pub day_set : Message → Option ℕ
-day_set (SetDay text) = option_and_then desk_day_of text
-day_set _ = None
+abbrev pub message_day : Message → Option ℕ
+message_day (SetDay text) = option_and_then desk_day_of text
+message_day _ = None
 
-abbrev pub holidays_set : Message → Option (List ℕ)
-holidays_set (SetHolidays days) = result_ok days
-holidays_set _ = None
+abbrev pub message_holidays : Message → Option (List ℕ)
+message_holidays (SetHolidays days) = result_ok days
+message_holidays _ = None
 
-abbrev pub company_put : Message → Option Company
-company_put (PutCompany d) = result_ok (company_of d)
-company_put _ = None
+abbrev pub message_company : Message → Option Company
+message_company (PutCompany d) = result_ok (company_of d)
+message_company _ = None
 
 -- the company and its limits
-abbrev pub limits_put : Message → Option (List ℕ × Limits)
-limits_put (PutLimits d) = result_ok (new_limits_of d)
-limits_put _ = None
+abbrev pub message_limits : Message → Option (List ℕ × Limits)
+message_limits (PutLimits d) = result_ok (new_limits_of d)
+message_limits _ = None
 
 abbrev pub if_accepted : {A : Type 0} → Pair → Option A → Option A
 if_accepted x a = if is_accepted x.answer then a else None
@@ -43,12 +43,12 @@ if_accepted x a = if is_accepted x.answer then a else None
 -- the desk day: the last that was set
 abbrev pub day : List Pair → Option ℕ
 day [] = None
-day (x ∷ H) = or_else (if_accepted x (day_set x.message)) (day H)
+day (x ∷ H) = or_else (if_accepted x (message_day x.message)) (day H)
 
 -- the holidays: the list that was set last, and none before the first
 abbrev pub holidays : List Pair → List ℕ
 holidays [] = []
-holidays (x ∷ H) = unwrap_or (if_accepted x (holidays_set x.message)) (holidays H)
+holidays (x ∷ H) = unwrap_or (if_accepted x (message_holidays x.message)) (holidays H)
 
 -- the company in its place, in the byte order of identifications
 abbrev pub with_company : Company → List Company → List Company
@@ -58,18 +58,18 @@ with_company k (other ∷ ks) = if is_before k.id other.id then k ∷ other ∷ 
 abbrev pub with_limits : List ℕ → Limits → Company → Company
 with_limits id limits k = if bytes_eq k.id id then record k { limits = limits } else k
 
-abbrev pub with_put : Option Company → List Company → List Company
-with_put None ks = ks
-with_put (Some k) ks = with_company k ks
+abbrev pub with_registration : Option Company → List Company → List Company
+with_registration None ks = ks
+with_registration (Some k) ks = with_company k ks
 
-abbrev pub with_changed : Option (List ℕ × Limits) → List Company → List Company
-with_changed None ks = ks
-with_changed (Some x) ks = map (with_limits x.0 x.1) ks
+abbrev pub with_new_limits : Option (List ℕ × Limits) → List Company → List Company
+with_new_limits None ks = ks
+with_new_limits (Some x) ks = map (with_limits x.0 x.1) ks
 
 -- the registered companies with their present limits, in the byte order of identifications
 abbrev pub companies : List Pair → List Company
 companies [] = []
-companies (x ∷ H) = with_changed (if_accepted x (limits_put x.message)) (with_put (if_accepted x (company_put x.message)) (companies H))
+companies (x ∷ H) = with_new_limits (if_accepted x (message_limits x.message)) (with_registration (if_accepted x (message_company x.message)) (companies H))
 
 -- ---- what is new
 
@@ -92,14 +92,14 @@ is_new H _ = true
 -- ---- what a cut sends
 
 -- the submissions of a company that the next cut sends, by order number
-abbrev pub sending_of : (List ℕ → List Event) → Company → List Sending
-sending_of parts k =
-    map (λ a. record { company = k; order = a.order; content = a.content; settled = unwrap_or (settled (CutMade ∷ parts k.id) a) 0 })
-    (filter (is_sent_next (parts k.id)) (accepted (parts k.id)))
+abbrev pub sendings_of : (List ℕ → List Event) → Company → List Sending
+sendings_of parts k =
+    map (λ a. record { company = k; order = a.order; content = a.content; settled = unwrap_or (settlement_day (CutMade ∷ parts k.id) a) 0 })
+    (filter (is_sent_next (parts k.id)) (submissions (parts k.id)))
 
 -- those of all companies, in the byte order of identifications
-abbrev pub sending : (List ℕ → List Event) → List Company → List Sending
-sending parts ks = flat_map (sending_of parts) ks
+abbrev pub sendings : (List ℕ → List Event) → List Company → List Sending
+sendings parts ks = flat_map (sendings_of parts) ks
 
 -- ---- the events that a message gives to a company
 
@@ -112,36 +112,36 @@ limits_event c None = []
 limits_event c (Some x) = if bytes_eq x.0 c then Limited x.1 ∷ [] else []
 
 -- a submission or retry of a registered company, accepted or refused
-abbrev pub asked_event : Bool → Request → List Event
-asked_event true (request.Submit d) = Asked (request.Submit d) ∷ []
-asked_event true (request.Retry d) = Asked (request.Retry d) ∷ []
-asked_event _ _ = []
+abbrev pub request_event : Bool → Request → List Event
+request_event true (request.Submit d) = Asked (request.Submit d) ∷ []
+request_event true (request.Retry d) = Asked (request.Retry d) ∷ []
+request_event _ _ = []
 
 -- A company's own requests count whatever was answered, commands of the operator where they were
 -- accepted, and a file where it is new.
-abbrev pub given : List ℕ → List SentEntry → Bool → List ℕ → Bool → Message → List Event → List Event
-given odfi sent new c ok (Of k r) P = asked_event (bytes_eq k c && is_registered P) r
-given odfi sent new c true (SetDay text) P = option_to_list (option_map DaySet (day_set (SetDay text)))
-given odfi sent new c true (SetHolidays days) P = option_to_list (option_map HolidaysSet (result_ok days))
-given odfi sent new c true (PutCompany d) P = company_event c (company_put (PutCompany d))
-given odfi sent new c true (PutLimits d) P = limits_event c (limits_put (PutLimits d))
-given odfi sent new c true Cut P = CutMade ∷ []
-given odfi sent true c true (TakeFile (Ok f)) P = given_items odfi sent c f.items P
-given odfi sent new c _ _ P = []
+abbrev pub events_for : List ℕ → List SentEntry → Bool → List ℕ → Bool → Message → List Event → List Event
+events_for odfi sent_entries new c ok (Of k r) P = request_event (bytes_eq k c && is_registered P) r
+events_for odfi sent_entries new c true (SetDay text) P = option_to_list (option_map DaySet (message_day (SetDay text)))
+events_for odfi sent_entries new c true (SetHolidays days) P = option_to_list (option_map HolidaysSet (result_ok days))
+events_for odfi sent_entries new c true (PutCompany d) P = company_event c (message_company (PutCompany d))
+events_for odfi sent_entries new c true (PutLimits d) P = limits_event c (message_limits (PutLimits d))
+events_for odfi sent_entries new c true Cut P = CutMade ∷ []
+events_for odfi sent_entries true c true (TakeFile (Ok f)) P = item_events odfi sent_entries c f.items P
+events_for odfi sent_entries new c _ _ P = []
 
 -- ---- the part of each company, and what was sent
 
-abbrev pub sent_after : Bool → Message → List SentEntry → (List ℕ → List Event) → List Company → List SentEntry
-sent_after true Cut sent parts ks = sent_with sent (sending parts ks)
-sent_after _ _ sent parts ks = sent
+abbrev pub sent_entries_after : Bool → Message → List SentEntry → (List ℕ → List Event) → List Company → List SentEntry
+sent_entries_after true Cut sent_entries parts ks = with_sendings sent_entries (sendings parts ks)
+sent_entries_after _ _ sent_entries parts ks = sent_entries
 
 abbrev mutual
   -- a company's part of the history, by the originating bank's routing number and the company's identification
   pub part : List ℕ → List Pair → List ℕ → List Event
   part odfi [] c = []
-  part odfi (x ∷ H) c = given odfi (sent odfi H) (is_new H x.message) c (is_accepted x.answer) x.message (part odfi H c) ++ part odfi H c
+  part odfi (x ∷ H) c = events_for odfi (sent_entries odfi H) (is_new H x.message) c (is_accepted x.answer) x.message (part odfi H c) ++ part odfi H c
 
   -- the sent entries, the newest first
-  pub sent : List ℕ → List Pair → List SentEntry
-  sent odfi [] = []
-  sent odfi (x ∷ H) = sent_after (is_accepted x.answer) x.message (sent odfi H) (λ c. part odfi H c) (companies H)
+  pub sent_entries : List ℕ → List Pair → List SentEntry
+  sent_entries odfi [] = []
+  sent_entries odfi (x ∷ H) = sent_entries_after (is_accepted x.answer) x.message (sent_entries odfi H) (λ c. part odfi H c) (companies H)

@@ -5,26 +5,26 @@ use Rattle.std.specs.List.{enumerate_from}
 use Rattle.ach_files.specs.declared.facts.ItemFacts.{ItemFacts}
 use Rattle.ach_files.specs.declared.fault.Fault.{Fault}
 use Rattle.ach_files.specs.Facts.{FileFacts}
-use Rattle.desk_rules.specs.declared.refusal.Refusal.TheVariants.{NoDay, FileKeyReused}
+use Rattle.desk_rules.specs.declared.refusals.refusal.Refusal.TheVariants.{NoDay, FileKeyReused}
 use Rattle.desk_rules.specs.Deadlines.{is_late}
-use Rattle.desk_history.specs.declared.answer.Refusal.{Refusal}
-use Rattle.desk_history.specs.declared.answer.Refusal.TheVariants.{Rule, BadFile}
+use Rattle.desk_history.specs.declared.answer.CallRefusal.{CallRefusal}
+use Rattle.desk_history.specs.declared.answer.CallRefusal.TheVariants.{Rule, BadFile}
 use Rattle.desk_history.specs.declared.operations.Intake.{Intake}
 use Rattle.desk_history.specs.declared.operations.SuspenseRow.{SuspenseRow}
 use Rattle.desk_history.specs.declared.operations.TakenFile.{TakenFile}
-use Rattle.desk_history.specs.declared.operations.Why.{Why}
+use Rattle.desk_history.specs.declared.operations.SuspenseReason.{SuspenseReason}
 use Rattle.desk_history.specs.Part.{Event, Returned}
 use Rattle.desk_history.specs.Message.{Message, TakeFile, Pair, is_accepted}
-use Rattle.desk_history.specs.Resolve.{Resolved, is_return, outcomes}
-use Rattle.desk_history.specs.History.{day, holidays, is_new_file, part, sent}
+use Rattle.desk_history.specs.Resolve.{ResolvedItem, is_return, resolutions}
+use Rattle.desk_history.specs.History.{day, holidays, is_new_file, part, sent_entries}
 
--- what comes of each item of a file after the history
-abbrev pub outcomes_of : List ℕ → List Pair → List ItemFacts → List (Result Resolved Why)
-outcomes_of odfi H items = outcomes odfi (sent odfi H) (part odfi H) items
+-- the resolution of each item of a file after the history
+abbrev pub resolutions_of : List ℕ → List Pair → List ItemFacts → List (Result ResolvedItem SuspenseReason)
+resolutions_of odfi H items = resolutions odfi (sent_entries odfi H) (part odfi H) items
 
 -- ---- the counts
 
-abbrev pub is_event : Result Resolved Why → Bool
+abbrev pub is_event : Result ResolvedItem SuspenseReason → Bool
 is_event (Ok x) = true
 is_event (Err why) = false
 
@@ -33,7 +33,7 @@ is_returned_event (Returned reference index code information) = true
 is_returned_event _ = false
 
 -- an entry was returned
-abbrev pub is_return_taken : Result Resolved Why → Bool
+abbrev pub is_return_taken : Result ResolvedItem SuspenseReason → Bool
 is_return_taken (Err why) = false
 is_return_taken (Ok x) = is_returned_event x.event
 
@@ -42,12 +42,12 @@ is_late_event holidays d settled (Returned reference index code information) = i
 is_late_event holidays d settled _ = false
 
 -- a return that was taken after its deadline
-abbrev pub is_late_return : List ℕ → ℕ → Result Resolved Why → Bool
+abbrev pub is_late_return : List ℕ → ℕ → Result ResolvedItem SuspenseReason → Bool
 is_late_return holidays d (Err why) = false
 is_late_return holidays d (Ok x) = is_late_event holidays d x.entry.settled x.event
 
 -- the answer of a new file
-abbrev pub intake_of : List ℕ → ℕ → List (Result Resolved Why) → Intake
+abbrev pub intake_of : List ℕ → ℕ → List (Result ResolvedItem SuspenseReason) → Intake
 intake_of holidays d os = record {
   changes = count_by (λ o. is_event o && not (is_return_taken o)) os;
   day = d;
@@ -58,8 +58,8 @@ intake_of holidays d os = record {
 
 -- ---- the files that were taken
 
-abbrev pub taken_as : List ℕ → List Pair → ℕ → FileFacts → TakenFile
-taken_as odfi H d f = record { key = f.key; digest = f.digest; answer = intake_of (holidays H) d (outcomes_of odfi H f.items) }
+abbrev pub taken_file : List ℕ → List Pair → ℕ → FileFacts → TakenFile
+taken_file odfi H d f = record { key = f.key; digest = f.digest; answer = intake_of (holidays H) d (resolutions_of odfi H f.items) }
 
 abbrev pub if_new : List Pair → FileFacts → Option FileFacts
 if_new H f = if is_new_file H f.key then Some f else None
@@ -72,42 +72,42 @@ file_in H _ = None
 abbrev pub new_file : List Pair → Pair → Option FileFacts
 new_file H x = if is_accepted x.answer then file_in H x.message else None
 
-abbrev pub with_taken : List ℕ → List Pair → Option FileFacts → List TakenFile → List TakenFile
-with_taken odfi H None before = before
-with_taken odfi H (Some f) before = before ++ taken_as odfi H (unwrap_or (day H) 0) f ∷ []
+abbrev pub with_taken_file : List ℕ → List Pair → Option FileFacts → List TakenFile → List TakenFile
+with_taken_file odfi H None before = before
+with_taken_file odfi H (Some f) before = before ++ taken_file odfi H (unwrap_or (day H) 0) f ∷ []
 
 -- one for each accepted new file, in order
-abbrev pub taken : List ℕ → List Pair → List TakenFile
-taken odfi [] = []
-taken odfi (x ∷ H) = with_taken odfi H (new_file H x) (taken odfi H)
+abbrev pub taken_files : List ℕ → List Pair → List TakenFile
+taken_files odfi [] = []
+taken_files odfi (x ∷ H) = with_taken_file odfi H (new_file H x) (taken_files odfi H)
 
 abbrev pub has_key : List ℕ → TakenFile → Bool
 has_key key t = bytes_eq t.key key
 
 -- a file that was taken before answers as the first time, and its key with another digest is refused
-abbrev pub taken_again : List ℕ → List Pair → ℕ → FileFacts → Option TakenFile → Result Intake Refusal
-taken_again odfi H d f None = Ok (taken_as odfi H d f).answer
-taken_again odfi H d f (Some t) = if bytes_eq t.digest f.digest then Ok t.answer else Err (Rule FileKeyReused)
+abbrev pub intake_unless_known : List ℕ → List Pair → ℕ → FileFacts → Option TakenFile → Result Intake CallRefusal
+intake_unless_known odfi H d f None = Ok (taken_file odfi H d f).answer
+intake_unless_known odfi H d f (Some t) = if bytes_eq t.digest f.digest then Ok t.answer else Err (Rule FileKeyReused)
 
-abbrev pub taken_on : List ℕ → List Pair → Option ℕ → Result FileFacts Fault → Result Intake Refusal
-taken_on odfi H None file = Err (Rule NoDay)
-taken_on odfi H (Some d) (Err fault) = Err (BadFile fault)
-taken_on odfi H (Some d) (Ok f) = taken_again odfi H d f (find (has_key f.key) (taken odfi H))
+abbrev pub intake_on_day : List ℕ → List Pair → Option ℕ → Result FileFacts Fault → Result Intake CallRefusal
+intake_on_day odfi H None file = Err (Rule NoDay)
+intake_on_day odfi H (Some d) (Err fault) = Err (BadFile fault)
+intake_on_day odfi H (Some d) (Ok f) = intake_unless_known odfi H d f (find (has_key f.key) (taken_files odfi H))
 
--- what a file comes to, or the first of NoDay, BadFile and FileKeyReused
-abbrev pub take_file : List ℕ → List Pair → Result FileFacts Fault → Result Intake Refusal
-take_file odfi H file = taken_on odfi H (day H) file
+-- the counts of a file, or the first of NoDay, BadFile and FileKeyReused
+abbrev pub take_file : List ℕ → List Pair → Result FileFacts Fault → Result Intake CallRefusal
+take_file odfi H file = intake_on_day odfi H (day H) file
 
 -- ---- suspense
 
 -- the money that an item in suspense moves: none for a change
-abbrev pub suspended_cents : ItemFacts → ℕ
-suspended_cents item = if is_return item then item.amount else 0
+abbrev pub suspense_cents : ItemFacts → ℕ
+suspense_cents item = if is_return item then item.cents else 0
 
-abbrev pub suspended : List ℕ → ℕ → ℕ → ItemFacts → Result Resolved Why → Option SuspenseRow
-suspended key d number item (Ok x) = None
-suspended key d number item (Err why) = Some (record {
-  cents = suspended_cents item;
+abbrev pub suspense_row : List ℕ → ℕ → ℕ → ItemFacts → Result ResolvedItem SuspenseReason → Option SuspenseRow
+suspense_row key d number item (Ok x) = None
+suspense_row key d number item (Err why) = Some (record {
+  cents = suspense_cents item;
   code = item.code;
   day = d;
   file = key;
@@ -120,7 +120,7 @@ suspended key d number item (Err why) = Some (record {
 abbrev pub suspense_of : List ℕ → List Pair → Option FileFacts → List SuspenseRow
 suspense_of odfi H None = []
 suspense_of odfi H (Some f) =
-    filter_map (λ x. suspended f.key (unwrap_or (day H) 0) x.0 x.1.0 x.1.1) (enumerate_from 1 (zip f.items (outcomes_of odfi H f.items)))
+    filter_map (λ x. suspense_row f.key (unwrap_or (day H) 0) x.0 x.1.0 x.1.1) (enumerate_from 1 (zip f.items (resolutions_of odfi H f.items)))
 
 -- what stands in suspense, in order
 abbrev pub suspense : List ℕ → List Pair → List SuspenseRow

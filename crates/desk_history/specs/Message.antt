@@ -4,8 +4,8 @@ use Rattle.std.specs.Prelude.{ℕ, Bool, true, false, List, Option, Result}
 use Rattle.ach_files.specs.declared.fault.Fault.{Fault}
 use Rattle.ach_files.specs.Facts.{FileFacts}
 use Rattle.bank_days.specs.declared.calendar_fault.CalendarFault.{CalendarFault}
-use Rattle.desk_rules.specs.declared.draft.CompanyDraft.{CompanyDraft}
-use Rattle.desk_rules.specs.declared.draft.LimitsDraft.{LimitsDraft}
+use Rattle.desk_rules.specs.declared.bodies.draft.CompanyDraft.{CompanyDraft}
+use Rattle.desk_rules.specs.declared.bodies.draft.LimitsDraft.{LimitsDraft}
 use Rattle.desk_history.specs.declared.answer.Answer.{Answer}
 use Rattle.desk_history.specs.declared.answer.Answer.TheVariants.{Done, Refused}
 use Rattle.desk_history.specs.Request.{Request}

@@ -1,7 +1,7 @@
 -- What the history holds of one company: its part. The newest event stands first, so that what was
 -- before an event is the rest of the list.
 use Rattle.std.specs.Prelude.{ℕ, Bool, List, [], ◌∷◌, Option, Some, None, is_some, unwrap_or}
-use Rattle.desk_rules.specs.declared.company.Limits.{Limits}
+use Rattle.desk_rules.specs.declared.bodies.company.Limits.{Limits}
 use Rattle.desk_history.specs.Request.{Request}
 
 -- No event has a trace, a batch, a file or anything of another company.

@@ -1,22 +1,22 @@
 -- Which lists of events a history gives: one that returns and changes only what was sent, and returns
 -- each entry once.
 use Rattle.std.specs.Prelude.{◌≡◌, ◌≤◌, ⊤, ℕ, ◌-◌, false, List, [], ◌∷◌, Some, slice_get}
-use Rattle.desk_rules.specs.declared.submission.Entry.{Entry}
+use Rattle.desk_rules.specs.declared.bodies.submission.Entry.{Entry}
 use Rattle.desk_rules.specs.ReturnCodes.{IsCode}
 use Rattle.desk_history.specs.Part.{Event, Returned, Changed}
 use Rattle.desk_history.specs.State.{is_returned}
-use Rattle.desk_history.specs.Accepted.{Accepted, settled}
-use Rattle.desk_history.specs.Reports.{accepted_under}
+use Rattle.desk_history.specs.Accepted.{AcceptedSubmission, settlement_day}
+use Rattle.desk_history.specs.Reports.{submission_under}
 use Rattle.desk_history.specs.Message.{Pair}
 use Rattle.desk_history.specs.History.{part}
 
 -- an entry that was sent, by the reference of its submission and its number there
 pub record IsSentEntry (P : List Event) (reference : List ℕ) (index : ℕ) : Type 0 where
-  pub accepted : Accepted
+  pub accepted : AcceptedSubmission
   pub entry : Entry
   pub on : ℕ
-  pub called : accepted_under P reference ≡ Some accepted
-  pub sent : settled P accepted ≡ Some on
+  pub called : submission_under P reference ≡ Some accepted
+  pub sent : settlement_day P accepted ≡ Some on
   pub from : 1 ≤ index
   pub at : slice_get accepted.content.entries (index - 1) ≡ Some entry
 

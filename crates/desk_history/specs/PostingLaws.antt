@@ -7,7 +7,7 @@ use Rattle.desk_accounts.specs.Balance.{lines_of, lines_until, total, balance}
 use Rattle.desk_accounts.specs.Laws.{pairs}
 use Rattle.desk_accounts.specs.Sums.{sum_of}
 use Rattle.desk_history.specs.declared.identity.Identity.{Identity}
-use Rattle.desk_history.specs.declared.reports.Line.{Line}
+use Rattle.desk_history.specs.declared.reports.StatementLine.{StatementLine}
 use Rattle.desk_history.specs.Message.{Pair}
 use Rattle.desk_history.specs.Reports.{lines}
 use Rattle.desk_history.specs.History.{companies, part}
@@ -19,7 +19,7 @@ abbrev pub all_accounts : List Pair → List Account
 all_accounts H = Operator ∷ Suspense ∷ map (λ k. Company k.id) (companies H)
 
 pub record AccountsCancel : Type 0 where
-  -- each posting of a company or of suspense has its opposite on the operator's account behind it
+  -- each posting of a company or of suspense has its opposite on the operator's account after it
   pub opposites : (odfi : List ℕ) (H : List Pair) → postings odfi H ≡ pairs (own_lines odfi H)
   pub own : (odfi : List ℕ) (H : List Pair) → All (λ line. line.account ≢ Operator) (own_lines odfi H)
   -- on each day all lines sum to zero, and so do the balances of all accounts
@@ -28,7 +28,7 @@ pub record AccountsCancel : Type 0 where
       → sum_of (λ account. balance account d (postings identity.odfi H)) (all_accounts H) ≡ pos 0
 
 -- a line of a statement as it is posted
-abbrev pub posting_of : List ℕ → Line → Posting
+abbrev pub posting_of : List ℕ → StatementLine → Posting
 posting_of c l = record { account = Company c; value_day = l.day; cents = l.cents; cause = l.cause; reference = Some l.reference; idx = l.index }
 
 -- The postings of a company's account are the lines of its statement.

@@ -11,15 +11,15 @@ use Rattle.desk_accounts.specs.Posting.{cut_line, return_line, suspense_line}
 use Rattle.desk_rules.specs.Size.{total_of}
 use Rattle.desk_history.specs.declared.operations.DaySum.{DaySum}
 use Rattle.desk_history.specs.declared.operations.Settlement.{Settlement}
-use Rattle.desk_history.specs.declared.operations.Why.{Why}
+use Rattle.desk_history.specs.declared.operations.SuspenseReason.{SuspenseReason}
 use Rattle.desk_history.specs.Part.{Event, Returned}
 use Rattle.desk_history.specs.Message.{Message, Cut, Pair, is_accepted}
-use Rattle.desk_history.specs.declared.row.SentEntry.{SentEntry}
-use Rattle.desk_history.specs.Sending.{Sending, entries_in, is_debit_sending}
-use Rattle.desk_history.specs.Resolve.{Resolved, is_return}
+use Rattle.desk_history.specs.declared.sent_entry.SentEntry.{SentEntry}
+use Rattle.desk_history.specs.Sendings.{Sending, entries_in, is_debit_sending}
+use Rattle.desk_history.specs.Resolve.{ResolvedItem, is_return}
 use Rattle.desk_history.specs.History.{day}
-use Rattle.desk_history.specs.Files.{sends}
-use Rattle.desk_history.specs.Intake.{new_file, outcomes_of}
+use Rattle.desk_history.specs.Files.{cut_sendings}
+use Rattle.desk_history.specs.Intake.{new_file, resolutions_of}
 
 -- a line, if it moves money
 abbrev pub if_any : ℕ → Posting → List Posting
@@ -41,20 +41,20 @@ abbrev pub is_debit_code : ℕ → Bool
 is_debit_code transaction = nat_le 5 (transaction % 10)
 
 -- a return in suspense, valued on the desk day
-abbrev pub suspended_line : ℕ → ItemFacts → List Posting
-suspended_line d item =
-    if is_return item then if_any item.amount (suspense_line (is_debit_code item.transaction_code) item.amount d) else []
+abbrev pub suspense_lines : ℕ → ItemFacts → List Posting
+suspense_lines d item =
+    if is_return item then if_any item.cents (suspense_line (is_debit_code item.transaction_code) item.cents d) else []
 
-abbrev pub item_line : ℕ → ItemFacts → Result Resolved Why → List Posting
+abbrev pub item_line : ℕ → ItemFacts → Result ResolvedItem SuspenseReason → List Posting
 item_line d item (Ok x) = event_line d x.entry x.event
-item_line d item (Err why) = suspended_line d item
+item_line d item (Err why) = suspense_lines d item
 
 abbrev pub intake_lines : List ℕ → List Pair → Option FileFacts → List Posting
 intake_lines odfi H None = []
-intake_lines odfi H (Some f) = flat_map (λ x. item_line (unwrap_or (day H) 0) x.0 x.1) (zip f.items (outcomes_of odfi H f.items))
+intake_lines odfi H (Some f) = flat_map (λ x. item_line (unwrap_or (day H) 0) x.0 x.1) (zip f.items (resolutions_of odfi H f.items))
 
 abbrev pub cut_lines : List ℕ → List Pair → Bool → Message → List Posting
-cut_lines odfi H true Cut = flat_map sending_line (sends odfi H)
+cut_lines odfi H true Cut = flat_map sending_line (cut_sendings odfi H)
 cut_lines odfi H _ _ = []
 
 -- the lines of companies and of suspense, in order
@@ -62,7 +62,7 @@ abbrev pub own_lines : List ℕ → List Pair → List Posting
 own_lines odfi [] = []
 own_lines odfi (x ∷ H) = own_lines odfi H ++ (cut_lines odfi H (is_accepted x.answer) x.message ++ intake_lines odfi H (new_file H x))
 
--- all postings, in order: each of those lines, and its opposite behind it
+-- all postings, in order: each of those lines, and its opposite after it
 abbrev pub postings : List ℕ → List Pair → List Posting
 postings odfi H = pairs (own_lines odfi H)
 

@@ -1,7 +1,7 @@
 -- What a company asks.
 use Rattle.std.specs.Prelude.{ℕ, List}
-use Rattle.desk_rules.specs.declared.draft.Draft.{Draft}
-use Rattle.desk_rules.specs.declared.draft.RetryDraft.{RetryDraft}
+use Rattle.desk_rules.specs.declared.bodies.draft.Draft.{Draft}
+use Rattle.desk_rules.specs.declared.bodies.draft.RetryDraft.{RetryDraft}
 
 pub data Request : Type 0 where
   Submit : Draft → Request

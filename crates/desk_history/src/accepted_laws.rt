@@ -1,4 +1,4 @@
-//! Laws of what is accepted.
+//! The laws of what is accepted stand here.
 ghost use Rattle.desk_history.specs.AcceptedLaws.{AcceptedInOrder};
 
 /// What a company handed in and the desk accepted is numbered from 1 in the order in which it came, each

@@ -1,8 +1,8 @@
-//! Laws of postings and accounts.
+//! The laws of postings and accounts stand here.
 ghost use Rattle.desk_history.specs.PostingLaws.{AccountsCancel};
 
-/// Each line of a company or of suspense has its opposite on the operator's account behind it, so
-/// that on each day all lines sum to zero, and so do the balances of all accounts.
+/// Each line of a company or of suspense has its opposite on the operator's account right after it,
+/// so that on each day all lines sum to zero, and so do the balances of all accounts.
 pub fn accounts_cancel()
     ensures { AccountsCancel }
 {

@@ -1,44 +1,44 @@
 use crate::{
-    ChangeRow, CutDone, DayRates, Exposure, Found, Intake, Listed, Receipt, ReturnRow, Settlement,
-    Statement, SuspenseRow,
+    ChangeRow, CutSummary, DayRates, Exposure, Intake, ListOf, Receipt, ReturnRow, Settlement,
+    Statement, SubmissionReport, SuspenseRow,
 };
 use ach_fields::Id;
 use ach_files::Fault;
 use bank_days::{CalendarFault, Day};
 
-/// What a call came to.
+/// An `Outcome` is what a call that was not refused did or found.
 #[derive(Drop)]
-pub enum Done {
-    /// An accepted submission or retry, for the first time or again.
+pub enum Outcome {
+    /// The receipt of an accepted submission or retry, for the first time or again.
     Submitted(Receipt),
-    /// A submission that was looked up; none where the reference is unknown.
-    Found(Option<Found>),
+    /// The report of a submission that was looked up; none where the reference is unknown.
+    Found(Option<SubmissionReport>),
     /// The returns in the order in which they came.
-    Returns(Listed<ReturnRow>),
+    Returns(ListOf<ReturnRow>),
     /// The changes in the order in which they came.
-    Changes(Listed<ChangeRow>),
+    Changes(ListOf<ChangeRow>),
     Statement(Statement),
     Rates(DayRates),
     Exposure(Exposure),
     /// The new desk day.
     Day(Day),
-    /// How many days the new holiday list has.
+    /// The number of days of the new holiday list.
     Holidays(u64),
     /// The company that was registered, or whose limits were set.
     Company(Id),
-    Cut(CutDone),
+    Cut(CutSummary),
     Taken(Intake),
     /// The text of a file; none where there is no such file.
-    File(Option<Listed<u8>>),
+    File(Option<ListOf<u8>>),
     Settlement(Settlement),
-    /// What stands in suspense, in the order in which it came.
-    Suspense(Listed<SuspenseRow>),
+    /// The items in suspense, in the order in which they came.
+    Suspense(ListOf<SuspenseRow>),
 }
 
-/// Why a call is refused.
+/// A `CallRefusal` says why a call is refused.
 #[derive(Clone, Copy, Debug, PartialEq, Eq, Drop)]
-pub enum Refusal {
-    /// By a rule of the desk.
+pub enum CallRefusal {
+    /// A rule of the desk refuses it.
     Rule(desk_rules::Refusal),
     /// The file has this fault.
     BadFile(Fault),
@@ -46,9 +46,9 @@ pub enum Refusal {
     BadCalendar(CalendarFault),
 }
 
-/// The answer to a call.
+/// An `Answer` is the answer to a call: it is done, or refused.
 #[derive(Drop)]
 pub enum Answer {
-    Done(Done),
-    Refused(Refusal),
+    Done(Outcome),
+    Refused(CallRefusal),
 }

@@ -1,9 +1,10 @@
-use crate::Listed;
+use crate::ListOf;
 use ach_fields::{Id, Ref};
 use bank_days::Day;
 use desk_rules::{CompanyDraft, Draft, DraftText, LimitsDraft, RetryDraft};
 
-/// What the desk is asked: by the operator, or by a company, which the call names first.
+/// A `Call` is what the desk is asked: by the operator, or by a company, which the call names
+/// first.
 #[derive(Drop)]
 pub enum Call {
     /// Registers a company.
@@ -13,31 +14,31 @@ pub enum Call {
     /// Sets the desk day, from the text of a date.
     SetDay(Option<DraftText>),
     /// Sets the holiday list, from its CSV text.
-    SetHolidays(Listed<u8>),
+    SetHolidays(ListOf<u8>),
     /// Sends what is due.
     Cut,
     /// Takes a file of returns and changes, from its bytes.
-    TakeFile(Listed<u8>),
-    /// The text of a file that a cut made, by its day and its modifier.
+    TakeFile(ListOf<u8>),
+    /// Reads the text of a file that a cut made, by its day and its modifier.
     FileText(Day, u8),
-    /// The operator's balance.
+    /// Reads the operator's account.
     Settlement,
-    /// The items that stand in suspense.
+    /// Reads the items that stand in suspense.
     SuspenseItems,
     /// Hands in a submission.
     Submit(Id, Draft),
-    /// Asks to try a returned debit again.
+    /// Asks to try a returned debit again (Nacha's reinitiation).
     Retry(Id, RetryDraft),
-    /// What became of a submission.
+    /// Looks up a submission and the states of its entries.
     LookUp(Id, Ref),
-    /// The returns of a company's entries.
+    /// Reads the returns of a company's entries.
     ReturnsOf(Id),
-    /// The notifications of change of a company's entries.
+    /// Reads the notifications of change of a company's entries.
     ChangesOf(Id),
-    /// The lines of a company's account, and its balance.
+    /// Reads the lines of a company's account, and its balance.
     StatementOf(Id),
-    /// A company's return rates.
+    /// Reads a company's return rates.
     RatesOf(Id),
-    /// A company's exposure, and its limits.
+    /// Reads a company's exposure, and its limits.
     ExposureOf(Id),
 }

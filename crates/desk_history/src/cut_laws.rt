@@ -1,4 +1,4 @@
-//! Laws of cuts and of traces.
+//! The laws of cuts and of traces stand here.
 ghost use Rattle.desk_history.specs.SentLaws.{AcceptedCuts, TracesName, TracesOfCuts};
 
 /// A cut that was accepted had a desk day, took only sequences that were free, and had modifiers for

@@ -1,6 +1,6 @@
 use ach_fields::{Routing, ShortText};
 
-/// Whose desk it is.
+/// An `Identity` says whose desk it is.
 #[derive(Clone, Copy, Debug, PartialEq, Eq, Drop)]
 pub struct Identity {
     /// The originating bank (ODFI): its first eight digits begin each trace.

@@ -1,6 +1,6 @@
-//! Laws of all histories.
+//! The laws of all histories stand here.
 ghost use Rattle.desk_history.specs.Calls.{OneMessage};
-ghost use Rattle.desk_history.specs.Laws.{TwoWorlds, RowsOfPart};
+ghost use Rattle.desk_history.specs.Laws.{TwoWorlds};
 
 /// Each call is one message: the bytes of a file are one file, or have one first fault.
 pub fn one_message()
@@ -13,9 +13,4 @@ pub fn one_message()
 /// A company is answered alike in two histories that have the same part of it, whatever others did.
 pub fn two_worlds()
     ensures { TwoWorlds }
-{}
-
-/// What a desk holds of a company's submissions, returns and changes is a function of its part.
-pub fn rows_of_part()
-    ensures { RowsOfPart }
 {}

@@ -1,69 +1,70 @@
-//! What the operator is told.
-use crate::Listed;
+//! The operator is told these.
+use crate::ListOf;
 use ach_fields::Cents;
 use bank_days::Day;
 
-/// What a cut did.
+/// A `CutSummary` says what a cut did.
 #[derive(Drop)]
-pub struct CutDone {
+pub struct CutSummary {
     pub day: Day,
-    /// How many entries it sent.
+    /// The number of entries that it sent.
     pub entries: u64,
     /// The modifiers of the files that it made, in order.
-    pub files: Listed<u8>,
-    /// How many retries lapsed.
+    pub files: ListOf<u8>,
+    /// The number of retries that lapsed.
     pub lapsed: u64,
 }
 
-/// What came of an incoming file, on the day on which it was first taken.
+/// An `Intake` counts the items of an incoming file, as of the day on which it was first taken.
 #[derive(Clone, Copy, Debug, PartialEq, Eq, Drop)]
 pub struct Intake {
-    /// How many changes were listed.
+    /// The number of changes that were listed.
     pub changes: u64,
     pub day: Day,
-    /// How many of the returns came after their deadline.
+    /// The number of returns that came after their deadline.
     pub late: u64,
-    /// How many entries were returned.
+    /// The number of entries that were returned.
     pub returns: u64,
-    /// How many items stand in suspense.
+    /// The number of items that stand in suspense.
     pub suspense: u64,
 }
 
-/// What an account's lines of one value day sum to.
+/// A `DaySum` is the sum of an account's lines of one value day.
 #[derive(Clone, Copy, Debug, PartialEq, Eq, Drop)]
 pub struct DaySum {
+    /// The sum in cents.
     pub cents: i128,
     pub day: Day,
 }
 
-/// The operator's account on the desk day.
+/// A `Settlement` is the operator's account on the desk day.
 #[derive(Drop)]
 pub struct Settlement {
-    /// The sum of the lines that count on the day.
+    /// The sum of the lines that count on the day, in cents.
     pub balance: i128,
     pub day: Day,
     /// The sums of all value days, ascending.
-    pub days: Listed<DaySum>,
+    pub days: ListOf<DaySum>,
 }
 
-/// Why an item of an incoming file stands in suspense.
+/// A `SuspenseReason` says why an item of an incoming file stands in suspense.
 #[derive(Clone, Copy, Debug, PartialEq, Eq, Drop)]
-pub enum Why {
+pub enum SuspenseReason {
     /// No sent entry has its original trace.
     NoTrace,
     /// The entry that has the trace is another one: in its SEC code, its transaction code, its receiving
     /// bank or, for a return, its amount.
     Differs,
-    /// A return code outside R01 to R29, or a change code outside C01 to C14.
+    /// The return code is outside R01 to R29, or the change code outside C01 to C14.
     CodeOutside,
-    /// A return of an entry that was returned before.
+    /// The entry was returned before.
     AlreadyReturned,
 }
 
-/// An item that stands in suspense.
+/// A `SuspenseRow` is an item that stands in suspense.
 #[derive(Clone, Copy, Debug, PartialEq, Eq, Drop)]
 pub struct SuspenseRow {
-    /// Zero for a change.
+    /// The amount of a return in cents, zero for a change.
     pub cents: Cents,
     /// Its return or change code.
     pub code: [u8; 3],
@@ -75,10 +76,10 @@ pub struct SuspenseRow {
     pub item: u64,
     /// The trace of the entry that it answers.
     pub trace: [u8; 15],
-    pub why: Why,
+    pub why: SuspenseReason,
 }
 
-/// An incoming file that was taken, with its answer.
+/// A `TakenFile` is an incoming file that was taken, with its answer.
 #[derive(Clone, Copy, Debug, PartialEq, Eq, Drop)]
 pub struct TakenFile {
     /// Origin, date, time and modifier, as its header has them.

@@ -1,4 +1,4 @@
-//! Laws of what a desk sent.
+//! The laws of what a desk sent stand here.
 ghost use Rattle.desk_history.specs.Possible.{PossibleParts};
 ghost use Rattle.desk_history.specs.SentLaws.{SentAreAccepted};
 

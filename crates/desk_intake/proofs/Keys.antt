@@ -11,10 +11,10 @@ use Rattle.std.proofs.lemmas.Bool.Decides.{nat_tests, same_from_decides, Decides
 use Rattle.std.proofs.lemmas.Cmp.{same_from_slice_cmp}
 use Rattle.std.proofs.lemmas.List.{take_at}
 use Rattle.std.proofs.lemmas.Slice.Eq.{bytes_eq-Decides}
-use Rattle.desk_history.specs.declared.row.SentEntry.{SentEntry}
+use Rattle.desk_history.specs.declared.sent_entry.SentEntry.{SentEntry}
 use Rattle.desk_book.specs.OnIntake.{is_same_entry}
-use Rattle.desk_intake.specs.declared.earlier.EntryKey.{EntryKey}
-use Rattle.desk_intake.specs.Earlier.{with_zeros, key_of, key_cmp}
+use Rattle.desk_intake.specs.declared.returned_entries.EntryKey.{EntryKey}
+use Rattle.desk_intake.specs.ReturnedEntries.{with_zeros, key_of, key_cmp}
 
 -- ---- texts with zeros after them
 

@@ -1,3 +1,3 @@
-pub mod Earlier
-pub mod Outcomes
 pub mod Plans
+pub mod Resolutions
+pub mod ReturnedEntries

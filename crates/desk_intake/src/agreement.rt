@@ -1,27 +1,19 @@
 //! Is an item of the entry that its trace names?
 ghost use Rattle.std.specs.Prelude.{◌≡◌, ◌==◌, if◌then◌else◌, codes, true};
-ghost use Rattle.desk_history.specs.Resolve.{agrees, is_change_code, is_return, is_savings, receiving_dfi, returned_transaction, sec_text};
+ghost use Rattle.desk_history.specs.Resolve.{agrees, is_change_code, is_return, is_savings, receiving_dfi, returned_transaction};
+ghost use Rattle.desk_rules.specs.Fields.{sec_text};
 
-use ach_files::{ItemFacts, Reply};
+use ach_files::{ItemFacts, ReturnOrChange};
 use desk_history::SentEntry;
-use desk_rules::{AccountKind, SecCode};
+use desk_rules::AccountKind;
 
 /// Is it a return, and no change?
 pub(crate) fn is_return(item: &ItemFacts) -> bool
     ensures { result ≡ is_return item.now }
 {
-    match item.reply {
-        Reply::Return(_) => true,
-        Reply::Change(_) => false,
-    }
-}
-
-fn sec_text(sec: SecCode) -> [u8; 3]
-    ensures { result ≡ sec_text sec }
-{
-    match sec {
-        SecCode::Ppd => *b"PPD",
-        SecCode::Ccd => *b"CCD",
+    match item.return_or_change {
+        ReturnOrChange::Return(_) => true,
+        ReturnOrChange::Change(_) => false,
     }
 }
 
@@ -30,7 +22,7 @@ fn batch_sec(entry: &SentEntry, item: &ItemFacts) -> [u8; 3]
     ensures { result ≡ (if is_return item.now then sec_text entry.now.sec else codes "COR") }
 {
     if is_return(item) {
-        sec_text(entry.sec)
+        *entry.sec.text()
     } else {
         *b"COR"
     }
@@ -59,10 +51,10 @@ fn receiving_dfi(entry: &SentEntry) -> [u8; 8]
 
 // A change moves no money, so only a return has the entry's amount.
 fn has_amount(entry: &SentEntry, item: &ItemFacts) -> bool
-    ensures { result ≡ (if is_return item.now then item.now.amount == entry.now.entry.cents else true) }
+    ensures { result ≡ (if is_return item.now then item.now.cents == entry.now.entry.cents else true) }
 {
     if is_return(item) {
-        item.amount == entry.entry.cents
+        item.cents == entry.entry.cents
     } else {
         true
     }

@@ -1,9 +1,9 @@
-//! The answer to a file.
+//! The answer to a file counts its items.
 ghost use Rattle.std.specs.Prelude.{◌≡◌, count_by, length};
 
 use bank_days::Day;
+use desk_book::{ChangedRow, ReturnedRow};
 use desk_history::{Intake, SuspenseRow};
-use desk_store::{ChangedRow, ReturnedRow};
 
 fn late_among(returned: &[ReturnedRow]) -> usize
     ensures { result ≡ count_by (λ r. r.row.late) returned.now }
@@ -11,7 +11,7 @@ fn late_among(returned: &[ReturnedRow]) -> usize
     returned.iter().filter(|returned| returned.row.late).count()
 }
 
-/// What the rows count.
+/// Counts the rows.
 pub(crate) fn counts(
     day: Day,
     returned: &[ReturnedRow],

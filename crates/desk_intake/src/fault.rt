@@ -3,10 +3,10 @@ ghost use Rattle.desk_intake.specs.declared.fault.IntakeFault.TheVariants.{NoMem
 
 use std::alloc::{AllocError, AllocFailed};
 
-/// Why there is no plan of a file.
+/// An `IntakeFault` says why there is no plan of a file.
 #[derive(Clone, Copy, Debug, PartialEq, Eq, Drop)]
 pub enum IntakeFault {
-    /// Memory was refused.
+    /// The plan is out of memory.
     NoMemory,
     /// A named entry settles after 2100-01-31.
     OutOfRange,

@@ -1,27 +1,25 @@
-//! The plan of an incoming file.
+//! An incoming file is planned here.
 ghost use Rattle.std.specs.Prelude.{◌≡◌, IfOk, IsErrOf, false};
 ghost use Rattle.std.specs.List.{list_all};
 ghost use Rattle.desk_book.specs.OnIntake.{intake_write};
-ghost use Rattle.desk_intake.specs.Outcomes.{is_in_range, settles_in_range};
-ghost use Rattle.desk_intake.specs.Plans.{facts_given, judged_write, plan_write};
+ghost use Rattle.desk_intake.specs.Resolutions.{is_in_range, settles_in_range};
+ghost use Rattle.desk_intake.specs.Plans.{intake_facts_of, write_of_items, plan_write};
 ghost use Rattle.desk_intake.specs.declared.fault.IntakeFault.TheVariants.{OutOfRange};
 
 use crate::counts::counts;
 use crate::fault::IntakeFault;
-use crate::found::{FoundItem, Named};
-use crate::judged::{Judged, judge};
+use crate::found_item::{FoundItem, NamedEntry};
+use crate::judged_item::{JudgedItem, judge};
 use crate::postings::postings_of;
 use crate::rows::{changed_rows, returned_rows, suspense_rows};
 use bank_days::{Calendar, Day};
 use desk_accounts::Posting;
+use desk_book::{ChangedRow, ReturnedRow};
 use desk_history::{SuspenseRow, TakenFile};
-use desk_store::{ChangedRow, ReturnedRow};
+use desk_rules::LAST_RULE_DAY;
 use std::alloc::{AllocError, Global};
 
-/// The last day on which an entry may settle that has a deadline, 2100-01-31.
-const LAST_RULE_DAY: i64 = 47_512;
-
-/// All that an incoming file writes.
+/// An `IntakePlan` is all that an incoming file writes.
 #[derive(Drop)]
 pub struct IntakePlan {
     /// The entries that come back.
@@ -30,13 +28,13 @@ pub struct IntakePlan {
     pub changed: Vec<ChangedRow>,
     /// The items that give no event.
     pub suspense: Vec<SuspenseRow>,
-    /// The lines of companies and of suspense, each with its opposite behind it.
+    /// The lines of companies and of suspense, each with its opposite after it.
     pub postings: Vec<Posting>,
     /// The file, with its answer.
     pub file: TakenFile,
 }
 
-fn settles_in_range(named: &Option<Named>) -> bool
+fn settles_in_range(named: &Option<NamedEntry>) -> bool
     ensures { result ≡ settles_in_range named.now }
 {
     match named {
@@ -53,15 +51,15 @@ fn are_in_range(found: &[FoundItem]) -> bool
         .all(|found_item| settles_in_range(&found_item.named))
 }
 
-fn plan_judged(
+fn plan_of_items(
     alloc: Global,
     key: [u8; 21],
     digest: [u8; 32],
-    judged: &[Judged],
+    judged: &[JudgedItem],
     day: Day,
     holidays: &Calendar,
 ) -> Result<IntakePlan, AllocError>
-    ensures { IfOk result (λ plan. plan_write plan ≡ judged_write key digest judged.now day holidays.now) }
+    ensures { IfOk result (λ plan. plan_write plan ≡ write_of_items key digest judged.now day holidays.now) }
 {
     let returned = returned_rows(alloc, judged, day, holidays)?;
     let changed = changed_rows(alloc, judged, day)?;
@@ -81,10 +79,10 @@ fn plan_judged(
     })
 }
 
-/// The plan of a file with this key and digest that is taken on a day: what comes of its items, each
-/// with what its trace names.
+/// Plans a file with this key and digest that is taken on a day, by the resolutions of its items,
+/// each with what its trace names.
 ///
-/// `OutOfRange` where a named entry settles after 2100-01-31; a desk sends none.
+/// It is `OutOfRange` where a named entry settles after 2100-01-31; a desk sends none.
 pub fn plan_intake(
     alloc: Global,
     key: [u8; 21],
@@ -93,13 +91,13 @@ pub fn plan_intake(
     day: Day,
     holidays: &Calendar,
 ) -> Result<IntakePlan, IntakeFault>
-    ensures plan { IfOk result (λ plan. plan_write plan ≡ intake_write (facts_given key digest found.now day holidays.now)) }
+    ensures plan { IfOk result (λ plan. plan_write plan ≡ intake_write (intake_facts_of key digest found.now day holidays.now)) }
     ensures range { IsErrOf result OutOfRange → list_all is_in_range found.now ≡ false }
 {
     if !are_in_range(found) {
         return Err(IntakeFault::OutOfRange);
     }
     let judged = judge(alloc, found)?;
-    let plan = plan_judged(alloc, key, digest, &judged, day, holidays)?;
+    let plan = plan_of_items(alloc, key, digest, &judged, day, holidays)?;
     Ok(plan)
 }

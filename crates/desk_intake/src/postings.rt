@@ -1,21 +1,21 @@
-//! The postings of a file.
+//! A file posts its returns.
 ghost use Rattle.std.specs.Prelude.{◌≡◌, ◌++◌, [], map, unwrap_or, IfOk, OnOk};
 ghost use Rattle.std.specs.List.{flat_map};
 ghost use Rattle.desk_accounts.specs.Laws.{pairs};
-ghost use Rattle.desk_history.specs.Postings.{event_line, is_debit_code, item_line, suspended_line};
-ghost use Rattle.desk_intake.specs.Outcomes.{judged_as, met_as, outcome_of};
+ghost use Rattle.desk_history.specs.Postings.{event_line, is_debit_code, item_line, suspense_lines};
+ghost use Rattle.desk_intake.specs.Resolutions.{judged_as, matched_item_as, resolution_of};
 
 use crate::agreement::is_return as is_return_item;
-use crate::judged::Judged;
-use crate::met::{Met, Reaction};
+use crate::judged_item::JudgedItem;
+use crate::matched_item::{MatchedItem, Reaction};
 use ach_files::ItemFacts;
 use bank_days::Day;
 use desk_accounts::{Posting, post_return, post_suspense};
 use std::alloc::{AllocError, Global};
 
 // The money of an entry that comes back.
-fn returned_pair(met: &Met, day: Day) -> Option<[Posting; 2]>
-    ensures { unwrap_or result [] ≡ pairs (event_line day met.now.entry (met_as met.now).event) }
+fn returned_pair(met: &MatchedItem, day: Day) -> Option<[Posting; 2]>
+    ensures { unwrap_or result [] ≡ pairs (event_line day met.now.entry (matched_item_as met.now).event) }
 {
     let Reaction::Return { .. } = met.reaction else {
         return None;
@@ -38,22 +38,22 @@ fn is_debit_code(transaction: u8) -> bool
 }
 
 // The money of a return in suspense.
-fn suspended_pair(item: &ItemFacts, day: Day) -> Option<[Posting; 2]>
-    ensures { unwrap_or result [] ≡ pairs (suspended_line day item.now) }
+fn suspense_pair(item: &ItemFacts, day: Day) -> Option<[Posting; 2]>
+    ensures { unwrap_or result [] ≡ pairs (suspense_lines day item.now) }
 {
     if !is_return_item(item) {
         return None;
     }
-    post_suspense(is_debit_code(item.transaction_code), item.amount, day)
+    post_suspense(is_debit_code(item.transaction_code), item.cents, day)
 }
 
 // The two lines of an item, if it moves money.
-fn pair_of(judged: &Judged, day: Day) -> Option<[Posting; 2]>
-    ensures { unwrap_or result [] ≡ pairs (item_line day judged.now.item (outcome_of judged.now)) }
+fn pair_of(judged: &JudgedItem, day: Day) -> Option<[Posting; 2]>
+    ensures { unwrap_or result [] ≡ pairs (item_line day judged.now.item (resolution_of judged.now)) }
 {
     match &judged.outcome {
         Ok(met) => returned_pair(met, day),
-        Err(_) => suspended_pair(&judged.item, day),
+        Err(_) => suspense_pair(&judged.item, day),
     }
 }
 
@@ -66,10 +66,10 @@ fn push_pair(postings: &mut Vec<Posting>, pair: Option<[Posting; 2]>) -> Result<
     Ok(())
 }
 
-/// The lines of companies and of suspense, each with its opposite behind it.
+/// Gives the lines of companies and of suspense, each with its opposite after it.
 pub(crate) fn postings_of(
     alloc: Global,
-    judged: &[Judged],
+    judged: &[JudgedItem],
     day: Day,
 ) -> Result<Vec<Posting>, AllocError>
     ensures { IfOk result (λ postings. postings.items ≡ pairs (flat_map (λ y. item_line day y.0 y.1) (map judged_as judged.now))) }

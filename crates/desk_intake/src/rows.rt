@@ -1,23 +1,23 @@
-//! The rows that a file writes.
+//! A file writes these rows.
 ghost use Rattle.std.specs.Prelude.{◌≡◌, filter_map, map, IfOk};
 ghost use Rattle.std.specs.List.{enumerate_from};
-ghost use Rattle.desk_history.specs.Intake.{suspended, suspended_cents};
+ghost use Rattle.desk_history.specs.Intake.{suspense_row, suspense_cents};
 ghost use Rattle.desk_book.specs.OnIntake.{changed_row, returned_row};
-ghost use Rattle.desk_intake.specs.Outcomes.{judged_as, outcome_of};
+ghost use Rattle.desk_intake.specs.Resolutions.{judged_as, resolution_of};
 
 use crate::agreement::is_return;
-use crate::judged::Judged;
-use crate::met::Reaction;
+use crate::judged_item::JudgedItem;
+use crate::matched_item::Reaction;
 use ach_fields::Cents;
 use ach_files::ItemFacts;
 use bank_days::{Calendar, Day};
+use desk_book::{ChangedRow, ReturnedRow};
 use desk_history::{ChangeRow, ReturnRow, SuspenseRow};
 use desk_rules::is_late;
-use desk_store::{ChangedRow, ReturnedRow};
 use std::alloc::{AllocError, Global};
 
-fn returned_row(judged: &Judged, day: Day, holidays: &Calendar) -> Option<ReturnedRow>
-    ensures { result ≡ returned_row holidays.now day (outcome_of judged.now) }
+fn returned_row(judged: &JudgedItem, day: Day, holidays: &Calendar) -> Option<ReturnedRow>
+    ensures { result ≡ returned_row holidays.now day (resolution_of judged.now) }
 {
     let Ok(met) = &judged.outcome else {
         return None;
@@ -39,14 +39,14 @@ fn returned_row(judged: &Judged, day: Day, holidays: &Calendar) -> Option<Return
     })
 }
 
-/// The entries that come back.
+/// Gives the entries that come back.
 pub(crate) fn returned_rows(
     alloc: Global,
-    judged: &[Judged],
+    judged: &[JudgedItem],
     day: Day,
     holidays: &Calendar,
 ) -> Result<Vec<ReturnedRow>, AllocError>
-    ensures { IfOk result (λ rows. rows.items ≡ filter_map (returned_row holidays.now day) (map outcome_of judged.now)) }
+    ensures { IfOk result (λ rows. rows.items ≡ filter_map (returned_row holidays.now day) (map resolution_of judged.now)) }
 {
     let mut rows = Vec::new(alloc);
     for one in judged {
@@ -57,8 +57,8 @@ pub(crate) fn returned_rows(
     Ok(rows)
 }
 
-fn changed_row(judged: &Judged, day: Day) -> Option<ChangedRow>
-    ensures { result ≡ changed_row day (outcome_of judged.now) }
+fn changed_row(judged: &JudgedItem, day: Day) -> Option<ChangedRow>
+    ensures { result ≡ changed_row day (resolution_of judged.now) }
 {
     let Ok(met) = &judged.outcome else {
         return None;
@@ -79,13 +79,13 @@ fn changed_row(judged: &Judged, day: Day) -> Option<ChangedRow>
     })
 }
 
-/// The entries of which a change is told.
+/// Gives the entries of which a change is told.
 pub(crate) fn changed_rows(
     alloc: Global,
-    judged: &[Judged],
+    judged: &[JudgedItem],
     day: Day,
 ) -> Result<Vec<ChangedRow>, AllocError>
-    ensures { IfOk result (λ rows. rows.items ≡ filter_map (changed_row day) (map outcome_of judged.now)) }
+    ensures { IfOk result (λ rows. rows.items ≡ filter_map (changed_row day) (map resolution_of judged.now)) }
 {
     let mut rows = Vec::new(alloc);
     for one in judged {
@@ -97,24 +97,24 @@ pub(crate) fn changed_rows(
 }
 
 // A change moves no money.
-fn suspended_cents(item: &ItemFacts) -> Cents
-    ensures { result ≡ suspended_cents item.now }
+fn suspense_cents(item: &ItemFacts) -> Cents
+    ensures { result ≡ suspense_cents item.now }
 {
     if is_return(item) {
-        item.amount
+        item.cents
     } else {
         Cents::new(0).unwrap()
     }
 }
 
-fn suspended(judged: &Judged, key: [u8; 21], day: Day, number: u64) -> Option<SuspenseRow>
-    ensures { result ≡ suspended key day number judged.now.item (outcome_of judged.now) }
+fn suspense_row(judged: &JudgedItem, key: [u8; 21], day: Day, number: u64) -> Option<SuspenseRow>
+    ensures { result ≡ suspense_row key day number judged.now.item (resolution_of judged.now) }
 {
     let Err(why) = judged.outcome else {
         return None;
     };
     Some(SuspenseRow {
-        cents: suspended_cents(&judged.item),
+        cents: suspense_cents(&judged.item),
         code: judged.item.code,
         day,
         file: key,
@@ -124,18 +124,18 @@ fn suspended(judged: &Judged, key: [u8; 21], day: Day, number: u64) -> Option<Su
     })
 }
 
-/// What stands in suspense, with the numbers of its items in the file, from 1.
+/// Gives what stands in suspense, with the numbers of its items in the file, from 1.
 pub(crate) fn suspense_rows(
     alloc: Global,
-    judged: &[Judged],
+    judged: &[JudgedItem],
     key: [u8; 21],
     day: Day,
 ) -> Result<Vec<SuspenseRow>, AllocError>
-    ensures { IfOk result (λ rows. rows.items ≡ filter_map (λ y. suspended key day y.0 y.1.0 y.1.1) (enumerate_from 1 (map judged_as judged.now))) }
+    ensures { IfOk result (λ rows. rows.items ≡ filter_map (λ y. suspense_row key day y.0 y.1.0 y.1.1) (enumerate_from 1 (map judged_as judged.now))) }
 {
     let mut rows = Vec::new(alloc);
     for (index, one) in judged.iter().enumerate() {
-        if let Some(row) = suspended(one, key, day, index as u64 + 1) {
+        if let Some(row) = suspense_row(one, key, day, index as u64 + 1) {
             rows.push(row)?;
         }
     }

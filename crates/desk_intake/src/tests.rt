@@ -1,12 +1,14 @@
-//! Worked cases: files about a debit of 250.00 that settled on Friday, 2025-01-10.
-use crate::{FoundItem, IntakeFault, IntakePlan, Named, plan_intake};
+//! These are worked cases: files about a debit of 250.00 that settled on Friday, 2025-01-10.
+use crate::{FoundItem, IntakeFault, IntakePlan, NamedEntry, plan_intake};
 use ach_fields::{Cents, Id, Ref, Routing, ShortText};
-use ach_files::{ItemFacts, Reply};
+use ach_files::{ItemFacts, ReturnOrChange};
 use bank_days::{Calendar, Day};
 use desk_accounts::{Account, Cause, Posting};
-use desk_history::{ChangeRow, Intake, ReturnRow, SentEntry, SuspenseRow, TakenFile, Why};
+use desk_book::{ChangedRow, ReturnedRow};
+use desk_history::{
+    ChangeRow, Intake, ReturnRow, SentEntry, SuspenseReason, SuspenseRow, TakenFile,
+};
 use desk_rules::{AccountKind, Entry, ReturnCode, SecCode};
-use desk_store::{ChangedRow, ReturnedRow};
 use std::alloc::Global;
 use std::process::Abort;
 use std::test::Fail;
@@ -61,8 +63,8 @@ fn sent(rt: &impl Abort) -> SentEntry {
     }
 }
 
-fn named(rt: &impl Abort) -> Option<Named> {
-    Some(Named {
+fn named(rt: &impl Abort) -> Option<NamedEntry> {
+    Some(NamedEntry {
         entry: sent(rt),
         returned: false,
     })
@@ -73,11 +75,11 @@ fn returned_item(rt: &impl Abort) -> ItemFacts {
     ItemFacts {
         sec_code: *b"PPD",
         transaction_code: 26,
-        amount: cents(rt, 25_000),
+        cents: cents(rt, 25_000),
         code: *b"R01",
         original_trace: *b"121042880000001",
         original_dfi: *b"09100001",
-        reply: Reply::Return([b' '; 44]),
+        return_or_change: ReturnOrChange::Return([b' '; 44]),
     }
 }
 
@@ -86,11 +88,11 @@ fn changed_item(rt: &impl Abort) -> ItemFacts {
     ItemFacts {
         sec_code: *b"COR",
         transaction_code: 26,
-        amount: cents(rt, 0),
+        cents: cents(rt, 0),
         code: *b"C01",
         original_trace: *b"121042880000001",
         original_dfi: *b"09100001",
-        reply: Reply::Change(*b"123456780                    "),
+        return_or_change: ReturnOrChange::Change(*b"123456780                    "),
     }
 }
 
@@ -139,7 +141,13 @@ fn returned_row(rt: &impl Abort, text: &[u8], late: bool) -> ReturnedRow {
     }
 }
 
-fn suspense_row(rt: &impl Abort, number: u64, amount: u64, code: [u8; 3], why: Why) -> SuspenseRow {
+fn suspense_row(
+    rt: &impl Abort,
+    number: u64,
+    amount: u64,
+    code: [u8; 3],
+    why: SuspenseReason,
+) -> SuspenseRow {
     SuspenseRow {
         cents: cents(rt, amount),
         code,
@@ -224,7 +232,7 @@ fn the_second_return_of_a_file_is_suspended(rt: HostRuntime) -> Result<(), Fail>
         plan.returned.as_slice(),
         [returned_row(&rt, b"2025-01-14", false)].as_slice()
     );
-    let wanted = suspense_row(&rt, 2, 25_000, *b"R01", Why::AlreadyReturned);
+    let wanted = suspense_row(&rt, 2, 25_000, *b"R01", SuspenseReason::AlreadyReturned);
     assert_eq!(rt; plan.suspense.as_slice(), [wanted].as_slice());
     let first = returned_pair(&rt);
     let held = line(&rt, Account::Suspense, -25_000, None, 0);
@@ -241,10 +249,10 @@ fn the_second_return_of_a_file_is_suspended(rt: HostRuntime) -> Result<(), Fail>
 fn expect_suspended(
     rt: &(impl Abort + Alloc<A = Global>),
     item: ItemFacts,
-    named: Option<Named>,
-    why: Why,
+    named: Option<NamedEntry>,
+    why: SuspenseReason,
 ) {
-    let amount = item.amount.get();
+    let amount = item.cents.get();
     let code = item.code;
     let found = [FoundItem { item, named }];
     let plan = plan_on(rt, b"2025-01-14", &found).ok().expect(rt, "a plan");
@@ -262,8 +270,8 @@ fn expect_suspended(
 #[test]
 fn a_return_of_another_amount_is_suspended(rt: HostRuntime) {
     let mut item = returned_item(&rt);
-    item.amount = cents(&rt, 24_999);
-    expect_suspended(&rt, item, named(&rt), Why::Differs);
+    item.cents = cents(&rt, 24_999);
+    expect_suspended(&rt, item, named(&rt), SuspenseReason::Differs);
 }
 
 #[test]
@@ -271,21 +279,26 @@ fn a_code_outside_is_suspended(rt: HostRuntime) {
     let mut item = returned_item(&rt);
     let code = *b"R31";
     item.code = code;
-    expect_suspended(&rt, item, named(&rt), Why::CodeOutside);
+    expect_suspended(&rt, item, named(&rt), SuspenseReason::CodeOutside);
 }
 
 #[test]
 fn an_unknown_trace_is_suspended(rt: HostRuntime) {
-    expect_suspended(&rt, returned_item(&rt), None, Why::NoTrace);
+    expect_suspended(&rt, returned_item(&rt), None, SuspenseReason::NoTrace);
 }
 
 #[test]
 fn an_entry_that_came_back_before_is_suspended(rt: HostRuntime) {
-    let before = Named {
+    let before = NamedEntry {
         entry: sent(&rt),
         returned: true,
     };
-    expect_suspended(&rt, returned_item(&rt), Some(before), Why::AlreadyReturned);
+    expect_suspended(
+        &rt,
+        returned_item(&rt),
+        Some(before),
+        SuspenseReason::AlreadyReturned,
+    );
 }
 
 #[test]
@@ -322,7 +335,7 @@ fn an_entry_that_settles_too_late_has_no_deadline(rt: HostRuntime) -> Result<(),
     entry.settled = Day::from_number(47_513).expect(&rt, "2100-02-01");
     let found = [FoundItem {
         item: returned_item(&rt),
-        named: Some(Named {
+        named: Some(NamedEntry {
             entry,
             returned: false,
         }),

@@ -1,2 +1,2 @@
 pub mod Json
-pub mod Plain
+pub mod Unescaped

@@ -1,5 +1,5 @@
-pub mod Accepted
+pub mod Acceptance
 pub mod Drafts
-pub mod Keys
+pub mod FieldKeys
 pub mod Read
 pub mod Refusals

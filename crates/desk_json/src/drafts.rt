@@ -1,26 +1,29 @@
 //! The drafts that JSON objects are. A key that is not named here is not looked at.
-ghost use Rattle.std.specs.Prelude.{◌≡◌, IfOk, codes};
-ghost use Rattle.serde_json.specs.Find.{get, as_bool, as_str};
+ghost use Rattle.std.specs.Prelude.{◌≡◌, ◌≢◌, ◌⊎◌, [], IfOk, IsSome, OnErr};
+ghost use Rattle.serde_json.specs.Find.{as_bool, as_str};
 ghost use Rattle.serde_json.specs.View.{view, items_view};
-ghost use Rattle.desk_json.specs.Drafts.{text_at, number_at, optional_from, entry_draft_of, entry_drafts_of, submission_draft_of, retry_draft_of, company_draft_of, limits_draft_of, limit_drafts_of, entries_at};
+ghost use Rattle.desk_json.specs.Drafts.{value_at, text_at, number_at, given_or_wrong, optional_from, entry_draft_of, entry_drafts_of, submission_draft_of, retry_draft_of, company_draft_of, limits_draft_of, limit_drafts_of, entries_at, HasEntry, HasText, submission_texts, retry_texts, company_texts};
 
+use crate::field_keys::key_of;
 use desk_rules::{
-    CompanyDraft, Draft, DraftText, EntryDraft, EntryDrafts, LimitDrafts, LimitsDraft, Optional,
-    RetryDraft,
+    CompanyDraft, Draft, DraftText, EntryDraft, EntryDrafts, Field, LimitDrafts, LimitsDraft,
+    Optional, RetryDraft,
 };
 use serde_json::Value;
 use std::alloc::{AllocError, Global};
 
-/// The draft of a submission that a JSON object is: `ref`, `sec`, `direction`, `description`, `day`,
-/// `entries`.
+/// Gives the draft of a submission that a JSON object is. Its keys are `ref`, `sec`, `direction`,
+/// `description`, `day` and `entries`. Each call here runs out of memory only where there is a text or
+/// an entry that it has to copy.
 pub fn submission_draft(alloc: Global, value: &Value) -> Result<Draft, AllocError>
-    ensures { IfOk result (λ d. d ≡ submission_draft_of (view value.now)) }
+    ensures draft { IfOk result (λ d. d ≡ submission_draft_of (view value.now)) }
+    ensures memory { OnErr result (HasText submission_texts (view value.now) ⊎ HasEntry (view value.now)) }
 {
-    let reference = text_at(alloc, value, "ref")?;
-    let sec = text_at(alloc, value, "sec")?;
-    let direction = text_at(alloc, value, "direction")?;
-    let description = text_at(alloc, value, "description")?;
-    let day = text_at(alloc, value, "day")?;
+    let reference = text_at(alloc, value, Field::Reference)?;
+    let sec = text_at(alloc, value, Field::Sec)?;
+    let direction = text_at(alloc, value, Field::Direction)?;
+    let description = text_at(alloc, value, Field::Description)?;
+    let day = text_at(alloc, value, Field::Day)?;
     let entries = entries_at(alloc, value)?;
     Ok(Draft {
         reference,
@@ -33,16 +36,18 @@ pub fn submission_draft(alloc: Global, value: &Value) -> Result<Draft, AllocErro
 }
 
 fn entries_at(alloc: Global, value: &Value) -> Result<Option<EntryDrafts>, AllocError>
-    ensures { IfOk result (λ d. d ≡ entries_at (view value.now)) }
+    ensures drafts { IfOk result (λ d. d ≡ entries_at (view value.now)) }
+    ensures memory { OnErr result (HasEntry (view value.now)) }
 {
-    match value.get("entries").and_then(Value::as_array) {
+    match value.get(key_of(Field::Entries)).and_then(Value::as_array) {
         Some(values) => Ok(Some(entry_drafts(alloc, values.as_slice())?)),
         None => Ok(None),
     }
 }
 
 fn entry_drafts(alloc: Global, values: &[Value]) -> Result<EntryDrafts, AllocError>
-    ensures { IfOk result (λ d. d ≡ entry_drafts_of (items_view values.now)) }
+    ensures drafts { IfOk result (λ d. d ≡ entry_drafts_of (items_view values.now)) }
+    ensures memory { OnErr result (entry_drafts_of (items_view values.now) ≢ []) }
 {
     let mut drafts = Vec::new(alloc);
     for value in values {
@@ -51,21 +56,21 @@ fn entry_drafts(alloc: Global, values: &[Value]) -> Result<EntryDrafts, AllocErr
     Ok(EntryDrafts::new(drafts))
 }
 
-// `routing`, `account`, `kind`, `prenote`, `cents`, `id`, `name`, `info`.
+// Its keys are `routing`, `account`, `kind`, `prenote`, `cents`, `id`, `name` and `info`.
 fn entry_draft(alloc: Global, value: &Value) -> Result<Option<EntryDraft>, AllocError>
     ensures { IfOk result (λ d. d ≡ entry_draft_of (view value.now)) }
 {
     if !value.is_object() {
         return Ok(None);
     }
-    let routing = text_at(alloc, value, "routing")?;
-    let account = text_at(alloc, value, "account")?;
-    let kind = text_at(alloc, value, "kind")?;
-    let prenote = flag_at(value, "prenote");
-    let cents = number_at(value, "cents");
-    let id = text_at(alloc, value, "id")?;
-    let name = text_at(alloc, value, "name")?;
-    let info = optional_text_at(alloc, value, "info")?;
+    let routing = text_at(alloc, value, Field::Routing)?;
+    let account = text_at(alloc, value, Field::Account)?;
+    let kind = text_at(alloc, value, Field::Kind)?;
+    let prenote = flag_at(value, Field::Prenote);
+    let cents = number_at(value, Field::Cents);
+    let id = text_at(alloc, value, Field::Id)?;
+    let name = text_at(alloc, value, Field::Name)?;
+    let info = optional_text_at(alloc, value, Field::Info)?;
     Ok(Some(EntryDraft {
         routing,
         account,
@@ -78,15 +83,17 @@ fn entry_draft(alloc: Global, value: &Value) -> Result<Option<EntryDraft>, Alloc
     }))
 }
 
-/// The draft of a retry that a JSON object is: `ref`, `of`, `index`, `day`, `authorized`.
+/// Gives the draft of a retry that a JSON object is. Its keys are `ref`, `of`, `index`, `day` and
+/// `authorized`.
 pub fn retry_draft(alloc: Global, value: &Value) -> Result<RetryDraft, AllocError>
-    ensures { IfOk result (λ d. d ≡ retry_draft_of (view value.now)) }
+    ensures draft { IfOk result (λ d. d ≡ retry_draft_of (view value.now)) }
+    ensures memory { OnErr result (HasText retry_texts (view value.now)) }
 {
-    let reference = text_at(alloc, value, "ref")?;
-    let of = text_at(alloc, value, "of")?;
-    let index = number_at(value, "index");
-    let day = text_at(alloc, value, "day")?;
-    let authorized = optional_text_at(alloc, value, "authorized")?;
+    let reference = text_at(alloc, value, Field::Reference)?;
+    let of = text_at(alloc, value, Field::Of)?;
+    let index = number_at(value, Field::Index);
+    let day = text_at(alloc, value, Field::Day)?;
+    let authorized = optional_text_at(alloc, value, Field::Authorized)?;
     Ok(RetryDraft {
         reference,
         of,
@@ -96,25 +103,27 @@ pub fn retry_draft(alloc: Global, value: &Value) -> Result<RetryDraft, AllocErro
     })
 }
 
-/// The draft of a desk day that a JSON object is: `day`.
+/// Gives the draft of a desk day that a JSON object is. Its key is `day`.
 pub fn day_draft(alloc: Global, value: &Value) -> Result<Option<DraftText>, AllocError>
-    ensures { IfOk result (λ d. d ≡ text_at (codes "day") (view value.now)) }
+    ensures draft { IfOk result (λ d. d ≡ text_at Field.Day (view value.now)) }
+    ensures memory { OnErr result (IsSome (text_at Field.Day (view value.now))) }
 {
-    text_at(alloc, value, "day")
+    text_at(alloc, value, Field::Day)
 }
 
-/// The draft of a company that a JSON object is, with the digest of its key: `id`, `name`, `key`,
-/// `entry_limit`, `credit_limit`, `debit_limit`.
+/// Gives the draft of a company that a JSON object is, with the SHA-256 digest of its key. Its keys
+/// are `id`, `name`, `key`, `entry_limit`, `credit_limit` and `debit_limit`, the limits in cents.
 pub fn company_draft(
     alloc: Global,
     value: &Value,
     digest: [u8; 32],
 ) -> Result<CompanyDraft, AllocError>
-    ensures { IfOk result (λ d. d ≡ company_draft_of digest (view value.now)) }
+    ensures draft { IfOk result (λ d. d ≡ company_draft_of digest (view value.now)) }
+    ensures memory { OnErr result (HasText company_texts (view value.now)) }
 {
-    let id = text_at(alloc, value, "id")?;
-    let name = text_at(alloc, value, "name")?;
-    let key = text_at(alloc, value, "key")?;
+    let id = text_at(alloc, value, Field::Id)?;
+    let name = text_at(alloc, value, Field::Name)?;
+    let key = text_at(alloc, value, Field::Key)?;
     Ok(CompanyDraft {
         id,
         name,
@@ -124,12 +133,13 @@ pub fn company_draft(
     })
 }
 
-/// The draft of a company's new limits that a JSON object is: `id`, `entry_limit`, `credit_limit`,
-/// `debit_limit`.
+/// Gives the draft of a company's new limits that a JSON object is. Its keys are `id`, `entry_limit`,
+/// `credit_limit` and `debit_limit`, the limits in cents.
 pub fn limits_draft(alloc: Global, value: &Value) -> Result<LimitsDraft, AllocError>
-    ensures { IfOk result (λ d. d ≡ limits_draft_of (view value.now)) }
+    ensures draft { IfOk result (λ d. d ≡ limits_draft_of (view value.now)) }
+    ensures memory { OnErr result (IsSome (text_at Field.Id (view value.now))) }
 {
-    let id = text_at(alloc, value, "id")?;
+    let id = text_at(alloc, value, Field::Id)?;
     Ok(LimitsDraft {
         id,
         limits: limit_drafts(value),
@@ -140,51 +150,57 @@ fn limit_drafts(value: &Value) -> LimitDrafts
     ensures { result ≡ limit_drafts_of (view value.now) }
 {
     LimitDrafts {
-        entry: number_at(value, "entry_limit"),
-        credit: number_at(value, "credit_limit"),
-        debit: number_at(value, "debit_limit"),
+        entry: number_at(value, Field::EntryLimit),
+        credit: number_at(value, Field::CreditLimit),
+        debit: number_at(value, Field::DebitLimit),
     }
 }
 
-fn text_at(alloc: Global, value: &Value, key: &str) -> Result<Option<DraftText>, AllocError>
-    ensures { IfOk result (λ t. t ≡ text_at key.now (view value.now)) }
+fn text_at(alloc: Global, value: &Value, field: Field) -> Result<Option<DraftText>, AllocError>
+    ensures text { IfOk result (λ t. t ≡ text_at field (view value.now)) }
+    ensures memory { OnErr result (IsSome (text_at field (view value.now))) }
 {
-    match value.get(key).and_then(Value::as_str) {
-        Some(text) => Ok(Some(DraftText::copied(alloc, text.as_bytes())?)),
+    match value.get(key_of(field)).and_then(Value::as_str) {
+        Some(text) => Ok(Some(DraftText::from_slice(alloc, text.as_bytes())?)),
         None => Ok(None),
     }
 }
 
-fn number_at(value: &Value, key: &str) -> Option<u64>
-    ensures { result ≡ number_at key.now (view value.now) }
+fn number_at(value: &Value, field: Field) -> Option<u64>
+    ensures { result ≡ number_at field (view value.now) }
 {
-    value.get(key).and_then(Value::as_u64)
+    value.get(key_of(field)).and_then(Value::as_u64)
 }
 
-fn flag_at(value: &Value, key: &str) -> Optional<bool>
-    ensures { result ≡ optional_from as_bool (get key.now (view value.now)) }
+fn flag_at(value: &Value, field: Field) -> Optional<bool>
+    ensures { result ≡ optional_from as_bool (value_at field (view value.now)) }
 {
-    match value.get(key) {
+    match value.get(key_of(field)) {
+        Some(found) => given_or_wrong(found.as_bool()),
         None => Optional::Absent,
-        Some(found) => match found.as_bool() {
-            Some(flag) => Optional::Given(flag),
-            None => Optional::Wrong,
-        },
     }
 }
 
 fn optional_text_at(
     alloc: Global,
     value: &Value,
-    key: &str,
+    field: Field,
 ) -> Result<Optional<DraftText>, AllocError>
-    ensures { IfOk result (λ t. t ≡ optional_from as_str (get key.now (view value.now))) }
+    ensures text { IfOk result (λ t. t ≡ optional_from as_str (value_at field (view value.now))) }
+    ensures memory { OnErr result (IsSome (text_at field (view value.now))) }
 {
-    match value.get(key) {
+    match value.get(key_of(field)) {
+        Some(_) => Ok(given_or_wrong(text_at(alloc, value, field)?)),
         None => Ok(Optional::Absent),
-        Some(found) => match found.as_str() {
-            Some(text) => Ok(Optional::Given(DraftText::copied(alloc, text.as_bytes())?)),
-            None => Ok(Optional::Wrong),
-        },
+    }
+}
+
+// A value that is there, if it was read, or one of another kind.
+fn given_or_wrong<T: Drop>(read: Option<T>) -> Optional<T>
+    ensures { result ≡ given_or_wrong read }
+{
+    match read {
+        Some(value) => Optional::Given(value),
+        None => Optional::Wrong,
     }
 }

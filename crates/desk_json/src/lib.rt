@@ -1,17 +1,16 @@
-//! The JSON bodies of messages: what is read of them, and what is written.
+//! This crate reads the JSON bodies of messages and writes those of answers.
 //!
-//! Bodies that are read become drafts, whose fields `desk_rules` checks. Bodies that are written are
-//! compact, with their keys in byte order. Nothing here knows how a body came or where it goes.
+//! A body that is read becomes a draft, whose fields `desk_rules` checks. A body that is written is
+//! compact, with its keys in byte order. Nothing here knows how a body came or where it goes.
 #![tactic(auto)]
 
-mod accepted;
-mod ascii;
+mod acceptance;
 mod drafts;
-mod keys;
+mod field_keys;
 mod read;
 mod refusals;
 
-pub use accepted::put_accepted;
+pub use acceptance::put_acceptance;
 pub use drafts::{company_draft, day_draft, limits_draft, retry_draft, submission_draft};
 pub use read::read_object;
 pub use refusals::{fault_text, refusal_text};

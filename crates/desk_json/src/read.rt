@@ -1,4 +1,4 @@
-//! The JSON that a body is.
+//! The JSON object that a body is.
 ghost use Rattle.std.specs.Prelude.{◌≡◌, option_map, IfOk};
 ghost use Rattle.serde_json.specs.View.{view};
 ghost use Rattle.desk_json.specs.Read.{json_of, object_in, object_of};
@@ -6,17 +6,14 @@ ghost use Rattle.desk_json.specs.Read.{json_of, object_in, object_of};
 use serde_json::{Category, Value};
 use std::alloc::{AllocError, Global};
 
-/// The JSON object that a body is, or `None` where it is no JSON or no object. Only want of memory
-/// fails.
+/// Gives the JSON object that a body is, or `None` where it is no JSON or no object. It fails only
+/// where it is out of memory.
 ///
-/// It is read to a depth of 127, and of a key that an object has twice the last value counts.
+/// A body is read to a depth of 127, and of a key that an object has twice the last value counts.
 pub fn read_object(alloc: Global, body: &[u8]) -> Result<Option<Value>, AllocError>
     ensures { IfOk result (λ v. option_map view v ≡ object_of body.now) }
 {
-    match read_json(alloc, body)? {
-        Some(value) => Ok(object(value)),
-        None => Ok(None),
-    }
+    Ok(read_json(alloc, body)?.and_then(object))
 }
 
 fn object(value: Value) -> Option<Value>

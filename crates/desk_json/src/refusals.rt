@@ -1,16 +1,16 @@
 //! The bodies of refusals and faults.
 ghost use Rattle.std.specs.Prelude.{◌≡◌, IfOk};
+ghost use Rattle.std.specs.Str.{IsAscii};
 ghost use Rattle.serde_json.specs.View.{view};
 ghost use Rattle.serde_json.specs.Written.{compact_text};
-ghost use Rattle.desk_json.specs.Refusals.{fault_body, numbered_body, bad_field_body, not_retryable_body, coded_body, refusal_body};
+ghost use Rattle.desk_json.specs.Refusals.{fault_body, numbered_body, bad_field_body, not_retryable_body, not_retryable_text_body, refusal_body};
 
-use crate::ascii::ascii;
-use crate::keys::key_of;
+use crate::field_keys::key_of;
 use desk_rules::{Refusal, RefusalName, ReturnCode};
 use serde_json::{Value, json};
 use std::alloc::{AllocError, Global};
 
-/// A fault's body: `error` alone.
+/// Gives a fault's body, which has its name under `error` and nothing else.
 pub fn fault_text(alloc: Global, name: &str) -> Result<Vec<u8>, AllocError>
     ensures { IfOk result (λ t. t.items ≡ compact_text (fault_body name.now)) }
 {
@@ -18,8 +18,8 @@ pub fn fault_text(alloc: Global, name: &str) -> Result<Vec<u8>, AllocError>
     value.to_vec(alloc)
 }
 
-/// A refusal's body: `error` and `number`, with `field` and `index` of a bad field and the `code` of
-/// a return that may not be tried again.
+/// Gives a refusal's body, which has its name under `error` and its `number`. That of a bad field has
+/// its `field` and `index` too, and that of a return that may not be tried again its `code`.
 pub fn refusal_text(alloc: Global, refusal: Refusal) -> Result<Vec<u8>, AllocError>
     ensures { IfOk result (λ t. t.items ≡ compact_text (refusal_body refusal)) }
 {
@@ -61,11 +61,19 @@ fn not_retryable_value(alloc: Global, code: ReturnCode) -> Result<Value, AllocEr
     ensures { IfOk result (λ v. view v ≡ not_retryable_body code) }
 {
     let text = code.text();
-    code_value(alloc, ascii(&text))
+    code_value(alloc, ascii_text(&text))
 }
 
 fn code_value(alloc: Global, code: &str) -> Result<Value, AllocError>
-    ensures { IfOk result (λ v. view v ≡ coded_body code.now) }
+    ensures { IfOk result (λ v. view v ≡ not_retryable_text_body code.now) }
 {
     json!(in alloc; {"code": code, "error": "NotRetryable", "number": 12u64})
+}
+
+// Bytes below 128 are a text.
+fn ascii_text(bytes: &[u8]) -> &str
+    requires { IsAscii bytes.now }
+    ensures { result.now ≡ bytes.now }
+{
+    str::from_utf8(bytes).unwrap()
 }

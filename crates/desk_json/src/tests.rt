@@ -1,6 +1,6 @@
 //! Bodies that are read and written.
 use crate::{
-    company_draft, day_draft, fault_text, limits_draft, put_accepted, read_object, refusal_text,
+    company_draft, day_draft, fault_text, limits_draft, put_acceptance, read_object, refusal_text,
     retry_draft, submission_draft,
 };
 use ach_fields::Ref;
@@ -50,12 +50,12 @@ fn refusals_are_written(rt: HostRuntime) -> Result<(), Fail> {
 }
 
 #[test]
-fn receipts_are_written_behind_what_stands(rt: HostRuntime) -> Result<(), Fail> {
+fn acceptances_are_written_after_what_stands(rt: HostRuntime) -> Result<(), Fail> {
     let reference = Ref::new(b"PAY-1").map_err(|_| "PAY-1")?;
     let mut text = Vec::with_capacity(rt.alloc(), 2_048)?;
     text.extend_from_slice(b"..")?;
     if text.capacity() - text.len() >= 1_024 {
-        put_accepted(&mut text, &reference, 150_000, 1, 1);
+        put_acceptance(&mut text, &reference, 150_000, 1, 1);
     }
     let body = b"..{\"cents\":150000,\"entries\":1,\"order\":1,\"ref\":\"PAY-1\"}";
     assert_eq!(rt; text.as_slice(), body.as_slice());

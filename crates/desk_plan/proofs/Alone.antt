@@ -5,7 +5,7 @@ use Rattle.std.proofs.lemmas.Bool.{leb-true, le-leb, and_parts, and_from}
 use Rattle.desk_plan.specs.Cut.{files_of}
 use Rattle.desk_plan.specs.Files.{division}
 use Rattle.desk_plan.specs.Laws.{AcceptedAlone}
-use Rattle.desk_plan.specs.Places.{most_files}
+use Rattle.desk_plan.specs.Modifiers.{most_files}
 use Rattle.desk_plan.specs.Reuse.{may_send}
 use Rattle.desk_plan.proofs.FewerFiles.{fewer_files, fewer_in_day}
 use Rattle.desk_plan.proofs.NewSequences.{may_send-new}

@@ -8,33 +8,33 @@ use Rattle.std.proofs.lemmas.List.FromFn.{length-map-range_with_len}
 use Rattle.std.proofs.lemmas.List.Sums.{sum_by-cons}
 use Rattle.desk_plan.specs.declared.batch.Batch.{Batch}
 use Rattle.desk_plan.specs.Batch.{IsBatch, IsEntryCount}
-use Rattle.desk_plan.specs.Sequences.{Sent, IsRange, range_after, ranges, ranges_of, first_of, entries_from, after_batch, after_cut}
+use Rattle.desk_plan.specs.Sequences.{SentSequence, IsRange, range_after, ranges, ranges_of, first_of, entries_from, after_batch, after_cut}
 use Rattle.desk_plan.proofs.Ranges.{IsRange-range_after}
 use Rattle.desk_plan.proofs.Sending.{entry, last_after}
 
-abbrev entries_of : List (ℕ × ℕ) → List Batch → List Sent
+abbrev entries_of : List (ℕ × ℕ) → List Batch → List SentSequence
 entries_of ranges batches = flat_map (λ x. entries_from x.0.0 x.1) (zip ranges batches)
 
-cut_entries : (sent : List Sent) (batches : List Batch) → AllByRecursion IsBatch batches → after_cut sent batches ≡ reverse (entries_of (ranges_of sent batches) batches) ++ sent
+cut_entries : (sent : List SentSequence) (batches : List Batch) → AllByRecursion IsBatch batches → after_cut sent batches ≡ reverse (entries_of (ranges_of sent batches) batches) ++ sent
 cut_entries sent [] all = refl
 cut_entries sent (b ∷ batches) all =
     let first = entries_from (first_of sent b) b in
     let rest = entries_of (ranges_of (after_batch sent b) batches) batches in
     cut_entries (after_batch sent b) batches all.1
     ∙ sym (append_assoc (reverse rest) (reverse first) sent)
-    ∙ ap (λ (l : List Sent). l ++ sent) (sym (reverse-append first rest))
+    ∙ ap (λ (l : List SentSequence). l ++ sent) (sym (reverse-append first rest))
     ∙ ap (λ m. reverse (first ++ entries_of (ranges m (map (λ (b : Batch). b.entries) batches)) batches) ++ sent) (last_after sent b all.0.entries.0)
 
-pub after_cut-entries : (sent : List Sent) (batches : List Batch) → All IsBatch batches → after_cut sent batches ≡ reverse (flat_map (λ x. entries_from x.0.0 x.1) (zip (ranges_of sent batches) batches)) ++ sent
+pub after_cut-entries : (sent : List SentSequence) (batches : List Batch) → All IsBatch batches → after_cut sent batches ≡ reverse (flat_map (λ x. entries_from x.0.0 x.1) (zip (ranges_of sent batches) batches)) ++ sent
 after_cut-entries sent batches all = cut_entries sent batches (recursion_from_All IsBatch batches all)
 
-pub length-after_batch : (sent : List Sent) (b : Batch) → length (after_batch sent b) ≡ length sent + b.entries
+pub length-after_batch : (sent : List SentSequence) (b : Batch) → length (after_batch sent b) ≡ length sent + b.entries
 length-after_batch sent b =
     let entries = entries_from (first_of sent b) b in
     let more : length (reverse entries) ≡ b.entries = length-reverse entries ∙ length-map-range_with_len (entry b.settled) (first_of sent b) b.entries in
     omega (arith, length-append (reverse entries) sent, more)
 
-pub length-after_cut : (sent : List Sent) (batches : List Batch) → length (after_cut sent batches) ≡ length sent + sum_by (λ b. b.entries) batches
+pub length-after_cut : (sent : List SentSequence) (batches : List Batch) → length (after_cut sent batches) ≡ length sent + sum_by (λ b. b.entries) batches
 length-after_cut sent [] = omega arith
 length-after_cut sent (b ∷ batches) =
     omega (arith, length-after_cut (after_batch sent b) batches, length-after_batch sent b, sum_by-cons (λ (b : Batch). b.entries) b batches)

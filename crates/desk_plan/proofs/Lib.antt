@@ -2,7 +2,8 @@ pub mod Alone
 pub mod Cuts
 pub mod Divisions
 pub mod FewerFiles
-pub mod Filling
+pub mod Modifiers
+pub mod Runs
 pub mod Loads
 pub mod NewSequences
 pub mod Ranges

@@ -6,7 +6,8 @@ use Rattle.std.proofs.lemmas.Bool.{leb-false, cases_Bool}
 use Rattle.std.proofs.lemmas.Bool.Decides.{nat_tests}
 use Rattle.desk_plan.specs.Batch.{IsEntryCount}
 use Rattle.desk_plan.specs.Numbers.{is_in}
-use Rattle.desk_plan.specs.Sequences.{most_sequence, first_after, range_after, IsRange, meets, are_apart}
+use Rattle.desk_plan.specs.Sequences.{first_after, range_after, IsRange, meets, are_apart}
+use Rattle.ach_fields.specs.Trace.{most_sequence}
 
 -- tests
 pub shuffle : (a b c d : Bool) → ((a && b) && (c && d)) ≡ ((a && c) && (b && d))

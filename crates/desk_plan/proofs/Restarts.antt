@@ -8,7 +8,7 @@ use Rattle.desk_plan.specs.Batch.{IsEntryCount}
 use Rattle.desk_plan.specs.Sequences.{range_after, ranges, meets, are_apart}
 use Rattle.desk_plan.proofs.Ranges.{cases_range, IsRange-range_after, are_clear, clear_is_apart}
 
--- Whether the ranges behind a last sequence are apart, and apart from those of the cut before them:
+-- Whether the ranges after a last sequence are apart, and apart from those of the cut before them:
 -- `start` is the first sequence of the cut, and `restarted` says whether its ranges began again.
 abbrev pub stays_apart : ℕ → Bool → ℕ → List ℕ → Bool
 stays_apart start restarted last [] = true

@@ -6,8 +6,8 @@ use Rattle.std.proofs.lemmas.Bool.{cases_Bool, cases_lt, eqb-true, ne_eqb, or_pa
 use Rattle.std.proofs.lemmas.Bool.Decides.{nat_tests}
 use Rattle.desk_plan.specs.Laws.{LatestInRows}
 use Rattle.desk_plan.specs.Numbers.{is_in, latest_in}
-use Rattle.desk_plan.specs.Reuse.{youngest, settlement}
-use Rattle.desk_plan.specs.Sequences.{Sent}
+use Rattle.desk_plan.specs.Reuse.{youngest, youngest_settlement}
+use Rattle.desk_plan.specs.Sequences.{SentSequence}
 
 -- the later of two days
 abbrev later : Option ℕ → Option ℕ → Option ℕ
@@ -42,13 +42,13 @@ later_turned (Some x) None v = ap Some (max_comm x v)
 later_turned (Some x) (Some r) v = ap Some (max_turned x r v)
 
 -- the latest settlement of the youngest entries that have some sequences
-abbrev latest : List Sent → List ℕ → Option ℕ
-latest sent ss = reduce max (filter_map (settlement sent) ss)
+abbrev latest : List SentSequence → List ℕ → Option ℕ
+latest sent ss = reduce max (filter_map (youngest_settlement sent) ss)
 
-latest-cons : (sent : List Sent) (s : ℕ) (ss : List ℕ) → latest sent (s ∷ ss) ≡ later (settlement sent s) (latest sent ss)
-latest-cons sent s ss = reduce-cons_option (settlement sent s) (filter_map (settlement sent) ss)
+latest-cons : (sent : List SentSequence) (s : ℕ) (ss : List ℕ) → latest sent (s ∷ ss) ≡ later (youngest_settlement sent s) (latest sent ss)
+latest-cons sent s ss = reduce-cons_option (youngest_settlement sent s) (filter_map (youngest_settlement sent) ss)
 
-same_latest : (rows sent : List Sent) → ((s : ℕ) → youngest rows s ≡ youngest sent s) → (ss : List ℕ) → filter_map (settlement sent) ss ≡ filter_map (settlement rows) ss
+same_latest : (rows sent : List SentSequence) → ((s : ℕ) → youngest rows s ≡ youngest sent s) → (ss : List ℕ) → filter_map (youngest_settlement sent) ss ≡ filter_map (youngest_settlement rows) ss
 same_latest rows sent same [] = refl
 same_latest rows sent same (s ∷ ss) = λ i. cons_option (option_map (λ e. e.settled) (sym (same s) i)) (same_latest rows sent same ss i)
 
@@ -74,9 +74,9 @@ eqb_turned : (a b : ℕ) → (a == b) ≡ (b == a)
 eqb_turned a b = grind (arith, nat_tests)
 
 -- one row more, of a sequence that the others don't have
-module _ (row : Sent) (rows : List Sent) (new : youngest rows row.sequence ≡ None) where
-  first : (s : ℕ) (t : Bool) → (row.sequence == s) ≡ t → settlement (row ∷ rows) s ≡ option_map (λ e. e.settled) (if t then Some row else youngest rows s)
-  first s t e = ap (λ (u : Bool). option_map (λ (e : Sent). e.settled) (if u then Some row else youngest rows s)) e
+module _ (row : SentSequence) (rows : List SentSequence) (new : youngest rows row.sequence ≡ None) where
+  first : (s : ℕ) (t : Bool) → (row.sequence == s) ≡ t → youngest_settlement (row ∷ rows) s ≡ option_map (λ e. e.settled) (if t then Some row else youngest rows s)
+  first s t e = ap (λ (u : Bool). option_map (λ (e : SentSequence). e.settled) (if u then Some row else youngest rows s)) e
 
   without : (ss : List ℕ) → has row.sequence ss ≡ false → latest (row ∷ rows) ss ≡ latest rows ss
   without [] e = refl
@@ -96,21 +96,21 @@ module _ (row : Sent) (rows : List Sent) (new : youngest rows row.sequence ≡ N
             let same : f ≡ row.sequence = eqb-true f row.sequence is in
             let none : youngest rows f ≡ None = ap (youngest rows) same ∙ new in
             (λ i. later (first f true (eqb_turned row.sequence f ∙ is) i) (without behind (beyond row.sequence (f + 1) n (omega (arith, same))) i))
-            ∙ ap (λ (o : Option Sent). later (Some row.settled) (later (option_map (λ e. e.settled) o) (latest rows behind))) (sym none)
+            ∙ ap (λ (o : Option SentSequence). later (Some row.settled) (later (option_map (λ e. e.settled) o) (latest rows behind))) (sym none)
         | inr other ↦
             let rest : has row.sequence behind ≡ true = ap (λ t. t || has row.sequence behind) (sym other) ∙ e in
             (λ i. later (first f false (eqb_turned row.sequence f ∙ other) i) (with_row (f + 1) n rest i))
-            ∙ later_turned (settlement rows f) (latest rows behind) row.settled
+            ∙ later_turned (youngest_settlement rows f) (latest rows behind) row.settled
       ]
       ∙ ap (later (Some row.settled)) (sym (latest-cons rows f behind))
 
-abbrev IsApart : Sent → Sent → Type 0
+abbrev IsApart : SentSequence → SentSequence → Type 0
 IsApart a b = a.sequence ≢ b.sequence
 
-rest_apart : (row : Sent) (rows : List Sent) → AllPairs IsApart (row ∷ rows) → AllPairs IsApart rows
+rest_apart : (row : SentSequence) (rows : List SentSequence) → AllPairs IsApart (row ∷ rows) → AllPairs IsApart rows
 rest_apart row rows h i j d lt le = h (suc i) (suc j) d (omega arith) (omega arith)
 
-not_found : (s : ℕ) (rows : List Sent) → ((k : ℕ) (d : Sent) → k < length rows → s ≢ (get_or rows k d).sequence) → youngest rows s ≡ None
+not_found : (s : ℕ) (rows : List SentSequence) → ((k : ℕ) (d : SentSequence) → k < length rows → s ≢ (get_or rows k d).sequence) → youngest rows s ≡ None
 not_found s [] h = refl
 not_found s (row ∷ rows) h =
     ap (λ (t : Bool). if t then Some row else youngest rows s) (ne_eqb row.sequence s (λ e. h 0 row (omega arith) (sym e)))
@@ -120,7 +120,7 @@ none_latest : (ss : List ℕ) → latest [] ss ≡ None
 none_latest [] = refl
 none_latest (s ∷ ss) = none_latest ss
 
-rows_latest : (rows : List Sent) → AllPairs IsApart rows → (f k : ℕ) → latest rows (range_with_len f (suc k)) ≡ latest_in rows (f, f + k)
+rows_latest : (rows : List SentSequence) → AllPairs IsApart rows → (f k : ℕ) → latest rows (range_with_len f (suc k)) ≡ latest_in rows (f, f + k)
 rows_latest [] h f k = none_latest (range_with_len f (suc k))
 rows_latest (row ∷ rows) h f k =
     let new = not_found row.sequence rows (λ j d lt. h 0 (suc j) d (omega arith) (omega arith)) in
@@ -139,7 +139,7 @@ rows_latest (row ∷ rows) h f k =
 out_of : (f l s : ℕ) → l < f → is_in (f, l) s ≡ false
 out_of f l s lt = grind (arith, nat_tests)
 
-none_kept : (f l : ℕ) (rows : List Sent) → l < f → latest_in rows (f, l) ≡ None
+none_kept : (f l : ℕ) (rows : List SentSequence) → l < f → latest_in rows (f, l) ≡ None
 none_kept f l [] lt = refl
 none_kept f l (row ∷ rows) lt =
     let kept = filter (λ row. is_in (f, l) row.sequence) rows in

@@ -31,7 +31,7 @@ kept test (b ∷ batches) =
       | false ↦ skip (filter test batches) b batches (kept test batches)
     ]
 
--- some of one list behind another are some of the first, then some of the second
+-- some of one list after another are some of the first, then some of the second
 pub record Split (xs ys zs : List Batch) : Type 0 where
   pub front : List Batch
   pub back : List Batch

@@ -4,9 +4,9 @@ use Rattle.desk_plan.specs.declared.batch.Batch.{Batch}
 use Rattle.desk_plan.specs.Cut.{may_cut}
 use Rattle.desk_plan.specs.Files.{division}
 use Rattle.desk_plan.specs.Numbers.{latest_in}
-use Rattle.desk_plan.specs.Places.{modifiers, modifier_of, places}
+use Rattle.desk_plan.specs.Modifiers.{modifiers, modifier_of}
 use Rattle.desk_plan.specs.Reuse.{may_send, latest_settled}
-use Rattle.desk_plan.specs.Sequences.{Sent, ranges, are_apart}
+use Rattle.desk_plan.specs.Sequences.{SentSequence, ranges, are_apart}
 
 -- settled on 2026-03-05
 abbrev batch_of : ℕ → ℕ → Batch
@@ -34,7 +34,7 @@ meeting : are_apart ((500, 600) ∷ (1, 100) ∷ (101, 500) ∷ []) ≡ false
 meeting = refl
 
 -- 1 and 2 settled on 2025-03-03, and were sent before the last
-abbrev sent : List Sent
+abbrev sent : List SentSequence
 sent = record { sequence = 9_999_998; settled = 20_500 } ∷ record { sequence = 2; settled = 20_150 } ∷ record { sequence = 1; settled = 20_150 } ∷ []
 
 -- on 2026-03-03 and on 2026-03-04
@@ -54,10 +54,6 @@ in_rows = refl
 named : (modifier_of 25 ≡ Some 90) × (modifier_of 26 ≡ Some 48) × (modifier_of 35 ≡ Some 57) × (modifier_of 36 ≡ None)
 unfolding modifiers
 named = (refl, refl, refl, refl)
-
-placed : places 25 (1 ∷ 2 ∷ []) ≡ record { modifier = 90; number = 1 } ∷ record { modifier = 48; number = 1 } ∷ record { modifier = 48; number = 2 } ∷ []
-unfolding modifiers
-placed = refl
 
 thirty_seven : may_cut 20_516 36 [] (batch_of 1 1 ∷ []) ≡ false
 thirty_seven = refl

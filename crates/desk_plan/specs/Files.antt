@@ -30,7 +30,7 @@ pub record Divides (runs : List (List Batch)) (batches : List Batch) : Type 0 wh
   pub fit : All (λ run. fits run ≡ true) runs
   pub full : AllAdjacentBelow (λ run next. fits (run ++ take 1 next) ≡ false) runs (length runs)
 
--- the runs of batches behind a run that was begun: it takes the next batch where it can
+-- the runs of batches after a run that was begun: it takes the next batch where it can
 abbrev pub runs_from : List Batch → List Batch → List (List Batch)
 runs_from run [] = run ∷ []
 runs_from run (b ∷ batches) = if fits (run ++ b ∷ []) then runs_from (run ++ b ∷ []) batches else run ∷ runs_from (b ∷ []) batches

@@ -7,10 +7,11 @@ use Rattle.desk_plan.specs.Cut.{files_of, may_cut}
 use Rattle.desk_plan.specs.Batch.{IsBatch, IsEntryCount}
 use Rattle.desk_plan.specs.Files.{Divides, IsSize, division}
 use Rattle.desk_plan.specs.Numbers.{TellYoungest, is_in, latest_in}
-use Rattle.desk_plan.specs.Places.{modifier_of, modifier_at, most_files, places}
+use Rattle.desk_plan.specs.Modifiers.{modifier_of, modifier_at, most_files}
 use Rattle.desk_plan.specs.Reuse.{is_past, youngest, may_send, latest_settled}
 use Rattle.desk_plan.specs.Runs.{flat, in_runs}
-use Rattle.desk_plan.specs.Sequences.{Sent, IsNumbered, IsRange, most_sequence, last_sequence, range_after, ranges, ranges_of, are_apart, entries_from, after_batch, after_cut}
+use Rattle.desk_plan.specs.Sequences.{SentSequence, IsNumbered, IsRange, last_sequence, range_after, ranges, ranges_of, are_apart, entries_from, after_batch, after_cut}
+use Rattle.ach_fields.specs.Trace.{most_sequence}
 
 -- the batches of submissions have one division into files, and no other; its sizes give it back
 pub record OneDivision : Type 0 where
@@ -27,45 +28,43 @@ pub record FewerFiles : Type 0 where
 
 -- what a cut adds to the sent entries: those of its batches, by their ranges
 pub record SentByCut : Type 0 where
-  pub entries : (sent : List Sent) (batches : List Batch) → All IsBatch batches
+  pub entries : (sent : List SentSequence) (batches : List Batch) → All IsBatch batches
       → after_cut sent batches ≡ reverse (flat_map (λ x. entries_from x.0.0 x.1) (zip (ranges_of sent batches) batches)) ++ sent
-  pub count : (sent : List Sent) (batches : List Batch) → length (after_cut sent batches) ≡ length sent + sum_by (λ b. b.entries) batches
-  pub last : (sent : List Sent) (b : Batch) → IsBatch b → last_sequence (after_batch sent b) ≡ (range_after (last_sequence sent) b.entries).1
+  pub count : (sent : List SentSequence) (batches : List Batch) → length (after_cut sent batches) ≡ length sent + sum_by (λ b. b.entries) batches
+  pub last : (sent : List SentSequence) (b : Batch) → IsBatch b → last_sequence (after_batch sent b) ≡ (range_after (last_sequence sent) b.entries).1
   pub within : (last : ℕ) (counts : List ℕ) → All IsEntryCount counts → All IsRange (ranges last counts)
 
 -- That all sequences of a cut may be used is seen by its ranges: no two have one in common, and of
 -- each the latest settlement is long enough ago. Each batch settles after the day.
 abbrev pub ByRanges : Type 0
-ByRanges = (day : ℕ) (sent : List Sent) (batches : List Batch) → All IsBatch batches → All (λ b. day < b.settled) batches
+ByRanges = (day : ℕ) (sent : List SentSequence) (batches : List Batch) → All IsBatch batches → All (λ b. day < b.settled) batches
     → may_send day sent batches ≡ (are_apart (ranges_of sent batches) && list_all (λ r. is_past day (latest_settled sent r)) (ranges_of sent batches))
 
 -- a desk that has sent no more entries than there are sequences uses each once, and each names its entry
 pub record NeverTwice : Type 0 where
-  pub may : (day : ℕ) (sent : List Sent) (batches : List Batch) → IsNumbered sent → length sent + sum_by (λ b. b.entries) batches ≤ most_sequence → may_send day sent batches ≡ true
-  pub numbered : (sent : List Sent) (batches : List Batch) → IsNumbered sent → length sent + sum_by (λ b. b.entries) batches ≤ most_sequence → IsNumbered (after_cut sent batches)
-  pub named : (sent : List Sent) → IsNumbered sent → All (λ e. youngest sent e.sequence ≡ Some e) sent
+  pub may : (day : ℕ) (sent : List SentSequence) (batches : List Batch) → IsNumbered sent → length sent + sum_by (λ b. b.entries) batches ≤ most_sequence → may_send day sent batches ≡ true
+  pub numbered : (sent : List SentSequence) (batches : List Batch) → IsNumbered sent → length sent + sum_by (λ b. b.entries) batches ≤ most_sequence → IsNumbered (after_cut sent batches)
+  pub named : (sent : List SentSequence) → IsNumbered sent → All (λ e. youngest sent e.sequence ≡ Some e) sent
 
 -- the latest settlement of a range is found among the rows that tell the youngest entry of each sequence
 abbrev pub LatestInRows : Type 0
-LatestInRows = (rows sent : List Sent) (r : ℕ × ℕ) → TellYoungest rows sent → latest_settled sent r ≡ latest_in rows r
+LatestInRows = (rows sent : List SentSequence) (r : ℕ × ℕ) → TellYoungest rows sent → latest_settled sent r ≡ latest_in rows r
 
 -- a batch's entries are the youngest that have its sequences, and all others stay
 abbrev pub YoungestAfter : Type 0
-YoungestAfter = (sent : List Sent) (b : Batch) (s : ℕ)
+YoungestAfter = (sent : List SentSequence) (b : Batch) (s : ℕ)
     → youngest (after_batch sent b) s ≡ (if is_in (range_after (last_sequence sent) b.entries) s then Some (record { sequence = s; settled = b.settled }) else youngest sent s)
 
--- a day's files have different modifiers, each a capital letter or a digit, and each batch has a place
-pub record ModifiersAndPlaces : Type 0 where
+-- a day's files have different modifiers, each a capital letter or a digit
+pub record DayModifiers : Type 0 where
   pub some : (n : ℕ) → n < most_files → modifier_of n ≡ Some (modifier_at n)
   pub apart : (m n c : ℕ) → modifier_of m ≡ Some c → modifier_of n ≡ Some c → m ≡ n
   pub character : (n c : ℕ) → modifier_of n ≡ Some c → is_id_character c ≡ true
-  pub count : (before : ℕ) (sizes : List ℕ) → length (places before sizes) ≡ sum sizes
-  pub numbers : (before : ℕ) (sizes : List ℕ) → All IsSize sizes → All (λ p. IsSize p.number) (places before sizes)
 
 -- Where a cut of the whole desk is not refused, nor is the cut of some of its batches in a desk that
 -- has sent only those, and no more entries than there are sequences. `cuts` are the day's before it.
 abbrev pub AcceptedAlone : Type 0
-AcceptedAlone = (test : Batch → Bool) (day : ℕ) (cuts : List (List Batch)) (batches : List Batch) (sent alone : List Sent)
+AcceptedAlone = (test : Batch → Bool) (day : ℕ) (cuts : List (List Batch)) (batches : List Batch) (sent alone : List SentSequence)
     → All (All IsBatch) cuts → All IsBatch batches → IsNumbered alone
     → length alone + sum_by (λ b. b.entries) (filter test batches) ≤ most_sequence
     → may_cut day (files_of cuts) sent batches ≡ true

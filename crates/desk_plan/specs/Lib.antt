@@ -4,7 +4,7 @@ pub mod Files
 pub mod Laws
 pub mod Load
 pub mod Numbers
-pub mod Places
+pub mod Modifiers
 pub mod Reuse
 pub mod Runs
 pub mod Sequences

@@ -1,9 +1,5 @@
 -- Lists in runs.
-use Rattle.std.proofs.Common.{◌≡◌, ◌≤◌, ℕ, List, [], ◌∷◌, ◌++◌, length, map, take, drop, refl, sym, ap, subst, ◌∙◌, append_assoc, append-nil}
-use Rattle.std.specs.Prelude.{flat_map, sum}
-use Rattle.std.proofs.lemmas.List.{take-map, drop-map, drop-drop, drop_all, take-append-drop}
-use Rattle.std.proofs.lemmas.List.Sums.{sum_by-cons}
-use Rattle.std.proofs.Math.Nat.{le_refl}
+use Rattle.std.specs.Prelude.{ℕ, List, [], ◌∷◌, flat_map, take, drop}
 
 -- the runs, one after another
 abbrev pub flat : {A : Type 0} → List (List A) → List A
@@ -13,24 +9,3 @@ flat runs = flat_map (λ run. run) runs
 abbrev pub in_runs : {A : Type 0} → List ℕ → List A → List (List A)
 in_runs [] xs = []
 in_runs (n ∷ sizes) xs = take n xs ∷ in_runs sizes (drop n xs)
-
--- what is made of a list goes into the same runs
-pub in_runs-map : {A B : Type 0} (f : A → B) (sizes : List ℕ) (xs : List A) → in_runs sizes (map f xs) ≡ map (map f) (in_runs sizes xs)
-in_runs-map f [] xs = refl
-in_runs-map f (n ∷ sizes) xs = λ i. take-map f n xs i ∷ (ap (in_runs sizes) (drop-map f n xs) ∙ in_runs-map f sizes (drop n xs)) i
-
--- the runs of a list are the list where their sizes sum to its length
-pub flat-in_runs : {A : Type 0} (sizes : List ℕ) (xs : List A) → sum sizes ≡ length xs → flat (in_runs sizes xs) ≡ xs
-flat-in_runs {A} sizes xs e = sym (append-nil (flat (in_runs sizes xs))) ∙ ap (λ (l : List A). flat (in_runs sizes xs) ++ l) (sym none) ∙ with_rest sizes xs
-  where
-    with_rest : (sizes : List ℕ) (xs : List A) → flat (in_runs sizes xs) ++ drop (sum sizes) xs ≡ xs
-    with_rest [] xs = refl
-    with_rest (n ∷ sizes) xs =
-        append_assoc (take n xs) (flat (in_runs sizes (drop n xs))) (drop (sum (n ∷ sizes)) xs)
-        ∙ ap (λ m. take n xs ++ (flat (in_runs sizes (drop n xs)) ++ drop m xs)) (sum_by-cons (λ m. m) n sizes)
-        ∙ ap (λ (l : List A). take n xs ++ (flat (in_runs sizes (drop n xs)) ++ l)) (sym (drop-drop (sum sizes) n xs))
-        ∙ ap (λ (l : List A). take n xs ++ l) (with_rest sizes (drop n xs))
-        ∙ take-append-drop n xs
-
-    none : drop (sum sizes) xs ≡ []
-    none = drop_all (sum sizes) xs (subst (λ m. length xs ≤ m) (sym e) (le_refl (length xs)))

@@ -2,18 +2,15 @@
 use Rattle.std.specs.Prelude.{◌≡◌, ℕ, ◌+◌, ◌-◌, ◌≤◌, Bool, true, not, ◌&&◌, nat_le, if◌then◌else◌, List, [], ◌∷◌, ◌++◌, length, map, reverse, fold, scan}
 use Rattle.std.specs.List.{range_with_len, list_any}
 use Rattle.desk_plan.specs.declared.batch.Batch.{Batch}
-
--- seven digits
-abbrev pub most_sequence : ℕ
-most_sequence = 9_999_999
+use Rattle.ach_fields.specs.Trace.{most_sequence}
 
 -- an entry that was sent: its sequence, and the day on which it settled
-pub record Sent : Type 0 where
+pub record SentSequence : Type 0 where
   pub sequence : ℕ
   pub settled : ℕ
 
 -- the last sent entry's sequence, 0 where there is none; sent entries stand with the newest first
-abbrev pub last_sequence : List Sent → ℕ
+abbrev pub last_sequence : List SentSequence → ℕ
 last_sequence [] = 0
 last_sequence (e ∷ sent) = e.sequence
 
@@ -25,7 +22,7 @@ first_after last entries = if nat_le (last + entries) most_sequence then last + 
 abbrev pub range_after : ℕ → ℕ → ℕ × ℕ
 range_after last entries = (first_after last entries, first_after last entries + entries - 1)
 
--- those of batches with these numbers of entries, each behind the one before it
+-- those of batches with these numbers of entries, each after the one before it
 abbrev pub ranges : ℕ → List ℕ → List (ℕ × ℕ)
 ranges last counts = scan (λ l n. (range_after l n).1) range_after last counts
 
@@ -44,29 +41,29 @@ abbrev pub are_apart : List (ℕ × ℕ) → Bool
 are_apart [] = true
 are_apart (r ∷ more) = not (list_any (meets r) more) && are_apart more
 
--- the ranges that batches take behind the sent entries
-abbrev pub ranges_of : List Sent → List Batch → List (ℕ × ℕ)
+-- the ranges that batches take after the sent entries
+abbrev pub ranges_of : List SentSequence → List Batch → List (ℕ × ℕ)
 ranges_of sent batches = ranges (last_sequence sent) (map (λ b. b.entries) batches)
 
 -- the sequences that a batch takes from a first one on, and its entries with them
 abbrev pub sequences_from : ℕ → Batch → List ℕ
 sequences_from first b = range_with_len first b.entries
 
-abbrev pub entries_from : ℕ → Batch → List Sent
+abbrev pub entries_from : ℕ → Batch → List SentSequence
 entries_from first b = map (λ s. record { sequence = s; settled = b.settled }) (sequences_from first b)
 
--- the first sequence that it takes behind the sent entries
-abbrev pub first_of : List Sent → Batch → ℕ
+-- the first sequence that it takes after the sent entries
+abbrev pub first_of : List SentSequence → Batch → ℕ
 first_of sent b = first_after (last_sequence sent) b.entries
 
 -- what was sent once a batch is
-abbrev pub after_batch : List Sent → Batch → List Sent
+abbrev pub after_batch : List SentSequence → Batch → List SentSequence
 after_batch sent b = reverse (entries_from (first_of sent b) b) ++ sent
 
 -- what was sent once the batches of a cut are
-abbrev pub after_cut : List Sent → List Batch → List Sent
+abbrev pub after_cut : List SentSequence → List Batch → List SentSequence
 after_cut sent batches = fold after_batch sent batches
 
 -- the n-th entry has sequence n
-pub record IsNumbered (sent : List Sent) : Type 0 where
+pub record IsNumbered (sent : List SentSequence) : Type 0 where
   pub in_order : map (λ e. e.sequence) (reverse sent) ≡ range_with_len 1 (length sent)

@@ -1,4 +1,4 @@
-//! How the batches of a cut go into files.
+//! The batches of a cut are divided into files here.
 ghost use Rattle.std.specs.Prelude.{◌≡◌, All, IfOk, List, length, map, sum};
 ghost use Rattle.desk_plan.specs.declared.batch.Batch.{Batch};
 ghost use Rattle.desk_plan.specs.Files.{Divides, IsSize, division};
@@ -7,12 +7,12 @@ use crate::batch::Batch;
 use crate::load::Load;
 use std::alloc::{AllocError, Global};
 
-/// How many batches go into each file of a cut, in order: the present file takes the next batch
-/// where debits and credits stay within 999,999,999,999 cents each, batches within 1,000 and records
-/// 6 and 7 within 100,000; else the batch begins a new file.
+/// Says how many batches go into each file of a cut, in order. The present file takes the next
+/// batch where debits and credits stay within 999,999,999,999 cents each, batches within 1,000 and
+/// records 6 and 7 within 100,000; else the batch begins a new file.
 ///
-/// By the Nacha format the totals of a file have twelve digits; the other bounds are the desk's own.
-/// A batch that is too large for any file makes one all the same; no batch of a submission is.
+/// By the Nacha format the totals of a file have twelve digits; the other bounds are the desk's
+/// own. A batch that is too large for any file makes one all the same; no batch of a submission is.
 pub fn divide(alloc: Global, batches: &[Batch]) -> Result<Vec<usize>, AllocError>
     ensures sizes { IfOk result (λ sizes. sizes.items ≡ map length (division batches.now)) }
     ensures only { IfOk result (λ sizes. (runs : List (List Batch)) → Divides runs batches.now → sizes.items ≡ map length runs) }

@@ -1,5 +1,5 @@
-//! Laws of the division into files, of sequences and of modifiers.
-ghost use Rattle.desk_plan.specs.Laws.{OneDivision, FewerFiles, SentByCut, ByRanges, NeverTwice, LatestInRows, YoungestAfter, ModifiersAndPlaces, AcceptedAlone};
+//! The laws of the division into files, of sequences and of modifiers stand here.
+ghost use Rattle.desk_plan.specs.Laws.{OneDivision, FewerFiles, SentByCut, ByRanges, NeverTwice, LatestInRows, YoungestAfter, DayModifiers, AcceptedAlone};
 
 /// The batches of submissions have one division into files, and no other; its sizes give it back.
 pub fn one_division()
@@ -34,14 +34,15 @@ pub fn latest_in_rows()
     ensures { LatestInRows }
 {}
 
-/// How such rows change where a batch is sent: its entries are the youngest of their sequences.
+/// Such rows change as follows where a batch is sent: its entries are the youngest of their
+/// sequences.
 pub fn youngest_after()
     ensures { YoungestAfter }
 {}
 
-/// A day's files have different modifiers, and each batch has a place.
-pub fn modifiers_and_places()
-    ensures { ModifiersAndPlaces }
+/// The files of a day have different modifiers, each a capital letter or a digit.
+pub fn modifiers_of_a_day()
+    ensures { DayModifiers }
 {}
 
 /// Where a cut of the whole desk is not refused, nor is one of some of its batches in a desk that has

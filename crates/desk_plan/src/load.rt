@@ -4,10 +4,10 @@ ghost use Rattle.desk_plan.specs.Load.{load, plus, is_within};
 use crate::batch::Batch;
 use ach_fields::Cents;
 
-/// The most batches of a file.
+/// A file has at most so many batches.
 const MOST_BATCHES: usize = 1_000;
 
-/// The most records 6 and 7 of a file.
+/// A file has at most so many records 6 and 7.
 const MOST_RECORDS: u32 = 100_000;
 
 // What the batches of a file take together.

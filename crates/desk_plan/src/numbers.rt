@@ -1,19 +1,17 @@
-//! Which sequences the entries of a cut take.
-ghost use Rattle.std.specs.Prelude.{◌≡◌, ◌≤◌, All, true, false, IfOk, OnOk, IsErrOf};
+//! The entries of a cut are given their sequences here.
+ghost use Rattle.std.specs.Prelude.{◌≡◌, All, true, false, IfOk, OnOk, IsErrOf};
 ghost use Rattle.desk_plan.specs.Batch.{IsEntryCount};
 ghost use Rattle.desk_plan.specs.Sequences.{IsRange, range_after, ranges, are_apart};
 
+use ach_fields::MOST_SEQUENCE;
 use std::alloc::{AllocFailed, Global};
 
-/// The largest sequence: seven digits.
-const MOST_SEQUENCE: u32 = 9_999_999;
-
-/// Why the entries of a cut get no sequences.
+/// A `NumberFault` says why the entries of a cut get no sequences.
 #[derive(Clone, Copy, Debug, PartialEq, Eq)]
 pub enum NumberFault {
     /// A batch would take a sequence that another batch of the cut takes.
     TracesSpent,
-    /// Memory was refused.
+    /// The plan is out of memory.
     NoMemory,
 }
 
@@ -27,13 +25,13 @@ impl<T: Drop> From<AllocFailed<T>> for NumberFault {
     }
 }
 
-/// The first and the last sequence of each batch of a cut, by their numbers of entries and by the
-/// sequence of the last entry that was sent before, which is 0 where there is none.
+/// Gives the first and the last sequence of each batch of a cut, by their numbers of entries and by
+/// the sequence of the last entry that was sent before, which is 0 where there is none.
 ///
-/// A batch goes on after the last sequence that was taken. One that would pass 9,999,999 begins at 1,
-/// and the sequences that are left over stay unused in this round. `TracesSpent` where two batches
-/// would have a sequence in common. Whether the entries of earlier cuts leave a range free is for
-/// `is_past` to say.
+/// A batch takes the next sequences in a row after the last one that was taken. One that would pass
+/// 9,999,999 begins at 1, and the sequences that are left over stay unused in this round. It is
+/// `TracesSpent` where two batches would have a sequence in common. Whether the entries of earlier
+/// cuts leave a range free is for `is_past` to say.
 pub fn plan_numbers(
     alloc: Global,
     last_sequence: u32,

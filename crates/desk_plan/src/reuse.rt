@@ -3,7 +3,7 @@ ghost use Rattle.desk_plan.specs.Reuse.{is_past};
 
 use bank_days::Day;
 
-/// After how many days a sequence may be used again.
+/// A sequence may be used again after so many days.
 const DAYS: i64 = 366;
 
 /// May sequences be used on a day, by the latest day on which the youngest entries that have them

@@ -1,7 +1,6 @@
-//! Worked rows: batches at the limits of a file, and sequences at the end of their range.
-use crate::{
-    Batch, NumberFault, Place, PlaceFault, divide, is_past, modifier, plan_numbers, plan_places,
-};
+//! Worked rows are tried here: batches at the limits of a file, and sequences at the end of their
+//! range.
+use crate::{Batch, NumberFault, divide, is_past, modifier, plan_numbers};
 use ach_fields::{Cents, Id};
 use bank_days::Day;
 use std::test::Fail;
@@ -63,7 +62,7 @@ fn sequences(rt: HostRuntime) -> Result<(), Fail> {
     for (last, entries, ranges) in rows {
         assert!(rt; entries.iter().all(|count| (1..=1_000).contains(count)));
         let planned = plan_numbers(rt.alloc(), last, entries)?;
-        assert_eq!(rt; planned.as_slice(), ranges, "behind {last}");
+        assert_eq!(rt; planned.as_slice(), ranges, "after {last}");
     }
     Ok(())
 }
@@ -82,7 +81,7 @@ fn spent_sequences(rt: HostRuntime) -> Result<(), Fail> {
 }
 
 #[test]
-fn places(rt: HostRuntime) -> Result<(), Fail> {
+fn modifiers(rt: HostRuntime) -> Result<(), Fail> {
     let rows = [
         (0, Some(b'A')),
         (25, Some(b'Z')),
@@ -93,40 +92,18 @@ fn places(rt: HostRuntime) -> Result<(), Fail> {
     for (before, want) in rows {
         assert_eq!(rt; modifier(before), want, "after {before} files");
     }
-    let planned = plan_places(rt.alloc(), 25, &[1, 2])?;
-    let want = [
-        Place {
-            modifier: b'Z',
-            number: 1,
-        },
-        Place {
-            modifier: b'0',
-            number: 1,
-        },
-        Place {
-            modifier: b'0',
-            number: 2,
-        },
-    ];
-    assert_eq!(rt; planned.as_slice(), want.as_slice());
-    assert!(rt; plan_places(rt.alloc(), 36, &[])?.is_empty());
-    let spent = plan_places(rt.alloc(), 36, &[1]);
-    assert_eq!(rt; spent.err(), Some(PlaceFault::ModifiersSpent));
     Ok(())
 }
 
 // Each batch fills a file.
 #[test]
 fn files_of_a_day(rt: HostRuntime) -> Result<(), Fail> {
-    for (count, want) in [(36, Ok(36)), (37, Err(PlaceFault::ModifiersSpent))] {
-        let mut batches = Vec::new(rt.alloc());
-        for _ in 0..count {
-            batches.push(batch((0, 999_999_999_999, 1)).ok_or("amount")?)?;
-        }
-        let sizes = divide(rt.alloc(), &batches)?;
-        let planned = plan_places(rt.alloc(), 0, &sizes);
-        assert_eq!(rt; planned.map(|places| places.len()), want);
+    let mut batches = Vec::new(rt.alloc());
+    for _ in 0..37 {
+        batches.push(batch((0, 999_999_999_999, 1)).ok_or("batch")?)?;
     }
+    assert_eq!(rt; divide(rt.alloc(), &batches)?.len(), 37);
+    assert_eq!(rt; modifier(36), None);
     Ok(())
 }
 

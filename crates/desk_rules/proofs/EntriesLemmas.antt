@@ -1,9 +1,9 @@
 -- The entries of drafts, one after another.
 use Rattle.std.proofs.Common.{◌≡◌, ◌<◌, ◌+◌, ℕ, List, [], ◌∷◌, ◌++◌, Option, Result, Ok, Err, length, drop, get_or, refl, sym, ap, ◌∙◌, append_assoc}
 use Rattle.std.proofs.lemmas.List.{drop_more}
-use Rattle.desk_rules.specs.declared.draft.EntryDraft.{EntryDraft}
-use Rattle.desk_rules.specs.declared.submission.Entry.{Entry}
-use Rattle.desk_rules.specs.declared.refusal.Refusal.{Refusal}
+use Rattle.desk_rules.specs.declared.bodies.draft.EntryDraft.{EntryDraft}
+use Rattle.desk_rules.specs.declared.bodies.submission.Entry.{Entry}
+use Rattle.desk_rules.specs.declared.refusals.refusal.Refusal.{Refusal}
 use Rattle.desk_rules.specs.Chain.{◌>>=◌}
 use Rattle.desk_rules.specs.Submission.{entry_of, entries_of}
 

@@ -1,14 +1,14 @@
 -- The first refusal of a list, and the rows before it.
 use Rattle.std.proofs.Common.{◌≡◌, ◌++◌, ◌∷◌, [], Bool, true, false, List, Ok, Err, refl, ap, ◌∙◌}
 use Rattle.std.proofs.lemmas.List.Elements.{All-nil, All-cons, All-head, All-tail}
-use Rattle.desk_rules.specs.declared.refusal.Refusal.{Refusal}
+use Rattle.desk_rules.specs.declared.refusals.refusal.Refusal.{Refusal}
 use Rattle.desk_rules.specs.FirstRefusal.{first_refusal}
 use Rattle.desk_rules.specs.Laws.{IsFirst, NoneHolds}
 
 abbrev Fails : Bool × Refusal → Type 0
 Fails row = row.0 ≡ false
 
--- one more row at the front whose condition does not hold
+-- one more row before the others whose condition does not hold
 more : (refusal : Refusal) (rows : List (Bool × Refusal)) → NoneHolds rows → NoneHolds ((false, refusal) ∷ rows)
 more refusal rows none = All-cons Fails (false, refusal) rows refl none
 

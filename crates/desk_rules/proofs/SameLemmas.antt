@@ -4,15 +4,15 @@ use Rattle.std.specs.Cmp.Lexicographic.{pointwise}
 use Rattle.std.specs.List.{list_all, zip}
 use Rattle.std.proofs.lemmas.Bool.Decides.{Decides-and, Decides-like, Decides-eqb}
 use Rattle.std.proofs.lemmas.Slice.Eq.{bytes_eq-Decides, slice_eq-Decides}
-use Rattle.desk_rules.specs.declared.submission.SecCode.{SecCode}
-use Rattle.desk_rules.specs.declared.submission.SecCode.TheVariants.{Ppd, Ccd}
-use Rattle.desk_rules.specs.declared.submission.Direction.{Direction}
-use Rattle.desk_rules.specs.declared.submission.Direction.TheVariants.{Credit, Debit}
-use Rattle.desk_rules.specs.declared.submission.AccountKind.{AccountKind}
-use Rattle.desk_rules.specs.declared.submission.AccountKind.TheVariants.{Checking, Savings}
-use Rattle.desk_rules.specs.declared.submission.Entry.{Entry}
-use Rattle.desk_rules.specs.declared.submission.Retry.{Retry}
-use Rattle.desk_rules.specs.declared.submission.Submission.{Submission}
+use Rattle.desk_rules.specs.declared.bodies.submission.SecCode.{SecCode}
+use Rattle.desk_rules.specs.declared.bodies.submission.SecCode.TheVariants.{Ppd, Ccd}
+use Rattle.desk_rules.specs.declared.bodies.submission.Direction.{Direction}
+use Rattle.desk_rules.specs.declared.bodies.submission.Direction.TheVariants.{Credit, Debit}
+use Rattle.desk_rules.specs.declared.bodies.submission.AccountKind.{AccountKind}
+use Rattle.desk_rules.specs.declared.bodies.submission.AccountKind.TheVariants.{Checking, Savings}
+use Rattle.desk_rules.specs.declared.bodies.submission.Entry.{Entry}
+use Rattle.desk_rules.specs.declared.bodies.submission.Retry.{Retry}
+use Rattle.desk_rules.specs.declared.bodies.submission.Submission.{Submission}
 use Rattle.desk_rules.specs.Laws.{IsSameRetry}
 use Rattle.desk_rules.specs.SameContent.{same_sec, same_direction, same_kind, same_answer, same_optional, same_entry, same_retry, same_submission}
 

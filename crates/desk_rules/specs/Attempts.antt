@@ -1,9 +1,9 @@
 -- Attempts to collect a debit.
 use Rattle.std.specs.Prelude.{ℕ, ◌-◌, List, length, slice_get, Option, Some, None, option_and_then}
-use Rattle.desk_rules.specs.declared.attempt.Attempt.{Attempt}
-use Rattle.desk_rules.specs.declared.attempt.Attempt.TheVariants as attempts
-use Rattle.desk_rules.specs.declared.entry_fact.EntryState.{EntryState}
-use Rattle.desk_rules.specs.declared.entry_fact.EntryState.TheVariants as states
+use Rattle.desk_rules.specs.declared.rules.attempt.Attempt.{Attempt}
+use Rattle.desk_rules.specs.declared.rules.attempt.Attempt.TheVariants as attempts
+use Rattle.desk_rules.specs.declared.rules.entry_fact.EntryState.{EntryState}
+use Rattle.desk_rules.specs.declared.rules.entry_fact.EntryState.TheVariants as states
 
 -- an entry that lapsed is no attempt
 abbrev pub attempt_of : EntryState → Option Attempt

@@ -1,11 +1,11 @@
 -- Checks one after another: the first refusal is the answer.
 use Rattle.std.specs.Prelude.{ℕ, Option, Some, None, Result, Ok, Err}
-use Rattle.desk_rules.specs.declared.refusal.Refusal.{Refusal}
-use Rattle.desk_rules.specs.declared.refusal.Refusal.TheVariants.{BadField}
-use Rattle.desk_rules.specs.declared.refusal.Field.{Field}
+use Rattle.desk_rules.specs.declared.refusals.refusal.Refusal.{Refusal}
+use Rattle.desk_rules.specs.declared.refusals.refusal.Refusal.TheVariants.{BadField}
+use Rattle.desk_rules.specs.declared.refusals.refusal.Field.{Field}
 
 infixl 10 ◌>>=◌
--- the first refusal, or what comes of the value
+-- the first refusal, or the outcome of the value
 abbrev pub ◌>>=◌ : {A B : Type 0} → Result A Refusal → (A → Result B Refusal) → Result B Refusal
 Ok x >>= f = f x
 Err r >>= f = Err r

@@ -1,8 +1,8 @@
--- Until when a return is in time.
+-- Until when a return is in time: Nacha's return deadlines.
 use Rattle.std.specs.Prelude.{ℕ, ◌+◌, Bool, false, nat_lt, List, Option, Some, None}
 use Rattle.bank_days.specs.Calendar.{nth_after, next_banking}
-use Rattle.desk_rules.specs.declared.time_class.TimeClass.{TimeClass}
-use Rattle.desk_rules.specs.declared.time_class.TimeClass.TheVariants.{TwoBankingDays, SixtyDays, Unlimited}
+use Rattle.desk_rules.specs.declared.rules.time_class.TimeClass.{TimeClass}
+use Rattle.desk_rules.specs.declared.rules.time_class.TimeClass.TheVariants.{TwoBankingDays, SixtyDays, Unlimited}
 use Rattle.desk_rules.specs.TimeClasses.{time_class_of}
 
 -- 2100-01-31, the last day that a rule may be given

@@ -1,32 +1,32 @@
--- What a company's entries may still cost the bank.
+-- Exposures: how many cents a company's entries may still cost the bank. The rule is the desk's own.
 use Rattle.std.specs.Prelude.{ℕ, ◌≤◌, ⊤, Bool, true, false, not, ◌&&◌, nat_le, List, filter, sum_by}
 use Rattle.bank_days.specs.Calendar.{nth_after}
-use Rattle.desk_rules.specs.declared.entry_fact.EntryFact.{EntryFact}
-use Rattle.desk_rules.specs.declared.entry_fact.EntryState.{EntryState}
-use Rattle.desk_rules.specs.declared.entry_fact.EntryState.TheVariants.{Held, Sent, Returned, Lapsed}
+use Rattle.desk_rules.specs.declared.rules.entry_fact.EntryFact.{EntryFact}
+use Rattle.desk_rules.specs.declared.rules.entry_fact.EntryState.{EntryState}
+use Rattle.desk_rules.specs.declared.rules.entry_fact.EntryState.TheVariants.{Held, Sent, Returned, Lapsed}
 use Rattle.desk_rules.specs.Deadlines.{last_rule_day}
 
 -- held, or settles on the day or after it, also where it came back
-abbrev pub is_due : EntryState → ℕ → Bool
-is_due Held day = true
-is_due (Sent settled) day = nat_le day settled
-is_due (Returned settled code taken late) day = nat_le day settled
-is_due Lapsed day = false
+abbrev pub is_open_credit : EntryState → ℕ → Bool
+is_open_credit Held day = true
+is_open_credit (Sent settled) day = nat_le day settled
+is_open_credit (Returned settled code taken late) day = nat_le day settled
+is_open_credit Lapsed day = false
 
 -- held, or sent with its second banking day after settlement on the day or after it
-abbrev pub is_open : EntryState → ℕ → List ℕ → Bool
-is_open Held day holidays = true
-is_open (Sent settled) day holidays = nat_le day (nth_after holidays settled 2)
-is_open (Returned settled code taken late) day holidays = false
-is_open Lapsed day holidays = false
+abbrev pub is_open_debit : EntryState → ℕ → List ℕ → Bool
+is_open_debit Held day holidays = true
+is_open_debit (Sent settled) day holidays = nat_le day (nth_after holidays settled 2)
+is_open_debit (Returned settled code taken late) day holidays = false
+is_open_debit Lapsed day holidays = false
 
 -- the cents of the credits that are due
 abbrev pub credit_exposure : List EntryFact → ℕ → ℕ
-credit_exposure facts day = sum_by (λ f. f.cents) (filter (λ f. not f.debit && is_due f.state day) facts)
+credit_exposure facts day = sum_by (λ f. f.cents) (filter (λ f. not f.debit && is_open_credit f.state day) facts)
 
 -- the cents of the debits that are open
 abbrev pub debit_exposure : List EntryFact → ℕ → List ℕ → ℕ
-debit_exposure facts day holidays = sum_by (λ f. f.cents) (filter (λ f. f.debit && is_open f.state day holidays) facts)
+debit_exposure facts day holidays = sum_by (λ f. f.cents) (filter (λ f. f.debit && is_open_debit f.state day holidays) facts)
 
 -- what was sent settled on a day that a rule may be given
 abbrev pub IsSettledInRange : EntryState → Type 0

@@ -4,14 +4,19 @@ use Rattle.std.specs.List.{list_all}
 use Rattle.std.specs.Result.{result_ok}
 use Rattle.std.specs.Str.{bytes_eq}
 use Rattle.ach_fields.specs.Text.{short_text_of}
-use Rattle.desk_rules.specs.declared.draft.Optional.{Optional}
-use Rattle.desk_rules.specs.declared.draft.Optional.TheVariants.{Absent, Wrong, Given}
-use Rattle.desk_rules.specs.declared.submission.SecCode.{SecCode}
-use Rattle.desk_rules.specs.declared.submission.SecCode.TheVariants.{Ppd, Ccd}
-use Rattle.desk_rules.specs.declared.submission.Direction.{Direction}
-use Rattle.desk_rules.specs.declared.submission.Direction.TheVariants.{Credit, Debit}
-use Rattle.desk_rules.specs.declared.submission.AccountKind.{AccountKind}
-use Rattle.desk_rules.specs.declared.submission.AccountKind.TheVariants.{Checking, Savings}
+use Rattle.desk_rules.specs.declared.bodies.draft.Optional.{Optional}
+use Rattle.desk_rules.specs.declared.bodies.draft.Optional.TheVariants.{Absent, Wrong, Given}
+use Rattle.desk_rules.specs.declared.bodies.submission.SecCode.{SecCode}
+use Rattle.desk_rules.specs.declared.bodies.submission.SecCode.TheVariants.{Ppd, Ccd}
+use Rattle.desk_rules.specs.declared.bodies.submission.Direction.{Direction}
+use Rattle.desk_rules.specs.declared.bodies.submission.Direction.TheVariants.{Credit, Debit}
+use Rattle.desk_rules.specs.declared.bodies.submission.AccountKind.{AccountKind}
+use Rattle.desk_rules.specs.declared.bodies.submission.AccountKind.TheVariants.{Checking, Savings}
+
+-- the three letters of a standard entry class
+abbrev pub sec_text : SecCode → List ℕ
+sec_text Ppd = codes "PPD"
+sec_text Ccd = codes "CCD"
 
 -- `PPD` or `CCD`
 abbrev pub sec_of : List ℕ → Option SecCode

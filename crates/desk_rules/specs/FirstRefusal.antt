@@ -1,6 +1,6 @@
 -- Refusals in an order: the first whose condition holds is the answer.
 use Rattle.std.specs.Prelude.{Bool, if◌then◌else◌, List, [], ◌∷◌, Result, Ok, Err}
-use Rattle.desk_rules.specs.declared.refusal.Refusal.{Refusal}
+use Rattle.desk_rules.specs.declared.refusals.refusal.Refusal.{Refusal}
 
 -- the refusal of the first row whose condition holds
 abbrev pub first_refusal : List (Bool × Refusal) → Result (Unit {0}) Refusal

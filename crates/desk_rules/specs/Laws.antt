@@ -1,10 +1,10 @@
 -- Laws of the rules: what their definitions mean.
 use Rattle.std.specs.Prelude.{◌≡◌, ◌↔◌, ◌≤◌, ◌+◌, ◌++◌, ◌∷◌, ℕ, Bool, true, false, IsTrue, List, All, Option, Some, None, Ok, Err}
 use Rattle.bank_days.specs.Calendar.{AreHolidays, IsNthAfter}
-use Rattle.desk_rules.specs.declared.refusal.Refusal.{Refusal}
-use Rattle.desk_rules.specs.declared.submission.Retry.{Retry}
-use Rattle.desk_rules.specs.declared.submission.Submission.{Submission}
-use Rattle.desk_rules.specs.declared.time_class.TimeClass.TheVariants.{TwoBankingDays, SixtyDays, Unlimited}
+use Rattle.desk_rules.specs.declared.refusals.refusal.Refusal.{Refusal}
+use Rattle.desk_rules.specs.declared.bodies.submission.Retry.{Retry}
+use Rattle.desk_rules.specs.declared.bodies.submission.Submission.{Submission}
+use Rattle.desk_rules.specs.declared.rules.time_class.TimeClass.TheVariants.{TwoBankingDays, SixtyDays, Unlimited}
 use Rattle.desk_rules.specs.Deadlines.{deadline, last_rule_day}
 use Rattle.desk_rules.specs.FirstRefusal.{first_refusal}
 use Rattle.desk_rules.specs.SameContent.{same_retry, same_submission}
@@ -23,7 +23,7 @@ pub record CountedDeadlines : Type 0 where
 abbrev pub NoneHolds : List (Bool × Refusal) → Type 0
 NoneHolds rows = All (λ row. row.0 ≡ false) rows
 
--- the row of a refusal whose condition holds, behind rows of which none does
+-- the row of a refusal whose condition holds, after rows of which none does
 pub record IsFirst (rows : List (Bool × Refusal)) (refusal : Refusal) : Type 0 where
   pub front : List (Bool × Refusal)
   pub rest : List (Bool × Refusal)

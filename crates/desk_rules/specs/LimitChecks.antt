@@ -1,13 +1,13 @@
--- A submission against the desk day and the company's limits.
+-- A submission against the desk day and the company's limits: the desk's own rules.
 use Rattle.std.specs.Prelude.{ℕ, ◌+◌, Bool, true, false, not, ◌&&◌, nat_lt, nat_le, List, [], ◌∷◌, Result}
 use Rattle.std.specs.List.{list_any}
-use Rattle.desk_rules.specs.declared.company.Limits.{Limits}
-use Rattle.desk_rules.specs.declared.entry_fact.EntryFact.{EntryFact}
-use Rattle.desk_rules.specs.declared.refusal.Refusal.{Refusal}
-use Rattle.desk_rules.specs.declared.refusal.Refusal.TheVariants.{DateRange, EntryLimit, CreditLimit, DebitLimit}
-use Rattle.desk_rules.specs.declared.submission.Submission.{Submission}
-use Rattle.desk_rules.specs.declared.submission.Direction.{Direction}
-use Rattle.desk_rules.specs.declared.submission.Direction.TheVariants.{Credit, Debit}
+use Rattle.desk_rules.specs.declared.bodies.company.Limits.{Limits}
+use Rattle.desk_rules.specs.declared.rules.entry_fact.EntryFact.{EntryFact}
+use Rattle.desk_rules.specs.declared.refusals.refusal.Refusal.{Refusal}
+use Rattle.desk_rules.specs.declared.refusals.refusal.Refusal.TheVariants.{DateRange, EntryLimit, CreditLimit, DebitLimit}
+use Rattle.desk_rules.specs.declared.bodies.submission.Submission.{Submission}
+use Rattle.desk_rules.specs.declared.bodies.submission.Direction.{Direction}
+use Rattle.desk_rules.specs.declared.bodies.submission.Direction.TheVariants.{Credit, Debit}
 use Rattle.desk_rules.specs.Exposure.{credit_exposure, debit_exposure}
 use Rattle.desk_rules.specs.FirstRefusal.{first_refusal}
 use Rattle.desk_rules.specs.Size.{total_of}

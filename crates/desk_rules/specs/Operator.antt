@@ -5,13 +5,13 @@ use Rattle.ach_fields.specs.Names.{id_of}
 use Rattle.bank_days.specs.Day.{day_of}
 use Rattle.desk_rules.specs.Chain.{◌>>=◌, good}
 use Rattle.desk_rules.specs.Fields.{text_of, key_of, up_to}
-use Rattle.desk_rules.specs.declared.company.Company.{Company}
-use Rattle.desk_rules.specs.declared.company.Limits.{Limits}
-use Rattle.desk_rules.specs.declared.draft.CompanyDraft.{CompanyDraft}
-use Rattle.desk_rules.specs.declared.draft.LimitDrafts.{LimitDrafts}
-use Rattle.desk_rules.specs.declared.draft.LimitsDraft.{LimitsDraft}
-use Rattle.desk_rules.specs.declared.refusal.Refusal.{Refusal}
-use Rattle.desk_rules.specs.declared.refusal.Field.TheVariants as field
+use Rattle.desk_rules.specs.declared.bodies.company.Company.{Company}
+use Rattle.desk_rules.specs.declared.bodies.company.Limits.{Limits}
+use Rattle.desk_rules.specs.declared.bodies.draft.CompanyDraft.{CompanyDraft}
+use Rattle.desk_rules.specs.declared.bodies.draft.LimitDrafts.{LimitDrafts}
+use Rattle.desk_rules.specs.declared.bodies.draft.LimitsDraft.{LimitsDraft}
+use Rattle.desk_rules.specs.declared.refusals.refusal.Refusal.{Refusal}
+use Rattle.desk_rules.specs.declared.refusals.refusal.Field.TheVariants as field
 
 -- three limits: of an entry, of the credit exposure, of the debit exposure
 abbrev pub limits_of : LimitDrafts → Result Limits Refusal

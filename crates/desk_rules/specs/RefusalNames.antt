@@ -1,9 +1,9 @@
 -- The names of refusals: number, HTTP status and text of each.
 use Rattle.std.specs.Prelude.{ℕ, List, codes}
-use Rattle.desk_rules.specs.declared.refusal.Refusal.{Refusal}
-use Rattle.desk_rules.specs.declared.refusal.Refusal.TheVariants as refusals
-use Rattle.desk_rules.specs.declared.refusal_name.RefusalName.{RefusalName}
-use Rattle.desk_rules.specs.declared.refusal_name.RefusalName.TheVariants as names
+use Rattle.desk_rules.specs.declared.refusals.refusal.Refusal.{Refusal}
+use Rattle.desk_rules.specs.declared.refusals.refusal.Refusal.TheVariants as refusals
+use Rattle.desk_rules.specs.declared.refusals.names.RefusalName.{RefusalName}
+use Rattle.desk_rules.specs.declared.refusals.names.RefusalName.TheVariants as names
 
 -- the number by which companies know the refusal
 abbrev pub number_of : RefusalName → ℕ

@@ -5,10 +5,10 @@ use Rattle.ach_fields.specs.Names.{reference_of}
 use Rattle.bank_days.specs.Day.{day_of}
 use Rattle.desk_rules.specs.Chain.{◌>>=◌, good}
 use Rattle.desk_rules.specs.Fields.{optional_of, entry_number_of}
-use Rattle.desk_rules.specs.declared.draft.RetryDraft.{RetryDraft}
-use Rattle.desk_rules.specs.declared.submission.Retry.{Retry}
-use Rattle.desk_rules.specs.declared.refusal.Refusal.{Refusal}
-use Rattle.desk_rules.specs.declared.refusal.Field.TheVariants as field
+use Rattle.desk_rules.specs.declared.bodies.draft.RetryDraft.{RetryDraft}
+use Rattle.desk_rules.specs.declared.bodies.submission.Retry.{Retry}
+use Rattle.desk_rules.specs.declared.refusals.refusal.Refusal.{Refusal}
+use Rattle.desk_rules.specs.declared.refusals.refusal.Field.TheVariants as field
 
 -- the retry of a draft, or its first bad field
 abbrev pub retry_of : RetryDraft → Result Retry Refusal

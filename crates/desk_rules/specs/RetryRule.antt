@@ -1,9 +1,9 @@
--- May a returned debit be tried again?
+-- May a returned debit be tried again? Nacha's rule of reinitiation.
 use Rattle.std.specs.Prelude.{ℕ, ◌+◌, Bool, true, false, not, ◌&&◌, ◌||◌, ◌==◌, nat_le, nat_lt, List, [], ◌∷◌, length, Option, Some, None, Result}
-use Rattle.bank_days.specs.Calendar.{rolled}
-use Rattle.desk_rules.specs.declared.attempt.Attempt.{Attempt}
-use Rattle.desk_rules.specs.declared.refusal.Refusal.{Refusal}
-use Rattle.desk_rules.specs.declared.refusal.Refusal.TheVariants.{NotReturned, NotRetryable, RetriesSpent, RetryTooLate}
+use Rattle.bank_days.specs.Calendar.{roll}
+use Rattle.desk_rules.specs.declared.rules.attempt.Attempt.{Attempt}
+use Rattle.desk_rules.specs.declared.refusals.refusal.Refusal.{Refusal}
+use Rattle.desk_rules.specs.declared.refusals.refusal.Refusal.TheVariants.{NotReturned, NotRetryable, RetriesSpent, RetryTooLate}
 use Rattle.desk_rules.specs.Attempts.{Return, original_return, newest_return}
 use Rattle.desk_rules.specs.FirstRefusal.{first_refusal}
 
@@ -12,7 +12,7 @@ abbrev pub is_authorized : Option ℕ → ℕ → ℕ → Bool
 is_authorized None taken day = false
 is_authorized (Some authorized) taken day = nat_le taken authorized && nat_le authorized day
 
--- a return for want of funds, R01 or R09, or of a stopped payment, R08, that was authorized again
+-- a return for lack of funds, R01 or R09, or of a stopped payment, R08, that was authorized again
 abbrev pub is_retryable : ℕ → ℕ → Option ℕ → ℕ → Bool
 is_retryable code taken authorized day = code == 1 || code == 9 || (code == 8 && is_authorized authorized taken day)
 
@@ -25,7 +25,7 @@ abbrev pub retry_rows : ℕ → Option Return → Option Return → ℕ → Opti
 retry_rows count (Some original) (Some newest) asked authorized day holidays =
     (not (is_retryable newest.code newest.taken authorized day), NotRetryable newest.code)
     ∷ (nat_le 3 count, RetriesSpent)
-    ∷ (is_too_late original.settled (rolled holidays asked), RetryTooLate)
+    ∷ (is_too_late original.settled (roll holidays asked), RetryTooLate)
     ∷ []
 retry_rows count _ _ asked authorized day holidays = (true, NotReturned) ∷ []
 

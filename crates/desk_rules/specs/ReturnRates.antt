@@ -1,12 +1,12 @@
--- Return rates: two counts over the 60 days that end on the desk day.
+-- Nacha's return rates, unauthorized, administrative and overall: two counts over the 60 days that end on the desk day.
 use Rattle.std.specs.Prelude.{ℕ, ◌-◌, ◌*◌, Bool, true, false, not, ◌&&◌, nat_le, nat_lt, List, [], ◌∷◌, count_by}
-use Rattle.desk_rules.specs.declared.entry_fact.EntryFact.{EntryFact}
-use Rattle.desk_rules.specs.declared.entry_fact.EntryState.{EntryState}
-use Rattle.desk_rules.specs.declared.entry_fact.EntryState.TheVariants.{Held, Sent, Returned, Lapsed}
-use Rattle.desk_rules.specs.declared.rate.Level.{Level}
-use Rattle.desk_rules.specs.declared.rate.Level.TheVariants.{Unauthorized, Administrative, Overall}
-use Rattle.desk_rules.specs.declared.rate.Rate.{Rate}
-use Rattle.desk_rules.specs.declared.rate.Rates.{Rates}
+use Rattle.desk_rules.specs.declared.rules.entry_fact.EntryFact.{EntryFact}
+use Rattle.desk_rules.specs.declared.rules.entry_fact.EntryState.{EntryState}
+use Rattle.desk_rules.specs.declared.rules.entry_fact.EntryState.TheVariants.{Held, Sent, Returned, Lapsed}
+use Rattle.desk_rules.specs.declared.rules.rate.Level.{Level}
+use Rattle.desk_rules.specs.declared.rules.rate.Level.TheVariants.{Unauthorized, Administrative, Overall}
+use Rattle.desk_rules.specs.declared.rules.rate.Rate.{Rate}
+use Rattle.desk_rules.specs.declared.rules.rate.Rates.{Rates}
 use Rattle.desk_rules.specs.TimeClasses.{is_among}
 
 -- R05 R07 R10 R11 R29

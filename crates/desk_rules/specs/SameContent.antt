@@ -1,15 +1,15 @@
 -- The same content under a reference that is used again.
 use Rattle.std.specs.Prelude.{Bool, true, false, not, ◌&&◌, ◌==◌, if◌then◌else◌, Option, Some, None, bytes_eq}
 use Rattle.std.specs.Cmp.Lexicographic.{pointwise}
-use Rattle.desk_rules.specs.declared.submission.SecCode.{SecCode}
-use Rattle.desk_rules.specs.declared.submission.SecCode.TheVariants.{Ppd, Ccd}
-use Rattle.desk_rules.specs.declared.submission.Direction.{Direction}
-use Rattle.desk_rules.specs.declared.submission.Direction.TheVariants.{Credit, Debit}
-use Rattle.desk_rules.specs.declared.submission.AccountKind.{AccountKind}
-use Rattle.desk_rules.specs.declared.submission.AccountKind.TheVariants.{Checking, Savings}
-use Rattle.desk_rules.specs.declared.submission.Entry.{Entry}
-use Rattle.desk_rules.specs.declared.submission.Retry.{Retry}
-use Rattle.desk_rules.specs.declared.submission.Submission.{Submission}
+use Rattle.desk_rules.specs.declared.bodies.submission.SecCode.{SecCode}
+use Rattle.desk_rules.specs.declared.bodies.submission.SecCode.TheVariants.{Ppd, Ccd}
+use Rattle.desk_rules.specs.declared.bodies.submission.Direction.{Direction}
+use Rattle.desk_rules.specs.declared.bodies.submission.Direction.TheVariants.{Credit, Debit}
+use Rattle.desk_rules.specs.declared.bodies.submission.AccountKind.{AccountKind}
+use Rattle.desk_rules.specs.declared.bodies.submission.AccountKind.TheVariants.{Checking, Savings}
+use Rattle.desk_rules.specs.declared.bodies.submission.Entry.{Entry}
+use Rattle.desk_rules.specs.declared.bodies.submission.Retry.{Retry}
+use Rattle.desk_rules.specs.declared.bodies.submission.Submission.{Submission}
 
 abbrev pub same_sec : SecCode → SecCode → Bool
 same_sec Ppd Ppd = true

@@ -7,13 +7,13 @@ use Rattle.desk_rules.specs.Chain.{◌>>=◌, good}
 use Rattle.ach_fields.specs.Routing.{routing_of}
 use Rattle.bank_days.specs.Day.{day_of}
 use Rattle.desk_rules.specs.Fields.{sec_of, direction_of, kind_of, text_of, description_of, optional_of, prenote_of, entry_cents_of}
-use Rattle.desk_rules.specs.declared.draft.Draft.{Draft}
-use Rattle.desk_rules.specs.declared.draft.EntryDraft.{EntryDraft}
-use Rattle.desk_rules.specs.declared.submission.Entry.{Entry}
-use Rattle.desk_rules.specs.declared.submission.Submission.{Submission}
-use Rattle.desk_rules.specs.declared.refusal.Refusal.{Refusal}
-use Rattle.desk_rules.specs.declared.refusal.Refusal.TheVariants.{BadField}
-use Rattle.desk_rules.specs.declared.refusal.Field.TheVariants as field
+use Rattle.desk_rules.specs.declared.bodies.draft.Draft.{Draft}
+use Rattle.desk_rules.specs.declared.bodies.draft.EntryDraft.{EntryDraft}
+use Rattle.desk_rules.specs.declared.bodies.submission.Entry.{Entry}
+use Rattle.desk_rules.specs.declared.bodies.submission.Submission.{Submission}
+use Rattle.desk_rules.specs.declared.refusals.refusal.Refusal.{Refusal}
+use Rattle.desk_rules.specs.declared.refusals.refusal.Refusal.TheVariants.{BadField}
+use Rattle.desk_rules.specs.declared.refusals.refusal.Field.TheVariants as field
 
 -- the entry of a draft, of which this is the number
 abbrev pub entry_of : ℕ → Option EntryDraft → Result Entry Refusal

@@ -1,8 +1,8 @@
 -- The time class of each return code, by its number.
 use Rattle.std.specs.Prelude.{ℕ, Bool, ◌==◌, if◌then◌else◌, List, [], ◌∷◌}
 use Rattle.std.specs.List.{list_any}
-use Rattle.desk_rules.specs.declared.time_class.TimeClass.{TimeClass}
-use Rattle.desk_rules.specs.declared.time_class.TimeClass.TheVariants.{TwoBankingDays, SixtyDays, Unlimited}
+use Rattle.desk_rules.specs.declared.rules.time_class.TimeClass.{TimeClass}
+use Rattle.desk_rules.specs.declared.rules.time_class.TimeClass.TheVariants.{TwoBankingDays, SixtyDays, Unlimited}
 
 -- does a list have a code?
 abbrev pub is_among : List ℕ → ℕ → Bool

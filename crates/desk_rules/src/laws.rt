@@ -1,4 +1,4 @@
-//! Laws of the rules: what their definitions mean.
+//! The laws of the rules say what their definitions mean.
 ghost use Rattle.desk_rules.specs.Laws.{CountedDeadlines, FirstRefusals, SameContents};
 
 /// A deadline is counted in banking days from the settlement, or from the sixtieth day after it.
@@ -8,14 +8,14 @@ pub fn counted_deadlines()
     bank_days::nth_banking_days();
 }
 
-/// A list of refusals with their conditions gives the one whose condition holds and none before it,
-/// and gives none where none holds.
+/// A list of refusals with their conditions gives the one whose condition holds and none before it;
+/// it gives none where none holds.
 pub fn first_refusals()
     ensures { FirstRefusals }
 {}
 
-/// Two submissions have the same content exactly where they are equal; two retries where they name
-/// the same entry, for the same day and with the same authorization.
+/// Two submissions have the same content exactly where they are equal; two retries have it where
+/// they name the same entry, for the same day and with the same authorization.
 pub fn same_contents()
     ensures { SameContents }
 {}

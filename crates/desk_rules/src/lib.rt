@@ -1,57 +1,41 @@
-//! The rules of the desk, each a plain function over facts: which bodies are submissions, retries,
-//! days, companies and limits, and why one is refused; what a company's entries may still cost the
-//! bank; until when a return is in time, which debits may be tried again, and how many came back.
+//! This crate has the rules of the desk, each a plain function over facts. They say which bodies
+//! are submissions, retries, days, companies and limits, and why one is refused; how many cents a
+//! company's entries may still cost the bank (exposures); until when a return is in time (Nacha's
+//! return deadlines), which returned debits may be tried again (Nacha's reinitiation), and how many
+//! came back (Nacha's return rates).
 //!
 //! Only what reads a draft takes memory. A day that a rule is given is at most 2100-01-31, so that
 //! what is counted from it is a day too.
 #![tactic(auto)]
 
-mod attempt;
-mod company;
-mod deadlines;
-mod draft;
-mod entry_fact;
-mod exposure;
-mod fields;
+mod bodies;
 mod laws;
-mod limit_checks;
-mod operator_fields;
-mod rate;
-mod refusal;
-mod refusal_name;
-mod retry_fields;
-mod retry_rule;
-mod return_code;
-mod return_rates;
-mod same_content;
-mod size;
-mod submission;
-mod submission_fields;
-mod time_class;
+mod refusals;
+mod rules;
 
-pub use attempt::Attempt;
-pub use company::{Company, Limits};
-pub use deadlines::{deadline, is_late};
-pub use draft::{
+pub use bodies::company::{Company, Limits};
+pub use bodies::draft::{
     CompanyDraft, Draft, DraftText, EntryDraft, EntryDrafts, LimitDrafts, LimitsDraft, Optional,
     RetryDraft,
 };
-pub use entry_fact::{EntryFact, EntryState};
-pub use exposure::{credit_exposure, debit_exposure};
+pub use bodies::operator_fields::{check_company_fields, check_day_field, check_limits_fields};
+pub use bodies::retry_fields::check_retry_fields;
+pub use bodies::submission::{AccountKind, Direction, Entries, Entry, Retry, SecCode, Submission};
+pub use bodies::submission_fields::check_fields;
 pub use laws::{counted_deadlines, first_refusals, same_contents};
-pub use limit_checks::check_submission;
-pub use operator_fields::{check_company_fields, check_day_field, check_limits_fields};
-pub use rate::{Level, Rate, Rates};
-pub use refusal::{Field, Refusal, RuleFault};
-pub use refusal_name::RefusalName;
-pub use retry_fields::check_retry_fields;
-pub use retry_rule::{is_too_late, may_retry};
-pub use return_code::ReturnCode;
-pub use return_rates::{exceeds, rates};
-pub use size::{check_size, total};
-pub use submission::{AccountKind, Direction, Entries, Entry, Retry, SecCode, Submission};
-pub use submission_fields::check_fields;
-pub use time_class::TimeClass;
+pub use refusals::names::RefusalName;
+pub use refusals::refusal::{Field, Refusal, RuleFault};
+pub use rules::attempt::Attempt;
+pub use rules::deadlines::{LAST_RULE_DAY, deadline, is_late};
+pub use rules::entry_fact::{EntryFact, EntryState};
+pub use rules::exposure::{credit_exposure, debit_exposure};
+pub use rules::limit_checks::check_submission;
+pub use rules::rate::{Level, Rate, Rates};
+pub use rules::retry_rule::{is_too_late, may_retry};
+pub use rules::return_code::ReturnCode;
+pub use rules::return_rates::{exceeds, rates};
+pub use rules::size::{MOST_ENTRIES, check_size, total};
+pub use rules::time_class::TimeClass;
 
 #[cfg(test)]
 mod tests;

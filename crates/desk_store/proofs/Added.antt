@@ -3,20 +3,20 @@ use Rattle.std.proofs.Common.{◌≡◌, ◌∙◌, ap, sym, inl, inr, ℕ, ◌+
 use Rattle.std.specs.Prelude.{filter, if◌then◌else◌, bytes_eq, Option}
 use Rattle.std.proofs.lemmas.Bool.{cases_Bool}
 use Rattle.std.proofs.lemmas.Slice.Eq.{bytes_eq-Decides}
-use Rattle.desk_rules.specs.declared.submission.Retry.{Retry}
-use Rattle.desk_rules.specs.declared.submission.Submission.{Submission}
-use Rattle.desk_history.specs.declared.row.Row.{Row}
-use Rattle.desk_history.specs.Standing.{row_next}
+use Rattle.desk_rules.specs.declared.bodies.submission.Retry.{Retry}
+use Rattle.desk_rules.specs.declared.bodies.submission.Submission.{Submission}
+use Rattle.desk_book.specs.declared.row.Row.{Row}
+use Rattle.desk_book.specs.Standing.{next_row}
 use Rattle.desk_store.specs.Held.{held_row}
 use Rattle.desk_store.specs.Rows.{Rows, CompanyRow, flat_book}
-use Rattle.desk_store.specs.Steps.{changed_at, add_submission}
+use Rattle.desk_book.specs.Steps.{change_at, add_submission}
 use Rattle.desk_store.proofs.FlatRows.{own_more}
 
 -- the company's rows have the next one, and those of others are as they were
 flat-push : (xs : List CompanyRow) (at : List ℕ) (order : ℕ) (s : Submission) (retry : Option Retry) (c : List ℕ) →
     (let rows : List ℕ → List Row = λ c. map (λ x. x.row) (filter (λ x. bytes_eq x.company c) xs) in
     order ≡ length (rows at) + 1 →
-    map (λ x. x.row) (filter (λ x. bytes_eq x.company c) (xs ++ held_row at order s retry ∷ [])) ≡ changed_at at (λ rs. rs ++ row_next rs s retry ∷ []) rows c)
+    map (λ x. x.row) (filter (λ x. bytes_eq x.company c) (xs ++ held_row at order s retry ∷ [])) ≡ change_at at (λ rs. rs ++ next_row rs s retry ∷ []) rows c)
 flat-push xs at order s retry c next =
     let rows : List ℕ → List Row = λ c. map (λ x. x.row) (filter (λ x. bytes_eq x.company c) xs) in
     let row : ℕ → Row = λ n. (held_row at n s retry).row in

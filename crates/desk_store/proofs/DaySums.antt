@@ -70,7 +70,7 @@ sum_higher day d cents sum rows h = grind (arith, nat_tests)
 abbrev by_day : (ℕ → ℤ) → List ℕ → List (ℕ × ℤ)
 by_day sum days = map (λ d. (d, sum d)) days
 
--- sums before and after an amount comes to a day
+-- sums before and after an amount is added to a day
 module _ (f g : ℕ → ℤ) (day : ℕ) (cents : ℤ) (others : (d : ℕ) → (day ≡ d → ⊥) → f d ≡ g d) (own : f day +ℤ cents ≡ g day) where
   apart_same : (days : List ℕ) → Apart day days → by_day f days ≡ by_day g days
   apart_same [] h = refl
@@ -139,7 +139,7 @@ days_of_rows : (sum : ℕ → ℤ) (days : List ℕ) → map (λ (row : ℕ × �
 days_of_rows sum [] = refl
 days_of_rows sum (d ∷ days) = ap (λ more. d ∷ more) (days_of_rows sum days)
 
--- one more line in front, of the account or of another
+-- one more line before the others, of the account or of another
 pub own_line : BalancesByDay → (account : Account) (line : Posting) (lines : List Posting) → same_account line.account account ≡ true →
     with_sum line.value_day line.cents (day_sums account lines) ≡ day_sums account (line ∷ lines)
 own_line law account line lines own =

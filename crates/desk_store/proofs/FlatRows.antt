@@ -8,9 +8,9 @@ use Rattle.std.proofs.lemmas.List.Elements.{filter-append}
 use Rattle.std.proofs.lemmas.List.Folds.{find-append}
 use Rattle.std.proofs.lemmas.List.Sums.{sum_by-append}
 use Rattle.std.proofs.lemmas.Slice.Eq.{bytes_eq-Decides}
-use Rattle.desk_history.specs.declared.row.Row.{Row}
+use Rattle.desk_book.specs.declared.row.Row.{Row}
 use Rattle.desk_store.specs.Rows.{CompanyRow}
-use Rattle.desk_store.specs.Steps.{changed_at}
+use Rattle.desk_book.specs.Steps.{change_at}
 use Rattle.desk_store.specs.Changes.{in_company}
 
 abbrev pub is_of : List ℕ → CompanyRow → Bool
@@ -50,7 +50,7 @@ module _ (c : List ℕ) (change : Row → Row) where
 
 -- it is a change of the look-up at that company
 pub rows_changed : (c : List ℕ) (change : Row → Row) (xs : List CompanyRow) (d : List ℕ)
-    → rows_of (map (in_company c change) xs) d ≡ changed_at c (map change) (rows_of xs) d
+    → rows_of (map (in_company c change) xs) d ≡ change_at c (map change) (rows_of xs) d
 rows_changed c change xs d =
     let before = rows_of xs d in
     elim (cases_Bool (bytes_eq c d)) [
@@ -70,21 +70,11 @@ passing_more row p xs x =
 
 -- it stands at the end of its company's
 pub own_more : {X Y : Type 0} (row : X → Y) (company : X → List ℕ) (xs : List X) (x : X) (c : List ℕ)
-    → map row (filter (λ y. bytes_eq (company y) c) (xs ++ x ∷ [])) ≡ changed_at (company x) (λ ys. ys ++ row x ∷ []) (λ d. map row (filter (λ y. bytes_eq (company y) d) xs)) c
+    → map row (filter (λ y. bytes_eq (company y) c) (xs ++ x ∷ [])) ≡ change_at (company x) (λ ys. ys ++ row x ∷ []) (λ d. map row (filter (λ y. bytes_eq (company y) d) xs)) c
 own_more row company xs x c =
     passing_more row (λ y. bytes_eq (company y) c) xs x
     ∙ (let before = map row (filter (λ y. bytes_eq (company y) c) xs) in
     elim (bytes_eq (company x) c) as (λ t. before ++ (if t then row x ∷ [] else []) ≡ (if t then before ++ row x ∷ [] else before)) [ true ↦ refl | false ↦ append-nil before ])
-
--- it is found first where nothing before it passes
-pub first_more : {X Y : Type 0} (value : X → Y) (p : X → Bool) (xs : List X) (x : X)
-    → option_map value (find p (xs ++ x ∷ [])) ≡ (if p x && is_none (option_map value (find p xs)) then Some (value x) else option_map value (find p xs))
-first_more value p xs x =
-    ap (option_map value) (find-append p xs (x ∷ []))
-    ∙ elim (find p xs) as (λ o. option_map value (option_or o (cond (p x) (Some x) None)) ≡ (if p x && is_none (option_map value o) then Some (value x) else option_map value o)) [
-      | None ↦ elim (p x) as (λ t. option_map value (option_or None (cond t (Some x) None)) ≡ (if t && true then Some (value x) else None)) [ true ↦ refl | false ↦ refl ]
-      | Some y ↦ elim (p x) as (λ t. Some (value y) ≡ (if t && false then Some (value x) else Some (value y))) [ true ↦ refl | false ↦ refl ]
-    ]
 
 -- it counts where it passes
 pub count_more : {X : Type 0} (p : X → Bool) (xs : List X) (x : X) → count_by p (xs ++ x ∷ []) ≡ count_by p xs + (if p x then 1 else 0)

@@ -1,4 +1,4 @@
--- What the index of traces finds, as entries come behind and as it covers them.
+-- What the index of traces finds, as entries are added and as it covers them.
 use Rattle.std.proofs.Common.{◌≡◌, ℕ, ◌+◌, ◌<◌, ◌%◌, ◌==◌, Bool, List, [], ◌∷◌, ◌++◌, take, length, get_or, Option, Some, None, false, refl, ap, sym, subst, ◌∙◌, arith}
 use Rattle.std.specs.Prelude.{find, if◌then◌else◌}
 use Rattle.std.specs.BTreeMap.{get, Updates}
@@ -6,8 +6,8 @@ use Rattle.std.specs.Cmp.{unsigned_tied}
 use Rattle.std.specs.Ordering.{nat_cmp}
 use Rattle.std.proofs.Math.Seq.{take-length}
 use Rattle.std.proofs.lemmas.List.{reverse-append, take_more, take-append-le, length-append}
-use Rattle.desk_history.specs.declared.row.SentEntry.{SentEntry}
-use Rattle.desk_store.specs.declared.trace_index.TraceIndex.{TraceIndex}
+use Rattle.desk_history.specs.declared.sent_entry.SentEntry.{SentEntry}
+use Rattle.desk_store.specs.declared.lists.trace_index.TraceIndex.{TraceIndex}
 use Rattle.desk_store.specs.Indexed.{IsIndexed, ends_in, youngest_ending}
 
 -- the youngest with one more entry
@@ -29,7 +29,7 @@ covers_more sent old new e some is put one held = record {
       ∙ ap (λ (es : List SentEntry). youngest_ending es digits) (sym more);
 }
 
--- entries that come behind are not covered
+-- entries that come later are not covered
 pub indexed_behind : (sent more : List SentEntry) (index : TraceIndex) → IsIndexed sent index → IsIndexed (sent ++ more) index
 indexed_behind sent more index held = record {
   within = omega (arith, length-append sent more, held.within);

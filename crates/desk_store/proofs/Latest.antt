@@ -7,9 +7,9 @@ use Rattle.std.proofs.lemmas.List.{append-nil, reverse-append}
 use Rattle.std.proofs.lemmas.List.Elements.{filter_map-append}
 use Rattle.std.proofs.lemmas.List.Sums.{fold_push}
 use Rattle.desk_store.specs.Finds.{later_of, with_settlement}
-use Rattle.desk_history.specs.declared.row.SentEntry.{SentEntry}
-use Rattle.desk_plan.specs.Reuse.{settlement, has_sequence}
-use Rattle.desk_history.specs.Sending.{sent_as}
+use Rattle.desk_history.specs.declared.sent_entry.SentEntry.{SentEntry}
+use Rattle.desk_plan.specs.Reuse.{youngest_settlement, has_sequence}
+use Rattle.desk_history.specs.Sendings.{sent_sequence}
 
 -- ---- the latest of days
 
@@ -54,10 +54,10 @@ module _ (e : SentEntry) (f : ℕ → Option ℕ) where
       (λ i. (if differ i then Some e.settled else f a) ∷ settled_within (a + 1) n k (omega arith) (omega arith) i)
 
 -- the settlement of a sequence with one more entry
-pub settled_more : (sent : List SentEntry) (e : SentEntry) (s : ℕ) → with_settlement e (settlement (map sent_as (reverse sent))) s ≡ settlement (map sent_as (reverse (sent ++ e ∷ []))) s
+pub settled_more : (sent : List SentEntry) (e : SentEntry) (s : ℕ) → with_settlement e (youngest_settlement (map sent_sequence (reverse sent))) s ≡ youngest_settlement (map sent_sequence (reverse (sent ++ e ∷ []))) s
 settled_more sent e s =
     of_test (e.sequence == s)
-    ∙ ap (λ (es : List SentEntry). settlement (map sent_as es) s) (sym (reverse-append sent (e ∷ []))) where
-      of_test : (t : Bool) → (if t then Some e.settled else settlement (map sent_as (reverse sent)) s) ≡ option_map (λ x. x.settled) (if t then Some (sent_as e) else find (has_sequence s) (map sent_as (reverse sent)))
+    ∙ ap (λ (es : List SentEntry). youngest_settlement (map sent_sequence es) s) (sym (reverse-append sent (e ∷ []))) where
+      of_test : (t : Bool) → (if t then Some e.settled else youngest_settlement (map sent_sequence (reverse sent)) s) ≡ option_map (λ x. x.settled) (if t then Some (sent_sequence e) else find (has_sequence s) (map sent_sequence (reverse sent)))
       of_test true = refl
       of_test false = refl

@@ -1,25 +1,25 @@
 -- What the reads of the lists in memory find.
 use Rattle.std.specs.Prelude.{ℕ, ◌==◌, nat_lt, if◌then◌else◌, List, [], ◌∷◌, map, filter, bytes_eq, option_and_then, max, Option, Some, None, ℤ, ◌+ℤ◌}
-use Rattle.desk_rules.specs.declared.company.Company.{Company}
-use Rattle.desk_history.specs.declared.row.Row.{Row}
-use Rattle.desk_history.specs.declared.row.SentEntry.{SentEntry}
-use Rattle.desk_history.specs.Standing.{row_under, is_held}
-use Rattle.desk_store.specs.declared.list_store.Kept.{Kept}
-use Rattle.desk_store.specs.declared.store.Waiting.{Waiting}
+use Rattle.desk_rules.specs.declared.bodies.company.Company.{Company}
+use Rattle.desk_book.specs.declared.row.Row.{Row}
+use Rattle.desk_history.specs.declared.sent_entry.SentEntry.{SentEntry}
+use Rattle.desk_book.specs.Standing.{row_under, is_held}
+use Rattle.desk_store.specs.declared.lists.store.KeptSubmission.{KeptSubmission}
+use Rattle.desk_book.specs.declared.held_submission.HeldSubmission.{HeldSubmission}
 use Rattle.desk_store.specs.Kept.{row_in}
-use Rattle.desk_store.specs.Reads.{waiting_row}
+use Rattle.desk_book.specs.Reads.{held_submission}
 
 -- a company's rows
-abbrev pub rows_for : List Kept → List ℕ → List Row
+abbrev pub rows_for : List KeptSubmission → List ℕ → List Row
 rows_for kept c = map (λ x. x.row) (filter (λ x. bytes_eq x.company c) (map row_in kept))
 
 -- the day on which a company's submission settled
-abbrev pub settled_under : List Row → List ℕ → Option ℕ
-settled_under rows reference = option_and_then (λ row. row.settled) (row_under rows reference)
+abbrev pub row_settlement : List Row → List ℕ → Option ℕ
+row_settlement rows reference = option_and_then (λ row. row.settled) (row_under rows reference)
 
 -- a company's held submissions
-abbrev pub waiting_for : Company → List Row → List Waiting
-waiting_for k rows = map (waiting_row k rows) (filter is_held rows)
+abbrev pub waiting_for : Company → List Row → List HeldSubmission
+waiting_for k rows = map (held_submission k rows) (filter is_held rows)
 
 -- the later of two days, where there are any
 abbrev pub later_of : Option ℕ → Option ℕ → Option ℕ

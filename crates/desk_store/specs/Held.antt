@@ -1,8 +1,8 @@
 -- What a company hands in, as it is kept until a cut.
 use Rattle.std.specs.Prelude.{ℕ, false, List, length, replicate, Option, None}
-use Rattle.desk_rules.specs.declared.entry_fact.EntryState.TheVariants.{Held}
-use Rattle.desk_rules.specs.declared.submission.Retry.{Retry}
-use Rattle.desk_rules.specs.declared.submission.Submission.{Submission}
+use Rattle.desk_rules.specs.declared.rules.entry_fact.EntryState.TheVariants.{Held}
+use Rattle.desk_rules.specs.declared.bodies.submission.Retry.{Retry}
+use Rattle.desk_rules.specs.declared.bodies.submission.Submission.{Submission}
 use Rattle.desk_store.specs.Rows.{CompanyRow}
 
 -- a company's submission or retry with this number, with all its entries held

@@ -2,8 +2,8 @@
 use Rattle.std.specs.Prelude.{◌≡◌, ◌≤◌, ℕ, ◌%◌, ◌==◌, Bool, List, find, reverse, take, length, Option}
 use Rattle.std.specs.BTreeMap.{get}
 use Rattle.std.specs.Ordering.{nat_cmp}
-use Rattle.desk_history.specs.declared.row.SentEntry.{SentEntry}
-use Rattle.desk_store.specs.declared.trace_index.TraceIndex.{TraceIndex}
+use Rattle.desk_history.specs.declared.sent_entry.SentEntry.{SentEntry}
+use Rattle.desk_store.specs.declared.lists.trace_index.TraceIndex.{TraceIndex}
 
 -- whether an entry's sequence ends in these seven digits
 abbrev pub ends_in : ℕ → SentEntry → Bool

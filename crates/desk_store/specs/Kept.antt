@@ -1,12 +1,12 @@
 -- The rows that a store in memory keeps, and the book that they are.
 use Rattle.std.specs.Prelude.{◌≡◌, map}
-use Rattle.desk_history.specs.Book.{Book}
-use Rattle.desk_store.specs.declared.list_store.Kept.{Kept}
-use Rattle.desk_store.specs.declared.list_store.ListStore.{ListStore}
+use Rattle.desk_book.specs.Book.{Book}
+use Rattle.desk_store.specs.declared.lists.store.KeptSubmission.{KeptSubmission}
+use Rattle.desk_store.specs.declared.lists.store.ListStore.{ListStore}
 use Rattle.desk_store.specs.Indexed.{IsIndexed}
 use Rattle.desk_store.specs.Rows.{Rows, CompanyRow, flat_book}
 
-abbrev pub row_in : Kept → CompanyRow
+abbrev pub row_in : KeptSubmission → CompanyRow
 row_in k = record {
   company = k.company;
   row = record { order = k.order; content = k.content; retry = k.retry; settled = k.settled; lapsed = k.lapsed; states = k.states.items };

@@ -1,7 +1,5 @@
 pub mod Rows
-pub mod Steps
 pub mod Words
-pub mod Reads
 pub mod Written
 pub mod Indexed
 pub mod Kept

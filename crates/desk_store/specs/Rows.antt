@@ -2,18 +2,19 @@
 use Rattle.std.specs.Prelude.{ℕ, Bool, ◌&&◌, ◌==◌, List, map, filter, find, count_by, reverse, Option, option_map, bytes_eq}
 use Rattle.desk_accounts.specs.declared.posting.Posting.{Posting}
 use Rattle.desk_accounts.specs.Balance.{lines_of}
-use Rattle.desk_rules.specs.declared.company.Company.{Company}
+use Rattle.desk_rules.specs.declared.bodies.company.Company.{Company}
 use Rattle.desk_history.specs.declared.identity.Identity.{Identity}
 use Rattle.desk_history.specs.declared.operations.SuspenseRow.{SuspenseRow}
 use Rattle.desk_history.specs.declared.operations.TakenFile.{TakenFile}
-use Rattle.desk_history.specs.declared.row.Row.{Row}
-use Rattle.desk_history.specs.declared.row.SentEntry.{SentEntry}
-use Rattle.desk_history.specs.Book.{Book}
+use Rattle.desk_book.specs.declared.row.Row.{Row}
+use Rattle.desk_history.specs.declared.sent_entry.SentEntry.{SentEntry}
+use Rattle.desk_book.specs.Book.{Book}
 use Rattle.desk_history.specs.Intake.{has_key}
-use Rattle.desk_store.specs.declared.rows.ChangedRow.{ChangedRow}
-use Rattle.desk_store.specs.declared.rows.FileRow.{FileRow}
-use Rattle.desk_store.specs.declared.rows.ReturnedRow.{ReturnedRow}
-use Rattle.desk_store.specs.declared.rows.SentRow.{SentRow}
+use Rattle.desk_book.specs.declared.flat_rows.ChangedRow.{ChangedRow}
+use Rattle.desk_book.specs.declared.flat_rows.FileRow.{FileRow}
+use Rattle.desk_book.specs.declared.flat_rows.ReturnedRow.{ReturnedRow}
+use Rattle.desk_book.specs.declared.flat_rows.SentRow.{SentRow}
+use Rattle.desk_book.specs.Steps.{is_file}
 
 -- a company's submission or retry with its entries
 pub record CompanyRow : Type 0 where
@@ -42,9 +43,6 @@ pub record Rows : Type 0 where
 
 abbrev pub is_printed_of : List ℕ → ℕ → SentRow → Bool
 is_printed_of c order s = bytes_eq s.company c && s.order == order
-
-abbrev pub is_file : ℕ → ℕ → FileRow → Bool
-is_file d modifier f = f.day == d && f.modifier == modifier
 
 abbrev pub flat_book : Rows → Book
 flat_book r = record {

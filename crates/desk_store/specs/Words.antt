@@ -1,9 +1,9 @@
 -- What calls of a store say, by the books that it may hold before and after.
 use Rattle.std.specs.Prelude.{◌≡◌, ◌⊎◌, Result, Ok, Err, List, Vec}
 use Rattle.std.specs.declared.alloc.Global.{Global}
-use Rattle.desk_history.specs.Book.{Book}
+use Rattle.desk_book.specs.Book.{Book}
 use Rattle.desk_store.specs.declared.store.StoreFault.{StoreFault}
-use Rattle.desk_store.specs.Steps.{Step}
+use Rattle.desk_book.specs.Steps.{Step}
 
 -- A read gives this value of the book, or the store could not act; it holds the same book.
 abbrev pub Reads : {A : Type 0} → (Book → Type 0) → Result A StoreFault → (Book → A) → (Book → Type 0) → Type 0

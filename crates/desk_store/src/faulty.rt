@@ -1,26 +1,27 @@
-//! A store that once does not answer, to try what a desk makes of it.
+//! A faulty store once does not answer, to try what a desk makes of it.
 ghost use Rattle.std.specs.Prelude.{◌≡◌, ◌↔◌, ◌-◌, IsTrue};
 
-use crate::list_store::ListStore;
-use crate::store::{Caller, CutRows, IntakeRows, Items, Store, StoreFault, Waiting};
+use crate::lists::store::ListStore;
+use crate::store::{CutRows, IntakeRows, Store, StoreFault};
 use ach_fields::{Id, Ref, Trace};
 use bank_days::{Calendar, Day};
 use desk_accounts::{Account, Posting};
-use desk_history::{Identity, Listed, Row, SentEntry, SuspenseRow, TakenFile};
+use desk_book::{Caller, HeldSubmission, ReturnsAndChanges, Row};
+use desk_history::{Identity, ListOf, SentEntry, SuspenseRow, TakenFile};
 use desk_rules::{Company, Limits, Retry, Submission};
 use std::alloc::Global;
 
-/// A store of lists that refuses one call: it answers `Unavailable` to the call of a number, counted
-/// from 1 over all its reads and writes, and to no other of its own accord.
+/// A `FaultyStore` is a store of lists that refuses one call: it answers `Unavailable` to the call
+/// of a number, counted from 1 over all its reads and writes, and to no other of its own accord.
 #[derive(Drop)]
 pub struct FaultyStore {
     store: ListStore,
-    /// How many calls it is to the refused one, which counts; 0 where there is none.
+    /// The number of calls to the refused one, which counts; 0 where there is none.
     until: u64,
 }
 
 impl FaultyStore {
-    /// These lists, of which the call of this number is refused; none where it is 0.
+    /// Makes a store of these lists that refuses the call of this number; none where it is 0.
     pub fn new(store: ListStore, call: u64) -> FaultyStore
         ensures lists { result.store ≡ store }
         ensures refused { result.until ≡ call }
@@ -28,7 +29,7 @@ impl FaultyStore {
         FaultyStore { store, until: call }
     }
 
-    /// The lists.
+    /// Gives the lists.
     pub fn into_inner(self) -> ListStore
         ensures { result ≡ self.store }
     {
@@ -112,7 +113,7 @@ impl Store for FaultyStore {
         self.store.entries_of(alloc, company)
     }
 
-    fn waiting(&mut self, alloc: Global) -> Result<Vec<Waiting>, StoreFault> {
+    fn waiting(&mut self, alloc: Global) -> Result<Vec<HeldSubmission>, StoreFault> {
         if self.is_refused() {
             return Err(StoreFault::Unavailable);
         }
@@ -159,7 +160,7 @@ impl Store for FaultyStore {
         self.store.sent_as(alloc, trace)
     }
 
-    fn items_of(&mut self, alloc: Global, company: Id) -> Result<Items, StoreFault> {
+    fn items_of(&mut self, alloc: Global, company: Id) -> Result<ReturnsAndChanges, StoreFault> {
         if self.is_refused() {
             return Err(StoreFault::Unavailable);
         }
@@ -196,7 +197,7 @@ impl Store for FaultyStore {
         alloc: Global,
         day: Day,
         modifier: u8,
-    ) -> Result<Option<Listed<u8>>, StoreFault> {
+    ) -> Result<Option<ListOf<u8>>, StoreFault> {
         if self.is_refused() {
             return Err(StoreFault::Unavailable);
         }

@@ -1,27 +1,28 @@
-//! What a desk keeps, in whatever way.
-ghost use Rattle.std.specs.Prelude.{◌≡◌, ℕ, List, Option};
+//! A desk keeps its book in a store, in whatever way.
+ghost use Rattle.std.specs.Prelude.{◌≡◌, Option};
 ghost use Rattle.desk_accounts.specs.Balance.{day_sums};
-ghost use Rattle.desk_history.specs.Book.{Book};
-ghost use Rattle.desk_store.specs.Reads.{key_of, company, submission, waiting, last_sequence, sent_count, latest_settled, sent_as, items_of};
-ghost use Rattle.desk_store.specs.Steps.{set_day, set_holidays, put_company, put_limits, add_submission, commit_cut, commit_intake};
+ghost use Rattle.desk_book.specs.Book.{Book};
+ghost use Rattle.desk_book.specs.Reads.{key_of, company, submission, waiting, last_sequence, sent_count, latest_settled, sent_as, items_of};
+ghost use Rattle.desk_book.specs.Steps.{set_day, set_holidays, put_company, put_limits, add_submission, commit_cut, commit_intake};
 ghost use Rattle.desk_store.specs.Written.{cut_rows, intake_rows};
 ghost use Rattle.desk_store.specs.declared.store.StoreFault.TheVariants.{Unavailable};
 ghost use Rattle.desk_store.specs.Words.{Reads, ReadsList, Writes, LeavesRead, LeavesWrite};
 
-use crate::rows::{ChangedRow, FileRow, LapsedRow, ReturnedRow, SentRow};
 use ach_fields::{Id, Ref, Trace};
 use bank_days::{Calendar, Day};
 use desk_accounts::{Account, Posting};
-use desk_history::{
-    ChangeRow, Identity, Listed, ReturnRow, Row, SentEntry, SuspenseRow, TakenFile,
+use desk_book::{
+    Caller, ChangedRow, FileRow, HeldSubmission, LapsedRow, ReturnedRow, ReturnsAndChanges, Row,
+    SentRow,
 };
+use desk_history::{ChangeRow, Identity, ListOf, ReturnRow, SentEntry, SuspenseRow, TakenFile};
 use desk_rules::{Company, Limits, Retry, Submission};
 use std::alloc::{AllocError, AllocFailed, Global};
 
-/// Why a store does not answer.
+/// A `StoreFault` says why a store does not answer.
 #[derive(Clone, Copy, Debug, PartialEq, Eq, Drop)]
 pub enum StoreFault {
-    /// Memory was refused, or the store could not act. It holds what it held.
+    /// The store is out of memory, or could not act. It holds what it held.
     Unavailable,
 }
 
@@ -41,30 +42,7 @@ impl<T: Drop> From<AllocFailed<T>> for StoreFault {
     }
 }
 
-/// Who calls.
-#[derive(Clone, Copy, Debug, PartialEq, Eq, Drop)]
-pub enum Caller {
-    Operator,
-    Company(Id),
-}
-
-/// A held submission.
-#[derive(Drop)]
-pub struct Waiting {
-    pub company: Company,
-    pub row: Row,
-    /// For a retry the day on which its original settled.
-    pub original_settled: Option<Day>,
-}
-
-/// The returns and changes of a company's entries, in the order in which they came.
-#[derive(Drop)]
-pub struct Items {
-    pub returns: Listed<ReturnRow>,
-    pub changes: Listed<ChangeRow>,
-}
-
-/// What a cut writes.
+/// `CutRows` are all that a cut writes.
 #[derive(Clone, Copy)]
 pub struct CutRows<'a> {
     pub sent: &'a [SentRow],
@@ -75,7 +53,7 @@ pub struct CutRows<'a> {
     pub files: &'a [FileRow],
 }
 
-/// What an incoming file writes.
+/// `IntakeRows` are all that an incoming file writes.
 #[derive(Clone, Copy)]
 pub struct IntakeRows<'a> {
     pub returned: &'a [ReturnedRow],
@@ -85,51 +63,51 @@ pub struct IntakeRows<'a> {
     pub file: TakenFile,
 }
 
-/// A store of a desk. It holds a book.
+/// A `Store` is the store of a desk. It holds a book.
 ///
-/// Each call answers, or says that it could not act: then the store holds what it held. Each write is
-/// one atomic step. What is said of the book holds where the store is clean as the call ends.
+/// Each call answers, or says that it could not act: then the store holds what it held. Each write
+/// is one atomic step. What is said of the book holds where the store is clean as the call ends.
 pub trait Store {
-    /// The books that it may hold: the one that it holds.
+    /// Says which books it may hold: the one that it holds.
     ghost holds: { Self → Book → Type 0 };
 
-    /// What a crash may leave.
+    /// Says which books a crash may leave.
     ghost may_leave: { Self → Book → Type 0 };
 
-    /// Nobody else wrote to it, and it gave back what was written.
+    /// Says that nobody else wrote to it, and that it gave back what was written.
     ghost is_clean: { Self → Type 0 };
 
-    /// The identity of the desk.
+    /// Reads the identity of the desk.
     fn identity(&mut self, alloc: Global) -> Result<Identity, StoreFault>
         ensures before { is_clean self.new → is_clean self.old }
         ensures read { is_clean self.new → Reads (holds self.old) result (λ b. b.identity) (holds self.new) }
         ensures left { is_clean self.new → LeavesRead (may_leave self.old) (may_leave self.new) };
 
-    /// The digest of a caller's key; none where the company is not registered.
+    /// Reads the digest of a caller's key; there is none where the company is not registered.
     fn key_of(&mut self, alloc: Global, caller: Caller) -> Result<Option<[u8; 32]>, StoreFault>
         ensures before { is_clean self.new → is_clean self.old }
         ensures read { is_clean self.new → Reads (holds self.old) result (key_of caller) (holds self.new) }
         ensures left { is_clean self.new → LeavesRead (may_leave self.old) (may_leave self.new) };
 
-    /// The desk day, once one was set.
+    /// Reads the desk day, once one was set.
     fn day(&mut self, alloc: Global) -> Result<Option<Day>, StoreFault>
         ensures before { is_clean self.new → is_clean self.old }
         ensures read { is_clean self.new → Reads (holds self.old) result (λ b. b.day) (holds self.new) }
         ensures left { is_clean self.new → LeavesRead (may_leave self.old) (may_leave self.new) };
 
-    /// The holidays.
+    /// Reads the holidays.
     fn calendar(&mut self, alloc: Global) -> Result<Calendar, StoreFault>
         ensures before { is_clean self.new → is_clean self.old }
         ensures read { is_clean self.new → Reads (holds self.old) result (λ b. b.holidays) (holds self.new) }
         ensures left { is_clean self.new → LeavesRead (may_leave self.old) (may_leave self.new) };
 
-    /// A registered company, with its present limits.
+    /// Reads a registered company, with its present limits.
     fn company(&mut self, alloc: Global, id: Id) -> Result<Option<Company>, StoreFault>
         ensures before { is_clean self.new → is_clean self.old }
         ensures read { is_clean self.new → Reads (holds self.old) result (company id) (holds self.new) }
         ensures left { is_clean self.new → LeavesRead (may_leave self.old) (may_leave self.new) };
 
-    /// A company's submission or retry with its entries, by its reference.
+    /// Reads a company's submission or retry with its entries, by its reference.
     fn submission(
         &mut self,
         alloc: Global,
@@ -140,31 +118,32 @@ pub trait Store {
         ensures read { is_clean self.new → Reads (holds self.old) result (submission company reference) (holds self.new) }
         ensures left { is_clean self.new → LeavesRead (may_leave self.old) (may_leave self.new) };
 
-    /// A company's submissions and retries with their entries, by order number.
+    /// Reads a company's submissions and retries with their entries, by order number.
     fn entries_of(&mut self, alloc: Global, company: Id) -> Result<Vec<Row>, StoreFault>
         ensures before { is_clean self.new → is_clean self.old }
         ensures read { is_clean self.new → ReadsList (holds self.old) result (λ b. b.rows company) (holds self.new) }
         ensures left { is_clean self.new → LeavesRead (may_leave self.old) (may_leave self.new) };
 
-    /// The held submissions of all companies, by identification and then by order number.
-    fn waiting(&mut self, alloc: Global) -> Result<Vec<Waiting>, StoreFault>
+    /// Reads the held submissions of all companies, by identification and then by order number.
+    fn waiting(&mut self, alloc: Global) -> Result<Vec<HeldSubmission>, StoreFault>
         ensures before { is_clean self.new → is_clean self.old }
         ensures read { is_clean self.new → ReadsList (holds self.old) result (waiting) (holds self.new) }
         ensures left { is_clean self.new → LeavesRead (may_leave self.old) (may_leave self.new) };
 
-    /// The sequence of the last sent entry, 0 before the first.
+    /// Reads the sequence of the last sent entry, 0 before the first.
     fn last_sequence(&mut self, alloc: Global) -> Result<u32, StoreFault>
         ensures before { is_clean self.new → is_clean self.old }
         ensures read { is_clean self.new → Reads (holds self.old) result (last_sequence) (holds self.new) }
         ensures left { is_clean self.new → LeavesRead (may_leave self.old) (may_leave self.new) };
 
-    /// How many entries were sent.
+    /// Says how many entries were sent.
     fn sent_count(&mut self, alloc: Global) -> Result<u64, StoreFault>
         ensures before { is_clean self.new → is_clean self.old }
         ensures read { is_clean self.new → Reads (holds self.old) result (sent_count) (holds self.new) }
         ensures left { is_clean self.new → LeavesRead (may_leave self.old) (may_leave self.new) };
 
-    /// The latest day on which a youngest entry settled that has a sequence from the first to the last.
+    /// Reads the latest day on which a youngest entry settled that has a sequence from the first to
+    /// the last.
     fn latest_settled(
         &mut self,
         alloc: Global,
@@ -175,31 +154,31 @@ pub trait Store {
         ensures read { is_clean self.new → Reads (holds self.old) result (latest_settled from to) (holds self.new) }
         ensures left { is_clean self.new → LeavesRead (may_leave self.old) (may_leave self.new) };
 
-    /// How many files a day has.
+    /// Says how many files a day has.
     fn files_on(&mut self, alloc: Global, day: Day) -> Result<u64, StoreFault>
         ensures before { is_clean self.new → is_clean self.old }
         ensures read { is_clean self.new → Reads (holds self.old) result (λ b. b.files_on day) (holds self.new) }
         ensures left { is_clean self.new → LeavesRead (may_leave self.old) (may_leave self.new) };
 
-    /// The youngest entry that has a trace.
+    /// Reads the youngest entry that has a trace.
     fn sent_as(&mut self, alloc: Global, trace: Trace) -> Result<Option<SentEntry>, StoreFault>
         ensures before { is_clean self.new → is_clean self.old }
         ensures read { is_clean self.new → Reads (holds self.old) result (sent_as trace) (holds self.new) }
         ensures left { is_clean self.new → LeavesRead (may_leave self.old) (may_leave self.new) };
 
-    /// The returns and changes of a company's entries.
-    fn items_of(&mut self, alloc: Global, company: Id) -> Result<Items, StoreFault>
+    /// Reads the returns and changes of a company's entries.
+    fn items_of(&mut self, alloc: Global, company: Id) -> Result<ReturnsAndChanges, StoreFault>
         ensures before { is_clean self.new → is_clean self.old }
         ensures read { is_clean self.new → Reads (holds self.old) result (items_of company) (holds self.new) }
         ensures left { is_clean self.new → LeavesRead (may_leave self.old) (may_leave self.new) };
 
-    /// The lines of an account, in the order in which they came.
+    /// Reads the lines of an account, in the order in which they came.
     fn postings_of(&mut self, alloc: Global, account: Account) -> Result<Vec<Posting>, StoreFault>
         ensures before { is_clean self.new → is_clean self.old }
         ensures read { is_clean self.new → ReadsList (holds self.old) result (λ b. b.lines account) (holds self.new) }
         ensures left { is_clean self.new → LeavesRead (may_leave self.old) (may_leave self.new) };
 
-    /// The sums of an account's lines by value day, ascending.
+    /// Reads the sums of an account's lines by value day, ascending, in cents.
     fn balances_of(
         &mut self,
         alloc: Global,
@@ -209,24 +188,24 @@ pub trait Store {
         ensures read { is_clean self.new → ReadsList (holds self.old) result (λ b. day_sums account (b.lines account)) (holds self.new) }
         ensures left { is_clean self.new → LeavesRead (may_leave self.old) (may_leave self.new) };
 
-    /// What stands in suspense, in the order in which it came.
+    /// Reads what stands in suspense, in the order in which it came.
     fn suspense(&mut self, alloc: Global) -> Result<Vec<SuspenseRow>, StoreFault>
         ensures before { is_clean self.new → is_clean self.old }
         ensures read { is_clean self.new → ReadsList (holds self.old) result (λ b. b.suspense) (holds self.new) }
         ensures left { is_clean self.new → LeavesRead (may_leave self.old) (may_leave self.new) };
 
-    /// The text of a file, by its day and modifier.
+    /// Reads the text of a file, by its day and modifier.
     fn file(
         &mut self,
         alloc: Global,
         day: Day,
         modifier: u8,
-    ) -> Result<Option<Listed<u8>>, StoreFault>
+    ) -> Result<Option<ListOf<u8>>, StoreFault>
         ensures before { is_clean self.new → is_clean self.old }
         ensures read { is_clean self.new → Reads (holds self.old) result (λ b. b.file day modifier) (holds self.new) }
         ensures left { is_clean self.new → LeavesRead (may_leave self.old) (may_leave self.new) };
 
-    /// An incoming file that was taken, by its key.
+    /// Reads an incoming file that was taken, by its key.
     fn taken(&mut self, alloc: Global, key: [u8; 21]) -> Result<Option<TakenFile>, StoreFault>
         ensures before { is_clean self.new → is_clean self.old }
         ensures read { is_clean self.new → Reads (holds self.old) result (λ b. b.taken key) (holds self.new) }

@@ -1,24 +1,22 @@
-//! The text of a file that is to be printed.
-ghost use Rattle.std.specs.Prelude.{◌≡◌, ◌⊎◌, ◌+◌, ◌*◌, ◌≤◌, ◌<◌, ◌++◌, ◌∷◌, [], ℕ, List, Some, None, length, map, MatchResult, OnOk, min, not, true, replicate, nat_lt, Option, IsSome, Result, Ok, Err};
-ghost use Rattle.std.specs.List.{list_all, list_any, flat_map};
-ghost use Rattle.ach_records.specs.Print.{Value, Prints, row_fits, row_text, entry_row, file_header_row, batch_header_row, addenda05_row, change98_row, return99_row, batch_control_row, file_control_row};
-ghost use Rattle.ach_files.specs.Totals.{blocks};
+//! The text of a file is put together record by record.
+ghost use Rattle.std.specs.Prelude.{◌≡◌, ◌+◌, ◌<◌, ◌++◌, ◌∷◌, [], List, Some, OnOk, OnErr, replicate, Option, IsSome, Result, Ok};
+ghost use Rattle.std.specs.List.{flat_map};
+ghost use Rattle.ach_records.specs.Print.{Value, row_text};
 ghost use Rattle.ach_files.specs.Structure.{nines};
-ghost use Rattle.ach_files.specs.Kept.{added};
-ghost use Rattle.ach_files.specs.declared.sums.Sums.{Sums};
-ghost use Rattle.ach_files.specs.declared.outgoing.PrintFault.TheVariants as faults;
-ghost use Rattle.ach_files.specs.Outgoing.{entry_of, addenda_rows, entry_rows, entry_sums, batch_sums, file_sums, sums_in, sums_of, batch_control, file_control, batch_rows, outgoing_rows, page, printed_outgoing, fillers, main_count, entry_fits, batch_fits, fields_fit, has_many, is_long_batch, is_large, print_fault, kept, most, IsText, Puts, AllFit};
+ghost use Rattle.ach_files.specs.Printing.{IsCounted};
+ghost use Rattle.ach_files.specs.Outgoing.{file_control, addenda_rows, entry_rows, batch_rows, outgoing_rows, page, outgoing_text, IsText, Puts, BeginsWith, AllFit};
 
+use super::control::{fillers_of, put_control};
 use super::records::{
-    addenda_record, batch_control_record, batch_header_record, blocks_of, entry_record,
-    file_control_record, file_header_record, main_count,
+    addenda_record, batch_control_record, batch_header_record, entry_record, file_header_record,
 };
 use crate::outgoing::{Addenda, Outgoing, OutgoingBatch, OutgoingEntry};
-use crate::sums::Sums;
+use ach_records::FileControlText;
 use std::alloc::AllocError;
 
 pub fn put(out: &mut Vec<u8>, text: &[u8; 94]) -> Result<(), AllocError>
-    ensures { OnOk result (out.new.items ≡ out.old.items ++ (text.now ++ 10 ∷ [])) }
+    ensures ok { OnOk result (out.new.items ≡ out.old.items ++ (text.now ++ 10 ∷ [])) }
+    ensures err { OnErr result (BeginsWith out.new.items out.old.items) }
 {
     out.extend_from_slice(text.as_slice())?;
     out.push(b'\n')?;
@@ -26,9 +24,10 @@ pub fn put(out: &mut Vec<u8>, text: &[u8; 94]) -> Result<(), AllocError>
 }
 
 // A record that has a text.
-fn put_record(out: &mut Vec<u8>, text: Option<[u8; 94]>) -> Result<(), AllocError>
+pub fn put_record(out: &mut Vec<u8>, text: Option<[u8; 94]>) -> Result<(), AllocError>
     requires { IsSome text }
-    ensures { (values : List Value) → IsText text values → OnOk result (out.new.items ≡ out.old.items ++ (row_text values ++ 10 ∷ [])) }
+    ensures ok { (values : List Value) → IsText text values → OnOk result (out.new.items ≡ out.old.items ++ (row_text values ++ 10 ∷ [])) }
+    ensures err { OnErr result (BeginsWith out.new.items out.old.items) }
 {
     let Some(text) = text else {
         unreachable!();
@@ -38,7 +37,8 @@ fn put_record(out: &mut Vec<u8>, text: Option<[u8; 94]>) -> Result<(), AllocErro
 
 fn put_addenda(out: &mut Vec<u8>, entry: &OutgoingEntry) -> Result<(), AllocError>
     requires { AllFit (addenda_rows entry.now.trace entry.now.addenda) }
-    ensures { OnOk result (Puts out.old.items out.new.items (addenda_rows entry.now.trace entry.now.addenda)) }
+    ensures ok { OnOk result (Puts out.old.items out.new.items (addenda_rows entry.now.trace entry.now.addenda)) }
+    ensures err { OnErr result (BeginsWith out.new.items out.old.items) }
 {
     match entry.addenda {
         Addenda::Absent => Ok(()),
@@ -48,7 +48,8 @@ fn put_addenda(out: &mut Vec<u8>, entry: &OutgoingEntry) -> Result<(), AllocErro
 
 fn put_entry(out: &mut Vec<u8>, entry: &OutgoingEntry) -> Result<(), AllocError>
     requires { AllFit (entry_rows entry.now) }
-    ensures { OnOk result (Puts out.old.items out.new.items (entry_rows entry.now)) }
+    ensures ok { OnOk result (Puts out.old.items out.new.items (entry_rows entry.now)) }
+    ensures err { OnErr result (BeginsWith out.new.items out.old.items) }
 {
     put_record(out, entry_record(entry))?;
     put_addenda(out, entry)?;
@@ -57,7 +58,8 @@ fn put_entry(out: &mut Vec<u8>, entry: &OutgoingEntry) -> Result<(), AllocError>
 
 fn put_entries(out: &mut Vec<u8>, entries: &[OutgoingEntry]) -> Result<(), AllocError>
     requires { AllFit (flat_map entry_rows entries.now) }
-    ensures { OnOk result (Puts out.old.items out.new.items (flat_map entry_rows entries.now)) }
+    ensures ok { OnOk result (Puts out.old.items out.new.items (flat_map entry_rows entries.now)) }
+    ensures err { OnErr result (BeginsWith out.new.items out.old.items) }
 {
     for entry in entries {
         put_entry(out, entry)?;
@@ -67,7 +69,8 @@ fn put_entries(out: &mut Vec<u8>, entries: &[OutgoingEntry]) -> Result<(), Alloc
 
 pub fn put_batch(out: &mut Vec<u8>, batch: &OutgoingBatch) -> Result<(), AllocError>
     requires { AllFit (batch_rows batch.now) }
-    ensures { OnOk result (Puts out.old.items out.new.items (batch_rows batch.now)) }
+    ensures ok { OnOk result (Puts out.old.items out.new.items (batch_rows batch.now)) }
+    ensures err { OnErr result (BeginsWith out.new.items out.old.items) }
 {
     put_record(out, batch_header_record(&batch.header))?;
     put_entries(out, batch.entries)?;
@@ -85,15 +88,18 @@ fn put_batches(out: &mut Vec<u8>, batches: &[OutgoingBatch]) -> Result<(), Alloc
     Ok(())
 }
 
-fn put_rows(out: &mut Vec<u8>, outgoing: &Outgoing, sums: &Sums) -> Result<(), AllocError>
-    requires sums { sums.now ≡ kept (sums_of outgoing.now) }
-    requires few { length outgoing.now.batches.now ≤ 999999 }
+fn put_rows(
+    out: &mut Vec<u8>,
+    outgoing: &Outgoing,
+    control: &FileControlText,
+) -> Result<(), AllocError>
+    requires control { control.now ≡ file_control outgoing.now }
     requires fit { AllFit (outgoing_rows outgoing.now) }
     ensures { OnOk result (Puts out.old.items out.new.items (outgoing_rows outgoing.now)) }
 {
     put_record(out, file_header_record(&outgoing.header))?;
     put_batches(out, outgoing.batches)?;
-    put_record(out, file_control_record(outgoing, sums))?;
+    put_control(out, control)?;
     Ok(())
 }
 
@@ -106,30 +112,18 @@ pub fn put_fillers(out: &mut Vec<u8>, count: u64) -> Result<(), AllocError>
     Ok(())
 }
 
-fn fillers(outgoing: &Outgoing, sums: &Sums) -> u64
-    requires few { length outgoing.now.batches.now ≤ 999999 }
-    requires sums { sums.now ≡ kept (sums_of outgoing.now) }
-    ensures { let n = 2 + 2 * length outgoing.now.batches.now + sums.now.count in result ≡ fillers n }
-{
-    blocks_of(outgoing, sums) * 10 - main_count(outgoing, sums)
-}
-
-/// How many bytes the blocks of a file have, each of ten records with their LF.
-pub fn room_of(outgoing: &Outgoing, sums: &Sums) -> usize
-    requires few { length outgoing.now.batches.now ≤ 999999 }
-    requires sums { sums.now ≡ kept (sums_of outgoing.now) }
-{
-    blocks_of(outgoing, sums).saturating_mul(950) as usize
-}
-
-pub fn put_file(out: &mut Vec<u8>, outgoing: &Outgoing, sums: &Sums) -> Result<(), AllocError>
-    requires sums { sums.now ≡ kept (sums_of outgoing.now) }
-    requires few { length outgoing.now.batches.now ≤ 999999 }
+/// Adds the text of a file with this control.
+pub fn put_file(
+    out: &mut Vec<u8>,
+    outgoing: &Outgoing,
+    control: &FileControlText,
+) -> Result<(), AllocError>
+    requires control { control.now ≡ file_control outgoing.now }
+    requires counted { IsCounted control.now }
     requires fit { AllFit (outgoing_rows outgoing.now) }
-    ensures { OnOk result (out.new.items ≡ out.old.items ++ printed_outgoing outgoing.now) }
+    ensures { OnOk result (out.new.items ≡ out.old.items ++ outgoing_text outgoing.now) }
 {
-    put_rows(out, outgoing, sums)?;
-    let count = fillers(outgoing, sums);
-    put_fillers(out, count)?;
+    put_rows(out, outgoing, control)?;
+    put_fillers(out, fillers_of(control))?;
     Ok(())
 }

@@ -1,22 +1,16 @@
-//! The records of a file that is to be printed, where their fields have texts.
-ghost use Rattle.std.specs.Prelude.{◌≡◌, ◌⊎◌, ◌+◌, ◌*◌, ◌≤◌, ◌<◌, ◌++◌, ◌∷◌, [], ℕ, List, Some, None, length, map, MatchResult, OnOk, min, not, true, replicate, nat_lt, Option, IsSome, Result, Ok, Err};
-ghost use Rattle.std.specs.List.{list_all, list_any, flat_map};
-ghost use Rattle.ach_records.specs.Print.{Value, Prints, row_fits, row_text, entry_row, file_header_row, batch_header_row, addenda05_row, change98_row, return99_row, batch_control_row, file_control_row};
-ghost use Rattle.ach_files.specs.Totals.{blocks};
-ghost use Rattle.ach_files.specs.Structure.{nines};
-ghost use Rattle.ach_files.specs.Kept.{added};
-ghost use Rattle.ach_files.specs.declared.sums.Sums.{Sums};
-ghost use Rattle.ach_files.specs.declared.outgoing.PrintFault.TheVariants as faults;
-ghost use Rattle.ach_files.specs.Outgoing.{entry_of, addenda_rows, entry_rows, entry_sums, batch_sums, file_sums, sums_in, sums_of, batch_control, file_control, batch_rows, outgoing_rows, page, printed_outgoing, fillers, main_count, entry_fits, batch_fits, fields_fit, has_many, is_long_batch, is_large, print_fault, kept, most, IsText, Puts, AllFit};
+//! A record of a file that is to be printed is made here, where its fields have texts.
+ghost use Rattle.std.specs.Prelude.{◌≡◌, ◌<◌, ◌∷◌, [], ℕ, List, Some, None, true, Option, Result, Ok, Err};
+ghost use Rattle.ach_records.specs.Print.{Value, Prints, row_fits, entry_row, file_header_row, batch_header_row, batch_control_row};
+ghost use Rattle.ach_files.specs.Outgoing.{entry_of, addenda_rows, batch_control, IsText};
 
 use super::totals::sums_of_entries;
-use crate::outgoing::{Addenda, Outgoing, OutgoingBatch, OutgoingEntry};
-use crate::sums::{Sums, amount_of};
+use crate::outgoing::{Addenda, OutgoingBatch, OutgoingEntry};
+use crate::sums::cents_of;
 use ach_fields::FieldFault;
 use ach_records::{
-    Addenda05Text, BatchControlText, BatchHeaderText, EntryText, FileControlText, FileHeaderText,
-    print_addenda05, print_batch_control, print_batch_header, print_change98, print_entry,
-    print_file_control, print_file_header, print_return99,
+    Addenda05Text, BatchControlText, BatchHeaderText, EntryText, FileHeaderText, print_addenda05,
+    print_batch_control, print_batch_header, print_change98, print_entry, print_file_header,
+    print_return99,
 };
 
 pub fn record_of(outcome: Result<(), FieldFault>, text: [u8; 94]) -> Option<[u8; 94]>
@@ -44,8 +38,8 @@ pub fn batch_header_record(header: &BatchHeaderText) -> Option<[u8; 94]>
     record_of(outcome, record)
 }
 
-fn is_there(addenda: &Addenda) -> bool
-    ensures { result ≡ Rattle.ach_files.specs.Outgoing.is_there addenda.now }
+fn has_addenda(addenda: &Addenda) -> bool
+    ensures { result ≡ Rattle.ach_files.specs.Outgoing.has_addenda addenda.now }
 {
     !matches!(addenda, Addenda::Absent)
 }
@@ -62,7 +56,7 @@ pub fn entry_record(entry: &OutgoingEntry) -> Option<[u8; 94]>
         cents: entry.cents,
         identification: entry.identification,
         name: entry.name,
-        has_addenda: is_there(&entry.addenda),
+        has_addenda: has_addenda(&entry.addenda),
         trace: entry.trace,
     };
     let outcome = print_entry(&text, &mut record);
@@ -98,8 +92,8 @@ fn batch_control_text<'a>(batch: &OutgoingBatch<'a>) -> BatchControlText<'a>
         service_class: batch.header.service_class,
         count: sums.count,
         hash: sums.hash,
-        debits: amount_of(sums.debits),
-        credits: amount_of(sums.credits),
+        debits: cents_of(sums.debits),
+        credits: cents_of(sums.credits),
         company: batch.header.company,
         odfi: batch.header.odfi,
         number: batch.header.number,
@@ -113,50 +107,5 @@ pub fn batch_control_record(batch: &OutgoingBatch) -> Option<[u8; 94]>
     let mut record = [0; 94];
     let text = batch_control_text(batch);
     let outcome = print_batch_control(&text, &mut record);
-    record_of(outcome, record)
-}
-
-pub fn main_count(outgoing: &Outgoing, sums: &Sums) -> u64
-    requires few { length outgoing.now.batches.now ≤ 999999 }
-    requires sums { sums.now.count ≤ most }
-    ensures { result ≡ 2 + 2 * length outgoing.now.batches.now + sums.now.count }
-{
-    let _count = sums.count;
-    2 + 2 * outgoing.batches.len() as u64 + sums.count
-}
-
-pub fn blocks_of(outgoing: &Outgoing, sums: &Sums) -> u64
-    requires few { length outgoing.now.batches.now ≤ 999999 }
-    requires sums { sums.now ≡ kept (sums_of outgoing.now) }
-    ensures { result ≡ blocks (2 + 2 * length outgoing.now.batches.now + sums.now.count) }
-{
-    (main_count(outgoing, sums) + 9) / 10
-}
-
-fn file_control_text(outgoing: &Outgoing, sums: &Sums) -> FileControlText
-    requires sums { sums.now ≡ kept (sums_of outgoing.now) }
-    requires few { length outgoing.now.batches.now ≤ 999999 }
-    requires fit { row_fits (file_control_row (file_control outgoing.now)) ≡ true }
-    ensures { result ≡ file_control outgoing.now }
-{
-    FileControlText {
-        batches: outgoing.batches.len() as u64,
-        blocks: blocks_of(outgoing, sums),
-        count: sums.count,
-        hash: sums.hash,
-        debits: amount_of(sums.debits),
-        credits: amount_of(sums.credits),
-    }
-}
-
-pub fn file_control_record(outgoing: &Outgoing, sums: &Sums) -> Option<[u8; 94]>
-    requires sums { sums.now ≡ kept (sums_of outgoing.now) }
-    requires few { length outgoing.now.batches.now ≤ 999999 }
-    requires fit { row_fits (file_control_row (file_control outgoing.now)) ≡ true }
-    ensures { IsText result (file_control_row (file_control outgoing.now)) }
-{
-    let mut record = [0; 94];
-    let text = file_control_text(outgoing, sums);
-    let outcome = print_file_control(&text, &mut record);
     record_of(outcome, record)
 }

@@ -1,36 +1,29 @@
-//! What the entries of a file that is to be printed come to, as far as its controls say it.
-ghost use Rattle.std.specs.Prelude.{◌≡◌, ◌⊎◌, ◌+◌, ◌*◌, ◌≤◌, ◌<◌, ◌++◌, ◌∷◌, [], ℕ, List, Some, None, length, map, MatchResult, OnOk, min, not, true, replicate, nat_lt, Option, IsSome, Result, Ok, Err};
-ghost use Rattle.std.specs.List.{list_all, list_any, flat_map};
-ghost use Rattle.ach_records.specs.Print.{Value, Prints, row_fits, row_text, entry_row, file_header_row, batch_header_row, addenda05_row, change98_row, return99_row, batch_control_row, file_control_row};
-ghost use Rattle.ach_files.specs.Totals.{blocks};
-ghost use Rattle.ach_files.specs.Structure.{nines};
-ghost use Rattle.ach_files.specs.Kept.{added};
+//! The entries of a file that is to be printed are summed up as far as its controls say it.
+ghost use Rattle.std.specs.Prelude.{◌≡◌, ◌+◌, ◌<◌, ℕ, List, length, min};
+ghost use Rattle.ach_files.specs.ReaderState.{joint_sums};
 ghost use Rattle.ach_files.specs.declared.sums.Sums.{Sums};
-ghost use Rattle.ach_files.specs.declared.outgoing.PrintFault.TheVariants as faults;
-ghost use Rattle.ach_files.specs.Outgoing.{entry_of, addenda_rows, entry_rows, entry_sums, batch_sums, file_sums, sums_in, sums_of, batch_control, file_control, batch_rows, outgoing_rows, page, printed_outgoing, fillers, main_count, entry_fits, batch_fits, fields_fit, has_many, is_long_batch, is_large, print_fault, kept, most, IsText, Puts, AllFit};
+ghost use Rattle.ach_files.specs.Outgoing.{addenda_rows, entry_rows, entry_sums, batch_sums, is_large, capped_sums, sums_cap};
 
 use crate::outgoing::{Addenda, OutgoingEntry};
-use crate::sums::{NO_SUMS, Sums};
+use crate::sums::{NO_SUMS, Sums, low_digits};
+use ach_fields::MOST_CENTS;
 
-const MOST: u64 = 1_000_000_000_000;
+// Sums are kept up to the first amount that has more than twelve digits.
+const CAP: u64 = MOST_CENTS + 1;
 
 fn add_up(a: u64, b: u64) -> u64
-    ensures { result ≡ min (a + b) most }
+    ensures { result ≡ min (a + b) sums_cap }
 {
-    if a < MOST && b < MOST - a {
-        a + b
-    } else {
-        MOST
-    }
+    if a < CAP && b < CAP - a { a + b } else { CAP }
 }
 
 #[tactic(auto, using(crate::proofs::Outgoings::kept_added))]
 pub fn add_sums(a: Sums, b: Sums) -> Sums
-    ensures { (x y : Sums) → a ≡ kept x → b ≡ kept y → result ≡ kept (added x y) }
+    ensures { (x y : Sums) → a ≡ capped_sums x → b ≡ capped_sums y → result ≡ capped_sums (joint_sums x y) }
 {
     Sums {
         count: add_up(a.count, b.count),
-        hash: (a.hash % 10_000_000_000 + b.hash % 10_000_000_000) % 10_000_000_000,
+        hash: low_digits(low_digits(a.hash) + low_digits(b.hash)),
         debits: add_up(a.debits, b.debits),
         credits: add_up(a.credits, b.credits),
     }
@@ -46,9 +39,9 @@ fn count_of(addenda: &Addenda) -> u64
     }
 }
 
-#[tactic(auto, unfolding(crate::specs::Outgoing::entry_sums, crate::specs::Outgoing::kept, crate::specs::Outgoing::entry_rows))]
+#[tactic(auto, unfolding(crate::specs::Outgoing::entry_sums, crate::specs::Outgoing::capped_sums, crate::specs::Outgoing::entry_rows))]
 fn sums_of_entry(entry: &OutgoingEntry) -> Sums
-    ensures { result ≡ kept (entry_sums entry.now) }
+    ensures { result ≡ capped_sums (entry_sums entry.now) }
 {
     let count = count_of(&entry.addenda);
     let cents = add_up(entry.cents.get(), 0);
@@ -71,7 +64,7 @@ fn sums_of_entry(entry: &OutgoingEntry) -> Sums
 }
 
 pub fn sums_of_entries(entries: &[OutgoingEntry]) -> Sums
-    ensures { result ≡ kept (batch_sums entries.now) }
+    ensures { result ≡ capped_sums (batch_sums entries.now) }
 {
     let mut sums = NO_SUMS;
     for entry in entries {
@@ -83,5 +76,5 @@ pub fn sums_of_entries(entries: &[OutgoingEntry]) -> Sums
 pub fn is_large(sums: &Sums) -> bool
     ensures { result ≡ is_large sums.now }
 {
-    sums.debits > 999_999_999_999 || sums.credits > 999_999_999_999
+    sums.debits > MOST_CENTS || sums.credits > MOST_CENTS
 }

@@ -94,3 +94,11 @@ fn a_refusal_leaves_the_record(rt: HostRuntime) -> Result<(), Fail> {
     assert_eq!(rt; &record, PAYMENT[0]);
     Ok(())
 }
+
+#[test]
+fn fault_numbers(rt: HostRuntime) {
+    assert_eq!(rt; RecordFault::BadType.number(), 1);
+    assert_eq!(rt; RecordFault::BadAddendaType.number(), 2);
+    assert_eq!(rt; RecordFault::BadNumber(5).number(), 3);
+    assert_eq!(rt; RecordFault::BadByte(5).number(), 4);
+}

@@ -1,6 +1,6 @@
 //! What views say of records from outside.
 use super::{CHANGE, INFORMATION, PAYMENT, RETURN};
-use crate::{Kind, Record, bytes_at, has_digits, kind_of, view};
+use crate::{Kind, Record, has_digits, header_key, kind_of, view};
 
 #[test]
 fn file_header(rt: HostRuntime) {
@@ -114,7 +114,7 @@ fn nines_are_a_filler(rt: HostRuntime) {
 
 #[test]
 fn fields_by_place(rt: HostRuntime) {
-    assert_eq!(rt; bytes_at(RETURN[0], 13), *b" 0610001462501140930A");
+    assert_eq!(rt; header_key(RETURN[0]), *b" 0610001462501140930A");
     assert!(rt; has_digits(Kind::FileControl, PAYMENT[4]));
     assert!(rt; !has_digits(Kind::FileControl, PAYMENT[0]));
 }

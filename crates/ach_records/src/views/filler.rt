@@ -2,10 +2,10 @@ ghost use Rattle.std.specs.Prelude.{◌≡◌};
 ghost use Rattle.ach_records.specs.Record.{IsRecord};
 ghost use Rattle.ach_records.specs.declared.Kind.TheVariants as kinds;
 
-/// 94 nines, which fill the last block of a file.
+/// A `Filler` views 94 nines, which fill the last block of a file.
 #[derive(Clone, Copy)]
 pub struct Filler<'a> {
-    /// Its 94 bytes.
+    /// These are its 94 bytes.
     pub text: &'a [u8; 94],
     ghost is_record: { IsRecord kinds.Filler text.now },
 }

@@ -1,4 +1,4 @@
-//! Fields of bodies, in their order.
+//! The fields of bodies are tried here, in their order.
 use super::day;
 use crate::{
     Company, CompanyDraft, Draft, DraftText, EntryDraft, EntryDrafts, Field, LimitDrafts, Limits,
@@ -10,7 +10,7 @@ use std::alloc::Global;
 use std::process::Abort;
 
 fn text(rt: &(impl Abort + Alloc<A = Global>), bytes: &[u8]) -> DraftText {
-    DraftText::copied(rt.alloc(), bytes).expect(rt, "a text")
+    DraftText::from_slice(rt.alloc(), bytes).expect(rt, "a text")
 }
 
 // An entry, with payment information or without.

@@ -1,4 +1,4 @@
-//! Exposures, and submissions against limits.
+//! Exposures are tried here, and submissions against limits.
 ghost use Rattle.std.specs.Prelude.{◌≤◌, IfSome};
 ghost use Rattle.desk_rules.specs.Exposure.{IsSettledInRange};
 

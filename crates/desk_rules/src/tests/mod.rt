@@ -1,4 +1,4 @@
-//! Worked cases, from a desk whose only holiday is 2025-01-20.
+//! These are worked cases, from a desk whose only holiday is 2025-01-20.
 ghost use Rattle.std.specs.Prelude.{◌≤◌};
 
 use crate::ReturnCode;

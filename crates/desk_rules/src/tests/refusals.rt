@@ -1,4 +1,4 @@
-//! Names of refusals.
+//! The names of refusals are tried here.
 use super::code;
 use crate::{Field, Refusal, RefusalName};
 

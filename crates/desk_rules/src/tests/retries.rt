@@ -1,4 +1,4 @@
-//! Retries of returned debits.
+//! Retries of returned debits are tried here.
 use super::{calendar, code, day};
 use crate::Refusal::{NotRetryable, NotReturned, RetriesSpent, RetryTooLate};
 use crate::{Attempt, EntryState, is_too_late, may_retry};

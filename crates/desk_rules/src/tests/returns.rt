@@ -1,4 +1,4 @@
-//! Codes of returns, their deadlines, and the return rates.
+//! Codes of returns, their deadlines, and the return rates are tried here.
 use super::{calendar, cents, code, day};
 use crate::TimeClass::{SixtyDays, TwoBankingDays, Unlimited};
 use crate::{

@@ -1,8 +1,8 @@
-//! Answers in words.
+//! Answers are put in words here.
 use bank_days::Day;
 use desk_core::{
-    Answer, ChangeRow, CutDone, DayRates, Done, Exposure, Found, Intake, Listed, Receipt, Refusal,
-    ReturnRow, Settlement, Statement, SuspenseRow,
+    Answer, CallRefusal, ChangeRow, CutSummary, DayRates, Exposure, Intake, ListOf, Outcome,
+    Receipt, ReturnRow, Settlement, Statement, SubmissionReport, SuspenseRow,
 };
 use desk_rules::{EntryState, Rate};
 use std::alloc::Global;
@@ -59,7 +59,7 @@ fn state(rt: &impl Abort, out: &mut String, state: EntryState) {
     }
 }
 
-fn found(rt: &impl Abort, out: &mut String, f: &Found) {
+fn found(rt: &impl Abort, out: &mut String, f: &SubmissionReport) {
     put_bytes(rt, out, f.reference.bytes());
     write!(out, " order {} ", f.order).ok().expect(rt, "memory");
     put_day(rt, out, f.day);
@@ -116,7 +116,7 @@ fn rates(rt: &impl Abort, out: &mut String, r: &DayRates) {
     rate(rt, out, ", overall", r.rates.overall);
 }
 
-fn cut(rt: &impl Abort, out: &mut String, c: &CutDone) {
+fn cut(rt: &impl Abort, out: &mut String, c: &CutSummary) {
     put_day(rt, out, c.day);
     write!(out, " sent {} in [", c.entries)
         .ok()
@@ -139,7 +139,7 @@ fn intake(rt: &impl Abort, out: &mut String, i: &Intake) {
 }
 
 // Of each return its code, day and place, and whether it was late.
-fn returns(rt: &impl Abort, out: &mut String, rows: &Listed<ReturnRow>) {
+fn returns(rt: &impl Abort, out: &mut String, rows: &ListOf<ReturnRow>) {
     put(rt, out, "returns");
     for row in rows.as_slice() {
         put(rt, out, "; ");
@@ -151,7 +151,7 @@ fn returns(rt: &impl Abort, out: &mut String, rows: &Listed<ReturnRow>) {
     }
 }
 
-fn changes(rt: &impl Abort, out: &mut String, rows: &Listed<ChangeRow>) {
+fn changes(rt: &impl Abort, out: &mut String, rows: &ListOf<ChangeRow>) {
     put(rt, out, "changes");
     for row in rows.as_slice() {
         put(rt, out, "; ");
@@ -165,7 +165,7 @@ fn changes(rt: &impl Abort, out: &mut String, rows: &Listed<ChangeRow>) {
     }
 }
 
-fn suspense(rt: &impl Abort, out: &mut String, rows: &Listed<SuspenseRow>) {
+fn suspense(rt: &impl Abort, out: &mut String, rows: &ListOf<SuspenseRow>) {
     put(rt, out, "suspense");
     for row in rows.as_slice() {
         write!(out, "; {} {} {:?}", row.item, row.cents.get(), row.why)
@@ -178,45 +178,45 @@ fn holidays(rt: &impl Abort, out: &mut String, count: u64) {
     write!(out, "holidays {count}").ok().expect(rt, "memory");
 }
 
-fn company_done(rt: &impl Abort, out: &mut String, done: &Done) {
+fn company_done(rt: &impl Abort, out: &mut String, done: &Outcome) {
     match done {
-        Done::Submitted(made) => receipt(rt, out, made),
-        Done::Found(Some(row)) => found(rt, out, row),
-        Done::Returns(rows) => returns(rt, out, rows),
-        Done::Changes(rows) => changes(rt, out, rows),
-        Done::Statement(made) => statement(rt, out, made),
-        Done::Rates(made) => rates(rt, out, made),
-        Done::Exposure(made) => exposure(rt, out, made),
+        Outcome::Submitted(made) => receipt(rt, out, made),
+        Outcome::Found(Some(row)) => found(rt, out, row),
+        Outcome::Returns(rows) => returns(rt, out, rows),
+        Outcome::Changes(rows) => changes(rt, out, rows),
+        Outcome::Statement(made) => statement(rt, out, made),
+        Outcome::Rates(made) => rates(rt, out, made),
+        Outcome::Exposure(made) => exposure(rt, out, made),
         _ => operator_done(rt, out, done),
     }
 }
 
-fn operator_done(rt: &impl Abort, out: &mut String, done: &Done) {
+fn operator_done(rt: &impl Abort, out: &mut String, done: &Outcome) {
     match done {
-        Done::Day(set) => put_day(rt, out, *set),
-        Done::Holidays(count) => holidays(rt, out, *count),
-        Done::Company(id) => put_bytes(rt, out, id.bytes()),
-        Done::Cut(made) => cut(rt, out, made),
-        Done::Taken(counts) => intake(rt, out, counts),
-        Done::File(Some(text)) => put_bytes(rt, out, text.as_slice()),
-        Done::Settlement(made) => settlement(rt, out, made),
-        Done::Suspense(rows) => suspense(rt, out, rows),
+        Outcome::Day(set) => put_day(rt, out, *set),
+        Outcome::Holidays(count) => holidays(rt, out, *count),
+        Outcome::Company(id) => put_bytes(rt, out, id.bytes()),
+        Outcome::Cut(made) => cut(rt, out, made),
+        Outcome::Taken(counts) => intake(rt, out, counts),
+        Outcome::File(Some(text)) => put_bytes(rt, out, text.as_slice()),
+        Outcome::Settlement(made) => settlement(rt, out, made),
+        Outcome::Suspense(rows) => suspense(rt, out, rows),
         _ => put(rt, out, "none"),
     }
 }
 
-/// An answer in words.
+/// Gives an answer in words.
 pub(super) fn words_of(rt: &(impl Abort + Alloc<A = Global>), answer: &Answer) -> String {
     let mut out = String::new(rt.alloc());
     match answer {
         Answer::Done(done) => company_done(rt, &mut out, done),
-        Answer::Refused(Refusal::Rule(why)) => put(rt, &mut out, why.name().text()),
-        Answer::Refused(Refusal::BadFile(fault)) => {
+        Answer::Refused(CallRefusal::Rule(why)) => put(rt, &mut out, why.name().text()),
+        Answer::Refused(CallRefusal::BadFile(fault)) => {
             write!(out, "{:?} at record {}", fault.kind, fault.at)
                 .ok()
                 .expect(rt, "memory");
         }
-        Answer::Refused(Refusal::BadCalendar(fault)) => {
+        Answer::Refused(CallRefusal::BadCalendar(fault)) => {
             write!(out, "{fault:?}").ok().expect(rt, "memory");
         }
     }

@@ -1,8 +1,8 @@
-//! Calls from words: who calls, what is asked, and with what.
+//! Calls are made from words here: who calls, what is asked, and with what.
 use super::incoming::incoming;
 use ach_fields::{Id, Ref};
 use bank_days::Day;
-use desk_core::{Call, Listed};
+use desk_core::{Call, ListOf};
 use desk_rules::{
     CompanyDraft, Draft, DraftText, EntryDraft, EntryDrafts, LimitDrafts, LimitsDraft, Optional,
     RetryDraft,
@@ -10,7 +10,7 @@ use desk_rules::{
 use std::alloc::Global;
 use std::process::Abort;
 
-/// The digest of each company's key.
+/// This is the digest of each company's key.
 pub(super) const COMPANY_DIGEST: [u8; 32] = [1; 32];
 
 // The word with this number; empty where there are fewer.
@@ -18,8 +18,8 @@ fn word(line: &str, number: usize) -> &str {
     line.split(' ').nth(number).unwrap_or("")
 }
 
-// What stands behind the first two words.
-fn behind_two(line: &str) -> &str {
+// What stands after the first two words.
+fn after_two_words(line: &str) -> &str {
     line.splitn(3, ' ').nth(2).unwrap_or("")
 }
 
@@ -28,7 +28,7 @@ fn number(rt: &impl Abort, word: &str) -> u64 {
 }
 
 fn draft_text(rt: &(impl Abort + Alloc<A = Global>), word: &str) -> DraftText {
-    DraftText::copied(rt.alloc(), word.as_bytes())
+    DraftText::from_slice(rt.alloc(), word.as_bytes())
         .ok()
         .expect(rt, "memory")
 }
@@ -123,11 +123,11 @@ fn new_limits(rt: &(impl Abort + Alloc<A = Global>), line: &str) -> LimitsDraft 
     }
 }
 
-fn bytes(rt: &(impl Abort + Alloc<A = Global>), text: &str) -> Listed<u8> {
+fn bytes(rt: &(impl Abort + Alloc<A = Global>), text: &str) -> ListOf<u8> {
     let bytes = Vec::from_slice(rt.alloc(), text.as_bytes())
         .ok()
         .expect(rt, "memory");
-    Listed::new(bytes)
+    ListOf::new(bytes)
 }
 
 // `desk file DAY MODIFIER`
@@ -142,9 +142,9 @@ fn operator_call(rt: &(impl Abort + Alloc<A = Global>), line: &str) -> Call {
         "company" => Call::PutCompany(company(rt, line)),
         "limits" => Call::PutLimits(new_limits(rt, line)),
         "day" => Call::SetDay(text(rt, word(line, 2))),
-        "holidays" => Call::SetHolidays(bytes(rt, behind_two(line))),
-        "items" => Call::TakeFile(Listed::new(incoming(rt, line))),
-        "take" => Call::TakeFile(bytes(rt, behind_two(line))),
+        "holidays" => Call::SetHolidays(bytes(rt, after_two_words(line))),
+        "items" => Call::TakeFile(ListOf::new(incoming(rt, line))),
+        "take" => Call::TakeFile(bytes(rt, after_two_words(line))),
         "cut" => Call::Cut,
         "file" => file(rt, line),
         "settlement" => Call::Settlement,
@@ -168,7 +168,7 @@ fn company_call(rt: &(impl Abort + Alloc<A = Global>), company: Id, line: &str) 
     }
 }
 
-/// The call of a line: `desk` or a company, and what is asked.
+/// Gives the call of a line: `desk` or a company, and what is asked.
 pub(super) fn call_of(rt: &(impl Abort + Alloc<A = Global>), line: &str) -> Call {
     match word(line, 0) {
         "desk" => operator_call(rt, line),

@@ -1,4 +1,4 @@
-//! Companies, days, holidays, limits and submissions.
+//! These scripts try companies, days, holidays, limits and submissions.
 use super::calls::COMPANY_DIGEST;
 use super::script::{BAKE, DAY, HOLIDAYS, MILL, OPERATOR_DIGEST, PAY_1, follow, holds, new_store};
 use ach_fields::Id;

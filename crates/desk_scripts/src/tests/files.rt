@@ -1,4 +1,4 @@
-//! Files of returns and changes.
+//! These scripts try files of returns and changes.
 use super::script::{BAKE, DAY, HOLIDAYS, MILL, PAY_2, holds};
 
 const NINTH: (&str, &str) = ("desk day 2025-01-09", "2025-01-09");
@@ -9,11 +9,11 @@ const FOURTEENTH: (&str, &str) = ("desk day 2025-01-14", "2025-01-14");
 
 const ONE_RETURN: &str = "2025-01-14 returns 1 late 0 changes 0 suspense 0";
 
-/// The return of the first debit.
+/// This file returns the first debit.
 const FILE: &str =
     "desk take 101 121042882 0610001462501140930A094101OUR BANK               ACH OPERATOR                   \n5225MILL STREET                         MILL01    PPDDUES            2501140141091000010000001\n626121042882123456789        0000002500E2             BOB RAY                 1091000010000007\n799R01121042880000001      09100001                                            091000010000007\n82250000020012104288000000002500000000000000MILL01                             091000010000001\n9000001000001000000020012104288000000002500000000000000                                       \n";
 
-/// The same with another account.
+/// This is the same with another account.
 const OTHER_FILE: &str =
     "desk take 101 121042882 0610001462501140930A094101OUR BANK               ACH OPERATOR                   \n5225MILL STREET                         MILL01    PPDDUES            2501140141091000010000001\n626121042882123456780        0000002500E2             BOB RAY                 1091000010000007\n799R01121042880000001      09100001                                            091000010000007\n82250000020012104288000000002500000000000000MILL01                             091000010000001\n9000001000001000000020012104288000000002500000000000000                                       \n";
 

@@ -1,15 +1,15 @@
-//! Files that come in, from words: each item by its code, the sequence of the entry that it answers, its
-//! cents and its transaction code.
+//! Files that come in are made from words here: each item by its code, the sequence of the entry
+//! that it answers, its cents and its transaction code.
 use ach_fields::{Cents, Routing, Trace, Ymd};
 use ach_files::{Addenda, Outgoing, OutgoingBatch, OutgoingEntry, print_file};
 use ach_records::{BatchHeaderText, Change98Text, FileHeaderText, Return99Text};
 use std::alloc::Global;
 use std::process::Abort;
 
-/// The returning bank.
+/// This is the returning bank.
 const RECEIVER: u32 = 9_100_001;
 
-/// The originating bank of the sample.
+/// This is the originating bank of the sample.
 const ODFI: u32 = 12_104_288;
 
 fn part(word: &str, number: usize) -> &str {
@@ -137,7 +137,7 @@ fn print(
     print_file(rt.alloc(), &file).ok().expect(rt, "a file")
 }
 
-/// `desk items MODIFIER SEC CODE/SEQUENCE/CENTS/TRANSACTION ..`
+/// Makes the file of `desk items MODIFIER SEC CODE/SEQUENCE/CENTS/TRANSACTION ..`.
 pub(super) fn incoming(rt: &(impl Abort + Alloc<A = Global>), line: &str) -> Vec<u8> {
     let traces = traces(rt, line);
     let entries = entries(rt, line, &traces);

@@ -1,4 +1,4 @@
-//! Statements, settlement, exposures and retries.
+//! These scripts try statements, settlement, exposures and retries.
 use super::script::{DAY, HOLIDAYS, MILL, PAY_1, PAY_2, holds};
 
 const NINTH: (&str, &str) = ("desk day 2025-01-09", "2025-01-09");

@@ -1,4 +1,4 @@
-//! Return rates of a company.
+//! These scripts try the return rates of a company.
 use super::script::{DAY, HOLIDAYS, MILL, PAY_2, holds};
 use std::alloc::Global;
 use std::process::Abort;

@@ -1,4 +1,4 @@
-//! Scripts of calls and answers.
+//! Scripts of calls and answers are run here.
 use super::answers::words_of;
 use super::calls::call_of;
 use ach_fields::{Routing, ShortText};
@@ -6,7 +6,7 @@ use desk_core::{CutRows, Desk, FaultyStore, Identity, ListStore, SentEntry, Stor
 use std::alloc::Global;
 use std::process::Abort;
 
-/// The digest of the operator's key.
+/// This is the digest of the operator's key.
 pub(super) const OPERATOR_DIGEST: [u8; 32] = [7; 32];
 
 // Lines of most scripts, with their answers.
@@ -34,7 +34,7 @@ pub(super) const PAY_2: (&str, &str) = (
     "PAY-2 order 1 entries 1 cents 2500",
 );
 
-/// More calls of the store than a script makes.
+/// A script makes fewer calls of the store.
 pub(super) const MOST_CALLS: u64 = 1_000;
 
 fn name(rt: &impl Abort, text: &[u8]) -> ShortText<23> {
@@ -45,7 +45,7 @@ fn routing(rt: &impl Abort, text: &[u8]) -> Routing {
     Routing::parse(text).ok().expect(rt, "a routing number")
 }
 
-/// A new store of the sample bank.
+/// Makes a new store of the sample bank.
 pub(super) fn new_store(rt: &(impl Abort + Alloc<A = Global>)) -> ListStore {
     let identity = Identity {
         odfi: routing(rt, b"121042882"),
@@ -77,8 +77,8 @@ pub(super) fn follow<S: Store>(
     asked_again
 }
 
-/// A store of the sample bank that has sent these entries.
-fn store_behind(rt: &(impl Abort + Alloc<A = Global>), entries: &[SentEntry]) -> ListStore {
+/// Makes a store of the sample bank that has sent these entries.
+fn store_after(rt: &(impl Abort + Alloc<A = Global>), entries: &[SentEntry]) -> ListStore {
     let mut store = new_store(rt);
     let rows = CutRows {
         sent: &[],
@@ -91,16 +91,16 @@ fn store_behind(rt: &(impl Abort + Alloc<A = Global>), entries: &[SentEntry]) ->
     store
 }
 
-/// A script over lists, and with each call of the store refused in turn, until none is; the store has
-/// sent these entries before.
-pub(super) fn holds_behind(
+/// Runs a script over lists, and with each call of the store refused in turn, until none is; the
+/// store has sent these entries before.
+pub(super) fn holds_after(
     rt: &(impl Abort + Alloc<A = Global>),
     entries: &[SentEntry],
     script: &[(&str, &str)],
 ) {
-    assert!(rt; !follow(rt, &mut Desk::new(store_behind(rt, entries)), script));
+    assert!(rt; !follow(rt, &mut Desk::new(store_after(rt, entries)), script));
     for call in 1..MOST_CALLS {
-        let mut desk = Desk::new(FaultyStore::new(store_behind(rt, entries), call));
+        let mut desk = Desk::new(FaultyStore::new(store_after(rt, entries), call));
         if !follow(rt, &mut desk, script) {
             return;
         }
@@ -108,7 +108,7 @@ pub(super) fn holds_behind(
     assert!(rt; false, "the script makes more calls of the store");
 }
 
-/// The same over the store of a new desk.
+/// Does the same over the store of a new desk.
 pub(super) fn holds(rt: &(impl Abort + Alloc<A = Global>), script: &[(&str, &str)]) {
-    holds_behind(rt, &[], script);
+    holds_after(rt, &[], script);
 }

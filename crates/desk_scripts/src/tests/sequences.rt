@@ -1,5 +1,5 @@
-//! Sequences at their end, and used again.
-use super::script::{HOLIDAYS, MILL, holds_behind};
+//! These scripts try sequences at their end, and used again.
+use super::script::{HOLIDAYS, MILL, holds_after};
 use ach_fields::{Cents, Id, Ref, Routing, ShortText};
 use bank_days::Day;
 use desk_core::SentEntry;
@@ -70,7 +70,7 @@ fn a_batch_begins_again(rt: HostRuntime) {
         ),
         ("desk suspense", "suspense; 1 100 Differs"),
     ];
-    holds_behind(&rt, &old_entries(&rt), &script);
+    holds_after(&rt, &old_entries(&rt), &script);
 }
 
 // The last sequence goes to a batch of one, and the next batch begins at 1.
@@ -94,5 +94,5 @@ fn the_last_sequence_is_used(rt: HostRuntime) {
             "2026-03-04 returns 3 late 0 changes 0 suspense 0",
         ),
     ];
-    holds_behind(&rt, &old_entries(&rt), &script);
+    holds_after(&rt, &old_entries(&rt), &script);
 }

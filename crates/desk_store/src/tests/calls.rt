@@ -1,13 +1,14 @@
-//! A store that is written to and read from: two companies with a submission each, a cut of one, and
-//! its return.
-ghost use Rattle.std.specs.Prelude.{◌≤◌};
+//! A store is written to and read from here: two companies with a submission each, a cut of one,
+//! and its return.
 
-use crate::{Caller, CutRows, FileRow, IntakeRows, ListStore, ReturnedRow, SentRow, Store};
+use crate::{CutRows, IntakeRows, ListStore, Store};
 use ach_fields::{Cents, Id, Ref, Routing, ShortText, Trace};
 use bank_days::{Calendar, Day};
 use desk_accounts::{Account, Posting, post_cut, post_return, post_suspense};
+use desk_book::{Caller, FileRow, ReturnedRow, SentRow};
 use desk_history::{
-    Identity, Intake, Listed, Printed, ReturnRow, SentEntry, SuspenseRow, TakenFile, Why,
+    FilePlace, Identity, Intake, ListOf, ReturnRow, SentEntry, SuspenseReason, SuspenseRow,
+    TakenFile,
 };
 use desk_rules::{
     AccountKind, Company, Direction, Entries, Entry, EntryState, Limits, ReturnCode, SecCode,
@@ -125,7 +126,7 @@ fn suspense_row(rt: &impl Abort) -> SuspenseRow {
         file: [b'K'; 21],
         item: 2,
         trace: *b"121042880000099",
-        why: Why::NoTrace,
+        why: SuspenseReason::NoTrace,
     }
 }
 
@@ -192,7 +193,7 @@ fn write_cut(rt: &(impl Abort + Alloc<A = Global>), store: &mut impl Store) -> R
         reference(rt, b"PAY-2"),
     )
     .expect(rt, "a pair");
-    let printed = Printed {
+    let printed = FilePlace {
         day: day(rt, b"2025-01-09"),
         modifier: b'A',
         batch: 1,
@@ -200,7 +201,7 @@ fn write_cut(rt: &(impl Abort + Alloc<A = Global>), store: &mut impl Store) -> R
     let file = FileRow {
         day: day(rt, b"2025-01-09"),
         modifier: b'A',
-        text: Listed::new(Vec::from_array(rt.alloc(), *b"101")?),
+        text: ListOf::new(Vec::from_array(rt.alloc(), *b"101")?),
     };
     let cut = CutRows {
         sent: &[SentRow {

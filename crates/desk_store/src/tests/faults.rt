@@ -1,4 +1,4 @@
-//! A store that refuses one call.
+//! A store refuses one call here.
 use super::calls::{company, day, new_store};
 use crate::{FaultyStore, Store};
 use std::test::Fail;

@@ -1,4 +1,4 @@
-//! Traces and sequences of what several cuts sent.
+//! Several cuts send entries here, with their traces and sequences.
 use super::calls::{day, new_store, sent_entry};
 use crate::{CutRows, ListStore, Store};
 use ach_fields::Trace;

@@ -1,4 +1,4 @@
-use Rattle.std.proofs.Common.{◌≡◌, ◌==◌, ◌≤◌, ◌<◌, ◌^◌, length, true, ℕ, ◌+◌, ◌-◌, ◌*◌, List, [], get_or, take, refl, arith, rules, sym, ◌∙◌}
+use Rattle.std.proofs.Common.{length, get_or, refl, arith}
 use Rattle.ach_fields.specs.Digits.{number}
 use Rattle.ach_fields.proofs.Digits.{number_more, digit_at, bound_more}
 use Rattle.ach_fields.proofs.number.number.Goals as goal

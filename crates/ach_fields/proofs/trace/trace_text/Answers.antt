@@ -1,4 +1,4 @@
-use Rattle.std.proofs.Common.{◌≡◌, ◌<◌, ◌+◌, ◌*◌, ◌^◌, arith, ap, ◌∙◌}
+use Rattle.std.proofs.Common.{◌+◌, ◌*◌, arith, ◌∙◌}
 use Rattle.ach_fields.specs.Digits.{digits}
 use Rattle.ach_fields.specs.Trace.{trace_text}
 use Rattle.ach_fields.proofs.Digits.{digits-split}

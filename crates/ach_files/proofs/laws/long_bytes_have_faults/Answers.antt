@@ -1,6 +1,6 @@
 use Rattle.std.proofs.Common.{◌≡◌, ◌<◌, ◌+◌, ℕ, true, List, [], ◌∷◌, Option, None, Some, ◌++◌, length, take, drop, get_or, nat_le, refl, ap, ◌∙◌, arith}
 use Rattle.std.proofs.lemmas.List.{length-take-le}
-use Rattle.ach_files.specs.FirstFault.{early_fault, first_fault, or_else, place_fault, record_of, at}
+use Rattle.ach_files.specs.FirstFault.{early_fault, first_fault, or_else, place_fault, record_of, fault_at}
 use Rattle.ach_files.specs.Layout.{layout, move_at}
 use Rattle.ach_files.specs.declared.fault.Fault.{Fault}
 use Rattle.ach_files.specs.declared.fault.FileFault.TheVariants.{TooLarge}
@@ -16,7 +16,7 @@ sooner o p is = (is.0, rw is.1 refl)
 
 full : (bytes : List ℕ) (b : ℕ) → nat_le 4194304 (length bytes) ≡ true → (f : Fault) × (place_fault (length bytes) (layout bytes) b ≡ Some f)
 unfolding place_fault
-full bytes b e = (at (record_of (layout bytes).records (move_at (layout bytes).place b)) TooLarge, rw e refl)
+full bytes b e = (fault_at (record_of (layout bytes).records (move_at (layout bytes).place b)) TooLarge, rw e refl)
 
 at_place : (bytes : List ℕ) (b : ℕ) (rest : List ℕ) → nat_le 4194304 (length bytes) ≡ true → (f : Fault) × (early_fault (bytes ++ b ∷ rest) ≡ Some f)
 unfolding first_fault

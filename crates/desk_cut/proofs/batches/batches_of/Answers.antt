@@ -1,7 +1,7 @@
 use Rattle.std.proofs.Common.{◌≡◌, ◌++◌, map, zip, sym, ap, ◌∙◌, arith, inl, inr, length, refl}
 use Rattle.std.proofs.lemmas.List.{append-nil, nil_from_length}
 use Rattle.std.proofs.lemmas.Slice.Zip.{length-zip, either_empty_from_Zip}
-use Rattle.desk_history.specs.Sending.{batch_of}
+use Rattle.desk_history.specs.Sendings.{batch_of}
 use Rattle.desk_cut.specs.Sent.{sending_in, batch_in}
 use Rattle.desk_cut.proofs.batches.batches_of.Goals as goal
 

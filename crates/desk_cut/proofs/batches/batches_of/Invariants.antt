@@ -1,5 +1,5 @@
 use Rattle.std.proofs.Common.{◌≡◌, ◌++◌, map, zip}
-use Rattle.desk_history.specs.Sending.{batch_of}
+use Rattle.desk_history.specs.Sendings.{batch_of}
 use Rattle.desk_cut.specs.Sent.{sending_in, batch_in}
 use Rattle.desk_cut.proofs.batches.batches_of.Given as goal
 

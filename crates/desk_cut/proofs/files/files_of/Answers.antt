@@ -4,11 +4,11 @@ use Rattle.std.proofs.lemmas.List.{drop_more, map-append, take-map, drop-map, dr
 use Rattle.std.proofs.lemmas.List.Elements.{All-push}
 use Rattle.std.proofs.lemmas.Option.{get_or_from_slice_get}
 use Rattle.desk_plan.specs.Files.{most_batches}
-use Rattle.desk_plan.specs.Places.{modifiers, modifier_at}
+use Rattle.desk_plan.specs.Modifiers.{modifiers, modifier_at}
 use Rattle.desk_plan.specs.Runs.{in_runs}
 use Rattle.desk_history.specs.Files as files
 use Rattle.desk_cut.specs.Sent.{batch_in, file_in}
-use Rattle.desk_cut.specs.declared.batches.Batch.{Batch}
+use Rattle.desk_cut.specs.declared.batches.NumberedBatch.{NumberedBatch}
 use Rattle.desk_cut.specs.declared.files.File.{File}
 use Rattle.desk_cut.proofs.files.files_of.Goals as goal
 
@@ -17,21 +17,21 @@ pushed : {X Z : Type 0} (f : X → Z) (xs : List X) (x : X) (z : Z) (zs : List Z
 pushed {X} {Z} f xs x z zs same = ap (λ (l : List Z). l ++ zs) (map-append f xs (x ∷ [])) ∙ append_assoc (map f xs) (f x ∷ []) zs ∙ ap (λ (z : Z). map f xs ++ (z ∷ zs)) same
 
 -- the files of the sizes and the batches that are left
-abbrev left : ℕ → ℕ → List ℕ → List Batch → List files.File
+abbrev left : ℕ → ℕ → List ℕ → List NumberedBatch → List files.File
 left day made sizes bs = files.files_from day made (in_runs sizes (map batch_in bs))
 
-abbrev here : ℕ → ℕ → List Batch → files.File
+abbrev here : ℕ → ℕ → List NumberedBatch → files.File
 here day made bs = record { day = day; modifier = modifier_at made; batches = map batch_in bs }
 
 -- begin with the next
-next : (day made size : ℕ) (sizes : List ℕ) (from : ℕ) (bs : List Batch)
+next : (day made size : ℕ) (sizes : List ℕ) (from : ℕ) (bs : List NumberedBatch)
     → left day made (size ∷ sizes) (drop from bs) ≡ here day made (take size (drop from bs)) ∷ left day (made + 1) sizes (drop (from + size) bs)
 next day made size sizes from bs = λ i.
     record { day = day; modifier = modifier_at made; batches = take-map batch_in size (drop from bs) i }
-    ∷ files.files_from day (made + 1) (in_runs sizes ((drop-map batch_in size (drop from bs) ∙ ap (λ (l : List Batch). map batch_in l) (drop-drop size from bs)) i))
+    ∷ files.files_from day (made + 1) (in_runs sizes ((drop-map batch_in size (drop from bs) ∙ ap (λ (l : List NumberedBatch). map batch_in l) (drop-drop size from bs)) i))
 
 -- one file more
-made_more : (day made index from : ℕ) (sizes : List ℕ) (bs : List Batch) (done : List File) (f : File) → index < length sizes
+made_more : (day made index from : ℕ) (sizes : List ℕ) (bs : List NumberedBatch) (done : List File) (f : File) → index < length sizes
     → file_in f ≡ here day (made + index) (take (get_or sizes index 0) (drop from bs))
     → map file_in (done ++ f ∷ []) ++ left day (made + (index + 1)) (drop (index + 1) sizes) (drop (from + get_or sizes index 0) bs)
     ≡ map file_in done ++ left day (made + index) (drop index sizes) (drop from bs)
@@ -43,7 +43,7 @@ made_more day made index from sizes bs done f more is =
     ∙ ap (λ (l : List files.File). map file_in done ++ l) (sym (next day (made + index) size (drop (index + 1) sizes) from bs))
     ∙ ap (λ (l : List ℕ). map file_in done ++ left day (made + index) l (drop from bs)) (sym (drop_more sizes index 0 more))
 
-few : (n k most : ℕ) (bs : List Batch) → k ≡ n → n ≤ most → length (take k bs) ≤ most
+few : (n k most : ℕ) (bs : List NumberedBatch) → k ≡ n → n ≤ most → length (take k bs) ≤ most
 few n k most bs is within = let size = length-take k bs in omega arith
 
 pub loop-index-preserved : goal.loop-index-preserved

@@ -1,6 +1,6 @@
 use Rattle.std.proofs.Common.{◌≡◌, take, map, All}
 use Rattle.desk_plan.specs.Batch.{IsBatch}
-use Rattle.desk_history.specs.Sending.{plan_of}
+use Rattle.desk_history.specs.Sendings.{plan_of}
 use Rattle.desk_cut.specs.Sent.{sending_in}
 use Rattle.desk_cut.proofs.loads.loads_of.Given as goal
 

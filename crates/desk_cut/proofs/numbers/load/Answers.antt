@@ -1,7 +1,7 @@
 use Rattle.std.proofs.Common.{◌<◌, All, List, map, sym, subst}
 use Rattle.std.proofs.lemmas.List.Elements.{All-map}
 use Rattle.desk_plan.specs.declared.batch.Batch.{Batch}
-use Rattle.desk_history.specs.Sending as history
+use Rattle.desk_history.specs.Sendings as history
 use Rattle.desk_cut.specs.Sent.{sending_in}
 use Rattle.desk_cut.specs.declared.due.Sending.{Sending}
 use Rattle.desk_cut.proofs.numbers.load.Goals as goal

@@ -1,11 +1,11 @@
 use Rattle.std.proofs.Common.{◌≡◌, ◌∙◌, ◌+◌, ℕ, List, length, sym, ap, map, rules}
 use Rattle.std.specs.Prelude.{nat_le, sum}
 use Rattle.desk_plan.specs.declared.batch.Batch.{Batch}
-use Rattle.desk_plan.specs.Places.{most_files}
+use Rattle.desk_plan.specs.Modifiers.{most_files}
 use Rattle.desk_plan.specs.Files.{division}
 use Rattle.desk_plan.specs.Runs.{in_runs}
 use Rattle.desk_history.specs.Files.{files_from}
-use Rattle.desk_cut.specs.Numbers.{batches_in, write_of, done_of}
+use Rattle.desk_cut.specs.Numbers.{batches_in, write_of, summary_of}
 use Rattle.desk_cut.specs.Plan.{cut_of}
 use Rattle.desk_cut.proofs.Planned.{whole, modifiers_are, may_take, is_plan, left, none_left}
 use Rattle.desk_cut.proofs.plan.plan_cut.Goals as goal
@@ -42,5 +42,5 @@ returns c =
       modifiers_are x n c.deref-2.result.now h sizes ∙ ap (λ k. nat_le (c.args.made + k) most_files) count ∙ room.0,
       is_plan x n c.deref-2.result.now c.in_ok-write.field-0 h sizes
           (c.in_ok-write.ensures.write ∙ ap (λ made. write_of x.identity (files_from x.day made (in_runs c.deref-2.result.now (batches_in n))) n) room.1)
-          (c.in_ok-write.ensures.done ∙ ap (λ made. done_of x.day (files_from x.day made (in_runs c.deref-2.result.now (batches_in n))) n) room.1),
+          (c.in_ok-write.ensures.done ∙ ap (λ made. summary_of x.day (files_from x.day made (in_runs c.deref-2.result.now (batches_in n))) n) room.1),
     )

@@ -1,7 +1,7 @@
 use Rattle.std.proofs.Common.{◌≡◌, ◌++◌, ◌+◌, map, drop}
 use Rattle.std.specs.List.{enumerate_from}
 use Rattle.desk_history.specs.Files.{outgoing_entry}
-use Rattle.desk_history.specs.Sending.{sent_entry}
+use Rattle.desk_history.specs.Sendings.{sent_entry}
 use Rattle.desk_cut.specs.Plain.{plain_entry}
 use Rattle.desk_cut.specs.Sent.{batch_in, outgoing_entries}
 use Rattle.desk_cut.proofs.printing.outgoing_entries.Given as goal

@@ -3,7 +3,7 @@ use Rattle.std.specs.List.{enumerate_from}
 use Rattle.ach_files.specs.declared.outgoing.OutgoingBatch.{OutgoingBatch}
 use Rattle.ach_files.specs.Printing.{HasPrinted}
 use Rattle.desk_history.specs.Files.{outgoing_batch}
-use Rattle.desk_cut.specs.declared.batches.Batch.{Batch}
+use Rattle.desk_cut.specs.declared.batches.NumberedBatch.{NumberedBatch}
 use Rattle.desk_cut.specs.Sent.{batch_in}
 use Rattle.desk_cut.proofs.Plain.{numbered_more}
 use Rattle.desk_cut.proofs.printing.put_batches.Goals as goal
@@ -16,6 +16,6 @@ loop-index-preserved c = λ header h.
 
 pub returns : goal.returns
 returns c = λ header h.
-    subst (λ (bs : List Batch). HasPrinted c.loop-index.printer header (map (outgoing_batch c.args.odfi) (enumerate_from 1 (map batch_in bs))))
+    subst (λ (bs : List NumberedBatch). HasPrinted c.loop-index.printer header (map (outgoing_batch c.args.odfi) (enumerate_from 1 (map batch_in bs))))
     (take_all _ _ c.loop-index-test.false)
     (c.loop-index.invariant header h)

@@ -1,4 +1,4 @@
-use Rattle.desk_history.proofs.ServedAlone.{served_alone}
+use Rattle.desk_history.proofs.Alone.ServedAlone.{served_alone}
 use Rattle.desk_history.proofs.alone_laws.served_alone.Goals as goal
 
 pub returns : goal.returns

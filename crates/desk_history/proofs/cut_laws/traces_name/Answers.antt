@@ -1,5 +1,5 @@
 use Rattle.desk_history.proofs.cut_laws.traces_name.Goals as goal
-use Rattle.desk_history.proofs.NamedTraces.{traces_name}
+use Rattle.desk_history.proofs.Traces.NamedTraces.{traces_name}
 
 pub returns : goal.returns
 returns c = traces_name

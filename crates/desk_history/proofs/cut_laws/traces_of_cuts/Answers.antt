@@ -1,4 +1,4 @@
-use Rattle.desk_history.proofs.TracesOfCuts.{traces_of_cuts}
+use Rattle.desk_history.proofs.Traces.TracesOfCuts.{traces_of_cuts}
 use Rattle.desk_history.proofs.cut_laws.traces_of_cuts.Goals as goal
 
 pub returns : goal.returns

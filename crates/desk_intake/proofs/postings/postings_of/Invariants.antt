@@ -2,7 +2,7 @@ use Rattle.std.proofs.Common.{◌≡◌, ◌++◌, drop, map}
 use Rattle.std.specs.List.{flat_map}
 use Rattle.desk_accounts.specs.Laws.{pairs}
 use Rattle.desk_history.specs.Postings.{item_line}
-use Rattle.desk_intake.specs.Outcomes.{judged_as}
+use Rattle.desk_intake.specs.Resolutions.{judged_as}
 use Rattle.desk_intake.proofs.postings.postings_of.Given as goal
 
 -- the lines so far and those of the rest

@@ -1,4 +1,4 @@
-use Rattle.std.proofs.Common.{◌≡◌, sym}
+use Rattle.std.proofs.Common.{sym}
 use Rattle.desk_json.proofs.Json.{json_of-some, json_of-none}
 use Rattle.desk_json.proofs.read.read_json.Goals as goal
 

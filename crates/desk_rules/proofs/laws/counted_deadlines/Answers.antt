@@ -1,7 +1,7 @@
 use Rattle.std.proofs.Common.{◌≡◌, ◌≤◌, ◌+◌, ℕ, List, ap, arith}
 use Rattle.bank_days.specs.Calendar.{AreHolidays, nth_after, next_banking}
 use Rattle.bank_days.specs.Laws.{NthBankingDays}
-use Rattle.desk_rules.specs.declared.time_class.TimeClass.TheVariants.{TwoBankingDays, SixtyDays}
+use Rattle.desk_rules.specs.declared.rules.time_class.TimeClass.TheVariants.{TwoBankingDays, SixtyDays}
 use Rattle.desk_rules.specs.Deadlines.{deadline, last_day_of, last_rule_day}
 use Rattle.desk_rules.specs.Laws.{IsCounted}
 use Rattle.desk_rules.specs.TimeClasses.{time_class_of}

@@ -1,4 +1,4 @@
-use Rattle.std.proofs.Common.{true, rules}
+use Rattle.std.proofs.Common.{rules}
 use Rattle.ach_fields.proofs.Dates.{date_text-is_date_text}
 use Rattle.ach_fields.proofs.ymd.Ymd.new.Goals as goal
 

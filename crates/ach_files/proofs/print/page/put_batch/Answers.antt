@@ -10,18 +10,18 @@ put_entries-requires c =
     let b = c.args.batch.now in
     (around_fits (batch_header_row b.header) (batch_control_row (batch_control b)) (flat_map entry_rows b.entries.now) c.requires).1
 
-pub returns : goal.returns
+pub returns-clause-ok : goal.returns-clause-ok
 unfolding batch_rows
-returns c =
+returns-clause-ok c =
     let b = c.args.batch.now in
     let first = batch_header_row b.header in
     let last = batch_control_row (batch_control b) in
     let rows = flat_map entry_rows b.entries.now in
     let f = around_fits first last rows c.requires in
     around c.args.out.now.items c.put_record.new.out.items c.put_entries.new.out.items c.put_record-2.new.out.items first last rows
-    (c.in_ok-put_record.ensures first c.batch_header_record.ensures)
-    c.in_ok-put_entries.ensures
-    (c.in_ok-put_record-2.ensures last c.batch_control_record.ensures)
+    (c.in_ok-put_record.ensures.ok first c.batch_header_record.ensures)
+    c.in_ok-put_entries.ensures.ok
+    (c.in_ok-put_record-2.ensures.ok last c.batch_control_record.ensures)
 
 pub put_record-requires : goal.put_record-requires
 unfolding batch_rows

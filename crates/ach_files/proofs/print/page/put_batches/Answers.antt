@@ -6,4 +6,4 @@ pub put_batch-requires : goal.put_batch-requires
 put_batch-requires c = fit_item batch_rows c.args.batches.now c.loop-batch.batch-index c.batch-item.result c.requires c.loop-batch-test.true c.batch-item.is
 
 pub loop-batch-preserved : goal.loop-batch-preserved
-loop-batch-preserved c = puts_more batch_rows c.args.batches.now c.loop-batch.batch-index c.batch-item.result c.args.out.now.items _ _ c.loop-batch-test.true c.batch-item.is c.loop-batch.invariant c.in_ok-put_batch.ensures
+loop-batch-preserved c = puts_more batch_rows c.args.batches.now c.loop-batch.batch-index c.batch-item.result c.args.out.now.items _ _ c.loop-batch-test.true c.batch-item.is c.loop-batch.invariant c.in_ok-put_batch.ensures.ok

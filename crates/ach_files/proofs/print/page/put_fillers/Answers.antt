@@ -9,4 +9,4 @@ unfolding nines
 loop-preserved c =
     let n = c.loop.counter in
     let start = c.args.out.now.items in
-    c.in_ok-put.ensures ∙ ap (λ (l : List ℕ). l ++ (nines ++ 10 ∷ [])) c.loop.invariant ∙ append_assoc start (page (replicate n nines)) (nines ++ 10 ∷ []) ∙ ap (λ (l : List ℕ). start ++ l) (sym (page_fillers nines n))
+    c.in_ok-put.ensures.ok ∙ ap (λ (l : List ℕ). l ++ (nines ++ 10 ∷ [])) c.loop.invariant ∙ append_assoc start (page (replicate n nines)) (nines ++ 10 ∷ []) ∙ ap (λ (l : List ℕ). start ++ l) (sym (page_fillers nines n))

@@ -1,5 +1,7 @@
+use Rattle.std.proofs.Common.{◌∙◌, ◌++◌, ◌∷◌, [], ap}
 use Rattle.std.specs.List.{flat_map}
-use Rattle.ach_records.specs.Print.{file_header_row, file_control_row}
+use Rattle.ach_records.specs.declared.print.FileControlText.{FileControlText}
+use Rattle.ach_records.specs.Print.{row_fits, row_text, file_header_row, file_control_row}
 use Rattle.ach_files.specs.Outgoing.{batch_rows, outgoing_rows, file_control}
 use Rattle.ach_files.proofs.Pages.{around, around_fits, there}
 use Rattle.ach_files.proofs.print.page.put_rows.Goals as goal
@@ -17,11 +19,10 @@ returns c =
     let first = file_header_row o.header in
     let last = file_control_row (file_control o) in
     let rows = flat_map batch_rows o.batches.now in
-    let f = around_fits first last rows c.requires.fit in
-    around c.args.out.now.items c.put_record.new.out.items c.put_batches.new.out.items c.put_record-2.new.out.items first last rows
-    (c.in_ok-put_record.ensures first c.file_header_record.ensures)
+    around c.args.out.now.items c.put_record.new.out.items c.put_batches.new.out.items c.put_control.new.out.items first last rows
+    (c.in_ok-put_record.ensures.ok first c.file_header_record.ensures)
     c.in_ok-put_batches.ensures
-    (c.in_ok-put_record-2.ensures last c.file_control_record.ensures)
+    (c.in_ok-put_control.ensures ∙ ap (λ (t : FileControlText). c.put_batches.new.out.items ++ (row_text (file_control_row t) ++ 10 ∷ [])) c.requires.control)
 
 pub put_record-requires : goal.put_record-requires
 unfolding outgoing_rows
@@ -30,15 +31,9 @@ put_record-requires c =
     let f = around_fits (file_header_row o.header) (file_control_row (file_control o)) (flat_map batch_rows o.batches.now) c.requires.fit in
     there _ (file_header_row o.header) c.file_header_record.ensures f.0
 
-pub put_record-requires-2 : goal.put_record-requires-2
+pub put_control-requires : goal.put_control-requires
 unfolding outgoing_rows
-put_record-requires-2 c =
+put_control-requires c =
     let o = c.args.outgoing.now in
     let f = around_fits (file_header_row o.header) (file_control_row (file_control o)) (flat_map batch_rows o.batches.now) c.requires.fit in
-    there _ (file_control_row (file_control o)) c.file_control_record.ensures f.2
-
-pub file_control_record-requires-clause-fit : goal.file_control_record-requires-clause-fit
-unfolding outgoing_rows
-file_control_record-requires-clause-fit c =
-    let o = c.args.outgoing.now in
-    (around_fits (file_header_row o.header) (file_control_row (file_control o)) (flat_map batch_rows o.batches.now) c.requires.fit).2
+    ap (λ (t : FileControlText). row_fits (file_control_row t)) c.requires.control ∙ f.2

@@ -10,7 +10,7 @@ use Rattle.ach_files.proofs.reader.Reader.feed.Goals as goal
 pub returns-clause-read : goal.returns-clause-read
 returns-clause-read c = λ bytes read.
     let e = same_state c.in-Some.recogniser read.recogniser c.args.self.now.state c.in-Some.ensures.value read.state in
-    let k = c.in_ok-take_all.ensures bytes (subst (λ (r : Recogniser). HasBytes r bytes) (sym e) read.has) in
+    let k = c.in_ok-take_all.ensures.read bytes (subst (λ (r : Recogniser). HasBytes r bytes) (sym e) read.has) in
     (k.fine, record { recogniser = c.take_all.new.self; state = refl; has = k })
 
 pub returns-then-is_empty-clause-read : goal.returns-then-is_empty-clause-read

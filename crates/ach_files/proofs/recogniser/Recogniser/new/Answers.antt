@@ -1,11 +1,11 @@
 use Rattle.std.proofs.Common.{refl}
-use Rattle.ach_files.specs.SoFar.{sofar}
+use Rattle.ach_files.specs.SoFar.{file_so_far}
 use Rattle.ach_files.specs.Layout.{layout}
 use Rattle.ach_files.specs.FirstFault.{first_fault}
 use Rattle.ach_files.proofs.recogniser.Recogniser.new.Goals as goal
 
 pub returns : goal.returns
-unfolding layout sofar first_fault
+unfolding layout file_so_far first_fault
 returns c = record {
   has = record {
     taken = refl;

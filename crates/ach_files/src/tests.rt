@@ -1,6 +1,0 @@
-//! Worked files from outside: two sample files, files with one thing wrong, and files at the limits.
-mod faults;
-mod feeding;
-mod printing;
-mod reading;
-mod samples;

@@ -1,0 +1,53 @@
+-- What reads of a store find in its book.
+use Rattle.std.specs.Prelude.{ℕ, List, map, filter, find, length, Option, Some, option_map}
+use Rattle.std.specs.List.{flat_map}
+use Rattle.desk_plan.specs.Reuse as plan
+use Rattle.desk_plan.specs.Sequences as plan_sequences
+use Rattle.desk_rules.specs.declared.bodies.company.Company.{Company}
+use Rattle.desk_book.specs.declared.row.Row.{Row}
+use Rattle.desk_history.specs.declared.sent_entry.SentEntry.{SentEntry}
+use Rattle.desk_book.specs.Book.{Book}
+use Rattle.desk_history.specs.Operator.{has_id}
+use Rattle.desk_history.specs.Resolve.{has_trace}
+use Rattle.desk_history.specs.Sendings as sending
+use Rattle.desk_book.specs.Standing.{row_under, is_held, original_of_row}
+use Rattle.desk_book.specs.declared.caller.Caller.{Caller}
+use Rattle.desk_book.specs.declared.caller.Caller.TheVariants as callers
+use Rattle.desk_book.specs.declared.returns_and_changes.ReturnsAndChanges.{ReturnsAndChanges}
+use Rattle.desk_book.specs.declared.held_submission.HeldSubmission.{HeldSubmission}
+
+-- the digest of a caller's key: of the operator, or of a registered company
+abbrev pub key_of : Caller → Book → Option (List ℕ)
+key_of callers.Operator b = Some b.operator_key
+key_of (callers.Company c) b = option_map (λ k. k.digest) (find (has_id c) b.companies)
+
+abbrev pub company : List ℕ → Book → Option Company
+company c b = find (has_id c) b.companies
+
+abbrev pub submission : List ℕ → List ℕ → Book → Option Row
+submission c reference b = row_under (b.rows c) reference
+
+-- a held submission with its company, and for a retry the day on which its original settled
+abbrev pub held_submission : Company → List Row → Row → HeldSubmission
+held_submission k rows row = record { company = k; row = row; original_settled = original_of_row rows row.retry }
+
+-- the held submissions, by company and then by order number
+abbrev pub waiting : Book → List HeldSubmission
+waiting b = flat_map (λ k. map (held_submission k (b.rows k.id)) (filter is_held (b.rows k.id))) b.companies
+
+abbrev pub last_sequence : Book → ℕ
+last_sequence b = plan_sequences.last_sequence (map sending.sent_sequence b.sent)
+
+abbrev pub sent_count : Book → ℕ
+sent_count b = length b.sent
+
+-- the latest settlement of the youngest entries of sequences from the first to the last
+abbrev pub latest_settled : ℕ → ℕ → Book → Option ℕ
+latest_settled from to b = plan.latest_settled (map sending.sent_sequence b.sent) (from, to)
+
+-- the youngest entry that has a trace
+abbrev pub sent_as : List ℕ → Book → Option SentEntry
+sent_as trace b = find (has_trace b.identity.odfi trace) b.sent
+
+abbrev pub items_of : List ℕ → Book → ReturnsAndChanges
+items_of c b = record { returns = b.returns c; changes = b.changes c }

@@ -1,0 +1,13 @@
+//! A submission is held until a cut decides it.
+use crate::Row;
+use bank_days::Day;
+use desk_rules::Company;
+
+/// A `HeldSubmission` is a submission that no cut has decided.
+#[derive(Drop)]
+pub struct HeldSubmission {
+    pub company: Company,
+    pub row: Row,
+    /// The day on which its original settled, for a retry.
+    pub original_settled: Option<Day>,
+}

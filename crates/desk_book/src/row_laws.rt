@@ -1,0 +1,20 @@
+//! The laws of a company's rows stand here.
+ghost use Rattle.desk_book.specs.RowLaws.{RowSteps, RowsOfPart, VerdictsOnRows};
+
+/// A submission or a retry is judged by the company's rows as by all that happened before: each refusal
+/// is the same, and so is the row that answers it.
+pub fn verdicts_on_rows()
+    ensures { VerdictsOnRows }
+{}
+
+/// What a request, a cut and a return make of a company's rows can be told from the rows as they stand:
+/// a request adds at most one, a cut sends what is due or lets it lapse, and a return marks its entry.
+/// Of cuts and returns this is said where only sent entries came back, each of them once.
+pub fn row_steps()
+    ensures { RowSteps }
+{}
+
+/// What a desk holds of a company's submissions, returns and changes is a function of its part.
+pub fn rows_of_part()
+    ensures { RowsOfPart }
+{}

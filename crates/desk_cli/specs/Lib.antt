@@ -1,0 +1,10 @@
+pub mod BodyAnswers
+pub mod CommandLine
+pub mod Commands
+pub mod ExitCodes
+pub mod Feeding
+pub mod FileChecks
+pub mod Inputs
+pub mod Printing
+pub mod Programs
+pub mod SubmissionRuns

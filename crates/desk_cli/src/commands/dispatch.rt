@@ -1,0 +1,64 @@
+//! Commands that are carried out, and line faults that are printed.
+ghost use Rattle.std.specs.Prelude.{◌≡◌, ◌≢◌, None};
+ghost use Rattle.desk_cli.specs.Commands.{CarriesOut, FailsToCarryOut, PrintsLineFault, PrintsWithCode};
+ghost use Rattle.desk_cli.specs.FileChecks.{HasChecked, IsFailedCheck};
+
+use crate::commands::answer_submission::first_run;
+use crate::commands::check_incoming::check_file;
+use crate::commands::interruptions::Tries;
+use crate::commands::output::{print_unavailable, write_line};
+use crate::commands::status::Status;
+use crate::words::{Command, LineFault};
+use std::fs::File;
+use std::io::{Read, Write};
+
+/// Carries out a command, which reads what it needs of the reader and prints to the writer.
+///
+/// Where a file cannot be opened or read, `unavailable` is printed.
+pub fn run<R: Read + Drop, W: Write>(
+    rt: &HostRuntime,
+    command: &Command<'_>,
+    reader: R,
+    writer: &mut W,
+) -> Status
+    ensures answered { result ≢ Status.Failed →
+        CarriesOut command.now (R.remaining reader) (W.contents writer.old) (W.contents writer.new) result }
+    ensures failed { result ≡ Status.Failed →
+        FailsToCarryOut command.now (R.remaining reader) (W.contents writer.old) (W.contents writer.new) }
+{
+    match *command {
+        Command::AnswerSubmission => first_run(rt.alloc(), reader, writer),
+        Command::Check(path) => check_path(rt, path, writer),
+    }
+}
+
+fn check_path<W: Write>(rt: &HostRuntime, path: &str, writer: &mut W) -> Status
+    ensures answered { result ≢ Status.Failed → HasChecked None (W.contents writer.old) (W.contents writer.new) result }
+    ensures failed { result ≡ Status.Failed → IsFailedCheck None (W.contents writer.old) (W.contents writer.new) }
+{
+    match File::open(rt, path) {
+        Ok(file) => check_file(rt.alloc(), file, writer),
+        Err(_) => print_unavailable(writer, Tries::new()),
+    }
+}
+
+/// Prints why words name no command, and gives the exit status: 0 for help, 2 for wrong words, and 3
+/// where a write fails or the program is out of memory.
+pub fn print_line_fault<W: Write>(writer: &mut W, fault: &LineFault) -> u8
+    ensures { PrintsLineFault fault.now (W.contents writer.old) (W.contents writer.new) result }
+{
+    match fault {
+        LineFault::Help(text) => print_with_code(writer, text.as_bytes(), 0),
+        LineFault::Usage(text) => print_with_code(writer, text.as_bytes(), 2),
+        LineFault::NoMemory => print_unavailable(writer, Tries::new()).code(),
+    }
+}
+
+fn print_with_code<W: Write>(writer: &mut W, text: &[u8], code: u8) -> u8
+    ensures { PrintsWithCode (W.contents writer.old) (W.contents writer.new) text.now code result }
+{
+    match write_line(writer, text, Tries::new()) {
+        Ok(()) => code,
+        Err(_) => 3,
+    }
+}

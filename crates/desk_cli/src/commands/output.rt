@@ -1,0 +1,70 @@
+//! The lines that a command prints.
+ghost use Rattle.std.specs.Prelude.{◌≡◌, ◌≢◌, MatchResult};
+ghost use Rattle.std.specs.Io.KnownBytes.{Appends};
+ghost use Rattle.desk_cli.specs.Printing.{status_of, PrintsLine, PrintsPrefix, PrintsPrefixOf};
+
+use crate::commands::interruptions::{Tries, flush_with_retries, write_with_retries};
+use crate::commands::status::Status;
+use std::io;
+use std::io::{ErrorKind, Write};
+
+/// This line is printed where a read failed or memory ran out.
+pub const UNAVAILABLE: &[u8; 12] = b"unavailable\n";
+
+/// Prints a line and flushes the writer, with the tries that the run has left. Where a write or the
+/// flush fails, the writer has taken a prefix of the line.
+pub fn write_line<W: Write>(writer: &mut W, line: &[u8], mut tries: Tries) -> io::Result<()>
+    ensures { MatchResult result
+        (λ _. Appends (W.contents writer.old) (W.contents writer.new) line.now)
+        (λ _. PrintsPrefix (W.contents writer.old) (W.contents writer.new) line.now) }
+{
+    let mut at = 0;
+    while at < line.len() {
+        let count = write_with_retries(writer, &line[at..], &mut tries)?;
+        if count == 0 {
+            return Err(io::Error::from(ErrorKind::WriteZero));
+        }
+        at += count;
+    }
+    flush_with_retries(writer, &mut tries)
+}
+
+/// Prints that a read failed or memory ran out, or as much of that line as the writer takes.
+pub fn print_unavailable<W: Write>(writer: &mut W, tries: Tries) -> Status
+    ensures status { result ≡ Status.Failed }
+    ensures printed { PrintsPrefix (W.contents writer.old) (W.contents writer.new) UNAVAILABLE.now }
+{
+    let _ = write_line(writer, UNAVAILABLE, tries);
+    Status::Failed
+}
+
+/// Prints a command's answer, which is whether the input is accepted, and its line; or, where there is
+/// no answer, that a read failed or memory ran out.
+pub fn print_answer<W: Write>(
+    writer: &mut W,
+    answer: &Option<(bool, Vec<u8>)>,
+    tries: Tries,
+) -> Status
+    ensures printed { result ≢ Status.Failed →
+        PrintsLine (W.contents writer.old) (W.contents writer.new) answer.now result }
+    ensures failed { result ≡ Status.Failed →
+        PrintsPrefixOf (W.contents writer.old) (W.contents writer.new) answer.now }
+{
+    match answer {
+        Some((is_accepted, line)) => match write_line(writer, line.as_slice(), tries) {
+            Ok(()) => status_of(*is_accepted),
+            Err(_) => Status::Failed,
+        },
+        None => print_unavailable(writer, tries),
+    }
+}
+
+fn status_of(is_accepted: bool) -> Status
+    ensures { result ≡ status_of is_accepted }
+{
+    if is_accepted {
+        Status::Done
+    } else {
+        Status::Refused
+    }
+}

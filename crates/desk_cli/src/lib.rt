@@ -1,0 +1,13 @@
+//! This crate is the command line of the program `achdesk`: what its words ask for, and what each
+//! command reads, prints and ends with.
+#![tactic(auto)]
+
+mod commands;
+mod program;
+mod words;
+
+pub use commands::{
+    NoMemory, Status, check_file, first_run, print_line_fault, run, submission_answer,
+};
+pub use program::{run_program, run_words};
+pub use words::{Command, LineFault, command_of};

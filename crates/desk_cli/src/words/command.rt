@@ -1,0 +1,87 @@
+//! The command that words name.
+ghost use Rattle.std.specs.Prelude.{◌≡◌, [], map, unwrap_or};
+ghost use Rattle.clap.specs.Words.{fault_of, found_of, first_value, kind_of};
+ghost use Rattle.desk_cli.specs.CommandLine.{Gives, GivesAt, IsFaultAmong, IsFaultOf, check_app, named_check, program_app};
+
+use crate::words::arguments::{check_matches, program_matches};
+use clap::error::ErrorKind;
+use clap::{ArgMatches, Error};
+use std::alloc::Global;
+
+/// A command says what the program is asked to do.
+#[derive(Clone, Copy, Debug, PartialEq, Eq, Drop)]
+pub enum Command<'a> {
+    /// The program answers one submission body.
+    AnswerSubmission,
+    /// The program checks the incoming file at this path.
+    Check(&'a str),
+}
+
+/// A fault says why the words name no command.
+#[derive(Debug, Drop)]
+pub enum LineFault {
+    /// The words ask for help, which is this text.
+    Help(String),
+    /// The words are no command's, as this text says.
+    Usage(String),
+    /// The program is out of memory.
+    NoMemory,
+}
+
+/// Reads the words after the program's name as a command.
+///
+/// No words ask for the answer to a submission. Else the first word names a command, and the words
+/// after it are read by the rules that `clap` has for that command's arguments.
+pub fn command_of<'a>(alloc: Global, words: &'a [&'a str]) -> Result<Command<'a>, LineFault>
+    ensures { GivesAt (map (λ w. w.now) words.now) result }
+{
+    let Some(name) = words.first() else {
+        return Ok(Command::AnswerSubmission);
+    };
+    match *name {
+        "check" => check_command(alloc, words),
+        _ => Err(unknown_command_fault(alloc, words)),
+    }
+}
+
+fn check_command<'a>(alloc: Global, words: &'a [&'a str]) -> Result<Command<'a>, LineFault>
+    ensures { Gives (named_check (map (λ w. w.now) words.now)) (fault_of check_app (map (λ w. w.now) words.now)) result }
+{
+    match check_matches(alloc, words) {
+        Ok(matches) => Ok(Command::Check(argument_text(&matches, "FILE"))),
+        Err(error) => Err(line_fault(alloc, &error)),
+    }
+}
+
+// The text of an argument, empty where it has none.
+fn argument_text<'a>(matches: &ArgMatches<'a>, id: &str) -> &'a str
+    ensures { result.now ≡ unwrap_or (first_value (found_of matches.now) id.now) [] }
+{
+    matches.get_str(id).unwrap_or("")
+}
+
+// `clap`'s error as a fault.
+fn line_fault(alloc: Global, error: &Error) -> LineFault
+    ensures { IsFaultOf (kind_of error.now) result }
+{
+    if error.kind() == ErrorKind::OutOfMemory {
+        return LineFault::NoMemory;
+    }
+    let Ok(text) = format!(in alloc; "{error}") else {
+        return LineFault::NoMemory;
+    };
+    match error.kind() {
+        ErrorKind::DisplayHelp => LineFault::Help(text),
+        _ => LineFault::Usage(text),
+    }
+}
+
+// `clap`'s help or usage where the first word names no command.
+fn unknown_command_fault(alloc: Global, words: &[&str]) -> LineFault
+    ensures { IsFaultAmong (fault_of program_app (map (λ w. w.now) words.now)) result }
+{
+    match program_matches(alloc, words) {
+        Ok(_) => LineFault::Usage(String::new(alloc)),
+        Err(error) => line_fault(alloc, &error),
+    }
+}

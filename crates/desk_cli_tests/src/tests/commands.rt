@@ -1,0 +1,64 @@
+//! Commands that are carried out, and words that name none.
+use super::{PAY_1, PAY_1_LINE};
+use desk_cli::{Command, LineFault, Status, print_line_fault, run, run_words};
+use std::test::Fail;
+
+#[test]
+fn a_submission_and_a_file_that_is_not_there(rt: HostRuntime) {
+    let mut output = Vec::new(rt.alloc());
+    let status = run(
+        &rt,
+        &Command::AnswerSubmission,
+        PAY_1.as_bytes(),
+        &mut output,
+    );
+    assert_eq!(rt; status, Status::Done);
+    assert_eq!(rt; output.as_slice(), PAY_1_LINE.as_bytes());
+
+    let mut output = Vec::new(rt.alloc());
+    let nobody: &[u8] = b"";
+    let status = run(
+        &rt,
+        &Command::Check("out/no such folder/no such file"),
+        nobody,
+        &mut output,
+    );
+    assert_eq!(rt; status, Status::Failed);
+    assert_eq!(rt; output.as_slice(), b"unavailable\n".as_slice());
+}
+
+#[test]
+fn words_and_their_exit_status(rt: HostRuntime) {
+    // The words, the exit status, and what the first line begins with.
+    let rows: [(&[&str], u8, &[u8]); 5] = [
+        (&[], 0, PAY_1_LINE.as_bytes()),
+        (&["check", "no such file"], 3, b"unavailable\n"),
+        (&["--help"], 0, b"The ACH desk of an originating bank."),
+        (&["check", "--help"], 0, b"Checks an incoming ACH file"),
+        (&["check"], 2, b"error: "),
+    ];
+    for (words, code, start) in rows {
+        let mut output = Vec::new(rt.alloc());
+        assert_eq!(rt; run_words(&rt, words, PAY_1.as_bytes(), &mut output), code);
+        assert!(rt; output.as_slice().starts_with(start));
+    }
+}
+
+#[test]
+fn help_and_usage(rt: HostRuntime) -> Result<(), Fail> {
+    let text = String::from_str(rt.alloc(), "Usage: achdesk\n")?;
+    let rows = [
+        (LineFault::Help(text), 0, "Usage: achdesk\n"),
+        (LineFault::NoMemory, 3, "unavailable\n"),
+    ];
+    for (fault, code, line) in &rows {
+        let mut output = Vec::new(rt.alloc());
+        assert_eq!(rt; print_line_fault(&mut output, fault), *code);
+        assert_eq!(rt; output.as_slice(), line.as_bytes());
+    }
+    let mut output = Vec::new(rt.alloc());
+    let text = String::from_str(rt.alloc(), "error: wrong words\n")?;
+    assert_eq!(rt; print_line_fault(&mut output, &LineFault::Usage(text)), 2);
+    assert_eq!(rt; output.as_slice(), b"error: wrong words\n".as_slice());
+    Ok(())
+}

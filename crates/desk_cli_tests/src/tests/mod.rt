@@ -1,0 +1,28 @@
+//! Several tests take these bodies, and look at the outcome of a run over one.
+mod bodies;
+mod commands;
+mod failing;
+mod files;
+mod large;
+mod words;
+
+use desk_cli::{Status, first_run};
+use std::alloc::Global;
+
+/// A credit of 1500.00 to a checking account.
+const PAY_1: &str =
+    "{\"ref\":\"PAY-1\",\"sec\":\"PPD\",\"direction\":\"credit\",\"description\":\"PAYROLL\",\"day\":\"2025-01-10\",\"entries\":[{\"routing\":\"091000019\",\"account\":\"123456789\",\"kind\":\"checking\",\"cents\":150000,\"id\":\"E1\",\"name\":\"ANN LEE\"}]}";
+
+/// What it is answered.
+const PAY_1_LINE: &str = "{\"cents\":150000,\"entries\":1,\"order\":1,\"ref\":\"PAY-1\"}\n";
+
+/// A submission as far as its entries.
+const PREFIX: &str =
+    "{\"ref\":\"P\",\"sec\":\"CCD\",\"direction\":\"debit\",\"description\":\"DUES\",\"day\":\"2024-02-29\",\"entries\":[";
+
+// Does a run over this body end so, and print this line?
+fn answers(alloc: Global, body: &[u8], status: Status, line: &str) -> bool {
+    let mut output = Vec::new(alloc);
+    let ended = first_run(alloc, body, &mut output);
+    ended == status && output.as_slice() == line.as_bytes()
+}

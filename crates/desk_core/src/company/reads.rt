@@ -1,0 +1,145 @@
+//! A company reads its returns, changes, submissions, statement, rates and exposure here.
+ghost use Rattle.desk_history.specs.Request as request;
+ghost use Rattle.desk_store.specs.Words.{LeavesRead};
+ghost use Rattle.desk_core.specs.Answering.{Answers};
+ghost use Rattle.desk_book.specs.OnBook.{reply_on};
+
+use crate::company::facts::{facts_of, ruled_facts};
+use crate::company::report::report_or_none;
+use crate::company::statement::statement;
+use crate::guards::{company_limits, desk_day};
+use crate::refuse::refuse;
+use ach_fields::{Id, Ref};
+use desk_accounts::Account;
+use desk_history::{Answer, DayRates, Exposure, Outcome};
+use desk_rules::{credit_exposure, debit_exposure, rates};
+use desk_store::{Store, StoreFault};
+use std::alloc::Global;
+
+/// Answers with the returns of a company's entries.
+pub(crate) fn returns_of<S: Store>(
+    store: &mut S,
+    alloc: Global,
+    company: Id,
+) -> Result<Answer, StoreFault>
+    ensures before { S.is_clean store.new → S.is_clean store.old }
+    ensures answers { S.is_clean store.new → Answers (S.holds store.old) result (λ b. reply_on b company request.Returns) (λ b. b) (S.holds store.new) }
+    ensures left { S.is_clean store.new → LeavesRead (S.may_leave store.old) (S.may_leave store.new) }
+{
+    if let Err(why) = company_limits(store, alloc, company)? {
+        return Ok(refuse(why));
+    }
+    let items = store.items_of(alloc, company)?;
+    Ok(Answer::Done(Outcome::Returns(items.returns)))
+}
+
+/// Answers with the changes of a company's entries.
+pub(crate) fn changes_of<S: Store>(
+    store: &mut S,
+    alloc: Global,
+    company: Id,
+) -> Result<Answer, StoreFault>
+    ensures before { S.is_clean store.new → S.is_clean store.old }
+    ensures answers { S.is_clean store.new → Answers (S.holds store.old) result (λ b. reply_on b company request.Changes) (λ b. b) (S.holds store.new) }
+    ensures left { S.is_clean store.new → LeavesRead (S.may_leave store.old) (S.may_leave store.new) }
+{
+    if let Err(why) = company_limits(store, alloc, company)? {
+        return Ok(refuse(why));
+    }
+    let items = store.items_of(alloc, company)?;
+    Ok(Answer::Done(Outcome::Changes(items.changes)))
+}
+
+/// Answers with a company's submission or retry, by its reference.
+pub(crate) fn look_up<S: Store>(
+    store: &mut S,
+    alloc: Global,
+    company: Id,
+    reference: Ref,
+) -> Result<Answer, StoreFault>
+    ensures before { S.is_clean store.new → S.is_clean store.old }
+    ensures answers { S.is_clean store.new → Answers (S.holds store.old) result (λ b. reply_on b company (request.LookUp reference)) (λ b. b) (S.holds store.new) }
+    ensures left { S.is_clean store.new → LeavesRead (S.may_leave store.old) (S.may_leave store.new) }
+{
+    if let Err(why) = company_limits(store, alloc, company)? {
+        return Ok(refuse(why));
+    }
+    let row = store.submission(alloc, company, reference)?;
+    Ok(Answer::Done(Outcome::Found(report_or_none(alloc, &row)?)))
+}
+
+/// Answers with a company's statement on the desk day.
+pub(crate) fn statement_of<S: Store>(
+    store: &mut S,
+    alloc: Global,
+    company: Id,
+) -> Result<Answer, StoreFault>
+    ensures before { S.is_clean store.new → S.is_clean store.old }
+    ensures answers { S.is_clean store.new → Answers (S.holds store.old) result (λ b. reply_on b company request.Statement) (λ b. b) (S.holds store.new) }
+    ensures left { S.is_clean store.new → LeavesRead (S.may_leave store.old) (S.may_leave store.new) }
+{
+    if let Err(why) = company_limits(store, alloc, company)? {
+        return Ok(refuse(why));
+    }
+    let day = match desk_day(store, alloc)? {
+        Ok(day) => day,
+        Err(why) => return Ok(refuse(why)),
+    };
+    let postings = store.postings_of(alloc, Account::Company(company))?;
+    let statement = statement(alloc, company, day, &postings)?;
+    Ok(Answer::Done(Outcome::Statement(statement)))
+}
+
+/// Answers with a company's return rates on the desk day.
+pub(crate) fn rates_of<S: Store>(
+    store: &mut S,
+    alloc: Global,
+    company: Id,
+) -> Result<Answer, StoreFault>
+    ensures before { S.is_clean store.new → S.is_clean store.old }
+    ensures answers { S.is_clean store.new → Answers (S.holds store.old) result (λ b. reply_on b company request.Rates) (λ b. b) (S.holds store.new) }
+    ensures left { S.is_clean store.new → LeavesRead (S.may_leave store.old) (S.may_leave store.new) }
+{
+    if let Err(why) = company_limits(store, alloc, company)? {
+        return Ok(refuse(why));
+    }
+    let day = match desk_day(store, alloc)? {
+        Ok(day) => day,
+        Err(why) => return Ok(refuse(why)),
+    };
+    let rows = store.entries_of(alloc, company)?;
+    let facts = facts_of(alloc, &rows)?;
+    let rates = rates(&facts, day);
+    Ok(Answer::Done(Outcome::Rates(DayRates { day, rates })))
+}
+
+/// Answers with a company's exposures on the desk day, and its limits.
+pub(crate) fn exposure_of<S: Store>(
+    store: &mut S,
+    alloc: Global,
+    company: Id,
+) -> Result<Answer, StoreFault>
+    ensures before { S.is_clean store.new → S.is_clean store.old }
+    ensures answers { S.is_clean store.new → Answers (S.holds store.old) result (λ b. reply_on b company request.Exposure) (λ b. b) (S.holds store.new) }
+    ensures left { S.is_clean store.new → LeavesRead (S.may_leave store.old) (S.may_leave store.new) }
+{
+    let limits = match company_limits(store, alloc, company)? {
+        Ok(limits) => limits,
+        Err(why) => return Ok(refuse(why)),
+    };
+    let day = match desk_day(store, alloc)? {
+        Ok(day) => day,
+        Err(why) => return Ok(refuse(why)),
+    };
+    let calendar = store.calendar(alloc)?;
+    let rows = store.entries_of(alloc, company)?;
+    let facts = ruled_facts(alloc, &rows)?;
+    let credit = credit_exposure(&facts, day, &calendar);
+    let debit = debit_exposure(&facts, day, &calendar);
+    Ok(Answer::Done(Outcome::Exposure(Exposure {
+        credit,
+        debit,
+        day,
+        limits,
+    })))
+}

@@ -1,0 +1,75 @@
+//! A company is told of its submission here.
+ghost use Rattle.std.specs.Prelude.{◌≡◌, map, zip, IfOk, option_map};
+ghost use Rattle.std.specs.List.{enumerate_from};
+ghost use Rattle.desk_history.specs.Reports.{retried_entry, reported_entry};
+ghost use Rattle.desk_book.specs.OnBook.{row_report};
+
+use crate::company::receipt::sum;
+use desk_book::Row;
+use desk_history::{ListOf, ReportedEntry, RetriedEntry, SubmissionReport};
+use desk_rules::{Entry, EntryState, Retry};
+use desk_store::StoreFault;
+use std::alloc::{AllocError, Global};
+
+fn retried_entry(retry: &Option<Retry>) -> Option<RetriedEntry>
+    ensures { result ≡ option_map retried_entry retry.now }
+{
+    match retry {
+        Some(retry) => Some(RetriedEntry {
+            of: retry.of,
+            index: retry.index,
+        }),
+        None => None,
+    }
+}
+
+// The entries with their numbers and states.
+fn reported_entries(
+    alloc: Global,
+    entries: &[Entry],
+    states: &[EntryState],
+) -> Result<Vec<ReportedEntry>, AllocError>
+    ensures { IfOk result (λ v. v.items ≡ map reported_entry (enumerate_from 1 (zip entries.now states.now))) }
+{
+    let mut found = Vec::new(alloc);
+    let mut index = 0;
+    for (entry, state) in entries.iter().zip(states) {
+        index += 1;
+        found.push(ReportedEntry {
+            cents: entry.cents,
+            index,
+            state: *state,
+        })?;
+    }
+    Ok(found)
+}
+
+/// Gives a submission with the states of its entries.
+pub(crate) fn submission_report(alloc: Global, row: &Row) -> Result<SubmissionReport, StoreFault>
+    ensures { IfOk result (λ f. f ≡ row_report row.now) }
+{
+    let entries = row.content.entries.as_slice();
+    Ok(SubmissionReport {
+        cents: sum(entries)?,
+        day: row.content.day,
+        direction: row.content.direction,
+        entries: ListOf::new(reported_entries(alloc, entries, row.states.as_slice())?),
+        retried: retried_entry(&row.retry),
+        order: row.order,
+        reference: row.content.reference,
+        sec: row.content.sec,
+    })
+}
+
+/// Gives the same where there is a row.
+pub(crate) fn report_or_none(
+    alloc: Global,
+    row: &Option<Row>,
+) -> Result<Option<SubmissionReport>, StoreFault>
+    ensures { IfOk result (λ f. f ≡ option_map row_report row.now) }
+{
+    match row {
+        Some(row) => Ok(Some(submission_report(alloc, row)?)),
+        None => Ok(None),
+    }
+}

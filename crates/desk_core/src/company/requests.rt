@@ -1,0 +1,123 @@
+//! A submission and a retry share what is asked first, the verdict, and its write.
+ghost use Rattle.std.specs.Prelude.{◌≡◌, IfOk};
+ghost use Rattle.desk_store.specs.Words.{Reads, LeavesRead};
+ghost use Rattle.desk_history.specs.Acceptance.{within_limits};
+ghost use Rattle.desk_book.specs.Standing.{facts_in};
+ghost use Rattle.desk_core.specs.Verdicts.{limits_and_day, refused_verdict, known_verdict, fresh_verdict, Adds, LeavesAdded};
+
+use crate::company::facts::ruled_facts;
+use crate::company::receipt::receipt;
+use crate::company::verdict::{NewRow, Verdict};
+use crate::guards::{company_limits, desk_day};
+use crate::refuse::refuse;
+use ach_fields::Id;
+use bank_days::{Calendar, Day};
+use desk_book::Row;
+use desk_history::{Answer, Outcome};
+use desk_rules::{Limits, Refusal, Retry, Submission, check_submission};
+use desk_store::{Store, StoreFault};
+use std::alloc::Global;
+
+/// Gives the limits of a registered company, and the desk day.
+pub(crate) fn limits_and_day<S: Store>(
+    store: &mut S,
+    alloc: Global,
+    company: Id,
+) -> Result<Result<(Limits, Day), Refusal>, StoreFault>
+    ensures before { S.is_clean store.new → S.is_clean store.old }
+    ensures read { S.is_clean store.new → Reads (S.holds store.old) result (λ b. limits_and_day b company) (S.holds store.new) }
+    ensures left { S.is_clean store.new → LeavesRead (S.may_leave store.old) (S.may_leave store.new) }
+{
+    let limits = match company_limits(store, alloc, company)? {
+        Ok(limits) => limits,
+        Err(why) => return Ok(Err(why)),
+    };
+    match desk_day(store, alloc)? {
+        Ok(today) => Ok(Ok((limits, today))),
+        Err(why) => Ok(Err(why)),
+    }
+}
+
+/// Gives what is within the company's limits, or its first refusal.
+pub(crate) fn within_limits(
+    alloc: Global,
+    rows: &[Row],
+    calendar: &Calendar,
+    limits: &Limits,
+    today: Day,
+    content: Submission,
+) -> Result<Result<Submission, Refusal>, StoreFault>
+    ensures { IfOk result (λ judged. judged ≡ within_limits (facts_in rows.now) calendar.now limits.now today content) }
+{
+    let facts = ruled_facts(alloc, rows)?;
+    match check_submission(&content, today, limits, &facts, calendar) {
+        Ok(()) => Ok(Ok(content)),
+        Err(why) => Ok(Err(why)),
+    }
+}
+
+/// Gives the verdict of a refusal.
+pub(crate) fn refused_verdict(why: Refusal) -> Verdict
+    ensures { result ≡ refused_verdict why }
+{
+    Verdict {
+        answer: refuse(why),
+        added: None,
+    }
+}
+
+/// Gives the verdict where a row has the reference: what is the same is answered as it was the
+/// first time.
+pub(crate) fn known_verdict(row: &Row, same: bool) -> Result<Verdict, StoreFault>
+    ensures { IfOk result (λ verdict. verdict ≡ known_verdict same row.now) }
+{
+    if !same {
+        return Ok(refused_verdict(Refusal::RefReused));
+    }
+    let receipt = receipt(&row.content, row.order)?;
+    Ok(Verdict {
+        answer: Answer::Done(Outcome::Submitted(receipt)),
+        added: None,
+    })
+}
+
+/// Gives the verdict where no row has the reference.
+pub(crate) fn fresh_verdict(
+    order: u64,
+    retry: Option<Retry>,
+    content: Result<Submission, Refusal>,
+) -> Result<Verdict, StoreFault>
+    ensures { IfOk result (λ verdict. verdict ≡ fresh_verdict order retry content) }
+{
+    match content {
+        Err(why) => Ok(refused_verdict(why)),
+        Ok(content) => {
+            let receipt = receipt(&content, order)?;
+            Ok(Verdict {
+                answer: Answer::Done(Outcome::Submitted(receipt)),
+                added: Some(NewRow {
+                    order,
+                    content,
+                    retry,
+                }),
+            })
+        }
+    }
+}
+
+/// Adds what a verdict adds, and answers.
+pub(crate) fn add<S: Store>(
+    store: &mut S,
+    alloc: Global,
+    company: Id,
+    verdict: Verdict,
+) -> Result<Answer, StoreFault>
+    ensures before { S.is_clean store.new → S.is_clean store.old }
+    ensures answers { S.is_clean store.new → Adds (S.holds store.old) result company verdict (S.holds store.new) }
+    ensures left { S.is_clean store.new → LeavesAdded (S.holds store.old) (S.may_leave store.old) result company verdict (S.may_leave store.new) }
+{
+    if let Some(new) = &verdict.added {
+        store.add_submission(alloc, company, new.order, &new.content, new.retry)?;
+    }
+    Ok(verdict.answer)
+}

@@ -1,0 +1,112 @@
+//! A company hands in a submission.
+ghost use Rattle.std.specs.Prelude.{◌≡◌, ◌+◌, length, None};
+ghost use Rattle.desk_rules.specs.Submission.{submission_of};
+ghost use Rattle.desk_history.specs.Request as request;
+ghost use Rattle.desk_history.specs.Acceptance.{is_same_submission, new_content};
+ghost use Rattle.desk_book.specs.Standing.{facts_in};
+ghost use Rattle.desk_store.specs.Words.{Reads, LeavesRead};
+ghost use Rattle.desk_core.specs.Answering.{Answers, LeavesCall};
+ghost use Rattle.desk_core.specs.Verdicts.{limits_and_day, verdict_of_fields, fresh_verdict, submission_on};
+ghost use Rattle.desk_book.specs.Requests.{added_row, with_added_row};
+ghost use Rattle.desk_book.specs.OnBook.{reply_on};
+
+use crate::company::requests::{
+    add, fresh_verdict, known_verdict, limits_and_day, refused_verdict, within_limits,
+};
+use crate::company::verdict::Verdict;
+use ach_fields::Id;
+use bank_days::Day;
+use desk_book::Row;
+use desk_history::Answer;
+use desk_rules::{Draft, Limits, RuleFault, Submission, check_fields, check_size};
+use desk_store::{Store, StoreFault};
+use std::alloc::Global;
+
+/// Is a row of no retry, with the same content?
+fn is_plain_row(content: &Submission, row: &Row) -> bool
+    ensures { result ≡ is_same_submission content.now row.now.content row.now.retry }
+{
+    match row.retry {
+        None => row.content.is_same(content),
+        Some(_) => false,
+    }
+}
+
+/// Gives the verdict of a submission under a new reference.
+fn new_submission<S: Store>(
+    store: &mut S,
+    alloc: Global,
+    company: Id,
+    limits: &Limits,
+    today: Day,
+    content: Submission,
+) -> Result<Verdict, StoreFault>
+    ensures before { S.is_clean store.new → S.is_clean store.old }
+    ensures read { S.is_clean store.new → Reads (S.holds store.old) result (λ b. fresh_verdict (length (b.rows company) + 1) None (new_content (facts_in (b.rows company)) b.holidays limits.now today content)) (S.holds store.new) }
+    ensures left { S.is_clean store.new → LeavesRead (S.may_leave store.old) (S.may_leave store.new) }
+{
+    if let Err(why) = check_size(&content) {
+        return Ok(refused_verdict(why));
+    }
+    let calendar = store.calendar(alloc)?;
+    let rows = store.entries_of(alloc, company)?;
+    let judged = within_limits(alloc, &rows, &calendar, limits, today, content)?;
+    fresh_verdict(rows.len() as u64 + 1, None, judged)
+}
+
+/// Gives the verdict of a submission whose fields are right.
+fn submission_on<S: Store>(
+    store: &mut S,
+    alloc: Global,
+    company: Id,
+    limits: &Limits,
+    today: Day,
+    content: Submission,
+) -> Result<Verdict, StoreFault>
+    ensures before { S.is_clean store.new → S.is_clean store.old }
+    ensures read { S.is_clean store.new → Reads (S.holds store.old) result (λ b. submission_on b company limits.now today content) (S.holds store.new) }
+    ensures left { S.is_clean store.new → LeavesRead (S.may_leave store.old) (S.may_leave store.new) }
+{
+    if let Some(row) = store.submission(alloc, company, content.reference)? {
+        return known_verdict(&row, is_plain_row(&content, &row));
+    }
+    new_submission(store, alloc, company, limits, today, content)
+}
+
+/// Gives the verdict of a submission's draft.
+fn submission_verdict<S: Store>(
+    store: &mut S,
+    alloc: Global,
+    company: Id,
+    draft: &Draft,
+) -> Result<Verdict, StoreFault>
+    ensures before { S.is_clean store.new → S.is_clean store.old }
+    ensures read { S.is_clean store.new → Reads (S.holds store.old) result (λ b. verdict_of_fields (limits_and_day b company) (submission_of draft.now) (submission_on b company)) (S.holds store.new) }
+    ensures left { S.is_clean store.new → LeavesRead (S.may_leave store.old) (S.may_leave store.new) }
+{
+    let (limits, today) = match limits_and_day(store, alloc, company)? {
+        Ok(asked) => asked,
+        Err(why) => return Ok(refused_verdict(why)),
+    };
+    match check_fields(alloc, draft) {
+        Ok(content) => submission_on(store, alloc, company, &limits, today, content),
+        Err(RuleFault::Refused(why)) => Ok(refused_verdict(why)),
+        Err(RuleFault::NoMemory) => Err(StoreFault::Unavailable),
+    }
+}
+
+/// Adds a company's submission, or refuses it. What was accepted before under its reference is
+/// answered as it was the first time, and nothing is added.
+pub(crate) fn submit<S: Store>(
+    store: &mut S,
+    alloc: Global,
+    company: Id,
+    draft: &Draft,
+) -> Result<Answer, StoreFault>
+    ensures before { S.is_clean store.new → S.is_clean store.old }
+    ensures answers { S.is_clean store.new → Answers (S.holds store.old) result (λ b. reply_on b company (request.Submit draft.now)) (λ b. with_added_row company (added_row b company (request.Submit draft.now)) b) (S.holds store.new) }
+    ensures left { S.is_clean store.new → LeavesCall (S.holds store.old) (S.may_leave store.old) result (λ b. with_added_row company (added_row b company (request.Submit draft.now)) b) (S.may_leave store.new) }
+{
+    let verdict = submission_verdict(store, alloc, company, draft)?;
+    add(store, alloc, company, verdict)
+}

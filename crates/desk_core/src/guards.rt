@@ -1,0 +1,42 @@
+//! What is asked before all else: whether the company is registered, and whether a day was set.
+ghost use Rattle.desk_rules.specs.declared.refusals.refusal.Refusal.TheVariants.{NoCompany, NoDay};
+ghost use Rattle.desk_history.specs.Words.{some_or};
+ghost use Rattle.desk_book.specs.OnBook.{standing_in};
+ghost use Rattle.desk_store.specs.Words.{Reads, LeavesRead};
+
+use ach_fields::Id;
+use bank_days::Day;
+use desk_rules::{Limits, Refusal};
+use desk_store::{Store, StoreFault};
+use std::alloc::Global;
+
+/// Gives the limits of a company, or `NoCompany` where it is not registered.
+pub(crate) fn company_limits<S: Store>(
+    store: &mut S,
+    alloc: Global,
+    company: Id,
+) -> Result<Result<Limits, Refusal>, StoreFault>
+    ensures before { S.is_clean store.new → S.is_clean store.old }
+    ensures read { S.is_clean store.new → Reads (S.holds store.old) result (λ b. some_or NoCompany (standing_in b company).limits) (S.holds store.new) }
+    ensures left { S.is_clean store.new → LeavesRead (S.may_leave store.old) (S.may_leave store.new) }
+{
+    match store.company(alloc, company)? {
+        Some(registered) => Ok(Ok(registered.limits)),
+        None => Ok(Err(Refusal::NoCompany)),
+    }
+}
+
+/// Gives the desk day, or `NoDay` where none was set.
+pub(crate) fn desk_day<S: Store>(
+    store: &mut S,
+    alloc: Global,
+) -> Result<Result<Day, Refusal>, StoreFault>
+    ensures before { S.is_clean store.new → S.is_clean store.old }
+    ensures read { S.is_clean store.new → Reads (S.holds store.old) result (λ b. some_or NoDay b.day) (S.holds store.new) }
+    ensures left { S.is_clean store.new → LeavesRead (S.may_leave store.old) (S.may_leave store.new) }
+{
+    match store.day(alloc)? {
+        Some(day) => Ok(Ok(day)),
+        None => Ok(Err(Refusal::NoDay)),
+    }
+}

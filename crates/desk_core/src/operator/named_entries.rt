@@ -1,0 +1,101 @@
+//! The items of an incoming file name entries here.
+ghost use Rattle.std.specs.Prelude.{◌≡◌, map, option_map};
+ghost use Rattle.desk_history.specs.Resolve.{named_entry};
+ghost use Rattle.desk_store.specs.Words.{Reads, LeavesRead};
+ghost use Rattle.desk_book.specs.OnIntake.{is_returned_on, is_returned_in, is_returned_state, named_entry_on};
+ghost use Rattle.desk_intake.specs.Resolutions.{found_item_as, named_entry_as};
+ghost use Rattle.desk_core.specs.Taking.{ReadsAs};
+
+use crate::retry::attempts::state_at;
+use ach_fields::Trace;
+use ach_files::ItemFacts;
+use desk_book::Row;
+use desk_history::SentEntry;
+use desk_intake::{FoundItem, NamedEntry};
+use desk_rules::EntryState;
+use desk_store::{Store, StoreFault};
+use std::alloc::Global;
+
+/// Gives the sent entry that has an item's original trace. What is no trace is that of no entry.
+#[tactic(auto, using(crate::proofs::Traceless::traceless))]
+fn sent_entry<S: Store>(
+    store: &mut S,
+    alloc: Global,
+    item: &ItemFacts,
+) -> Result<Option<SentEntry>, StoreFault>
+    ensures before { S.is_clean store.new → S.is_clean store.old }
+    ensures read { S.is_clean store.new → Reads (S.holds store.old) result (λ b. named_entry b.identity.odfi b.sent item.now) (S.holds store.new) }
+    ensures left { S.is_clean store.new → LeavesRead (S.may_leave store.old) (S.may_leave store.new) }
+{
+    match Trace::parse(&item.original_trace) {
+        Ok(trace) => store.sent_as(alloc, trace),
+        Err(_) => Ok(None),
+    }
+}
+
+fn is_returned_state(state: EntryState) -> bool
+    ensures { result ≡ is_returned_state state }
+{
+    match state {
+        EntryState::Returned { .. } => true,
+        _ => false,
+    }
+}
+
+fn is_returned_in(row: &Option<Row>, index: u64) -> bool
+    ensures { result ≡ is_returned_in row.now index }
+{
+    match row {
+        Some(row) => is_returned_state(state_at(row, index)),
+        None => false,
+    }
+}
+
+/// Has the entry come back?
+fn is_returned_on<S: Store>(
+    store: &mut S,
+    alloc: Global,
+    entry: &SentEntry,
+) -> Result<bool, StoreFault>
+    ensures before { S.is_clean store.new → S.is_clean store.old }
+    ensures read { S.is_clean store.new → Reads (S.holds store.old) result (λ b. is_returned_on b entry.now) (S.holds store.new) }
+    ensures left { S.is_clean store.new → LeavesRead (S.may_leave store.old) (S.may_leave store.new) }
+{
+    let row = store.submission(alloc, entry.company, entry.reference)?;
+    Ok(is_returned_in(&row, entry.index))
+}
+
+/// Gives the sent entry that an item names, and says whether it came back.
+fn named_entry_on<S: Store>(
+    store: &mut S,
+    alloc: Global,
+    item: &ItemFacts,
+) -> Result<Option<NamedEntry>, StoreFault>
+    ensures before { S.is_clean store.new → S.is_clean store.old }
+    ensures read { S.is_clean store.new → ReadsAs (option_map named_entry_as) (S.holds store.old) result (λ b. named_entry_on b item.now) (S.holds store.new) }
+    ensures left { S.is_clean store.new → LeavesRead (S.may_leave store.old) (S.may_leave store.new) }
+{
+    let Some(entry) = sent_entry(store, alloc, item)? else {
+        return Ok(None);
+    };
+    let returned = is_returned_on(store, alloc, &entry)?;
+    Ok(Some(NamedEntry { entry, returned }))
+}
+
+/// Gives the items, each with what it names.
+pub(crate) fn found_items<S: Store>(
+    store: &mut S,
+    alloc: Global,
+    items: &[ItemFacts],
+) -> Result<Vec<FoundItem>, StoreFault>
+    ensures before { S.is_clean store.new → S.is_clean store.old }
+    ensures read { S.is_clean store.new → ReadsAs (λ found. map found_item_as found.items) (S.holds store.old) result (λ b. map (λ item. (item, named_entry_on b item)) items.now) (S.holds store.new) }
+    ensures left { S.is_clean store.new → LeavesRead (S.may_leave store.old) (S.may_leave store.new) }
+{
+    let mut found = Vec::new(alloc);
+    for item in items {
+        let named = named_entry_on(store, alloc, item)?;
+        found.push(FoundItem { item: *item, named })?;
+    }
+    Ok(found)
+}

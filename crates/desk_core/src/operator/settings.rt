@@ -1,0 +1,113 @@
+//! The operator sets days, holidays, companies and limits here.
+ghost use Rattle.std.specs.Prelude.{◌≡◌, Some};
+ghost use Rattle.bank_days.specs.HolidayList.{holidays_in};
+ghost use Rattle.desk_core.specs.Answering.{Answers, LeavesCall};
+ghost use Rattle.desk_book.specs.OnOperator.{new_day, day_answer, day_after, holidays_answer, holidays_after, company_answer, company_after, limits_answer, limits_after};
+
+use crate::guards::company_limits;
+use crate::refuse::refuse;
+use bank_days::{Calendar, CalendarFault, Day};
+use desk_history::{Answer, CallRefusal, Outcome};
+use desk_rules::{CompanyDraft, DraftText, LimitsDraft, Refusal};
+use desk_store::{Store, StoreFault};
+use std::alloc::Global;
+
+/// Sets the desk day.
+pub(crate) fn set_day<S: Store>(
+    store: &mut S,
+    alloc: Global,
+    text: &Option<DraftText>,
+) -> Result<Answer, StoreFault>
+    ensures before { S.is_clean store.new → S.is_clean store.old }
+    ensures answers { S.is_clean store.new → Answers (S.holds store.old) result (day_answer text.now) (day_after text.now) (S.holds store.new) }
+    ensures left { S.is_clean store.new → LeavesCall (S.holds store.old) (S.may_leave store.old) result (day_after text.now) (S.may_leave store.new) }
+{
+    let day = store.day(alloc)?;
+    let holidays = store.calendar(alloc)?;
+    match new_day(day, &holidays, text) {
+        Ok(day) => {
+            store.set_day(alloc, day)?;
+            Ok(Answer::Done(Outcome::Day(day)))
+        }
+        Err(why) => Ok(refuse(why)),
+    }
+}
+
+// The new desk day, after this one and a banking day by these holidays.
+fn new_day(day: Option<Day>, holidays: &Calendar, text: &Option<DraftText>) -> Result<Day, Refusal>
+    ensures { result ≡ new_day day holidays.now text.now }
+{
+    let new = desk_rules::check_day_field(text)?;
+    if let Some(today) = day {
+        if new <= today {
+            return Err(Refusal::DayNotLater);
+        }
+    }
+    if !holidays.is_banking(new) {
+        return Err(Refusal::NotBankingDay);
+    }
+    Ok(new)
+}
+
+/// Sets the holiday list, from its CSV text.
+pub(crate) fn set_holidays<S: Store>(
+    store: &mut S,
+    alloc: Global,
+    text: &[u8],
+) -> Result<Answer, StoreFault>
+    ensures before { S.is_clean store.new → S.is_clean store.old }
+    ensures answers { S.is_clean store.new → Answers (S.holds store.old) result (holidays_answer (holidays_in text.now)) (holidays_after (holidays_in text.now)) (S.holds store.new) }
+    ensures left { S.is_clean store.new → LeavesCall (S.holds store.old) (S.may_leave store.old) result (holidays_after (holidays_in text.now)) (S.may_leave store.new) }
+{
+    match Calendar::read(alloc, text) {
+        Ok(holidays) => {
+            let count = holidays.holidays().len();
+            store.set_holidays(alloc, holidays)?;
+            Ok(Answer::Done(Outcome::Holidays(count as u64)))
+        }
+        Err(CalendarFault::NoMemory) => Err(StoreFault::Unavailable),
+        Err(fault) => Ok(Answer::Refused(CallRefusal::BadCalendar(fault))),
+    }
+}
+
+/// Registers a company.
+pub(crate) fn put_company<S: Store>(
+    store: &mut S,
+    alloc: Global,
+    draft: &CompanyDraft,
+) -> Result<Answer, StoreFault>
+    ensures before { S.is_clean store.new → S.is_clean store.old }
+    ensures answers { S.is_clean store.new → Answers (S.holds store.old) result (company_answer draft.now) (company_after draft.now) (S.holds store.new) }
+    ensures left { S.is_clean store.new → LeavesCall (S.holds store.old) (S.may_leave store.old) result (company_after draft.now) (S.may_leave store.new) }
+{
+    let company = match desk_rules::check_company_fields(draft) {
+        Ok(company) => company,
+        Err(why) => return Ok(refuse(why)),
+    };
+    if store.company(alloc, company.id)?.is_some() {
+        return Ok(refuse(Refusal::CompanyExists));
+    }
+    store.put_company(alloc, company)?;
+    Ok(Answer::Done(Outcome::Company(company.id)))
+}
+
+/// Sets new limits of a company.
+pub(crate) fn put_limits<S: Store>(
+    store: &mut S,
+    alloc: Global,
+    draft: &LimitsDraft,
+) -> Result<Answer, StoreFault>
+    ensures before { S.is_clean store.new → S.is_clean store.old }
+    ensures answers { S.is_clean store.new → Answers (S.holds store.old) result (limits_answer draft.now) (limits_after draft.now) (S.holds store.new) }
+    ensures left { S.is_clean store.new → LeavesCall (S.holds store.old) (S.may_leave store.old) result (limits_after draft.now) (S.may_leave store.new) }
+{
+    let (id, limits) = match desk_rules::check_limits_fields(draft) {
+        Ok(found) => found,
+        Err(why) => return Ok(refuse(why)),
+    };
+    if let Err(why) = company_limits(store, alloc, id)? {
+        return Ok(refuse(why));
+    }
+    store.put_limits(alloc, id, limits)?;
+    Ok(Answer::Done(Outcome::Company(id)))
+}

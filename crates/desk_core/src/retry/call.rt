@@ -1,0 +1,72 @@
+//! A company asks for a retry.
+ghost use Rattle.desk_rules.specs.Retry.{retry_of};
+ghost use Rattle.desk_history.specs.Request as request;
+ghost use Rattle.desk_store.specs.Words.{Reads, LeavesRead};
+ghost use Rattle.desk_core.specs.Answering.{Answers, LeavesCall};
+ghost use Rattle.desk_core.specs.Verdicts.{limits_and_day, verdict_of_fields, retry_on};
+ghost use Rattle.desk_book.specs.Requests.{added_row, with_added_row};
+ghost use Rattle.desk_book.specs.OnBook.{reply_on};
+
+use crate::company::requests::{add, limits_and_day, refused_verdict};
+use crate::company::verdict::Verdict;
+use crate::retry::content::retry_among;
+use ach_fields::Id;
+use bank_days::Day;
+use desk_history::Answer;
+use desk_rules::{Limits, Retry, RetryDraft, check_retry_fields};
+use desk_store::{Store, StoreFault};
+use std::alloc::Global;
+
+/// Gives the verdict of a retry whose fields are right.
+fn retry_on<S: Store>(
+    store: &mut S,
+    alloc: Global,
+    company: Id,
+    limits: &Limits,
+    today: Day,
+    retry: &Retry,
+) -> Result<Verdict, StoreFault>
+    ensures before { S.is_clean store.new → S.is_clean store.old }
+    ensures read { S.is_clean store.new → Reads (S.holds store.old) result (λ b. retry_on b company limits.now today retry.now) (S.holds store.new) }
+    ensures left { S.is_clean store.new → LeavesRead (S.may_leave store.old) (S.may_leave store.new) }
+{
+    let calendar = store.calendar(alloc)?;
+    let rows = store.entries_of(alloc, company)?;
+    retry_among(alloc, &rows, &calendar, limits, today, retry)
+}
+
+/// Gives the verdict of a retry's draft.
+fn retry_verdict<S: Store>(
+    store: &mut S,
+    alloc: Global,
+    company: Id,
+    draft: &RetryDraft,
+) -> Result<Verdict, StoreFault>
+    ensures before { S.is_clean store.new → S.is_clean store.old }
+    ensures read { S.is_clean store.new → Reads (S.holds store.old) result (λ b. verdict_of_fields (limits_and_day b company) (retry_of draft.now) (retry_on b company)) (S.holds store.new) }
+    ensures left { S.is_clean store.new → LeavesRead (S.may_leave store.old) (S.may_leave store.new) }
+{
+    let (limits, today) = match limits_and_day(store, alloc, company)? {
+        Ok(asked) => asked,
+        Err(why) => return Ok(refused_verdict(why)),
+    };
+    match check_retry_fields(draft) {
+        Ok(retry) => retry_on(store, alloc, company, &limits, today, &retry),
+        Err(why) => Ok(refused_verdict(why)),
+    }
+}
+
+/// Adds a company's retry of a returned debit, or refuses it.
+pub(crate) fn retry<S: Store>(
+    store: &mut S,
+    alloc: Global,
+    company: Id,
+    draft: &RetryDraft,
+) -> Result<Answer, StoreFault>
+    ensures before { S.is_clean store.new → S.is_clean store.old }
+    ensures answers { S.is_clean store.new → Answers (S.holds store.old) result (λ b. reply_on b company (request.Retry draft.now)) (λ b. with_added_row company (added_row b company (request.Retry draft.now)) b) (S.holds store.new) }
+    ensures left { S.is_clean store.new → LeavesCall (S.holds store.old) (S.may_leave store.old) result (λ b. with_added_row company (added_row b company (request.Retry draft.now)) b) (S.may_leave store.new) }
+{
+    let verdict = retry_verdict(store, alloc, company, draft)?;
+    add(store, alloc, company, verdict)
+}

@@ -1,5 +1,0 @@
-use Rattle.desk_history.proofs.row_laws.row_steps.Goals as goal
-use Rattle.desk_history.proofs.RowSteps.{row_steps}
-
-pub returns : goal.returns
-returns c = row_steps

@@ -1,5 +1,0 @@
-use Rattle.desk_history.proofs.row_laws.verdicts_on_rows.Goals as goal
-use Rattle.desk_history.proofs.RetriesOnRows.{verdicts_on_rows}
-
-pub returns : goal.returns
-returns c = verdicts_on_rows

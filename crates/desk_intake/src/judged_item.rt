@@ -1,0 +1,72 @@
+//! Each item of a file is judged here: it meets its entry, or stands in suspense.
+ghost use Rattle.std.specs.Prelude.{◌≡◌, [], ◌∷◌, ◌++◌, List, map, IfOk, OnOk, true};
+ghost use Rattle.std.specs.List.{list_all};
+ghost use Rattle.desk_history.specs.declared.sent_entry.SentEntry.{SentEntry};
+ghost use Rattle.desk_book.specs.OnIntake.{entries_returned_by};
+ghost use Rattle.desk_intake.specs.ReturnedEntries.{HasEntries};
+ghost use Rattle.desk_intake.specs.Resolutions.{found_item_as, is_in_range, judged_after, judged_as, resolution_as};
+
+use crate::found_item::FoundItem;
+use crate::matched_item::MatchedItem;
+use crate::resolution::{is_return, resolution_after};
+use crate::returned_entries::ReturnedEntries;
+use ach_files::ItemFacts;
+use desk_history::SuspenseReason;
+use std::alloc::{AllocError, Global};
+
+/// A `JudgedItem` is an item with its resolution: the entry that it meets, or the reason against
+/// it.
+#[derive(Clone, Copy, Debug, Drop)]
+pub(crate) struct JudgedItem {
+    pub item: ItemFacts,
+    pub outcome: Result<MatchedItem, SuspenseReason>,
+}
+
+// An entry that comes back is known to the items after it.
+fn note(
+    earlier: &mut ReturnedEntries,
+    outcome: &Result<MatchedItem, SuspenseReason>,
+) -> Result<(), AllocError>
+    ensures { OnOk result ((es : List SentEntry) → HasEntries earlier.old es → HasEntries earlier.new (entries_returned_by (resolution_as outcome.now) ++ es)) }
+{
+    if let Ok(met) = outcome {
+        if is_return(met) {
+            earlier.add(&met.entry)?;
+        }
+    }
+    Ok(())
+}
+
+fn push(
+    judged: &mut Vec<JudgedItem>,
+    item: &ItemFacts,
+    outcome: Result<MatchedItem, SuspenseReason>,
+) -> Result<(), AllocError>
+    ensures { OnOk result (judged.new.items ≡ judged.old.items ++ record { item = item.now; outcome = outcome } ∷ []) }
+{
+    // The checker follows a move of `Met` only where its parts' types are seen.
+    if let Ok(met) = &outcome {
+        let _reaction = met.reaction;
+        let _info = met.entry.entry.info;
+    }
+    judged.push(JudgedItem {
+        item: *item,
+        outcome,
+    })?;
+    Ok(())
+}
+
+/// Gives the resolution of each item, in order.
+pub(crate) fn judge(alloc: Global, found: &[FoundItem]) -> Result<Vec<JudgedItem>, AllocError>
+    requires { list_all is_in_range found.now ≡ true }
+    ensures { IfOk result (λ judged. map judged_as judged.items ≡ judged_after [] (map found_item_as found.now)) }
+{
+    let mut earlier = ReturnedEntries::new(alloc);
+    let mut judged = Vec::new(alloc);
+    for found_item in found {
+        let outcome = resolution_after(&earlier, found_item);
+        note(&mut earlier, &outcome)?;
+        push(&mut judged, &found_item.item, outcome)?;
+    }
+    Ok(judged)
+}

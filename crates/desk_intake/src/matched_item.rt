@@ -1,0 +1,28 @@
+//! An item that meets its entry is matched.
+ghost use Rattle.std.specs.Prelude.{◌≤◌};
+ghost use Rattle.desk_rules.specs.Deadlines.{last_rule_day};
+
+use desk_history::SentEntry;
+use desk_rules::ReturnCode;
+
+/// A `Reaction` says what an item does to its entry.
+#[derive(Clone, Copy, Debug, PartialEq, Eq, Drop)]
+pub(crate) enum Reaction {
+    Return {
+        code: ReturnCode,
+        information: [u8; 44],
+    },
+    Change {
+        code: [u8; 3],
+        text: [u8; 29],
+    },
+}
+
+/// A `MatchedItem` is an item that meets its entry.
+#[derive(Clone, Copy, Debug, Drop)]
+pub(crate) struct MatchedItem {
+    pub entry: SentEntry,
+    pub reaction: Reaction,
+    // So that it has a deadline.
+    ghost ruled: { entry.settled ≤ last_rule_day },
+}

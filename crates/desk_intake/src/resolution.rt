@@ -1,0 +1,106 @@
+//! The resolution of an item is the entry that it meets, or the first reason against it.
+ghost use Rattle.std.specs.Prelude.{◌≡◌, ◌≤◌, List, option_map, true};
+ghost use Rattle.std.specs.Option.{ForSome};
+ghost use Rattle.desk_rules.specs.Deadlines.{last_rule_day};
+ghost use Rattle.desk_history.specs.declared.sent_entry.SentEntry.{SentEntry};
+ghost use Rattle.desk_history.specs.Intake.{is_returned_event};
+ghost use Rattle.desk_history.specs.Resolve.{event_of, resolve_entry};
+ghost use Rattle.desk_book.specs.OnIntake.{is_repeated_return, resolution_after, was_returned};
+ghost use Rattle.desk_intake.specs.ReturnedEntries.{HasEntries};
+ghost use Rattle.desk_intake.specs.Resolutions.{event_as, found_item_as, is_in_range, matched_item_as, named_entry_as, resolution_as};
+
+use crate::agreement::{agrees, is_change_code};
+use crate::found_item::{FoundItem, NamedEntry};
+use crate::matched_item::{MatchedItem, Reaction};
+use crate::returned_entries::ReturnedEntries;
+use ach_files::{ItemFacts, ReturnOrChange};
+use desk_history::{SentEntry, SuspenseReason};
+use desk_rules::ReturnCode;
+
+/// Gives what the item does, where its code is one of R01 to R29, or of C01 to C14.
+fn reaction_of(item: &ItemFacts) -> Option<Reaction>
+    ensures { (e : SentEntry) → option_map (event_as e) result ≡ event_of e item.now }
+{
+    match item.return_or_change {
+        ReturnOrChange::Return(information) => {
+            let code = ReturnCode::parse(&item.code)?;
+            Some(Reaction::Return { code, information })
+        }
+        ReturnOrChange::Change(text) => {
+            if !is_change_code(&item.code) {
+                return None;
+            }
+            Some(Reaction::Change {
+                code: item.code,
+                text,
+            })
+        }
+    }
+}
+
+/// Gives the entry that an item meets, or the first reason against it.
+fn resolve(entry: Option<SentEntry>, item: &ItemFacts) -> Result<MatchedItem, SuspenseReason>
+    requires { ForSome entry (λ e. e.settled ≤ last_rule_day) }
+    ensures { resolution_as result ≡ resolve_entry entry item.now }
+{
+    let Some(entry) = entry else {
+        return Err(SuspenseReason::NoTrace);
+    };
+    if !agrees(&entry, item) {
+        return Err(SuspenseReason::Differs);
+    }
+    let Some(reaction) = reaction_of(item) else {
+        return Err(SuspenseReason::CodeOutside);
+    };
+    Ok(MatchedItem { entry, reaction })
+}
+
+fn entry_of(named: &Option<NamedEntry>) -> Option<SentEntry>
+    ensures { result ≡ option_map (λ n. n.entry) (option_map named_entry_as named.now) }
+{
+    match named {
+        Some(named) => Some(named.entry),
+        None => None,
+    }
+}
+
+fn was_returned(named: &Option<NamedEntry>) -> bool
+    ensures { result ≡ was_returned (option_map named_entry_as named.now) }
+{
+    match named {
+        Some(named) => named.returned,
+        None => false,
+    }
+}
+
+/// Does its entry come back?
+pub(crate) fn is_return(met: &MatchedItem) -> bool
+    ensures { result ≡ is_returned_event (matched_item_as met.now).event }
+{
+    match met.reaction {
+        Reaction::Return { .. } => true,
+        Reaction::Change { .. } => false,
+    }
+}
+
+// Is it a return of an entry that came back before the file, or by an earlier item of it?
+fn is_repeated_return(earlier: &ReturnedEntries, before: bool, met: &MatchedItem) -> bool
+    ensures { (es : List SentEntry) → HasEntries earlier.now es → result ≡ is_repeated_return es before (matched_item_as met.now) }
+{
+    is_return(met) && (before || earlier.has(&met.entry))
+}
+
+/// Gives the resolution of an item after others, of which these entries came back.
+pub(crate) fn resolution_after(
+    earlier: &ReturnedEntries,
+    found: &FoundItem,
+) -> Result<MatchedItem, SuspenseReason>
+    requires { is_in_range found.now ≡ true }
+    ensures { (es : List SentEntry) → HasEntries earlier.now es → resolution_as result ≡ resolution_after es found.now.item (found_item_as found.now).1 }
+{
+    let met = resolve(entry_of(&found.named), &found.item)?;
+    if is_repeated_return(earlier, was_returned(&found.named), &met) {
+        return Err(SuspenseReason::AlreadyReturned);
+    }
+    Ok(met)
+}

@@ -1,9 +1,0 @@
-use Rattle.std.proofs.Common.{◌≡◌, ◌+◌, drop}
-use Rattle.desk_rules.specs.Submission.{entries_of}
-use Rattle.desk_rules.proofs.EntriesLemmas.{after}
-use Rattle.desk_rules.proofs.submission_fields.check_entries.Given as goal
-
-abbrev pub invariant-loop-draft : goal.invariant-loop-draft
-invariant-loop-draft l =
-    (l.index ≡ l.draft-index)
-    × (entries_of 1 l.drafts ≡ after l.entries (entries_of (l.draft-index + 1) (drop l.draft-index l.drafts)))

@@ -1,0 +1,10 @@
+//! Drafts say what bodies have, and checks say which of them are submissions, retries, days,
+//! companies and limits.
+pub(crate) mod company;
+pub(crate) mod draft;
+pub(crate) mod fields;
+pub(crate) mod operator_fields;
+pub(crate) mod retry_fields;
+pub(crate) mod same_content;
+pub(crate) mod submission;
+pub(crate) mod submission_fields;

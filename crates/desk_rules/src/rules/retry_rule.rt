@@ -1,0 +1,90 @@
+//! May a returned debit be tried again? This is Nacha's rule of reinitiation.
+ghost use Rattle.std.specs.Prelude.{◌≡◌, ◌≤◌, ◌<◌, length};
+ghost use Rattle.desk_rules.specs.Deadlines.{last_rule_day};
+ghost use Rattle.desk_rules.specs.RetryRule.{is_authorized, is_retryable, is_too_late, retry_verdict};
+
+use crate::{Attempt, Refusal, ReturnCode};
+use bank_days::{Calendar, Day};
+
+/// There are at most so many attempts: the original and two retries.
+const MOST_ATTEMPTS: usize = 3;
+
+/// A retry may settle so many days after the original's settlement.
+const MOST_DAYS: i64 = 180;
+
+/// Refuses a retry of a debit, a reinitiation in Nacha's words, in this order:
+///
+/// - `NotReturned`: the original or the newest attempt has not come back;
+/// - `NotRetryable`: the newest return is neither for lack of funds (R01, R09), nor a stopped
+///   payment (R08) that the receiver authorized again, on or after the day on which that return was
+///   taken and not after the desk day;
+/// - `RetriesSpent`: there were two retries;
+/// - `RetryTooLate`: the asked day, rolled to a banking day, is more than 180 days after the
+///   settlement of the original.
+///
+/// The attempts are the original, first, and its retries that have not lapsed, in order. The asked
+/// day is at most 2100-01-31.
+pub fn may_retry(
+    attempts: &[Attempt],
+    asked: Day,
+    authorized: Option<Day>,
+    day: Day,
+    calendar: &Calendar,
+) -> Result<(), Refusal>
+    requires some { 0 < length attempts.now }
+    requires asked { asked ≤ last_rule_day }
+    ensures { result ≡ retry_verdict attempts.now asked authorized day calendar.now }
+{
+    let Attempt::Returned {
+        settled: original,
+        ..
+    } = attempts[0]
+    else {
+        return Err(Refusal::NotReturned);
+    };
+    let Attempt::Returned {
+        code,
+        day: taken,
+        ..
+    } = attempts[attempts.len() - 1]
+    else {
+        return Err(Refusal::NotReturned);
+    };
+    if !is_retryable(code, taken, authorized, day) {
+        return Err(Refusal::NotRetryable(code));
+    }
+    if attempts.len() >= MOST_ATTEMPTS {
+        return Err(Refusal::RetriesSpent);
+    }
+    if is_too_late(original, calendar.roll(asked)) {
+        return Err(Refusal::RetryTooLate);
+    }
+    Ok(())
+}
+
+/// Does a retry settle too late, more than 180 days after its original settled?
+pub fn is_too_late(original: Day, settles: Day) -> bool
+    ensures { result ≡ is_too_late original settles }
+{
+    settles.number() > original.number() + MOST_DAYS
+}
+
+fn is_retryable(code: ReturnCode, taken: Day, authorized: Option<Day>, day: Day) -> bool
+    ensures { result ≡ is_retryable code taken authorized day }
+{
+    match code.number() {
+        1 | 9 => true,
+        8 => is_authorized(authorized, taken, day),
+        _ => false,
+    }
+}
+
+// Did the receiver authorize it again after the return was taken, and not after the desk day?
+fn is_authorized(authorized: Option<Day>, taken: Day, day: Day) -> bool
+    ensures { result ≡ is_authorized authorized taken day }
+{
+    match authorized {
+        Some(authorized) => taken <= authorized && authorized <= day,
+        None => false,
+    }
+}

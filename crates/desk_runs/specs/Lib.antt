@@ -1,6 +1,0 @@
-pub mod Checks
-pub mod Commands
-pub mod Feeding
-pub mod Replies
-pub mod Runs
-pub mod Statuses

@@ -1,0 +1,73 @@
+//! Bodies. That of a submission is answered as the program answers it; the others are read and checked.
+use bank_days::{Calendar, CalendarFault};
+use desk_cli::first_run;
+use desk_json::{
+    company_draft, day_draft, fault_text, limits_draft, read_object, refusal_text, retry_draft,
+};
+use desk_rules::{
+    Refusal, check_company_fields, check_day_field, check_limits_fields, check_retry_fields,
+};
+use serde_json::Value;
+use std::alloc::{AllocError, Global};
+
+/// The digest that a company's key is given: the fields do not depend on it.
+const DIGEST: [u8; 32] = [7; 32];
+
+/// The answer to a body of this kind, with its line ended; none where the words name no kind. `read` says
+/// that a body is read, where no program answers it.
+pub(crate) fn body_answer(
+    alloc: Global,
+    words: &str,
+    body: &str,
+) -> Result<Option<Vec<u8>>, AllocError> {
+    match words {
+        "json submission" => Ok(Some(submission_answer(alloc, body))),
+        "csv holidays" => Ok(Some(holidays_answer(alloc, body)?)),
+        "json retry" | "json day" | "json company" | "json limits" => {
+            let mut answer = object_answer(alloc, words, body)?;
+            answer.push(b'\n')?;
+            Ok(Some(answer))
+        }
+        _ => Ok(None),
+    }
+}
+
+fn submission_answer(alloc: Global, body: &str) -> Vec<u8> {
+    let mut answer = Vec::new(alloc);
+    let _status = first_run(alloc, body.as_bytes(), &mut answer);
+    answer
+}
+
+fn holidays_answer(alloc: Global, list: &str) -> Result<Vec<u8>, AllocError> {
+    let line = match Calendar::read(alloc, list.as_bytes()) {
+        Ok(calendar) => {
+            let days = calendar.holidays().len();
+            format!(in alloc; "read {days} days\n")?
+        }
+        Err(CalendarFault::BadRow(row)) => format!(in alloc; "BadRow at row {row}\n")?,
+        Err(CalendarFault::NotAscending(row)) => format!(in alloc; "NotAscending at row {row}\n")?,
+        Err(CalendarFault::TooMany) => format!(in alloc; "TooMany\n")?,
+        Err(CalendarFault::NoMemory) => return Err(AllocError),
+    };
+    Ok(line.into_bytes())
+}
+
+fn object_answer(alloc: Global, words: &str, body: &str) -> Result<Vec<u8>, AllocError> {
+    let Some(value) = read_object(alloc, body.as_bytes())? else {
+        return fault_text(alloc, "BadJson");
+    };
+    match refusal_of(alloc, words, &value)? {
+        Some(refusal) => refusal_text(alloc, refusal),
+        None => Vec::from_slice(alloc, b"read"),
+    }
+}
+
+// Why the body of an object is refused, if it is.
+fn refusal_of(alloc: Global, words: &str, value: &Value) -> Result<Option<Refusal>, AllocError> {
+    match words {
+        "json retry" => Ok(check_retry_fields(&retry_draft(alloc, value)?).err()),
+        "json day" => Ok(check_day_field(&day_draft(alloc, value)?).err()),
+        "json company" => { Ok(check_company_fields(&company_draft(alloc, value, DIGEST)?).err()) }
+        _ => Ok(check_limits_fields(&limits_draft(alloc, value)?).err()),
+    }
+}

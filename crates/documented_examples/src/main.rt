@@ -1,0 +1,30 @@
+//! The examples of the README and of docs/BODIES.md, each made anew: what is put in is answered by the
+//! library, and what the page prints beneath it has to be that answer.
+//!
+//! The pages lie in data/, as they lie at the top of the repository. For each page a line is printed that
+//! says how many examples agree, and one before it for each that does not.
+#![tactic(auto)]
+
+mod bodies;
+mod commands;
+mod files;
+mod library;
+mod page;
+mod refusals;
+
+use std::{fs, io};
+
+const PAGES: [&str; 2] = ["README.md", "docs/BODIES.md"];
+
+fn main(rt: HostRuntime) -> io::Result<()> {
+    for name in PAGES {
+        let text = fs::read_to_string(&rt, name)?;
+        let agreed = page::compare(&rt, name, text.as_str())?;
+        println!(rt; "{name}: {agreed} examples agree")?;
+    }
+    let text = fs::read_to_string(&rt, "docs/BODIES.md")?;
+    let listed = refusals::listed(rt.alloc(), text.as_str())?;
+    println!(rt; "docs/BODIES.md: {listed} refusals are listed")?;
+    let pay = fs::read(&rt, "examples/pay-1.json")?;
+    library::show(&rt, pay.as_slice())
+}
