@@ -14,7 +14,7 @@ abbrev pub days_in_year : ℕ → ℕ
 days_in_year y = if is_leap_year y then 366 else 365
 
 -- thirty days have April, June, September and November
-abbrev pub days_in_month : ℕ → ℕ → ℕ
+abbrev pub days_in_month : (year : ℕ) → (month : ℕ) → ℕ
 days_in_month y m =
     if m == 2 then (if is_leap_year y then 29 else 28)
     else (if (m == 4) || (m == 6) || (m == 9) || (m == 11) then 30 else 31)
@@ -41,7 +41,7 @@ days_of_years zero = 0
 days_of_years (suc n) = days_of_years n + days_in_year (1970 + n)
 
 -- the days of so many months of a year, from January on
-unfoldable pub days_of_months : ℕ → ℕ → ℕ
+unfoldable pub days_of_months : (year : ℕ) → (count : ℕ) → ℕ
 days_of_months y zero = 0
 days_of_months y (suc m) = days_of_months y m + days_in_month y (suc m)
 

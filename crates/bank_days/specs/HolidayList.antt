@@ -22,18 +22,18 @@ abbrev pub last_of : List ℕ → Option ℕ
 last_of days = slice_get days (length days - 1)
 
 -- is a day after that of the row before, if there is one?
-abbrev pub is_after : Option ℕ → ℕ → Bool
+abbrev pub is_after : Option ℕ → (day : ℕ) → Bool
 is_after None d = true
 is_after (Some before) d = nat_lt before d
 
 -- why row n may not stand in a list, after the row before it
-abbrev pub row_fault : ℕ → Option ℕ → Option ℕ → Option CalendarFault
+abbrev pub row_fault : ℕ → (before : Option ℕ) → Option ℕ → Option CalendarFault
 row_fault n before None = Some (BadRow n)
 row_fault n before (Some d) =
     if is_after before d then (if nat_lt most_holidays n then Some TooMany else None) else Some (NotAscending n)
 
 -- the fault of the first row that has one, of the rows from number n on
-unfoldable pub first_fault : ℕ → Option ℕ → List (Option ℕ) → Option CalendarFault
+unfoldable pub first_fault : ℕ → (before : Option ℕ) → List (Option ℕ) → Option CalendarFault
 first_fault n before [] = None
 first_fault n before (row ∷ rows) = option_or (row_fault n before row) (first_fault (n + 1) row rows)
 

@@ -53,7 +53,7 @@ pub record AreDaySums (account : Account) (postings : List Posting) (rows : List
   pub sums : All (λ row. row.1 ≡ total (lines_on row.0 (lines_of account postings))) rows
 
 -- a day in its place among ascending days, once
-abbrev pub with_day : ℕ → List ℕ → List ℕ
+abbrev pub with_day : (day : ℕ) → List ℕ → List ℕ
 with_day day [] = day ∷ []
 with_day day (d ∷ days) = if day == d then d ∷ days else (if nat_lt day d then day ∷ d ∷ days else d ∷ with_day day days)
 

@@ -27,24 +27,24 @@ abbrev pub posting_pair : ℕ → Posting → Option (List Posting)
 posting_pair cents line = if cents == 0 then None else Some (with_opposite line)
 
 -- the cut takes a credit's cents from the account of the company and brings it a debit's
-abbrev pub cut_cents : Bool → ℕ → ℤ
+abbrev pub cut_cents : (debit : Bool) → (cents : ℕ) → ℤ
 cut_cents debit cents = if debit then pos cents else neg_ℤ (pos cents)
 
 -- a return brings a credit's cents back and takes back a debit's
-abbrev pub return_cents : Bool → ℕ → ℤ
+abbrev pub return_cents : (debit : Bool) → (cents : ℕ) → ℤ
 return_cents debit cents = if debit then neg_ℤ (pos cents) else pos cents
 
 -- the company's line of a submission that was cut
-abbrev pub cut_line : List ℕ → Bool → ℕ → ℕ → List ℕ → Posting
+abbrev pub cut_line : (company : List ℕ) → (debit : Bool) → (cents : ℕ) → (value_day : ℕ) → (reference : List ℕ) → Posting
 cut_line company debit cents value_day reference =
     record { account = Company company; value_day = value_day; cents = cut_cents debit cents; cause = Cut; reference = Some reference; idx = 0 }
 
 -- the company's line of an entry that was returned
-abbrev pub return_line : List ℕ → Bool → ℕ → ℕ → List ℕ → ℕ → Posting
+abbrev pub return_line : (company : List ℕ) → (debit : Bool) → (cents : ℕ) → (value_day : ℕ) → (reference : List ℕ) → (idx : ℕ) → Posting
 return_line company debit cents value_day reference idx =
     record { account = Company company; value_day = value_day; cents = return_cents debit cents; cause = Return; reference = Some reference; idx = idx }
 
 -- the line of a return whose entry is not known
-abbrev pub suspense_line : Bool → ℕ → ℕ → Posting
+abbrev pub suspense_line : (debit : Bool) → (cents : ℕ) → (value_day : ℕ) → Posting
 suspense_line debit cents value_day =
     record { account = Suspense; value_day = value_day; cents = return_cents debit cents; cause = Return; reference = None; idx = 0 }

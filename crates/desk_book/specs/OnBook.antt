@@ -40,7 +40,7 @@ row_report row = report row.content row.order row.retry (map reported_entry (enu
 abbrev pub line_of : Posting → StatementLine
 line_of p = record { cause = p.cause; cents = p.cents; day = p.value_day; index = p.idx; reference = unwrap_or p.reference [] }
 
-abbrev pub statement_on : Book → List ℕ → ℕ → Statement
+abbrev pub statement_on : Book → (company : List ℕ) → (day : ℕ) → Statement
 statement_on b c d = record {
   balance = balance (accounts.Company c) d (b.lines (accounts.Company c));
   day = d;

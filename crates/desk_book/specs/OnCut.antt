@@ -27,32 +27,32 @@ use Rattle.desk_book.specs.Steps.{CutWrite, commit_cut}
 
 -- ---- what is due
 
-abbrev pub is_due : List ℕ → ℕ → HeldSubmission → Bool
+abbrev pub is_due : (holidays : List ℕ) → (today : ℕ) → HeldSubmission → Bool
 is_due holidays today w = is_due_row holidays today w.row
 
 -- the day on which it would settle
-abbrev pub settles : List ℕ → ℕ → HeldSubmission → ℕ
+abbrev pub settles : (holidays : List ℕ) → (today : ℕ) → HeldSubmission → ℕ
 settles holidays today w = settlement_of holidays today w.row
 
 -- a retry lapses where it would settle too long after its original
-abbrev pub lapses : List ℕ → ℕ → HeldSubmission → Bool
+abbrev pub lapses : (holidays : List ℕ) → (today : ℕ) → HeldSubmission → Bool
 lapses holidays today w = is_too_late (Some (settles holidays today w)) w.original_settled
 
-abbrev pub due_submissions : List ℕ → ℕ → List HeldSubmission → List HeldSubmission
+abbrev pub due_submissions : (holidays : List ℕ) → (today : ℕ) → List HeldSubmission → List HeldSubmission
 due_submissions holidays today ws = filter (is_due holidays today) ws
 
-abbrev pub sending_of : List ℕ → ℕ → HeldSubmission → Sending
+abbrev pub sending_of : (holidays : List ℕ) → (today : ℕ) → HeldSubmission → Sending
 sending_of holidays today w = record { company = w.company; order = w.row.order; content = w.row.content; settled = settles holidays today w }
 
 -- what is sent, in the order in which it waits
-abbrev pub sendings : List ℕ → ℕ → List HeldSubmission → List Sending
+abbrev pub sendings : (holidays : List ℕ) → (today : ℕ) → List HeldSubmission → List Sending
 sendings holidays today ws = map (sending_of holidays today) (filter (λ w. not (lapses holidays today w)) (due_submissions holidays today ws))
 
 abbrev pub lapsed_row : HeldSubmission → LapsedRow
 lapsed_row w = record { company = w.company.id; order = w.row.order }
 
 -- what lapses
-abbrev pub lapses_among : List ℕ → ℕ → List HeldSubmission → List LapsedRow
+abbrev pub lapses_among : (holidays : List ℕ) → (today : ℕ) → List HeldSubmission → List LapsedRow
 lapses_among holidays today ws = map lapsed_row (filter (lapses holidays today) (due_submissions holidays today ws))
 
 -- ---- batches and files

@@ -87,14 +87,14 @@ resolutions xs = resolutions_after [] xs
 
 -- ---- what a file writes
 
-abbrev pub returned_row_of : List ℕ → ℕ → SentEntry → Event → Option ReturnedRow
+abbrev pub returned_row_of : (holidays : List ℕ) → (day : ℕ) → SentEntry → Event → Option ReturnedRow
 returned_row_of holidays d e (Returned reference index code information) = Some (record {
   company = e.company;
   row = record { code = code; day = d; index = index; info = information; late = is_late code e.settled d holidays; reference = reference };
 })
 returned_row_of holidays d e _ = None
 
-abbrev pub returned_row : List ℕ → ℕ → Result ResolvedItem SuspenseReason → Option ReturnedRow
+abbrev pub returned_row : (holidays : List ℕ) → (day : ℕ) → Result ResolvedItem SuspenseReason → Option ReturnedRow
 returned_row holidays d (Ok x) = returned_row_of holidays d x.entry x.event
 returned_row holidays d (Err why) = None
 

@@ -28,7 +28,7 @@ use Rattle.desk_book.specs.Steps.{Step}
 -- ---- what a command sets, or why it is refused
 
 -- a new desk day is a banking day after the old one
-abbrev pub new_day : Option ℕ → List ℕ → Option (List ℕ) → Result ℕ rules.Refusal
+abbrev pub new_day : (day : Option ℕ) → (holidays : List ℕ) → (text : Option (List ℕ)) → Result ℕ rules.Refusal
 new_day day holidays text = do
   d ← desk_day_in text
   _ ← holds_or DayNotLater (is_later day d)
@@ -87,7 +87,7 @@ limits_after d b = with_step (λ x. steps.put_limits x.0 x.1) (new_limits b.comp
 
 -- ---- what the operator reads
 
-abbrev pub file_answer : ℕ → ℕ → Book → Answer
+abbrev pub file_answer : (day : ℕ) → (modifier : ℕ) → Book → Answer
 file_answer d modifier b = answers.Done (done.File (b.file d modifier))
 
 -- the operator's account on a day

@@ -24,7 +24,7 @@ key_of (callers.Company c) b = option_map (λ k. k.digest) (find (has_id c) b.co
 abbrev pub company : List ℕ → Book → Option Company
 company c b = find (has_id c) b.companies
 
-abbrev pub submission : List ℕ → List ℕ → Book → Option Row
+abbrev pub submission : (company : List ℕ) → (reference : List ℕ) → Book → Option Row
 submission c reference b = row_under (b.rows c) reference
 
 -- a held submission with its company, and for a retry the day on which its original settled
@@ -42,7 +42,7 @@ abbrev pub sent_count : Book → ℕ
 sent_count b = length b.sent
 
 -- the latest settlement of the youngest entries of sequences from the first to the last
-abbrev pub latest_settled : ℕ → ℕ → Book → Option ℕ
+abbrev pub latest_settled : (from : ℕ) → (to : ℕ) → Book → Option ℕ
 latest_settled from to b = plan.latest_settled (map sending.sent_sequence b.sent) (from, to)
 
 -- the youngest entry that has a trace

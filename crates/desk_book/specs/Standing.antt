@@ -99,7 +99,7 @@ row_entry_of rs r = option_and_then (λ row. row_entry_at row r.index) (row_unde
 abbrev pub state_at : Row → ℕ → EntryState
 state_at row index = unwrap_or (slice_get row.states (index - 1)) states.Held
 
-abbrev pub retry_rows : List Row → List ℕ → ℕ → List Row
+abbrev pub retry_rows : List Row → (of : List ℕ) → (index : ℕ) → List Row
 retry_rows rs of index = filter (λ row. is_same_entry of index row.retry) rs
 
 -- the entry and its retries that have not lapsed, in order
@@ -141,11 +141,11 @@ rows_after_request st _ = st.rows
 abbrev pub is_held : Row → Bool
 is_held row = is_none row.settled && not row.lapsed
 
-abbrev pub is_due_row : List ℕ → ℕ → Row → Bool
+abbrev pub is_due_row : (holidays : List ℕ) → (today : ℕ) → Row → Bool
 is_due_row holidays today row = is_due holidays today (is_debit row.content.direction) row.content.day
 
 -- the day on which a cut would make it settle
-abbrev pub settlement_of : List ℕ → ℕ → Row → ℕ
+abbrev pub settlement_of : (holidays : List ℕ) → (today : ℕ) → Row → ℕ
 settlement_of holidays today row = next_settlement holidays today row.content.day
 
 -- when the original of a retry settled
@@ -160,10 +160,10 @@ abbrev pub lapsed_row : Row → Row
 lapsed_row row = record row { lapsed = true; states = map (λ s. states.Lapsed) row.states }
 
 -- a cut sends a row that is due, or lets it lapse where it would settle too long after its original
-abbrev pub decided_row : ℕ → Option ℕ → Row → Row
+abbrev pub decided_row : (on : ℕ) → (original : Option ℕ) → Row → Row
 decided_row on original row = if is_too_late (Some on) original then lapsed_row row else sent_row on row
 
-abbrev pub cut_row : List ℕ → ℕ → List Row → Row → Row
+abbrev pub cut_row : (holidays : List ℕ) → (today : ℕ) → List Row → Row → Row
 cut_row holidays today rs row =
     if is_held row && is_due_row holidays today row
     then decided_row (settlement_of holidays today row) (original_of_row rs row.retry) row
@@ -173,7 +173,7 @@ abbrev pub rows_after_cut : Standing → List Row
 rows_after_cut st = map (cut_row st.holidays (unwrap_or st.day 0) st.rows) st.rows
 
 -- a sent entry comes back
-abbrev pub returned_state : List ℕ → ℕ → ℕ → EntryState → EntryState
+abbrev pub returned_state : (holidays : List ℕ) → (today : ℕ) → (code : ℕ) → EntryState → EntryState
 returned_state holidays today code (states.Sent on) = states.Returned on code today (is_late code on today holidays)
 returned_state holidays today code s = s
 
@@ -184,8 +184,8 @@ change_state reference index change row =
     then record row { states = map (λ x. if x.0 == index then change x.1 else x.1) (enumerate_from 1 row.states) }
     else row
 
-abbrev pub returned_row : List ℕ → ℕ → List ℕ → ℕ → ℕ → Row → Row
+abbrev pub returned_row : (holidays : List ℕ) → (today : ℕ) → (reference : List ℕ) → (index : ℕ) → (code : ℕ) → Row → Row
 returned_row holidays today reference index code row = change_state reference index (returned_state holidays today code) row
 
-abbrev pub rows_after_return : Standing → List ℕ → ℕ → ℕ → List Row
+abbrev pub rows_after_return : Standing → (reference : List ℕ) → (index : ℕ) → (code : ℕ) → List Row
 rows_after_return st reference index code = map (returned_row st.holidays (unwrap_or st.day 0) reference index code) st.rows

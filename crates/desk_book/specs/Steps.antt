@@ -28,7 +28,7 @@ pub record Step : Type 1 where
   pub after : Book → Book
 
 -- the look-up with another value at one text
-abbrev pub change_at : {A : Type 0} → List ℕ → (A → A) → (List ℕ → A) → List ℕ → A
+abbrev pub change_at : {A : Type 0} → (at : List ℕ) → (A → A) → (List ℕ → A) → (company : List ℕ) → A
 change_at at change f c = if bytes_eq at c then change (f c) else f c
 
 abbrev pub set_day : ℕ → Step
@@ -48,7 +48,7 @@ abbrev pub put_limits : List ℕ → Limits → Step
 put_limits id limits = record { Admits = λ _. ⊤; after = λ b. record b { companies = map (with_limits id limits) b.companies } }
 
 -- a company's next submission or retry, held
-abbrev pub add_submission : List ℕ → ℕ → Submission → Option Retry → Step
+abbrev pub add_submission : (company : List ℕ) → (order : ℕ) → Submission → Option Retry → Step
 add_submission c order s retry = record {
   Admits = λ b. order ≡ length (b.rows c) + 1;
   after = λ b. record b { rows = change_at c (λ rs. rs ++ next_row rs s retry ∷ []) b.rows };
@@ -82,7 +82,7 @@ abbrev pub put_postings : List Posting → Book → Book
 put_postings ps b = record b { lines = λ account. b.lines account ++ lines_of account ps }
 
 -- the file of a day that has this modifier
-abbrev pub is_file : ℕ → ℕ → FileRow → Bool
+abbrev pub is_file : (day : ℕ) → (modifier : ℕ) → FileRow → Bool
 is_file d modifier f = f.day == d && f.modifier == modifier
 
 -- one file is kept; no file of the day has its modifier

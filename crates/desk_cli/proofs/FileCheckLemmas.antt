@@ -12,7 +12,8 @@ use Rattle.desk_cli.proofs.FeedingLemmas.{FaultsStand}
 use Rattle.desk_cli.proofs.PrintingLemmas.{Answer}
 use Rattle.desk_cli.specs.FileChecks.{verdict_answer, IsVerdict, IsVerdictOn, IsCheckAnswer, HasChecked, IsFailedCheck}
 use Rattle.desk_cli.specs.BodyAnswers.{IsAnswer}
-use Rattle.desk_cli.specs.Printing.{PrintsLine, PrintsPrefix, PrintsPrefixOf, status_of, with_line_feed}
+use Rattle.desk_cli.specs.Printing.{PrintsLine, PrintsPrefixOf, status_of, with_line_feed}
+use Rattle.io_retries.specs.Prefixes.{AppendsPrefix}
 use Rattle.desk_cli.specs.Inputs.{most_read}
 use Rattle.desk_cli.specs.declared.commands.status.Status.{Status}
 use Rattle.desk_cli.specs.declared.commands.file_verdict.Verdict.{Verdict}
@@ -74,4 +75,4 @@ checked input old new (Some a) status is printed =
 pub check_failed : (input old new : Option (List ℕ)) (answer : Answer)
     → IfSome answer (IsCheckAnswer input) → PrintsPrefixOf old new answer → IsFailedCheck input old new
 check_failed input old new None is prefix = inl prefix
-check_failed input old new (Some a) is prefix = inr (is.0, is.1, subst (λ t. PrintsPrefix old new t) is.2.1 prefix)
+check_failed input old new (Some a) is prefix = inr (is.0, is.1, subst (λ t. AppendsPrefix old new t) is.2.1 prefix)

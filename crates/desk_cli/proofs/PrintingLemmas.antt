@@ -1,7 +1,8 @@
 -- What the command that answers a submission prints.
 use Rattle.std.proofs.Common.{inl, inr, ℕ, Bool, List, Option, Some, None, IfSome, ap, ◌∙◌, subst, Vec, Global}
 use Rattle.desk_cli.specs.BodyAnswers.{IsAnswer}
-use Rattle.desk_cli.specs.Printing.{PrintsLine, PrintsPrefix, PrintsPrefixOf, status_of, with_line_feed}
+use Rattle.desk_cli.specs.Printing.{PrintsLine, PrintsPrefixOf, status_of, with_line_feed}
+use Rattle.io_retries.specs.Prefixes.{AppendsPrefix}
 use Rattle.desk_cli.specs.SubmissionRuns.{HasAnswered, IsFailedRun, first_run_answer}
 use Rattle.desk_cli.specs.declared.commands.status.Status.{Status}
 use Rattle.std.specs.Io.KnownBytes.{Appends}
@@ -25,4 +26,4 @@ pub is_failed_run : (input old new : Option (List ℕ)) (given : Answer)
     → IsInputAnswer input given → PrintsPrefixOf old new given → IsFailedRun input old new
 is_failed_run input old new None is prefix = inl prefix
 is_failed_run None old new (Some g) is prefix = inr tt
-is_failed_run (Some body) old new (Some g) is prefix = inr (subst (λ t. PrintsPrefix old new t) is.1 prefix)
+is_failed_run (Some body) old new (Some g) is prefix = inr (subst (λ t. AppendsPrefix old new t) is.1 prefix)

@@ -6,7 +6,8 @@ use Rattle.desk_cli.specs.declared.words.command.Command.TheVariants.{AnswerSubm
 use Rattle.desk_cli.specs.declared.words.command.LineFault.{LineFault}
 use Rattle.desk_cli.specs.declared.words.command.LineFault.TheVariants.{Help, Usage, NoMemory}
 use Rattle.desk_cli.specs.FileChecks.{HasChecked, IsFailedCheck}
-use Rattle.desk_cli.specs.Printing.{unavailable, PrintsPrefix}
+use Rattle.desk_cli.specs.Printing.{unavailable}
+use Rattle.io_retries.specs.Prefixes.{AppendsPrefix}
 use Rattle.desk_cli.specs.SubmissionRuns.{HasAnswered, IsFailedRun}
 use Rattle.desk_cli.specs.declared.commands.status.Status.{Status}
 
@@ -23,10 +24,10 @@ FailsToCarryOut (Check path) input old new = IsFailedCheck None old new
 -- the text is printed and the exit status is this code, or a prefix of the text and 3
 abbrev pub PrintsWithCode : (old new : Option (List ℕ)) → (text : List ℕ) → (code given : ℕ) → Type 0
 PrintsWithCode old new text code given =
-    (Appends old new text × (given ≡ code)) ⊎ (PrintsPrefix old new text × (given ≡ 3))
+    (Appends old new text × (given ≡ code)) ⊎ (AppendsPrefix old new text × (given ≡ 3))
 
 -- the text of help with 0, of usage with 2, or `unavailable` with 3, as far as the writer takes it
 abbrev pub PrintsLineFault : LineFault → (old new : Option (List ℕ)) → (given : ℕ) → Type 0
 PrintsLineFault (Help text) old new given = PrintsWithCode old new (string_bytes text) 0 given
 PrintsLineFault (Usage text) old new given = PrintsWithCode old new (string_bytes text) 2 given
-PrintsLineFault NoMemory old new given = PrintsPrefix old new unavailable × (given ≡ 3)
+PrintsLineFault NoMemory old new given = AppendsPrefix old new unavailable × (given ≡ 3)

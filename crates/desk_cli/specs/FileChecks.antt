@@ -11,7 +11,8 @@ use Rattle.ach_files.specs.declared.facts.ReturnOrChange.{ReturnOrChange}
 use Rattle.ach_files.specs.declared.facts.ReturnOrChange.TheVariants.{Return, Change}
 use Rattle.desk_cli.specs.Feeding.{MayHave}
 use Rattle.desk_cli.specs.BodyAnswers.{IsAnswer}
-use Rattle.desk_cli.specs.Printing.{with_line_feed, unavailable, PrintsPrefix, PrintsAnswer}
+use Rattle.desk_cli.specs.Printing.{with_line_feed, unavailable, PrintsAnswer}
+use Rattle.io_retries.specs.Prefixes.{AppendsPrefix}
 use Rattle.desk_cli.specs.declared.commands.status.Status.{Status}
 use Rattle.desk_cli.specs.declared.commands.file_verdict.Verdict.{Verdict}
 use Rattle.desk_cli.specs.declared.commands.file_verdict.Verdict.TheVariants.{Fine, Faulty}
@@ -63,5 +64,5 @@ HasChecked input old new status = (verdict : Verdict) × IsVerdictOn input verdi
 -- a check that failed printed a prefix of `unavailable`, or of its answer
 abbrev pub IsFailedCheck : (input old new : Option (List ℕ)) → Type 0
 IsFailedCheck input old new =
-    PrintsPrefix old new unavailable
-    ⊎ ((verdict : Verdict) × IsVerdictOn input verdict × PrintsPrefix old new (with_line_feed (verdict_answer verdict)).1)
+    AppendsPrefix old new unavailable
+    ⊎ ((verdict : Verdict) × IsVerdictOn input verdict × AppendsPrefix old new (with_line_feed (verdict_answer verdict)).1)

@@ -1,7 +1,8 @@
 -- What a command prints of its answer, and the status that it ends with.
-use Rattle.std.specs.Prelude.{◌≡◌, Option, None, Some, ℕ, Bool, List, [], ◌∷◌, ◌++◌, take, if◌then◌else◌, codes, Vec}
+use Rattle.std.specs.Prelude.{◌≡◌, Option, None, Some, ℕ, Bool, List, [], ◌∷◌, ◌++◌, if◌then◌else◌, codes, Vec}
 use Rattle.std.specs.declared.alloc.Global.{Global}
 use Rattle.std.specs.Io.KnownBytes.{Appends}
+use Rattle.io_retries.specs.Prefixes.{AppendsPrefix}
 use Rattle.desk_cli.specs.declared.commands.status.Status.{Status}
 use Rattle.desk_cli.specs.declared.commands.status.Status.TheVariants.{Done, Refused}
 
@@ -17,10 +18,6 @@ status_of is_accepted = if is_accepted then Done else Refused
 abbrev pub unavailable : List ℕ
 unavailable = codes "unavailable" ++ 10 ∷ []
 
--- the writer took a prefix of the text, perhaps all of it or nothing
-abbrev pub PrintsPrefix : (old new : Option (List ℕ)) → (text : List ℕ) → Type 0
-PrintsPrefix old new text = (n : ℕ) × Appends old new (take n text)
-
 -- the answer stands after what the writer held, and the command ended as it says
 abbrev pub PrintsAnswer : (old new : Option (List ℕ)) → (answer : Bool × List ℕ) → Status → Type 0
 PrintsAnswer old new answer status = (status ≡ status_of answer.0) × Appends old new (with_line_feed answer).1
@@ -32,5 +29,5 @@ PrintsLine old new (Some given) status = (status ≡ status_of given.0) × Appen
 
 -- the writer took a prefix of that line, or of `unavailable` where there was none
 abbrev pub PrintsPrefixOf : (old new : Option (List ℕ)) → (given : Option (Bool × Vec ℕ Global)) → Type 0
-PrintsPrefixOf old new None = PrintsPrefix old new unavailable
-PrintsPrefixOf old new (Some given) = PrintsPrefix old new given.1.items
+PrintsPrefixOf old new None = AppendsPrefix old new unavailable
+PrintsPrefixOf old new (Some given) = AppendsPrefix old new given.1.items

@@ -4,7 +4,8 @@ use Rattle.serde_json.specs.Written.{compact_text}
 use Rattle.desk_json.specs.Refusals.{fault_body}
 use Rattle.desk_cli.specs.BodyAnswers.{submission_answer}
 use Rattle.desk_cli.specs.Inputs.{most_input}
-use Rattle.desk_cli.specs.Printing.{with_line_feed, unavailable, PrintsAnswer, PrintsPrefix}
+use Rattle.desk_cli.specs.Printing.{with_line_feed, unavailable, PrintsAnswer}
+use Rattle.io_retries.specs.Prefixes.{AppendsPrefix}
 use Rattle.desk_cli.specs.declared.commands.status.Status.{Status}
 
 -- the answer to a body of any length
@@ -19,5 +20,5 @@ HasAnswered input old new status = IfSome input (λ body. PrintsAnswer old new (
 -- a command that failed printed a prefix of `unavailable`, or of its answer
 abbrev pub IsFailedRun : (input old new : Option (List ℕ)) → Type 0
 IsFailedRun input old new =
-    PrintsPrefix old new unavailable
-    ⊎ IfSome input (λ body. PrintsPrefix old new (with_line_feed (first_run_answer body)).1)
+    AppendsPrefix old new unavailable
+    ⊎ IfSome input (λ body. AppendsPrefix old new (with_line_feed (first_run_answer body)).1)

@@ -57,16 +57,16 @@ reference_verdict same None fresh = fresh
 reference_verdict same (Some row) fresh = known_verdict (same row) row
 
 -- a submission whose fields are right
-abbrev pub submission_on : Book → List ℕ → Limits → ℕ → Submission → Verdict
+abbrev pub submission_on : Book → (company : List ℕ) → Limits → (today : ℕ) → Submission → Verdict
 submission_on b c limits today s =
     reference_verdict (λ row. is_same_submission s row.content row.retry) (row_under (b.rows c) s.reference) (fresh_verdict (length (b.rows c) + 1) None (new_content (facts_in (b.rows c)) b.holidays limits today s))
 
 -- a retry whose fields are right, of a company with these rows
-abbrev pub retry_among : List Row → List ℕ → Limits → ℕ → Retry → Verdict
+abbrev pub retry_among : List Row → (holidays : List ℕ) → Limits → (today : ℕ) → Retry → Verdict
 retry_among rs holidays limits today r =
     reference_verdict (λ row. is_same_retry r row.retry) (row_under rs r.reference) (fresh_verdict (length rs + 1) (Some r) (retry_content_among rs holidays limits today r))
 
-abbrev pub retry_on : Book → List ℕ → Limits → ℕ → Retry → Verdict
+abbrev pub retry_on : Book → (company : List ℕ) → Limits → (today : ℕ) → Retry → Verdict
 retry_on b c limits today r = retry_among (b.rows c) b.holidays limits today r
 
 -- the limits of a registered company, and the desk day

@@ -33,7 +33,7 @@ pub record IsNumbered (holidays : List ℕ) (day last : ℕ) (waiting : List Hel
       ≡ list_all (is_past day) (map (latest_settled sent) (ranges_of sent (map plan_of (sendings holidays day waiting))))
 
 -- Two batches would have a sequence in common; or what waits stands in no history, or memory was refused.
-abbrev pub HasNoRanges : ℕ → ℕ → List Sending → CutFault → Type 0
+abbrev pub HasNoRanges : (day : ℕ) → (last : ℕ) → List Sending → CutFault → Type 0
 HasNoRanges day last ss TracesSpent = (are_apart (ranges_after last ss) ≡ false) × ((sent : List SentSequence) → last_sequence sent ≡ last → may_send day sent (map plan_of ss) ≡ false)
 HasNoRanges day last ss ModifiersSpent = ⊥
 HasNoRanges day last ss fault = ⊤

@@ -13,7 +13,7 @@ use Rattle.desk_cut.specs.declared.fault.CutFault.TheVariants.{TracesSpent, Modi
 use Rattle.desk_cut.specs.declared.plan.CutPlan.{CutPlan}
 
 -- the cut of these values
-abbrev pub cut_of : Identity → ℕ → List ℕ → ℕ → ℕ → List HeldSubmission → CutFacts
+abbrev pub cut_of : Identity → (day : ℕ) → (holidays : List ℕ) → (last : ℕ) → (made : ℕ) → List HeldSubmission → CutFacts
 cut_of identity day holidays last made waiting = record { identity = identity; day = day; holidays = holidays; last = last; made = made; waiting = waiting }
 
 -- The entries that were sent before are as the plan was told: they end with the last sequence, and for

@@ -23,11 +23,11 @@ is_answer (Returned reference index code information) = true
 is_answer (Changed reference index code text) = true
 is_answer _ = false
 
-abbrev pub is_entry : List ℕ → List ℕ → ℕ → SentEntry → Bool
+abbrev pub is_entry : (company : List ℕ) → (reference : List ℕ) → (index : ℕ) → SentEntry → Bool
 is_entry c reference index e = bytes_eq e.company c && bytes_eq e.reference reference && e.index == index
 
 -- an item that names the entry by the trace that it has there, and agrees with it
-abbrev pub return_item : List ℕ → ℕ → List ℕ → SentEntry → ItemFacts
+abbrev pub return_item : (odfi : List ℕ) → (code : ℕ) → (information : List ℕ) → SentEntry → ItemFacts
 return_item odfi code information e = record {
   sec_code = sec_text e.sec;
   transaction_code = returned_transaction e;
@@ -38,7 +38,7 @@ return_item odfi code information e = record {
   return_or_change = kinds.Return information;
 }
 
-abbrev pub change_item : List ℕ → List ℕ → List ℕ → SentEntry → ItemFacts
+abbrev pub change_item : (odfi : List ℕ) → (code : List ℕ) → (text : List ℕ) → SentEntry → ItemFacts
 change_item odfi code text e = record {
   sec_code = codes "COR";
   transaction_code = returned_transaction e;
@@ -49,7 +49,7 @@ change_item odfi code text e = record {
   return_or_change = kinds.Change text;
 }
 
-abbrev pub item_for : List ℕ → List ℕ → List SentEntry → Event → Option ItemFacts
+abbrev pub item_for : (odfi : List ℕ) → (company : List ℕ) → List SentEntry → Event → Option ItemFacts
 item_for odfi c sent_entries (Returned reference index code information) = option_map (return_item odfi code information) (find (is_entry c reference index) sent_entries)
 item_for odfi c sent_entries (Changed reference index code text) = option_map (change_item odfi code text) (find (is_entry c reference index) sent_entries)
 item_for odfi c sent_entries _ = None

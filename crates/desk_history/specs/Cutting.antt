@@ -19,7 +19,7 @@ use Rattle.desk_history.specs.History.{day, companies, part, sent_entries}
 abbrev pub lapse_count : List ℕ → List Pair → ℕ
 lapse_count odfi H = sum_by (λ k. count_by (lapses_next (part odfi H k.id)) (submissions (part odfi H k.id))) (companies H)
 
-abbrev pub cut_summary : List ℕ → List Pair → ℕ → CutSummary
+abbrev pub cut_summary : (odfi : List ℕ) → List Pair → (day : ℕ) → CutSummary
 cut_summary odfi H d = record {
   day = d;
   entries = sum_by (λ s. length (entries_in s)) (cut_sendings odfi H);
@@ -29,7 +29,7 @@ cut_summary odfi H d = record {
 
 -- May a cut of the day be made? Each batch takes only sequences that may be used when the batches before
 -- it are sent, and the day has modifiers for so many files.
-abbrev pub cut_verdict : ℕ → List SentEntry → List Sending → ℕ → Result (Unit {0}) Refusal
+abbrev pub cut_verdict : (day : ℕ) → List SentEntry → List Sending → (count : ℕ) → Result (Unit {0}) Refusal
 cut_verdict d sent sendings count = do
   _ ← holds_or TracesSpent (may_send d (map sent_sequence sent) (map plan_of sendings))
   holds_or ModifiersSpent (nat_le count most_files)

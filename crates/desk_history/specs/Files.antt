@@ -44,10 +44,10 @@ abbrev pub file_count : ℕ → List File → ℕ
 file_count d files = count_by (λ f. f.day == d) files
 
 -- the files of a cut on a day that has so many already: A to Z, then 0 to 9
-abbrev pub files_from : ℕ → ℕ → List (List NumberedBatch) → List File
+abbrev pub files_from : (day : ℕ) → (made : ℕ) → List (List NumberedBatch) → List File
 files_from day made runs = map (λ x. record { day = day; modifier = modifier_at x.0; batches = x.1 }) (enumerate_from made runs)
 
-abbrev pub files_after : Bool → Message → ℕ → List NumberedBatch → List File → List File
+abbrev pub files_after : (accepted : Bool) → Message → (day : ℕ) → List NumberedBatch → List File → List File
 files_after true Cut d bs before = before ++ files_from d (file_count d before) (runs_of bs)
 files_after _ _ d bs before = before
 
@@ -57,25 +57,25 @@ files odfi [] = []
 files odfi (x ∷ H) = files_after (is_accepted x.answer) x.message (unwrap_or (day H) 0) (cut_batches odfi H) (files odfi H)
 
 -- those that a cut after the history makes on a day
-abbrev pub new_files : List ℕ → List Pair → ℕ → List File
+abbrev pub new_files : (odfi : List ℕ) → List Pair → (day : ℕ) → List File
 new_files odfi H d = files_from d (file_count d (files odfi H)) (runs_of (cut_batches odfi H))
 
-abbrev pub is_file : ℕ → ℕ → File → Bool
+abbrev pub is_file : (day : ℕ) → (modifier : ℕ) → File → Bool
 is_file d modifier f = f.day == d && f.modifier == modifier
 
-abbrev pub file_at : List ℕ → List Pair → ℕ → ℕ → Option File
+abbrev pub file_at : (odfi : List ℕ) → List Pair → (day : ℕ) → (modifier : ℕ) → Option File
 file_at odfi H d modifier = find (is_file d modifier) (files odfi H)
 
 -- ---- where a submission was printed
 
-abbrev pub is_batch_of : List ℕ → ℕ → ℕ × NumberedBatch → Bool
+abbrev pub is_batch_of : (company : List ℕ) → (order : ℕ) → ℕ × NumberedBatch → Bool
 is_batch_of c order x = bytes_eq x.1.sending.company.id c && x.1.sending.order == order
 
-abbrev pub places_in_file : List ℕ → ℕ → File → List FilePlace
+abbrev pub places_in_file : (company : List ℕ) → (order : ℕ) → File → List FilePlace
 places_in_file c order f =
     map (λ x. record { day = f.day; modifier = f.modifier; batch = x.0 }) (filter (is_batch_of c order) (enumerate_from 1 f.batches))
 
-abbrev pub file_places : List ℕ → List Pair → List ℕ → ℕ → List FilePlace
+abbrev pub file_places : (odfi : List ℕ) → List Pair → (company : List ℕ) → (order : ℕ) → List FilePlace
 file_places odfi H c order = flat_map (places_in_file c order) (files odfi H)
 
 -- ---- the text of a file

@@ -119,7 +119,7 @@ request_event _ _ = []
 
 -- A company's own requests count whatever was answered, commands of the operator where they were
 -- accepted, and a file where it is new.
-abbrev pub events_for : List ℕ → List SentEntry → Bool → List ℕ → Bool → Message → List Event → List Event
+abbrev pub events_for : (odfi : List ℕ) → (sent : List SentEntry) → (new : Bool) → (company : List ℕ) → (accepted : Bool) → Message → (before : List Event) → List Event
 events_for odfi sent_entries new c ok (Of k r) P = request_event (bytes_eq k c && is_registered P) r
 events_for odfi sent_entries new c true (SetDay text) P = option_to_list (option_map DaySet (message_day (SetDay text)))
 events_for odfi sent_entries new c true (SetHolidays days) P = option_to_list (option_map HolidaysSet (result_ok days))
@@ -131,17 +131,17 @@ events_for odfi sent_entries new c _ _ P = []
 
 -- ---- the part of each company, and what was sent
 
-abbrev pub sent_entries_after : Bool → Message → List SentEntry → (List ℕ → List Event) → List Company → List SentEntry
+abbrev pub sent_entries_after : (accepted : Bool) → Message → (sent : List SentEntry) → (parts : List ℕ → List Event) → (companies : List Company) → List SentEntry
 sent_entries_after true Cut sent_entries parts ks = with_sendings sent_entries (sendings parts ks)
 sent_entries_after _ _ sent_entries parts ks = sent_entries
 
 abbrev mutual
   -- a company's part of the history, by the originating bank's routing number and the company's identification
-  pub part : List ℕ → List Pair → List ℕ → List Event
+  pub part : (odfi : List ℕ) → List Pair → (company : List ℕ) → List Event
   part odfi [] c = []
   part odfi (x ∷ H) c = events_for odfi (sent_entries odfi H) (is_new H x.message) c (is_accepted x.answer) x.message (part odfi H c) ++ part odfi H c
 
   -- the sent entries, the newest first
-  pub sent_entries : List ℕ → List Pair → List SentEntry
+  pub sent_entries : (odfi : List ℕ) → List Pair → List SentEntry
   sent_entries odfi [] = []
   sent_entries odfi (x ∷ H) = sent_entries_after (is_accepted x.answer) x.message (sent_entries odfi H) (λ c. part odfi H c) (companies H)

@@ -37,17 +37,17 @@ abbrev pub is_return_taken : Result ResolvedItem SuspenseReason → Bool
 is_return_taken (Err why) = false
 is_return_taken (Ok x) = is_returned_event x.event
 
-abbrev pub is_late_event : List ℕ → ℕ → ℕ → Event → Bool
+abbrev pub is_late_event : (holidays : List ℕ) → (day : ℕ) → (settled : ℕ) → Event → Bool
 is_late_event holidays d settled (Returned reference index code information) = is_late code settled d holidays
 is_late_event holidays d settled _ = false
 
 -- a return that was taken after its deadline
-abbrev pub is_late_return : List ℕ → ℕ → Result ResolvedItem SuspenseReason → Bool
+abbrev pub is_late_return : (holidays : List ℕ) → (day : ℕ) → Result ResolvedItem SuspenseReason → Bool
 is_late_return holidays d (Err why) = false
 is_late_return holidays d (Ok x) = is_late_event holidays d x.entry.settled x.event
 
 -- the answer of a new file
-abbrev pub intake_of : List ℕ → ℕ → List (Result ResolvedItem SuspenseReason) → Intake
+abbrev pub intake_of : (holidays : List ℕ) → (day : ℕ) → List (Result ResolvedItem SuspenseReason) → Intake
 intake_of holidays d os = record {
   changes = count_by (λ o. is_event o && not (is_return_taken o)) os;
   day = d;
@@ -58,7 +58,7 @@ intake_of holidays d os = record {
 
 -- ---- the files that were taken
 
-abbrev pub taken_file : List ℕ → List Pair → ℕ → FileFacts → TakenFile
+abbrev pub taken_file : (odfi : List ℕ) → List Pair → (day : ℕ) → FileFacts → TakenFile
 taken_file odfi H d f = record { key = f.key; digest = f.digest; answer = intake_of (holidays H) d (resolutions_of odfi H f.items) }
 
 abbrev pub if_new : List Pair → FileFacts → Option FileFacts
@@ -85,11 +85,11 @@ abbrev pub has_key : List ℕ → TakenFile → Bool
 has_key key t = bytes_eq t.key key
 
 -- a file that was taken before answers as the first time, and its key with another digest is refused
-abbrev pub intake_unless_known : List ℕ → List Pair → ℕ → FileFacts → Option TakenFile → Result Intake CallRefusal
+abbrev pub intake_unless_known : (odfi : List ℕ) → List Pair → (day : ℕ) → FileFacts → Option TakenFile → Result Intake CallRefusal
 intake_unless_known odfi H d f None = Ok (taken_file odfi H d f).answer
 intake_unless_known odfi H d f (Some t) = if bytes_eq t.digest f.digest then Ok t.answer else Err (Rule FileKeyReused)
 
-abbrev pub intake_on_day : List ℕ → List Pair → Option ℕ → Result FileFacts Fault → Result Intake CallRefusal
+abbrev pub intake_on_day : (odfi : List ℕ) → List Pair → Option ℕ → Result FileFacts Fault → Result Intake CallRefusal
 intake_on_day odfi H None file = Err (Rule NoDay)
 intake_on_day odfi H (Some d) (Err fault) = Err (BadFile fault)
 intake_on_day odfi H (Some d) (Ok f) = intake_unless_known odfi H d f (find (has_key f.key) (taken_files odfi H))
@@ -104,7 +104,7 @@ take_file odfi H file = intake_on_day odfi H (day H) file
 abbrev pub suspense_cents : ItemFacts → ℕ
 suspense_cents item = if is_return item then item.cents else 0
 
-abbrev pub suspense_row : List ℕ → ℕ → ℕ → ItemFacts → Result ResolvedItem SuspenseReason → Option SuspenseRow
+abbrev pub suspense_row : (key : List ℕ) → (day : ℕ) → (number : ℕ) → ItemFacts → Result ResolvedItem SuspenseReason → Option SuspenseRow
 suspense_row key d number item (Ok x) = None
 suspense_row key d number item (Err why) = Some (record {
   cents = suspense_cents item;

@@ -30,7 +30,7 @@ use Rattle.desk_history.specs.Postings.{postings, settlement}
 abbrev pub has_id : List ℕ → Company → Bool
 has_id id k = bytes_eq k.id id
 
-abbrev pub is_later : Option ℕ → ℕ → Bool
+abbrev pub is_later : Option ℕ → (day : ℕ) → Bool
 is_later None d = true
 is_later (Some today) d = nat_lt today d
 

@@ -53,7 +53,7 @@ abbrev pub intake_lines : List ℕ → List Pair → Option FileFacts → List P
 intake_lines odfi H None = []
 intake_lines odfi H (Some f) = flat_map (λ x. item_line (unwrap_or (day H) 0) x.0 x.1) (zip f.items (resolutions_of odfi H f.items))
 
-abbrev pub cut_lines : List ℕ → List Pair → Bool → Message → List Posting
+abbrev pub cut_lines : (odfi : List ℕ) → List Pair → (accepted : Bool) → Message → List Posting
 cut_lines odfi H true Cut = flat_map sending_line (cut_sendings odfi H)
 cut_lines odfi H _ _ = []
 

@@ -72,7 +72,7 @@ abbrev pub settlement_under : List Event → List ℕ → Option ℕ
 settlement_under P reference = option_and_then (settlement_day P) (submission_under P reference)
 
 -- a return that is taken after these events
-abbrev pub return_row : List Event → List ℕ → ℕ → ℕ → List ℕ → ReturnRow
+abbrev pub return_row : List Event → (reference : List ℕ) → (index : ℕ) → (code : ℕ) → (information : List ℕ) → ReturnRow
 return_row P reference index code information =
     let taken = new_return P code (settlement_under P reference) in
     record { code = code; day = taken.day; index = index; info = information; late = taken.late; reference = reference }

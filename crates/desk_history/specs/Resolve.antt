@@ -26,7 +26,7 @@ Ok x >>= f = f x
 Err why >>= f = Err why
 
 -- the trace of an entry: the eight digits of the originating bank, and its sequence in seven
-abbrev pub has_trace : List ℕ → List ℕ → SentEntry → Bool
+abbrev pub has_trace : (odfi : List ℕ) → (trace : List ℕ) → SentEntry → Bool
 has_trace odfi trace e = bytes_eq (trace_text (dfi_of odfi) e.sequence) trace
 
 -- the youngest entry that has the item's original trace: sent entries stand with the newest first
@@ -99,7 +99,7 @@ item_event c P (Err why) = []
 item_event c P (Ok x) = if bytes_eq x.entry.company c && not (is_repeated_return P x.event) then x.event ∷ [] else []
 
 -- and those that items give, in order, the newest first
-abbrev pub item_events : List ℕ → List SentEntry → List ℕ → List ItemFacts → List Event → List Event
+abbrev pub item_events : (odfi : List ℕ) → List SentEntry → (company : List ℕ) → List ItemFacts → List Event → List Event
 item_events odfi sent c [] P = []
 item_events odfi sent c (item ∷ items) P =
     let event = item_event c P (resolve odfi sent item) in

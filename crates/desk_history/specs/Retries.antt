@@ -27,12 +27,12 @@ entry_at a index = option_map (λ e. record { accepted = a; index = index; entry
 abbrev pub original_of : List AcceptedSubmission → Retry → Option Original
 original_of A r = option_and_then (λ a. entry_at a r.index) (find (is_called r.of) A)
 
-abbrev pub is_same_entry : List ℕ → ℕ → Option Retry → Bool
+abbrev pub is_same_entry : (of : List ℕ) → (index : ℕ) → Option Retry → Bool
 is_same_entry of index None = false
 is_same_entry of index (Some r) = bytes_eq r.of of && r.index == index
 
 -- the retries of an entry, in order
-abbrev pub retries_of : List AcceptedSubmission → List ℕ → ℕ → List AcceptedSubmission
+abbrev pub retries_of : List AcceptedSubmission → (of : List ℕ) → (index : ℕ) → List AcceptedSubmission
 retries_of A of index = filter (λ a. is_same_entry of index a.retry) A
 
 -- the entry and its retries that have not lapsed, in order

@@ -67,29 +67,29 @@ pub record TakenReturn : Type 0 where
   pub late : Bool
 
 -- a return of what settled on a day, taken after these events
-abbrev pub new_return : List Event → ℕ → Option ℕ → TakenReturn
+abbrev pub new_return : List Event → (code : ℕ) → (on : Option ℕ) → TakenReturn
 new_return P code on = record { code = code; day = today P; late = is_late code (unwrap_or on 0) (today P) (holidays P) }
 
 -- the return that names an entry of a submission, which settled on this day
-abbrev pub return_of : List Event → List ℕ → ℕ → Option ℕ → Option TakenReturn
+abbrev pub return_of : List Event → (reference : List ℕ) → (index : ℕ) → (on : Option ℕ) → Option TakenReturn
 return_of [] reference index on = None
 return_of (Returned r i code information ∷ P) reference index on =
     or_else (return_of P reference index on) (if bytes_eq r reference && i == index then Some (new_return P code on) else None)
 return_of (_ ∷ P) reference index on = return_of P reference index on
 
-abbrev pub is_returned : List Event → List ℕ → ℕ → Bool
+abbrev pub is_returned : List Event → (reference : List ℕ) → (index : ℕ) → Bool
 is_returned P reference index = is_some (return_of P reference index None)
 
 abbrev pub sent_state : ℕ → Option TakenReturn → EntryState
 sent_state on None = states.Sent on
 sent_state on (Some t) = states.Returned on t.code t.day t.late
 
-abbrev pub state_from : Bool → Option ℕ → Option TakenReturn → EntryState
+abbrev pub state_from : (accepted : Bool) → (on : Option ℕ) → Option TakenReturn → EntryState
 state_from true on t = states.Lapsed
 state_from false None t = states.Held
 state_from false (Some on) t = sent_state on t
 
 -- held, lapsed, sent or returned
-abbrev pub state_of : List Event → Place → Option Place → List ℕ → ℕ → EntryState
+abbrev pub state_of : List Event → Place → Option Place → (reference : List ℕ) → (index : ℕ) → EntryState
 state_of P p original reference index =
     state_from (has_lapsed P p original) (settlement_day P p original) (return_of P reference index (settlement_day P p original))

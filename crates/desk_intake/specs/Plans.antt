@@ -16,11 +16,11 @@ abbrev pub plan_write : IntakePlan → IntakeWrite
 plan_write p = record { returned = p.returned.items; changed = p.changed.items; suspense = p.suspense.items; postings = p.postings.items; file = p.file }
 
 -- the intake of these items on a day
-abbrev pub intake_facts_of : List ℕ → List ℕ → List FoundItem → ℕ → List ℕ → IntakeFacts
+abbrev pub intake_facts_of : (key : List ℕ) → (digest : List ℕ) → List FoundItem → (day : ℕ) → (holidays : List ℕ) → IntakeFacts
 intake_facts_of key digest found day holidays = record { day = day; holidays = holidays; key = key; digest = digest; items = map found_item_as found }
 
 -- the write of judged items
-abbrev pub write_of_items : List ℕ → List ℕ → List JudgedItem → ℕ → List ℕ → IntakeWrite
+abbrev pub write_of_items : (key : List ℕ) → (digest : List ℕ) → List JudgedItem → (day : ℕ) → (holidays : List ℕ) → IntakeWrite
 write_of_items key digest js day holidays = record {
   returned = filter_map (returned_row holidays day) (map resolution_of js);
   changed = filter_map (changed_row day) (map resolution_of js);

@@ -5,7 +5,7 @@ use Rattle.desk_plan.specs.declared.batch.Batch.{Batch}
 use Rattle.desk_plan.specs.Sequences.{SentSequence, sequences_from, first_of, after_batch}
 
 -- whether a settlement was at least 366 days before the day, or there was none
-abbrev pub is_past : ℕ → Option ℕ → Bool
+abbrev pub is_past : (day : ℕ) → Option ℕ → Bool
 is_past day None = true
 is_past day (Some settled) = nat_le (settled + 366) day
 
@@ -21,7 +21,7 @@ abbrev pub youngest_settlement : List SentSequence → ℕ → Option ℕ
 youngest_settlement sent s = option_map (λ e. e.settled) (youngest sent s)
 
 -- whether a sequence may be used on a day: where no entry has it, or the youngest settled long enough ago
-abbrev pub may_use : ℕ → List SentSequence → ℕ → Bool
+abbrev pub may_use : (day : ℕ) → List SentSequence → ℕ → Bool
 may_use day sent s = is_past day (youngest_settlement sent s)
 
 -- whether each batch takes only sequences that may be used when the batches before it are sent

@@ -15,15 +15,15 @@ last_sequence [] = 0
 last_sequence (e ∷ sent) = e.sequence
 
 -- A batch goes on after the last sequence, and begins at 1 where it would pass the largest.
-abbrev pub first_after : ℕ → ℕ → ℕ
+abbrev pub first_after : (last : ℕ) → (entries : ℕ) → ℕ
 first_after last entries = if nat_le (last + entries) most_sequence then last + 1 else 1
 
 -- the first and the last sequence of a batch
-abbrev pub range_after : ℕ → ℕ → ℕ × ℕ
+abbrev pub range_after : (last : ℕ) → (entries : ℕ) → ℕ × ℕ
 range_after last entries = (first_after last entries, first_after last entries + entries - 1)
 
 -- those of batches with these numbers of entries, each after the one before it
-abbrev pub ranges : ℕ → List ℕ → List (ℕ × ℕ)
+abbrev pub ranges : (last : ℕ) → (counts : List ℕ) → List (ℕ × ℕ)
 ranges last counts = scan (λ l n. (range_after l n).1) range_after last counts
 
 -- from a first sequence to a last one
@@ -33,7 +33,7 @@ pub record IsRange (r : ℕ × ℕ) : Type 0 where
   pub within : r.1 ≤ most_sequence
 
 -- whether two ranges have a sequence in common
-abbrev pub meets : ℕ × ℕ → ℕ × ℕ → Bool
+abbrev pub meets : (p : ℕ × ℕ) → (q : ℕ × ℕ) → Bool
 meets p q = nat_le p.0 q.1 && nat_le q.0 p.1
 
 -- whether no two of them have

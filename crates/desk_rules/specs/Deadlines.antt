@@ -10,20 +10,20 @@ abbrev pub last_rule_day : ℕ
 last_rule_day = 47_512
 
 -- the last day of a time class, if it has one
-abbrev pub last_day_of : TimeClass → ℕ → List ℕ → Option ℕ
+abbrev pub last_day_of : TimeClass → (settled : ℕ) → (holidays : List ℕ) → Option ℕ
 last_day_of TwoBankingDays settled holidays = Some (nth_after holidays settled 2)
 last_day_of SixtyDays settled holidays = Some (next_banking holidays (settled + 60))
 last_day_of Unlimited settled holidays = None
 
 -- the last day on which a return with this code is in time, if there is one
-abbrev pub deadline : ℕ → ℕ → List ℕ → Option ℕ
+abbrev pub deadline : (code : ℕ) → (settled : ℕ) → (holidays : List ℕ) → Option ℕ
 deadline code settled holidays = last_day_of (time_class_of code) settled holidays
 
 -- is a day after the deadline, if there is one?
-abbrev pub is_after : Option ℕ → ℕ → Bool
+abbrev pub is_after : Option ℕ → (taken : ℕ) → Bool
 is_after None taken = false
 is_after (Some last) taken = nat_lt last taken
 
 -- is a return late that is taken on a day?
-abbrev pub is_late : ℕ → ℕ → ℕ → List ℕ → Bool
+abbrev pub is_late : (code : ℕ) → (settled : ℕ) → (taken : ℕ) → (holidays : List ℕ) → Bool
 is_late code settled taken holidays = is_after (deadline code settled holidays) taken

@@ -14,7 +14,7 @@ is_open_credit (Returned settled code taken late) day = nat_le day settled
 is_open_credit Lapsed day = false
 
 -- held, or sent with its second banking day after settlement on the day or after it
-abbrev pub is_open_debit : EntryState → ℕ → List ℕ → Bool
+abbrev pub is_open_debit : EntryState → (day : ℕ) → (holidays : List ℕ) → Bool
 is_open_debit Held day holidays = true
 is_open_debit (Sent settled) day holidays = nat_le day (nth_after holidays settled 2)
 is_open_debit (Returned settled code taken late) day holidays = false
@@ -25,7 +25,7 @@ abbrev pub credit_exposure : List EntryFact → ℕ → ℕ
 credit_exposure facts day = sum_by (λ f. f.cents) (filter (λ f. not f.debit && is_open_credit f.state day) facts)
 
 -- the cents of the debits that are open
-abbrev pub debit_exposure : List EntryFact → ℕ → List ℕ → ℕ
+abbrev pub debit_exposure : List EntryFact → (day : ℕ) → (holidays : List ℕ) → ℕ
 debit_exposure facts day holidays = sum_by (λ f. f.cents) (filter (λ f. f.debit && is_open_debit f.state day holidays) facts)
 
 -- what was sent settled on a day that a rule may be given

@@ -53,7 +53,7 @@ prenote_of Wrong = None
 prenote_of (Given b) = Some b
 
 -- nothing for a prenote, else 1 to ten digits of cents
-abbrev pub entry_cents_of : Bool → ℕ → Option ℕ
+abbrev pub entry_cents_of : (accepted : Bool) → ℕ → Option ℕ
 entry_cents_of true n = if n == 0 then Some 0 else None
 entry_cents_of false n = if nat_le 1 n && nat_le n 9_999_999_999 then Some n else None
 
@@ -73,5 +73,5 @@ abbrev pub key_of : List ℕ → Option (Unit {0})
 key_of s = if is_key s then Some tt else None
 
 -- a number up to a largest
-abbrev pub up_to : ℕ → ℕ → Option ℕ
+abbrev pub up_to : (most : ℕ) → ℕ → Option ℕ
 up_to most n = if nat_le n most then Some n else None

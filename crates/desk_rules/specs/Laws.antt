@@ -11,7 +11,7 @@ use Rattle.desk_rules.specs.SameContent.{same_retry, same_submission}
 use Rattle.desk_rules.specs.TimeClasses.{time_class_of}
 
 -- the deadline is the day with exactly n banking days from the one after d to it
-abbrev pub IsCounted : Option ℕ → List ℕ → ℕ → ℕ → Type 0
+abbrev pub IsCounted : (last : Option ℕ) → (holidays : List ℕ) → (day : ℕ) → ℕ → Type 0
 IsCounted last holidays d n = (e : ℕ) × (last ≡ Some e) × IsNthAfter holidays d n e
 
 pub record CountedDeadlines : Type 0 where

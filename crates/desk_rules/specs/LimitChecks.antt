@@ -13,7 +13,7 @@ use Rattle.desk_rules.specs.FirstRefusal.{first_refusal}
 use Rattle.desk_rules.specs.Size.{total_of}
 
 -- 1 to 60 days after the desk day
-abbrev pub is_date_in_range : ℕ → ℕ → Bool
+abbrev pub is_date_in_range : (asked : ℕ) → (day : ℕ) → Bool
 is_date_in_range asked day = nat_lt day asked && nat_le asked (day + 60)
 
 abbrev pub is_debit : Direction → Bool
@@ -21,7 +21,7 @@ is_debit Credit = false
 is_debit Debit = true
 
 -- the refusals of a submission in their order, each with its condition
-abbrev pub limit_rows : Submission → ℕ → Limits → List EntryFact → List ℕ → List (Bool × Refusal)
+abbrev pub limit_rows : Submission → (day : ℕ) → Limits → List EntryFact → (holidays : List ℕ) → List (Bool × Refusal)
 limit_rows s day limits facts holidays =
     (not (is_date_in_range s.day day), DateRange)
     ∷ (list_any (λ e. nat_lt limits.entry e.cents) s.entries, EntryLimit)
@@ -30,5 +30,5 @@ limit_rows s day limits facts holidays =
     ∷ []
 
 -- the first refusal of a submission, if there is one
-abbrev pub limits_verdict : Submission → ℕ → Limits → List EntryFact → List ℕ → Result (Unit {0}) Refusal
+abbrev pub limits_verdict : Submission → (day : ℕ) → Limits → List EntryFact → (holidays : List ℕ) → Result (Unit {0}) Refusal
 limits_verdict s day limits facts holidays = first_refusal (limit_rows s day limits facts holidays)

@@ -8,20 +8,20 @@ use Rattle.desk_rules.specs.Attempts.{Return, original_return, newest_return}
 use Rattle.desk_rules.specs.FirstRefusal.{first_refusal}
 
 -- authorized again on or after the day on which the return was taken, and not after the desk day
-abbrev pub is_authorized : Option ℕ → ℕ → ℕ → Bool
+abbrev pub is_authorized : Option ℕ → (taken : ℕ) → (day : ℕ) → Bool
 is_authorized None taken day = false
 is_authorized (Some authorized) taken day = nat_le taken authorized && nat_le authorized day
 
 -- a return for lack of funds, R01 or R09, or of a stopped payment, R08, that was authorized again
-abbrev pub is_retryable : ℕ → ℕ → Option ℕ → ℕ → Bool
+abbrev pub is_retryable : (code : ℕ) → (taken : ℕ) → (authorized : Option ℕ) → (day : ℕ) → Bool
 is_retryable code taken authorized day = code == 1 || code == 9 || (code == 8 && is_authorized authorized taken day)
 
 -- more than 180 days after the original settled
-abbrev pub is_too_late : ℕ → ℕ → Bool
+abbrev pub is_too_late : (original : ℕ) → (settles : ℕ) → Bool
 is_too_late original settles = nat_lt (original + 180) settles
 
 -- the refusals of a retry in their order, each with its condition: of so many attempts, by the returns of the original and the newest
-abbrev pub retry_rows : ℕ → Option Return → Option Return → ℕ → Option ℕ → ℕ → List ℕ → List (Bool × Refusal)
+abbrev pub retry_rows : (count : ℕ) → Option Return → Option Return → (asked : ℕ) → (authorized : Option ℕ) → (day : ℕ) → (holidays : List ℕ) → List (Bool × Refusal)
 retry_rows count (Some original) (Some newest) asked authorized day holidays =
     (not (is_retryable newest.code newest.taken authorized day), NotRetryable newest.code)
     ∷ (nat_le 3 count, RetriesSpent)
@@ -30,6 +30,6 @@ retry_rows count (Some original) (Some newest) asked authorized day holidays =
 retry_rows count _ _ asked authorized day holidays = (true, NotReturned) ∷ []
 
 -- the first refusal of a retry, if there is one
-abbrev pub retry_verdict : List Attempt → ℕ → Option ℕ → ℕ → List ℕ → Result (Unit {0}) Refusal
+abbrev pub retry_verdict : List Attempt → (asked : ℕ) → (authorized : Option ℕ) → (day : ℕ) → (holidays : List ℕ) → Result (Unit {0}) Refusal
 retry_verdict tried asked authorized day holidays =
     first_refusal (retry_rows (length tried) (original_return tried) (newest_return tried) asked authorized day holidays)

@@ -24,7 +24,7 @@ is_of_level Administrative code = is_among administrative_codes code
 is_of_level Overall code = true
 
 -- one of the 60 days that end on the desk day
-abbrev pub is_in_window : ℕ → ℕ → Bool
+abbrev pub is_in_window : (at : ℕ) → (day : ℕ) → Bool
 is_in_window at day = nat_le (day - 59) at && nat_le at day
 
 -- it settled in the window
@@ -53,7 +53,7 @@ abbrev pub returned_count : Level → List EntryFact → ℕ → ℕ
 returned_count level facts day = count_by (λ f. is_live_debit f && was_returned level f.state day) facts
 
 -- more than 5 in 1,000, 3 in 100 and 15 in 100
-abbrev pub exceeds : Level → ℕ → ℕ → Bool
+abbrev pub exceeds : Level → ℕ → (day : ℕ) → Bool
 exceeds Unauthorized n d = nat_lt (d * 5) (n * 1_000)
 exceeds Administrative n d = nat_lt (d * 3) (n * 100)
 exceeds Overall n d = nat_lt (d * 15) (n * 100)

@@ -5,7 +5,7 @@ use Rattle.desk_rules.specs.declared.rules.time_class.TimeClass.{TimeClass}
 use Rattle.desk_rules.specs.declared.rules.time_class.TimeClass.TheVariants.{TwoBankingDays, SixtyDays, Unlimited}
 
 -- does a list have a code?
-abbrev pub is_among : List ℕ → ℕ → Bool
+abbrev pub is_among : (codes : List ℕ) → (code : ℕ) → Bool
 is_among codes code = list_any (λ c. c == code) codes
 
 -- R05 R07 R10 R11

@@ -22,7 +22,7 @@ abbrev pub waiting_for : Company → List Row → List HeldSubmission
 waiting_for k rows = map (held_submission k rows) (filter is_held rows)
 
 -- the later of two days, where there are any
-abbrev pub later_of : Option ℕ → Option ℕ → Option ℕ
+abbrev pub later_of : Option ℕ → (day : Option ℕ) → Option ℕ
 later_of None d = d
 later_of (Some d) None = Some d
 later_of (Some d) (Some e) = Some (max d e)
@@ -32,7 +32,7 @@ abbrev pub with_settlement : SentEntry → (ℕ → Option ℕ) → ℕ → Opti
 with_settlement e f s = if e.sequence == s then Some e.settled else f s
 
 -- sums by day with one more amount on a day
-abbrev pub with_sum : ℕ → ℤ → List (ℕ × ℤ) → List (ℕ × ℤ)
+abbrev pub with_sum : (day : ℕ) → (cents : ℤ) → List (ℕ × ℤ) → List (ℕ × ℤ)
 with_sum day cents [] = (day, cents) ∷ []
 with_sum day cents (row ∷ rows) =
     if day == row.0 then (row.0, row.1 +ℤ cents) ∷ rows

@@ -6,7 +6,7 @@ use Rattle.desk_rules.specs.declared.bodies.submission.Submission.{Submission}
 use Rattle.desk_store.specs.Rows.{CompanyRow}
 
 -- a company's submission or retry with this number, with all its entries held
-abbrev pub held_row : List ℕ → ℕ → Submission → Option Retry → CompanyRow
+abbrev pub held_row : (company : List ℕ) → (order : ℕ) → Submission → Option Retry → CompanyRow
 held_row c order s retry = record {
   company = c;
   row = record { order = order; content = s; retry = retry; settled = None; lapsed = false; states = replicate (length s.entries) Held };

@@ -41,7 +41,7 @@ pub record Rows : Type 0 where
 
 -- ---- the book
 
-abbrev pub is_printed_of : List ℕ → ℕ → SentRow → Bool
+abbrev pub is_printed_of : (company : List ℕ) → (order : ℕ) → SentRow → Bool
 is_printed_of c order s = bytes_eq s.company c && s.order == order
 
 abbrev pub flat_book : Rows → Book

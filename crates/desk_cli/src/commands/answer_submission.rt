@@ -7,10 +7,10 @@ ghost use Rattle.desk_cli.specs.SubmissionRuns.{first_run_answer, HasAnswered, I
 
 use crate::commands::body_answer::{NoMemory, submission_answer};
 use crate::commands::input::{MOST_INPUT, bounded_input};
-use crate::commands::interruptions::Tries;
 use crate::commands::output::print_answer;
 use crate::commands::status::Status;
 use desk_json::fault_text;
+use io_retries::Tries;
 use std::alloc::Global;
 use std::io;
 use std::io::{Read, Write};

@@ -6,10 +6,10 @@ ghost use Rattle.desk_cli.specs.Printing.{with_line_feed};
 
 use crate::commands::file_verdict::{Verdict, verdict_of};
 use crate::commands::input::bounded_input;
-use crate::commands::interruptions::Tries;
 use crate::commands::output::print_answer;
 use crate::commands::status::Status;
 use ach_files::{Fault, faults_stand, file_or_fault, long_bytes_have_faults};
+use io_retries::Tries;
 use std::alloc::{AllocError, Global};
 use std::io::{Read, Write};
 

@@ -5,10 +5,10 @@ ghost use Rattle.desk_cli.specs.FileChecks.{HasChecked, IsFailedCheck};
 
 use crate::commands::answer_submission::first_run;
 use crate::commands::check_incoming::check_file;
-use crate::commands::interruptions::Tries;
 use crate::commands::output::{print_unavailable, write_line};
 use crate::commands::status::Status;
 use crate::words::{Command, LineFault};
+use io_retries::Tries;
 use std::fs::File;
 use std::io::{Read, Write};
 

@@ -3,7 +3,7 @@ ghost use Rattle.std.specs.Prelude.{◌≡◌};
 ghost use Rattle.std.specs.Io.Take.{take_inner, take_limit};
 ghost use Rattle.desk_cli.specs.Inputs.{most_read};
 
-use crate::commands::interruptions::{RetryingReader, Tries};
+use io_retries::{RetryingReader, Tries};
 use std::io::{Read, Take};
 
 /// A body and a file have at most so many bytes.

@@ -6,7 +6,6 @@ mod dispatch;
 mod file_feed;
 mod file_verdict;
 mod input;
-mod interruptions;
 mod output;
 mod status;
 

@@ -1,12 +1,13 @@
 //! The lines that a command prints.
 ghost use Rattle.std.specs.Prelude.{◌≡◌, ◌≢◌, MatchResult};
 ghost use Rattle.std.specs.Io.KnownBytes.{Appends};
-ghost use Rattle.desk_cli.specs.Printing.{status_of, PrintsLine, PrintsPrefix, PrintsPrefixOf};
+ghost use Rattle.io_retries.specs.Prefixes.{AppendsPrefix};
+ghost use Rattle.desk_cli.specs.Printing.{status_of, PrintsLine, PrintsPrefixOf};
 
-use crate::commands::interruptions::{Tries, flush_with_retries, write_with_retries};
 use crate::commands::status::Status;
+use io_retries::{Tries, write_all_with_retries};
 use std::io;
-use std::io::{ErrorKind, Write};
+use std::io::Write;
 
 /// This line is printed where a read failed or memory ran out.
 pub const UNAVAILABLE: &[u8; 12] = b"unavailable\n";
@@ -16,23 +17,15 @@ pub const UNAVAILABLE: &[u8; 12] = b"unavailable\n";
 pub fn write_line<W: Write>(writer: &mut W, line: &[u8], mut tries: Tries) -> io::Result<()>
     ensures { MatchResult result
         (λ _. Appends (W.contents writer.old) (W.contents writer.new) line.now)
-        (λ _. PrintsPrefix (W.contents writer.old) (W.contents writer.new) line.now) }
+        (λ _. AppendsPrefix (W.contents writer.old) (W.contents writer.new) line.now) }
 {
-    let mut at = 0;
-    while at < line.len() {
-        let count = write_with_retries(writer, &line[at..], &mut tries)?;
-        if count == 0 {
-            return Err(io::Error::from(ErrorKind::WriteZero));
-        }
-        at += count;
-    }
-    flush_with_retries(writer, &mut tries)
+    write_all_with_retries(writer, line, &mut tries)
 }
 
 /// Prints that a read failed or memory ran out, or as much of that line as the writer takes.
 pub fn print_unavailable<W: Write>(writer: &mut W, tries: Tries) -> Status
     ensures status { result ≡ Status.Failed }
-    ensures printed { PrintsPrefix (W.contents writer.old) (W.contents writer.new) UNAVAILABLE.now }
+    ensures printed { AppendsPrefix (W.contents writer.old) (W.contents writer.new) UNAVAILABLE.now }
 {
     let _ = write_line(writer, UNAVAILABLE, tries);
     Status::Failed

@@ -1,12 +1,12 @@
-use Rattle.std.proofs.Common.{ℕ, List, length, Option, Result, Ok, Err, MatchResult, sym, subst, take_all, arith}
+use Rattle.std.proofs.Common.{ℕ, List, [], Option, Result, Ok, Err, MatchResult, sym, append-nil}
 use Rattle.std.specs.Io.KnownBytes.{Appends}
-use Rattle.desk_cli.specs.Printing.{PrintsPrefix}
+use Rattle.io_retries.specs.Prefixes.{AppendsPrefix}
 use Rattle.desk_cli.proofs.commands.output.print_unavailable.Goals as goal
 
 -- all of a line is a prefix of it
 prefix_of : {E : Type 0} (old new : Option (List ℕ)) (line : List ℕ) (r : Result (Unit {0}) E)
-    → MatchResult r (λ _. Appends old new line) (λ _. PrintsPrefix old new line) → PrintsPrefix old new line
-prefix_of old new line (Ok done) h = (length line, subst (Appends old new) (sym (take_all (length line) line (omega arith))) h)
+    → MatchResult r (λ _. Appends old new line) (λ _. AppendsPrefix old new line) → AppendsPrefix old new line
+prefix_of old new line (Ok done) h = (line, [], sym (append-nil line), h)
 prefix_of old new line (Err e) h = h
 
 pub returns-clause-printed : goal.returns-clause-printed

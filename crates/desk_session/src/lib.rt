@@ -1,0 +1,9 @@
+//! Sessions: from any reader's bytes to answers on any writer, by anything that answers messages.
+#![tactic(auto)]
+
+mod answers;
+mod replying;
+mod sessions;
+
+pub use answers::{Answers, Unavailable};
+pub use sessions::{Ended, SessionFault, session};

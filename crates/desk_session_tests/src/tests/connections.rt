@@ -1,0 +1,39 @@
+//! When the connection ends.
+use crate::tests::texts::{EMPTY, EMPTY_CLOSE, GET, joined, over_pieces};
+use desk_session::Ended;
+use std::test::Fail;
+
+/// What is written for a GET with these fields, and then another.
+#[test]
+fn ends_where_a_message_asks_for_it(rt: HostRuntime) -> Result<(), Fail> {
+    let on: &[&[u8]] = &[EMPTY, EMPTY];
+    let off: &[&[u8]] = &[EMPTY_CLOSE];
+    let cases: [(&[u8], &[&[u8]]); 12] = [
+        (b"HTTP/1.1\r\n", on),
+        (b"HTTP/1.0\r\n", off),
+        (b"HTTP/1.0\r\nConnection: keep-alive\r\n", off),
+        (b"HTTP/1.1\r\nConnection: close\r\n", off),
+        (b"HTTP/1.1\r\nconnection:CLOSE \r\n", off),
+        (b"HTTP/1.1\r\nConnection: close, x\r\n", on),
+        (b"HTTP/1.1\r\nConnection: closed\r\n", on),
+        (b"HTTP/1.1\r\nConnection:\r\n", on),
+        (
+            b"HTTP/1.1\r\nConnection: keep-alive\r\nConnection: close\r\n",
+            on,
+        ),
+        (
+            b"HTTP/1.1\r\nConnection: close\r\nConnection: keep-alive\r\n",
+            off,
+        ),
+        (b"HTTP/1.1\r\nExpect: 100-continue\r\n", on),
+        (b"HTTP/1.1\r\nExpect: x\r\nExpect:\r\n", on),
+    ];
+    for (head, answers) in cases {
+        let start: &[u8] = b"GET /ops/suspense?close ";
+        let bytes = joined(&rt, &[start, head, b"\r\n", GET]);
+        let (ended, written) = over_pieces(&rt, &bytes, usize::MAX);
+        assert_eq!(rt; ended, Ok(Ended::Closed));
+        assert_eq!(rt; written, joined(&rt, answers));
+    }
+    Ok(())
+}

@@ -1,0 +1,90 @@
+//! Readers and writers that fail, or are interrupted.
+use crate::tests::readers::Pieces;
+use crate::tests::texts::{ABC, EMPTY, GET, POST_ABC, joined, run, sink};
+use desk_session::{Ended, SessionFault};
+use std::test::Fail;
+
+/// The k-th read fails, for each k: what was written are the answers to the messages that were whole.
+#[test]
+fn tells_a_read_that_fails(rt: HostRuntime) -> Result<(), Fail> {
+    let bytes = joined(&rt, &[GET, POST_ABC, GET]);
+    let second = GET.len() + POST_ABC.len();
+    for good in 0..25 {
+        let given = (good as usize * 6).min(bytes.len());
+        let wanted = if given < GET.len() {
+            joined(&rt, &[])
+        } else if given < second {
+            joined(&rt, &[EMPTY])
+        } else if given < bytes.len() {
+            joined(&rt, &[EMPTY, ABC])
+        } else {
+            joined(&rt, &[EMPTY, ABC, EMPTY])
+        };
+        let mut reader = Pieces::new(&bytes, 6);
+        reader.good = good;
+        let mut writer = sink(&rt);
+        let ended = run(&rt, &mut reader, &mut writer);
+        let end = if good as usize * 6 < bytes.len() + 6 {
+            Err(SessionFault::Read)
+        } else {
+            Ok(Ended::Closed)
+        };
+        assert_eq!(rt; ended, end);
+        assert_eq!(rt; writer.taken, wanted);
+    }
+    Ok(())
+}
+
+/// A writer fails after j bytes, for each j of two answers: just these were written.
+#[test]
+fn tells_a_write_that_fails(rt: HostRuntime) -> Result<(), Fail> {
+    let bytes = joined(&rt, &[POST_ABC, GET, GET]);
+    let answers = joined(&rt, &[ABC, EMPTY, EMPTY]);
+    for room in 0..ABC.len() + EMPTY.len() {
+        for most in [1, 13, usize::MAX] {
+            let mut writer = sink(&rt);
+            writer.room = room;
+            writer.most = most;
+            let ended = run(&rt, &mut Pieces::new(&bytes, 50), &mut writer);
+            assert_eq!(rt; ended, Err(SessionFault::Write));
+            assert!(rt; room <= answers.len());
+            assert_eq!(rt; writer.taken.as_slice(), &answers[..room]);
+        }
+    }
+    Ok(())
+}
+
+/// A write that takes none of its bytes has failed.
+#[test]
+fn tells_a_write_that_takes_nothing(rt: HostRuntime) -> Result<(), Fail> {
+    let mut writer = sink(&rt);
+    writer.most = 0;
+    let ended = run(&rt, &mut Pieces::new(GET, 50), &mut writer);
+    assert_eq!(rt; ended, Err(SessionFault::Write));
+    assert_eq!(rt; writer.taken.len(), 0);
+    Ok(())
+}
+
+/// A session bears 1,000 interruptions of reads and writes together, and no more.
+#[test]
+fn bears_a_thousand_interruptions(rt: HostRuntime) -> Result<(), Fail> {
+    let cases: [(u32, u32, Result<Ended, SessionFault>); 6] = [
+        (1_000, 0, Ok(Ended::Closed)),
+        (1_001, 0, Err(SessionFault::Read)),
+        (0, 1_000, Ok(Ended::Closed)),
+        (0, 1_001, Err(SessionFault::Write)),
+        (400, 600, Ok(Ended::Closed)),
+        (400, 601, Err(SessionFault::Write)),
+    ];
+    for (reads, writes, end) in cases {
+        let mut reader = Pieces::new(GET, 9);
+        reader.interruptions = reads;
+        let mut writer = sink(&rt);
+        writer.interruptions = writes;
+        let ended = run(&rt, &mut reader, &mut writer);
+        assert_eq!(rt; ended, end);
+        let wanted = if end.is_ok() { EMPTY } else { b"" };
+        assert_eq!(rt; writer.taken.as_slice(), wanted);
+    }
+    Ok(())
+}

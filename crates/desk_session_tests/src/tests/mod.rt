@@ -1,0 +1,10 @@
+mod connections;
+mod ends;
+mod faults;
+mod front;
+mod heads;
+mod lengths;
+mod readers;
+mod routes;
+mod texts;
+mod writers;
