@@ -1,6 +1,6 @@
 ghost use Rattle.std.specs.List.{list_any};
 ghost use Rattle.std.specs.List.Sorted.{IsStrictlyIncreasing};
-ghost use Rattle.std.specs.Prelude.{◌≡◌, ◌⊎◌, ◌==◌, ◌≤◌, ◌+◌, ◌*◌, [], ◌∷◌, ◌++◌, Some, None, All, max, length, IfOk, IfErr, IfSome, OnOk};
+ghost use Rattle.std.specs.Prelude.{◌≡◌, ◌≢◌, ◌⊎◌, ◌==◌, ◌≤◌, ◌+◌, ◌*◌, [], ◌∷◌, ◌++◌, Some, None, All, max, length, IfOk, IfErr, IfSome, OnErr, OnOk, vec_capacity, vec_len};
 ghost use Rattle.std.specs.Option.{ForSome};
 ghost use Rattle.bank_days.specs.Day.{last_read_day, last_argument_day};
 ghost use Rattle.bank_days.specs.Calendar.{AreHolidays, IsNthAfter, IsFirstFrom, is_banking, nth_after, next_banking, roll};
@@ -41,19 +41,20 @@ impl Calendar {
     }
 
     /// Gives the list of these days. The first day at fault decides: it is `NotAscending` where it
-    /// is not after the one before, else `TooMany` where it is the 401st.
+    /// is not after the one before, else `TooMany` where it is the 401st. No days take no memory.
     pub fn from_days(alloc: Global, days: &[Day]) -> Result<Calendar, CalendarFault>
         requires { All (λ d. d ≤ last_argument_day) days.now }
-        ensures { Gives (holidays_of_days days.now) result }
+        ensures value { Gives (holidays_of_days days.now) result }
+        ensures memory { OnErr result (days.now ≢ []) }
     {
-        let mut calendar = Calendar::empty(alloc);
+        let mut holidays = Vec::new(alloc);
         for day in days {
-            match calendar.push(Some(*day)) {
+            match push_row(&mut holidays, Some(*day)) {
                 Ok(()) => (),
                 Err(fault) => return Err(fault),
             }
         }
-        Ok(calendar)
+        Ok(Calendar { days: holidays })
     }
 
     /// Reads the list that a text of CSV spells, without a header: a day `YYYY-MM-DD` in each row.
@@ -70,39 +71,23 @@ impl Calendar {
             .has_headers(false)
             .flexible(true)
             .from_reader(alloc, text);
-        let mut calendar = Calendar::empty(alloc);
+        let mut days = Vec::new(alloc);
         for row in reader.into_byte_records() {
             let Ok(row) = row else {
                 return Err(CalendarFault::NoMemory);
             };
-            match calendar.push(day_of_row(&row)) {
+            match push_row(&mut days, day_of_row(&row)) {
                 Ok(()) => (),
                 Err(fault) => return Err(fault),
             }
         }
-        Ok(calendar)
+        Ok(Calendar { days })
     }
 
-    // One more row: its day, or why it may not stand after the others.
-    fn push(&mut self, row: Option<Day>) -> Result<(), CalendarFault>
-        requires { ForSome row (λ d. d ≤ last_argument_day) }
-        ensures ok { OnOk result (IfSome row (λ d. self.new ≡ self.old ++ d ∷ [])) }
-        ensures fits { OnOk result (row_fault (length self.old + 1) (last_of self.old) row ≡ None) }
-        ensures err { IfErr result (λ f. (f ≡ CalendarFault.NoMemory) ⊎ (row_fault (length self.old + 1) (last_of self.old) row ≡ Some f)) }
-    {
-        let day = match day_behind(&self.days, row) {
-            Ok(day) => day,
-            Err(fault) => return Err(fault),
-        };
-        if self.days.push(day).is_err() {
-            return Err(CalendarFault::NoMemory);
-        }
-        Ok(())
-    }
-
-    /// Copies the list.
+    /// Copies the list. The copy of a list without a day takes no memory.
     pub fn try_clone(&self, alloc: Global) -> Result<Calendar, AllocError>
-        ensures { IfOk result (λ copy. copy ≡ self.now) }
+        ensures copy { IfOk result (λ copy. copy ≡ self.now) }
+        ensures memory { OnErr result (self.now ≢ []) }
     {
         let mut days = Vec::new(alloc);
         days.extend_from_slice(&self.days)?;
@@ -174,6 +159,27 @@ impl Calendar {
     {
         self.days.as_slice()
     }
+}
+
+// Adds the day of one more row, or says why it may not stand after the others.
+fn push_row(days: &mut Vec<Day>, row: Option<Day>) -> Result<(), CalendarFault>
+    requires days { AreHolidays days.old.items }
+    requires row { ForSome row (λ d. d ≤ last_argument_day) }
+    ensures valid { AreHolidays days.new.items }
+    ensures ok { OnOk result (IfSome row (λ d. days.new.items ≡ days.old.items ++ d ∷ [])) }
+    ensures fits { OnOk result (row_fault (length days.old.items + 1) (last_of days.old.items) row ≡ None) }
+    ensures err { IfErr result (λ f. (f ≡ CalendarFault.NoMemory) ⊎ (row_fault (length days.old.items + 1) (last_of days.old.items) row ≡ Some f)) }
+    // Memory runs out only for a row that fits, where the days fill their room.
+    ensures memory { IfErr result (λ f. f ≡ CalendarFault.NoMemory → (row_fault (length days.old.items + 1) (last_of days.old.items) row ≡ None) × (vec_capacity days.old ≤ vec_len days.old)) }
+{
+    let day = match day_behind(days, row) {
+        Ok(day) => day,
+        Err(fault) => return Err(fault),
+    };
+    if days.push(day).is_err() {
+        return Err(CalendarFault::NoMemory);
+    }
+    Ok(())
 }
 
 // Is a day in a list that ascends?

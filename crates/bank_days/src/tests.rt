@@ -92,6 +92,8 @@ fn rows_are_judged_in_turn(rt: HostRuntime) {
         (b"\n2025-01-20,\n", BadRow(1)),
         (b"2025-01-20\n \n", BadRow(2)),
         (b"2025-01-20\n\"\"\n", BadRow(2)),
+        (b"2025-01-20\n2025-01-21,2025-01-22\n", BadRow(2)),
+        (b"2099-12-31\n2100-01-01\n", BadRow(2)),
     ];
     for (text, wanted) in texts {
         assert_eq!(rt; fault(&rt, text), Some(wanted));
@@ -100,11 +102,12 @@ fn rows_are_judged_in_turn(rt: HostRuntime) {
 
 #[test]
 fn csv_decides_what_a_row_is(rt: HostRuntime) {
-    let text = b"\xEF\xBB\xBF\n\r\n\"2025-01-20\"\r2025-02-17\n\n\"2025-05-26";
+    let text = b"\xEF\xBB\xBF\n\r\n\"2025-01-20\"\r2025-02-17\n\n2099-01-01\n\"2099-12-31";
     let days = [
         day(&rt, b"2025-01-20"),
         day(&rt, b"2025-02-17"),
-        day(&rt, b"2025-05-26"),
+        day(&rt, b"2099-01-01"),
+        day(&rt, b"2099-12-31"),
     ];
     assert_eq!(rt; calendar(&rt, text).holidays(), days.as_slice());
     assert!(rt; calendar(&rt, b"").holidays().is_empty());

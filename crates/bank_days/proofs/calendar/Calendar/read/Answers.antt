@@ -17,7 +17,7 @@ loop-row-init c =
     let start = c.into_iter-row-iterator.ensures.into_iter_gives in
     let rdr = c.into_byte_records-row-items.ensures.rdr in
     let left = c.into_byte_records-row-items.ensures.left in
-    rw (start, rdr, c.empty-calendar.ensures) (record {
+    rw (start, rdr, c.new-days.ensures.items) (record {
       untrimmed = rw flexible at fr.trim ∙ c.new.ensures.trim;
       ready = inr (inr (rw flexible at fr.has_headers, fr.headers));
       left = left;
@@ -27,6 +27,7 @@ loop-row-init c =
       done = [];
       reached = (sym fr.state, refl);
       taken = taken_none;
+      valid = search rules;
       within = search rules;
     })
 
@@ -37,7 +38,7 @@ returns-in-Err-clause-value c =
     let m = rows-more (λ (s : Bor (List ℕ)). Some s.now) c.loop-row.row-iterator.rdr c.next.new.self.rdr (fields_of c.in-Ok.row) default_config st.StartRecord (strip_bom c.args.text.now) inv.rest inv.done inv.config inv.source inv.reached s.0 in
     elim c.in-Err.ensures.err [
       | inl memory ↦ inl memory
-      | inr fault ↦ inr (record_fault c.args.text.now inv.done (fields_of c.in-Ok.row) c.next.new.self.rdr.state m.0 c.loop-row.calendar c.in-Err.fault m.2 inv.taken (rw c.day_of_row.ensures.value at fault))
+      | inr fault ↦ inr (record_fault c.args.text.now inv.done (fields_of c.in-Ok.row) c.next.new.self.rdr.state m.0 c.loop-row.days.items c.in-Err.fault m.2 inv.taken (rw c.day_of_row.ensures.value at fault))
     ]
 
 pub loop-row-preserved : goal.loop-row-preserved
@@ -45,8 +46,8 @@ loop-row-preserved c =
     let inv = c.loop-row.invariant in
     let s = rw (c.in-Some.is, c.in-Ok.is) at ((c.next.ensures.steps inv.left inv.untrimmed).0 inv.ready) in
     let m = rows-more (λ (s : Bor (List ℕ)). Some s.now) c.loop-row.row-iterator.rdr c.next.new.self.rdr (fields_of c.in-Ok.row) default_config st.StartRecord (strip_bom c.args.text.now) inv.rest inv.done inv.config inv.source inv.reached s.0 in
-    let one = record_more inv.done (fields_of c.in-Ok.row) c.loop-row.calendar c.push.new.self inv.taken inv.within
-    (rw c.day_of_row.ensures.value at c.day_of_row.ensures.within) (rw c.day_of_row.ensures.value at c.in-Ok-push.ensures.ok) (rw c.day_of_row.ensures.value at c.in-Ok-push.ensures.fits) in
+    let one = record_more inv.done (fields_of c.in-Ok.row) c.loop-row.days.items c.push_row.new.days.items inv.taken inv.within
+    (rw c.day_of_row.ensures.value at c.day_of_row.ensures.within) (rw c.day_of_row.ensures.value at c.in-Ok-push_row.ensures.ok) (rw c.day_of_row.ensures.value at c.in-Ok-push_row.ensures.fits) in
     record {
       untrimmed = s.0.3 ∙ inv.untrimmed;
       ready = inl s.1;
@@ -57,6 +58,7 @@ loop-row-preserved c =
       done = inv.done ++ fields_of c.in-Ok.row ∷ [];
       reached = m.2;
       taken = one.0;
+      valid = c.in-Ok-push_row.ensures.valid;
       within = one.1;
     }
 
@@ -65,4 +67,4 @@ returns-clause-value c =
     let inv = c.loop-row.invariant in
     let s = rw c.in-None.is at ((c.next.ensures.steps inv.left inv.untrimmed).0 inv.ready) in
     let end = rows-end (λ (s : Bor (List ℕ)). Some s.now) c.loop-row.row-iterator.rdr c.next.new.self.rdr [] default_config inv.rest inv.config inv.source s in
-    records_taken c.args.text.now inv.done c.loop-row.row-iterator.rdr.state inv.rest c.loop-row.calendar inv.reached end inv.taken
+    records_taken c.args.text.now inv.done c.loop-row.row-iterator.rdr.state inv.rest c.loop-row.days.items inv.reached end inv.taken

@@ -2,6 +2,7 @@ use Rattle.std.proofs.Common.{◌≡◌, ◌<◌, ◌≤◌, ℕ, List, All, Som
 use Rattle.csv.specs.Reading.{Reached, Ready, default_config, source_of, strip_bom}
 use Rattle.csv.specs.declared.parser.State.TheVariants as st
 use Rattle.csv.specs.declared.reader.Trim.TheVariants as trim
+use Rattle.bank_days.specs.Calendar.{AreHolidays}
 use Rattle.bank_days.specs.HolidayList.{row_day}
 use Rattle.bank_days.proofs.HolidayRows.{Taken}
 use Rattle.bank_days.proofs.calendar.Calendar.read.Given as goal
@@ -16,6 +17,7 @@ invariant-loop-row l = record {
   source : source_of (λ s. Some s.now) l.row-iterator.rdr ≡ Some rest;
   done : List (List (List ℕ));
   reached : Reached default_config st.StartRecord (strip_bom l.fn.text) done l.row-iterator.rdr.state rest;
-  taken : Taken (map row_day done) l.calendar;
-  within : All (λ h. h ≤ 47_481) l.calendar;
+  taken : Taken (map row_day done) l.days.items;
+  valid : AreHolidays l.days.items;
+  within : All (λ h. h ≤ 47_481) l.days.items;
 }
