@@ -20,7 +20,7 @@ pub fn post_cut(
 ) -> Option<[Posting; 2]>
     ensures { result ≡ posting_pair cents (cut_line company debit cents value_day reference) }
 {
-    let sent = signed(debit, cents);
+    let sent = cut_cents(debit, cents);
     let line = Posting {
         account: Account::Company(company),
         value_day,
@@ -47,7 +47,7 @@ pub fn post_return(
 ) -> Option<[Posting; 2]>
     ensures { result ≡ posting_pair cents (return_line company debit cents value_day reference idx) }
 {
-    let returned = -signed(debit, cents);
+    let returned = -cut_cents(debit, cents);
     let line = Posting {
         account: Account::Company(company),
         value_day,
@@ -64,7 +64,7 @@ pub fn post_return(
 pub fn post_suspense(debit: bool, cents: Cents, value_day: Day) -> Option<[Posting; 2]>
     ensures { result ≡ posting_pair cents (suspense_line debit cents value_day) }
 {
-    let held = -signed(debit, cents);
+    let held = -cut_cents(debit, cents);
     let line = Posting {
         account: Account::Suspense,
         value_day,
@@ -77,7 +77,7 @@ pub fn post_suspense(debit: bool, cents: Cents, value_day: Day) -> Option<[Posti
 }
 
 // What the cut adds to the account of the company.
-fn signed(debit: bool, cents: Cents) -> i64
+fn cut_cents(debit: bool, cents: Cents) -> i64
     ensures value { result ≡ cut_cents debit cents }
     ensures within { unsigned_abs result ≤ 999_999_999_999 }
 {

@@ -38,7 +38,7 @@ fn short_text<const N: usize>(rt: &impl Abort, text: &[u8]) -> ShortText<N> {
 }
 
 // The debit that was sent.
-fn sent(rt: &impl Abort) -> SentEntry {
+fn sent_entry(rt: &impl Abort) -> SentEntry {
     SentEntry {
         sequence: 1,
         company: mill(rt),
@@ -63,9 +63,9 @@ fn sent(rt: &impl Abort) -> SentEntry {
     }
 }
 
-fn named(rt: &impl Abort) -> Option<NamedEntry> {
+fn named_entry(rt: &impl Abort) -> Option<NamedEntry> {
     Some(NamedEntry {
-        entry: sent(rt),
+        entry: sent_entry(rt),
         returned: false,
     })
 }
@@ -187,7 +187,7 @@ fn returned_pair(rt: &impl Abort) -> [Posting; 2] {
 fn coming_back(rt: &impl Abort) -> FoundItem {
     FoundItem {
         item: returned_item(rt),
-        named: named(rt),
+        named: named_entry(rt),
     }
 }
 
@@ -271,7 +271,7 @@ fn expect_suspended(
 fn a_return_of_another_amount_is_suspended(rt: HostRuntime) {
     let mut item = returned_item(&rt);
     item.cents = cents(&rt, 24_999);
-    expect_suspended(&rt, item, named(&rt), SuspenseReason::Differs);
+    expect_suspended(&rt, item, named_entry(&rt), SuspenseReason::Differs);
 }
 
 #[test]
@@ -279,7 +279,7 @@ fn a_code_outside_is_suspended(rt: HostRuntime) {
     let mut item = returned_item(&rt);
     let code = *b"R31";
     item.code = code;
-    expect_suspended(&rt, item, named(&rt), SuspenseReason::CodeOutside);
+    expect_suspended(&rt, item, named_entry(&rt), SuspenseReason::CodeOutside);
 }
 
 #[test]
@@ -290,7 +290,7 @@ fn an_unknown_trace_is_suspended(rt: HostRuntime) {
 #[test]
 fn an_entry_that_came_back_before_is_suspended(rt: HostRuntime) {
     let before = NamedEntry {
-        entry: sent(&rt),
+        entry: sent_entry(&rt),
         returned: true,
     };
     expect_suspended(
@@ -306,7 +306,7 @@ fn a_change_is_told(rt: HostRuntime) -> Result<(), Fail> {
     let found = [
         FoundItem {
             item: changed_item(&rt),
-            named: named(&rt),
+            named: named_entry(&rt),
         },
         coming_back(&rt),
     ];
@@ -331,7 +331,7 @@ fn a_change_is_told(rt: HostRuntime) -> Result<(), Fail> {
 
 #[test]
 fn an_entry_that_settles_too_late_has_no_deadline(rt: HostRuntime) -> Result<(), Fail> {
-    let mut entry = sent(&rt);
+    let mut entry = sent_entry(&rt);
     entry.settled = Day::from_number(47_513).expect(&rt, "2100-02-01");
     let found = [FoundItem {
         item: returned_item(&rt),

@@ -28,9 +28,9 @@ abbrev pub row_fits : List ℕ → Row → Bool
 row_fits path row = fits (text [] ∷ row.path) (pieces_of path)
 
 -- what the table has for the path: the first row that fits
-abbrev pub served_at : List ℕ → Option Served
-served_at path = option_map (λ row. row.served) (find (row_fits path) table)
+abbrev pub service_at : List ℕ → Option Served
+service_at path = option_map (λ row. row.served) (find (row_fits path) table)
 
 -- The router finds for every path of bytes what the table has for its pieces.
 abbrev pub FoundByPieces : Type 0
-FoundByPieces = (path : List ℕ) → All (λ b. b < 256) path → value_of (first router_rows path) ≡ served_at path
+FoundByPieces = (path : List ℕ) → All (λ b. b < 256) path → value_of (first router_rows path) ≡ service_at path

@@ -6,7 +6,7 @@ use Rattle.std.specs.Prelude.{is_none}
 use Rattle.desk_message.specs.Message.{MessageValue, bad_head, asked, closes}
 use Rattle.desk_message.specs.Stream.{Reads, Spells, is_last_after}
 use Rattle.desk_message.proofs.LawLemmas.{spelled_in_pieces_of}
-use Rattle.desk_session.specs.Exchanges.{Exchange, written_for, written_of, messages_of, ends_after, StepsWith, Follows}
+use Rattle.desk_session.specs.Exchanges.{Exchange, response_of, responses_of, messages_of, ends_after, StepsWith, Follows}
 
 abbrev pub exchange : MessageValue → Option (List ℕ) → Exchange
 exchange m answer = record { message = m; answer = answer }
@@ -21,10 +21,10 @@ pub messages_more : (xs : List Exchange) (x : Exchange) → messages_of (xs ++ x
 messages_more [] x = refl
 messages_more (y ∷ xs) x = ap (λ l. y.message ∷ l) (messages_more xs x)
 
-pub written_more : (xs : List Exchange) (x : Exchange) → written_of (xs ++ x ∷ []) ≡ written_of xs ++ written_for x.answer
-written_more [] x = append-nil (written_for x.answer)
+pub written_more : (xs : List Exchange) (x : Exchange) → responses_of (xs ++ x ∷ []) ≡ responses_of xs ++ response_of x.answer
+written_more [] x = append-nil (response_of x.answer)
 written_more (y ∷ xs) x =
-    ap (λ l. written_for y.answer ++ l) (written_more xs x) ∙ sym (append_assoc (written_for y.answer) (written_of xs) (written_for x.answer))
+    ap (λ l. response_of y.answer ++ l) (written_more xs x) ∙ sym (append_assoc (response_of y.answer) (responses_of xs) (response_of x.answer))
 
 -- one message more
 pub spells_more : (taken more unread rest : List ℕ) (xs : List Exchange) (x : Exchange) (n : ℕ) → length xs ≡ n

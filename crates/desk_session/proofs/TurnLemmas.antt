@@ -8,7 +8,7 @@ use Rattle.desk_message.specs.Message.{MessageValue}
 use Rattle.desk_message.specs.Stream.{Reads, Spells, WantsBody, is_last_after}
 use Rattle.desk_message.proofs.StreamLemmas.{Spells-append}
 use Rattle.desk_response.specs.Response.{unavailable_text}
-use Rattle.desk_session.specs.Exchanges.{Exchange, written_for, written_of, messages_of, ends_after, GoesOn, StepsWith, Follows}
+use Rattle.desk_session.specs.Exchanges.{Exchange, response_of, responses_of, messages_of, ends_after, GoesOn, StepsWith, Follows}
 use Rattle.desk_session.specs.Session.{SessionRan, EndsAs, Writes}
 use Rattle.desk_session.specs.Turns.{Sends, Replied, SoFar, Turned, turn_of}
 use Rattle.desk_session.specs.declared.sessions.Ended.{Ended}
@@ -68,7 +68,7 @@ goes_on_after step clean now stood mid stands before between after old held new 
       spelled = spells_more p.taken more unread rest p.exchanges x n p.size p.spelled reads;
       size = simp length-append (omega (arith, p.size));
       few = not_last n p.few (open_is_not_last (is_last_after n) (unread ++ more) m r.answer rest reads stays);
-      sends = subst P (sym (written_more p.exchanges x)) (Appends-trans old held new (written_of p.exchanges) (written_for r.answer) p.sends r.sends);
+      sends = subst P (sym (written_more p.exchanges x)) (Appends-trans old held new (responses_of p.exchanges) (response_of r.answer) p.sends r.sends);
       goes_on = All-append GoesOn p.exchanges (x ∷ []) p.goes_on (All-cons GoesOn x [] stays (All-nil GoesOn));
       answers = answers_more step clean now stood mid stands p.exchanges m r.answer was p.answers r.answered;
     }
@@ -80,24 +80,24 @@ ends_with : {B : Type 0} (step : B → MessageValue → List ℕ → B → Type 
     → (now → clean) → (p : SoFar step clean stood mid before between old held n unread)
     → Consumes between after more → Reads (is_last_after n) (unread ++ more) m rest
     → (r : Replied step now mid stands m held new told)
-    → Appends held new sent → Writes result (written_of p.exchanges) (written_for r.answer) (written_of p.exchanges ++ sent)
-    → EndsAs result (n + 1) (Some (exchange m r.answer)) (written_for r.answer) rest after → length rest ≤ 16384
+    → Appends held new sent → Writes result (responses_of p.exchanges) (response_of r.answer) (responses_of p.exchanges ++ sent)
+    → EndsAs result (n + 1) (Some (exchange m r.answer)) (response_of r.answer) rest after → length rest ≤ 16384
     → SessionRan step now stood stands before after old new result
 ends_with step clean now stood mid stands before between after old held new n unread more rest m told result sent was p takes reads r sends writes ending few =
     let x = exchange m r.answer in
-    let P : ℕ → Type 0 = λ k. EndsAs result (k + 1) (Some x) (written_for r.answer) rest after in
+    let P : ℕ → Type 0 = λ k. EndsAs result (k + 1) (Some x) (response_of r.answer) rest after in
     record {
       first = p.exchanges;
       last = Some x;
       taken = p.taken ++ more;
       rest = rest;
-      final = written_for r.answer;
-      sent = written_of p.exchanges ++ sent;
+      final = response_of r.answer;
+      sent = responses_of p.exchanges ++ sent;
       takes = Consumes-trans before between after p.taken more p.takes takes;
       spelled = spells_more p.taken more unread rest p.exchanges x n p.size p.spelled reads;
       few = omega (arith, p.size, p.few);
       little = omega (arith, few);
-      sends = Appends-trans old held new (written_of p.exchanges) sent p.sends sends;
+      sends = Appends-trans old held new (responses_of p.exchanges) sent p.sends sends;
       writes = writes;
       goes_on = p.goes_on;
       ending = subst P (sym p.size) ending;
@@ -108,7 +108,7 @@ ends_with step clean now stood mid stands before between after old held new n un
 pub ends_before : {B : Type 0} (step : B → MessageValue → List ℕ → B → Type 0) (clean : Type 0) (stood stands : B → Type 0)
     (before between after old held new : Option (List ℕ)) (n : ℕ) (unread more : List ℕ) (result : Result Ended SessionFault) (final sent : List ℕ)
     → (p : SoFar step clean stood stands before between old held n unread) → Consumes between after more
-    → Appends held new sent → Writes result (written_of p.exchanges) final (written_of p.exchanges ++ sent)
+    → Appends held new sent → Writes result (responses_of p.exchanges) final (responses_of p.exchanges ++ sent)
     → EndsAs result (n + 1) None final (unread ++ more) after → IsLittle (unread ++ more)
     → SessionRan step clean stood stands before after old new result
 ends_before {B} step clean stood stands before between after old held new n unread more result final sent p takes sends writes ending little =
@@ -123,12 +123,12 @@ ends_before {B} step clean stood stands before between after old held new n unre
       taken = p.taken ++ more;
       rest = unread ++ more;
       final = final;
-      sent = written_of xs ++ sent;
+      sent = responses_of xs ++ sent;
       takes = Consumes-trans before between after p.taken more p.takes takes;
       spelled = subst Q (sym e) (Spells-append 0 p.taken unread more (messages_of xs) p.spelled);
       few = omega (arith, p.size, p.few);
       little = little;
-      sends = Appends-trans old held new (written_of xs) sent p.sends sends;
+      sends = Appends-trans old held new (responses_of xs) sent p.sends sends;
       writes = writes;
       goes_on = p.goes_on;
       ending = subst P (sym p.size) ending;
@@ -153,10 +153,10 @@ turned step clean now stood mid stands before between after old held new n unrea
         → Turned step now stood stands before after old new n rest (turn_of told last)
     by_told (Ok true) last r e = goes_on_after step clean now stood mid stands before between after old held new n unread more rest m was p takes there r
     by_told (Ok false) true r e =
-        ends_with step clean now stood mid stands before between after old held new n unread more rest m (Ok false) (Ok Full) (written_for r.answer) was p takes there r
+        ends_with step clean now stood mid stands before between after old held new n unread more rest m (Ok false) (Ok Full) (response_of r.answer) was p takes there r
         r.sends refl (at_last n (sym e), refl) few
     by_told (Ok false) false r e =
-        ends_with step clean now stood mid stands before between after old held new n unread more rest m (Ok false) (Ok Closed) (written_for r.answer) was p takes there r
+        ends_with step clean now stood mid stands before between after old held new n unread more rest m (Ok false) (Ok Closed) (response_of r.answer) was p takes there r
         r.sends refl (not_last n p.few (sym e), is_true (ends_after m r.answer) r.tells, refl) few
     by_told (Err Read) last r e = absurd r.sends
     by_told (Err Write) last r e =

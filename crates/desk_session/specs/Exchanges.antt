@@ -11,12 +11,12 @@ pub record Exchange : Type 0 where
   pub answer : Option (List ℕ)
 
 -- what is written for the answer
-abbrev pub written_for : Option (List ℕ) → List ℕ
-written_for answer = unwrap_or answer unavailable_text
+abbrev pub response_of : Option (List ℕ) → List ℕ
+response_of answer = unwrap_or answer unavailable_text
 
 -- what is written for the answers, in their order
-abbrev pub written_of : List Exchange → List ℕ
-written_of exchanges = flat_map (λ x. written_for x.answer) exchanges
+abbrev pub responses_of : List Exchange → List ℕ
+responses_of exchanges = flat_map (λ x. response_of x.answer) exchanges
 
 abbrev pub messages_of : List Exchange → List MessageValue
 messages_of exchanges = map (λ x. x.message) exchanges

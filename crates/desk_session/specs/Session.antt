@@ -5,7 +5,7 @@ use Rattle.desk_message.specs.Input.{IsLittle}
 use Rattle.desk_message.specs.Message.{MessageValue}
 use Rattle.desk_message.specs.Stream.{Spells, IsCut, IsPart, WantsBody}
 use Rattle.desk_response.specs.Response.{unavailable_text}
-use Rattle.desk_session.specs.Exchanges.{Exchange, written_for, written_of, messages_of, ends_after, GoesOn, Follows}
+use Rattle.desk_session.specs.Exchanges.{Exchange, response_of, responses_of, messages_of, ends_after, GoesOn, Follows}
 use Rattle.desk_session.specs.declared.sessions.Ended.{Ended}
 use Rattle.desk_session.specs.declared.sessions.Ended.TheVariants.{Closed, Cut, Full}
 use Rattle.desk_session.specs.declared.sessions.SessionFault.{SessionFault}
@@ -16,7 +16,7 @@ use Rattle.desk_session.specs.declared.sessions.SessionFault.TheVariants.{Read, 
 abbrev pub EndsAs : Result Ended SessionFault → ℕ → Option Exchange → List ℕ → List ℕ → Option (List ℕ) → Type 0
 -- a message after which the connection ends, before the last that a session takes
 EndsAs (Ok Closed) number (Some x) final rest left =
-    (number < 1000) × IsTrue (ends_after x.message x.answer) × (final ≡ written_for x.answer)
+    (number < 1000) × IsTrue (ends_after x.message x.answer) × (final ≡ response_of x.answer)
 -- the input ended between messages; or there was no room for the body of the next, which is answered 503
 EndsAs (Ok Closed) number None final rest left =
     ((final ≡ []) × (rest ≡ []) × IsAtEnd left) ⊎ ((final ≡ unavailable_text) × WantsBody rest)
@@ -24,13 +24,13 @@ EndsAs (Ok Closed) number None final rest left =
 EndsAs (Ok Cut) number None final rest left = (final ≡ []) × IsCut rest × IsAtEnd left
 EndsAs (Ok Cut) number (Some x) final rest left = ⊥
 -- the last message that a session takes
-EndsAs (Ok Full) number (Some x) final rest left = (number ≡ 1000) × (final ≡ written_for x.answer)
+EndsAs (Ok Full) number (Some x) final rest left = (number ≡ 1000) × (final ≡ response_of x.answer)
 EndsAs (Ok Full) number None final rest left = ⊥
 -- a read failed before the next message was whole
 EndsAs (Err Read) number None final rest left = (final ≡ []) × IsPart rest
 EndsAs (Err Read) number (Some x) final rest left = ⊥
 -- a write failed in an answer, or in the 503 text where there was no room
-EndsAs (Err Write) number (Some x) final rest left = final ≡ written_for x.answer
+EndsAs (Err Write) number (Some x) final rest left = final ≡ response_of x.answer
 EndsAs (Err Write) number None final rest left = (final ≡ unavailable_text) × WantsBody rest
 
 -- all was written, or, where a write failed, all but the end of the last
@@ -61,7 +61,7 @@ pub record SessionRan {B : Type 0} (step : B → MessageValue → List ℕ → B
   pub little : IsLittle rest
   -- what the writer was given is their answers, in order
   pub sends : Appends old new sent
-  pub writes : Writes result (written_of first) final sent
+  pub writes : Writes result (responses_of first) final sent
   -- where and how the session ends
   pub goes_on : All GoesOn first
   pub ending : EndsAs result (length first + 1) last final rest after

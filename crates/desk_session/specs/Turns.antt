@@ -4,7 +4,7 @@ use Rattle.std.specs.Io.KnownBytes.{Appends, Consumes}
 use Rattle.io_retries.specs.Prefixes.{AppendsPrefix}
 use Rattle.desk_message.specs.Message.{MessageValue}
 use Rattle.desk_message.specs.Stream.{Spells}
-use Rattle.desk_session.specs.Exchanges.{Exchange, written_for, written_of, messages_of, ends_after, GoesOn, StepsWith, Follows}
+use Rattle.desk_session.specs.Exchanges.{Exchange, response_of, responses_of, messages_of, ends_after, GoesOn, StepsWith, Follows}
 use Rattle.desk_session.specs.Session.{SessionRan}
 use Rattle.desk_session.specs.declared.sessions.Ended.{Ended}
 use Rattle.desk_session.specs.declared.sessions.Ended.TheVariants.{Closed, Full}
@@ -27,7 +27,7 @@ pub record Replied {B : Type 0} (step : B → MessageValue → List ℕ → B �
     (stood stands : B → Type 0) (message : MessageValue) (old new : Option (List ℕ)) (result : Result Bool SessionFault) : Type 0 where
   pub answer : Option (List ℕ)
   pub answered : is_clean → (w : B) → stood w → (v : B) × StepsWith step w message answer v × stands v
-  pub sends : Sends result old new (written_for answer)
+  pub sends : Sends result old new (response_of answer)
   pub tells : TellsWhether result (ends_after message answer)
 
 -- what a turn tells, from what the reply told
@@ -46,7 +46,7 @@ pub record SoFar {B : Type 0} (step : B → MessageValue → List ℕ → B → 
   pub spelled : Spells 0 taken (messages_of exchanges) unread
   pub size : length exchanges ≡ count
   pub few : count < 1000
-  pub sends : Appends old new (written_of exchanges)
+  pub sends : Appends old new (responses_of exchanges)
   pub goes_on : All GoesOn exchanges
   pub answers : is_clean → (w : B) → stood w → (v : B) × Follows step w exchanges v × stands v
 

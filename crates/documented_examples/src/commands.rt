@@ -23,14 +23,14 @@ fn carry_out(rt: &HostRuntime, command: &str, written: &mut Vec<u8>) -> io::Resu
     } else if let Some(path) = command.strip_prefix("./achdesk check ") {
         let file = fs::read(rt, path)?;
         let _status = check_file(rt.alloc(), file.as_slice(), written);
-    } else if let Some(body) = echoed(command) {
+    } else if let Some(body) = echo_text(command) {
         let _status = first_run(rt.alloc(), body.as_bytes(), written);
     }
     Ok(())
 }
 
 // What `echo` hands to the program.
-fn echoed(command: &str) -> Option<&str> {
+fn echo_text(command: &str) -> Option<&str> {
     command
         .strip_prefix("echo '")?
         .strip_suffix("' | ./achdesk")

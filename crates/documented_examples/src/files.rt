@@ -34,18 +34,18 @@ pub(crate) fn answer_again(rt: &HostRuntime, changes: &str) -> io::Result<Vec<u8
 fn changed_file(rt: &HostRuntime, changes: &str) -> io::Result<Vec<u8>> {
     let mut file = fs::read(rt, "examples/returns.ach")?;
     for change in changes.lines() {
-        file = changed(rt.alloc(), file, change)?;
+        file = apply_change(rt.alloc(), file, change)?;
     }
     Ok(file)
 }
 
 // `record N from P is TEXT`, `record N is left out`, `only the first N bytes`, `N line feeds more`.
-fn changed(alloc: Global, file: Vec<u8>, change: &str) -> Result<Vec<u8>, AllocError> {
+fn apply_change(alloc: Global, file: Vec<u8>, change: &str) -> Result<Vec<u8>, AllocError> {
     match (word(change, 0), word(change, 2)) {
-        ("record", "from") => Ok(overwritten(file, change)),
+        ("record", "from") => Ok(overwrite_record(file, change)),
         ("record", _) => without_record(alloc, file.as_slice(), number(change, 1)),
-        ("only", _) => Ok(shortened(file, number(change, 3))),
-        _ => lengthened(file, number(change, 0)),
+        ("only", _) => Ok(first_bytes(file, number(change, 3))),
+        _ => add_line_feeds(file, number(change, 0)),
     }
 }
 
@@ -58,7 +58,7 @@ fn number(change: &str, place: usize) -> usize {
 }
 
 // Positions count from 1.
-fn overwritten(mut file: Vec<u8>, change: &str) -> Vec<u8> {
+fn overwrite_record(mut file: Vec<u8>, change: &str) -> Vec<u8> {
     let record = LINE.saturating_mul(number(change, 1).saturating_sub(1));
     let from = record.saturating_add(number(change, 3).saturating_sub(1));
     let text = change.splitn(6, ' ').nth(5).unwrap_or("");
@@ -80,12 +80,12 @@ fn without_record(alloc: Global, file: &[u8], number: usize) -> Result<Vec<u8>, 
     Ok(rest)
 }
 
-fn shortened(mut file: Vec<u8>, bytes: usize) -> Vec<u8> {
+fn first_bytes(mut file: Vec<u8>, bytes: usize) -> Vec<u8> {
     file.truncate(bytes);
     file
 }
 
-fn lengthened(mut file: Vec<u8>, line_feeds: usize) -> Result<Vec<u8>, AllocError> {
+fn add_line_feeds(mut file: Vec<u8>, line_feeds: usize) -> Result<Vec<u8>, AllocError> {
     file.resize(file.len().saturating_add(line_feeds), b'\n')?;
     Ok(file)
 }

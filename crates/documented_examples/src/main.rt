@@ -23,8 +23,8 @@ fn main(rt: HostRuntime) -> io::Result<()> {
         println!(rt; "{name}: {agreed} examples agree")?;
     }
     let text = fs::read_to_string(&rt, "docs/BODIES.md")?;
-    let listed = refusals::listed(rt.alloc(), text.as_str())?;
-    println!(rt; "docs/BODIES.md: {listed} refusals are listed")?;
+    let rows = refusals::count_rows(rt.alloc(), text.as_str())?;
+    println!(rt; "docs/BODIES.md: {rows} refusals are listed")?;
     let pay = fs::read(&rt, "examples/pay-1.json")?;
     library::show(&rt, pay.as_slice())
 }

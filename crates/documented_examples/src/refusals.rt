@@ -28,8 +28,8 @@ const NAMES: [RefusalName; 23] = [
     RefusalName::BadCalendar,
 ];
 
-/// How many of the refusals have a row in the page that begins with their number, name and HTTP status.
-pub(crate) fn listed(alloc: Global, page: &str) -> Result<usize, AllocError> {
+/// Counts the refusals that have a row in the page that begins with their number, name and HTTP status.
+pub(crate) fn count_rows(alloc: Global, page: &str) -> Result<usize, AllocError> {
     let mut count = 0usize;
     for name in NAMES {
         let number = name.number();

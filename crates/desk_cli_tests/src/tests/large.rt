@@ -26,7 +26,7 @@ fn submission(alloc: Global, count: usize, entry: &str, last: &str) -> Result<Ve
 }
 
 // A body that has an object with so many lists in one another under a key that nobody reads.
-fn nested(alloc: Global, depth: usize) -> Result<Vec<u8>, AllocError> {
+fn nested_lists(alloc: Global, depth: usize) -> Result<Vec<u8>, AllocError> {
     let mut body = Vec::from_slice(alloc, b"{\"x\":")?;
     for _ in 0..depth {
         body.push(b'[')?;
@@ -117,7 +117,7 @@ fn counts(rt: HostRuntime) -> Result<(), Fail> {
 #[test]
 fn depths(rt: HostRuntime) -> Result<(), Fail> {
     let alloc = rt.alloc();
-    let read = nested(alloc, 126)?;
+    let read = nested_lists(alloc, 126)?;
     assert!(rt;
         answers(
             alloc,
@@ -127,7 +127,7 @@ fn depths(rt: HostRuntime) -> Result<(), Fail> {
         )
     );
     for depth in [127, 130] {
-        let deep = nested(alloc, depth)?;
+        let deep = nested_lists(alloc, depth)?;
         assert!(rt;
             answers(
                 alloc,

@@ -96,7 +96,7 @@ fn a_submission_is_read(rt: HostRuntime) {
 }
 
 // What a body with these fields, and else right ones, is refused for.
-fn refused(
+fn refusal_of_body(
     rt: &(impl Abort + Alloc<A = Global>),
     reference: Option<DraftText>,
     description: &[u8],
@@ -119,21 +119,21 @@ fn the_first_bad_field_is_named(rt: HostRuntime) {
     let bad_check = vec![in rt.alloc(); Some(entry), None].expect(&rt, "entries");
     let large = entries(&rt, &[1, 10_000_000_000]);
     let found = [
-        refused(&rt, Some(text(&rt, b"PAY-1")), b"PAYROLL", large),
-        refused(
+        refusal_of_body(&rt, Some(text(&rt, b"PAY-1")), b"PAYROLL", large),
+        refusal_of_body(
             &rt,
             Some(text(&rt, b"PAY-1")),
             b"PAYROLL",
             entries(&rt, &[]),
         ),
-        refused(
+        refusal_of_body(
             &rt,
             Some(text(&rt, b"PAY-1")),
             b"RETRY PYMT",
             entries(&rt, &[]),
         ),
-        refused(&rt, None, b"RETRY PYMT", entries(&rt, &[])),
-        refused(&rt, Some(text(&rt, b"PAY-1")), b"PAYROLL", bad_check),
+        refusal_of_body(&rt, None, b"RETRY PYMT", entries(&rt, &[])),
+        refusal_of_body(&rt, Some(text(&rt, b"PAY-1")), b"PAYROLL", bad_check),
     ];
     let wanted = [
         bad(Field::Cents, 2),
@@ -216,18 +216,18 @@ fn retry(
 }
 
 // A retry that was authorized on a day.
-fn authorized(rt: &(impl Abort + Alloc<A = Global>), bytes: &[u8]) -> Retry {
+fn authorized_retry(rt: &(impl Abort + Alloc<A = Global>), bytes: &[u8]) -> Retry {
     retry(rt, Optional::Given(text(rt, bytes))).expect(rt, "a retry")
 }
 
 #[test]
 fn a_retry_is_read(rt: HostRuntime) {
-    let first = authorized(&rt, b"2025-01-14");
+    let first = authorized_retry(&rt, b"2025-01-14");
     assert_eq!(rt; first.of.bytes(), b"PAY-2".as_slice());
     assert_eq!(rt; first.index, 1);
     assert_eq!(rt; first.authorized, Some(day(&rt, b"2025-01-14")));
-    assert!(rt; first.is_same(&authorized(&rt, b"2025-01-14")));
-    assert!(rt; !first.is_same(&authorized(&rt, b"2025-01-15")));
+    assert!(rt; first.is_same(&authorized_retry(&rt, b"2025-01-14")));
+    assert!(rt; !first.is_same(&authorized_retry(&rt, b"2025-01-15")));
     let unauthorized = retry(&rt, Optional::Absent).expect(&rt, "a retry");
     assert!(rt; unauthorized.authorized.is_none());
     let refused = retry(&rt, Optional::Wrong).err();

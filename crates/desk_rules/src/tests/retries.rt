@@ -5,7 +5,7 @@ use crate::{Attempt, EntryState, is_too_late, may_retry};
 use bank_days::Day;
 use std::process::Abort;
 
-fn returned(rt: &impl Abort, settled: &[u8], text: &[u8; 3], taken: &[u8]) -> Attempt {
+fn returned_attempt(rt: &impl Abort, settled: &[u8], text: &[u8; 3], taken: &[u8]) -> Attempt {
     Attempt::Returned {
         settled: day(rt, settled),
         code: code(rt, text),
@@ -14,10 +14,10 @@ fn returned(rt: &impl Abort, settled: &[u8], text: &[u8; 3], taken: &[u8]) -> At
 }
 
 fn original(rt: &impl Abort) -> Attempt {
-    returned(rt, b"2025-01-10", b"R01", b"2025-01-14")
+    returned_attempt(rt, b"2025-01-10", b"R01", b"2025-01-14")
 }
 
-fn sent(settled: Day) -> Attempt {
+fn sent_attempt(settled: Day) -> Attempt {
     Attempt::Sent { settled }
 }
 
@@ -27,7 +27,7 @@ fn a_retry_settles_within_180_days_of_the_original(rt: HostRuntime) {
     let today = day(&rt, b"2025-07-01");
     let attempts = [
         original(&rt),
-        returned(&rt, b"2025-03-10", b"R01", b"2025-03-11"),
+        returned_attempt(&rt, b"2025-03-10", b"R01", b"2025-03-11"),
     ];
     for count in [1, 2] {
         let tried = &attempts[..count];
@@ -56,8 +56,8 @@ fn a_third_retry_is_refused(rt: HostRuntime) {
     let asked = day(&rt, b"2025-01-24");
     let attempts = [
         original(&rt),
-        returned(&rt, b"2025-01-16", b"R09", b"2025-01-17"),
-        returned(&rt, b"2025-01-22", b"R01", b"2025-01-23"),
+        returned_attempt(&rt, b"2025-01-16", b"R09", b"2025-01-17"),
+        returned_attempt(&rt, b"2025-01-22", b"R01", b"2025-01-23"),
     ];
     assert_eq!(rt;
         may_retry(&attempts[..1], asked, None, today, &calendar),
@@ -80,9 +80,9 @@ fn the_original_and_the_newest_attempt_came_back(rt: HostRuntime) {
     let asked = day(&rt, b"2025-01-16");
     let rows = [
         [original(&rt), Attempt::Held],
-        [original(&rt), sent(today)],
+        [original(&rt), sent_attempt(today)],
         [Attempt::Held, original(&rt)],
-        [sent(today), original(&rt)],
+        [sent_attempt(today), original(&rt)],
     ];
     for attempts in &rows {
         assert_eq!(rt;
@@ -91,7 +91,7 @@ fn the_original_and_the_newest_attempt_came_back(rt: HostRuntime) {
         );
     }
     assert_eq!(rt;
-        may_retry(&[sent(today)], asked, None, today, &calendar),
+        may_retry(&[sent_attempt(today)], asked, None, today, &calendar),
         Err(NotReturned)
     );
 }
@@ -113,7 +113,7 @@ fn a_stopped_payment_is_retried_once_it_is_authorized_again(rt: HostRuntime) {
         (b"R09", Some(b"2025-01-13"), true),
     ];
     for (text, authorized, accepted) in rows {
-        let attempts = [returned(&rt, b"2025-01-10", text, b"2025-01-14")];
+        let attempts = [returned_attempt(&rt, b"2025-01-10", text, b"2025-01-14")];
         let authorized = authorized.map(|text| day(&rt, text));
         let wanted = if accepted {
             Ok(())
@@ -141,7 +141,7 @@ fn what_lapsed_is_no_attempt(rt: HostRuntime) {
     };
     let rows = [
         (EntryState::Held, Some(Attempt::Held)),
-        (EntryState::Sent { settled }, Some(sent(settled))),
+        (EntryState::Sent { settled }, Some(sent_attempt(settled))),
         (
             back,
             Some(Attempt::Returned {

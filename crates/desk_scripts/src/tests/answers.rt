@@ -59,7 +59,7 @@ fn state(rt: &impl Abort, out: &mut String, state: EntryState) {
     }
 }
 
-fn found(rt: &impl Abort, out: &mut String, f: &SubmissionReport) {
+fn submission_report(rt: &impl Abort, out: &mut String, f: &SubmissionReport) {
     put_bytes(rt, out, f.reference.bytes());
     write!(out, " order {} ", f.order).ok().expect(rt, "memory");
     put_day(rt, out, f.day);
@@ -181,7 +181,7 @@ fn holidays(rt: &impl Abort, out: &mut String, count: u64) {
 fn company_done(rt: &impl Abort, out: &mut String, done: &Outcome) {
     match done {
         Outcome::Submitted(made) => receipt(rt, out, made),
-        Outcome::Found(Some(row)) => found(rt, out, row),
+        Outcome::Found(Some(row)) => submission_report(rt, out, row),
         Outcome::Returns(rows) => returns(rt, out, rows),
         Outcome::Changes(rows) => changes(rt, out, rows),
         Outcome::Statement(made) => statement(rt, out, made),

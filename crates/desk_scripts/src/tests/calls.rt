@@ -78,7 +78,7 @@ fn draft(rt: &(impl Abort + Alloc<A = Global>), line: &str) -> Draft {
     }
 }
 
-fn authorized(rt: &(impl Abort + Alloc<A = Global>), day: &str) -> Optional<DraftText> {
+fn authorization(rt: &(impl Abort + Alloc<A = Global>), day: &str) -> Optional<DraftText> {
     if day.is_empty() {
         Optional::Absent
     } else {
@@ -93,7 +93,7 @@ fn retry(rt: &(impl Abort + Alloc<A = Global>), line: &str) -> RetryDraft {
         of: text(rt, word(line, 3)),
         index: Some(number(rt, word(line, 4))),
         day: text(rt, word(line, 5)),
-        authorized: authorized(rt, word(line, 6)),
+        authorized: authorization(rt, word(line, 6)),
     }
 }
 

@@ -11,7 +11,7 @@ fn short_text<const N: usize>(rt: &impl Abort, text: &[u8]) -> ShortText<N> {
 }
 
 // An entry of 1.00 that settled on 2025-03-03.
-fn sent(rt: &impl Abort, sequence: u32) -> SentEntry {
+fn sent_entry(rt: &impl Abort, sequence: u32) -> SentEntry {
     SentEntry {
         sequence,
         company: Id::new(b"BAKE01").ok().expect(rt, "a company"),
@@ -38,7 +38,11 @@ fn sent(rt: &impl Abort, sequence: u32) -> SentEntry {
 
 // The desk has sent almost as many entries as there are sequences.
 fn old_entries(rt: &impl Abort) -> [SentEntry; 3] {
-    [sent(rt, 1), sent(rt, 2), sent(rt, 9_999_998)]
+    [
+        sent_entry(rt, 1),
+        sent_entry(rt, 2),
+        sent_entry(rt, 9_999_998),
+    ]
 }
 
 // A batch of two begins again at 1 once the entries there settled 366 days ago; a return then meets the
