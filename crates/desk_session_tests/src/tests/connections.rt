@@ -1,5 +1,5 @@
 //! When the connection ends.
-use crate::tests::texts::{EMPTY, EMPTY_CLOSE, GET, joined, over_pieces};
+use crate::tests::texts::{EMPTY, EMPTY_CLOSE, GET, join_texts, over_pieces};
 use desk_session::Ended;
 use std::test::Fail;
 
@@ -30,10 +30,10 @@ fn ends_where_a_message_asks_for_it(rt: HostRuntime) -> Result<(), Fail> {
     ];
     for (head, answers) in cases {
         let start: &[u8] = b"GET /ops/suspense?close ";
-        let bytes = joined(&rt, &[start, head, b"\r\n", GET]);
+        let bytes = join_texts(&rt, &[start, head, b"\r\n", GET]);
         let (ended, written) = over_pieces(&rt, &bytes, usize::MAX);
         assert_eq!(rt; ended, Ok(Ended::Closed));
-        assert_eq!(rt; written, joined(&rt, answers));
+        assert_eq!(rt; written, join_texts(&rt, answers));
     }
     Ok(())
 }

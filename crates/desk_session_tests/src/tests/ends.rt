@@ -1,8 +1,8 @@
 //! Where sessions end.
 use crate::tests::readers::Pieces;
 use crate::tests::texts::{
-    ABC, BAD_HEAD, EMPTY, EMPTY_CLOSE, GET, POST_ABC, UNAVAILABLE, add, front, joined, over_pieces,
-    sink,
+    ABC, BAD_HEAD, EMPTY, EMPTY_CLOSE, GET, POST_ABC, UNAVAILABLE, add, front, join_texts,
+    over_pieces, sink,
 };
 use desk_session::{Ended, session};
 use std::alloc::Global;
@@ -19,8 +19,8 @@ const BAD_GET: &[u8] = b"GET /\x01 HTTP/1.1\r\n\r\n";
 
 /// The texts end a session so, with these answers, in one read and in many.
 fn ends(rt: &(impl Abort + Alloc<A = Global>), texts: &[&[u8]], end: Ended, answers: &[&[u8]]) {
-    let bytes = joined(rt, texts);
-    let wanted = joined(rt, answers);
+    let bytes = join_texts(rt, texts);
+    let wanted = join_texts(rt, answers);
     for most in [1, 2, 7, usize::MAX] {
         let (ended, written) = over_pieces(rt, &bytes, most);
         assert_eq!(rt; ended, Ok(end));
@@ -81,7 +81,7 @@ fn is_full_with_the_thousandth(rt: HostRuntime) -> Result<(), Fail> {
 /// An answerer that cannot answer makes the session write the constant text and end.
 #[test]
 fn ends_with_the_unavailable_text(rt: HostRuntime) -> Result<(), Fail> {
-    let bytes = joined(&rt, &[GET, GET, GET]);
+    let bytes = join_texts(&rt, &[GET, GET, GET]);
     let mut desk = front(&rt);
     desk.left = 1;
     let mut writer = sink(&rt);
@@ -92,6 +92,6 @@ fn ends_with_the_unavailable_text(rt: HostRuntime) -> Result<(), Fail> {
         &mut writer,
     );
     assert_eq!(rt; ended, Ok(Ended::Closed));
-    assert_eq!(rt; writer.taken, joined(&rt, &[EMPTY, UNAVAILABLE]));
+    assert_eq!(rt; writer.taken, join_texts(&rt, &[EMPTY, UNAVAILABLE]));
     Ok(())
 }

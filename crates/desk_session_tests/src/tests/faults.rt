@@ -1,24 +1,24 @@
 //! Readers and writers that fail, or are interrupted.
 use crate::tests::readers::Pieces;
-use crate::tests::texts::{ABC, EMPTY, GET, POST_ABC, joined, run, sink};
+use crate::tests::texts::{ABC, EMPTY, GET, POST_ABC, join_texts, run, sink};
 use desk_session::{Ended, SessionFault};
 use std::test::Fail;
 
 /// The k-th read fails, for each k: what was written are the answers to the messages that were whole.
 #[test]
 fn tells_a_read_that_fails(rt: HostRuntime) -> Result<(), Fail> {
-    let bytes = joined(&rt, &[GET, POST_ABC, GET]);
+    let bytes = join_texts(&rt, &[GET, POST_ABC, GET]);
     let second = GET.len() + POST_ABC.len();
     for good in 0..25 {
         let given = (good as usize * 6).min(bytes.len());
         let wanted = if given < GET.len() {
-            joined(&rt, &[])
+            join_texts(&rt, &[])
         } else if given < second {
-            joined(&rt, &[EMPTY])
+            join_texts(&rt, &[EMPTY])
         } else if given < bytes.len() {
-            joined(&rt, &[EMPTY, ABC])
+            join_texts(&rt, &[EMPTY, ABC])
         } else {
-            joined(&rt, &[EMPTY, ABC, EMPTY])
+            join_texts(&rt, &[EMPTY, ABC, EMPTY])
         };
         let mut reader = Pieces::new(&bytes, 6);
         reader.good = good;
@@ -38,8 +38,8 @@ fn tells_a_read_that_fails(rt: HostRuntime) -> Result<(), Fail> {
 /// A writer fails after j bytes, for each j of two answers: just these were written.
 #[test]
 fn tells_a_write_that_fails(rt: HostRuntime) -> Result<(), Fail> {
-    let bytes = joined(&rt, &[POST_ABC, GET, GET]);
-    let answers = joined(&rt, &[ABC, EMPTY, EMPTY]);
+    let bytes = join_texts(&rt, &[POST_ABC, GET, GET]);
+    let answers = join_texts(&rt, &[ABC, EMPTY, EMPTY]);
     for room in 0..ABC.len() + EMPTY.len() {
         for most in [1, 13, usize::MAX] {
             let mut writer = sink(&rt);
@@ -65,26 +65,45 @@ fn tells_a_write_that_takes_nothing(rt: HostRuntime) -> Result<(), Fail> {
     Ok(())
 }
 
-/// A session bears 1,000 interruptions of reads and writes together, and no more.
+/// A flush that fails is a write that failed, though the writer took the whole answer: nothing more is
+/// answered.
+#[test]
+fn tells_a_flush_that_fails(rt: HostRuntime) -> Result<(), Fail> {
+    let bytes = join_texts(&rt, &[POST_ABC, GET, GET]);
+    let answers: [&[&[u8]]; 3] = [&[ABC], &[ABC, EMPTY], &[ABC, EMPTY, EMPTY]];
+    for good in 0..3 {
+        let mut writer = sink(&rt);
+        writer.good_flushes = good;
+        let ended = run(&rt, &mut Pieces::new(&bytes, 50), &mut writer);
+        assert_eq!(rt; ended, Err(SessionFault::Write));
+        assert_eq!(rt; writer.taken, join_texts(&rt, answers[good as usize]));
+    }
+    Ok(())
+}
+
+/// A session bears 1,000 interruptions of reads, writes and flushes together, and no more.
 #[test]
 fn bears_a_thousand_interruptions(rt: HostRuntime) -> Result<(), Fail> {
-    let cases: [(u32, u32, Result<Ended, SessionFault>); 6] = [
-        (1_000, 0, Ok(Ended::Closed)),
-        (1_001, 0, Err(SessionFault::Read)),
-        (0, 1_000, Ok(Ended::Closed)),
-        (0, 1_001, Err(SessionFault::Write)),
-        (400, 600, Ok(Ended::Closed)),
-        (400, 601, Err(SessionFault::Write)),
+    let cases: [(u32, u32, u32, Result<Ended, SessionFault>, &[u8]); 9] = [
+        (1_000, 0, 0, Ok(Ended::Closed), EMPTY),
+        (1_001, 0, 0, Err(SessionFault::Read), b""),
+        (0, 1_000, 0, Ok(Ended::Closed), EMPTY),
+        (0, 1_001, 0, Err(SessionFault::Write), b""),
+        (0, 0, 1_000, Ok(Ended::Closed), EMPTY),
+        (0, 0, 1_001, Err(SessionFault::Write), EMPTY),
+        (400, 600, 0, Ok(Ended::Closed), EMPTY),
+        (400, 601, 0, Err(SessionFault::Write), b""),
+        (400, 300, 301, Err(SessionFault::Write), EMPTY),
     ];
-    for (reads, writes, end) in cases {
+    for (reads, writes, flushes, end, written) in cases {
         let mut reader = Pieces::new(GET, 9);
         reader.interruptions = reads;
         let mut writer = sink(&rt);
         writer.interruptions = writes;
+        writer.flush_interruptions = flushes;
         let ended = run(&rt, &mut reader, &mut writer);
         assert_eq!(rt; ended, end);
-        let wanted = if end.is_ok() { EMPTY } else { b"" };
-        assert_eq!(rt; writer.taken.as_slice(), wanted);
+        assert_eq!(rt; writer.taken.as_slice(), written);
     }
     Ok(())
 }

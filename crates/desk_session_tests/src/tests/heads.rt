@@ -1,5 +1,5 @@
 //! Heads at their limits.
-use crate::tests::texts::{BAD_HEAD, EMPTY, GET, add, joined, over_pieces};
+use crate::tests::texts::{BAD_HEAD, EMPTY, GET, add, join_texts, over_pieces};
 use desk_session::Ended;
 use std::alloc::Global;
 use std::process::Abort;
@@ -7,7 +7,7 @@ use std::test::Fail;
 
 /// A GET with this beginning whose head has so many bytes.
 fn head_of(rt: &(impl Abort + Alloc<A = Global>), start: &[u8], size: usize) -> Vec<u8> {
-    let mut head = joined(rt, &[start, b"GET /ops/settlement HTTP/1.1\r\nA: "]);
+    let mut head = join_texts(rt, &[start, b"GET /ops/settlement HTTP/1.1\r\nA: "]);
     for _ in head.len() + 4..size {
         add(rt, &mut head, b"x");
     }
@@ -22,11 +22,11 @@ fn takes_heads_to_their_size(rt: HostRuntime) -> Result<(), Fail> {
         for most in [1, 4_000, usize::MAX] {
             let head = head_of(&rt, start, 16_384);
             assert_eq!(rt; head.len(), 16_384);
-            let (ended, written) = over_pieces(&rt, &joined(&rt, &[&head, GET]), most);
+            let (ended, written) = over_pieces(&rt, &join_texts(&rt, &[&head, GET]), most);
             assert_eq!(rt; ended, Ok(Ended::Closed));
-            assert_eq!(rt; written, joined(&rt, &[EMPTY, EMPTY]));
+            assert_eq!(rt; written, join_texts(&rt, &[EMPTY, EMPTY]));
             let head = head_of(&rt, start, 16_385);
-            let (ended, written) = over_pieces(&rt, &joined(&rt, &[&head, GET]), most);
+            let (ended, written) = over_pieces(&rt, &join_texts(&rt, &[&head, GET]), most);
             assert_eq!(rt; ended, Ok(Ended::Closed));
             assert_eq!(rt; written.as_slice(), BAD_HEAD);
         }
@@ -62,7 +62,7 @@ fn tells_heads_without_an_end(rt: HostRuntime) -> Result<(), Fail> {
 #[test]
 fn takes_heads_of_thirty_two_fields(rt: HostRuntime) -> Result<(), Fail> {
     for (count, answer) in [(32, EMPTY), (33, BAD_HEAD)] {
-        let mut head = joined(&rt, &[b"GET /ops/settlement HTTP/1.1\r\n"]);
+        let mut head = join_texts(&rt, &[b"GET /ops/settlement HTTP/1.1\r\n"]);
         for _ in 0..count {
             add(&rt, &mut head, b"A: b\r\n");
         }

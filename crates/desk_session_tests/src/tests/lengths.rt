@@ -1,6 +1,6 @@
 //! What heads say of their bodies.
 use crate::tests::texts::{
-    ABC, BAD_HEAD, EMPTY, GET, LENGTH_REQUIRED, TOO_LARGE, add, joined, over_pieces,
+    ABC, BAD_HEAD, EMPTY, GET, LENGTH_REQUIRED, TOO_LARGE, add, join_texts, over_pieces,
 };
 use desk_session::Ended;
 use std::test::Fail;
@@ -42,11 +42,11 @@ fn reads_bodies_by_their_lengths(rt: HostRuntime) -> Result<(), Fail> {
     ];
     for (fields, answers) in cases {
         let start: &[u8] = b"POST /ops/returns HTTP/1.1\r\n";
-        let bytes = joined(&rt, &[start, fields, b"\r\nabc", GET]);
+        let bytes = join_texts(&rt, &[start, fields, b"\r\nabc", GET]);
         for most in [1, usize::MAX] {
             let (ended, written) = over_pieces(&rt, &bytes, most);
             assert_eq!(rt; ended, Ok(Ended::Closed));
-            assert_eq!(rt; written, joined(&rt, answers));
+            assert_eq!(rt; written, join_texts(&rt, answers));
         }
     }
     Ok(())
@@ -71,9 +71,9 @@ fn reads_bodies_of_every_method(rt: HostRuntime) -> Result<(), Fail> {
         ),
     ];
     for (text, answers) in cases {
-        let (ended, written) = over_pieces(&rt, &joined(&rt, &[text, GET]), usize::MAX);
+        let (ended, written) = over_pieces(&rt, &join_texts(&rt, &[text, GET]), usize::MAX);
         assert_eq!(rt; ended, Ok(Ended::Closed));
-        assert_eq!(rt; written, joined(&rt, answers));
+        assert_eq!(rt; written, join_texts(&rt, answers));
     }
     Ok(())
 }
@@ -85,8 +85,8 @@ fn reads_the_longest_body(rt: HostRuntime) -> Result<(), Fail> {
     let start: &[u8] = b"POST /ops/returns HTTP/1.1\r\nContent-Length: 4194304\r\n\r\n";
     let head: &[u8] =
         b"HTTP/1.1 200 OK\r\nContent-Type: application/json\r\nContent-Length: 4194304\r\nConnection: keep-alive\r\n\r\n";
-    let mut bytes = joined(&rt, &[start]);
-    let mut wanted = joined(&rt, &[head]);
+    let mut bytes = join_texts(&rt, &[start]);
+    let mut wanted = join_texts(&rt, &[head]);
     for _ in 0..1_024 {
         add(&rt, &mut bytes, &piece);
         add(&rt, &mut wanted, &piece);

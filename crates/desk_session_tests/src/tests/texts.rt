@@ -48,8 +48,8 @@ pub fn add(rt: &impl Abort, out: &mut Vec<u8>, bytes: &[u8]) {
     out.extend_from_slice(bytes).ok().expect(rt, "memory");
 }
 
-/// The texts one after another.
-pub fn joined(rt: &(impl Abort + Alloc<A = Global>), texts: &[&[u8]]) -> Vec<u8> {
+/// Joins the texts, one after another.
+pub fn join_texts(rt: &(impl Abort + Alloc<A = Global>), texts: &[&[u8]]) -> Vec<u8> {
     let mut out = Vec::new(rt.alloc());
     for text in texts {
         add(rt, &mut out, text);
@@ -70,6 +70,8 @@ pub fn sink(rt: &(impl Abort + Alloc<A = Global>)) -> Sink {
         most: usize::MAX,
         room: usize::MAX,
         interruptions: 0,
+        flush_interruptions: 0,
+        good_flushes: u32::MAX,
     }
 }
 

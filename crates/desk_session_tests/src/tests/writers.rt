@@ -11,6 +11,10 @@ pub struct Sink {
     pub room: usize,
     /// How many writes are interrupted before the next one takes bytes.
     pub interruptions: u32,
+    /// How many flushes are interrupted before the next one flushes.
+    pub flush_interruptions: u32,
+    /// How many flushes are good before the one that fails.
+    pub good_flushes: u32,
 }
 
 impl Write for Sink {
@@ -33,6 +37,16 @@ impl Write for Sink {
     }
 
     fn flush(&mut self) -> io::Result<()> {
+        if self.flush_interruptions > 0 {
+            self.flush_interruptions -= 1;
+            return Err(ErrorKind::Interrupted.into());
+        }
+        if self.good_flushes == 0 {
+            // A writer that is asked again would go on.
+            self.good_flushes = u32::MAX;
+            return Err(ErrorKind::BrokenPipe.into());
+        }
+        self.good_flushes -= 1;
         Ok(())
     }
 }
