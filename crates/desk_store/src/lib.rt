@@ -12,6 +12,3 @@ mod store;
 pub use faulty::FaultyStore;
 pub use lists::store::ListStore;
 pub use store::{CutRows, IntakeRows, Store, StoreFault};
-
-#[cfg(test)]
-mod tests;

@@ -1,7 +1,6 @@
 //! A store is written to and read from here: two companies with a submission each, a cut of one,
 //! and its return.
 
-use crate::{CutRows, IntakeRows, ListStore, Store};
 use ach_fields::{Cents, Id, Ref, Routing, ShortText, Trace};
 use bank_days::{Calendar, Day};
 use desk_accounts::{Account, Posting, post_cut, post_return, post_suspense};
@@ -14,6 +13,7 @@ use desk_rules::{
     AccountKind, Company, Direction, Entries, Entry, EntryState, Limits, ReturnCode, SecCode,
     Submission,
 };
+use desk_store::{CutRows, IntakeRows, ListStore, Store};
 use std::alloc::Global;
 use std::process::Abort;
 use std::test::Fail;

@@ -1,6 +1,6 @@
 //! A store refuses one call here.
 use super::calls::{company, day, new_store};
-use crate::{FaultyStore, Store};
+use desk_store::{FaultyStore, Store};
 use std::test::Fail;
 
 // Which call is refused, and which of three calls are answered.

@@ -1,8 +1,8 @@
 //! Several cuts send entries here, with their traces and sequences.
 use super::calls::{day, new_store, sent_entry};
-use crate::{CutRows, ListStore, Store};
 use ach_fields::Trace;
 use desk_history::SentEntry;
+use desk_store::{CutRows, ListStore, Store};
 use std::alloc::Global;
 use std::process::Abort;
 use std::test::Fail;
