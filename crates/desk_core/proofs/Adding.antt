@@ -32,21 +32,21 @@ answers_added c r come_to told old mid new v (Ok a) reads adds = λ b held.
 answers_added c r come_to told old mid new v (Err fault) reads adds = λ b held. adds b (reads b held).1
 
 pub leaves_added : (c : List ℕ) (r : Request) (come_to : Book → Verdict) → ((b : Book) → come_to b ≡ verdict_on b c r)
-    → (old mid left_old left_mid left_new : Book → Type 0) (v : Verdict) (result : Result Answer StoreFault)
-    → ((b : Book) → old b → (v ≡ come_to b) × mid b) → ((b : Book) → left_mid b → left_old b)
-    → LeavesAdded mid left_mid result c v left_new
-    → LeavesCall old left_old result (λ b. with_added_row c (added_row b c r) b) left_new
-leaves_added c r come_to told old mid left_old left_mid left_new v (Ok a) reads left adds = λ b found held leaves.
+    → {Kept : Type 0} (keeps : Kept → Book → Type 0) (old mid : Book → Type 0) (left_old left_mid left_new : Kept → Type 0) (v : Verdict) (result : Result Answer StoreFault)
+    → ((b : Book) → old b → (v ≡ come_to b) × mid b) → ((k : Kept) → left_mid k → left_old k)
+    → LeavesAdded keeps mid left_mid result c v left_new
+    → LeavesCall keeps old left_old result (λ b. with_added_row c (added_row b c r) b) left_new
+leaves_added c r come_to told keeps old mid left_old left_mid left_new v (Ok a) reads left adds = λ b k held leaves.
     let read = reads b held in
     let more = added c r b v (read.0 ∙ told b) in
-    elim (adds b found read.1 more.0 leaves) [
-      | inl none ↦ inl (left found none.0, sym more.1 ∙ none.1)
-      | inr whole ↦ inr (whole ∙ more.1)
+    elim (adds b k read.1 more.0 leaves) [
+      | inl none ↦ inl (left k none.0, sym more.1 ∙ none.1)
+      | inr whole ↦ inr (subst (keeps k) more.1 whole)
     ]
-leaves_added c r come_to told old mid left_old left_mid left_new v (Err fault) reads left adds = λ b found held leaves.
+leaves_added c r come_to told keeps old mid left_old left_mid left_new v (Err fault) reads left adds = λ b k held leaves.
     let read = reads b held in
     let more = added c r b v (read.0 ∙ told b) in
-    elim (adds b found read.1 more.0 leaves) [
-      | inl none ↦ inl (left found none)
-      | inr whole ↦ inr (whole ∙ more.1)
+    elim (adds b k read.1 more.0 leaves) [
+      | inl none ↦ inl (left k none)
+      | inr whole ↦ inr (subst (keeps k) more.1 whole)
     ]

@@ -1,5 +1,5 @@
 -- The outcome of a call by the book is its outcome by the history.
-use Rattle.std.proofs.Common.{◌∙◌, sym, ℕ, List, inl, inr}
+use Rattle.std.proofs.Common.{◌∙◌, sym, subst, ℕ, List, inl, inr}
 use Rattle.std.specs.Prelude.{Result, Ok, Err}
 use Rattle.desk_history.specs.declared.answer.Answer.{Answer}
 use Rattle.desk_history.specs.declared.call.Call.{Call}
@@ -17,16 +17,16 @@ own_reply tells old new call identity key H c r (Ok a) answers asked =
     (answers (Of c r) asked.message (book_of identity key H) asked.book).0 ∙ sym (tells.answers identity key H (Of c r) asked.history)
 own_reply tells old new call identity key H c r (Err fault) answers asked = tt
 
-pub leaves_on : BookTells → (holds old new : Book → Type 0) (call : Call) (identity : Identity) (key : List ℕ) (H : List Pair) (m : Message) (found : Book) (result : Result Answer StoreFault)
-    → LeavesMessage holds old call result new → IsAsked holds call identity key H m → new found → LeavesOn old identity key H m result found
-leaves_on tells holds old new call identity key H m found (Ok a) leaves asked more =
+pub leaves_on : BookTells → {Kept : Type 0} (keeps : Kept → Book → Type 0) (holds : Book → Type 0) (old new : Kept → Type 0) (call : Call) (identity : Identity) (key : List ℕ) (H : List Pair) (m : Message) (k : Kept) (result : Result Answer StoreFault)
+    → LeavesMessage keeps holds old call result new → IsAsked holds call identity key H m → new k → LeavesOn keeps old identity key H m result k
+leaves_on tells keeps holds old new call identity key H m k (Ok a) leaves asked more =
     let step = tells.steps identity key H m asked.history in
-    elim (leaves m asked.message (book_of identity key H) found asked.book more) [
+    elim (leaves m asked.message (book_of identity key H) k asked.book more) [
       | inl same ↦ inl (same.0, step ∙ same.1)
-      | inr made ↦ inr (made ∙ sym step)
+      | inr made ↦ inr (subst (keeps k) (sym step) made)
     ]
-leaves_on tells holds old new call identity key H m found (Err fault) leaves asked more =
-    elim (leaves m asked.message (book_of identity key H) found asked.book more) [
+leaves_on tells keeps holds old new call identity key H m k (Err fault) leaves asked more =
+    elim (leaves m asked.message (book_of identity key H) k asked.book more) [
       | inl before ↦ inl before
-      | inr made ↦ inr (made ∙ sym (tells.steps identity key H m asked.history))
+      | inr made ↦ inr (subst (keeps k) (sym (tells.steps identity key H m asked.history)) made)
     ]

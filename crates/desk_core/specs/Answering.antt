@@ -12,11 +12,11 @@ abbrev pub Answers : (Book → Type 0) → Result Answer StoreFault → (Book �
 Answers old (Ok a) answer after new = (b : Book) → old b → (a ≡ answer b) × new (after b)
 Answers old (Err fault) answer after new = (b : Book) → old b → new b
 
--- What a crash may leave after a call: nothing new where it wrote nothing, the book that it made where it
--- wrote; and where the store could not act, either.
-abbrev pub LeavesCall : (Book → Type 0) → (Book → Type 0) → Result Answer StoreFault → (Book → Book) → (Book → Type 0) → Type 0
-LeavesCall holds old (Ok a) after new = (b found : Book) → holds b → new found → (old found × (after b ≡ b)) ⊎ (found ≡ after b)
-LeavesCall holds old (Err fault) after new = (b found : Book) → holds b → new found → old found ⊎ (found ≡ after b)
+-- What a crash may leave after a call: nothing new where it wrote nothing, what keeps the book that it made
+-- where it wrote; and where the store could not act, either.
+abbrev pub LeavesCall : {Kept : Type 0} → (keeps : Kept → Book → Type 0) → (holds : Book → Type 0) → (old : Kept → Type 0) → Result Answer StoreFault → (after : Book → Book) → (new : Kept → Type 0) → Type 0
+LeavesCall {Kept} keeps holds old (Ok a) after new = (b : Book) (k : Kept) → holds b → new k → (old k × (after b ≡ b)) ⊎ keeps k (after b)
+LeavesCall {Kept} keeps holds old (Err fault) after new = (b : Book) (k : Kept) → holds b → new k → old k ⊎ keeps k (after b)
 
 -- ---- who may call
 

@@ -20,8 +20,8 @@ use Rattle.desk_core.specs.Answering.{Answers, LeavesCall}
 abbrev pub AnswersCall : (Book → Type 0) → Call → Result Answer StoreFault → (Book → Type 0) → Type 0
 AnswersCall old call result new = (m : Message) → IsMessageOf call m → Answers old result (λ b. answer_on b m) (λ b. after_on b m) new
 
-abbrev pub LeavesMessage : (Book → Type 0) → (Book → Type 0) → Call → Result Answer StoreFault → (Book → Type 0) → Type 0
-LeavesMessage holds old call result new = (m : Message) → IsMessageOf call m → LeavesCall holds old result (λ b. after_on b m) new
+abbrev pub LeavesMessage : {Kept : Type 0} → (keeps : Kept → Book → Type 0) → (holds : Book → Type 0) → (old : Kept → Type 0) → Call → Result Answer StoreFault → (new : Kept → Type 0) → Type 0
+LeavesMessage keeps holds old call result new = (m : Message) → IsMessageOf call m → LeavesCall keeps holds old result (λ b. after_on b m) new
 
 -- ---- by the history
 
@@ -52,12 +52,12 @@ IsOwnReply identity H c r (Err fault) = Unit {0}
 abbrev pub Replies : (Book → Type 0) → Call → Result Answer StoreFault → Type 0
 Replies old call result = (identity : Identity) (key : List ℕ) (H : List Pair) (c : List ℕ) (r : Request) → IsAsked old call identity key H (Of c r) → IsOwnReply identity H c r result
 
-abbrev pub LeavesOn : (Book → Type 0) → Identity → List ℕ → List Pair → Message → Result Answer StoreFault → Book → Type 0
-LeavesOn old identity key H m (Ok a) found = (old found × (book_after identity key H m ≡ book_of identity key H)) ⊎ (found ≡ book_after identity key H m)
-LeavesOn old identity key H m (Err fault) found = old found ⊎ (found ≡ book_after identity key H m)
+abbrev pub LeavesOn : {Kept : Type 0} → (keeps : Kept → Book → Type 0) → (old : Kept → Type 0) → Identity → (key : List ℕ) → (H : List Pair) → Message → Result Answer StoreFault → Kept → Type 0
+LeavesOn keeps old identity key H m (Ok a) k = (old k × (book_after identity key H m ≡ book_of identity key H)) ⊎ keeps k (book_after identity key H m)
+LeavesOn keeps old identity key H m (Err fault) k = old k ⊎ keeps k (book_after identity key H m)
 
--- A crash after the call leaves what it could leave before, or the book of the history with this pair;
--- where the call changed the book, the latter alone.
-abbrev pub LeavesBook : (Book → Type 0) → (Book → Type 0) → Call → Result Answer StoreFault → (Book → Type 0) → Type 0
-LeavesBook holds old call result new =
-    (identity : Identity) (key : List ℕ) (H : List Pair) (m : Message) (found : Book) → IsAsked holds call identity key H m → new found → LeavesOn old identity key H m result found
+-- A crash after the call leaves what it could leave before, or what keeps the book of the history with this
+-- pair; where the call changed the book, the latter alone.
+abbrev pub LeavesBook : {Kept : Type 0} → (keeps : Kept → Book → Type 0) → (holds : Book → Type 0) → (old : Kept → Type 0) → Call → Result Answer StoreFault → (new : Kept → Type 0) → Type 0
+LeavesBook {Kept} keeps holds old call result new =
+    (identity : Identity) (key : List ℕ) (H : List Pair) (m : Message) (k : Kept) → IsAsked holds call identity key H m → new k → LeavesOn keeps old identity key H m result k

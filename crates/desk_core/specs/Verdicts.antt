@@ -98,6 +98,6 @@ abbrev pub Adds : (Book → Type 0) → Result Answer StoreFault → List ℕ �
 Adds old (Ok a) c v new = (b : Book) → old b → IsNextOf c v.added b → (a ≡ v.answer) × new (with_added c v.added b)
 Adds old (Err fault) c v new = (b : Book) → old b → new b
 
-abbrev pub LeavesAdded : (Book → Type 0) → (Book → Type 0) → Result Answer StoreFault → List ℕ → Verdict → (Book → Type 0) → Type 0
-LeavesAdded holds old (Ok a) c v new = (b found : Book) → holds b → IsNextOf c v.added b → new found → (old found × (with_added c v.added b ≡ b)) ⊎ (found ≡ with_added c v.added b)
-LeavesAdded holds old (Err fault) c v new = (b found : Book) → holds b → IsNextOf c v.added b → new found → old found ⊎ (found ≡ with_added c v.added b)
+abbrev pub LeavesAdded : {Kept : Type 0} → (keeps : Kept → Book → Type 0) → (holds : Book → Type 0) → (old : Kept → Type 0) → Result Answer StoreFault → (company : List ℕ) → Verdict → (new : Kept → Type 0) → Type 0
+LeavesAdded {Kept} keeps holds old (Ok a) c v new = (b : Book) (k : Kept) → holds b → IsNextOf c v.added b → new k → (old k × (with_added c v.added b ≡ b)) ⊎ keeps k (with_added c v.added b)
+LeavesAdded {Kept} keeps holds old (Err fault) c v new = (b : Book) (k : Kept) → holds b → IsNextOf c v.added b → new k → old k ⊎ keeps k (with_added c v.added b)

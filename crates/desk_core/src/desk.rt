@@ -53,7 +53,7 @@ impl<S: Store> Desk<S> {
         ensures before { S.is_clean self.new → S.is_clean self.old }
         ensures goes { S.is_clean self.new → Goes (S.holds self.old) call result (S.holds self.new) }
         ensures replies { S.is_clean self.new → Replies (S.holds self.old) call result }
-        ensures left { S.is_clean self.new → LeavesBook (S.holds self.old) (S.may_leave self.old) call result (S.may_leave self.new) }
+        ensures left { S.is_clean self.new → LeavesBook S.keeps (S.holds self.old) (S.may_leave self.old) call result (S.may_leave self.new) }
     {
         desk_book::book_tells();
         respond(&mut self.store, alloc, call)

@@ -21,10 +21,11 @@ Writes old (Ok done) step new = (b : Book) → old b → step.Admits b → new (
 Writes old (Err fault) step new = (b : Book) → old b → new b
 
 -- A crash after a read leaves nothing that it could not leave before.
-abbrev pub LeavesRead : (Book → Type 0) → (Book → Type 0) → Type 0
-LeavesRead old new = (b : Book) → new b → old b
+abbrev pub LeavesRead : {Kept : Type 0} → (old : Kept → Type 0) → (new : Kept → Type 0) → Type 0
+LeavesRead {Kept} old new = (k : Kept) → new k → old k
 
--- A crash after a write leaves the book that the step made; after a fault, that or what it could leave before.
-abbrev pub LeavesWrite : (Book → Type 0) → (Book → Type 0) → Result (Unit {0}) StoreFault → Step → (Book → Type 0) → Type 0
-LeavesWrite holds old (Ok done) step new = (b found : Book) → holds b → step.Admits b → new found → found ≡ step.after b
-LeavesWrite holds old (Err fault) step new = (b found : Book) → holds b → step.Admits b → new found → old found ⊎ (found ≡ step.after b)
+-- A crash after a write leaves what keeps the book that the step made; after a fault, that or what it could
+-- leave before.
+abbrev pub LeavesWrite : {Kept : Type 0} → (keeps : Kept → Book → Type 0) → (holds : Book → Type 0) → (old : Kept → Type 0) → Result (Unit {0}) StoreFault → Step → (new : Kept → Type 0) → Type 0
+LeavesWrite {Kept} keeps holds old (Ok done) step new = (b : Book) (k : Kept) → holds b → step.Admits b → new k → keeps k (step.after b)
+LeavesWrite {Kept} keeps holds old (Err fault) step new = (b : Book) (k : Kept) → holds b → step.Admits b → new k → old k ⊎ keeps k (step.after b)

@@ -55,6 +55,10 @@ impl Store for FaultyStore {
 
     ghost holds = { λ f. IsHeld f.store };
 
+    ghost Kept = { ⟦<ListStore as Store>⟧.Kept };
+
+    ghost keeps = { ⟦<ListStore as Store>⟧.keeps };
+
     ghost may_leave = { λ f. IsBookOf f.store };
 
     ghost is_clean = { λ _. ⊤ };

@@ -71,8 +71,15 @@ pub trait Store {
     /// Says which books it may hold: the one that it holds.
     ghost holds: { Self → Book → Type 0 };
 
-    /// Says which books a crash may leave.
-    ghost may_leave: { Self → Book → Type 0 };
+    /// Is in what form it keeps a book, as the rows of its tables: what a crash leaves is this.
+    ghost Kept: { Type 0 };
+
+    /// Says of which books this is the form. It may be that of two, since of a sequence that is used
+    /// again the tables of a desk no longer name the older entry.
+    ghost keeps: { Kept → Book → Type 0 };
+
+    /// Says what a crash may leave.
+    ghost may_leave: { Self → Kept → Type 0 };
 
     /// Says that nobody else wrote to it, and that it gave back what was written.
     ghost is_clean: { Self → Type 0 };
@@ -215,25 +222,25 @@ pub trait Store {
     fn set_day(&mut self, alloc: Global, day: Day) -> Result<(), StoreFault>
         ensures before { is_clean self.new → is_clean self.old }
         ensures write { is_clean self.new → Writes (holds self.old) result (set_day day) (holds self.new) }
-        ensures left { is_clean self.new → LeavesWrite (holds self.old) (may_leave self.old) result (set_day day) (may_leave self.new) };
+        ensures left { is_clean self.new → LeavesWrite keeps (holds self.old) (may_leave self.old) result (set_day day) (may_leave self.new) };
 
     /// Sets the holidays.
     fn set_holidays(&mut self, alloc: Global, holidays: Calendar) -> Result<(), StoreFault>
         ensures before { is_clean self.new → is_clean self.old }
         ensures write { is_clean self.new → Writes (holds self.old) result (set_holidays holidays) (holds self.new) }
-        ensures left { is_clean self.new → LeavesWrite (holds self.old) (may_leave self.old) result (set_holidays holidays) (may_leave self.new) };
+        ensures left { is_clean self.new → LeavesWrite keeps (holds self.old) (may_leave self.old) result (set_holidays holidays) (may_leave self.new) };
 
     /// Registers a company.
     fn put_company(&mut self, alloc: Global, company: Company) -> Result<(), StoreFault>
         ensures before { is_clean self.new → is_clean self.old }
         ensures write { is_clean self.new → Writes (holds self.old) result (put_company company) (holds self.new) }
-        ensures left { is_clean self.new → LeavesWrite (holds self.old) (may_leave self.old) result (put_company company) (may_leave self.new) };
+        ensures left { is_clean self.new → LeavesWrite keeps (holds self.old) (may_leave self.old) result (put_company company) (may_leave self.new) };
 
     /// Sets a company's limits.
     fn put_limits(&mut self, alloc: Global, company: Id, limits: Limits) -> Result<(), StoreFault>
         ensures before { is_clean self.new → is_clean self.old }
         ensures write { is_clean self.new → Writes (holds self.old) result (put_limits company limits) (holds self.new) }
-        ensures left { is_clean self.new → LeavesWrite (holds self.old) (may_leave self.old) result (put_limits company limits) (may_leave self.new) };
+        ensures left { is_clean self.new → LeavesWrite keeps (holds self.old) (may_leave self.old) result (put_limits company limits) (may_leave self.new) };
 
     /// Adds a company's next submission or retry, with what a retry asked.
     fn add_submission(
@@ -246,17 +253,17 @@ pub trait Store {
     ) -> Result<(), StoreFault>
         ensures before { is_clean self.new → is_clean self.old }
         ensures write { is_clean self.new → Writes (holds self.old) result (add_submission company order content.now retry) (holds self.new) }
-        ensures left { is_clean self.new → LeavesWrite (holds self.old) (may_leave self.old) result (add_submission company order content.now retry) (may_leave self.new) };
+        ensures left { is_clean self.new → LeavesWrite keeps (holds self.old) (may_leave self.old) result (add_submission company order content.now retry) (may_leave self.new) };
 
     /// Writes all that a cut does.
     fn commit_cut(&mut self, alloc: Global, cut: &CutRows<'_>) -> Result<(), StoreFault>
         ensures before { is_clean self.new → is_clean self.old }
         ensures write { is_clean self.new → Writes (holds self.old) result (commit_cut (cut_rows cut.now)) (holds self.new) }
-        ensures left { is_clean self.new → LeavesWrite (holds self.old) (may_leave self.old) result (commit_cut (cut_rows cut.now)) (may_leave self.new) };
+        ensures left { is_clean self.new → LeavesWrite keeps (holds self.old) (may_leave self.old) result (commit_cut (cut_rows cut.now)) (may_leave self.new) };
 
     /// Writes all that an incoming file does.
     fn commit_intake(&mut self, alloc: Global, intake: &IntakeRows<'_>) -> Result<(), StoreFault>
         ensures before { is_clean self.new → is_clean self.old }
         ensures write { is_clean self.new → Writes (holds self.old) result (commit_intake (intake_rows intake.now)) (holds self.new) }
-        ensures left { is_clean self.new → LeavesWrite (holds self.old) (may_leave self.old) result (commit_intake (intake_rows intake.now)) (may_leave self.new) };
+        ensures left { is_clean self.new → LeavesWrite keeps (holds self.old) (may_leave self.old) result (commit_intake (intake_rows intake.now)) (may_leave self.new) };
 }

@@ -114,7 +114,7 @@ pub(crate) fn add<S: Store>(
 ) -> Result<Answer, StoreFault>
     ensures before { S.is_clean store.new → S.is_clean store.old }
     ensures answers { S.is_clean store.new → Adds (S.holds store.old) result company verdict (S.holds store.new) }
-    ensures left { S.is_clean store.new → LeavesAdded (S.holds store.old) (S.may_leave store.old) result company verdict (S.may_leave store.new) }
+    ensures left { S.is_clean store.new → LeavesAdded S.keeps (S.holds store.old) (S.may_leave store.old) result company verdict (S.may_leave store.new) }
 {
     if let Some(new) = &verdict.added {
         store.add_submission(alloc, company, new.order, &new.content, new.retry)?;

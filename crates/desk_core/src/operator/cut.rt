@@ -115,7 +115,7 @@ fn plan<S: Store>(
 fn write<S: Store>(store: &mut S, alloc: Global, plan: CutPlan) -> Result<Answer, StoreFault>
     ensures before { S.is_clean store.new → S.is_clean store.old }
     ensures answers { S.is_clean store.new → Answers (S.holds store.old) result (λ b. answers.Done (done.Cut plan.done)) (commit_cut (plan_write plan)).after (S.holds store.new) }
-    ensures left { S.is_clean store.new → LeavesCall (S.holds store.old) (S.may_leave store.old) result (commit_cut (plan_write plan)).after (S.may_leave store.new) }
+    ensures left { S.is_clean store.new → LeavesCall S.keeps (S.holds store.old) (S.may_leave store.old) result (commit_cut (plan_write plan)).after (S.may_leave store.new) }
 {
     let rows = CutRows {
         sent: plan.sent.as_slice(),
@@ -132,7 +132,7 @@ fn write<S: Store>(store: &mut S, alloc: Global, plan: CutPlan) -> Result<Answer
 pub(crate) fn cut<S: Store>(store: &mut S, alloc: Global) -> Result<Answer, StoreFault>
     ensures before { S.is_clean store.new → S.is_clean store.old }
     ensures answers { S.is_clean store.new → Answers (S.holds store.old) result (cut_answer_on) (cut_after) (S.holds store.new) }
-    ensures left { S.is_clean store.new → LeavesCall (S.holds store.old) (S.may_leave store.old) result (cut_after) (S.may_leave store.new) }
+    ensures left { S.is_clean store.new → LeavesCall S.keeps (S.holds store.old) (S.may_leave store.old) result (cut_after) (S.may_leave store.new) }
 {
     let day = match desk_day(store, alloc)? {
         Ok(day) => day,

@@ -47,7 +47,7 @@ fn plan<S: Store>(
 fn write<S: Store>(store: &mut S, alloc: Global, plan: &IntakePlan) -> Result<Answer, StoreFault>
     ensures before { S.is_clean store.new → S.is_clean store.old }
     ensures answers { S.is_clean store.new → Answers (S.holds store.old) result (λ b. intake_answer (Ok plan.now.file.answer)) (commit_intake (plan_write plan.now)).after (S.holds store.new) }
-    ensures left { S.is_clean store.new → LeavesCall (S.holds store.old) (S.may_leave store.old) result (commit_intake (plan_write plan.now)).after (S.may_leave store.new) }
+    ensures left { S.is_clean store.new → LeavesCall S.keeps (S.holds store.old) (S.may_leave store.old) result (commit_intake (plan_write plan.now)).after (S.may_leave store.new) }
 {
     let rows = IntakeRows {
         returned: plan.returned.as_slice(),
@@ -69,7 +69,7 @@ fn take_new<S: Store>(
 ) -> Result<Answer, StoreFault>
     ensures before { S.is_clean store.new → S.is_clean store.old }
     ensures answers { S.is_clean store.new → Answers (S.holds store.old) result (λ b. taking_answer (New (intake_facts b day file.now))) (λ b. with_taking (New (intake_facts b day file.now)) b) (S.holds store.new) }
-    ensures left { S.is_clean store.new → LeavesCall (S.holds store.old) (S.may_leave store.old) result (λ b. with_taking (New (intake_facts b day file.now)) b) (S.may_leave store.new) }
+    ensures left { S.is_clean store.new → LeavesCall S.keeps (S.holds store.old) (S.may_leave store.old) result (λ b. with_taking (New (intake_facts b day file.now)) b) (S.may_leave store.new) }
 {
     let plan = plan(store, alloc, day, file)?;
     write(store, alloc, &plan)
@@ -95,7 +95,7 @@ fn take_read<S: Store>(
 ) -> Result<Answer, StoreFault>
     ensures before { S.is_clean store.new → S.is_clean store.old }
     ensures answers { S.is_clean store.new → Answers (S.holds store.old) result (λ b. taking_answer (taking_file b day file.now (b.taken file.now.key))) (λ b. with_taking (taking_file b day file.now (b.taken file.now.key)) b) (S.holds store.new) }
-    ensures left { S.is_clean store.new → LeavesCall (S.holds store.old) (S.may_leave store.old) result (λ b. with_taking (taking_file b day file.now (b.taken file.now.key)) b) (S.may_leave store.new) }
+    ensures left { S.is_clean store.new → LeavesCall S.keeps (S.holds store.old) (S.may_leave store.old) result (λ b. with_taking (taking_file b day file.now (b.taken file.now.key)) b) (S.may_leave store.new) }
 {
     if let Some(first) = store.taken(alloc, file.key())? {
         return Ok(answer_again(&first, file.digest()));
@@ -112,7 +112,7 @@ pub(crate) fn take_file<S: Store>(
 ) -> Result<Answer, StoreFault>
     ensures before { S.is_clean store.new → S.is_clean store.old }
     ensures answers { S.is_clean store.new → (file : Result FileFacts Fault) → IsFileOf bytes.now (TakeFile file) → Answers (S.holds store.old) result (file_answer_on file) (file_after file) (S.holds store.new) }
-    ensures left { S.is_clean store.new → (file : Result FileFacts Fault) → IsFileOf bytes.now (TakeFile file) → LeavesCall (S.holds store.old) (S.may_leave store.old) result (file_after file) (S.may_leave store.new) }
+    ensures left { S.is_clean store.new → (file : Result FileFacts Fault) → IsFileOf bytes.now (TakeFile file) → LeavesCall S.keeps (S.holds store.old) (S.may_leave store.old) result (file_after file) (S.may_leave store.new) }
 {
     let day = match desk_day(store, alloc)? {
         Ok(day) => day,

@@ -65,7 +65,7 @@ pub(crate) fn retry<S: Store>(
 ) -> Result<Answer, StoreFault>
     ensures before { S.is_clean store.new → S.is_clean store.old }
     ensures answers { S.is_clean store.new → Answers (S.holds store.old) result (λ b. reply_on b company (request.Retry draft.now)) (λ b. with_added_row company (added_row b company (request.Retry draft.now)) b) (S.holds store.new) }
-    ensures left { S.is_clean store.new → LeavesCall (S.holds store.old) (S.may_leave store.old) result (λ b. with_added_row company (added_row b company (request.Retry draft.now)) b) (S.may_leave store.new) }
+    ensures left { S.is_clean store.new → LeavesCall S.keeps (S.holds store.old) (S.may_leave store.old) result (λ b. with_added_row company (added_row b company (request.Retry draft.now)) b) (S.may_leave store.new) }
 {
     let verdict = retry_verdict(store, alloc, company, draft)?;
     add(store, alloc, company, verdict)

@@ -17,10 +17,15 @@ use desk_rules::{Company, Limits, Retry, Submission};
 use std::alloc::Global;
 
 impl Store for ListStore {
-    ghost use Rattle.std.specs.Prelude.{⊤};
+    ghost use Rattle.std.specs.Prelude.{◌≡◌, ⊤};
+    ghost use Rattle.desk_book.specs.Book.{Book};
     ghost use Rattle.desk_store.specs.Kept.{IsBookOf, IsHeld};
 
     ghost holds = { IsHeld };
+
+    ghost Kept = { Book };
+
+    ghost keeps = { λ k b. k ≡ b };
 
     // A crash leaves the book that it holds. It leaves no index: what begins again makes one.
     ghost may_leave = { IsBookOf };

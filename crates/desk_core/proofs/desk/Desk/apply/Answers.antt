@@ -9,7 +9,7 @@ returns-clause-replies g c = λ clean identity key H id r.
     (subst (λ store. AnswersCall (g.S.Store.holds store) c.args.call c.respond.result (g.S.Store.holds c.respond.new.store)) c.self.view_is (c.respond.ensures.answers clean))
 
 pub returns-clause-left : goal.returns-clause-left
-returns-clause-left g c = λ clean identity key H m found asked more.
-    leaves_on c.book_tells.ensures (g.S.Store.holds c.args.self.now) (g.S.Store.may_leave c.args.self.now) (g.S.Store.may_leave c.respond.new.store)
-    c.args.call identity key H m found c.respond.result
-    (subst (λ store. LeavesMessage (g.S.Store.holds store) (g.S.Store.may_leave store) c.args.call c.respond.result (g.S.Store.may_leave c.respond.new.store)) c.self.view_is (c.respond.ensures.left clean)) asked more
+returns-clause-left g c = λ clean identity key H m k asked more.
+    leaves_on c.book_tells.ensures g.S.Store.keeps (g.S.Store.holds c.args.self.now) (g.S.Store.may_leave c.args.self.now) (g.S.Store.may_leave c.respond.new.store)
+    c.args.call identity key H m k c.respond.result
+    (subst (λ store. LeavesMessage g.S.Store.keeps (g.S.Store.holds store) (g.S.Store.may_leave store) c.args.call c.respond.result (g.S.Store.may_leave c.respond.new.store)) c.self.view_is (c.respond.ensures.left clean)) asked more

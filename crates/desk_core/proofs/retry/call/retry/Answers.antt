@@ -10,6 +10,6 @@ returns-clause-answers g c = λ clean.
 
 pub returns-clause-left : goal.returns-clause-left
 returns-clause-left g c = λ clean.
-    leaves_added c.args.company (request.Retry c.args.draft.now) _ (λ b. retry_told b c.args.company c.args.draft.now) _ _ _ _ _
+    leaves_added c.args.company (request.Retry c.args.draft.now) _ (λ b. retry_told b c.args.company c.args.draft.now) g.S.Store.keeps _ _ _ _ _
     c.in_ok-verdict.verdict c.add.result (c.in_ok-verdict.ensures.read (c.add.ensures.before clean))
     (c.in_ok-verdict.ensures.left (c.add.ensures.before clean)) (c.add.ensures.left clean)
