@@ -45,7 +45,7 @@ use Rattle.desk_book.proofs.IntakeAnswers.{outcomes_on_book, file_answered}
 use Rattle.desk_book.proofs.IntakeItems.{IsBefore, StepsWith, items_step}
 use Rattle.desk_book.proofs.IntakeRowsOnBook.{rows_back, with_return, with_change, rows_steps, returns_steps, changes_steps}
 use Rattle.desk_book.proofs.Kept.{with_answer}
-use Rattle.desk_book.proofs.TakenFiles.{found_with, new_where_none_taken}
+use Rattle.desk_history.proofs.Repeated.TakenFiles.{found_with, new_where_none_taken}
 
 -- ---- the write, look-up by look-up
 

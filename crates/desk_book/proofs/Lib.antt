@@ -19,13 +19,14 @@ pub mod OnRows
 pub mod OperatorAnswers
 pub mod OperatorSteps
 pub mod Passing
+pub mod Quiet
+pub mod Repeating
 pub mod Replies
 pub mod RetriesOnRows
 pub mod ReturnedRows
 pub mod RowSteps
 pub mod Standings
 pub mod Steps
-pub mod TakenFiles
 pub mod Turns
 pub mod Unreturned
 pub mod EqualParts

@@ -9,7 +9,9 @@ pub mod OnMessages
 pub mod OnOperator
 pub mod OperatorLaws
 pub mod Reads
+pub mod Repeating
 pub mod RowLaws
 pub mod Standing
 pub mod Steps
 pub mod Requests
+pub mod Writes

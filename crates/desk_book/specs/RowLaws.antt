@@ -1,6 +1,7 @@
 -- Rows: what a desk holds of a company is a function of its part, and verdicts and steps over rows are
 -- those of the definitions over events.
 use Rattle.std.specs.Prelude.{◌≡◌, ℕ, List, ◌∷◌, option_map, option_and_then, Result, Ok, Err}
+use Rattle.desk_accounts.specs.declared.account.Account.TheVariants as accounts
 use Rattle.desk_rules.specs.declared.bodies.company.Limits.{Limits}
 use Rattle.desk_rules.specs.declared.bodies.draft.Draft.{Draft}
 use Rattle.desk_rules.specs.declared.bodies.draft.RetryDraft.{RetryDraft}
@@ -15,8 +16,12 @@ use Rattle.desk_history.specs.Acceptance.{submissions, accepted_submission, acce
 use Rattle.desk_history.specs.Reports.{submission_under, settlement_under}
 use Rattle.desk_book.specs.Book.{book_of, rows, row_of}
 use Rattle.desk_history.specs.History.{part}
+use Rattle.desk_history.specs.Operator.{IsHistory}
+use Rattle.desk_history.specs.PartCompany.{digest}
 use Rattle.desk_history.specs.Message.{Pair}
 use Rattle.desk_history.specs.declared.identity.Identity.{Identity}
+use Rattle.desk_book.specs.declared.caller.Caller.TheVariants as callers
+use Rattle.desk_book.specs.Reads.{company, key_of}
 use Rattle.desk_book.specs.Standing.{standing, row_under, facts_in, submission_row, retry_row, rows_after_request, rows_after_cut, rows_after_return}
 
 -- the row of what is accepted, or the refusal
@@ -44,13 +49,23 @@ pub record RowSteps : Type 0 where
   pub limited : (P : List Event) (l : Limits) → rows (Limited l ∷ P) ≡ rows P
   pub changed : (P : List Event) (reference : List ℕ) (index : ℕ) (code text : List ℕ) → rows (Changed reference index code text ∷ P) ≡ rows P
 
--- what two desks hold of a company is the same
+-- two desks hold the same of a company: its submissions, returns and changes
 pub record SameRows (here there : Identity) (key other_key : List ℕ) (H G : List Pair) (c : List ℕ) : Type 0 where
   pub rows : (book_of here key H).rows c ≡ (book_of there other_key G).rows c
   pub returns : (book_of here key H).returns c ≡ (book_of there other_key G).returns c
   pub changes : (book_of here key H).changes c ≡ (book_of there other_key G).changes c
 
--- A company's submissions, returns and changes are a function of its part.
-abbrev pub RowsOfPart : Type 0
-RowsOfPart = (here there : Identity) (key other_key : List ℕ) (H G : List Pair) (c : List ℕ)
-    → part here.odfi H c ≡ part there.odfi G c → SameRows here there key other_key H G c
+-- its own row, which has its name, its digest and its limits, and the lines of its account
+pub record SameAccount (here there : Identity) (key other_key : List ℕ) (H G : List Pair) (c : List ℕ) : Type 0 where
+  pub company : company c (book_of here key H) ≡ company c (book_of there other_key G)
+  pub lines : (book_of here key H).lines (accounts.Company c) ≡ (book_of there other_key G).lines (accounts.Company c)
+
+-- All that a desk holds of a company is a function of its part.
+pub record RowsOfPart : Type 0 where
+  pub rows : (here there : Identity) (key other_key : List ℕ) (H G : List Pair) (c : List ℕ)
+      → part here.odfi H c ≡ part there.odfi G c → SameRows here there key other_key H G c
+  pub account : (here there : Identity) (key other_key : List ℕ) (H G : List Pair) (c : List ℕ) → IsHistory here H → IsHistory there G
+      → part here.odfi H c ≡ part there.odfi G c → SameAccount here there key other_key H G c
+  -- whether a key is the company's can be told from the part alone
+  pub key : (identity : Identity) (key : List ℕ) (H : List Pair) (c : List ℕ) → IsHistory identity H
+      → key_of (callers.Company c) (book_of identity key H) ≡ digest (part identity.odfi H c)

@@ -22,7 +22,7 @@ pub use cut_laws::tells_cut;
 pub use flat_rows::{ChangedRow, FileRow, LapsedRow, ReturnedRow, SentRow};
 pub use held_submission::HeldSubmission;
 pub use intake_laws::tells_intake;
-pub use message_laws::book_tells;
+pub use message_laws::{book_tells, reads_leave, twice_acts_once};
 pub use returns_and_changes::ReturnsAndChanges;
 pub use row::Row;
 pub use row_laws::{row_steps, rows_of_part, verdicts_on_rows};

@@ -1,5 +1,7 @@
-//! The law of all messages stands here.
+//! The laws of all messages stand here.
 ghost use Rattle.desk_book.specs.OnMessages.{BookTells};
+ghost use Rattle.desk_book.specs.Repeating.{TwiceActsOnce};
+ghost use Rattle.desk_book.specs.Writes.{ReadsLeave};
 
 /// The answer to every message, and the book after it, can be told from the book of the desk alone:
 /// for each history, what the book gives is what the history gives.
@@ -12,4 +14,23 @@ pub fn book_tells()
     crate::book_laws::steps_of_operator();
     crate::cut_laws::tells_cut();
     crate::intake_laws::tells_intake();
+}
+
+/// What writes nothing leaves the book as it was. Reads write nothing, nor does what is refused or
+/// was accepted before; and the answer alone can tell that nothing was written.
+pub fn reads_leave()
+    ensures { ReadsLeave }
+{}
+
+/// A submission, a retry or an incoming file that was accepted is answered as it was then whenever it
+/// is sent again, and the book stays as it is.
+pub fn twice_acts_once()
+    ensures { TwiceActsOnce }
+{
+    desk_rules::same_contents();
+    desk_history::first_answer_stands();
+    crate::row_laws::verdicts_on_rows();
+    crate::book_laws::tells_replies();
+    book_tells();
+    reads_leave();
 }

@@ -14,7 +14,13 @@ pub fn row_steps()
     ensures { RowSteps }
 {}
 
-/// What a desk holds of a company's submissions, returns and changes is a function of its part.
+/// All that a desk holds of a company is a function of its part: its submissions, returns and changes,
+/// its name, its limits and the lines of its account. The digest of its key is that of its part, so
+/// the part alone tells whether a caller's key is the company's.
 pub fn rows_of_part()
     ensures { RowsOfPart }
-{}
+{
+    desk_history::company_of_part();
+    desk_history::digest_of_part();
+    desk_history::company_lines();
+}

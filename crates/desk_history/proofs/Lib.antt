@@ -9,7 +9,10 @@
 --   traces_of_cuts         Traces, TracesOfCuts
 --   accounts_cancel        Accounts
 --   company_lines          Lines
+--   digest_of_part         Lines, PartCompany
+--   company_of_part        Lines, PartCompany
 --   served_alone           Alone
+--   first_answer_stands    Repeated
 -- Basics are lemmas on lists and checks that several laws stand on; Vectors are computed cases.
 pub mod Basics
 mod OneMessage
@@ -20,4 +23,5 @@ pub mod Traces
 pub mod Accounts
 pub mod Lines
 pub mod Alone
+pub mod Repeated
 mod Vectors

@@ -12,9 +12,11 @@ pub mod Laws
 pub mod Message
 pub mod Operator
 pub mod Part
+pub mod PartCompany
 pub mod Possible
 pub mod PostingLaws
 pub mod Postings
+pub mod Repeated
 pub mod Reply
 pub mod Reports
 pub mod Request

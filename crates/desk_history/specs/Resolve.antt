@@ -8,8 +8,6 @@ use Rattle.ach_files.specs.declared.facts.ReturnOrChange.{ReturnOrChange}
 use Rattle.ach_files.specs.declared.facts.ReturnOrChange.TheVariants as kinds
 use Rattle.desk_rules.specs.declared.bodies.submission.AccountKind.{AccountKind}
 use Rattle.desk_rules.specs.declared.bodies.submission.AccountKind.TheVariants.{Checking, Savings}
-use Rattle.desk_rules.specs.declared.bodies.submission.SecCode.{SecCode}
-use Rattle.desk_rules.specs.declared.bodies.submission.SecCode.TheVariants.{Ppd, Ccd}
 use Rattle.desk_rules.specs.ReturnCodes.{code_of}
 use Rattle.desk_rules.specs.Fields.{sec_text}
 use Rattle.desk_history.specs.declared.operations.SuspenseReason.{SuspenseReason}

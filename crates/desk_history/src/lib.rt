@@ -28,7 +28,7 @@ pub use answer::{Answer, CallRefusal, Outcome};
 pub use call::Call;
 pub use cut_laws::{accepted_cuts, traces_name, traces_of_cuts};
 pub use identity::Identity;
-pub use laws::{one_message, two_worlds};
+pub use laws::{company_of_part, digest_of_part, first_answer_stands, one_message, two_worlds};
 pub use list_of::ListOf;
 pub use operations::{
     CutSummary, DaySum, Intake, Settlement, SuspenseReason, SuspenseRow, TakenFile,

@@ -12,6 +12,7 @@ use Rattle.desk_rules.specs.declared.refusals.refusal.Refusal.{Refusal}
 use Rattle.desk_rules.specs.declared.bodies.submission.Retry.{Retry}
 use Rattle.desk_rules.specs.declared.bodies.submission.Submission.{Submission}
 use Rattle.desk_rules.specs.declared.refusals.refusal.Refusal.TheVariants.{NoEntry}
+use Rattle.desk_rules.specs.Chain.{◌>>=◌}
 use Rattle.desk_rules.specs.LimitChecks.{limits_verdict}
 use Rattle.desk_rules.specs.Retry.{retry_of}
 use Rattle.desk_rules.specs.RetryRule.{retry_verdict}
@@ -26,7 +27,7 @@ use Rattle.desk_history.specs.State.{Place, decision, original_settlement, is_to
 use Rattle.desk_history.specs.Accepted.{AcceptedSubmission, is_called, next_submission, content_of, settlement_day, has_lapsed}
 use Rattle.desk_history.specs.Facts.{facts}
 use Rattle.desk_history.specs.Retries.{Original, original_of, attempts}
-use Rattle.desk_history.specs.Acceptance.{submissions, submissions_after, accepted_submission, accepted_retry, new_content, retry_content, new_submission, new_retry, is_same_submission, is_same_retry, company_limits, desk_day, with_accepted}
+use Rattle.desk_history.specs.Acceptance.{submissions, submissions_after, accepted_submission, accepted_retry, new_content, retry_content, new_submission, new_retry, unless_known, is_same_submission, is_same_retry, company_limits, desk_day, with_accepted}
 use Rattle.desk_history.specs.Reports.{submission_under, settlement_under}
 use Rattle.desk_history.specs.AcceptedLaws.{IsLinked, IsLinkedTo}
 use Rattle.desk_history.proofs.Basics.Chains.{steps, some_from_ok, known_or_new}
@@ -68,6 +69,23 @@ found_any {X = X} p q (x ∷ xs) a h passes = at (p x) (q x) refl (λ more. foun
 pub found_reference : (A : List AcceptedSubmission) (reference : List ℕ) (a : AcceptedSubmission) → find (is_called reference) A ≡ Some a → a.content.reference ≡ reference
 found_reference A reference a h = (bytes_eq-Decides a.content.reference reference).0 (found_passes (is_called reference) A a h)
 
+-- ---- what is accepted again
+
+-- what has the reference of a draft, and is the same
+pub record IsKnown {X : Type 0} (P : List Event) (A : List AcceptedSubmission) (fields : Result X Refusal) (reference : X → List ℕ) (is_same : X → AcceptedSubmission → Bool) (a : AcceptedSubmission) : Type 0 where
+  pub registered : is_some (part.limits P) ≡ true
+  pub on : is_some (day P) ≡ true
+  pub content : X
+  pub drafted : fields ≡ Ok content
+  pub found : find (is_called (reference content)) A ≡ Some a
+  pub same : is_same content a ≡ true
+
+abbrev pub IsKnownSubmission : List Event → List AcceptedSubmission → Draft → AcceptedSubmission → Type 0
+IsKnownSubmission P A d a = IsKnown P A (submission_of d) (λ s. s.reference) (λ s a. is_same_submission s a.content a.retry) a
+
+abbrev pub IsKnownRetry : List Event → List AcceptedSubmission → RetryDraft → AcceptedSubmission → Type 0
+IsKnownRetry P A d a = IsKnown P A (retry_of d) (λ r. r.reference) (λ r a. is_same_retry r a.retry) a
+
 -- ---- what is accepted anew
 
 -- a submission that passed each check
@@ -103,27 +121,51 @@ IsNew P A (request.Submit d) a = IsNewSubmission P A d a
 IsNew P A (request.Retry d) a = IsNewRetry P A d a
 IsNew P A r a = ⊥
 
--- an accepted submission was accepted before under its reference, or is new
-pub submitted_is : (P : List Event) (A : List AcceptedSubmission) (d : Draft) (a : AcceptedSubmission) → accepted_submission P A d ≡ Ok a
-    → ((reference : List ℕ) × (find (is_called reference) A ≡ Some a)) ⊎ IsNewSubmission P A d a
-submitted_is P A d a h =
+-- the company is registered, a day was set and the fields are right
+record Begins {X : Type 0} (P : List Event) (fields : Result X Refusal) (judge : Limits → ℕ → X → Result AcceptedSubmission Refusal) (a : AcceptedSubmission) : Type 0 where
+  limits : Limits
+  registered : part.limits P ≡ Some limits
+  today : ℕ
+  on : day P ≡ Some today
+  content : X
+  drafted : fields ≡ Ok content
+  rest : judge limits today content ≡ Ok a
+
+begins : {X : Type 0} (P : List Event) (fields : Result X Refusal) (judge : Limits → ℕ → X → Result AcceptedSubmission Refusal) (a : AcceptedSubmission)
+    → (company_limits P >>= (λ limits. desk_day P >>= (λ today. fields >>= (λ x. judge limits today x)))) ≡ Ok a → Begins P fields judge a
+begins P fields judge a h =
     let one = steps (company_limits P) _ a h in
     let two = steps (desk_day P) _ a one.rest in
-    let three = steps (submission_of d) _ a two.rest in
-    let s = three.value in
-    elim (known_or_new (λ a. is_same_submission s a.content a.retry) (find (is_called s.reference) A) (new_submission P A one.value two.value s) a three.rest) [
-      | inl known ↦ inl (s.reference, known)
+    let three = steps fields _ a two.rest in
+    record {
+      limits = one.value;
+      registered = some_from_ok _ (part.limits P) one.value one.first;
+      today = two.value;
+      on = some_from_ok _ (day P) two.value two.first;
+      content = three.value;
+      drafted = three.first;
+      rest = three.rest;
+    }
+
+-- an accepted submission is known under its reference, or is new
+pub submitted_is : (P : List Event) (A : List AcceptedSubmission) (d : Draft) (a : AcceptedSubmission) → accepted_submission P A d ≡ Ok a
+    → IsKnownSubmission P A d a ⊎ IsNewSubmission P A d a
+submitted_is P A d a h =
+    let begun = begins P (submission_of d) (λ limits today s. unless_known (λ a. is_same_submission s a.content a.retry) (find (is_called s.reference) A) (new_submission P A limits today s)) a h in
+    let s = begun.content in
+    elim (known_or_new (λ a. is_same_submission s a.content a.retry) (find (is_called s.reference) A) (new_submission P A begun.limits begun.today s) a begun.rest) [
+      | inl known ↦ inl (record { registered = ap is_some begun.registered; on = ap is_some begun.on; content = s; drafted = begun.drafted; found = known.0; same = known.1 })
       | inr fresh ↦
-          let four = steps (new_content (facts P A) (holidays P) one.value two.value s) _ a fresh.1 in
+          let four = steps (new_content (facts P A) (holidays P) begun.limits begun.today s) _ a fresh.1 in
           let five = steps (size_of s) _ four.value four.first in
-          let six = steps (limits_verdict s two.value one.value (facts P A) (holidays P)) _ four.value five.rest in
+          let six = steps (limits_verdict s begun.today begun.limits (facts P A) (holidays P)) _ four.value five.rest in
           inr (record {
-            limits = one.value;
-            registered = some_from_ok _ (part.limits P) one.value one.first;
-            today = two.value;
-            on = some_from_ok _ (day P) two.value two.first;
+            limits = begun.limits;
+            registered = begun.registered;
+            today = begun.today;
+            on = begun.on;
             content = s;
-            drafted = three.first;
+            drafted = begun.drafted;
             new = fresh.0;
             sized = five.first;
             within = six.first;
@@ -132,27 +174,25 @@ submitted_is P A d a h =
     ]
 
 pub retried_is : (P : List Event) (A : List AcceptedSubmission) (d : RetryDraft) (a : AcceptedSubmission) → accepted_retry P A d ≡ Ok a
-    → ((reference : List ℕ) × (find (is_called reference) A ≡ Some a)) ⊎ IsNewRetry P A d a
+    → IsKnownRetry P A d a ⊎ IsNewRetry P A d a
 retried_is P A d a h =
-    let one = steps (company_limits P) _ a h in
-    let two = steps (desk_day P) _ a one.rest in
-    let three = steps (retry_of d) _ a two.rest in
-    let r = three.value in
-    elim (known_or_new (λ a. is_same_retry r a.retry) (find (is_called r.reference) A) (new_retry P A one.value two.value r) a three.rest) [
-      | inl known ↦ inl (r.reference, known)
+    let begun = begins P (retry_of d) (λ limits today r. unless_known (λ a. is_same_retry r a.retry) (find (is_called r.reference) A) (new_retry P A limits today r)) a h in
+    let r = begun.content in
+    elim (known_or_new (λ a. is_same_retry r a.retry) (find (is_called r.reference) A) (new_retry P A begun.limits begun.today r) a begun.rest) [
+      | inl known ↦ inl (record { registered = ap is_some begun.registered; on = ap is_some begun.on; content = r; drafted = begun.drafted; found = known.0; same = known.1 })
       | inr fresh ↦
           let four = steps (some_or NoEntry (original_of A r)) _ a fresh.1 in
           let o = four.value in
-          let five = steps (retry_content (facts P A) (holidays P) one.value two.value r o.accepted.content o.entry (attempts P A o)) _ a four.rest in
-          let six = steps (retry_verdict (attempts P A o) r.day r.authorized two.value (holidays P)) _ five.value five.first in
-          let seven = steps (limits_verdict (content_of r o.accepted.content o.entry) two.value one.value (facts P A) (holidays P)) _ five.value six.rest in
+          let five = steps (retry_content (facts P A) (holidays P) begun.limits begun.today r o.accepted.content o.entry (attempts P A o)) _ a four.rest in
+          let six = steps (retry_verdict (attempts P A o) r.day r.authorized begun.today (holidays P)) _ five.value five.first in
+          let seven = steps (limits_verdict (content_of r o.accepted.content o.entry) begun.today begun.limits (facts P A) (holidays P)) _ five.value six.rest in
           inr (record {
-            limits = one.value;
-            registered = some_from_ok _ (part.limits P) one.value one.first;
-            today = two.value;
-            on = some_from_ok _ (day P) two.value two.first;
+            limits = begun.limits;
+            registered = begun.registered;
+            today = begun.today;
+            on = begun.on;
             retry = r;
-            drafted = three.first;
+            drafted = begun.drafted;
             new = fresh.0;
             original = o;
             named = some_from_ok _ (original_of A r) o four.first;
@@ -175,7 +215,7 @@ grown_known A a known =
     let there : find (is_called a.content.reference) A ≡ Some a = ap (λ (x : List ℕ). find (is_called x) A) (found_reference A known.0 a known.1) ∙ known.1 in
     ap (λ (t : Bool). if t then A else A ++ a ∷ []) (any_found (is_called a.content.reference) A ∙ ap is_some there)
 
-grown_new : (A : List AcceptedSubmission) (a : AcceptedSubmission) → find (is_called a.content.reference) A ≡ None → with_accepted A (Ok a) ≡ A ++ a ∷ []
+pub grown_new : (A : List AcceptedSubmission) (a : AcceptedSubmission) → find (is_called a.content.reference) A ≡ None → with_accepted A (Ok a) ≡ A ++ a ∷ []
 grown_new A a new = ap (λ (t : Bool). if t then A else A ++ a ∷ []) (any_found (is_called a.content.reference) A ∙ ap is_some new)
 
 -- what was accepted, with one more after it under a reference that is new
@@ -196,12 +236,14 @@ grown_by A (Ok a) New apart answers = elim (answers a refl) [
 -- A request leaves what was accepted, or one more stands after it.
 pub grows_or_stays : (P : List Event) (A : List AcceptedSubmission) (r : Request) → (submissions_after P A r ≡ A) ⊎ Grows P A r
 grows_or_stays P A (request.Submit d) =
-    elim (grown_by A (accepted_submission P A d) (IsNewSubmission P A d) (λ a new. ap (λ (x : AcceptedSubmission). find (is_called x.content.reference) A) new.is ∙ new.new) (submitted_is P A d)) [
+    elim (grown_by A (accepted_submission P A d) (IsNewSubmission P A d) (λ a new. ap (λ (x : AcceptedSubmission). find (is_called x.content.reference) A) new.is ∙ new.new)
+    (λ a outcome. elim (submitted_is P A d a outcome) [ inl known ↦ inl (known.content.reference, known.found) | inr new ↦ inr new ])) [
       | inl same ↦ inl same
       | inr more ↦ inr (record { added = more.added; new = more.new; is = more.is; from = more.from })
     ]
 grows_or_stays P A (request.Retry d) =
-    elim (grown_by A (accepted_retry P A d) (IsNewRetry P A d) (λ a new. ap (λ (x : AcceptedSubmission). find (is_called x.content.reference) A) new.is ∙ new.new) (retried_is P A d)) [
+    elim (grown_by A (accepted_retry P A d) (IsNewRetry P A d) (λ a new. ap (λ (x : AcceptedSubmission). find (is_called x.content.reference) A) new.is ∙ new.new)
+    (λ a outcome. elim (retried_is P A d a outcome) [ inl known ↦ inl (known.content.reference, known.found) | inr new ↦ inr new ])) [
       | inl same ↦ inl same
       | inr more ↦ inr (record { added = more.added; new = more.new; is = more.is; from = more.from })
     ]

@@ -1,5 +1,5 @@
 -- Chains of checks that succeed.
-use Rattle.std.proofs.Common.{◌≡◌, ◌⊎◌, Bool, true, false, refl, inl, inr, if◌then◌else◌}
+use Rattle.std.proofs.Common.{◌≡◌, ◌⊎◌, Bool, true, false, refl, sym, ap, ◌∙◌, inl, inr, if◌then◌else◌}
 use Rattle.std.specs.Prelude.{Option, Some, None, Result, Ok, Err}
 use Rattle.desk_rules.specs.declared.refusals.refusal.Refusal.{Refusal}
 use Rattle.desk_rules.specs.declared.refusals.refusal.Refusal.TheVariants.{RefReused}
@@ -22,11 +22,11 @@ pub some_from_ok : {A E : Type 0} (e : E) (o : Option A) (a : A) → some_or e o
 some_from_ok e (Some x) a h = cc
 some_from_ok e None a h = cc
 
--- a known reference gives what was accepted first, a new one the outcome of the checks
+-- a known reference gives what was accepted first, which is the same, and a new one the outcome of the checks
 pub known_or_new : {A : Type 0} (same : A → Bool) (found : Option A) (fresh : Result A Refusal) (a : A)
-    → unless_known same found fresh ≡ Ok a → (found ≡ Some a) ⊎ ((found ≡ None) × (fresh ≡ Ok a))
+    → unless_known same found fresh ≡ Ok a → ((found ≡ Some a) × (same a ≡ true)) ⊎ ((found ≡ None) × (fresh ≡ Ok a))
 known_or_new same None fresh a h = inr (refl, h)
-known_or_new {A = A} same (Some first) fresh a h = by (same first) h where
-  by : (c : Bool) → (if c then Ok first else Err RefReused) ≡ Ok a → (Some first ≡ Some a) ⊎ ((Some first ≡ None) × (fresh ≡ Ok a))
-  by true e = inl cc
-  by false e = cc
+known_or_new {A = A} same (Some first) fresh a h = by (same first) refl h where
+  by : (c : Bool) → same first ≡ c → (if c then Ok first else Err RefReused) ≡ Ok a → ((Some first ≡ Some a) × (same a ≡ true)) ⊎ ((Some first ≡ None) × (fresh ≡ Ok a))
+  by true is e = let first_is : first ≡ a = cc in inl (ap Some first_is, ap same (sym first_is) ∙ is)
+  by false is e = cc
