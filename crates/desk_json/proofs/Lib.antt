@@ -1,2 +1,2 @@
 pub mod Json
-pub mod Unescaped
+pub mod Members
