@@ -1,0 +1,17 @@
+use Rattle.std.proofs.Common.{append_assoc}
+use Rattle.desk_members.proofs.Objects.{compact_text-object_of}
+use Rattle.desk_bodies.specs.Company.{sent_members}
+use Rattle.desk_bodies.proofs.company.report.put_sent.Goals as goal
+
+pub returns : goal.returns
+returns c = rw (
+  compact_text-object_of (sent_members c.args.entry.now.cents c.args.entry.now.index c.args.settled),
+  c.put-2.ensures.items,
+  c.put_text-2.ensures.items,
+  c.put_text.ensures.items,
+  c.text.ensures,
+  c.put_number-2.ensures.items,
+  c.put_number.ensures.items,
+  c.get.ensures.value,
+  c.put.ensures.items,
+) (simp append_assoc)

@@ -1,0 +1,6 @@
+pub mod Company
+pub mod Operator
+pub mod Faults
+pub mod Refusals
+pub mod Answers
+pub mod Statuses

@@ -1,0 +1,15 @@
+//! The bodies of what a company is told.
+
+mod changes;
+mod exposure;
+mod rates;
+mod report;
+mod returns;
+mod statement;
+
+pub(crate) use changes::add_changes;
+pub(crate) use exposure::add_exposure;
+pub(crate) use rates::add_rates;
+pub(crate) use report::add_report;
+pub(crate) use returns::add_returns;
+pub(crate) use statement::add_statement;

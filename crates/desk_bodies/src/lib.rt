@@ -1,0 +1,18 @@
+//! This crate writes the bodies of the desk's answers, and tells their HTTP statuses.
+//!
+//! A body is compact JSON with its keys in byte order, but that of a file is the file's text. What a
+//! command did is written into room that was taken before the command, so that nothing can fail once
+//! the desk has committed to it. What was looked up is written with growth.
+#![tactic(auto)]
+
+mod answer;
+mod company;
+mod faults;
+mod list;
+mod operator;
+mod refusal;
+mod statuses;
+
+pub use answer::{BODY_ROOM, is_command, write_answer};
+pub use faults::{MessageFault, message_fault_text};
+pub use statuses::{CallKind, content_of, kind_of_call, one_kind, status_of};

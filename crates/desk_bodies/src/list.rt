@@ -1,0 +1,81 @@
+//! Lists of objects.
+ghost use Rattle.std.specs.Prelude.{◌≡◌, ◌≤◌, ◌++◌, ◌∷◌, [], length, map, false, OnOk};
+ghost use Rattle.serde_json.specs.Data.{array};
+ghost use Rattle.serde_json.specs.View.{items_of};
+ghost use Rattle.serde_json.specs.Written.{comma_if, compact_text, items_text};
+ghost use Rattle.desk_members.specs.Members.{member_text, object_of};
+
+use desk_members::{put, put_comma, put_key};
+use std::alloc::AllocError;
+
+/// The room that is taken for an object of a list, or for the members around a list.
+pub(crate) const ROW_ROOM: usize = 1_024;
+
+/// A `Row` is an object in a list of a body.
+pub(crate) trait Row {
+    ghost use Rattle.std.specs.Prelude.{◌≡◌, ◌≤◌, ◌+◌, ◌++◌, vec_len, vec_capacity};
+    ghost use Rattle.serde_json.specs.Data.{Data};
+    ghost use Rattle.serde_json.specs.Written.{compact_text};
+
+    /// What it is in JSON.
+    ghost body: { Self → Data };
+
+    /// Appends it.
+    fn put(&self, text: &mut Vec<u8>)
+        requires { vec_len text.old + 1_024 ≤ vec_capacity text.old }
+        ensures { text.new.items ≡ text.old.items ++ compact_text (body self.now) };
+}
+
+/// Appends a member whose value is a list.
+#[tactic(auto, unfolding(desk_members::specs::Members::member_text))]
+pub(crate) fn add_list<R: Row>(
+    text: &mut Vec<u8>,
+    later: bool,
+    key: &[u8],
+    rows: &[R],
+) -> Result<(), AllocError>
+    requires { length key.now ≤ 32 }
+    ensures { OnOk result (text.new.items ≡ text.old.items ++ member_text later key.now (array (items_of (map R.body rows.now)))) }
+{
+    text.reserve(ROW_ROOM)?;
+    put_key(text, later, key);
+    put(text, b"[");
+    add_rows(text, rows)
+}
+
+// With the closing bracket.
+fn add_rows<R: Row>(text: &mut Vec<u8>, rows: &[R]) -> Result<(), AllocError>
+    ensures { OnOk result (text.new.items ≡ text.old.items ++ items_text false (items_of (map R.body rows.now))) }
+{
+    let mut later = false;
+    for row in rows {
+        add_row(text, later, row)?;
+        later = true;
+    }
+    text.push(b']')?;
+    Ok(())
+}
+
+fn add_row<R: Row>(text: &mut Vec<u8>, later: bool, row: &R) -> Result<(), AllocError>
+    ensures { OnOk result (text.new.items ≡ text.old.items ++ (comma_if later ++ compact_text (R.body row.now))) }
+{
+    text.reserve(ROW_ROOM + 1)?;
+    put_comma(text, later);
+    row.put(text);
+    Ok(())
+}
+
+/// Appends an object that has a list as its only member.
+pub(crate) fn add_list_alone<R: Row>(
+    text: &mut Vec<u8>,
+    key: &[u8],
+    rows: &[R],
+) -> Result<(), AllocError>
+    requires { length key.now ≤ 32 }
+    ensures { OnOk result (text.new.items ≡ text.old.items ++ compact_text (object_of ((key.now, array (items_of (map R.body rows.now))) ∷ []))) }
+{
+    text.push(b'{')?;
+    add_list(text, false, key, rows)?;
+    text.push(b'}')?;
+    Ok(())
+}

@@ -1,0 +1,13 @@
+//! The bodies of what the operator is told.
+
+mod cut;
+mod intake;
+mod settings;
+mod settlement;
+mod suspense;
+
+pub(crate) use cut::put_cut;
+pub(crate) use intake::put_intake;
+pub(crate) use settings::{put_company, put_day, put_holidays};
+pub(crate) use settlement::add_settlement;
+pub(crate) use suspense::add_suspense;
