@@ -52,7 +52,7 @@ batches_turn last [] = refl
 batches_turn last (s ∷ ss) = ap (λ (more : List (List ℕ × Turn)). sending_turn s ∷ more) (batches_turn (range_after last (length (entries_in s))).1 ss)
 
 -- the runs of batches are the batches
-flat_runs : OneDivision → (bs : List NumberedBatch) → flat (runs_of bs) ≡ bs
+pub flat_runs : OneDivision → (bs : List NumberedBatch) → flat (runs_of bs) ≡ bs
 flat_runs law bs =
     let plans : List plan.Batch = map (λ b. plan_of b.sending) bs in
     flat-in_runs (map length (division plans)) bs (law.count plans ∙ length-map bs (λ b. plan_of b.sending))

@@ -1,6 +1,7 @@
 pub mod AllMessages
 pub mod BackOnBook
 pub mod CutAnswers
+pub mod CutEntries
 pub mod CutFiles
 pub mod CutOnRows
 pub mod CutRows

@@ -1,5 +1,6 @@
 -- What each write makes of a book, and when it may be made.
-use Rattle.std.specs.Prelude.{◌≡◌, ⊤, ℕ, Bool, ◌+◌, ◌&&◌, ◌==◌, if◌then◌else◌, List, [], ◌∷◌, ◌++◌, map, find, fold, length, reverse, Option, Some, None, is_none, bytes_eq}
+use Rattle.std.specs.Prelude.{◌≡◌, ⊤, ℕ, Bool, ◌+◌, ◌&&◌, ◌==◌, if◌then◌else◌, List, [], ◌∷◌, ◌++◌, map, find, fold, length, reverse, All, Contains, Option, Some, None, is_none, bytes_eq}
+use Rattle.std.specs.List.{enumerate_from}
 use Rattle.desk_accounts.specs.declared.posting.Posting.{Posting}
 use Rattle.desk_accounts.specs.Balance.{lines_of}
 use Rattle.desk_rules.specs.declared.bodies.company.Company.{Company}
@@ -8,6 +9,7 @@ use Rattle.desk_rules.specs.declared.rules.entry_fact.EntryState.{EntryState}
 use Rattle.desk_rules.specs.declared.rules.entry_fact.EntryState.TheVariants as states
 use Rattle.desk_rules.specs.declared.bodies.submission.Retry.{Retry}
 use Rattle.desk_rules.specs.declared.bodies.submission.Submission.{Submission}
+use Rattle.desk_rules.specs.LimitChecks.{is_debit}
 use Rattle.desk_history.specs.declared.operations.SuspenseRow.{SuspenseRow}
 use Rattle.desk_history.specs.declared.operations.TakenFile.{TakenFile}
 use Rattle.desk_book.specs.declared.row.Row.{Row}
@@ -95,9 +97,19 @@ put_file b f = record b {
 abbrev pub put_entries : List SentEntry → Book → Book
 put_entries es b = record b { sent = reverse es ++ b.sent }
 
+-- an entry of a submission of the book that is among the sent ones, as it stands there
+pub record IsEntryOf (b : Book) (sent : List SentRow) (e : SentEntry) : Type 0 where
+  pub row : Row
+  pub stands : Contains (b.rows e.company) row
+  pub content : (row.order ≡ e.order) × (row.content.reference ≡ e.reference) × (row.content.sec ≡ e.sec) × (is_debit row.content.direction ≡ e.debit)
+  pub entry : Contains (enumerate_from 1 row.content.entries) (e.index, e.entry)
+  pub sending : SentRow
+  pub sends : Contains sent sending
+  pub settles : (sending.company ≡ e.company) × (sending.order ≡ e.order) × (sending.settled ≡ e.settled)
+
 abbrev pub commit_cut : CutWrite → Step
 commit_cut x = record {
-  Admits = λ _. ⊤;
+  Admits = λ b. All (IsEntryOf b x.sent) x.entries;
   after = λ b. fold put_file (put_postings x.postings (put_entries x.entries (fold put_lapsed_row (fold put_sent_row b x.sent) x.lapsed))) x.files;
 }
 

@@ -1,5 +1,5 @@
-//! The law of a cut and the book stands here.
-ghost use Rattle.desk_book.specs.CutLaws.{TellsCut};
+//! The laws of a cut and the book stand here.
+ghost use Rattle.desk_book.specs.CutLaws.{TellsCut, EntriesOfCuts};
 
 use crate::book_laws::steps_of_messages;
 use crate::row_laws::row_steps;
@@ -16,4 +16,12 @@ pub fn tells_cut()
     desk_history::possible_parts();
     row_steps();
     steps_of_messages();
+}
+
+/// Whatever a book is, each entry that a cut of it writes is one of a submission of the book that
+/// the cut sends, with that submission's order, reference and SEC code, and with its settlement.
+pub fn entries_of_cuts()
+    ensures { EntriesOfCuts }
+{
+    desk_plan::one_division();
 }

@@ -18,7 +18,7 @@ mod row_laws;
 
 pub use book_laws::{steps_of_messages, steps_of_operator, tells_operator, tells_replies};
 pub use caller::Caller;
-pub use cut_laws::tells_cut;
+pub use cut_laws::{entries_of_cuts, tells_cut};
 pub use flat_rows::{ChangedRow, FileRow, LapsedRow, ReturnedRow, SentRow};
 pub use held_submission::HeldSubmission;
 pub use intake_laws::tells_intake;

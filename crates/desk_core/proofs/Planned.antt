@@ -10,11 +10,13 @@ use Rattle.desk_rules.specs.Chain.{◌>>=◌}
 use Rattle.desk_book.specs.Book.{Book}
 use Rattle.desk_history.specs.Sendings.{plan_of, sent_sequence}
 use Rattle.desk_history.specs.Words.{holds_or}
-use Rattle.desk_book.specs.OnCut.{CutFacts, cut_sendings, files, cut_facts, cut_on_day}
+use Rattle.desk_book.specs.CutLaws.{EntriesOfCuts}
+use Rattle.desk_book.specs.OnCut.{CutFacts, cut_sendings, files, cut_facts, cut_on_day, cut_write}
+use Rattle.desk_book.specs.Steps.{CutWrite, commit_cut}
 use Rattle.desk_cut.specs.declared.plan.CutPlan.{CutPlan}
 use Rattle.desk_cut.specs.declared.fault.CutFault.{CutFault}
 use Rattle.desk_cut.specs.declared.fault.CutFault.TheVariants as faults
-use Rattle.desk_cut.specs.Plan.{IsPlan, MayTake, Plans, has_modifiers}
+use Rattle.desk_cut.specs.Plan.{IsPlan, MayTake, Plans, has_modifiers, plan_write}
 use Rattle.desk_core.specs.Cutting.{latest_of, IsPlanned, refusal_of}
 
 -- ---- a cut on a day
@@ -54,6 +56,10 @@ pub planned_cut : (b : Book) (x : CutFacts) (rs : List (ℕ × ℕ)) (latest : L
 planned_cut b x rs latest p is taken settled plans =
     subst (IsPlanned (Ok p)) (sym (made b x.day (may_take b x rs latest true is taken settled plans.0) (ap has_modifiers (sym is) ∙ plans.1)))
     (subst (λ (y : CutFacts). IsPlan y p) is plans.2)
+
+-- and may be written to the book
+pub planned_admitted : EntriesOfCuts → (b : Book) (x : CutFacts) (p : CutPlan) → x ≡ cut_facts b x.day → IsPlan x p → (commit_cut (plan_write p)).Admits b
+planned_admitted law b x p is plan = subst (λ (w : CutWrite). (commit_cut w).Admits b) (sym (plan.write ∙ ap cut_write is)) (law b x.day)
 
 planned_without_traces : (b : Book) (x : CutFacts) (rs : List (ℕ × ℕ)) (latest : List (Option ℕ)) → x ≡ cut_facts b x.day → IsTakenAs x rs → latest ≡ latest_of rs b
     → MayTake x latest false → IsPlanned (Err TracesSpent) (cut_on_day b x.day)

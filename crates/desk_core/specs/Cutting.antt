@@ -7,10 +7,11 @@ use Rattle.desk_store.specs.declared.store.StoreFault.{StoreFault}
 use Rattle.desk_store.specs.declared.store.StoreFault.TheVariants.{Unavailable}
 use Rattle.desk_book.specs.Reads.{latest_settled}
 use Rattle.desk_book.specs.OnCut.{CutFacts, cut_facts, cut_on_day}
+use Rattle.desk_book.specs.Steps.{commit_cut}
 use Rattle.desk_cut.specs.declared.fault.CutFault.{CutFault}
 use Rattle.desk_cut.specs.declared.fault.CutFault.TheVariants as faults
 use Rattle.desk_cut.specs.declared.plan.CutPlan.{CutPlan}
-use Rattle.desk_cut.specs.Plan.{IsPlan}
+use Rattle.desk_cut.specs.Plan.{IsPlan, plan_write}
 use Rattle.desk_core.specs.declared.operator.cut.CutReads.{CutReads}
 
 abbrev pub facts_in : CutReads → CutFacts
@@ -26,9 +27,18 @@ IsPlanned (Ok p) (Ok x) = IsPlan x p
 IsPlanned (Err why) (Err first) = why ≡ first
 IsPlanned _ _ = ⊥
 
--- What was planned for these facts is the cut of each book that has them; or the store could not act.
+-- it holds the book, and what was planned may be written to it
+abbrev pub HoldsFor : (holds : Book → Type 0) → CutPlan → Book → Type 0
+HoldsFor holds p b = holds b × (commit_cut (plan_write p)).Admits b
+
+abbrev pub HoldsPlanned : (holds : Book → Type 0) → Result CutPlan Refusal → Book → Type 0
+HoldsPlanned holds (Ok p) b = HoldsFor holds p b
+HoldsPlanned holds (Err why) b = holds b
+
+-- What was planned for these facts is the cut of each book that has them, and may be written; or the store
+-- could not act.
 abbrev pub Plans : (Book → Type 0) → CutFacts → Result (Result CutPlan Refusal) StoreFault → (Book → Type 0) → Type 0
-Plans old x (Ok planned) new = (b : Book) → old b → x ≡ cut_facts b x.day → IsPlanned planned (cut_on_day b x.day) × new b
+Plans old x (Ok planned) new = (b : Book) → old b → x ≡ cut_facts b x.day → IsPlanned planned (cut_on_day b x.day) × HoldsPlanned new planned b
 Plans old x (Err fault) new = (b : Book) → old b → new b
 
 -- why a cut is refused; what stands in no history refuses nothing, nor does being out of memory

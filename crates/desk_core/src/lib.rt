@@ -17,8 +17,8 @@ mod retry;
 pub use desk::Desk;
 pub use desk_book::{
     Caller, ChangedRow, FileRow, HeldSubmission, LapsedRow, ReturnedRow, ReturnsAndChanges, Row,
-    SentRow, book_tells, row_steps, rows_of_part, steps_of_messages, steps_of_operator, tells_cut,
-    tells_intake, tells_operator, tells_replies, verdicts_on_rows,
+    SentRow, book_tells, entries_of_cuts, row_steps, rows_of_part, steps_of_messages,
+    steps_of_operator, tells_cut, tells_intake, tells_operator, tells_replies, verdicts_on_rows,
 };
 pub use desk_cut::{CutFault, CutPlan, plan_cut, ranges_of_cut};
 pub use desk_history::{

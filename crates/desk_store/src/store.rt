@@ -67,6 +67,12 @@ pub struct IntakeRows<'a> {
 ///
 /// Each call answers, or says that it could not act: then the store holds what it held. Each write
 /// is one atomic step. What is said of the book holds where the store is clean as the call ends.
+///
+/// A write is owed for what a desk writes. To rows that no desk writes a store may answer that it
+/// could not act: a company, reference, file or key that is there already; a retry unlike its
+/// content; a submission that is sent or lapses and is not held, or comes twice; an entry that was
+/// sent before, or a sequence past 9,999,999; a return or change of an unknown reference, or a
+/// return of what was not sent; sums of an account that it cannot keep.
 pub trait Store {
     /// Says which books it may hold: the one that it holds.
     ghost holds: { Self → Book → Type 0 };
@@ -255,7 +261,8 @@ pub trait Store {
         ensures write { is_clean self.new → Writes (holds self.old) result (add_submission company order content.now retry) (holds self.new) }
         ensures left { is_clean self.new → LeavesWrite keeps (holds self.old) (may_leave self.old) result (add_submission company order content.now retry) (may_leave self.new) };
 
-    /// Writes all that a cut does.
+    /// Writes all that a cut does. Each of its entries is one of a submission that it sends, as the
+    /// book has that submission.
     fn commit_cut(&mut self, alloc: Global, cut: &CutRows<'_>) -> Result<(), StoreFault>
         ensures before { is_clean self.new → is_clean self.old }
         ensures write { is_clean self.new → Writes (holds self.old) result (commit_cut (cut_rows cut.now)) (holds self.new) }

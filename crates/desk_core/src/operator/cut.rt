@@ -7,7 +7,7 @@ ghost use Rattle.desk_store.specs.Words.{ReadsList, LeavesRead};
 ghost use Rattle.desk_book.specs.OnCut.{cut_facts, cut_answer_on, cut_after};
 ghost use Rattle.desk_cut.specs.Plan.{plan_write};
 ghost use Rattle.desk_core.specs.Answering.{Answers, LeavesCall};
-ghost use Rattle.desk_core.specs.Cutting.{Plans, facts_in, latest_of, refusal_of};
+ghost use Rattle.desk_core.specs.Cutting.{HoldsFor, Plans, facts_in, latest_of, refusal_of};
 ghost use Rattle.desk_core.specs.Taking.{ReadsAs};
 
 use crate::guards::desk_day;
@@ -88,6 +88,7 @@ fn plan<S: Store>(
     ensures plans { S.is_clean store.new → Plans (S.holds store.old) (facts_in reads.now) result (S.holds store.new) }
     ensures left { S.is_clean store.new → LeavesRead (S.may_leave store.old) (S.may_leave store.new) }
 {
+    desk_book::entries_of_cuts();
     let (day, last) = (reads.day, reads.last);
     let ranges = match ranges_of_cut(alloc, day, &reads.holidays, last, &reads.waiting) {
         Ok(ranges) => ranges,
@@ -114,8 +115,8 @@ fn plan<S: Store>(
 // Writes a plan, and answers.
 fn write<S: Store>(store: &mut S, alloc: Global, plan: CutPlan) -> Result<Answer, StoreFault>
     ensures before { S.is_clean store.new → S.is_clean store.old }
-    ensures answers { S.is_clean store.new → Answers (S.holds store.old) result (λ b. answers.Done (done.Cut plan.done)) (commit_cut (plan_write plan)).after (S.holds store.new) }
-    ensures left { S.is_clean store.new → LeavesCall S.keeps (S.holds store.old) (S.may_leave store.old) result (commit_cut (plan_write plan)).after (S.may_leave store.new) }
+    ensures answers { S.is_clean store.new → Answers (HoldsFor (S.holds store.old) plan) result (λ b. answers.Done (done.Cut plan.done)) (commit_cut (plan_write plan)).after (S.holds store.new) }
+    ensures left { S.is_clean store.new → LeavesCall S.keeps (HoldsFor (S.holds store.old) plan) (S.may_leave store.old) result (commit_cut (plan_write plan)).after (S.may_leave store.new) }
 {
     let rows = CutRows {
         sent: plan.sent.as_slice(),
