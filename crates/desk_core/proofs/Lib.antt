@@ -4,6 +4,6 @@ pub mod Alike
 pub mod Asked
 pub mod FileReading
 pub mod Planned
-pub mod Runs
+pub mod Running
 pub mod Traceless
 pub mod Zips

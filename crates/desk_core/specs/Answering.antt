@@ -1,5 +1,5 @@
 -- What a call that answers from a store says.
-use Rattle.std.specs.Prelude.{◌≡◌, ◌⊎◌, ◌↔◌, ℕ, Bool, IsTrue, List, Some, Result, Ok, Err}
+use Rattle.std.specs.Prelude.{◌≡◌, ◌⊎◌, ◌↔◌, ℕ, Bool, IsTrue, IsFalse, List, Some, Result, Ok, Err}
 use Rattle.desk_history.specs.declared.answer.Answer.{Answer}
 use Rattle.desk_book.specs.Book.{Book}
 use Rattle.desk_book.specs.declared.caller.Caller.{Caller}
@@ -12,11 +12,15 @@ abbrev pub Answers : (Book → Type 0) → Result Answer StoreFault → (Book �
 Answers old (Ok a) answer after new = (b : Book) → old b → (a ≡ answer b) × new (after b)
 Answers old (Err fault) answer after new = (b : Book) → old b → new b
 
--- What a crash may leave after a call: nothing new where it wrote nothing, what keeps the book that it made
--- where it wrote; and where the store could not act, either.
-abbrev pub LeavesCall : {Kept : Type 0} → (keeps : Kept → Book → Type 0) → (holds : Book → Type 0) → (old : Kept → Type 0) → Result Answer StoreFault → (after : Book → Book) → (new : Kept → Type 0) → Type 0
-LeavesCall {Kept} keeps holds old (Ok a) after new = (b : Book) (k : Kept) → holds b → new k → (old k × (after b ≡ b)) ⊎ keeps k (after b)
-LeavesCall {Kept} keeps holds old (Err fault) after new = (b : Book) (k : Kept) → holds b → new k → old k ⊎ keeps k (after b)
+-- What a crash left, by whether the call wrote: what keeps the book that it made, or what could be left before.
+abbrev pub IsLeft : (wrote : Bool) → (made : Type 0) → (before : Type 0) → Type 0
+IsLeft wrote made before = (IsTrue wrote × made) ⊎ (IsFalse wrote × before)
+
+-- What a crash may leave after a call: where it wrote, what keeps the book that it made, and where it wrote
+-- nothing, nothing new; and where the store could not act, either.
+abbrev pub LeavesCall : {Kept : Type 0} → (keeps : Kept → Book → Type 0) → (holds : Book → Type 0) → (old : Kept → Type 0) → Result Answer StoreFault → (writes : Book → Bool) → (after : Book → Book) → (new : Kept → Type 0) → Type 0
+LeavesCall {Kept} keeps holds old (Ok a) writes after new = (b : Book) (k : Kept) → holds b → new k → IsLeft (writes b) (keeps k (after b)) (old k)
+LeavesCall {Kept} keeps holds old (Err fault) writes after new = (b : Book) (k : Kept) → holds b → new k → old k ⊎ keeps k (after b)
 
 -- ---- who may call
 

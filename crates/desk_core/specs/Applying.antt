@@ -12,7 +12,8 @@ use Rattle.desk_history.specs.History.{part}
 use Rattle.desk_history.specs.Request.{Request}
 use Rattle.desk_store.specs.declared.store.StoreFault.{StoreFault}
 use Rattle.desk_book.specs.OnMessages.{answer_on, after_on}
-use Rattle.desk_core.specs.Answering.{Answers, LeavesCall}
+use Rattle.desk_book.specs.Writes.{writes_on}
+use Rattle.desk_core.specs.Answering.{Answers, IsLeft, LeavesCall}
 
 -- ---- by the book
 
@@ -21,7 +22,11 @@ abbrev pub AnswersCall : (Book → Type 0) → Call → Result Answer StoreFault
 AnswersCall old call result new = (m : Message) → IsMessageOf call m → Answers old result (λ b. answer_on b m) (λ b. after_on b m) new
 
 abbrev pub LeavesMessage : {Kept : Type 0} → (keeps : Kept → Book → Type 0) → (holds : Book → Type 0) → (old : Kept → Type 0) → Call → Result Answer StoreFault → (new : Kept → Type 0) → Type 0
-LeavesMessage keeps holds old call result new = (m : Message) → IsMessageOf call m → LeavesCall keeps holds old result (λ b. after_on b m) new
+LeavesMessage keeps holds old call result new = (m : Message) → IsMessageOf call m → LeavesCall keeps holds old result (λ b. writes_on b m) (λ b. after_on b m) new
+
+-- the store holds a book
+abbrev pub HasBook : (holds : Book → Type 0) → Type 0
+HasBook holds = (b : Book) × holds b
 
 -- ---- by the history
 
@@ -53,11 +58,11 @@ abbrev pub Replies : (Book → Type 0) → Call → Result Answer StoreFault →
 Replies old call result = (identity : Identity) (key : List ℕ) (H : List Pair) (c : List ℕ) (r : Request) → IsAsked old call identity key H (Of c r) → IsOwnReply identity H c r result
 
 abbrev pub LeavesOn : {Kept : Type 0} → (keeps : Kept → Book → Type 0) → (old : Kept → Type 0) → Identity → (key : List ℕ) → (H : List Pair) → Message → Result Answer StoreFault → Kept → Type 0
-LeavesOn keeps old identity key H m (Ok a) k = (old k × (book_after identity key H m ≡ book_of identity key H)) ⊎ keeps k (book_after identity key H m)
+LeavesOn keeps old identity key H m (Ok a) k = IsLeft (writes_on (book_of identity key H) m) (keeps k (book_after identity key H m)) (old k)
 LeavesOn keeps old identity key H m (Err fault) k = old k ⊎ keeps k (book_after identity key H m)
 
--- A crash after the call leaves what it could leave before, or what keeps the book of the history with this
--- pair; where the call changed the book, the latter alone.
+-- A crash after the call leaves what keeps the book of the history with this pair, where the call wrote, and
+-- what it could leave before, where it wrote nothing; where the store could not act, either.
 abbrev pub LeavesBook : {Kept : Type 0} → (keeps : Kept → Book → Type 0) → (holds : Book → Type 0) → (old : Kept → Type 0) → Call → Result Answer StoreFault → (new : Kept → Type 0) → Type 0
 LeavesBook {Kept} keeps holds old call result new =
     (identity : Identity) (key : List ℕ) (H : List Pair) (m : Message) (k : Kept) → IsAsked holds call identity key H m → new k → LeavesOn keeps old identity key H m result k

@@ -1,5 +1,5 @@
 -- The verdict of a request: its answer, and the row that it adds.
-use Rattle.std.specs.Prelude.{◌≡◌, ◌⊎◌, ⊤, ℕ, ◌+◌, Bool, true, false, List, length, Option, Some, None, option_map, Result, Ok, Err}
+use Rattle.std.specs.Prelude.{◌≡◌, ◌⊎◌, ⊤, ℕ, ◌+◌, Bool, true, false, List, length, Option, Some, None, option_map, is_some, Result, Ok, Err}
 use Rattle.desk_rules.specs.declared.bodies.company.Limits.{Limits}
 use Rattle.desk_rules.specs.declared.refusals.refusal.Refusal.{Refusal}
 use Rattle.desk_rules.specs.declared.refusals.refusal.Refusal.TheVariants.{NoCompany, NoDay, RefReused}
@@ -19,6 +19,7 @@ use Rattle.desk_book.specs.Standing.{row_under, facts_in, retry_content_among}
 use Rattle.desk_history.specs.Words.{some_or}
 use Rattle.desk_store.specs.declared.store.StoreFault.{StoreFault}
 use Rattle.desk_book.specs.Steps.{add_submission}
+use Rattle.desk_core.specs.Answering.{IsLeft}
 use Rattle.desk_core.specs.declared.company.verdict.NewRow.{NewRow}
 use Rattle.desk_core.specs.declared.company.verdict.Verdict.{Verdict}
 use Rattle.desk_book.specs.OnBook.{standing_in, reply_on}
@@ -99,5 +100,5 @@ Adds old (Ok a) c v new = (b : Book) → old b → IsNextOf c v.added b → (a �
 Adds old (Err fault) c v new = (b : Book) → old b → new b
 
 abbrev pub LeavesAdded : {Kept : Type 0} → (keeps : Kept → Book → Type 0) → (holds : Book → Type 0) → (old : Kept → Type 0) → Result Answer StoreFault → (company : List ℕ) → Verdict → (new : Kept → Type 0) → Type 0
-LeavesAdded {Kept} keeps holds old (Ok a) c v new = (b : Book) (k : Kept) → holds b → IsNextOf c v.added b → new k → (old k × (with_added c v.added b ≡ b)) ⊎ keeps k (with_added c v.added b)
+LeavesAdded {Kept} keeps holds old (Ok a) c v new = (b : Book) (k : Kept) → holds b → IsNextOf c v.added b → new k → IsLeft (is_some v.added) (keeps k (with_added c v.added b)) (old k)
 LeavesAdded {Kept} keeps holds old (Err fault) c v new = (b : Book) (k : Kept) → holds b → IsNextOf c v.added b → new k → old k ⊎ keeps k (with_added c v.added b)

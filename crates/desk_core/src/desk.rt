@@ -1,8 +1,7 @@
 ghost use Rattle.std.specs.Prelude.{◌≡◌};
 ghost use Rattle.desk_store.specs.Words.{LeavesRead};
 ghost use Rattle.desk_core.specs.Answering.{Allows};
-ghost use Rattle.desk_core.specs.Applying.{Goes, Replies, LeavesBook};
-ghost use Rattle.desk_core.specs.Running.{Runs};
+ghost use Rattle.desk_core.specs.Applying.{AnswersCall, LeavesMessage, HasBook, Goes, Replies, LeavesBook};
 
 use crate::allow::allow;
 use crate::respond::respond;
@@ -44,33 +43,26 @@ impl<S> Desk<S> {
 
 impl<S: Store> Desk<S> {
     /// Answers a call, with the one write that it makes. A refusal by a rule is an answer too, and
-    /// writes nothing.
+    /// writes nothing; nor does what was accepted before and is sent again.
     ///
     /// It is `Unavailable` where the desk is out of memory or the store could not act: the store
     /// holds the book that it held, and the call may be made again. The answer is made before the
     /// write, so that what was written is answered.
+    ///
+    /// By the clauses `answers`, `leaves` and `book` it is so of whatever book the store holds, and by
+    /// the others of the history that the book stands for.
     pub fn apply(&mut self, alloc: Global, call: Call) -> Result<Answer, StoreFault>
         ensures before { S.is_clean self.new → S.is_clean self.old }
+        ensures answers { S.is_clean self.new → AnswersCall (S.holds self.old) call result (S.holds self.new) }
+        ensures leaves { S.is_clean self.new → LeavesMessage S.keeps (S.holds self.old) (S.may_leave self.old) call result (S.may_leave self.new) }
+        ensures book { S.is_clean self.new → HasBook (S.holds self.old) → HasBook (S.holds self.new) }
         ensures goes { S.is_clean self.new → Goes (S.holds self.old) call result (S.holds self.new) }
         ensures replies { S.is_clean self.new → Replies (S.holds self.old) call result }
         ensures left { S.is_clean self.new → LeavesBook S.keeps (S.holds self.old) (S.may_leave self.old) call result (S.may_leave self.new) }
     {
+        desk_history::one_message();
         desk_book::book_tells();
         respond(&mut self.store, alloc, call)
-    }
-
-    /// Answers calls in their order. It is `Unavailable` where the desk is out of memory or the
-    /// store could not act: some of the first calls are then done, and their answers are lost.
-    pub fn apply_all(&mut self, alloc: Global, calls: Vec<Call>) -> Result<Vec<Answer>, StoreFault>
-        ensures before { S.is_clean self.new → S.is_clean self.old }
-        ensures runs { S.is_clean self.new → Runs (S.holds self.old) calls.items result (S.holds self.new) }
-    {
-        let mut answers = Vec::with_capacity(alloc, calls.len())?;
-        for call in calls {
-            let answer = self.apply(alloc, call)?;
-            answers.push(answer)?;
-        }
-        Ok(answers)
     }
 
     /// Is this the digest of the caller's key? The operator has one, and each registered company.

@@ -1,5 +1,6 @@
 //! The laws of all desks stand here.
 ghost use Rattle.desk_core.specs.Alike.{TwoDesks, DeskAlone};
+ghost use Rattle.desk_core.specs.Running.{CrashesLeave};
 
 use desk_store::Store;
 
@@ -19,4 +20,14 @@ pub fn desk_alone<S: Store, T: Store>()
     ensures { DeskAlone S.holds T.holds }
 {
     desk_history::served_alone();
+}
+
+/// After calls that were made one after another, some of them answered and some not, the store holds
+/// the book of the history with those that were answered. A crash then leaves that book, or the book
+/// with one call more: one that was not answered, and after which no call that wrote was.
+pub fn crashes_leave<S: Store>()
+    ensures { CrashesLeave S.holds S.keeps S.may_leave }
+{
+    desk_book::book_tells();
+    desk_book::reads_leave();
 }

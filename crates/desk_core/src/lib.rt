@@ -17,17 +17,19 @@ mod retry;
 pub use desk::Desk;
 pub use desk_book::{
     Caller, ChangedRow, FileRow, HeldSubmission, LapsedRow, ReturnedRow, ReturnsAndChanges, Row,
-    SentRow, book_tells, entries_of_cuts, row_steps, rows_of_part, steps_of_messages,
-    steps_of_operator, tells_cut, tells_intake, tells_operator, tells_replies, verdicts_on_rows,
+    SentRow, book_tells, entries_of_cuts, reads_leave, row_steps, rows_of_part, steps_of_messages,
+    steps_of_operator, tells_cut, tells_intake, tells_operator, tells_replies, twice_acts_once,
+    verdicts_on_rows,
 };
 pub use desk_cut::{CutFault, CutPlan, plan_cut, ranges_of_cut};
 pub use desk_history::{
     Answer, Call, CallRefusal, ChangeRow, CutSummary, DayRates, DaySum, Exposure, FilePlace,
     Identity, Intake, ListOf, Outcome, Receipt, ReportedEntry, RetriedEntry, ReturnRow, SentEntry,
     Settlement, Statement, StatementLine, SubmissionReport, SuspenseReason, SuspenseRow, TakenFile,
-    accepted_cuts, accepted_in_order, accounts_cancel, company_lines, one_message, possible_parts,
-    sent_are_accepted, served_alone, traces_name, traces_of_cuts, two_worlds,
+    accepted_cuts, accepted_in_order, accounts_cancel, company_lines, company_of_part,
+    digest_of_part, first_answer_stands, one_message, possible_parts, sent_are_accepted,
+    served_alone, traces_name, traces_of_cuts, two_worlds,
 };
 pub use desk_intake::{FoundItem, IntakeFault, IntakePlan, NamedEntry, plan_intake};
 pub use desk_store::{CutRows, FaultyStore, IntakeRows, ListStore, Store, StoreFault};
-pub use laws::{desk_alone, two_desks};
+pub use laws::{crashes_leave, desk_alone, two_desks};

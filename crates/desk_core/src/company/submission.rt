@@ -5,6 +5,8 @@ ghost use Rattle.desk_history.specs.Request as request;
 ghost use Rattle.desk_history.specs.Acceptance.{is_same_submission, new_content};
 ghost use Rattle.desk_book.specs.Standing.{facts_in};
 ghost use Rattle.desk_store.specs.Words.{Reads, LeavesRead};
+ghost use Rattle.desk_history.specs.Message.{Of};
+ghost use Rattle.desk_book.specs.Writes.{writes_on};
 ghost use Rattle.desk_core.specs.Answering.{Answers, LeavesCall};
 ghost use Rattle.desk_core.specs.Verdicts.{limits_and_day, verdict_of_fields, fresh_verdict, submission_on};
 ghost use Rattle.desk_book.specs.Requests.{added_row, with_added_row};
@@ -105,7 +107,7 @@ pub(crate) fn submit<S: Store>(
 ) -> Result<Answer, StoreFault>
     ensures before { S.is_clean store.new → S.is_clean store.old }
     ensures answers { S.is_clean store.new → Answers (S.holds store.old) result (λ b. reply_on b company (request.Submit draft.now)) (λ b. with_added_row company (added_row b company (request.Submit draft.now)) b) (S.holds store.new) }
-    ensures left { S.is_clean store.new → LeavesCall S.keeps (S.holds store.old) (S.may_leave store.old) result (λ b. with_added_row company (added_row b company (request.Submit draft.now)) b) (S.may_leave store.new) }
+    ensures left { S.is_clean store.new → LeavesCall S.keeps (S.holds store.old) (S.may_leave store.old) result (λ b. writes_on b (Of company (request.Submit draft.now))) (λ b. with_added_row company (added_row b company (request.Submit draft.now)) b) (S.may_leave store.new) }
 {
     let verdict = submission_verdict(store, alloc, company, draft)?;
     add(store, alloc, company, verdict)

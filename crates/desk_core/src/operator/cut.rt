@@ -1,11 +1,13 @@
 //! The operator cuts files.
-ghost use Rattle.std.specs.Prelude.{◌≡◌};
+ghost use Rattle.std.specs.Prelude.{◌≡◌, true};
 ghost use Rattle.desk_history.specs.declared.answer.Answer.TheVariants as answers;
 ghost use Rattle.desk_history.specs.declared.answer.Outcome.TheVariants as done;
 ghost use Rattle.desk_book.specs.Steps.{commit_cut};
 ghost use Rattle.desk_store.specs.Words.{ReadsList, LeavesRead};
 ghost use Rattle.desk_book.specs.OnCut.{cut_facts, cut_answer_on, cut_after};
 ghost use Rattle.desk_cut.specs.Plan.{plan_write};
+ghost use Rattle.desk_history.specs.Message.{Cut};
+ghost use Rattle.desk_book.specs.Writes.{writes_on};
 ghost use Rattle.desk_core.specs.Answering.{Answers, LeavesCall};
 ghost use Rattle.desk_core.specs.Cutting.{HoldsFor, Plans, facts_in, latest_of, refusal_of};
 ghost use Rattle.desk_core.specs.Taking.{ReadsAs};
@@ -116,7 +118,7 @@ fn plan<S: Store>(
 fn write<S: Store>(store: &mut S, alloc: Global, plan: CutPlan) -> Result<Answer, StoreFault>
     ensures before { S.is_clean store.new → S.is_clean store.old }
     ensures answers { S.is_clean store.new → Answers (HoldsFor (S.holds store.old) plan) result (λ b. answers.Done (done.Cut plan.done)) (commit_cut (plan_write plan)).after (S.holds store.new) }
-    ensures left { S.is_clean store.new → LeavesCall S.keeps (HoldsFor (S.holds store.old) plan) (S.may_leave store.old) result (commit_cut (plan_write plan)).after (S.may_leave store.new) }
+    ensures left { S.is_clean store.new → LeavesCall S.keeps (HoldsFor (S.holds store.old) plan) (S.may_leave store.old) result (λ b. true) (commit_cut (plan_write plan)).after (S.may_leave store.new) }
 {
     let rows = CutRows {
         sent: plan.sent.as_slice(),
@@ -133,7 +135,7 @@ fn write<S: Store>(store: &mut S, alloc: Global, plan: CutPlan) -> Result<Answer
 pub(crate) fn cut<S: Store>(store: &mut S, alloc: Global) -> Result<Answer, StoreFault>
     ensures before { S.is_clean store.new → S.is_clean store.old }
     ensures answers { S.is_clean store.new → Answers (S.holds store.old) result (cut_answer_on) (cut_after) (S.holds store.new) }
-    ensures left { S.is_clean store.new → LeavesCall S.keeps (S.holds store.old) (S.may_leave store.old) result (cut_after) (S.may_leave store.new) }
+    ensures left { S.is_clean store.new → LeavesCall S.keeps (S.holds store.old) (S.may_leave store.old) result (λ b. writes_on b Cut) cut_after (S.may_leave store.new) }
 {
     let day = match desk_day(store, alloc)? {
         Ok(day) => day,

@@ -1,5 +1,5 @@
 //! The operator hands in an incoming file.
-ghost use Rattle.std.specs.Prelude.{◌≡◌, Result, Ok};
+ghost use Rattle.std.specs.Prelude.{◌≡◌, Result, Ok, true};
 ghost use Rattle.ach_files.specs.Facts.{FileFacts};
 ghost use Rattle.ach_files.specs.declared.fault.Fault.{Fault};
 ghost use Rattle.desk_history.specs.Calls.{IsFileOf};
@@ -9,6 +9,7 @@ ghost use Rattle.desk_book.specs.Steps.{commit_intake};
 ghost use Rattle.desk_store.specs.Words.{LeavesRead};
 ghost use Rattle.desk_book.specs.OnIntake.{New, file_after, file_answer_on, intake_facts, intake_write, taking_answer, taking_file, taking_known, with_taking};
 ghost use Rattle.desk_intake.specs.Plans.{plan_write};
+ghost use Rattle.desk_book.specs.Writes.{is_new_taking, writes_on};
 ghost use Rattle.desk_core.specs.Answering.{Answers, LeavesCall};
 ghost use Rattle.desk_core.specs.Taking.{ReadsAs};
 
@@ -47,7 +48,7 @@ fn plan<S: Store>(
 fn write<S: Store>(store: &mut S, alloc: Global, plan: &IntakePlan) -> Result<Answer, StoreFault>
     ensures before { S.is_clean store.new → S.is_clean store.old }
     ensures answers { S.is_clean store.new → Answers (S.holds store.old) result (λ b. intake_answer (Ok plan.now.file.answer)) (commit_intake (plan_write plan.now)).after (S.holds store.new) }
-    ensures left { S.is_clean store.new → LeavesCall S.keeps (S.holds store.old) (S.may_leave store.old) result (commit_intake (plan_write plan.now)).after (S.may_leave store.new) }
+    ensures left { S.is_clean store.new → LeavesCall S.keeps (S.holds store.old) (S.may_leave store.old) result (λ b. true) (commit_intake (plan_write plan.now)).after (S.may_leave store.new) }
 {
     let rows = IntakeRows {
         returned: plan.returned.as_slice(),
@@ -69,7 +70,7 @@ fn take_new<S: Store>(
 ) -> Result<Answer, StoreFault>
     ensures before { S.is_clean store.new → S.is_clean store.old }
     ensures answers { S.is_clean store.new → Answers (S.holds store.old) result (λ b. taking_answer (New (intake_facts b day file.now))) (λ b. with_taking (New (intake_facts b day file.now)) b) (S.holds store.new) }
-    ensures left { S.is_clean store.new → LeavesCall S.keeps (S.holds store.old) (S.may_leave store.old) result (λ b. with_taking (New (intake_facts b day file.now)) b) (S.may_leave store.new) }
+    ensures left { S.is_clean store.new → LeavesCall S.keeps (S.holds store.old) (S.may_leave store.old) result (λ b. true) (λ b. with_taking (New (intake_facts b day file.now)) b) (S.may_leave store.new) }
 {
     let plan = plan(store, alloc, day, file)?;
     write(store, alloc, &plan)
@@ -95,7 +96,7 @@ fn take_read<S: Store>(
 ) -> Result<Answer, StoreFault>
     ensures before { S.is_clean store.new → S.is_clean store.old }
     ensures answers { S.is_clean store.new → Answers (S.holds store.old) result (λ b. taking_answer (taking_file b day file.now (b.taken file.now.key))) (λ b. with_taking (taking_file b day file.now (b.taken file.now.key)) b) (S.holds store.new) }
-    ensures left { S.is_clean store.new → LeavesCall S.keeps (S.holds store.old) (S.may_leave store.old) result (λ b. with_taking (taking_file b day file.now (b.taken file.now.key)) b) (S.may_leave store.new) }
+    ensures left { S.is_clean store.new → LeavesCall S.keeps (S.holds store.old) (S.may_leave store.old) result (λ b. is_new_taking (taking_file b day file.now (b.taken file.now.key))) (λ b. with_taking (taking_file b day file.now (b.taken file.now.key)) b) (S.may_leave store.new) }
 {
     if let Some(first) = store.taken(alloc, file.key())? {
         return Ok(answer_again(&first, file.digest()));
@@ -112,7 +113,7 @@ pub(crate) fn take_file<S: Store>(
 ) -> Result<Answer, StoreFault>
     ensures before { S.is_clean store.new → S.is_clean store.old }
     ensures answers { S.is_clean store.new → (file : Result FileFacts Fault) → IsFileOf bytes.now (TakeFile file) → Answers (S.holds store.old) result (file_answer_on file) (file_after file) (S.holds store.new) }
-    ensures left { S.is_clean store.new → (file : Result FileFacts Fault) → IsFileOf bytes.now (TakeFile file) → LeavesCall S.keeps (S.holds store.old) (S.may_leave store.old) result (file_after file) (S.may_leave store.new) }
+    ensures left { S.is_clean store.new → (file : Result FileFacts Fault) → IsFileOf bytes.now (TakeFile file) → LeavesCall S.keeps (S.holds store.old) (S.may_leave store.old) result (λ b. writes_on b (TakeFile file)) (file_after file) (S.may_leave store.new) }
 {
     let day = match desk_day(store, alloc)? {
         Ok(day) => day,

@@ -1,6 +1,8 @@
 //! The operator sets days, holidays, companies and limits here.
 ghost use Rattle.std.specs.Prelude.{◌≡◌, Some};
 ghost use Rattle.bank_days.specs.HolidayList.{holidays_in};
+ghost use Rattle.desk_history.specs.Message.{SetDay, SetHolidays, PutCompany, PutLimits};
+ghost use Rattle.desk_book.specs.Writes.{writes_on};
 ghost use Rattle.desk_core.specs.Answering.{Answers, LeavesCall};
 ghost use Rattle.desk_book.specs.OnOperator.{new_day, day_answer, day_after, holidays_answer, holidays_after, company_answer, company_after, limits_answer, limits_after};
 
@@ -20,7 +22,7 @@ pub(crate) fn set_day<S: Store>(
 ) -> Result<Answer, StoreFault>
     ensures before { S.is_clean store.new → S.is_clean store.old }
     ensures answers { S.is_clean store.new → Answers (S.holds store.old) result (day_answer text.now) (day_after text.now) (S.holds store.new) }
-    ensures left { S.is_clean store.new → LeavesCall S.keeps (S.holds store.old) (S.may_leave store.old) result (day_after text.now) (S.may_leave store.new) }
+    ensures left { S.is_clean store.new → LeavesCall S.keeps (S.holds store.old) (S.may_leave store.old) result (λ b. writes_on b (SetDay text.now)) (day_after text.now) (S.may_leave store.new) }
 {
     let day = store.day(alloc)?;
     let holidays = store.calendar(alloc)?;
@@ -57,7 +59,7 @@ pub(crate) fn set_holidays<S: Store>(
 ) -> Result<Answer, StoreFault>
     ensures before { S.is_clean store.new → S.is_clean store.old }
     ensures answers { S.is_clean store.new → Answers (S.holds store.old) result (holidays_answer (holidays_in text.now)) (holidays_after (holidays_in text.now)) (S.holds store.new) }
-    ensures left { S.is_clean store.new → LeavesCall S.keeps (S.holds store.old) (S.may_leave store.old) result (holidays_after (holidays_in text.now)) (S.may_leave store.new) }
+    ensures left { S.is_clean store.new → LeavesCall S.keeps (S.holds store.old) (S.may_leave store.old) result (λ b. writes_on b (SetHolidays (holidays_in text.now))) (holidays_after (holidays_in text.now)) (S.may_leave store.new) }
 {
     match Calendar::read(alloc, text) {
         Ok(holidays) => {
@@ -78,7 +80,7 @@ pub(crate) fn put_company<S: Store>(
 ) -> Result<Answer, StoreFault>
     ensures before { S.is_clean store.new → S.is_clean store.old }
     ensures answers { S.is_clean store.new → Answers (S.holds store.old) result (company_answer draft.now) (company_after draft.now) (S.holds store.new) }
-    ensures left { S.is_clean store.new → LeavesCall S.keeps (S.holds store.old) (S.may_leave store.old) result (company_after draft.now) (S.may_leave store.new) }
+    ensures left { S.is_clean store.new → LeavesCall S.keeps (S.holds store.old) (S.may_leave store.old) result (λ b. writes_on b (PutCompany draft.now)) (company_after draft.now) (S.may_leave store.new) }
 {
     let company = match desk_rules::check_company_fields(draft) {
         Ok(company) => company,
@@ -99,7 +101,7 @@ pub(crate) fn put_limits<S: Store>(
 ) -> Result<Answer, StoreFault>
     ensures before { S.is_clean store.new → S.is_clean store.old }
     ensures answers { S.is_clean store.new → Answers (S.holds store.old) result (limits_answer draft.now) (limits_after draft.now) (S.holds store.new) }
-    ensures left { S.is_clean store.new → LeavesCall S.keeps (S.holds store.old) (S.may_leave store.old) result (limits_after draft.now) (S.may_leave store.new) }
+    ensures left { S.is_clean store.new → LeavesCall S.keeps (S.holds store.old) (S.may_leave store.old) result (λ b. writes_on b (PutLimits draft.now)) (limits_after draft.now) (S.may_leave store.new) }
 {
     let (id, limits) = match desk_rules::check_limits_fields(draft) {
         Ok(found) => found,
