@@ -1,10 +1,10 @@
 //! An incoming file is planned here.
-ghost use Rattle.std.specs.Prelude.{◌≡◌, IfOk, IsErrOf, false};
+ghost use Rattle.std.specs.Prelude.{◌≡◌, IfOk, IsErrOf, false, true};
 ghost use Rattle.std.specs.List.{list_all};
 ghost use Rattle.desk_book.specs.OnIntake.{intake_write};
 ghost use Rattle.desk_intake.specs.Resolutions.{is_in_range, settles_in_range};
 ghost use Rattle.desk_intake.specs.Plans.{intake_facts_of, write_of_items, plan_write};
-ghost use Rattle.desk_intake.specs.declared.fault.IntakeFault.TheVariants.{OutOfRange};
+ghost use Rattle.desk_intake.specs.declared.fault.IntakeFault.TheVariants.{NoMemory, OutOfRange};
 
 use crate::counts::counts;
 use crate::fault::IntakeFault;
@@ -82,7 +82,8 @@ fn plan_of_items(
 /// Plans a file with this key and digest that is taken on a day, by the resolutions of its items,
 /// each with what its trace names.
 ///
-/// It is `OutOfRange` where a named entry settles after 2100-01-31; a desk sends none.
+/// It is `OutOfRange` where a named entry settles after 2100-01-31; a desk sends none. Where none does
+/// it can only be out of memory.
 pub fn plan_intake(
     alloc: Global,
     key: [u8; 21],
@@ -93,6 +94,7 @@ pub fn plan_intake(
 ) -> Result<IntakePlan, IntakeFault>
     ensures plan { IfOk result (λ plan. plan_write plan ≡ intake_write (intake_facts_of key digest found.now day holidays.now)) }
     ensures range { IsErrOf result OutOfRange → list_all is_in_range found.now ≡ false }
+    ensures memory { IsErrOf result NoMemory → list_all is_in_range found.now ≡ true }
 {
     if !are_in_range(found) {
         return Err(IntakeFault::OutOfRange);
