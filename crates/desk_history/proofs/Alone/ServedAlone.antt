@@ -34,12 +34,12 @@ use Rattle.desk_history.proofs.Traces.SentWith.{sent_after-keeps}
 
 -- ---- both only grow
 
-sent_grows : (odfi : List ℕ) (x : Pair) (H : List Pair) → length (sent_entries odfi H) ≤ length (sent_entries odfi (x ∷ H))
+pub sent_grows : (odfi : List ℕ) (x : Pair) (H : List Pair) → length (sent_entries odfi H) ≤ length (sent_entries odfi (x ∷ H))
 sent_grows odfi x H =
     sent_after-keeps (λ (l : List SentEntry). length (sent_entries odfi H) ≤ length l) (is_accepted x.answer) x.message (sent_entries odfi H) (part odfi H) (companies H) (omega arith)
     (λ _ _. let all = length-append (reverse (flat_map batch_entries (batches (sent_entries odfi H) (cut_sendings odfi H)))) (sent_entries odfi H) in omega arith)
 
-answers_grow : (more P : List Event) → count_by is_answer P ≤ count_by is_answer (more ++ P)
+pub answers_grow : (more P : List Event) → count_by is_answer P ≤ count_by is_answer (more ++ P)
 answers_grow more P = let all = sum_by-append (λ (e : Event). cond (is_answer e) 1 0) more P in omega arith
 
 -- ---- one message of the whole desk

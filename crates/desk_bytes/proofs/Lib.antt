@@ -1,0 +1,13 @@
+-- The lemmas, by the law that they serve:
+--   one_meaning                 Meanings
+--   calls_are_history           Calls
+--   same_part                   Success, Asking, Parts
+--   own_text, two_worlds        Worlds
+--   calls_alone, served_alone   Alone
+pub mod Meanings
+pub mod Calls
+pub mod Success
+pub mod Asking
+pub mod Parts
+pub mod Worlds
+pub mod Alone
