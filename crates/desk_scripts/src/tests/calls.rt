@@ -78,6 +78,46 @@ fn draft(rt: &(impl Abort + Alloc<A = Global>), line: &str) -> Draft {
     }
 }
 
+// `ROUTING/KIND/CENTS/INFORMATION`; the last may be left out.
+fn whole_entry(rt: &(impl Abort + Alloc<A = Global>), word: &str) -> EntryDraft {
+    let mut parts = word.splitn(4, '/');
+    let routing = parts.next().unwrap_or("");
+    let kind = text(rt, parts.next().unwrap_or(""));
+    let cents = number(rt, parts.next().unwrap_or(""));
+    let info = match parts.next() {
+        Some(info) => Optional::Given(draft_text(rt, info)),
+        None => Optional::Absent,
+    };
+    EntryDraft {
+        kind,
+        info,
+        ..entry(rt, routing, cents)
+    }
+}
+
+// Behind six words stand the entries.
+fn whole_entries(rt: &(impl Abort + Alloc<A = Global>), line: &str) -> EntryDrafts {
+    let mut entries = Vec::new(rt.alloc());
+    for word in line.split(' ').skip(6) {
+        let entry = whole_entry(rt, word);
+        entries.push(Some(entry)).ok().expect(rt, "memory");
+    }
+    EntryDrafts::new(entries)
+}
+
+// `COMPANY enter REFERENCE SEC DIRECTION DAY ENTRY ..`
+fn whole_draft(rt: &(impl Abort + Alloc<A = Global>), line: &str) -> Draft {
+    let debit = word(line, 4) == "debit";
+    Draft {
+        reference: text(rt, word(line, 2)),
+        sec: text(rt, word(line, 3)),
+        direction: text(rt, word(line, 4)),
+        description: text(rt, if debit { "DUES" } else { "PAYROLL" }),
+        day: text(rt, word(line, 5)),
+        entries: Some(whole_entries(rt, line)),
+    }
+}
+
 fn authorization(rt: &(impl Abort + Alloc<A = Global>), day: &str) -> Optional<DraftText> {
     if day.is_empty() {
         Optional::Absent
@@ -155,6 +195,7 @@ fn operator_call(rt: &(impl Abort + Alloc<A = Global>), line: &str) -> Call {
 fn company_call(rt: &(impl Abort + Alloc<A = Global>), company: Id, line: &str) -> Call {
     match word(line, 1) {
         "submit" => Call::Submit(company, draft(rt, line)),
+        "enter" => Call::Submit(company, whole_draft(rt, line)),
         "retry" => Call::Retry(company, retry(rt, line)),
         "look" => {
             let reference = Ref::new(word(line, 2).as_bytes());

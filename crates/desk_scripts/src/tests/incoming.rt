@@ -1,5 +1,5 @@
 //! Files that come in are made from words here: each item by its code, the sequence of the entry
-//! that it answers, its cents and its transaction code.
+//! that it answers, its cents, its transaction code, and the receiving bank where it is another.
 use ach_fields::{Cents, Routing, Trace, Ymd};
 use ach_files::{Addenda, Outgoing, OutgoingBatch, OutgoingEntry, print_file};
 use ach_records::{BatchHeaderText, Change98Text, FileHeaderText, Return99Text};
@@ -32,6 +32,14 @@ fn transaction(rt: &impl Abort, item: &str) -> u8 {
         .expect(rt, "a transaction code")
 }
 
+// The receiving bank of the entry that is answered.
+fn original_dfi(item: &str) -> &[u8] {
+    match part(item, 4) {
+        "" => b"09100001",
+        dfi => dfi.as_bytes(),
+    }
+}
+
 fn routing(rt: &impl Abort, text: &[u8]) -> Routing {
     Routing::parse(text).ok().expect(rt, "a routing number")
 }
@@ -44,12 +52,13 @@ fn trace(rt: &impl Abort, dfi: u32, sequence: u32) -> Trace {
     Trace::new(dfi, sequence).ok().expect(rt, "a trace")
 }
 
-fn addenda<'a>(code: &'a str, answered: &'a [u8; 15], own: Trace) -> Addenda<'a> {
+fn addenda<'a>(item: &'a str, answered: &'a [u8; 15], own: Trace) -> Addenda<'a> {
+    let code = part(item, 0);
     if code.starts_with('C') {
         Addenda::Change(Change98Text {
             code: code.as_bytes(),
             original_trace: answered.as_slice(),
-            original_dfi: b"09100001",
+            original_dfi: original_dfi(item),
             corrected: b"987654321",
             trace: own,
         })
@@ -58,7 +67,7 @@ fn addenda<'a>(code: &'a str, answered: &'a [u8; 15], own: Trace) -> Addenda<'a>
             code: code.as_bytes(),
             original_trace: answered.as_slice(),
             date_of_death: b"",
-            original_dfi: b"09100001",
+            original_dfi: original_dfi(item),
             information: b"",
             trace: own,
         })
@@ -76,7 +85,7 @@ fn entry<'a>(rt: &impl Abort, item: &'a str, answered: &'a [u8; 15]) -> Outgoing
         identification: b"E1",
         name: b"ANN LEE",
         trace: own,
-        addenda: addenda(part(item, 0), answered, own),
+        addenda: addenda(item, answered, own),
     }
 }
 
@@ -137,7 +146,7 @@ fn print(
     print_file(rt.alloc(), &file).ok().expect(rt, "a file")
 }
 
-/// Makes the file of `desk items MODIFIER SEC CODE/SEQUENCE/CENTS/TRANSACTION ..`.
+/// Makes the file of `desk items MODIFIER SEC CODE/SEQUENCE/CENTS/TRANSACTION[/DFI] ..`.
 pub(super) fn incoming(rt: &(impl Abort + Alloc<A = Global>), line: &str) -> Vec<u8> {
     let traces = traces(rt, line);
     let entries = entries(rt, line, &traces);

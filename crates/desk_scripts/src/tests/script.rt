@@ -1,8 +1,9 @@
 //! Scripts of calls and answers are run here.
 use super::answers::words_of;
 use super::calls::call_of;
+use super::old_cut::store_after;
 use ach_fields::{Routing, ShortText};
-use desk_core::{CutRows, Desk, FaultyStore, Identity, ListStore, SentEntry, Store};
+use desk_core::{Desk, FaultyStore, Identity, ListStore, Store};
 use std::alloc::Global;
 use std::process::Abort;
 
@@ -77,30 +78,24 @@ pub(super) fn follow<S: Store>(
     asked_again
 }
 
-/// Makes a store of the sample bank that has sent these entries.
-fn store_after(rt: &(impl Abort + Alloc<A = Global>), entries: &[SentEntry]) -> ListStore {
-    let mut store = new_store(rt);
-    let rows = CutRows {
-        sent: &[],
-        lapsed: &[],
-        entries,
-        postings: &[],
-        files: &[],
-    };
-    store.commit_cut(rt.alloc(), &rows).ok().expect(rt, "a cut");
-    store
+// A store of the sample bank that has sent entries with these sequences; a new one where there are none.
+fn store_with(rt: &(impl Abort + Alloc<A = Global>), sequences: &[u32]) -> ListStore {
+    if sequences.is_empty() {
+        return new_store(rt);
+    }
+    store_after(rt, sequences)
 }
 
 /// Runs a script over lists, and with each call of the store refused in turn, until none is; the
-/// store has sent these entries before.
+/// store has sent entries with these sequences before.
 pub(super) fn holds_after(
     rt: &(impl Abort + Alloc<A = Global>),
-    entries: &[SentEntry],
+    sequences: &[u32],
     script: &[(&str, &str)],
 ) {
-    assert!(rt; !follow(rt, &mut Desk::new(store_after(rt, entries)), script));
+    assert!(rt; !follow(rt, &mut Desk::new(store_with(rt, sequences)), script));
     for call in 1..MOST_CALLS {
-        let mut desk = Desk::new(FaultyStore::new(store_after(rt, entries), call));
+        let mut desk = Desk::new(FaultyStore::new(store_with(rt, sequences), call));
         if !follow(rt, &mut desk, script) {
             return;
         }

@@ -1,49 +1,8 @@
 //! These scripts try sequences at their end, and used again.
 use super::script::{HOLIDAYS, MILL, holds_after};
-use ach_fields::{Cents, Id, Ref, Routing, ShortText};
-use bank_days::Day;
-use desk_core::SentEntry;
-use desk_rules::{AccountKind, Entry, SecCode};
-use std::process::Abort;
 
-fn short_text<const N: usize>(rt: &impl Abort, text: &[u8]) -> ShortText<N> {
-    ShortText::new(text).ok().expect(rt, "a text")
-}
-
-// An entry of 1.00 that settled on 2025-03-03.
-fn sent_entry(rt: &impl Abort, sequence: u32) -> SentEntry {
-    SentEntry {
-        sequence,
-        company: Id::new(b"BAKE01").ok().expect(rt, "a company"),
-        reference: Ref::new(b"OLD").ok().expect(rt, "a reference"),
-        order: 1,
-        index: 1,
-        settled: Day::read(b"2025-03-03").expect(rt, "a day"),
-        sec: SecCode::Ppd,
-        debit: true,
-        entry: Entry {
-            routing: Routing::parse(b"091000019")
-                .ok()
-                .expect(rt, "a routing number"),
-            account: short_text(rt, b"123456789"),
-            kind: AccountKind::Checking,
-            prenote: false,
-            cents: Cents::new(100).expect(rt, "an amount"),
-            id: short_text(rt, b"E1"),
-            name: short_text(rt, b"ANN LEE"),
-            info: None,
-        },
-    }
-}
-
-// The desk has sent almost as many entries as there are sequences.
-fn old_entries(rt: &impl Abort) -> [SentEntry; 3] {
-    [
-        sent_entry(rt, 1),
-        sent_entry(rt, 2),
-        sent_entry(rt, 9_999_998),
-    ]
-}
+// A desk has sent almost as many entries as there are sequences.
+const OLD: [u32; 3] = [1, 2, 9_999_998];
 
 // A batch of two begins again at 1 once the entries there settled 366 days ago; a return then meets the
 // new entry.
@@ -74,7 +33,7 @@ fn a_batch_begins_again(rt: HostRuntime) {
         ),
         ("desk suspense", "suspense; 1 100 Differs"),
     ];
-    holds_after(&rt, &old_entries(&rt), &script);
+    holds_after(&rt, &OLD, &script);
 }
 
 // The last sequence goes to a batch of one, and the next batch begins at 1.
@@ -98,5 +57,5 @@ fn the_last_sequence_is_used(rt: HostRuntime) {
             "2026-03-04 returns 3 late 0 changes 0 suspense 0",
         ),
     ];
-    holds_after(&rt, &old_entries(&rt), &script);
+    holds_after(&rt, &OLD, &script);
 }

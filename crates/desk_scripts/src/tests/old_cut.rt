@@ -1,0 +1,124 @@
+//! A store has sent entries here, before a script begins.
+use super::script::new_store;
+use ach_fields::{Cents, Id, Ref, Routing, ShortText};
+use bank_days::Day;
+use desk_core::{CutRows, FilePlace, ListStore, SentEntry, SentRow, Store};
+use desk_rules::{AccountKind, Company, Direction, Entries, Entry, Limits, SecCode, Submission};
+use std::alloc::Global;
+use std::process::Abort;
+
+fn company(rt: &impl Abort) -> Id {
+    Id::new(b"BAKE01").ok().expect(rt, "a company")
+}
+
+fn reference(rt: &impl Abort) -> Ref {
+    Ref::new(b"OLD").ok().expect(rt, "a reference")
+}
+
+fn settled(rt: &impl Abort) -> Day {
+    Day::read(b"2025-03-03").expect(rt, "a day")
+}
+
+fn short_text<const N: usize>(rt: &impl Abort, text: &[u8]) -> ShortText<N> {
+    ShortText::new(text).ok().expect(rt, "a text")
+}
+
+// An entry of 1.00.
+fn entry(rt: &impl Abort) -> Entry {
+    Entry {
+        routing: Routing::parse(b"091000019")
+            .ok()
+            .expect(rt, "a routing number"),
+        account: short_text(rt, b"123456789"),
+        kind: AccountKind::Checking,
+        prenote: false,
+        cents: Cents::new(100).expect(rt, "an amount"),
+        id: short_text(rt, b"E1"),
+        name: short_text(rt, b"ANN LEE"),
+        info: None,
+    }
+}
+
+// A company with a submission of so many entries.
+fn put_submission(rt: &(impl Abort + Alloc<A = Global>), store: &mut ListStore, count: usize) {
+    let registered = Company {
+        id: company(rt),
+        name: short_text(rt, b"BAKERY"),
+        digest: [1; 32],
+        limits: Limits {
+            entry: 100,
+            credit: 100,
+            debit: 1_000,
+        },
+    };
+    store
+        .put_company(rt.alloc(), registered)
+        .ok()
+        .expect(rt, "a company");
+    let mut entries = Entries::new(rt.alloc());
+    for _ in 0..count {
+        entries.push(entry(rt)).ok().expect(rt, "an entry");
+    }
+    let content = Submission {
+        reference: reference(rt),
+        sec: SecCode::Ppd,
+        direction: Direction::Debit,
+        description: short_text(rt, b"OLD"),
+        day: settled(rt),
+        entries,
+    };
+    store
+        .add_submission(rt.alloc(), company(rt), 1, &content, None)
+        .ok()
+        .expect(rt, "a submission");
+}
+
+fn sent_row(rt: &impl Abort) -> SentRow {
+    SentRow {
+        company: company(rt),
+        order: 1,
+        settled: settled(rt),
+        printed: FilePlace {
+            day: Day::read(b"2025-02-28").expect(rt, "a day"),
+            modifier: b'A',
+            batch: 1,
+        },
+    }
+}
+
+fn sent_entry(rt: &impl Abort, index: u64, sequence: u32) -> SentEntry {
+    SentEntry {
+        sequence,
+        company: company(rt),
+        reference: reference(rt),
+        order: 1,
+        index,
+        settled: settled(rt),
+        sec: SecCode::Ppd,
+        debit: true,
+        entry: entry(rt),
+    }
+}
+
+/// Makes a store of the sample bank that has sent a submission. Its entries of 1.00 have these
+/// sequences, and settled on 2025-03-03.
+pub(super) fn store_after(rt: &(impl Abort + Alloc<A = Global>), sequences: &[u32]) -> ListStore {
+    let mut store = new_store(rt);
+    put_submission(rt, &mut store, sequences.len());
+    let mut entries = Vec::new(rt.alloc());
+    for (before, sequence) in sequences.iter().enumerate() {
+        entries
+            .push(sent_entry(rt, before as u64 + 1, *sequence))
+            .ok()
+            .expect(rt, "an entry");
+    }
+    let rows = CutRows {
+        sent: &[sent_row(rt)],
+        lapsed: &[],
+        entries: &entries,
+        postings: &[],
+        files: &[],
+    };
+    store.commit_cut(rt.alloc(), &rows).ok().expect(rt, "a cut");
+    store
+}
