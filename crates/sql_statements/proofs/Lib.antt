@@ -1,0 +1,15 @@
+pub mod Casts
+pub mod Changes
+pub mod Columns
+pub mod Conditions
+pub mod FreeKeys
+pub mod Inserts
+pub mod KeyOrder
+pub mod LastRows
+pub mod NewIndexes
+pub mod NewTables
+pub mod OneList
+pub mod Queries
+pub mod Selects
+pub mod StoredRows
+pub mod Upserts

@@ -1,0 +1,5 @@
+pub mod Definitions
+pub mod PlainTable
+pub mod Queries
+pub mod Statements
+pub mod StoredRows
