@@ -201,6 +201,19 @@ sought hs d (suc n) b all le some near =
     let same : f.day ≡ nth_after hs d (suc n) = sym (nth_is hs d (suc n) f.day f.nth (omega (arith, f.soon))) in
     (subst (λ (e : ℕ). IsNthAfter hs d (suc n) e) same f.nth, subst (λ (e : ℕ). e ≤ b + 3 * suc n) same f.soon)
 
+-- the nth banking day after a later day is not earlier
+pub nth_rises : (hs : List ℕ) (d e n x y : ℕ) → d ≤ e → IsNthAfter hs d n x → IsNthAfter hs e n y → x ≤ y
+nth_rises hs d e n x y le h k =
+    elim (cases_lt y x) [
+      | inr ge ↦ ge
+      | inl lt ↦
+          let later : d < y = omega (arith, k.after) in
+          let parts : y - d ≡ e - d + (y - e) = omega (arith, k.after) in
+          let from : d + (e - d) ≡ e = omega arith in
+          let sum : banking_days hs d (y - d) ≡ banking_days hs d (e - d) + n = rw (parts, days_split hs d (e - d) (y - e), from, k.count) refl in
+          absurd (omega (arith, sum, h.count, count_rises hs d y x h.banking h.after lt))
+    ]
+
 -- the next banking day is the first from the day after, and so from a day that is none
 pub first_next : (hs : List ℕ) (d e : ℕ) → IsNthAfter hs d 1 e → is_banking hs d ≡ false → IsFirstFrom hs d e
 first_next hs d e h other = record {

@@ -31,11 +31,12 @@ pub record DaysAndTexts : Type 0 where
   pub valid : (n : ℕ) → is_ymd (day_ymd n) ≡ true
 
 -- of the banking days after a day exactly one is the nth: where neither the day nor a holiday is after `last`,
--- it comes at most three days later for each of the n
+-- it comes at most three days later for each of the n, and that of a later day is not earlier
 pub record NthBankingDays : Type 0 where
   pub found : (holidays : List ℕ) (d n last : ℕ) → All (λ h. h ≤ last) holidays → d ≤ last → 1 ≤ n → last + 3 * n ≤ last_day → IsNthAfter holidays d n (nth_after holidays d n)
   pub only : (holidays : List ℕ) (d n e f : ℕ) → IsNthAfter holidays d n e → IsNthAfter holidays d n f → e ≡ f
   pub soon : (holidays : List ℕ) (d n last : ℕ) → All (λ h. h ≤ last) holidays → d ≤ last → 1 ≤ n → last + 3 * n ≤ last_day → nth_after holidays d n ≤ last + 3 * n
+  pub rising : (holidays : List ℕ) (d e n last : ℕ) → All (λ h. h ≤ last) holidays → d ≤ e → e ≤ last → 1 ≤ n → last + 3 * n ≤ last_day → nth_after holidays d n ≤ nth_after holidays e n
 
 -- a day is rolled to the first banking day from it on
 pub record RolledDays : Type 0 where

@@ -14,7 +14,8 @@ pub fn days_and_texts()
     ach_fields::numbers_and_digits();
 }
 
-/// Of the banking days after a day exactly one is the nth, and it is not far.
+/// Of the banking days after a day exactly one is the nth. It is not far, and that of a later day is
+/// not earlier.
 pub fn nth_banking_days()
     ensures { NthBankingDays }
 {}

@@ -17,6 +17,7 @@ pub mod IntakeSteps
 pub mod Kept
 pub mod NewRows
 pub mod OnRows
+pub mod OpenRows
 pub mod OperatorAnswers
 pub mod OperatorSteps
 pub mod Passing

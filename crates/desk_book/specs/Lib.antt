@@ -7,6 +7,7 @@ pub mod OnCut
 pub mod OnIntake
 pub mod OnMessages
 pub mod OnOperator
+pub mod OpenRows
 pub mod OperatorLaws
 pub mod Reads
 pub mod Repeating

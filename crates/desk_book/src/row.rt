@@ -1,4 +1,7 @@
 //! The book has a row for each submission of a company.
+ghost use Rattle.std.specs.Prelude.{◌≡◌, ◌-◌, slice_get, unwrap_or};
+ghost use Rattle.desk_rules.specs.declared.rules.entry_fact.EntryState.TheVariants.{Held};
+
 use bank_days::Day;
 use desk_history::ListOf;
 use desk_rules::{EntryState, Retry, Submission};
@@ -18,4 +21,17 @@ pub struct Row {
     pub lapsed: bool,
     /// The state of each entry.
     pub states: ListOf<EntryState>,
+}
+
+/// Gives the state of the entry with this number, counted from 1, among those of a row. A number that
+/// no entry has gives `Held`.
+pub fn state_numbered(states: &[EntryState], index: u64) -> EntryState
+    ensures { result ≡ unwrap_or (slice_get states.now (index - 1)) Held }
+{
+    let at = index.saturating_sub(1) as usize;
+    if at < states.len() {
+        states[at]
+    } else {
+        EntryState::Held
+    }
 }

@@ -2,6 +2,7 @@ pub mod Applied
 pub mod Adding
 pub mod Alike
 pub mod Asked
+pub mod Exposed
 pub mod FileReading
 pub mod Planned
 pub mod Running

@@ -1,10 +1,12 @@
 -- The verdict of a request: its answer, and the row that it adds.
-use Rattle.std.specs.Prelude.{◌≡◌, ◌⊎◌, ⊤, ℕ, ◌+◌, Bool, true, false, List, length, Option, Some, None, option_map, is_some, Result, Ok, Err}
+use Rattle.std.specs.Prelude.{◌≡◌, ◌⊎◌, ⊤, ℕ, ◌+◌, Bool, true, false, List, ◌∷◌, map, filter_map, length, Option, Some, None, option_map, is_some, Result, Ok, Err}
 use Rattle.desk_rules.specs.declared.bodies.company.Limits.{Limits}
 use Rattle.desk_rules.specs.declared.refusals.refusal.Refusal.{Refusal}
 use Rattle.desk_rules.specs.declared.refusals.refusal.Refusal.TheVariants.{NoCompany, NoDay, RefReused}
 use Rattle.desk_rules.specs.declared.bodies.submission.Retry.{Retry}
 use Rattle.desk_rules.specs.declared.bodies.submission.Submission.{Submission}
+use Rattle.desk_rules.specs.declared.rules.attempt.Attempt.{Attempt}
+use Rattle.desk_rules.specs.Attempts.{attempt_of}
 use Rattle.desk_rules.specs.Chain.{◌>>=◌}
 use Rattle.desk_history.specs.declared.answer.Answer.{Answer}
 use Rattle.desk_history.specs.declared.answer.Answer.TheVariants as answers
@@ -15,7 +17,7 @@ use Rattle.desk_book.specs.Book.{Book}
 use Rattle.desk_history.specs.Acceptance.{is_same_submission, is_same_retry, new_content}
 use Rattle.desk_history.specs.Reports.{receipt}
 use Rattle.desk_history.specs.Request.{Request}
-use Rattle.desk_book.specs.Standing.{row_under, facts_in, retry_content_among}
+use Rattle.desk_book.specs.Standing.{row_under, facts_in, state_at, retry_content_among}
 use Rattle.desk_history.specs.Words.{some_or}
 use Rattle.desk_store.specs.declared.store.StoreFault.{StoreFault}
 use Rattle.desk_book.specs.Steps.{add_submission}
@@ -61,6 +63,10 @@ reference_verdict same (Some row) fresh = known_verdict (same row) row
 abbrev pub submission_on : Book → (company : List ℕ) → Limits → (today : ℕ) → Submission → Verdict
 submission_on b c limits today s =
     reference_verdict (λ row. is_same_submission s row.content row.retry) (row_under (b.rows c) s.reference) (fresh_verdict (length (b.rows c) + 1) None (new_content (facts_in (b.rows c)) b.holidays limits today s))
+
+-- the attempts to collect an entry of a row, which has these retries
+abbrev pub attempts_of : List Row → Row → ℕ → List Attempt
+attempts_of retries row index = filter_map attempt_of (state_at row index ∷ map (λ retry. state_at retry 1) retries)
 
 -- a retry whose fields are right, of a company with these rows
 abbrev pub retry_among : List Row → (holidays : List ℕ) → Limits → (today : ℕ) → Retry → Verdict

@@ -8,7 +8,7 @@ use bank_days::{Calendar, Day};
 use desk_accounts::{Account, Posting};
 use desk_book::{Caller, HeldSubmission, ReturnsAndChanges, Row};
 use desk_history::{Identity, ListOf, SentEntry, SuspenseRow, TakenFile};
-use desk_rules::{Company, Limits, Retry, Submission};
+use desk_rules::{Company, EntryState, Limits, Retry, Submission};
 use std::alloc::Global;
 
 /// A `FaultyStore` is a store of lists that refuses one call: it answers `Unavailable` to the call
@@ -108,6 +108,51 @@ impl Store for FaultyStore {
             return Err(StoreFault::Unavailable);
         }
         self.store.submission(alloc, company, reference)
+    }
+
+    fn submission_count(&mut self, alloc: Global, company: Id) -> Result<u64, StoreFault> {
+        if self.is_refused() {
+            return Err(StoreFault::Unavailable);
+        }
+        self.store.submission_count(alloc, company)
+    }
+
+    fn open_rows(
+        &mut self,
+        alloc: Global,
+        company: Id,
+        since: Day,
+    ) -> Result<Vec<Row>, StoreFault> {
+        if self.is_refused() {
+            return Err(StoreFault::Unavailable);
+        }
+        self.store.open_rows(alloc, company, since)
+    }
+
+    fn retries_of(
+        &mut self,
+        alloc: Global,
+        company: Id,
+        of: Ref,
+        index: u64,
+    ) -> Result<Vec<Row>, StoreFault> {
+        if self.is_refused() {
+            return Err(StoreFault::Unavailable);
+        }
+        self.store.retries_of(alloc, company, of, index)
+    }
+
+    fn state_of(
+        &mut self,
+        alloc: Global,
+        company: Id,
+        reference: Ref,
+        index: u64,
+    ) -> Result<Option<EntryState>, StoreFault> {
+        if self.is_refused() {
+            return Err(StoreFault::Unavailable);
+        }
+        self.store.state_of(alloc, company, reference, index)
     }
 
     fn entries_of(&mut self, alloc: Global, company: Id) -> Result<Vec<Row>, StoreFault> {

@@ -4,6 +4,7 @@ pub(crate) mod calls;
 pub(crate) mod changes;
 pub(crate) mod copies;
 pub(crate) mod cut;
+pub(crate) mod entries;
 pub(crate) mod intake;
 pub(crate) mod items;
 pub(crate) mod reads;

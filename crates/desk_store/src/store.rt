@@ -2,7 +2,7 @@
 ghost use Rattle.std.specs.Prelude.{◌≡◌, Option};
 ghost use Rattle.desk_accounts.specs.Balance.{day_sums};
 ghost use Rattle.desk_book.specs.Book.{Book};
-ghost use Rattle.desk_book.specs.Reads.{key_of, company, submission, waiting, last_sequence, sent_count, latest_settled, sent_as, items_of};
+ghost use Rattle.desk_book.specs.Reads.{key_of, company, submission, submission_count, open_rows_of, retries_of, state_of, waiting, last_sequence, sent_count, latest_settled, sent_as, items_of};
 ghost use Rattle.desk_book.specs.Steps.{set_day, set_holidays, put_company, put_limits, add_submission, commit_cut, commit_intake};
 ghost use Rattle.desk_store.specs.Written.{cut_rows, intake_rows};
 ghost use Rattle.desk_store.specs.declared.store.StoreFault.TheVariants.{Unavailable};
@@ -16,7 +16,7 @@ use desk_book::{
     SentRow,
 };
 use desk_history::{ChangeRow, Identity, ListOf, ReturnRow, SentEntry, SuspenseRow, TakenFile};
-use desk_rules::{Company, Limits, Retry, Submission};
+use desk_rules::{Company, EntryState, Limits, Retry, Submission};
 use std::alloc::{AllocError, AllocFailed, Global};
 
 /// A `StoreFault` says why a store does not answer.
@@ -129,6 +129,45 @@ pub trait Store {
     ) -> Result<Option<Row>, StoreFault>
         ensures before { is_clean self.new → is_clean self.old }
         ensures read { is_clean self.new → Reads (holds self.old) result (submission company reference) (holds self.new) }
+        ensures left { is_clean self.new → LeavesRead (may_leave self.old) (may_leave self.new) };
+
+    /// Says how many submissions and retries a company has.
+    fn submission_count(&mut self, alloc: Global, company: Id) -> Result<u64, StoreFault>
+        ensures before { is_clean self.new → is_clean self.old }
+        ensures read { is_clean self.new → Reads (holds self.old) result (submission_count company) (holds self.new) }
+        ensures left { is_clean self.new → LeavesRead (may_leave self.old) (may_leave self.new) };
+
+    /// Reads a company's submissions and retries with their entries, by order number, of which an
+    /// entry is held or settled on a day or later, also where it came back.
+    fn open_rows(&mut self, alloc: Global, company: Id, since: Day) -> Result<Vec<Row>, StoreFault>
+        ensures before { is_clean self.new → is_clean self.old }
+        ensures read { is_clean self.new → ReadsList (holds self.old) result (open_rows_of company since) (holds self.new) }
+        ensures left { is_clean self.new → LeavesRead (may_leave self.old) (may_leave self.new) };
+
+    /// Reads a company's retries of the entry that has this number in the submission with this
+    /// reference, by order number.
+    fn retries_of(
+        &mut self,
+        alloc: Global,
+        company: Id,
+        of: Ref,
+        index: u64,
+    ) -> Result<Vec<Row>, StoreFault>
+        ensures before { is_clean self.new → is_clean self.old }
+        ensures read { is_clean self.new → ReadsList (holds self.old) result (retries_of company of index) (holds self.new) }
+        ensures left { is_clean self.new → LeavesRead (may_leave self.old) (may_leave self.new) };
+
+    /// Reads the state of the entry that has this number in the submission with this reference; there
+    /// is none where the company has no such submission, and a number that no entry has is held.
+    fn state_of(
+        &mut self,
+        alloc: Global,
+        company: Id,
+        reference: Ref,
+        index: u64,
+    ) -> Result<Option<EntryState>, StoreFault>
+        ensures before { is_clean self.new → is_clean self.old }
+        ensures read { is_clean self.new → Reads (holds self.old) result (state_of company reference index) (holds self.new) }
         ensures left { is_clean self.new → LeavesRead (may_leave self.old) (may_leave self.new) };
 
     /// Reads a company's submissions and retries with their entries, by order number.

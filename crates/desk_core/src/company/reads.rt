@@ -4,7 +4,8 @@ ghost use Rattle.desk_store.specs.Words.{LeavesRead};
 ghost use Rattle.desk_core.specs.Answering.{Answers};
 ghost use Rattle.desk_book.specs.OnBook.{reply_on};
 
-use crate::company::facts::{facts_of, ruled_facts};
+use crate::company::facts::facts_of;
+use crate::company::limits::exposures;
 use crate::company::report::report_or_none;
 use crate::company::statement::statement;
 use crate::guards::{company_limits, desk_day};
@@ -12,7 +13,7 @@ use crate::refuse::refuse;
 use ach_fields::{Id, Ref};
 use desk_accounts::Account;
 use desk_history::{Answer, DayRates, Exposure, Outcome};
-use desk_rules::{credit_exposure, debit_exposure, rates};
+use desk_rules::rates;
 use desk_store::{Store, StoreFault};
 use std::alloc::Global;
 
@@ -132,10 +133,7 @@ pub(crate) fn exposure_of<S: Store>(
         Err(why) => return Ok(refuse(why)),
     };
     let calendar = store.calendar(alloc)?;
-    let rows = store.entries_of(alloc, company)?;
-    let facts = ruled_facts(alloc, &rows)?;
-    let credit = credit_exposure(&facts, day, &calendar);
-    let debit = debit_exposure(&facts, day, &calendar);
+    let (credit, debit) = exposures(store, alloc, company, &calendar, day)?;
     Ok(Answer::Done(Outcome::Exposure(Exposure {
         credit,
         debit,

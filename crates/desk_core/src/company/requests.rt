@@ -1,20 +1,17 @@
 //! A submission and a retry share what is asked first, the verdict, and its write.
-ghost use Rattle.std.specs.Prelude.{◌≡◌, IfOk};
+ghost use Rattle.std.specs.Prelude.{◌≡◌, ◌+◌, length, IfOk};
 ghost use Rattle.desk_store.specs.Words.{Reads, LeavesRead};
-ghost use Rattle.desk_history.specs.Acceptance.{within_limits};
-ghost use Rattle.desk_book.specs.Standing.{facts_in};
 ghost use Rattle.desk_core.specs.Verdicts.{limits_and_day, refused_verdict, known_verdict, fresh_verdict, Adds, LeavesAdded};
 
-use crate::company::facts::ruled_facts;
 use crate::company::receipt::receipt;
 use crate::company::verdict::{NewRow, Verdict};
 use crate::guards::{company_limits, desk_day};
 use crate::refuse::refuse;
 use ach_fields::Id;
-use bank_days::{Calendar, Day};
+use bank_days::Day;
 use desk_book::Row;
 use desk_history::{Answer, Outcome};
-use desk_rules::{Limits, Refusal, Retry, Submission, check_submission};
+use desk_rules::{Limits, Refusal, Retry, Submission};
 use desk_store::{Store, StoreFault};
 use std::alloc::Global;
 
@@ -38,21 +35,20 @@ pub(crate) fn limits_and_day<S: Store>(
     }
 }
 
-/// Gives what is within the company's limits, or its first refusal.
-pub(crate) fn within_limits(
+/// Gives the order number that a company's next submission or retry gets.
+pub(crate) fn next_order<S: Store>(
+    store: &mut S,
     alloc: Global,
-    rows: &[Row],
-    calendar: &Calendar,
-    limits: &Limits,
-    today: Day,
-    content: Submission,
-) -> Result<Result<Submission, Refusal>, StoreFault>
-    ensures { IfOk result (λ judged. judged ≡ within_limits (facts_in rows.now) calendar.now limits.now today content) }
+    company: Id,
+) -> Result<u64, StoreFault>
+    ensures before { S.is_clean store.new → S.is_clean store.old }
+    ensures read { S.is_clean store.new → Reads (S.holds store.old) result (λ b. length (b.rows company) + 1) (S.holds store.new) }
+    ensures left { S.is_clean store.new → LeavesRead (S.may_leave store.old) (S.may_leave store.new) }
 {
-    let facts = ruled_facts(alloc, rows)?;
-    match check_submission(&content, today, limits, &facts, calendar) {
-        Ok(()) => Ok(Ok(content)),
-        Err(why) => Ok(Err(why)),
+    let count = store.submission_count(alloc, company)?;
+    match count.checked_add(1) {
+        Some(order) => Ok(order),
+        None => Err(StoreFault::Unavailable),
     }
 }
 

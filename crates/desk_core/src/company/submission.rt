@@ -12,8 +12,9 @@ ghost use Rattle.desk_core.specs.Verdicts.{limits_and_day, verdict_of_fields, fr
 ghost use Rattle.desk_book.specs.Requests.{added_row, with_added_row};
 ghost use Rattle.desk_book.specs.OnBook.{reply_on};
 
+use crate::company::limits::within_limits;
 use crate::company::requests::{
-    add, fresh_verdict, known_verdict, limits_and_day, refused_verdict, within_limits,
+    add, fresh_verdict, known_verdict, limits_and_day, next_order, refused_verdict,
 };
 use crate::company::verdict::Verdict;
 use ach_fields::Id;
@@ -51,9 +52,9 @@ fn new_submission<S: Store>(
         return Ok(refused_verdict(why));
     }
     let calendar = store.calendar(alloc)?;
-    let rows = store.entries_of(alloc, company)?;
-    let judged = within_limits(alloc, &rows, &calendar, limits, today, content)?;
-    fresh_verdict(rows.len() as u64 + 1, None, judged)
+    let judged = within_limits(store, alloc, company, &calendar, limits, today, content)?;
+    let order = next_order(store, alloc, company)?;
+    fresh_verdict(order, None, judged)
 }
 
 /// Gives the verdict of a submission whose fields are right.

@@ -2,14 +2,12 @@
 ghost use Rattle.std.specs.Prelude.{◌≡◌, map, option_map};
 ghost use Rattle.desk_history.specs.Resolve.{named_entry};
 ghost use Rattle.desk_store.specs.Words.{Reads, LeavesRead};
-ghost use Rattle.desk_book.specs.OnIntake.{is_returned_on, is_returned_in, is_returned_state, named_entry_on};
+ghost use Rattle.desk_book.specs.OnIntake.{is_returned_on, is_returned_state, named_entry_on};
 ghost use Rattle.desk_intake.specs.Resolutions.{found_item_as, named_entry_as};
 ghost use Rattle.desk_core.specs.Taking.{ReadsAs};
 
-use crate::retry::attempts::state_at;
 use ach_fields::Trace;
 use ach_files::ItemFacts;
-use desk_book::Row;
 use desk_history::SentEntry;
 use desk_intake::{FoundItem, NamedEntry};
 use desk_rules::EntryState;
@@ -42,15 +40,6 @@ fn is_returned_state(state: EntryState) -> bool
     }
 }
 
-fn is_returned_in(row: &Option<Row>, index: u64) -> bool
-    ensures { result ≡ is_returned_in row.now index }
-{
-    match row {
-        Some(row) => is_returned_state(state_at(row, index)),
-        None => false,
-    }
-}
-
 /// Has the entry come back?
 fn is_returned_on<S: Store>(
     store: &mut S,
@@ -61,8 +50,10 @@ fn is_returned_on<S: Store>(
     ensures read { S.is_clean store.new → Reads (S.holds store.old) result (λ b. is_returned_on b entry.now) (S.holds store.new) }
     ensures left { S.is_clean store.new → LeavesRead (S.may_leave store.old) (S.may_leave store.new) }
 {
-    let row = store.submission(alloc, entry.company, entry.reference)?;
-    Ok(is_returned_in(&row, entry.index))
+    match store.state_of(alloc, entry.company, entry.reference, entry.index)? {
+        Some(state) => Ok(is_returned_state(state)),
+        None => Ok(false),
+    }
 }
 
 /// Gives the sent entry that an item names, and says whether it came back.

@@ -1,16 +1,16 @@
 //! A retry is judged by these plain values: the entry that it names, and its attempts.
-ghost use Rattle.std.specs.Prelude.{◌≡◌, ◌-◌, ◌++◌, [], ◌∷◌, IfOk, OnOk, map, filter_map, slice_get, unwrap_or};
-ghost use Rattle.desk_rules.specs.declared.rules.entry_fact.EntryState.TheVariants.{Held};
+ghost use Rattle.std.specs.Prelude.{◌≡◌, ◌-◌, ◌++◌, [], ◌∷◌, IfOk, OnOk, map, filter_map, slice_get};
 ghost use Rattle.desk_rules.specs.Attempts.{attempt_of};
 ghost use Rattle.desk_rules.specs.RetryRule.{retry_verdict};
 ghost use Rattle.desk_history.specs.Accepted.{content_of};
-ghost use Rattle.desk_history.specs.Retries.{live_debit, is_same_entry};
-ghost use Rattle.desk_book.specs.Standing.{state_at, retry_rows, attempts_at};
+ghost use Rattle.desk_history.specs.Retries.{live_debit};
+ghost use Rattle.desk_book.specs.Standing.{state_at};
+ghost use Rattle.desk_core.specs.Verdicts.{attempts_of};
 
 use crate::company::facts::is_rule_day;
-use ach_fields::{Ref, ShortText};
+use ach_fields::ShortText;
 use bank_days::{Calendar, Day};
-use desk_book::Row;
+use desk_book::{Row, state_numbered};
 use desk_rules::{
     Attempt, Direction, Entries, Entry, EntryState, Refusal, Retry, Submission, may_retry,
 };
@@ -42,31 +42,11 @@ pub(crate) fn entry_named(row: &Row, index: u64) -> Option<Entry>
     Some(entry)
 }
 
-fn state_numbered(states: &[EntryState], index: u64) -> EntryState
-    ensures { result ≡ unwrap_or (slice_get states.now (index - 1)) Held }
-{
-    let at = index.saturating_sub(1) as usize;
-    if at < states.len() {
-        states[at]
-    } else {
-        EntryState::Held
-    }
-}
-
 /// Gives the state of the entry with this number.
 pub(crate) fn state_at(row: &Row, index: u64) -> EntryState
     ensures { result ≡ state_at row.now index }
 {
     state_numbered(row.states.as_slice(), index)
-}
-
-fn is_same_entry(of: Ref, index: u64, retry: Option<Retry>) -> bool
-    ensures { result ≡ is_same_entry of index retry }
-{
-    match retry {
-        Some(retry) => retry.of.bytes() == of.bytes() && retry.index == index,
-        None => false,
-    }
 }
 
 fn push_attempt(tried: &mut Vec<Attempt>, state: EntryState) -> Result<(), AllocError>
@@ -78,34 +58,27 @@ fn push_attempt(tried: &mut Vec<Attempt>, state: EntryState) -> Result<(), Alloc
     Ok(())
 }
 
-fn push_retries(
-    tried: &mut Vec<Attempt>,
-    rows: &[Row],
-    of: Ref,
-    index: u64,
-) -> Result<(), AllocError>
-    ensures { OnOk result (tried.new.items ≡ tried.old.items ++ filter_map attempt_of (map (λ other. state_at other 1) (retry_rows rows.now of index))) }
+fn push_retries(tried: &mut Vec<Attempt>, retries: &[Row]) -> Result<(), AllocError>
+    ensures { OnOk result (tried.new.items ≡ tried.old.items ++ filter_map attempt_of (map (λ retry. state_at retry 1) retries.now)) }
 {
-    for row in rows {
-        if is_same_entry(of, index, row.retry) {
-            push_attempt(tried, state_at(row, 1))?;
-        }
+    for retry in retries {
+        push_attempt(tried, state_at(retry, 1))?;
     }
     Ok(())
 }
 
-/// Gives the attempts to collect an entry of a row, among these rows.
-pub(crate) fn attempts_at(
+/// Gives the attempts to collect an entry of a row, which has these retries.
+fn attempts_of(
     alloc: Global,
-    rows: &[Row],
+    retries: &[Row],
     row: &Row,
     index: u64,
 ) -> Result<Vec<Attempt>, AllocError>
-    ensures { IfOk result (λ tried. tried.items ≡ attempts_at rows.now row.now index) }
+    ensures { IfOk result (λ tried. tried.items ≡ attempts_of retries.now row.now index) }
 {
     let mut tried = Vec::new(alloc);
     push_attempt(&mut tried, state_at(row, index))?;
-    push_retries(&mut tried, rows, row.content.reference, index)?;
+    push_retries(&mut tried, retries)?;
     Ok(tried)
 }
 
@@ -140,19 +113,19 @@ pub(crate) fn content_of(
     })
 }
 
-/// May the entry be tried again? An entry has an attempt unless it lapsed, which only a retry does, and
-/// a day that is asked for is before 2100: other lists are of no desk.
+/// May the entry of a row, which has these retries, be tried again? An entry has an attempt unless it
+/// lapsed, which only a retry does, and a day that is asked for is before 2100: other lists are of no desk.
 pub(crate) fn first_of_attempts(
     alloc: Global,
-    rows: &[Row],
+    retries: &[Row],
     row: &Row,
     retry: &Retry,
     today: Day,
     calendar: &Calendar,
 ) -> Result<Result<(), Refusal>, StoreFault>
-    ensures { IfOk result (λ verdict. verdict ≡ retry_verdict (attempts_at rows.now row.now retry.now.index) retry.now.day retry.now.authorized today calendar.now) }
+    ensures { IfOk result (λ verdict. verdict ≡ retry_verdict (attempts_of retries.now row.now retry.now.index) retry.now.day retry.now.authorized today calendar.now) }
 {
-    let tried = attempts_at(alloc, rows, row, retry.index)?;
+    let tried = attempts_of(alloc, retries, row, retry.index)?;
     if tried.is_empty() || !is_rule_day(retry.day) {
         return Err(StoreFault::Unavailable);
     }

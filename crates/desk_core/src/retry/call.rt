@@ -1,23 +1,46 @@
 //! A company asks for a retry.
+ghost use Rattle.std.specs.Prelude.{◌+◌, length, Some};
 ghost use Rattle.desk_rules.specs.Retry.{retry_of};
 ghost use Rattle.desk_history.specs.Request as request;
 ghost use Rattle.desk_store.specs.Words.{Reads, LeavesRead};
 ghost use Rattle.desk_history.specs.Message.{Of};
 ghost use Rattle.desk_book.specs.Writes.{writes_on};
 ghost use Rattle.desk_core.specs.Answering.{Answers, LeavesCall};
-ghost use Rattle.desk_core.specs.Verdicts.{limits_and_day, verdict_of_fields, retry_on};
+ghost use Rattle.desk_core.specs.Verdicts.{limits_and_day, verdict_of_fields, fresh_verdict, retry_on};
+ghost use Rattle.desk_book.specs.Standing.{retry_content_among};
 ghost use Rattle.desk_book.specs.Requests.{added_row, with_added_row};
 ghost use Rattle.desk_book.specs.OnBook.{reply_on};
 
-use crate::company::requests::{add, limits_and_day, refused_verdict};
+use crate::company::requests::{
+    add, fresh_verdict, known_verdict, limits_and_day, next_order, refused_verdict,
+};
 use crate::company::verdict::Verdict;
-use crate::retry::content::retry_among;
+use crate::retry::content::{is_same_retry, retry_content};
 use ach_fields::Id;
 use bank_days::Day;
 use desk_history::Answer;
 use desk_rules::{Limits, Retry, RetryDraft, check_retry_fields};
 use desk_store::{Store, StoreFault};
 use std::alloc::Global;
+
+/// Gives the verdict of a retry under a new reference.
+fn new_retry<S: Store>(
+    store: &mut S,
+    alloc: Global,
+    company: Id,
+    limits: &Limits,
+    today: Day,
+    retry: &Retry,
+) -> Result<Verdict, StoreFault>
+    ensures before { S.is_clean store.new → S.is_clean store.old }
+    ensures read { S.is_clean store.new → Reads (S.holds store.old) result (λ b. fresh_verdict (length (b.rows company) + 1) (Some retry.now) (retry_content_among (b.rows company) b.holidays limits.now today retry.now)) (S.holds store.new) }
+    ensures left { S.is_clean store.new → LeavesRead (S.may_leave store.old) (S.may_leave store.new) }
+{
+    let calendar = store.calendar(alloc)?;
+    let content = retry_content(store, alloc, company, &calendar, limits, today, retry)?;
+    let order = next_order(store, alloc, company)?;
+    fresh_verdict(order, Some(*retry), content)
+}
 
 /// Gives the verdict of a retry whose fields are right.
 fn retry_on<S: Store>(
@@ -32,9 +55,10 @@ fn retry_on<S: Store>(
     ensures read { S.is_clean store.new → Reads (S.holds store.old) result (λ b. retry_on b company limits.now today retry.now) (S.holds store.new) }
     ensures left { S.is_clean store.new → LeavesRead (S.may_leave store.old) (S.may_leave store.new) }
 {
-    let calendar = store.calendar(alloc)?;
-    let rows = store.entries_of(alloc, company)?;
-    retry_among(alloc, &rows, &calendar, limits, today, retry)
+    if let Some(row) = store.submission(alloc, company, retry.reference)? {
+        return known_verdict(&row, is_same_retry(retry, row.retry));
+    }
+    new_retry(store, alloc, company, limits, today, retry)
 }
 
 /// Gives the verdict of a retry's draft.

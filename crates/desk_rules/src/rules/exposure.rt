@@ -23,8 +23,8 @@ pub fn credit_exposure(facts: &[EntryFact], day: Day, _calendar: &Calendar) -> u
     exposed
 }
 
-// Is a credit held, or does it settle on the day or after it?
-fn is_open_credit(state: EntryState, day: Day) -> bool
+/// Is a credit held, or does it settle on the day or after it, also where it came back?
+pub fn is_open_credit(state: EntryState, day: Day) -> bool
     ensures { result ≡ is_open_credit state day }
 {
     match state {

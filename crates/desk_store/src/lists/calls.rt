@@ -1,6 +1,7 @@
 //! A store that keeps lists in memory answers these calls.
 use crate::lists::balances::day_sums_of;
 use crate::lists::cut::write_cut;
+use crate::lists::entries::{count_of, open_rows_of, retries_among, state_under};
 use crate::lists::intake::write_intake;
 use crate::lists::items::{changes_of, count_on, lines_of, returns_of, taken_file, text_at};
 use crate::lists::reads::{all_waiting, company_among, copy_of, row_under, rows_of};
@@ -13,7 +14,7 @@ use bank_days::{Calendar, Day};
 use desk_accounts::{Account, Posting};
 use desk_book::{Caller, HeldSubmission, ReturnsAndChanges, Row};
 use desk_history::{Identity, ListOf, SentEntry, SuspenseRow, TakenFile};
-use desk_rules::{Company, Limits, Retry, Submission};
+use desk_rules::{Company, EntryState, Limits, Retry, Submission};
 use std::alloc::Global;
 
 impl Store for ListStore {
@@ -66,6 +67,39 @@ impl Store for ListStore {
         reference: Ref,
     ) -> Result<Option<Row>, StoreFault> {
         Ok(row_under(alloc, &self.submissions, company, reference)?)
+    }
+
+    fn submission_count(&mut self, _alloc: Global, company: Id) -> Result<u64, StoreFault> {
+        Ok(count_of(&self.submissions, company))
+    }
+
+    fn open_rows(
+        &mut self,
+        alloc: Global,
+        company: Id,
+        since: Day,
+    ) -> Result<Vec<Row>, StoreFault> {
+        Ok(open_rows_of(alloc, &self.submissions, company, since)?)
+    }
+
+    fn retries_of(
+        &mut self,
+        alloc: Global,
+        company: Id,
+        of: Ref,
+        index: u64,
+    ) -> Result<Vec<Row>, StoreFault> {
+        Ok(retries_among(alloc, &self.submissions, company, of, index)?)
+    }
+
+    fn state_of(
+        &mut self,
+        _alloc: Global,
+        company: Id,
+        reference: Ref,
+        index: u64,
+    ) -> Result<Option<EntryState>, StoreFault> {
+        Ok(state_under(&self.submissions, company, reference, index))
     }
 
     fn entries_of(&mut self, alloc: Global, company: Id) -> Result<Vec<Row>, StoreFault> {

@@ -38,7 +38,7 @@ pub(crate) fn copy_of<T: Copy>(alloc: Global, items: &[T]) -> Result<Vec<T>, All
 }
 
 /// Copies a submission with its entries.
-fn row_like(alloc: Global, kept: &KeptSubmission) -> Result<Row, AllocError>
+pub(crate) fn row_like(alloc: Global, kept: &KeptSubmission) -> Result<Row, AllocError>
     ensures { IfOk result (λ row. row ≡ (row_in kept.now).row) }
 {
     let states = copy_of(alloc, &kept.states)?;
@@ -70,7 +70,7 @@ pub(crate) fn rows_of(
 }
 
 /// Is it the company's submission with the reference?
-fn is_submission_of(kept: &KeptSubmission, company: Id, reference: Ref) -> bool
+pub(crate) fn is_submission_of(kept: &KeptSubmission, company: Id, reference: Ref) -> bool
     ensures { result ≡ (bytes_eq kept.now.company company && bytes_eq kept.now.content.reference reference) }
 {
     kept.company.bytes() == company.bytes() && kept.content.reference.bytes() == reference.bytes()
