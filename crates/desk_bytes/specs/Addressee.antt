@@ -13,7 +13,7 @@ use Rattle.desk_routes.specs.declared.route.Route.TheVariants.{Company, Operator
 use Rattle.desk_routes.specs.declared.routes.RouteFault.{RouteFault}
 use Rattle.desk_routes.specs.declared.routes.RouteFault.TheVariants as route_faults
 use Rattle.desk_routes.specs.Finding.{route_verdict, piece_of}
-use Rattle.desk_routes.specs.Pieces.{served_at}
+use Rattle.desk_routes.specs.Pieces.{service_at}
 use Rattle.desk_bodies.specs.declared.faults.MessageFault.{MessageFault}
 use Rattle.desk_bodies.specs.declared.faults.MessageFault.TheVariants.{BadHead, LengthRequired, TooLarge, NotFound, BadMethod}
 
@@ -34,7 +34,7 @@ pub data Addressee : Type 0 where
 
 -- the route of a request; a path that is no UTF-8 has none
 abbrev pub request_route : RequestValue → Result Route RouteFault
-request_route r = if is_utf8 (request_path r) then route_verdict r.method (served_at (request_path r)) else Err route_faults.NotFound
+request_route r = if is_utf8 (request_path r) then route_verdict r.method (service_at (request_path r)) else Err route_faults.NotFound
 
 -- the company is the piece of the path after two slashes
 abbrev pub addressee_by_route : RequestValue → Result Route RouteFault → Addressee

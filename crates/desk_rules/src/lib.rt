@@ -18,6 +18,7 @@ pub use bodies::draft::{
     CompanyDraft, Draft, DraftText, EntryDraft, EntryDrafts, LimitDrafts, LimitsDraft, Optional,
     RetryDraft,
 };
+pub use bodies::fields::is_key;
 pub use bodies::operator_fields::{check_company_fields, check_day_field, check_limits_fields};
 pub use bodies::retry_fields::check_retry_fields;
 pub use bodies::submission::{AccountKind, Direction, Entries, Entry, Retry, SecCode, Submission};

@@ -216,8 +216,8 @@ pub fn key(draft: &Option<DraftText>) -> Option<()>
     }
 }
 
-// A key has 8 to 64 characters, none of them a blank.
-fn is_key(bytes: &[u8]) -> bool
+/// Can a company have this key? It has 8 to 64 characters, none of them a blank.
+pub fn is_key(bytes: &[u8]) -> bool
     ensures { result ≡ is_key bytes.now }
 {
     bytes.len() >= 8 && bytes.len() <= 64 && are_key_characters(bytes)

@@ -1,0 +1,6 @@
+mod BodyShape
+mod DraftsOfBodies
+mod ListEntries
+mod ListRows
+mod MessageLemmas
+mod RowTexts
