@@ -24,11 +24,11 @@ pub(super) fn day(rt: &impl Abort, text: &[u8]) -> Day {
     Day::read(text).expect(rt, "a day")
 }
 
-pub(super) fn id(rt: &impl Abort, text: &[u8]) -> Id {
+fn id(rt: &impl Abort, text: &[u8]) -> Id {
     Id::new(text).ok().expect(rt, "an identification")
 }
 
-pub(super) fn reference(rt: &impl Abort, text: &[u8]) -> Ref {
+fn reference(rt: &impl Abort, text: &[u8]) -> Ref {
     Ref::new(text).ok().expect(rt, "a reference")
 }
 
@@ -80,10 +80,7 @@ fn entry(rt: &impl Abort) -> Entry {
     }
 }
 
-pub(super) fn submission(
-    rt: &(impl Abort + Alloc<A = Global>),
-    name: &[u8],
-) -> Result<Submission, Fail> {
+fn submission(rt: &(impl Abort + Alloc<A = Global>), name: &[u8]) -> Result<Submission, Fail> {
     let mut entries = Entries::new(rt.alloc());
     entries.push(entry(rt))?;
     Ok(Submission {
@@ -110,7 +107,7 @@ pub(super) fn sent_entry(rt: &impl Abort) -> SentEntry {
     }
 }
 
-pub(super) fn return_row(rt: &impl Abort) -> ReturnRow {
+fn return_row(rt: &impl Abort) -> ReturnRow {
     ReturnRow {
         code: ReturnCode::parse(b"R01").expect(rt, "a code"),
         day: day(rt, b"2025-01-14"),
@@ -153,7 +150,7 @@ pub(super) fn new_store(rt: &(impl Abort + Alloc<A = Global>)) -> ListStore {
 
 // Two companies with a submission each; the one that comes later in the order of identifications is
 // registered first.
-pub(super) fn write_companies(
+fn write_companies(
     rt: &(impl Abort + Alloc<A = Global>),
     store: &mut impl Store,
 ) -> Result<(), Fail> {
@@ -185,10 +182,7 @@ pub(super) fn write_companies(
 }
 
 // The first company's submission is sent.
-pub(super) fn write_cut(
-    rt: &(impl Abort + Alloc<A = Global>),
-    store: &mut impl Store,
-) -> Result<(), Fail> {
+fn write_cut(rt: &(impl Abort + Alloc<A = Global>), store: &mut impl Store) -> Result<(), Fail> {
     let settled = day(rt, b"2025-01-10");
     let mill = id(rt, b"MILL01");
     let postings = post_cut(
@@ -226,10 +220,7 @@ pub(super) fn write_cut(
 }
 
 // Its entry comes back, beside an item that nobody sent.
-pub(super) fn write_intake(
-    rt: &(impl Abort + Alloc<A = Global>),
-    store: &mut impl Store,
-) -> Result<(), Fail> {
+fn write_intake(rt: &(impl Abort + Alloc<A = Global>), store: &mut impl Store) -> Result<(), Fail> {
     let taken = day(rt, b"2025-01-14");
     let mill = id(rt, b"MILL01");
     let [line, opposite] = post_return(
