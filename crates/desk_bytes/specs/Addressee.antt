@@ -32,9 +32,12 @@ pub data Addressee : Type 0 where
   to_company : CompanyRoute → (company : List ℕ) → RequestValue → Addressee
   to_operator : OperatorRoute → RequestValue → Addressee
 
--- the route of a request; a path that is no UTF-8 has none
+-- the route that the table has for a path, if it takes this method; a path that is no UTF-8 has none
+abbrev pub route_of_path : (method path : List ℕ) → Result Route RouteFault
+route_of_path method path = if is_utf8 path then route_verdict method (service_at path) else Err route_faults.NotFound
+
 abbrev pub request_route : RequestValue → Result Route RouteFault
-request_route r = if is_utf8 (request_path r) then route_verdict r.method (service_at (request_path r)) else Err route_faults.NotFound
+request_route r = route_of_path r.method (request_path r)
 
 -- the company is the piece of the path after two slashes
 abbrev pub addressee_by_route : RequestValue → Result Route RouteFault → Addressee

@@ -1,0 +1,5 @@
+pub mod Routes
+pub mod Short
+pub mod Calls
+pub mod Messages
+pub mod Steps

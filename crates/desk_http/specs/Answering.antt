@@ -1,0 +1,85 @@
+-- The answer to a message in bytes: what it is, what the desk then stands for, what a crash leaves.
+use Rattle.std.specs.Prelude.{◌≡◌, ◌⊎◌, ⊤, ℕ, Bool, false, List, ◌∷◌, Option, Some, None, Result, Ok, Err, Vec}
+use Rattle.std.specs.declared.alloc.Global.{Global}
+use Rattle.desk_history.specs.declared.identity.Identity.{Identity}
+use Rattle.desk_history.specs.Message.{Message}
+use Rattle.desk_book.specs.Book.{Book}
+use Rattle.desk_book.specs.Writes.{writes_on}
+use Rattle.desk_core.specs.Answering.{IsLeft}
+use Rattle.desk_message.specs.Message.{MessageValue}
+use Rattle.desk_session.specs.declared.answers.Unavailable.{Unavailable}
+use Rattle.desk_bytes.specs.Verdict.{verdict_on, Means}
+use Rattle.desk_bytes.specs.History.{from_message, Pair, text, book_behind, StandsFor}
+use Rattle.desk_bytes.specs.Part.{part}
+use Rattle.desk_bytes.specs.Reply.{reply, IsToCompany}
+
+-- a history over bytes for which the desk stands, and what a message means after it
+pub record IsAsked (holds : Book → Type 0) (identity : Identity) (key : List ℕ) (H : List Pair) (v : MessageValue) (means : Option Message) : Type 0 where
+  pub stands : StandsFor holds identity key H
+  pub read : Means (verdict_on (book_behind identity key H) v) means
+
+-- a message with the bytes that answered it
+abbrev pub answered_pair : MessageValue → (answer : List ℕ) → Option Message → Pair
+answered_pair v answer means = record { origin = from_message v; answer = answer; means = means }
+
+-- the history with a message and its answer
+abbrev pub history_with : Identity → (key : List ℕ) → List Pair → MessageValue → Option Message → List Pair
+history_with identity key H v means = answered_pair v (text identity key H (from_message v) means) means ∷ H
+
+-- ---- what is answered
+
+-- The bytes are the text of the message after the history, and the desk then stands for the history with
+-- this pair; or it could not act, and stands for the same history.
+abbrev pub GoesOn : Identity → (key : List ℕ) → List Pair → MessageValue → Option Message → Result (Vec ℕ Global) Unavailable → (new : Book → Type 0) → Type 0
+GoesOn identity key H v means (Ok bytes) new =
+    (bytes.items ≡ text identity key H (from_message v) means) × StandsFor new identity key (answered_pair v bytes.items means ∷ H)
+GoesOn identity key H v means (Err fault) new = StandsFor new identity key H
+
+abbrev pub GoesBytes : (old : Book → Type 0) → MessageValue → Result (Vec ℕ Global) Unavailable → (new : Book → Type 0) → Type 0
+GoesBytes old v result new =
+    (identity : Identity) (key : List ℕ) (H : List Pair) (means : Option Message) → IsAsked old identity key H v means → GoesOn identity key H v means result new
+
+-- A message to a route of a company is answered from the company's part of the history alone.
+abbrev pub IsOwnReply : Identity → List Pair → MessageValue → Result (Vec ℕ Global) Unavailable → Type 0
+IsOwnReply identity H v (Ok bytes) = (c : List ℕ) → IsToCompany c v → bytes.items ≡ reply v (part identity H c)
+IsOwnReply identity H v (Err fault) = ⊤
+
+abbrev pub RepliesBytes : (old : Book → Type 0) → MessageValue → Result (Vec ℕ Global) Unavailable → Type 0
+RepliesBytes old v result = (identity : Identity) (key : List ℕ) (H : List Pair) → StandsFor old identity key H → IsOwnReply identity H v result
+
+-- ---- what a crash leaves
+
+-- a message that makes no call writes nothing
+abbrev pub writes : Book → Option Message → Bool
+writes b None = false
+writes b (Some m) = writes_on b m
+
+abbrev pub LeavesOn : {Kept : Type 0} → (keeps : Kept → Book → Type 0) → (old : Kept → Type 0) → Identity → (key : List ℕ) → List Pair → MessageValue → Option Message → Result (Vec ℕ Global) Unavailable → Kept → Type 0
+LeavesOn keeps old identity key H v means (Ok bytes) k =
+    IsLeft (writes (book_behind identity key H) means) (keeps k (book_behind identity key (history_with identity key H v means))) (old k)
+LeavesOn keeps old identity key H v means (Err fault) k = old k ⊎ keeps k (book_behind identity key (history_with identity key H v means))
+
+-- A crash after the message leaves what keeps the book of the history with it, where it wrote, and what it
+-- could leave before, where it wrote nothing; where the desk could not act, either.
+abbrev pub LeavesBytes : {Kept : Type 0} → (keeps : Kept → Book → Type 0) → (holds : Book → Type 0) → (old : Kept → Type 0) → MessageValue → Result (Vec ℕ Global) Unavailable → (new : Kept → Type 0) → Type 0
+LeavesBytes {Kept} keeps holds old v result new =
+    (identity : Identity) (key : List ℕ) (H : List Pair) (means : Option Message) (k : Kept)
+    → IsAsked holds identity key H v means → new k → LeavesOn keeps old identity key H v means result k
+
+-- ---- of a session
+
+-- what stands behind a desk that a session asks: who runs it, and the messages with their answers
+pub record DeskHistory : Type 0 where
+  pub identity : Identity
+  pub key : List ℕ
+  pub pairs : List Pair
+
+abbrev pub StandsBehind : (holds : Book → Type 0) → DeskHistory → Type 0
+StandsBehind holds h = StandsFor holds h.identity h.key h.pairs
+
+-- The bytes are the text of the message after the history, and the history has this pair more.
+pub record IsAnswered (h : DeskHistory) (v : MessageValue) (bytes : List ℕ) (after : DeskHistory) : Type 0 where
+  pub means : Option Message
+  pub read : Means (verdict_on (book_behind h.identity h.key h.pairs) v) means
+  pub said : bytes ≡ text h.identity h.key h.pairs (from_message v) means
+  pub more : after ≡ record { identity = h.identity; key = h.key; pairs = answered_pair v bytes means ∷ h.pairs }

@@ -1,0 +1,3 @@
+pub mod Addressing
+pub mod MadeCalls
+pub mod Answering

@@ -1,0 +1,64 @@
+//! The bytes of the answer to a message.
+ghost use Rattle.desk_message.specs.Message.{message_value};
+ghost use Rattle.desk_http.specs.Answering.{GoesBytes, RepliesBytes, LeavesBytes};
+
+use crate::made_calls::carry_out;
+use crate::print::answer_fault;
+use crate::verdict::verdict_of;
+use desk_core::{Desk, Store};
+use desk_message::{Message, closes};
+use desk_routes::Routes;
+use desk_session::Unavailable;
+use std::alloc::Global;
+
+/// Answers a message, with the one call of the desk that it makes: gives the bytes of the answer, from
+/// its status line to the end of its body.
+///
+/// It is `Unavailable` where memory is refused or the store could not act. The store then holds the
+/// book that it held, and the message may come again.
+///
+/// By the clause `goes` the bytes are those of the definitions, for every history over bytes whose book
+/// the store holds, and the store then holds the book of the history with this message. By `replies`
+/// what a company gets is made of its own part of the history and its message alone. By `left` a crash
+/// leaves what stood before the message or after it, and where it was answered and wrote, what stood
+/// after it.
+///
+/// The routes are built for this message alone: who answers many keeps them, as `HttpDesk` does, or
+/// calls `answer_by`.
+pub fn answer<S: Store>(
+    alloc: Global,
+    desk: &mut Desk<S>,
+    message: &Message<'_>,
+) -> Result<Vec<u8>, Unavailable>
+    ensures before { S.is_clean desk.new → S.is_clean desk.old }
+    ensures goes { S.is_clean desk.new → GoesBytes (S.holds desk.old) (message_value message.now) result (S.holds desk.new) }
+    ensures replies { S.is_clean desk.new → RepliesBytes (S.holds desk.old) (message_value message.now) result }
+    ensures left { S.is_clean desk.new → LeavesBytes S.keeps (S.holds desk.old) (S.may_leave desk.old) (message_value message.now) result (S.may_leave desk.new) }
+{
+    match Routes::new(alloc) {
+        Ok(routes) => answer_by(alloc, desk, &routes, message),
+        Err(_) => Err(Unavailable),
+    }
+}
+
+/// Answers a message as `answer` does, by routes that were built before.
+pub fn answer_by<S: Store>(
+    alloc: Global,
+    desk: &mut Desk<S>,
+    routes: &Routes,
+    message: &Message<'_>,
+) -> Result<Vec<u8>, Unavailable>
+    ensures before { S.is_clean desk.new → S.is_clean desk.old }
+    ensures goes { S.is_clean desk.new → GoesBytes (S.holds desk.old) (message_value message.now) result (S.holds desk.new) }
+    ensures replies { S.is_clean desk.new → RepliesBytes (S.holds desk.old) (message_value message.now) result }
+    ensures left { S.is_clean desk.new → LeavesBytes S.keeps (S.holds desk.old) (S.may_leave desk.old) (message_value message.now) result (S.may_leave desk.new) }
+{
+    desk_bytes::one_meaning();
+    desk_bytes::own_text();
+    desk_bytes::calls_are_history();
+    match verdict_of(alloc, desk, routes, message) {
+        Ok(Ok(call)) => carry_out(alloc, desk, call, closes(message)),
+        Ok(Err(fault)) => answer_fault(alloc, fault, closes(message)),
+        Err(_) => Err(Unavailable),
+    }
+}

@@ -1,0 +1,49 @@
+//! A desk that a session asks.
+ghost use Rattle.std.specs.Prelude.{◌≡◌};
+ghost use Rattle.desk_http.specs.Answering.{DeskHistory, StandsBehind, IsAnswered};
+
+use crate::answers::answer_by;
+use desk_core::{Desk, Store};
+use desk_message::Message;
+use desk_routes::Routes;
+use desk_session::{Answers, Unavailable};
+use std::alloc::Global;
+
+/// An `HttpDesk` is a desk with the routes by which it answers messages.
+#[derive(Drop)]
+pub struct HttpDesk<S> {
+    desk: Desk<S>,
+    routes: Routes,
+}
+
+impl<S> HttpDesk<S> {
+    /// Makes a desk answer messages by these routes.
+    pub fn new(desk: Desk<S>, routes: Routes) -> HttpDesk<S>
+        ensures { result.desk ≡ desk }
+    {
+        HttpDesk { desk, routes }
+    }
+
+    /// Gives its desk.
+    pub fn into_desk(self) -> Desk<S>
+        ensures { result ≡ self.desk }
+    {
+        self.desk
+    }
+}
+
+/// What stands behind it is the history of the messages with their answers.
+impl<S: Store> Answers for HttpDesk<S> {
+    ghost Behind = { DeskHistory };
+
+    ghost is_clean = { λ d. S.is_clean d.desk };
+
+    ghost stands_for = { λ d history. StandsBehind (S.holds d.desk) history };
+
+    ghost step = { IsAnswered };
+
+    fn answer(&mut self, alloc: Global, message: &Message<'_>) -> Result<Vec<u8>, Unavailable> {
+        desk_bytes::one_meaning();
+        answer_by(alloc, &mut self.desk, &self.routes, message)
+    }
+}

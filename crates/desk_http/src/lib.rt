@@ -1,0 +1,16 @@
+//! The desk answers messages of HTTP/1.1, over any store.
+//!
+//! What a message comes to, which bytes answer it and what a company's bytes are made of is said in
+//! `desk_bytes`. Here the desk does it: it looks at the key, makes the one call of the route, and
+//! prints the answer. Room for the answer to a command is taken before the command, so that what was
+//! written is answered.
+#![tactic(auto)]
+
+mod answers;
+mod http_desk;
+mod made_calls;
+mod print;
+mod verdict;
+
+pub use answers::{answer, answer_by};
+pub use http_desk::HttpDesk;

@@ -1,0 +1,85 @@
+//! What a message comes to: a call of the desk, or a fault.
+ghost use Rattle.std.specs.Prelude.{◌≡◌};
+ghost use Rattle.desk_message.specs.Message.{asked, message_value, request_value};
+ghost use Rattle.desk_store.specs.Words.{Reads, LeavesRead};
+ghost use Rattle.desk_bytes.specs.Addressee.{addressee_of, addressee_by_framing, route_of_path};
+ghost use Rattle.desk_bytes.specs.Verdict.{verdict_on};
+ghost use Rattle.desk_http.specs.Addressing.{addressee_with};
+
+mod company;
+mod object;
+mod operator;
+
+use company::company_verdict;
+use desk_bodies::MessageFault;
+use desk_core::{Call, Desk, Store, StoreFault};
+use desk_message::{Framing, Message, Request, framing_of, path_of};
+use desk_routes::{Route, RouteFault, Routes};
+use operator::operator_verdict;
+use std::alloc::Global;
+
+/// Gives the call that a message makes of the desk, or the fault that is answered in its place. The
+/// desk tells who has which key, and nothing else is read of it.
+pub(crate) fn verdict_of<S: Store>(
+    alloc: Global,
+    desk: &mut Desk<S>,
+    routes: &Routes,
+    message: &Message<'_>,
+) -> Result<Result<Call, MessageFault>, StoreFault>
+    ensures before { S.is_clean desk.new → S.is_clean desk.old }
+    ensures read { S.is_clean desk.new → Reads (S.holds desk.old) result (λ b. verdict_on b (message_value message.now)) (S.holds desk.new) }
+    ensures left { S.is_clean desk.new → LeavesRead (S.may_leave desk.old) (S.may_leave desk.new) }
+{
+    match message {
+        Message::BadHead => Ok(Err(MessageFault::BadHead)),
+        Message::Asked(request) => request_verdict(alloc, desk, routes, request),
+    }
+}
+
+fn request_verdict<S: Store>(
+    alloc: Global,
+    desk: &mut Desk<S>,
+    routes: &Routes,
+    request: &Request<'_>,
+) -> Result<Result<Call, MessageFault>, StoreFault>
+    ensures before { S.is_clean desk.new → S.is_clean desk.old }
+    ensures read { S.is_clean desk.new → Reads (S.holds desk.old) result (λ b. verdict_on b (asked (request_value request.now))) (S.holds desk.new) }
+    ensures left { S.is_clean desk.new → LeavesRead (S.may_leave desk.old) (S.may_leave desk.new) }
+{
+    match route_of(routes, request) {
+        Ok(Route::Company(route)) => company_verdict(alloc, desk, route, request),
+        Ok(Route::Operator(route)) => operator_verdict(alloc, desk, route, request),
+        Err(fault) => Ok(Err(fault)),
+    }
+}
+
+// The route of a request, or the fault that its head alone tells.
+fn route_of(routes: &Routes, request: &Request<'_>) -> Result<Route, MessageFault>
+    ensures { addressee_of (asked (request_value request.now)) ≡ addressee_with (request_value request.now) result }
+{
+    match framing_of(request.method, request.fields) {
+        Framing::BadLength => Err(MessageFault::BadHead),
+        Framing::LengthRequired => Err(MessageFault::LengthRequired),
+        Framing::TooLarge => Err(MessageFault::TooLarge),
+        Framing::Body(_) => find_route(routes, request),
+    }
+}
+
+fn find_route(routes: &Routes, request: &Request<'_>) -> Result<Route, MessageFault>
+    ensures { addressee_with (request_value request.now) result
+        ≡ addressee_by_framing (request_value request.now) (Framing.Body 0) }
+{
+    match route_of_path(routes, request.method, path_of(request.target)) {
+        Ok(route) => Ok(route),
+        Err(RouteFault::NotFound) => Err(MessageFault::NotFound),
+        Err(RouteFault::BadMethod) => Err(MessageFault::BadMethod),
+    }
+}
+
+// The route that the table has for a path, if it takes this method.
+fn route_of_path(routes: &Routes, method: &[u8], path: &[u8]) -> Result<Route, RouteFault>
+    ensures { result ≡ route_of_path method.now path.now }
+{
+    desk_routes::found_by_pieces();
+    routes.find(method, path)
+}

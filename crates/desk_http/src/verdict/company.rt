@@ -1,0 +1,76 @@
+//! What a company asks.
+ghost use Rattle.std.specs.Prelude.{◌≡◌, IfOk};
+ghost use Rattle.std.specs.Result.{result_ok};
+ghost use Rattle.ach_fields.specs.Names.{reference_of};
+ghost use Rattle.desk_message.specs.Message.{request_value};
+ghost use Rattle.desk_routes.specs.Finding.{piece_of};
+ghost use Rattle.desk_store.specs.Words.{Reads, LeavesRead};
+ghost use Rattle.desk_bytes.specs.Verdict.{company_verdict, request_on, look_up};
+ghost use Rattle.desk_http.specs.Addressing.{company_path_verdict};
+
+use super::object::{retry_call, submission_call};
+use ach_fields::{Id, Ref};
+use desk_bodies::MessageFault;
+use desk_core::{Call, Caller, Desk, Store, StoreFault};
+use desk_message::{Request, path_of, value_of};
+use desk_routes::{CompanyRoute, piece_of};
+use sha2::{Digest, Sha256};
+use std::alloc::{AllocError, Global};
+
+/// Gives the call of a company's request under its key, or the fault. A path whose company is no
+/// identification is denied, as an unknown company is.
+pub(crate) fn company_verdict<S: Store>(
+    alloc: Global,
+    desk: &mut Desk<S>,
+    route: CompanyRoute,
+    request: &Request<'_>,
+) -> Result<Result<Call, MessageFault>, StoreFault>
+    ensures before { S.is_clean desk.new → S.is_clean desk.old }
+    ensures read { S.is_clean desk.new → Reads (S.holds desk.old) result (company_path_verdict route (request_value request.now)) (S.holds desk.new) }
+    ensures left { S.is_clean desk.new → LeavesRead (S.may_leave desk.old) (S.may_leave desk.new) }
+{
+    let Ok(id) = Id::new(piece_of(path_of(request.target), 2)) else {
+        return Ok(Err(MessageFault::Denied));
+    };
+    let Some(key) = value_of(request.fields, b"X-Desk-Key") else {
+        return Ok(Err(MessageFault::Denied));
+    };
+    match desk.allow(alloc, Caller::Company(id), Sha256::digest(key)) {
+        Ok(true) => match route_call(alloc, route, id, request) {
+            Ok(verdict) => Ok(verdict),
+            Err(_) => Err(StoreFault::Unavailable),
+        },
+        Ok(false) => Ok(Err(MessageFault::Denied)),
+        Err(fault) => Err(fault),
+    }
+}
+
+// The call of a company that has shown its key.
+fn route_call(
+    alloc: Global,
+    route: CompanyRoute,
+    id: Id,
+    request: &Request<'_>,
+) -> Result<Result<Call, MessageFault>, AllocError>
+    ensures { IfOk result (λ v. v ≡ company_verdict id (request_on route (request_value request.now))) }
+{
+    match route {
+        CompanyRoute::Submit => submission_call(alloc, id, request.body),
+        CompanyRoute::Retry => retry_call(alloc, id, request.body),
+        CompanyRoute::LookUp => Ok(look_up_call(id, piece_of(path_of(request.target), 4))),
+        CompanyRoute::Returns => Ok(Ok(Call::ReturnsOf(id))),
+        CompanyRoute::Changes => Ok(Ok(Call::ChangesOf(id))),
+        CompanyRoute::Statement => Ok(Ok(Call::StatementOf(id))),
+        CompanyRoute::Rates => Ok(Ok(Call::RatesOf(id))),
+        CompanyRoute::Exposure => Ok(Ok(Call::ExposureOf(id))),
+    }
+}
+
+fn look_up_call(id: Id, reference: &[u8]) -> Result<Call, MessageFault>
+    ensures { result ≡ company_verdict id (look_up (result_ok (reference_of reference.now))) }
+{
+    match Ref::new(reference) {
+        Ok(reference) => Ok(Call::LookUp(id, reference)),
+        Err(_) => Err(MessageFault::NoReference),
+    }
+}

@@ -1,0 +1,89 @@
+//! The calls that the JSON objects of bodies make.
+ghost use Rattle.std.specs.Prelude.{◌≡◌, IfOk};
+ghost use Rattle.desk_json.specs.Drafts.{text_at, limits_draft_of};
+ghost use Rattle.desk_json.specs.Read.{object_of};
+ghost use Rattle.desk_rules.specs.declared.refusals.refusal.Field.TheVariants as field;
+ghost use Rattle.serde_json.specs.View.{view};
+ghost use Rattle.desk_history.specs.declared.call.Call.TheVariants as calls;
+ghost use Rattle.desk_bytes.specs.Verdict.{with_object, submission_in, retry_in, company_verdict, company_with_digest};
+
+use ach_fields::Id;
+use desk_bodies::MessageFault;
+use desk_core::Call;
+use desk_json::{
+    company_draft, day_draft, limits_draft, read_object, retry_draft, submission_draft,
+};
+use desk_rules::CompanyDraft;
+use serde_json::Value;
+use sha2::{Digest, Sha256};
+use std::alloc::{AllocError, Global};
+
+pub(crate) fn submission_call(
+    alloc: Global,
+    id: Id,
+    body: &[u8],
+) -> Result<Result<Call, MessageFault>, AllocError>
+    ensures { IfOk result (λ v. v ≡ company_verdict id (submission_in body.now)) }
+{
+    match read_object(alloc, body)? {
+        Some(object) => Ok(Ok(Call::Submit(id, submission_draft(alloc, &object)?))),
+        None => Ok(Err(MessageFault::BadJson)),
+    }
+}
+
+pub(crate) fn retry_call(
+    alloc: Global,
+    id: Id,
+    body: &[u8],
+) -> Result<Result<Call, MessageFault>, AllocError>
+    ensures { IfOk result (λ v. v ≡ company_verdict id (retry_in body.now)) }
+{
+    match read_object(alloc, body)? {
+        Some(object) => Ok(Ok(Call::Retry(id, retry_draft(alloc, &object)?))),
+        None => Ok(Err(MessageFault::BadJson)),
+    }
+}
+
+pub(crate) fn day_call(alloc: Global, body: &[u8]) -> Result<Result<Call, MessageFault>, AllocError>
+    ensures { IfOk result (λ v. v ≡ with_object (object_of body.now) (λ d. calls.SetDay (text_at field.Day d))) }
+{
+    match read_object(alloc, body)? {
+        Some(object) => Ok(Ok(Call::SetDay(day_draft(alloc, &object)?))),
+        None => Ok(Err(MessageFault::BadJson)),
+    }
+}
+
+pub(crate) fn company_call(
+    alloc: Global,
+    body: &[u8],
+) -> Result<Result<Call, MessageFault>, AllocError>
+    ensures { IfOk result (λ v. v ≡ with_object (object_of body.now) (λ d. calls.PutCompany (company_with_digest d))) }
+{
+    match read_object(alloc, body)? {
+        Some(object) => Ok(Ok(Call::PutCompany(draft_with_digest(alloc, &object)?))),
+        None => Ok(Err(MessageFault::BadJson)),
+    }
+}
+
+// The company that an object is, with the digest of its key; of no bytes where it has none.
+fn draft_with_digest(alloc: Global, object: &Value) -> Result<CompanyDraft, AllocError>
+    ensures { IfOk result (λ draft. draft ≡ company_with_digest (view object.now)) }
+{
+    let digest = match object.get("key").and_then(Value::as_str) {
+        Some(key) => Sha256::digest(key.as_bytes()),
+        None => Sha256::digest(b""),
+    };
+    company_draft(alloc, object, digest)
+}
+
+pub(crate) fn limits_call(
+    alloc: Global,
+    body: &[u8],
+) -> Result<Result<Call, MessageFault>, AllocError>
+    ensures { IfOk result (λ v. v ≡ with_object (object_of body.now) (λ d. calls.PutLimits (limits_draft_of d))) }
+{
+    match read_object(alloc, body)? {
+        Some(object) => Ok(Ok(Call::PutLimits(limits_draft(alloc, &object)?))),
+        None => Ok(Err(MessageFault::BadJson)),
+    }
+}

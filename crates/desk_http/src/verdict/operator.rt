@@ -1,0 +1,80 @@
+//! What the operator asks.
+ghost use Rattle.std.specs.Prelude.{◌≡◌, IfOk};
+ghost use Rattle.bank_days.specs.Day.{day_of};
+ghost use Rattle.desk_routes.specs.Finding.{piece_of};
+ghost use Rattle.desk_message.specs.Message.{request_value};
+ghost use Rattle.desk_book.specs.declared.caller.Caller.TheVariants as callers;
+ghost use Rattle.desk_book.specs.Reads.{key_of};
+ghost use Rattle.desk_store.specs.Words.{Reads, LeavesRead};
+ghost use Rattle.desk_bytes.specs.Verdict.{operator_verdict, operator_call, file_text};
+
+use super::object::{company_call, day_call, limits_call};
+use bank_days::Day;
+use desk_bodies::MessageFault;
+use desk_core::{Call, Caller, Desk, ListOf, Store, StoreFault};
+use desk_message::{Request, path_of, value_of};
+use desk_routes::{OperatorRoute, piece_of};
+use sha2::{Digest, Sha256};
+use std::alloc::{AllocError, Global};
+
+/// Gives the call of the operator's request under its key, or the fault.
+pub(crate) fn operator_verdict<S: Store>(
+    alloc: Global,
+    desk: &mut Desk<S>,
+    route: OperatorRoute,
+    request: &Request<'_>,
+) -> Result<Result<Call, MessageFault>, StoreFault>
+    ensures before { S.is_clean desk.new → S.is_clean desk.old }
+    ensures read { S.is_clean desk.new → Reads (S.holds desk.old) result
+        (λ b. operator_verdict (key_of callers.Operator b) route (request_value request.now)) (S.holds desk.new) }
+    ensures left { S.is_clean desk.new → LeavesRead (S.may_leave desk.old) (S.may_leave desk.new) }
+{
+    let Some(key) = value_of(request.fields, b"X-Desk-Key") else {
+        return Ok(Err(MessageFault::Denied));
+    };
+    match desk.allow(alloc, Caller::Operator, Sha256::digest(key)) {
+        Ok(true) => match route_call(alloc, route, request) {
+            Ok(verdict) => Ok(verdict),
+            Err(_) => Err(StoreFault::Unavailable),
+        },
+        Ok(false) => Ok(Err(MessageFault::Denied)),
+        Err(fault) => Err(fault),
+    }
+}
+
+// The call of the operator, who has shown its key.
+fn route_call(
+    alloc: Global,
+    route: OperatorRoute,
+    request: &Request<'_>,
+) -> Result<Result<Call, MessageFault>, AllocError>
+    ensures { IfOk result (λ v. v ≡ operator_call route (request_value request.now)) }
+{
+    match route {
+        OperatorRoute::SetDay => day_call(alloc, request.body),
+        OperatorRoute::SetHolidays => Ok(Ok(Call::SetHolidays(copy_of(alloc, request.body)?))),
+        OperatorRoute::PutCompany => company_call(alloc, request.body),
+        OperatorRoute::PutLimits => limits_call(alloc, request.body),
+        OperatorRoute::Cut => Ok(Ok(Call::Cut)),
+        OperatorRoute::TakeFile => Ok(Ok(Call::TakeFile(copy_of(alloc, request.body)?))),
+        OperatorRoute::FileText => Ok(file_call(path_of(request.target))),
+        OperatorRoute::Settlement => Ok(Ok(Call::Settlement)),
+        OperatorRoute::Suspense => Ok(Ok(Call::SuspenseItems)),
+    }
+}
+
+fn copy_of(alloc: Global, bytes: &[u8]) -> Result<ListOf<u8>, AllocError>
+    ensures { IfOk result (λ list. list ≡ bytes.now) }
+{
+    Ok(ListOf::new(Vec::from_slice(alloc, bytes)?))
+}
+
+// The file that a path names, by its day and its modifier.
+fn file_call(path: &[u8]) -> Result<Call, MessageFault>
+    ensures { result ≡ file_text (day_of (piece_of 3 path.now)) (piece_of 4 path.now) }
+{
+    match (Day::read(piece_of(path, 3)), piece_of(path, 4)) {
+        (Some(day), [modifier]) => Ok(Call::FileText(day, *modifier)),
+        _ => Err(MessageFault::NoFile),
+    }
+}

@@ -1,0 +1,132 @@
+//! A company gets the same bytes whatever others do, and from a desk that serves no one else.
+use super::exchanges::{add_request, follow, http_desk, run};
+use super::samples::{
+    BAKE, DAY_8, DAY_9, DAY_14, Exchange, HOLIDAYS, MILL, RETURN_1, SUBMIT_2, TAKEN, new_store,
+};
+use desk_core::ListStore;
+use desk_http::HttpDesk;
+use std::alloc::Global;
+use std::process::Abort;
+
+/// The return of the 41st entry that the desk sent.
+const RETURN_41: &str = concat!(
+    "101 121042882 0610001462501140930A094101OUR BANK               ACH OPERATOR                   \n",
+    "5225MILL STREET                         MILL01    PPDDUES            2501140141091000010000001\n",
+    "626121042882123456789        0000002500E2             BOB RAY                 1091000010000007\n",
+    "799R01121042880000041      09100001                                            091000010000007\n",
+    "82250000020012104288000000002500000000000000MILL01                             091000010000001\n",
+    "9000001000001000000020012104288000000002500000000000000                                       \n",
+    "9999999999999999999999999999999999999999999999999999999999999999999999999999999999999999999999\n",
+    "9999999999999999999999999999999999999999999999999999999999999999999999999999999999999999999999\n",
+    "9999999999999999999999999999999999999999999999999999999999999999999999999999999999999999999999\n",
+    "9999999999999999999999999999999999999999999999999999999999999999999999999999999999999999999999\n",
+);
+
+/// What the company asks after its debit came back, with the answers.
+const AFTER: [Exchange; 6] = [
+    (
+        "MILL01 GET /c/MILL01/returns",
+        "",
+        "200 OK",
+        r#"{"returns":[{"code":"R01","day":"2025-01-14","index":1,"info":"","late":false,"ref":"PAY-2"}]}"#,
+    ),
+    (
+        "MILL01 GET /c/MILL01/submissions/PAY-2",
+        "",
+        "200 OK",
+        r#"{"cents":2500,"day":"2025-01-10","direction":"debit","entries":[{"cents":2500,"code":"R01","index":1,"late":false,"returned":"2025-01-14","settled":"2025-01-10","state":"returned"}],"order":1,"ref":"PAY-2","sec":"PPD"}"#,
+    ),
+    (
+        "MILL01 GET /c/MILL01/statement",
+        "",
+        "200 OK",
+        r#"{"balance":"0","day":"2025-01-14","lines":[{"cause":"cut","cents":2500,"day":"2025-01-10","index":0,"ref":"PAY-2"},{"cause":"return","cents":-2500,"day":"2025-01-14","index":1,"ref":"PAY-2"}]}"#,
+    ),
+    (
+        "MILL01 GET /c/MILL01/rates",
+        "",
+        "200 OK",
+        r#"{"administrative":{"d":1,"n":0,"over":false},"day":"2025-01-14","overall":{"d":1,"n":1,"over":true},"unauthorized":{"d":1,"n":0,"over":false}}"#,
+    ),
+    (
+        "MILL01 GET /c/MILL01/exposure",
+        "",
+        "200 OK",
+        r#"{"credit":"0","credit_limit":999999999999999,"day":"2025-01-14","debit":"0","debit_limit":999999999999999,"entry_limit":9999999999}"#,
+    ),
+    (
+        "MILL01 GET /c/MILL01/changes",
+        "",
+        "200 OK",
+        r#"{"changes":[]}"#,
+    ),
+];
+
+fn add(rt: &impl Abort, text: &mut String, piece: &str) {
+    text.push_str(piece).ok().expect(rt, "memory");
+}
+
+// A submission of this many debits.
+fn debits(rt: &(impl Abort + Alloc<A = Global>), count: usize) -> String {
+    let mut body = String::new(rt.alloc());
+    add(
+        rt,
+        &mut body,
+        r#"{"ref":"PAY-9","sec":"PPD","direction":"debit","description":"DUES","day":"2025-01-10","entries":["#,
+    );
+    for index in 0..count {
+        if index > 0 {
+            add(rt, &mut body, ",");
+        }
+        add(
+            rt,
+            &mut body,
+            r#"{"routing":"091000019","account":"77","kind":"savings","cents":100,"id":"","name":"EVE"}"#,
+        );
+    }
+    add(rt, &mut body, "]}");
+    body
+}
+
+fn has_cut(entries: &'static str) -> Exchange {
+    ("desk POST /ops/cut", "", "200 OK", entries)
+}
+
+fn serve_alone(rt: &(impl Abort + Alloc<A = Global>)) -> HttpDesk<ListStore> {
+    let mut desk = http_desk(rt, new_store(rt));
+    let cut = has_cut(r#"{"day":"2025-01-09","entries":1,"files":["A"],"lapsed":0}"#);
+    let returned = ("desk POST /ops/returns", RETURN_1, "200 OK", TAKEN);
+    follow(
+        rt,
+        &mut desk,
+        &[
+            HOLIDAYS, MILL, DAY_8, SUBMIT_2, DAY_9, cut, DAY_14, returned,
+        ],
+    );
+    desk
+}
+
+fn serve_beside_another(rt: &(impl Abort + Alloc<A = Global>)) -> HttpDesk<ListStore> {
+    let mut desk = http_desk(rt, new_store(rt));
+    follow(rt, &mut desk, &[HOLIDAYS, MILL, BAKE, DAY_8, SUBMIT_2]);
+    let mut input = Vec::new(rt.alloc());
+    let body = debits(rt, 40);
+    add_request(
+        rt,
+        &mut input,
+        "BAKE01 POST /c/BAKE01/submissions",
+        body.as_str(),
+    );
+    let out = run(rt, &mut desk, &input);
+    assert!(rt; out.starts_with(b"HTTP/1.1 201 Created\r\n"));
+    let cut = has_cut(r#"{"day":"2025-01-09","entries":41,"files":["A"],"lapsed":0}"#);
+    let returned = ("desk POST /ops/returns", RETURN_41, "200 OK", TAKEN);
+    follow(rt, &mut desk, &[DAY_9, cut, DAY_14, returned]);
+    desk
+}
+
+#[test]
+fn what_others_send_changes_no_byte(rt: HostRuntime) {
+    follow(&rt, &mut serve_alone(&rt), &AFTER);
+    follow(&rt, &mut serve_beside_another(&rt), &AFTER);
+}
