@@ -1,16 +1,19 @@
 -- What a parse by `clap`'s rules says of the command that words name.
-use Rattle.std.proofs.Common.{◌≡◌, ◌≢◌, true, false, Bor, map, List, Result, Ok, Err, IfOk, OnErr, refl, sym, ap, ◌∙◌, subst, inl, inr, [], ◌∷◌, ◌⊎◌, Some, None, Option, codes, unwrap_or, slice_get}
+use Rattle.std.proofs.Common.{◌≡◌, ◌≢◌, true, false, Bor, map, List, Result, Ok, Err, IfOk, OnErr, refl, sym, ap, ◌∙◌, subst, inl, inr, [], ◌∷◌, Some, None, Option, codes, unwrap_or, slice_get}
+use Rattle.std.specs.Str.{bytes_eq}
 use Rattle.std.proofs.lemmas.Bool.{cases_Bool}
 use Rattle.std.proofs.lemmas.Slice.Eq.{bytes_eq-Decides}
 use Rattle.clap.specs.Kinds.{Kinds, HasKind, IsAmong, FailsBy}
-use Rattle.clap.specs.Words.{App, Text, HasMatchesOf, fault_of, is_simple, is_simple_and_free, kind_of, first_value, first_of, found_of, matches_of, rows_of}
+use Rattle.clap.specs.Words.{App, Rule, Text, HasMatchesOf, app_of, fault_of, is_simple, is_simple_and_free, kind_of, first_value, found_of, rows_of, with_rule}
+use Rattle.clap.specs.declared.builder.command.Command.{Command as ClapCommand}
 use Rattle.clap.specs.declared.error.kind.ErrorKind.{ErrorKind}
 use Rattle.clap.specs.declared.error.kind.ErrorKind.TheVariants as kind
 use Rattle.clap.specs.declared.error.Error.{Error}
 use Rattle.clap.specs.declared.parser.matches.ArgMatches.{ArgMatches}
 use Rattle.clap.proofs.OnLiterals.{clap_on_literals}
 use Rattle.clap.proofs.WalkLemmas.{first_value-rows}
-use Rattle.desk_cli.specs.CommandLine.{Check, Gives, GivesAt, IsFaultAmong, IsFaultOf, NamedCommand, Parses, argument_text, check_app, has_no_kind, is_check, kinds_at, named_check, named_command, program_app}
+use Rattle.desk_submit.specs.Options.{OptionTexts}
+use Rattle.desk_cli.specs.CommandLine.{Check, Gives, GivesAt, IsFaultAmong, IsFaultOf, NamedCommand, Parses, Submit, app_named, check_app, has_no_kind, is_check, is_submit, kinds_at, named_check, named_command, named_submit, options_in, program_app, submit_app, submit_rules, text_in}
 use Rattle.desk_cli.specs.declared.words.command.Command.{Command}
 use Rattle.desk_cli.specs.declared.words.command.LineFault.{LineFault}
 use Rattle.desk_cli.specs.declared.words.command.LineFault.TheVariants.{Help, Usage, NoMemory}
@@ -23,22 +26,44 @@ pub check_simple : is_simple check_app ≡ true
 unfolding clap_on_literals
 check_simple = refl
 
+pub submit_free : is_simple_and_free submit_app ≡ true
+unfolding clap_on_literals submit_rules
+submit_free = refl
+
+pub submit_simple : is_simple submit_app ≡ true
+unfolding clap_on_literals submit_rules
+submit_simple = refl
+
 pub program_free : is_simple_and_free program_app ≡ true
 unfolding clap_on_literals
 program_free = refl
 
-pub parses : (app : App) (words : List Text) (r : Result ArgMatches Error) → is_simple app ≡ true → is_simple_and_free app ≡ true
+-- a command to which another step adds an argument
+pub with_more : (app : App) (rule : Rule) (old new : ClapCommand) → app_of old ≡ app → app_of new ≡ with_rule (app_of old) rule → app_of new ≡ with_rule app rule
+with_more app rule old new is more = more ∙ ap (λ (a : App). with_rule a rule) is
+
+parses : (app : App) (words : List Text) (r : Result ArgMatches Error) → is_simple app ≡ true → is_simple_and_free app ≡ true
     → IfOk r (HasMatchesOf app words) → (is_simple_and_free app ≡ true → FailsBy (fault_of app words) r) → Parses app words r
 parses app words (Ok m) simple free matches kinds = (kinds free, (matches simple).0)
 parses app words (Err e) simple free matches kinds = kinds free
 
--- what the words give an argument
-pub given_word : (app : App) (words : List Text) (m : ArgMatches) (id text : Text) → rows_of (found_of m) ≡ matches_of app words → text ≡ unwrap_or (first_value (found_of m) id) [] → text ≡ argument_text id app words
-given_word app words m id text rows e = e ∙ ap (λ (o : Option Text). unwrap_or o []) (first_value-rows (found_of m) id ∙ ap (first_of id) rows)
+-- what a parse gives by a command whose rules are known
+pub parses_as : (app given : App) (words : List Text) (r : Result ArgMatches Error) → given ≡ app → is_simple app ≡ true → is_simple_and_free app ≡ true
+    → IfOk r (HasMatchesOf given words) → (is_simple_and_free given ≡ true → FailsBy (fault_of given words) r) → Parses app words r
+parses_as app given words r is simple free matches kinds =
+    subst (λ (a : App). Parses a words r) is (parses given words r (ap is_simple is ∙ simple) (ap is_simple_and_free is ∙ free) matches kinds)
 
-pub check_given : (words : List Text) (m : ArgMatches) (file : Text) → Parses check_app words (Ok m) → file ≡ unwrap_or (first_value (found_of m) (codes "FILE")) [] → named_check words ≡ Some (Check file)
+pub text_in-rows : (m : ArgMatches) (id : Text) → unwrap_or (first_value (found_of m) id) [] ≡ text_in id (rows_of (found_of m))
+text_in-rows m id = ap (λ (o : Option Text). unwrap_or o []) (first_value-rows (found_of m) id)
+
+pub check_given : (words : List Text) (m : ArgMatches) (file : Text) → Parses check_app words (Ok m) → file ≡ text_in (codes "FILE") (rows_of (found_of m)) → named_check words ≡ Some (Check file)
 unfolding named_check
-check_given words m file h e = rw (h.0, given_word check_app words m (codes "FILE") file h.1 e) refl
+check_given words m file h e = rw (h.0, e, h.1) refl
+
+pub submit_given : (words : List Text) (m : ArgMatches) (list : Text) (options : OptionTexts) → Parses submit_app words (Ok m)
+    → list ≡ text_in (codes "FILE") (rows_of (found_of m)) → options ≡ options_in (rows_of (found_of m)) → named_submit words ≡ Some (Submit list options)
+unfolding named_submit
+submit_given words m list options h e f = rw (h.0, e, f, h.1) refl
 
 help_for_memory : (k : ErrorKind) → k ≡ kind.OutOfMemory → k ≡ kind.DisplayHelp → ⊥
 help_for_memory k memory help = cc
@@ -75,26 +100,34 @@ named_check-none : (words : List Text) → has_no_kind (fault_of check_app words
 unfolding named_check
 named_check-none words h = rw h refl
 
-none_named : (words : List Text) (e : Error) (fault : LineFault) → HasKind (fault_of check_app words) e → IsFaultOf (kind_of e) fault
-    → (fault ≡ NoMemory) ⊎ (named_check words ≡ None)
-none_named words e fault (inl memory) is = inl (memory_fault (kind_of e) fault memory is)
-none_named words e fault (inr one) is = inr (named_check-none words (some_kind (fault_of check_app words) (kind_of e) one))
+named_submit-none : (words : List Text) → has_no_kind (fault_of submit_app words) ≡ false → named_submit words ≡ None
+unfolding named_submit
+named_submit-none words h = rw h refl
+
+-- an error of `clap` for a command's arguments, as a fault
+refused : (app : App) (words : List Text) (named : Option NamedCommand) (e : Error) (fault : LineFault)
+    → (has_no_kind (fault_of app words) ≡ false → named ≡ None) → Parses app words (Err e) → IsFaultOf (kind_of e) fault
+    → Gives named (fault_of app words) (Err fault)
+refused app words named e fault none (inl memory) is =
+    (inl (memory_fault (kind_of e) fault memory is), among (fault_of app words) e fault (inl memory) is)
+refused app words named e fault none (inr one) is =
+    (inr (none (some_kind (fault_of app words) (kind_of e) one)), among (fault_of app words) e fault (inr one) is)
 
 pub check_refused : (words : List Text) (e : Error) (fault : LineFault) → Parses check_app words (Err e) → IsFaultOf (kind_of e) fault
-    → ((fault ≡ NoMemory) ⊎ (named_check words ≡ None)) × IsFaultAmong (fault_of check_app words) fault
-check_refused words e fault h is = (none_named words e fault h is, among (fault_of check_app words) e fault h is)
+    → Gives (named_check words) (fault_of check_app words) (Err fault)
+check_refused words e fault = refused check_app words (named_check words) e fault (named_check-none words)
+
+pub submit_refused : (words : List Text) (e : Error) (fault : LineFault) → Parses submit_app words (Err e) → IsFaultOf (kind_of e) fault
+    → Gives (named_submit words) (fault_of submit_app words) (Err fault)
+submit_refused words e fault = refused submit_app words (named_submit words) e fault (named_submit-none words)
 
 -- the words that the first one sends to a command's rules
 abbrev pub texts_of : List (Bor Text) → List Text
 texts_of words = map (λ w. w.now) words
 
-kinds_at-check : (name : Text) (rest : List Text) → is_check name ≡ true → kinds_at (name ∷ rest) ≡ fault_of check_app (name ∷ rest)
+kinds_at-named : (name : Text) (rest : List Text) → kinds_at (name ∷ rest) ≡ fault_of (app_named name) (name ∷ rest)
 unfolding kinds_at
-kinds_at-check name rest is = rw is refl
-
-kinds_at-other : (name : Text) (rest : List Text) → is_check name ≡ false → kinds_at (name ∷ rest) ≡ fault_of program_app (name ∷ rest)
-unfolding kinds_at
-kinds_at-other name rest is = rw is refl
+kinds_at-named name rest = refl
 
 first_now : (x name : Bor Text) (xs : List (Bor Text)) → Some name ≡ slice_get (x ∷ xs) 0 → name.now ≡ x.now
 first_now x name xs a = let one : name ≡ x = cc in ap (λ (w : Bor Text). w.now) one
@@ -103,35 +136,52 @@ on_err : {A E : Type 0} (P : Type 0) (r : Result A E) → P → OnErr r P
 on_err P (Ok x) p = tt
 on_err P (Err e) p = p
 
-is_check-yes : (x name : Text) → name ≡ x → name ≡ codes "check" → is_check x ≡ true
-is_check-yes x name same is = subst (λ (t : Text). is_check t ≡ true) (sym is ∙ same) refl
+-- a first word is the one of a test, or is not
+is_word-yes : (word x name : Text) → name ≡ x → name ≡ word → bytes_eq x word ≡ true
+is_word-yes word x name same is = (bytes_eq-Decides x word).1 (sym same ∙ is)
 
-is_check-no : (x name : Text) → name ≡ x → ¬ (name ≡ codes "check") → is_check x ≡ false
-is_check-no x name same apart =
-    elim (cases_Bool (is_check x)) [
-      | inl equal ↦ absurd (apart (same ∙ (bytes_eq-Decides x (codes "check")).0 equal))
+is_word-no : (word x name : Text) → name ≡ x → ¬ (name ≡ word) → bytes_eq x word ≡ false
+is_word-no word x name same apart =
+    elim (cases_Bool (bytes_eq x word)) [
+      | inl equal ↦ absurd (apart (same ∙ (bytes_eq-Decides x word).0 equal))
       | inr other ↦ other
     ]
+
+-- words whose first one names these rules and may name a command
+gives_at : (x : Text) (xs : List Text) (app : App) (named : Option NamedCommand) (r : Result Command LineFault) → app_named x ≡ app
+    → named_command (x ∷ xs) ≡ named → Gives named (fault_of app (x ∷ xs)) r → GivesAt (x ∷ xs) r
+gives_at x xs app named r rules is g = (
+  subst (λ (o : Option NamedCommand). Gives o (kinds_at (x ∷ xs)) r) (sym is)
+      (subst (λ (k : Kinds). Gives named k r) (sym (kinds_at-named x xs ∙ ap (λ (a : App). fault_of a (x ∷ xs)) rules)) g),
+  on_err (x ∷ xs ≢ []) r (λ e. let no : ⊥ = cc in no),
+)
 
 -- words after `check`
 pub gives_check : (words : List (Bor Text)) (name : Bor Text) (r : Result Command LineFault) → Some name ≡ slice_get words 0
     → name.now ≡ codes "check" → Gives (named_check (texts_of words)) (fault_of check_app (texts_of words)) r → GivesAt (texts_of words) r
 gives_check [] name r a is g = absurd (let no : ⊥ = cc in no)
 gives_check (x ∷ xs) name r a is g =
-    let yes : is_check x.now ≡ true = is_check-yes x.now name.now (first_now x name xs a) is in
-    let named : named_command (texts_of (x ∷ xs)) ≡ named_check (texts_of (x ∷ xs)) = rw yes refl in (
-      subst (λ (o : Option NamedCommand). Gives o (kinds_at (texts_of (x ∷ xs))) r) (sym named)
-          (subst (λ (k : Kinds). Gives (named_check (texts_of (x ∷ xs))) k r) (sym (kinds_at-check x.now (texts_of xs) yes)) g),
-      on_err (texts_of (x ∷ xs) ≢ []) r (λ e. let no : ⊥ = cc in no),
-    )
+    let check : is_check x.now ≡ true = is_word-yes (codes "check") x.now name.now (first_now x name xs a) is in
+    gives_at x.now (texts_of xs) check_app (named_check (texts_of (x ∷ xs))) r (rw check refl) (rw check refl) g
+
+-- words after `submit`
+pub gives_submit : (words : List (Bor Text)) (name : Bor Text) (r : Result Command LineFault) → Some name ≡ slice_get words 0
+    → ¬ (name.now ≡ codes "check") → name.now ≡ codes "submit"
+    → Gives (named_submit (texts_of words)) (fault_of submit_app (texts_of words)) r → GivesAt (texts_of words) r
+gives_submit [] name r a apart is g = absurd (let no : ⊥ = cc in no)
+gives_submit (x ∷ xs) name r a apart is g =
+    let same : name.now ≡ x.now = first_now x name xs a in
+    let check : is_check x.now ≡ false = is_word-no (codes "check") x.now name.now same apart in
+    let submit : is_submit x.now ≡ true = is_word-yes (codes "submit") x.now name.now same is in
+    gives_at x.now (texts_of xs) submit_app (named_submit (texts_of (x ∷ xs))) r (rw (check, submit) refl) (rw (check, submit) refl) g
 
 -- words after one that names no command
 pub gives_none : (words : List (Bor Text)) (name : Bor Text) (fault : LineFault) → Some name ≡ slice_get words 0
-    → ¬ (name.now ≡ codes "check") → IsFaultAmong (fault_of program_app (texts_of words)) fault → GivesAt (texts_of words) (Err fault)
-gives_none [] name fault a apart is = absurd (let no : ⊥ = cc in no)
-gives_none (x ∷ xs) name fault a apart is =
-    let other : is_check x.now ≡ false = is_check-no x.now name.now (first_now x name xs a) apart in
-    let named : named_command (texts_of (x ∷ xs)) ≡ None = rw other refl in (
-      (inr named, subst (λ (k : Kinds). IsFaultAmong k fault) (sym (kinds_at-other x.now (texts_of xs) other)) is),
-      λ e. let no : ⊥ = cc in no,
-    )
+    → ¬ (name.now ≡ codes "check") → ¬ (name.now ≡ codes "submit")
+    → IsFaultAmong (fault_of program_app (texts_of words)) fault → GivesAt (texts_of words) (Err fault)
+gives_none [] name fault a not_check not_submit is = absurd (let no : ⊥ = cc in no)
+gives_none (x ∷ xs) name fault a not_check not_submit is =
+    let same : name.now ≡ x.now = first_now x name xs a in
+    let check : is_check x.now ≡ false = is_word-no (codes "check") x.now name.now same not_check in
+    let submit : is_submit x.now ≡ false = is_word-no (codes "submit") x.now name.now same not_submit in
+    gives_at x.now (texts_of xs) program_app None (Err fault) (rw (check, submit) refl) (rw (check, submit) refl) (inr refl, is)

@@ -1,8 +1,9 @@
 -- Words of the command line, and what they come to: the checker computes each.
-use Rattle.std.proofs.Common.{◌≡◌, [], ◌∷◌, Some, None, codes, refl}
+use Rattle.std.proofs.Common.{◌≡◌, [], ◌∷◌, List, Some, None, codes, refl}
+use Rattle.clap.specs.Words.{Text}
 use Rattle.clap.specs.declared.error.kind.ErrorKind.TheVariants as kind
 use Rattle.clap.proofs.OnLiterals.{clap_on_literals}
-use Rattle.desk_cli.specs.CommandLine.{AnswerSubmission, Check, kinds_at, named_check, named_command}
+use Rattle.desk_cli.specs.CommandLine.{AnswerSubmission, Check, NamedCommand, Submit, kinds_at, named_check, named_command, named_submit, submit_rules}
 
 no_words : named_command [] ≡ Some AnswerSubmission
 no_words = refl
@@ -42,6 +43,27 @@ one_path_more = refl
 no_such_flag : kinds_at (codes "--fast" ∷ []) ≡ kind.UnknownArgument ∷ []
 unfolding clap_on_literals kinds_at
 no_such_flag = refl
+
+-- the words of a pay run, as its company may write them
+pay_options : List Text
+pay_options =
+    codes "--company" ∷ codes "MILL01" ∷ codes "--key" ∷ codes "mill-street-key" ∷ codes "--ref" ∷ codes "PAY-1" ∷ codes "--sec" ∷ codes "PPD"
+    ∷ codes "--direction" ∷ codes "credit" ∷ codes "--description" ∷ codes "PAYROLL" ∷ codes "--day" ∷ codes "2025-01-10" ∷ []
+
+pay : NamedCommand
+pay = Submit (codes "pay.csv") (record {
+  company = codes "MILL01";
+  key = codes "mill-street-key";
+  reference = codes "PAY-1";
+  sec = codes "PPD";
+  direction = codes "credit";
+  description = codes "PAYROLL";
+  day = codes "2025-01-10";
+})
+
+submit_of_a_list : named_command (codes "submit" ∷ codes "pay.csv" ∷ pay_options) ≡ Some pay
+unfolding clap_on_literals named_submit submit_rules pay_options pay
+submit_of_a_list = refl
 
 -- a word that may be taken for a command or an argument
 no_such_command : kinds_at (codes "bogus" ∷ []) ≡ kind.UnknownArgument ∷ kind.InvalidSubcommand ∷ []

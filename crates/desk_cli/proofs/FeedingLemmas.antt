@@ -6,7 +6,7 @@ use Rattle.ach_files.specs.Has.{HasRead}
 use Rattle.ach_files.specs.FirstFault.{Tells, fault, early_fault}
 use Rattle.ach_files.specs.declared.fault.Fault.{Fault}
 use Rattle.ach_files.specs.declared.reader.Reader.{Reader}
-use Rattle.desk_cli.specs.Feeding.{MayHave}
+use Rattle.desk_cli.specs.Inputs.{MayHave}
 
 -- a fault among the first bytes is that of all
 abbrev pub FaultsStand : Type 0

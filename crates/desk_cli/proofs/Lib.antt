@@ -1,7 +1,7 @@
-pub mod BodyLengths
 pub mod CommandLineLemmas
 pub mod CommandLineVectors
 pub mod FeedingLemmas
 pub mod FileCheckLemmas
+pub mod InputLemmas
 pub mod PrintingLemmas
 pub mod VerdictLemmas

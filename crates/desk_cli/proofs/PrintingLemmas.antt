@@ -1,9 +1,8 @@
--- What the command that answers a submission prints.
+-- What a command prints whose answer is a function of its input.
 use Rattle.std.proofs.Common.{inl, inr, ℕ, Bool, List, Option, Some, None, IfSome, ap, ◌∙◌, subst, Vec, Global}
-use Rattle.desk_cli.specs.BodyAnswers.{IsAnswer}
-use Rattle.desk_cli.specs.Printing.{PrintsLine, PrintsPrefixOf, status_of, with_line_feed}
+use Rattle.desk_cli.specs.InputRuns.{Answering, HasAnswered, IsFailedRun, IsInputAnswer}
+use Rattle.desk_cli.specs.Printing.{PrintsLine, PrintsPrefixOf, status_of}
 use Rattle.io_retries.specs.Prefixes.{AppendsPrefix}
-use Rattle.desk_cli.specs.SubmissionRuns.{HasAnswered, IsFailedRun, first_run_answer}
 use Rattle.desk_cli.specs.declared.commands.status.Status.{Status}
 use Rattle.std.specs.Io.KnownBytes.{Appends}
 
@@ -11,19 +10,13 @@ use Rattle.std.specs.Io.KnownBytes.{Appends}
 abbrev pub Answer : Type 0
 Answer = Option (Bool × Vec ℕ Global)
 
--- what a call gave, where it gave something, is the answer to what the input has
-abbrev pub IsInputAnswer : (input : Option (List ℕ)) → Answer → Type 0
-IsInputAnswer input given = IfSome given (λ g. IfSome input (λ body. IsAnswer (with_line_feed (first_run_answer body)) g))
+pub has_answered : (answer : Answering) (input old new : Option (List ℕ)) (given : Answer) (status : Status)
+    → IfSome given (IsInputAnswer answer input) → PrintsLine old new given status → HasAnswered answer input old new status
+has_answered answer input old new None status is printed = elim printed [ ]
+has_answered answer input old new (Some g) status is printed =
+    (is.0, is.1, (printed.0 ∙ ap status_of is.2.0, subst (λ t. Appends old new t) is.2.1 printed.1))
 
-pub has_answered : (input old new : Option (List ℕ)) (given : Answer) (status : Status)
-    → IsInputAnswer input given → PrintsLine old new given status → HasAnswered input old new status
-has_answered input old new None status is printed = elim printed [ ]
-has_answered None old new (Some g) status is printed = tt
-has_answered (Some body) old new (Some g) status is printed =
-    (printed.0 ∙ ap status_of is.0, subst (λ t. Appends old new t) is.1 printed.1)
-
-pub is_failed_run : (input old new : Option (List ℕ)) (given : Answer)
-    → IsInputAnswer input given → PrintsPrefixOf old new given → IsFailedRun input old new
-is_failed_run input old new None is prefix = inl prefix
-is_failed_run None old new (Some g) is prefix = inr tt
-is_failed_run (Some body) old new (Some g) is prefix = inr (subst (λ t. AppendsPrefix old new t) is.1 prefix)
+pub is_failed_run : (answer : Answering) (input old new : Option (List ℕ)) (given : Answer)
+    → IfSome given (IsInputAnswer answer input) → PrintsPrefixOf old new given → IsFailedRun answer input old new
+is_failed_run answer input old new None is prefix = inl prefix
+is_failed_run answer input old new (Some g) is prefix = inr (is.0, is.1, subst (λ t. AppendsPrefix old new t) is.2.1 prefix)

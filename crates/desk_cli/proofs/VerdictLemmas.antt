@@ -2,7 +2,7 @@
 use Rattle.std.proofs.Common.{◌≡◌, ℕ, List, Option, Some, None, IfSome, refl, sym, subst}
 use Rattle.ach_files.specs.Facts.{FileFacts}
 use Rattle.ach_files.specs.File.{IsReadAs}
-use Rattle.desk_cli.specs.Feeding.{MayHave}
+use Rattle.desk_cli.specs.Inputs.{MayHave}
 use Rattle.desk_cli.specs.FileChecks.{IsVerdict, IsVerdictOn, return_count, change_count}
 use Rattle.desk_cli.specs.declared.commands.file_verdict.Verdict.{Verdict}
 use Rattle.desk_cli.specs.declared.commands.file_verdict.Verdict.TheVariants.{Fine}

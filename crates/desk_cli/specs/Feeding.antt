@@ -1,9 +1,10 @@
 -- What the reader of files has taken when its pieces end, or why they stop.
-use Rattle.std.specs.Prelude.{◌≡◌, ℕ, List, ◌++◌, Option, IfSome, Result, Ok, Err}
+use Rattle.std.specs.Prelude.{◌≡◌, ℕ, List, ◌++◌, Option, Result, Ok, Err}
 use Rattle.ach_files.specs.Has.{HasRead}
 use Rattle.ach_files.specs.FirstFault.{fault, Tells}
 use Rattle.ach_files.specs.declared.fault.FileFault.TheVariants.{NoMemory}
 use Rattle.ach_files.specs.declared.reader.Reader.{Reader}
+use Rattle.desk_cli.specs.Inputs.{MayHave}
 use Rattle.desk_cli.specs.declared.commands.file_feed.Stop.{Stop}
 use Rattle.desk_cli.specs.declared.commands.file_feed.Stop.TheVariants.{Failed, Faulty}
 
@@ -16,10 +17,6 @@ StopsBy bytes (Faulty f) = Tells f (fault bytes)
 abbrev pub GivesUp : Stop → Type 0
 GivesUp Failed = Unit {0}
 GivesUp (Faulty f) = f.kind ≡ NoMemory
-
--- an input has these bytes, where it is known what it has
-abbrev pub MayHave : (input : Option (List ℕ)) → (bytes : List ℕ) → Type 0
-MayHave input bytes = IfSome input (λ known. known ≡ bytes)
 
 -- the reader has taken all that the input had after what it took before, or has stopped at the fault of it all
 abbrev pub HasFed : {A : Type 0} → (input : Option (List ℕ)) → (before after : Reader) → Result A Stop → Type 0

@@ -9,7 +9,7 @@ use Rattle.ach_files.specs.declared.fault.Fault.{Fault}
 use Rattle.ach_files.specs.declared.facts.ItemFacts.{ItemFacts}
 use Rattle.ach_files.specs.declared.facts.ReturnOrChange.{ReturnOrChange}
 use Rattle.ach_files.specs.declared.facts.ReturnOrChange.TheVariants.{Return, Change}
-use Rattle.desk_cli.specs.Feeding.{MayHave}
+use Rattle.desk_cli.specs.Inputs.{MayHave}
 use Rattle.desk_cli.specs.BodyAnswers.{IsAnswer}
 use Rattle.desk_cli.specs.Printing.{with_line_feed, unavailable, PrintsAnswer}
 use Rattle.io_retries.specs.Prefixes.{AppendsPrefix}
@@ -59,7 +59,7 @@ IsCheckAnswer input given = (verdict : Verdict) × IsVerdictOn input verdict × 
 
 -- the command answered all that its input had
 abbrev pub HasChecked : (input old new : Option (List ℕ)) → Status → Type 0
-HasChecked input old new status = (verdict : Verdict) × IsVerdictOn input verdict × PrintsAnswer old new (verdict_answer verdict) status
+HasChecked input old new status = (verdict : Verdict) × IsVerdictOn input verdict × PrintsAnswer old new (with_line_feed (verdict_answer verdict)) status
 
 -- a check that failed printed a prefix of `unavailable`, or of its answer
 abbrev pub IsFailedCheck : (input old new : Option (List ℕ)) → Type 0

@@ -1,7 +1,7 @@
--- How much of an input is read.
-use Rattle.std.specs.Prelude.{ℕ}
+-- How much of an input is read, and what it has.
+use Rattle.std.specs.Prelude.{◌≡◌, ℕ, List, Option, IfSome}
 
--- how many bytes a body or a file has at most
+-- how many bytes a body, a list or a file has at most
 abbrev pub most_input : ℕ
 most_input = 4_194_304
 
@@ -12,3 +12,7 @@ most_read = 4_194_305
 -- how many of them at once, where a file is read
 abbrev pub most_piece : ℕ
 most_piece = 65_536
+
+-- an input has these bytes, where it is known what it has
+abbrev pub MayHave : (input : Option (List ℕ)) → (bytes : List ℕ) → Type 0
+MayHave input bytes = IfSome input (λ known. known ≡ bytes)

@@ -4,7 +4,9 @@ pub mod Commands
 pub mod ExitCodes
 pub mod Feeding
 pub mod FileChecks
+pub mod InputRuns
 pub mod Inputs
+pub mod ListRuns
 pub mod Printing
 pub mod Programs
 pub mod SubmissionRuns

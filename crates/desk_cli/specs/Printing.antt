@@ -20,7 +20,7 @@ unavailable = codes "unavailable" ++ 10 ∷ []
 
 -- the answer stands after what the writer held, and the command ended as it says
 abbrev pub PrintsAnswer : (old new : Option (List ℕ)) → (answer : Bool × List ℕ) → Status → Type 0
-PrintsAnswer old new answer status = (status ≡ status_of answer.0) × Appends old new (with_line_feed answer).1
+PrintsAnswer old new answer status = (status ≡ status_of answer.0) × Appends old new answer.1
 
 -- the line that a call gave stands after what the writer held, and the command ended as it says
 abbrev pub PrintsLine : (old new : Option (List ℕ)) → (given : Option (Bool × Vec ℕ Global)) → Status → Type 0

@@ -1,5 +1,6 @@
 //! Transcripts: commands of the program `achdesk`, each with what it prints.
-use desk_cli::{check_file, first_run};
+use desk_cli::run_words;
+use std::alloc::AllocError;
 use std::{fs, io};
 
 /// The transcript that has the commands of this one: each line that begins with `$ `, and what that
@@ -10,23 +11,42 @@ pub(crate) fn transcript(rt: &HostRuntime, text: &str) -> io::Result<Vec<u8>> {
         if let Some(command) = line.strip_prefix("$ ") {
             written.extend_from_slice(line.as_bytes())?;
             written.push(b'\n')?;
-            carry_out(rt, command, &mut written)?;
+            let printed = carry_out(rt, command)?;
+            add_lines(&mut written, printed.as_slice())?;
         }
     }
     Ok(written)
 }
 
-fn carry_out(rt: &HostRuntime, command: &str, written: &mut Vec<u8>) -> io::Result<()> {
-    if let Some(path) = command.strip_prefix("./achdesk < ") {
-        let body = fs::read(rt, path)?;
-        let _status = first_run(rt.alloc(), body.as_slice(), written);
-    } else if let Some(path) = command.strip_prefix("./achdesk check ") {
-        let file = fs::read(rt, path)?;
-        let _status = check_file(rt.alloc(), file.as_slice(), written);
-    } else if let Some(body) = echo_text(command) {
-        let _status = first_run(rt.alloc(), body.as_bytes(), written);
+/// Adds the lines of a text, as a page shows them: each ends with a line feed alone.
+pub(crate) fn add_lines(written: &mut Vec<u8>, text: &[u8]) -> Result<(), AllocError> {
+    for line in str::from_utf8(text).unwrap_or("no UTF-8").lines() {
+        written.extend_from_slice(line.as_bytes())?;
+        written.push(b'\n')?;
     }
     Ok(())
+}
+
+fn carry_out(rt: &HostRuntime, command: &str) -> io::Result<Vec<u8>> {
+    if let Some(path) = command.strip_prefix("./achdesk < ") {
+        let body = fs::read(rt, path)?;
+        run_over(rt, "", body.as_slice())
+    } else if let Some(words) = command.strip_prefix("./achdesk ") {
+        run_over(rt, words, b"")
+    } else {
+        run_over(rt, "", echo_text(command).unwrap_or("").as_bytes())
+    }
+}
+
+// What the program prints that is run with these words over this input.
+fn run_over(rt: &HostRuntime, line: &str, input: &[u8]) -> io::Result<Vec<u8>> {
+    let mut words = Vec::new(rt.alloc());
+    for word in line.split(' ').filter(|word| !word.is_empty()) {
+        words.push(word)?;
+    }
+    let mut printed = Vec::new(rt.alloc());
+    let _code = run_words(rt, words.as_slice(), input, &mut printed);
+    Ok(printed)
 }
 
 // What `echo` hands to the program.

@@ -1,16 +1,17 @@
 //! The command that checks an incoming file.
-ghost use Rattle.std.specs.Prelude.{◌≡◌, ◌≢◌, IfSome, IfOk, string_bytes};
+ghost use Rattle.std.specs.Prelude.{◌≡◌, ◌≢◌, IfSome, IfOk, None, string_bytes};
 ghost use Rattle.desk_cli.specs.BodyAnswers.{IsAnswer};
 ghost use Rattle.desk_cli.specs.FileChecks.{fault_line, counts_line, verdict_answer, IsCheckAnswer, HasChecked, IsFailedCheck};
 ghost use Rattle.desk_cli.specs.Printing.{with_line_feed};
 
 use crate::commands::file_verdict::{Verdict, verdict_of};
 use crate::commands::input::bounded_input;
-use crate::commands::output::print_answer;
+use crate::commands::output::{end_line, print_answer, print_unavailable};
 use crate::commands::status::Status;
 use ach_files::{Fault, faults_stand, file_or_fault, long_bytes_have_faults};
 use io_retries::Tries;
 use std::alloc::{AllocError, Global};
+use std::fs::File;
 use std::io::{Read, Write};
 
 /// Reads an incoming file, at most 4,194,305 bytes of it in pieces of at most 65,536, and prints what
@@ -26,6 +27,17 @@ pub fn check_file<R: Read + Drop, W: Write>(alloc: Global, reader: R, writer: &m
 {
     let (answer, tries) = file_answer(alloc, reader);
     print_answer(writer, &answer, tries)
+}
+
+/// Checks the incoming file at a path. Where it cannot be opened, `unavailable` is printed.
+pub fn check_path<W: Write>(rt: &HostRuntime, path: &str, writer: &mut W) -> Status
+    ensures answered { result ≢ Status.Failed → HasChecked None (W.contents writer.old) (W.contents writer.new) result }
+    ensures failed { result ≡ Status.Failed → IsFailedCheck None (W.contents writer.old) (W.contents writer.new) }
+{
+    match File::open(rt, path) {
+        Ok(file) => check_file(rt.alloc(), file, writer),
+        Err(_) => print_unavailable(writer, Tries::new()),
+    }
 }
 
 // The answer to an input, if it could be had, and the tries that are left.
@@ -47,12 +59,8 @@ fn file_answer<R: Read + Drop>(alloc: Global, reader: R) -> (Option<(bool, Vec<u
 fn verdict_answer(alloc: Global, verdict: &Verdict) -> Option<(bool, Vec<u8>)>
     ensures { IfSome result (IsAnswer (with_line_feed (verdict_answer verdict.now))) }
 {
-    let Ok(text) = verdict_text(alloc, verdict) else {
-        return None;
-    };
-    let mut line = text.into_bytes();
-    match line.push(b'\n') {
-        Ok(()) => Some((is_fine(verdict), line)),
+    match verdict_text(alloc, verdict) {
+        Ok(text) => end_line(is_fine(verdict), text.into_bytes()),
         Err(_) => None,
     }
 }

@@ -1,15 +1,14 @@
 //! Commands that are carried out, and line faults that are printed.
-ghost use Rattle.std.specs.Prelude.{◌≡◌, ◌≢◌, None};
+ghost use Rattle.std.specs.Prelude.{◌≡◌, ◌≢◌};
 ghost use Rattle.desk_cli.specs.Commands.{CarriesOut, FailsToCarryOut, PrintsLineFault, PrintsWithCode};
-ghost use Rattle.desk_cli.specs.FileChecks.{HasChecked, IsFailedCheck};
 
 use crate::commands::answer_submission::first_run;
-use crate::commands::check_incoming::check_file;
+use crate::commands::check_incoming::check_path;
 use crate::commands::output::{print_unavailable, write_line};
 use crate::commands::status::Status;
+use crate::commands::submit_entries::submit_path;
 use crate::words::{Command, LineFault};
 use io_retries::Tries;
-use std::fs::File;
 use std::io::{Read, Write};
 
 /// Carries out a command, which reads what it needs of the reader and prints to the writer.
@@ -29,16 +28,7 @@ pub fn run<R: Read + Drop, W: Write>(
     match *command {
         Command::AnswerSubmission => first_run(rt.alloc(), reader, writer),
         Command::Check(path) => check_path(rt, path, writer),
-    }
-}
-
-fn check_path<W: Write>(rt: &HostRuntime, path: &str, writer: &mut W) -> Status
-    ensures answered { result ≢ Status.Failed → HasChecked None (W.contents writer.old) (W.contents writer.new) result }
-    ensures failed { result ≡ Status.Failed → IsFailedCheck None (W.contents writer.old) (W.contents writer.new) }
-{
-    match File::open(rt, path) {
-        Ok(file) => check_file(rt.alloc(), file, writer),
-        Err(_) => print_unavailable(writer, Tries::new()),
+        Command::Submit(path, options) => submit_path(rt, path, &options, writer),
     }
 }
 

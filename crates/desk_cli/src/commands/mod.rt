@@ -8,9 +8,11 @@ mod file_verdict;
 mod input;
 mod output;
 mod status;
+mod submit_entries;
 
 pub use answer_submission::first_run;
 pub use body_answer::{NoMemory, submission_answer};
 pub use check_incoming::check_file;
 pub use dispatch::{print_line_fault, run};
 pub use status::Status;
+pub use submit_entries::submit_list;

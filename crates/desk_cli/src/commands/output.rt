@@ -1,8 +1,9 @@
 //! The lines that a command prints.
-ghost use Rattle.std.specs.Prelude.{◌≡◌, ◌≢◌, MatchResult};
+ghost use Rattle.std.specs.Prelude.{◌≡◌, ◌≢◌, IfSome, MatchResult};
 ghost use Rattle.std.specs.Io.KnownBytes.{Appends};
 ghost use Rattle.io_retries.specs.Prefixes.{AppendsPrefix};
-ghost use Rattle.desk_cli.specs.Printing.{status_of, PrintsLine, PrintsPrefixOf};
+ghost use Rattle.desk_cli.specs.BodyAnswers.{IsAnswer};
+ghost use Rattle.desk_cli.specs.Printing.{status_of, with_line_feed, PrintsLine, PrintsPrefixOf};
 
 use crate::commands::status::Status;
 use io_retries::{Tries, write_all_with_retries};
@@ -11,6 +12,17 @@ use std::io::Write;
 
 /// This line is printed where a read failed or memory ran out.
 pub const UNAVAILABLE: &[u8; 12] = b"unavailable\n";
+
+/// Ends the line of an answer, which is whether the input is accepted, and its text. It gives `None`
+/// where memory runs out.
+pub fn end_line(is_accepted: bool, mut line: Vec<u8>) -> Option<(bool, Vec<u8>)>
+    ensures { IfSome result (IsAnswer (with_line_feed (is_accepted, line.items))) }
+{
+    match line.push(b'\n') {
+        Ok(()) => Some((is_accepted, line)),
+        Err(_) => None,
+    }
+}
 
 /// Prints a line and flushes the writer, with the tries that the run has left. Where a write or the
 /// flush fails, the writer has taken a prefix of the line.
@@ -31,7 +43,7 @@ pub fn print_unavailable<W: Write>(writer: &mut W, tries: Tries) -> Status
     Status::Failed
 }
 
-/// Prints a command's answer, which is whether the input is accepted, and its line; or, where there is
+/// Prints a command's answer, which is whether the input is accepted, and its text; or, where there is
 /// no answer, that a read failed or memory ran out.
 pub fn print_answer<W: Write>(
     writer: &mut W,

@@ -1,11 +1,13 @@
 //! The command that words name.
-ghost use Rattle.std.specs.Prelude.{◌≡◌, [], map, unwrap_or};
-ghost use Rattle.clap.specs.Words.{fault_of, found_of, first_value, kind_of};
-ghost use Rattle.desk_cli.specs.CommandLine.{Gives, GivesAt, IsFaultAmong, IsFaultOf, check_app, named_check, program_app};
+ghost use Rattle.std.specs.Prelude.{◌≡◌, map};
+ghost use Rattle.clap.specs.Words.{fault_of, found_of, kind_of, rows_of};
+ghost use Rattle.desk_submit.specs.Options.{texts_of};
+ghost use Rattle.desk_cli.specs.CommandLine.{Gives, GivesAt, IsFaultAmong, IsFaultOf, check_app, named_check, named_submit, options_in, program_app, submit_app, text_in};
 
-use crate::words::arguments::{check_matches, program_matches};
+use crate::words::arguments::{check_matches, program_matches, submit_matches};
 use clap::error::ErrorKind;
 use clap::{ArgMatches, Error};
+use desk_submit::SubmitOptions;
 use std::alloc::Global;
 
 /// A command says what the program is asked to do.
@@ -15,6 +17,9 @@ pub enum Command<'a> {
     AnswerSubmission,
     /// The program checks the incoming file at this path.
     Check(&'a str),
+    /// The program makes the message that hands in the list of entries at this path, with these
+    /// options.
+    Submit(&'a str, SubmitOptions<'a>),
 }
 
 /// A fault says why the words name no command.
@@ -40,6 +45,7 @@ pub fn command_of<'a>(alloc: Global, words: &'a [&'a str]) -> Result<Command<'a>
     };
     match *name {
         "check" => check_command(alloc, words),
+        "submit" => submit_command(alloc, words),
         _ => Err(unknown_command_fault(alloc, words)),
     }
 }
@@ -53,9 +59,35 @@ fn check_command<'a>(alloc: Global, words: &'a [&'a str]) -> Result<Command<'a>,
     }
 }
 
+fn submit_command<'a>(alloc: Global, words: &'a [&'a str]) -> Result<Command<'a>, LineFault>
+    ensures { Gives (named_submit (map (λ w. w.now) words.now)) (fault_of submit_app (map (λ w. w.now) words.now)) result }
+{
+    match submit_matches(alloc, words) {
+        Ok(matches) => {
+            let list = argument_text(&matches, "FILE");
+            Ok(Command::Submit(list, submit_options(&matches)))
+        }
+        Err(error) => Err(line_fault(alloc, &error)),
+    }
+}
+
+fn submit_options<'a>(matches: &ArgMatches<'a>) -> SubmitOptions<'a>
+    ensures { texts_of result ≡ options_in (rows_of (found_of matches.now)) }
+{
+    SubmitOptions {
+        company: argument_text(matches, "COMPANY"),
+        key: argument_text(matches, "KEY"),
+        reference: argument_text(matches, "REF"),
+        sec: argument_text(matches, "SEC"),
+        direction: argument_text(matches, "DIRECTION"),
+        description: argument_text(matches, "TEXT"),
+        day: argument_text(matches, "DAY"),
+    }
+}
+
 // The text of an argument, empty where it has none.
 fn argument_text<'a>(matches: &ArgMatches<'a>, id: &str) -> &'a str
-    ensures { result.now ≡ unwrap_or (first_value (found_of matches.now) id.now) [] }
+    ensures { result.now ≡ text_in id.now (rows_of (found_of matches.now)) }
 {
     matches.get_str(id).unwrap_or("")
 }

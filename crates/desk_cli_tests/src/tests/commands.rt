@@ -30,12 +30,29 @@ fn a_submission_and_a_file_that_is_not_there(rt: HostRuntime) {
 #[test]
 fn words_and_their_exit_status(rt: HostRuntime) {
     // The words, the exit status, and what the first line begins with.
-    let rows: [(&[&str], u8, &[u8]); 5] = [
+    let rows: [(&[&str], u8, &[u8]); 8] = [
         (&[], 0, PAY_1_LINE.as_bytes()),
         (&["check", "no such file"], 3, b"unavailable\n"),
         (&["--help"], 0, b"The ACH desk of an originating bank."),
         (&["check", "--help"], 0, b"Checks an incoming ACH file"),
         (&["check"], 2, b"error: "),
+        (
+            &[
+                "submit",
+                "no such list",
+                "--company=MILL01",
+                "--key=mill-street-key",
+                "--ref=PAY-1",
+                "--sec=PPD",
+                "--direction=credit",
+                "--description=PAYROLL",
+                "--day=2025-01-10",
+            ],
+            3,
+            b"unavailable\n",
+        ),
+        (&["submit", "--help"], 0, b"Prints the message"),
+        (&["submit"], 2, b"error: "),
     ];
     for (words, code, start) in rows {
         let mut output = Vec::new(rt.alloc());

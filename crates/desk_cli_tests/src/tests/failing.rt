@@ -1,7 +1,8 @@
 //! Readers and writers that are interrupted, that fail once, or that are asked for too much.
 use super::files::{LINE, RECORDS};
+use super::lists::{OPTIONS, PAY_LIST, PAY_MESSAGE};
 use super::{PAY_1, PAY_1_LINE};
-use desk_cli::{LineFault, Status, check_file, first_run, print_line_fault};
+use desk_cli::{LineFault, Status, check_file, first_run, print_line_fault, submit_list};
 use std::io;
 use std::io::{ErrorKind, Read, Write};
 use std::test::Fail;
@@ -124,14 +125,54 @@ impl Write for BufferedWriter {
     }
 }
 
-// A run over PAY-1, or a check of the file of one return, with so many interruptions of its reader and
-// of its writer; how it ends, and what the writer has then.
-fn run_interrupted(rt: &HostRuntime, is_check: bool, reads: u32, writes: u32) -> (Status, Vec<u8>) {
+/// A command that reads an input.
+#[derive(Clone, Copy, Debug)]
+enum Run {
+    /// The answer to PAY-1.
+    Answer,
+    /// The check of the file of one return.
+    Check,
+    /// The message of a list of one entry.
+    Submit,
+}
+
+const RUNS: [Run; 3] = [Run::Answer, Run::Check, Run::Submit];
+
+impl Run {
+    fn input(self) -> &'static [u8] {
+        match self {
+            Run::Answer => PAY_1.as_bytes(),
+            Run::Check => RECORDS,
+            Run::Submit => PAY_LIST,
+        }
+    }
+
+    // What it prints of that.
+    fn text(self) -> &'static str {
+        match self {
+            Run::Answer => PAY_1_LINE,
+            Run::Check => LINE,
+            Run::Submit => PAY_MESSAGE,
+        }
+    }
+
+    fn over<R: Read + Drop, W: Write>(self, rt: &HostRuntime, reader: R, writer: &mut W) -> Status {
+        match self {
+            Run::Answer => first_run(rt.alloc(), reader, writer),
+            Run::Check => check_file(rt.alloc(), reader, writer),
+            Run::Submit => submit_list(rt.alloc(), &OPTIONS, reader, writer),
+        }
+    }
+}
+
+// A run with so many interruptions of its reader and of its writer; how it ends, and what the writer
+// has then.
+fn run_interrupted(rt: &HostRuntime, run: Run, reads: u32, writes: u32) -> (Status, Vec<u8>) {
     let reader = FaultyReader {
         interruptions: reads,
         failure: None,
         left: 0,
-        rest: if is_check { RECORDS } else { PAY_1.as_bytes() },
+        rest: run.input(),
     };
     let mut writer = FaultyWriter {
         text: Vec::new(rt.alloc()),
@@ -139,11 +180,7 @@ fn run_interrupted(rt: &HostRuntime, is_check: bool, reads: u32, writes: u32) ->
         failure: None,
         room: usize::MAX,
     };
-    let status = if is_check {
-        check_file(rt.alloc(), reader, &mut writer)
-    } else {
-        first_run(rt.alloc(), reader, &mut writer)
-    };
+    let status = run.over(rt, reader, &mut writer);
     (status, writer.text)
 }
 
@@ -162,11 +199,10 @@ fn reads_and_writes_share_the_tries(rt: HostRuntime) {
         (1_000, 1, false),
     ];
     for (reads, writes, is_done) in rows {
-        for is_check in [false, true] {
-            let (status, text) = run_interrupted(&rt, is_check, reads, writes);
-            let line = if is_check { LINE } else { PAY_1_LINE };
+        for run in RUNS {
+            let (status, text) = run_interrupted(&rt, run, reads, writes);
             let (wanted, printed) = if is_done {
-                (Status::Done, line)
+                (Status::Done, run.text())
             } else {
                 (Status::Failed, "")
             };
@@ -174,8 +210,8 @@ fn reads_and_writes_share_the_tries(rt: HostRuntime) {
             assert_eq!(rt; text.as_slice(), printed.as_bytes(), "{reads} {writes}");
         }
     }
-    for is_check in [false, true] {
-        let (status, text) = run_interrupted(&rt, is_check, 1_001, 0);
+    for run in RUNS {
+        let (status, text) = run_interrupted(&rt, run, 1_001, 0);
         assert_eq!(rt; status, Status::Failed);
         assert_eq!(rt; text.as_slice(), b"unavailable\n".as_slice());
     }
@@ -191,20 +227,16 @@ fn no_other_failure_is_tried_again(rt: HostRuntime) {
     ];
     for kind in kinds {
         // The reader fails before its first byte, in its middle and before its end.
-        for left in [0, 20, 100, usize::MAX] {
-            for is_check in [false, true] {
+        for left in [0, 20, 90, usize::MAX] {
+            for run in RUNS {
                 let reader = FaultyReader {
                     interruptions: 3,
                     failure: Some(kind),
                     left,
-                    rest: if is_check { RECORDS } else { PAY_1.as_bytes() },
+                    rest: run.input(),
                 };
                 let mut output = Vec::new(rt.alloc());
-                let status = if is_check {
-                    check_file(rt.alloc(), reader, &mut output)
-                } else {
-                    first_run(rt.alloc(), reader, &mut output)
-                };
+                let status = run.over(&rt, reader, &mut output);
                 assert_eq!(rt; status, Status::Failed, "{left}");
                 assert_eq!(rt; output.as_slice(), b"unavailable\n".as_slice(), "{left}");
             }
@@ -309,4 +341,16 @@ fn no_more_is_read_than_decides(rt: HostRuntime) {
     };
     assert_eq!(rt; check_file(rt.alloc(), file, &mut output), Status::Refused);
     assert_eq!(rt; output.as_slice(), b"TooLarge at record 6\n".as_slice());
+
+    let mut output = Vec::new(rt.alloc());
+    let list = LongReader {
+        rest: PAY_LIST,
+        left: 4_194_305,
+        most: usize::MAX,
+    };
+    assert_eq!(rt;
+        submit_list(rt.alloc(), &OPTIONS, list, &mut output),
+        Status::Refused
+    );
+    assert_eq!(rt; output.as_slice(), b"too large\n".as_slice());
 }

@@ -4,6 +4,7 @@ mod commands;
 mod failing;
 mod files;
 mod large;
+mod lists;
 mod words;
 
 use desk_cli::{Status, first_run};

@@ -1,10 +1,73 @@
 //! What the words of a command line ask for.
+use super::lists::OPTIONS;
 use desk_cli::{Command, LineFault, command_of};
+use desk_submit::SubmitOptions;
+
+/// Options of which each says nothing.
+const NOTHING: SubmitOptions<'static> = SubmitOptions {
+    company: "",
+    key: "",
+    reference: "",
+    sec: "",
+    direction: "",
+    description: "",
+    day: "",
+};
 
 #[test]
 fn commands(rt: HostRuntime) {
-    let rows: [(&[&str], Command); 4] = [
+    let rows: [(&[&str], Command); 7] = [
         (&[], Command::AnswerSubmission),
+        (
+            &[
+                "submit",
+                "pay.csv",
+                "--company",
+                "MILL01",
+                "--key",
+                "mill-street-key",
+                "--ref",
+                "PAY-1",
+                "--sec",
+                "PPD",
+                "--direction",
+                "credit",
+                "--description",
+                "PAYROLL",
+                "--day",
+                "2025-01-10",
+            ],
+            Command::Submit("pay.csv", OPTIONS),
+        ),
+        (
+            &[
+                "submit",
+                "--day=2025-01-10",
+                "--description=PAYROLL",
+                "--direction=credit",
+                "--sec=PPD",
+                "--ref=PAY-1",
+                "--key=mill-street-key",
+                "--company=MILL01",
+                "pay.csv",
+            ],
+            Command::Submit("pay.csv", OPTIONS),
+        ),
+        (
+            &[
+                "submit",
+                "--company=",
+                "--key=",
+                "--ref=",
+                "--sec=",
+                "--direction=",
+                "--description=",
+                "--day=",
+                "--",
+                "--list",
+            ],
+            Command::Submit("--list", NOTHING),
+        ),
         (&["check", "returns.ach"], Command::Check("returns.ach")),
         (&["check", ""], Command::Check("")),
         (&["check", "--", "-"], Command::Check("-")),
@@ -19,10 +82,15 @@ fn commands(rt: HostRuntime) {
 
 #[test]
 fn help(rt: HostRuntime) {
-    let rows: [(&[&str], &str); 6] = [
+    let rows: [(&[&str], &str); 11] = [
+        (&["--help"], "submit"),
+        (&["submit", "--help"], "Usage: achdesk submit "),
+        (&["submit", "a", "-h"], "--description <TEXT>"),
+        (&["help", "submit"], "submit"),
+        (&["submit", "a", "--help"], "--direction <DIRECTION>"),
         (&["--help"], "check"),
         (&["-h"], "check"),
-        (&["check", "--help"], "FILE"),
+        (&["check", "--help"], "Usage: achdesk check <FILE>"),
         (&["check", "a", "-h"], "FILE"),
         (&["help"], "check"),
         (&["help", "check"], "check"),
@@ -38,7 +106,14 @@ fn help(rt: HostRuntime) {
 
 #[test]
 fn usage(rt: HostRuntime) {
-    let rows: [(&[&str], &str); 10] = [
+    let rows: [(&[&str], &str); 14] = [
+        (&["submit"], "--company <COMPANY>"),
+        (&["submit", "a", "--key", "k"], "--day <DAY>"),
+        (
+            &["submit", "a", "--key", "k", "--key", "k"],
+            "'--key <KEY>'",
+        ),
+        (&["submit", "a", "--amount", "1"], "'--amount'"),
         (&["check"], "FILE"),
         (&["check", "a", "b"], "'b'"),
         (&["check", "a", "check"], "'check'"),
