@@ -4,13 +4,10 @@ use Rattle.std.specs.Prelude.{◌==◌, if◌then◌else◌, fold, find, reverse
 use Rattle.std.specs.List.{flat_map, range_with_len}
 use Rattle.std.proofs.lemmas.List.{append-nil, length-map}
 use Rattle.std.proofs.lemmas.List.Concat.{flat_map-append}
-use Rattle.std.proofs.lemmas.List.Elements.{filter-append}
 use Rattle.std.proofs.lemmas.List.Folds.{fold-map}
 use Rattle.std.proofs.lemmas.List.Sums.{fold-append}
 use Rattle.std.proofs.lemmas.Simd.{map-map}
-use Rattle.desk_accounts.specs.declared.account.Account.{Account}
 use Rattle.desk_accounts.specs.declared.posting.Posting.{Posting}
-use Rattle.desk_accounts.specs.Balance.{lines_of}
 use Rattle.desk_accounts.specs.Laws.{pairs}
 use Rattle.desk_accounts.specs.Posting.{with_opposite}
 use Rattle.desk_plan.specs.Laws.{OneDivision}
@@ -58,12 +55,9 @@ added_each : {X Y : Type 0} (g : X → List Y) (before : List Y) (xs : List X) �
 added_each g before [] = sym (append-nil before)
 added_each g before (x ∷ xs) = added_each g (before ++ g x) xs ∙ append_assoc before (g x) (flat_map g xs)
 
--- the lines of an account
-lines_added : (account : Account) (before more : List Posting) → lines_of account (pairs (before ++ (more ++ []))) ≡ lines_of account (pairs before) ++ lines_of account (pairs more)
-lines_added account before more =
-    ap (λ (ls : List Posting). lines_of account (pairs (before ++ ls))) (append-nil more)
-    ∙ ap (lines_of account) (flat_map-append with_opposite before more)
-    ∙ filter-append _ (pairs before) (pairs more)
+-- the postings
+postings_added : (before more : List Posting) → pairs (before ++ (more ++ [])) ≡ pairs before ++ pairs more
+postings_added before more = ap (λ (ls : List Posting). pairs (before ++ ls)) (append-nil more) ∙ flat_map-append with_opposite before more
 
 -- the places where a submission is printed
 printed_added : (c : List ℕ) (order : ℕ) (before more : List File)
@@ -132,9 +126,9 @@ module _ (steps : RowSteps) (possible : PossibleParts) (order : AcceptedInOrder)
         rows = λ c. rows_behind identity key H d is on c i;
         returns = λ c. returns (part odfi H c);
         changes = λ c. changes (part odfi H c);
-        lines = λ account.
-            (lines_added account (own_lines odfi H) (flat_map sending_line (history_files.cut_sendings odfi H))
-            ∙ ap (λ ss. b.lines account ++ lines_of account (pairs (flat_map sending_line ss))) (sym ss)) i;
+        postings =
+            (postings_added (own_lines odfi H) (flat_map sending_line (history_files.cut_sendings odfi H))
+            ∙ ap (λ ss. b.postings ++ pairs (flat_map sending_line ss)) (sym ss)) i;
         sent = reverse (flat_map batch_entries (history_sending.batches (sent_entries odfi H) (sym ss i))) ++ sent_entries odfi H;
         suspense = append-nil (suspense odfi H) i;
         file = λ d modifier. (ap (λ fs. option_map (text_of identity) (find (is_file d modifier) fs)) same_files ∙ file_added identity d modifier before (files x)) i;

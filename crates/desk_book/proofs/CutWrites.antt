@@ -1,7 +1,6 @@
 -- What the write of a cut makes of a book, look-up by look-up.
 use Rattle.std.proofs.Common.{◌≡◌, ◌+◌, List, [], ◌∷◌, ◌++◌, map, ◌&&◌, refl, ap, ◌∙◌}
 use Rattle.std.specs.Prelude.{◌==◌, if◌then◌else◌, fold, reverse, Some, is_none}
-use Rattle.desk_accounts.specs.Balance.{lines_of}
 use Rattle.desk_book.specs.Book.{Book}
 use Rattle.desk_book.specs.declared.flat_rows.FileRow.{FileRow}
 use Rattle.desk_book.specs.declared.flat_rows.LapsedRow.{LapsedRow}
@@ -37,7 +36,7 @@ files_put (f ∷ fs) b = files_put fs (put_file b f)
 abbrev pub cut_made : CutWrite → Book → Book
 cut_made x b = record b {
   rows = λ c. fold (turned_at c) (fold (turned_at c) (b.rows c) (map sent_turn x.sent)) (map lapsed_turn x.lapsed);
-  lines = λ account. b.lines account ++ lines_of account x.postings;
+  postings = b.postings ++ x.postings;
   sent = reverse x.entries ++ b.sent;
   file = λ d modifier. fold (λ o f. if is_file d modifier f && is_none o then Some f.text else o) (b.file d modifier) x.files;
   files_on = λ d. fold (λ n f. n + (if f.day == d then 1 else 0)) (b.files_on d) x.files;

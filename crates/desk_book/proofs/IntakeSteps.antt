@@ -4,14 +4,10 @@ use Rattle.std.specs.Prelude.{if◌then◌else◌, fold, filter_map, zip, Option
 use Rattle.std.specs.List.{enumerate_from, flat_map}
 use Rattle.std.proofs.lemmas.List.{append-nil}
 use Rattle.std.proofs.lemmas.List.Concat.{flat_map-append}
-use Rattle.std.proofs.lemmas.List.Elements.{filter-append}
 use Rattle.ach_files.specs.declared.fault.Fault.{Fault}
 use Rattle.ach_files.specs.Facts.{FileFacts}
-use Rattle.desk_accounts.specs.declared.account.Account.{Account}
-use Rattle.desk_accounts.specs.declared.posting.Posting.{Posting}
-use Rattle.desk_accounts.specs.Balance.{lines_of}
 use Rattle.desk_accounts.specs.Laws.{pairs}
-use Rattle.desk_accounts.specs.Posting.{same_account, with_opposite}
+use Rattle.desk_accounts.specs.Posting.{with_opposite}
 use Rattle.desk_rules.specs.declared.refusals.refusal.Refusal.TheVariants.{NoDay, FileKeyReused}
 use Rattle.desk_history.specs.declared.answer.Answer.{Answer}
 use Rattle.desk_history.specs.declared.answer.Answer.TheVariants as answers
@@ -62,7 +58,7 @@ written : (x : IntakeWrite) (b : Book) → (commit_intake x).after b ≡ record 
   rows = λ c. fold (rows_back c) (b.rows c) x.returned;
   returns = λ c. fold (with_return c) (b.returns c) x.returned;
   changes = λ c. fold (with_change c) (b.changes c) x.changed;
-  lines = λ account. b.lines account ++ lines_of account x.postings;
+  postings = b.postings ++ x.postings;
   suspense = b.suspense ++ x.suspense;
   taken = λ key. if bytes_eq x.file.key key && is_none (b.taken key) then Some x.file else b.taken key;
 }
@@ -83,7 +79,7 @@ behind_file identity key H f new =
       rows = λ c. rows (P c);
       returns = λ c. returns (P c);
       changes = λ c. changes (P c);
-      lines = λ account. lines_of account (pairs (own_lines odfi H ++ intake_lines odfi H file));
+      postings = pairs (own_lines odfi H ++ intake_lines odfi H file);
       suspense = suspense odfi H ++ suspense_of odfi H file;
       taken = λ k. find (has_key k) (with_taken_file odfi H file (taken_files odfi H));
     }
@@ -93,7 +89,7 @@ known_leaves : (identity : Identity) (key : List ℕ) (H : List Pair) (f : FileF
 known_leaves identity key H f =
     let odfi = identity.odfi in
     (λ i. record (book_of identity key H) {
-      lines = λ account. lines_of account (pairs (append-nil (own_lines odfi H) i));
+      postings = pairs (append-nil (own_lines odfi H) i);
       suspense = append-nil (suspense odfi H) i;
     })
 
@@ -101,12 +97,6 @@ known_leaves identity key H f =
 firsts : {X Y : Type 0} (f : X → Y) (xs : List X) → map (λ (y : X × Y). y.0) (map (λ x. (x, f x)) xs) ≡ xs
 firsts f [] = refl
 firsts f (x ∷ xs) = ap (λ (more : List _). x ∷ more) (firsts f xs)
-
--- the lines of an account, with those of further pairs
-more_lines : (account : Account) (before more : List Posting) → lines_of account (pairs (before ++ more)) ≡ lines_of account (pairs before) ++ lines_of account (pairs more)
-more_lines account before more =
-    ap (lines_of account) (flat_map-append with_opposite before more)
-    ∙ filter-append (λ line. same_account line.account account) (pairs before) (pairs more)
 
 module _ (verdicts : VerdictsOnRows) (steps : RowSteps) (entries : SentAreAccepted) (parts : PossibleParts) (told : StepsOfMessages) where
   -- what a new file makes of a company
@@ -140,7 +130,7 @@ module _ (verdicts : VerdictsOnRows) (steps : RowSteps) (entries : SentAreAccept
         rows = λ c. of_company identity key H f d c rows (returned_row (holidays H) d) (rows_back c) (rows_steps c d (holidays H) steps) on new i;
         returns = λ c. of_company identity key H f d c returns (returned_row (holidays H) d) (with_return c) (returns_steps c d (holidays H)) on new i;
         changes = λ c. of_company identity key H f d c changes (changed_row d) (with_change c) (changes_steps c d (holidays H)) on new i;
-        lines = λ account. more_lines account (own_lines odfi H) (intake_lines odfi H (Some f)) i;
+        postings = flat_map-append with_opposite (own_lines odfi H) (intake_lines odfi H (Some f)) i;
         suspense = suspense odfi H ++ suspense_of odfi H (Some f);
         taken = λ k. found_with k (taken_files odfi H) (taken_file odfi H (unwrap_or (day H) 0) f) i;
       })
@@ -150,7 +140,7 @@ module _ (verdicts : VerdictsOnRows) (steps : RowSteps) (entries : SentAreAccept
         rows = λ c. fold (rows_back c) (b.rows c) (intake_write x).returned;
         returns = λ c. fold (with_return c) (b.returns c) (intake_write x).returned;
         changes = λ c. fold (with_change c) (b.changes c) (intake_write x).changed;
-        lines = λ account. b.lines account ++ lines_of account (pairs (flat_map (λ y. item_line (unwrap_or (on i) 0) y.0 y.1) (zip (items i) (os i))));
+        postings = b.postings ++ pairs (flat_map (λ y. item_line (unwrap_or (on i) 0) y.0 y.1) (zip (items i) (os i)));
         suspense = b.suspense ++ filter_map (λ y. suspense_row f.key (unwrap_or (on i) 0) y.0 y.1.0 y.1.1) (enumerate_from 1 (zip (items i) (os i)));
         taken = λ k. if bytes_eq file.key k && is_none (b.taken k) then Some file else b.taken k;
       })

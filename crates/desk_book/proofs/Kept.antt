@@ -3,7 +3,6 @@ use Rattle.std.proofs.Common.{◌≡◌, ℕ, List, [], ◌∷◌, ◌++◌, Boo
 use Rattle.std.specs.Prelude.{if◌then◌else◌, Option, None, find, option_map}
 use Rattle.std.specs.List.{flat_map}
 use Rattle.std.proofs.lemmas.List.{append-nil}
-use Rattle.desk_accounts.specs.Balance.{lines_of}
 use Rattle.desk_accounts.specs.Laws.{pairs}
 use Rattle.desk_rules.specs.declared.bodies.company.Company.{Company}
 use Rattle.desk_history.specs.declared.answer.Answer.{Answer}
@@ -102,7 +101,7 @@ kept identity key H m a other =
       rows = λ c. rows (part odfi (x ∷ H) c);
       returns = λ c. returns_kept odfi H m a other c i;
       changes = λ c. changes_kept odfi H m a other c i;
-      lines = λ account. lines_of account (pairs (own_kept odfi H m a other i));
+      postings = pairs (own_kept odfi H m a other i);
       sent = sent_kept (is_accepted a) m (sent_entries odfi H) (λ c. part odfi H c) (companies H) other i;
       suspense = suspense_kept odfi H m a other i;
       file = λ d modifier. option_map (text_of identity) (find (is_file d modifier) (same_files i));

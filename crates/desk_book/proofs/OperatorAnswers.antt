@@ -1,23 +1,14 @@
 -- The operator's answers are those that the book tells.
-use Rattle.std.proofs.Common.{◌≡◌, ℕ, List, [], ◌∷◌, map, Bool, refl, sym, ap, ◌∙◌, inl, inr}
-use Rattle.std.specs.Prelude.{if◌then◌else◌, Result, Ok, Err}
-use Rattle.std.proofs.lemmas.Bool.{cases_Bool}
-use Rattle.desk_accounts.specs.declared.account.Account.{Account}
-use Rattle.desk_accounts.specs.declared.account.Account.TheVariants as accounts
-use Rattle.desk_accounts.specs.declared.posting.Posting.{Posting}
-use Rattle.desk_accounts.specs.Balance.{lines_of, value_days, lines_on, total, lines_until}
-use Rattle.desk_accounts.specs.Posting.{same_account}
+use Rattle.std.proofs.Common.{◌≡◌, ℕ, Bool, refl}
+use Rattle.std.specs.Prelude.{Result, Ok, Err}
 use Rattle.desk_rules.specs.declared.refusals.refusal.Refusal as rules
-use Rattle.desk_rules.specs.declared.refusals.refusal.Refusal.TheVariants.{NoDay, DayNotLater, NotBankingDay}
+use Rattle.desk_rules.specs.declared.refusals.refusal.Refusal.TheVariants.{DayNotLater, NotBankingDay}
 use Rattle.desk_rules.specs.Chain.{◌>>=◌}
 use Rattle.desk_rules.specs.Operator.{company_of, new_limits_of, desk_day_in}
 use Rattle.desk_history.specs.declared.answer.Outcome.{Outcome}
 use Rattle.desk_history.specs.declared.answer.Outcome.TheVariants as done
-use Rattle.desk_history.specs.declared.operations.Settlement.{Settlement}
-use Rattle.desk_history.specs.History.{day}
-use Rattle.desk_history.specs.Postings.{postings, day_sum}
 use Rattle.desk_history.specs.Reply.{answer_of}
-use Rattle.desk_history.specs.Words.{some_or, holds_or}
+use Rattle.desk_history.specs.Words.{holds_or}
 use Rattle.desk_book.specs.OnOperator.{done_as}
 use Rattle.desk_book.specs.OperatorLaws.{TellsOperator}
 
@@ -45,31 +36,6 @@ one_more : {A B : Type 0} (value : A → Outcome) (r : Result A rules.Refusal) (
 one_more value (Ok x) check = checked value x (check x)
 one_more value (Err why) check = refl
 
--- ---- the operator's account
-
--- the lines of an account are all of its lines
-lines_again : (account : Account) (ps : List Posting) → lines_of account (lines_of account ps) ≡ lines_of account ps
-lines_again account [] = refl
-lines_again account (p ∷ ps) = elim (cases_Bool (same_account p.account account)) [
-  | inl own ↦
-      ap (λ (t : Bool). lines_of account (if t then p ∷ lines_of account ps else lines_of account ps)) own
-      ∙ ap (λ (t : Bool). if t then p ∷ lines_of account (lines_of account ps) else lines_of account (lines_of account ps)) own
-      ∙ ap (λ (rest : List Posting). p ∷ rest) (lines_again account ps)
-      ∙ ap (λ (t : Bool). if t then p ∷ lines_of account ps else lines_of account ps) (sym own)
-  | inr other ↦
-      ap (λ (t : Bool). lines_of account (if t then p ∷ lines_of account ps else lines_of account ps)) other
-      ∙ lines_again account ps
-      ∙ ap (λ (t : Bool). if t then p ∷ lines_of account ps else lines_of account ps) (sym other)
-]
-
--- the account on a day, by its lines
-abbrev settlement_by : ℕ → List Posting → Settlement
-settlement_by d own = record {
-  balance = total (lines_until d own);
-  day = d;
-  days = map day_sum (map (λ day. (day, total (lines_on day own))) (value_days own));
-}
-
 pub tells_operator : TellsOperator
 tells_operator = record {
   day = λ identity key H text. day_told (desk_day_in text) _ _;
@@ -77,8 +43,6 @@ tells_operator = record {
   company = λ identity key H d. one_more (λ k. done.Company k.id) (company_of d) _;
   limits = λ identity key H d. one_more (λ x. done.Company x.0) (new_limits_of d) _;
   file_text = λ identity key H d modifier. refl;
-  settlement = λ identity key H.
-      ap (λ (own : List Posting). answer_of (some_or NoDay (day H) >>= (λ d. Ok (done.Settlement (settlement_by d own)))))
-      (sym (lines_again accounts.Operator (postings identity.odfi H)));
+  settlement = λ identity key H. refl;
   suspense = λ identity key H. refl;
 }

@@ -2,12 +2,9 @@
 use Rattle.std.proofs.Common.{◌≡◌, ℕ, ◌+◌, List, [], ◌∷◌, length, map, Bool, true, false, refl, sym, ap, ◌∙◌}
 use Rattle.std.specs.Prelude.{if◌then◌else◌, nat_le, ℤ, ◌+ℤ◌, pos, zip, Option, Some, None, option_map, Result, Ok, Err}
 use Rattle.std.specs.List.{fold, filter, range_with_len, enumerate_from}
-use Rattle.std.proofs.lemmas.Slice.Eq.{bytes_eq-Decides}
 use Rattle.desk_accounts.specs.declared.account.Account.TheVariants as accounts
 use Rattle.desk_accounts.specs.declared.posting.Posting.{Posting}
-use Rattle.desk_accounts.specs.Balance as accounts_balance
-use Rattle.desk_accounts.specs.Balance.{lines_of, lines_until}
-use Rattle.desk_accounts.specs.Posting.{same_account}
+use Rattle.desk_accounts.specs.Balance.{lines_of, lines_until, total}
 use Rattle.desk_rules.specs.declared.refusals.refusal.Refusal as rules
 use Rattle.desk_rules.specs.declared.refusals.refusal.Refusal.TheVariants.{NoCompany, NoDay}
 use Rattle.desk_rules.specs.declared.bodies.submission.Entry.{Entry}
@@ -59,17 +56,15 @@ lines_back : (c : List ℕ) (ls : List StatementLine) → map line_of (map (post
 lines_back c [] = refl
 lines_back c (l ∷ ls) = ap (λ (more : List StatementLine). l ∷ more) (lines_back c ls)
 
--- every posting of a company counts on its account
+-- the lines until a day sum to what their postings do
 sum_back : (c : List ℕ) (day : ℕ) (sum : ℤ) (ls : List StatementLine)
-    → fold (λ s p. s +ℤ p.cents) sum (lines_until day (lines_of (accounts.Company c) (map (posting_of c) ls)))
+    → fold (λ s p. s +ℤ p.cents) sum (lines_until day (map (posting_of c) ls))
     ≡ fold (λ s l. s +ℤ l.cents) sum (filter (λ l. nat_le l.day day) ls)
 sum_back c day sum [] = refl
 sum_back c day sum (l ∷ ls) =
-    let rest = lines_of (accounts.Company c) (map (posting_of c) ls) in
-    let own : same_account (accounts.Company c) (accounts.Company c) ≡ true = (bytes_eq-Decides c c).1 refl in
-    ap (λ (t : Bool). fold (λ s (p : Posting). s +ℤ p.cents) sum (lines_until day (if t then posting_of c l ∷ rest else rest))) own
-    ∙ elim (nat_le l.day day) as (λ (t : Bool).
-    fold (λ s (p : Posting). s +ℤ p.cents) sum (if t then posting_of c l ∷ lines_until day rest else lines_until day rest)
+    let rest = lines_until day (map (posting_of c) ls) in
+    elim (nat_le l.day day) as (λ (t : Bool).
+    fold (λ s (p : Posting). s +ℤ p.cents) sum (if t then posting_of c l ∷ rest else rest)
     ≡ fold (λ s (l : StatementLine). s +ℤ l.cents) sum (if t then l ∷ filter (λ l. nat_le l.day day) ls else filter (λ l. nat_le l.day day) ls)) [
       | true ↦ sum_back c day (sum +ℤ l.cents) ls
       | false ↦ sum_back c day sum ls
@@ -79,12 +74,12 @@ sum_back c day sum (l ∷ ls) =
 abbrev statement_of : List StatementLine → ℕ → Statement
 statement_of ls d = record { balance = reports.balance d ls; day = d; lines = ls }
 
-abbrev posted_statement : List ℕ → List Posting → ℕ → Statement
-posted_statement c ps d = record { balance = accounts_balance.balance (accounts.Company c) d ps; day = d; lines = map line_of ps }
+abbrev posted_statement : List Posting → ℕ → Statement
+posted_statement own d = record { balance = total (lines_until d own); day = d; lines = map line_of own }
 
-stated_on : (c : List ℕ) (ls : List StatementLine) (ps : List Posting) → ps ≡ map (posting_of c) ls → (d : ℕ) → statement_of ls d ≡ posted_statement c ps d
-stated_on c ls ps same d =
-    sym (λ i. record { balance = sum_back c d (pos 0) ls i; day = d; lines = lines_back c ls i }) ∙ ap (λ (ps : List Posting). posted_statement c ps d) (sym same)
+stated_on : (c : List ℕ) (ls : List StatementLine) (own : List Posting) → own ≡ map (posting_of c) ls → (d : ℕ) → statement_of ls d ≡ posted_statement own d
+stated_on c ls own same d =
+    sym (λ i. record { balance = sum_back c d (pos 0) ls i; day = d; lines = lines_back c ls i }) ∙ ap (λ (own : List Posting). posted_statement own d) (sym same)
 
 -- ---- each request
 
@@ -113,7 +108,7 @@ module _ (same_standing : SameStanding) (verdicts : VerdictsOnRows) (company_lin
     by request.Changes = ap (λ (st : Standing). some_or NoCompany st.limits >>= (λ _. Ok (done.Changes (reports.changes P)))) same
     by request.Statement =
         (λ i. some_or NoCompany (same i).limits >>= (λ _. some_or NoDay (same i).day >>= (λ d.
-        Ok (done.Statement (stated_on c (lines P) ((book_of identity key H).lines (accounts.Company c)) (company_lines identity H c is) d i)))))
+        Ok (done.Statement (stated_on c (lines P) (lines_of (accounts.Company c) (book_of identity key H).postings) (company_lines identity H c is) d i)))))
     by request.Rates =
         (λ i. some_or NoCompany (same i).limits >>= (λ _. some_or NoDay (same i).day >>= (λ d.
         Ok (done.Rates (reports.day_rates (verdicts.facts P i) d)))))

@@ -1,9 +1,7 @@
 -- What a desk holds, as look-ups.
 use Rattle.std.specs.Prelude.{ℕ, List, map, find, length, Option, option_map}
 use Rattle.std.specs.List.{range_with_len}
-use Rattle.desk_accounts.specs.declared.account.Account.{Account}
 use Rattle.desk_accounts.specs.declared.posting.Posting.{Posting}
-use Rattle.desk_accounts.specs.Balance.{lines_of}
 use Rattle.desk_rules.specs.declared.bodies.company.Company.{Company}
 use Rattle.desk_history.specs.declared.identity.Identity.{Identity}
 use Rattle.desk_history.specs.declared.operations.SuspenseRow.{SuspenseRow}
@@ -40,7 +38,14 @@ abbrev pub rows : List Event → List Row
 rows P = map (row_of P) (submissions P)
 
 -- What stands of a company is found by its identification. Sequences, files and batches stand apart
--- from a company's rows. The balances of an account are sums of its lines.
+-- from a company's rows.
+--
+-- All postings are one list, in the order in which they came: each line of a company or of suspense has
+-- its opposite on the operator's account next after it. The lines of an account are those of the list
+-- that are its, and its balances are their sums.
+--
+-- Where a file prints a submission, by its day, its modifier and the batch, no answer shows. It is kept
+-- so that the operator's file can be traced to the submissions in it, and a submission to its file.
 pub record Book : Type 0 where
   pub identity : Identity
   pub operator_key : List ℕ
@@ -50,7 +55,7 @@ pub record Book : Type 0 where
   pub rows : List ℕ → List Row
   pub returns : List ℕ → List ReturnRow
   pub changes : List ℕ → List ChangeRow
-  pub lines : Account → List Posting
+  pub postings : List Posting
   pub sent : List SentEntry
   pub suspense : List SuspenseRow
   pub file : ℕ → ℕ → Option (List ℕ)
@@ -69,7 +74,7 @@ book_of identity operator_key H = record {
   rows = λ c. rows (part identity.odfi H c);
   returns = λ c. returns (part identity.odfi H c);
   changes = λ c. changes (part identity.odfi H c);
-  lines = λ account. lines_of account (postings identity.odfi H);
+  postings = postings identity.odfi H;
   sent = sent_entries identity.odfi H;
   suspense = suspense identity.odfi H;
   file = λ d modifier. option_map (text_of identity) (file_at identity.odfi H d modifier);

@@ -3,7 +3,7 @@ use Rattle.std.specs.Prelude.{ℕ, List, [], map, find, zip, option_map, unwrap_
 use Rattle.std.specs.List.{enumerate_from}
 use Rattle.desk_accounts.specs.declared.account.Account.TheVariants as accounts
 use Rattle.desk_accounts.specs.declared.posting.Posting.{Posting}
-use Rattle.desk_accounts.specs.Balance.{balance}
+use Rattle.desk_accounts.specs.Balance.{balance, lines_of}
 use Rattle.desk_rules.specs.declared.refusals.refusal.Refusal as rules
 use Rattle.desk_rules.specs.declared.refusals.refusal.Refusal.TheVariants.{NoCompany, NoDay}
 use Rattle.desk_rules.specs.Chain.{◌>>=◌}
@@ -42,9 +42,9 @@ line_of p = record { cause = p.cause; cents = p.cents; day = p.value_day; index 
 
 abbrev pub statement_on : Book → (company : List ℕ) → (day : ℕ) → Statement
 statement_on b c d = record {
-  balance = balance (accounts.Company c) d (b.lines (accounts.Company c));
+  balance = balance (accounts.Company c) d b.postings;
   day = d;
-  lines = map line_of (b.lines (accounts.Company c));
+  lines = map line_of (lines_of (accounts.Company c) b.postings);
 }
 
 abbrev pub receipt_of : Result Row rules.Refusal → Result Outcome rules.Refusal

@@ -1,9 +1,7 @@
 -- The answers to the operator, from what the book has, and what the commands make of the book.
-use Rattle.std.specs.Prelude.{ℕ, List, map, find, Option, is_none, Result, Ok, Err}
+use Rattle.std.specs.Prelude.{ℕ, List, find, Option, is_none, Result, Ok, Err}
 use Rattle.bank_days.specs.Calendar.{is_banking}
 use Rattle.bank_days.specs.declared.calendar_fault.CalendarFault.{CalendarFault}
-use Rattle.desk_accounts.specs.declared.account.Account.TheVariants as accounts
-use Rattle.desk_accounts.specs.Balance.{balance, day_sums}
 use Rattle.desk_rules.specs.declared.bodies.company.Company.{Company}
 use Rattle.desk_rules.specs.declared.bodies.company.Limits.{Limits}
 use Rattle.desk_rules.specs.declared.bodies.draft.CompanyDraft.{CompanyDraft}
@@ -16,10 +14,9 @@ use Rattle.desk_history.specs.declared.answer.Answer.{Answer}
 use Rattle.desk_history.specs.declared.answer.Answer.TheVariants as answers
 use Rattle.desk_history.specs.declared.answer.Outcome.{Outcome}
 use Rattle.desk_history.specs.declared.answer.Outcome.TheVariants as done
-use Rattle.desk_history.specs.declared.operations.Settlement.{Settlement}
 use Rattle.desk_book.specs.Book.{Book}
 use Rattle.desk_history.specs.Operator.{has_id, is_later, set_holidays}
-use Rattle.desk_history.specs.Postings.{day_sum}
+use Rattle.desk_history.specs.Postings.{settlement}
 use Rattle.desk_history.specs.Reply.{answer_of}
 use Rattle.desk_history.specs.Words.{some_or, holds_or}
 use Rattle.desk_book.specs.Steps as steps
@@ -90,18 +87,10 @@ limits_after d b = with_step (λ x. steps.put_limits x.0 x.1) (new_limits b.comp
 abbrev pub file_answer : (day : ℕ) → (modifier : ℕ) → Book → Answer
 file_answer d modifier b = answers.Done (done.File (b.file d modifier))
 
--- the operator's account on a day
-abbrev pub settlement_on : Book → ℕ → Settlement
-settlement_on b d = record {
-  balance = balance accounts.Operator d (b.lines accounts.Operator);
-  day = d;
-  days = map day_sum (day_sums accounts.Operator (b.lines accounts.Operator));
-}
-
 abbrev pub settlement_answer : Book → Answer
 settlement_answer b = answer_of (do
   d ← some_or NoDay b.day
-  Ok (done.Settlement (settlement_on b d)))
+  Ok (done.Settlement (settlement b.postings d)))
 
 abbrev pub suspense_answer : Book → Answer
 suspense_answer b = answers.Done (done.Suspense b.suspense)

@@ -2,6 +2,7 @@
 -- those of the definitions over events.
 use Rattle.std.specs.Prelude.{◌≡◌, ℕ, List, ◌∷◌, option_map, option_and_then, Result, Ok, Err}
 use Rattle.desk_accounts.specs.declared.account.Account.TheVariants as accounts
+use Rattle.desk_accounts.specs.Balance.{lines_of}
 use Rattle.desk_rules.specs.declared.bodies.company.Limits.{Limits}
 use Rattle.desk_rules.specs.declared.bodies.draft.Draft.{Draft}
 use Rattle.desk_rules.specs.declared.bodies.draft.RetryDraft.{RetryDraft}
@@ -58,7 +59,7 @@ pub record SameRows (here there : Identity) (key other_key : List ℕ) (H G : Li
 -- its own row, which has its name, its digest and its limits, and the lines of its account
 pub record SameAccount (here there : Identity) (key other_key : List ℕ) (H G : List Pair) (c : List ℕ) : Type 0 where
   pub company : company c (book_of here key H) ≡ company c (book_of there other_key G)
-  pub lines : (book_of here key H).lines (accounts.Company c) ≡ (book_of there other_key G).lines (accounts.Company c)
+  pub lines : lines_of (accounts.Company c) (book_of here key H).postings ≡ lines_of (accounts.Company c) (book_of there other_key G).postings
 
 -- All that a desk holds of a company is a function of its part.
 pub record RowsOfPart : Type 0 where

@@ -2,7 +2,6 @@
 use Rattle.std.specs.Prelude.{◌≡◌, ⊤, ℕ, Bool, ◌+◌, ◌&&◌, ◌==◌, if◌then◌else◌, List, [], ◌∷◌, ◌++◌, map, find, fold, length, reverse, All, Contains, Option, Some, None, is_none, bytes_eq}
 use Rattle.std.specs.List.{enumerate_from}
 use Rattle.desk_accounts.specs.declared.posting.Posting.{Posting}
-use Rattle.desk_accounts.specs.Balance.{lines_of}
 use Rattle.desk_rules.specs.declared.bodies.company.Company.{Company}
 use Rattle.desk_rules.specs.declared.bodies.company.Limits.{Limits}
 use Rattle.desk_rules.specs.declared.rules.entry_fact.EntryState.{EntryState}
@@ -81,7 +80,7 @@ abbrev pub put_lapsed_row : Book → LapsedRow → Book
 put_lapsed_row b l = record b { rows = change_at l.company (map (if_order l.order lapsed_row)) b.rows }
 
 abbrev pub put_postings : List Posting → Book → Book
-put_postings ps b = record b { lines = λ account. b.lines account ++ lines_of account ps }
+put_postings ps b = record b { postings = b.postings ++ ps }
 
 -- the file of a day that has this modifier
 abbrev pub is_file : (day : ℕ) → (modifier : ℕ) → FileRow → Bool

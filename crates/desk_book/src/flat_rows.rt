@@ -2,6 +2,7 @@
 use ach_fields::Id;
 use bank_days::Day;
 use desk_history::{ChangeRow, FilePlace, ListOf, ReturnRow};
+use desk_rules::RuleDay;
 
 /// A `ReturnedRow` is a return of a company's entry.
 #[derive(Clone, Copy, Debug, PartialEq, Eq, Drop)]
@@ -24,7 +25,7 @@ pub struct SentRow {
     /// Its order number in the company.
     pub order: u64,
     /// The day on which it settles.
-    pub settled: Day,
+    pub settled: RuleDay,
     pub printed: FilePlace,
 }
 

@@ -1,7 +1,6 @@
 //! A submission is held until a cut decides it.
 use crate::Row;
-use bank_days::Day;
-use desk_rules::Company;
+use desk_rules::{Company, RuleDay};
 
 /// A `HeldSubmission` is a submission that no cut has decided.
 #[derive(Drop)]
@@ -9,5 +8,5 @@ pub struct HeldSubmission {
     pub company: Company,
     pub row: Row,
     /// The day on which its original settled, for a retry.
-    pub original_settled: Option<Day>,
+    pub original_settled: Option<RuleDay>,
 }

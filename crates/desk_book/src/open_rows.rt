@@ -5,7 +5,7 @@ ghost use Rattle.desk_rules.specs.Deadlines.{last_rule_day};
 ghost use Rattle.desk_book.specs.OpenRows.{IsPast, OpenRowsSuffice};
 
 use bank_days::{Calendar, Day};
-use desk_rules::LAST_RULE_DAY;
+use desk_rules::RuleDay;
 
 /// The exposures of a company's open rows are those of all its rows, and so is the verdict of its
 /// limits, where what settled before the first day that counts has its second banking day before the
@@ -19,10 +19,10 @@ fn is_past(calendar: &Calendar, day: Day, today: Day) -> bool
     ensures early { IsTrue result → day ≤ last_rule_day }
     ensures past { IsTrue result → nth_after calendar.now day 2 < today }
 {
-    if day.number() > LAST_RULE_DAY {
-        return false;
+    match RuleDay::new(day) {
+        Some(day) => calendar.nth_after(day.day(), 2) < today,
+        None => false,
     }
-    calendar.nth_after(day, 2) < today
 }
 
 /// Gives the first day whose settlements still count for an exposure on a desk day: what settled

@@ -2,9 +2,8 @@
 ghost use Rattle.std.specs.Prelude.{◌≡◌, ◌-◌, slice_get, unwrap_or};
 ghost use Rattle.desk_rules.specs.declared.rules.entry_fact.EntryState.TheVariants.{Held};
 
-use bank_days::Day;
 use desk_history::ListOf;
-use desk_rules::{EntryState, Retry, Submission};
+use desk_rules::{EntryState, Retry, RuleDay, Submission};
 
 /// A `Row` is an accepted submission or retry, with what cuts and returns made of it.
 #[derive(Drop)]
@@ -16,7 +15,7 @@ pub struct Row {
     /// The content of the retry's own request.
     pub retry: Option<Retry>,
     /// The day on which it settles, once a cut has sent it.
-    pub settled: Option<Day>,
+    pub settled: Option<RuleDay>,
     /// Is it a retry that would have settled too late?
     pub lapsed: bool,
     /// The state of each entry.

@@ -4,6 +4,7 @@ pub mod Alike
 pub mod Asked
 pub mod Exposed
 pub mod FileReading
+pub mod OwnLines
 pub mod Planned
 pub mod Running
 pub mod Traceless

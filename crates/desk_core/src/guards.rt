@@ -6,7 +6,7 @@ ghost use Rattle.desk_store.specs.Words.{Reads, LeavesRead};
 
 use ach_fields::Id;
 use bank_days::Day;
-use desk_rules::{Limits, Refusal};
+use desk_rules::{Limits, Refusal, RuleDay};
 use desk_store::{Store, StoreFault};
 use std::alloc::Global;
 
@@ -26,6 +26,21 @@ pub(crate) fn company_limits<S: Store>(
     }
 }
 
+/// Gives the desk day as one from which rules count, or `NoDay` where none was set.
+pub(crate) fn rule_day<S: Store>(
+    store: &mut S,
+    alloc: Global,
+) -> Result<Result<RuleDay, Refusal>, StoreFault>
+    ensures before { S.is_clean store.new → S.is_clean store.old }
+    ensures read { S.is_clean store.new → Reads (S.holds store.old) result (λ b. some_or NoDay b.day) (S.holds store.new) }
+    ensures left { S.is_clean store.new → LeavesRead (S.may_leave store.old) (S.may_leave store.new) }
+{
+    match store.day(alloc)? {
+        Some(day) => Ok(Ok(day)),
+        None => Ok(Err(Refusal::NoDay)),
+    }
+}
+
 /// Gives the desk day, or `NoDay` where none was set.
 pub(crate) fn desk_day<S: Store>(
     store: &mut S,
@@ -35,8 +50,8 @@ pub(crate) fn desk_day<S: Store>(
     ensures read { S.is_clean store.new → Reads (S.holds store.old) result (λ b. some_or NoDay b.day) (S.holds store.new) }
     ensures left { S.is_clean store.new → LeavesRead (S.may_leave store.old) (S.may_leave store.new) }
 {
-    match store.day(alloc)? {
-        Some(day) => Ok(Ok(day)),
-        None => Ok(Err(Refusal::NoDay)),
+    match rule_day(store, alloc)? {
+        Ok(day) => Ok(Ok(day.day())),
+        Err(why) => Ok(Err(why)),
     }
 }

@@ -30,6 +30,6 @@ pub use desk_history::{
     digest_of_part, first_answer_stands, one_message, possible_parts, sent_are_accepted,
     served_alone, traces_name, traces_of_cuts, two_worlds,
 };
-pub use desk_intake::{FoundItem, IntakeFault, IntakePlan, NamedEntry, plan_intake};
+pub use desk_intake::{FoundItem, IntakePlan, NamedEntry, plan_intake};
 pub use desk_store::{CutRows, FaultyStore, IntakeRows, ListStore, Store, StoreFault};
 pub use laws::{crashes_leave, desk_alone, two_desks};

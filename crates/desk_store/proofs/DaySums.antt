@@ -2,7 +2,7 @@
 use Rattle.std.proofs.Common.{◌≡◌, ℕ, suc, ◌+◌, ◌<◌, ◌≤◌, inl, inr, Bool, true, false, List, [], ◌∷◌, ◌++◌, map, length, take, drop, set, get_or, ℤ, pos, ◌+ℤ◌, slice_index, refl, ap, ◌∙◌, arith, sym, subst}
 use Rattle.std.specs.Prelude.{if◌then◌else◌}
 use Rattle.std.specs.List.Sorted.{IsStrictlyIncreasing}
-use Rattle.std.proofs.lemmas.Bool.{cases_order, cases_Bool, eq-eqb, ne_eqb}
+use Rattle.std.proofs.lemmas.Bool.{cases_order, eq-eqb, ne_eqb}
 use Rattle.std.proofs.lemmas.Bool.Decides.{nat_tests}
 use Rattle.std.proofs.Math.Seq.{drop-cons}
 use Rattle.std.proofs.lemmas.Int.{ints}
@@ -150,21 +150,3 @@ own_line law account line lines own =
 pub other_line : (account : Account) (line : Posting) (lines : List Posting) → same_account line.account account ≡ false → day_sums account lines ≡ day_sums account (line ∷ lines)
 other_line account line lines other =
     ap (λ (b : Bool). let ls : List Posting = if b then line ∷ lines_of account lines else lines_of account lines in by_day (sum_on ls) (value_days ls)) (sym other)
-
--- the lines of an account among its lines are all of them
-lines_again : (account : Account) (lines : List Posting) → lines_of account (lines_of account lines) ≡ lines_of account lines
-lines_again account [] = refl
-lines_again account (line ∷ lines) = elim (cases_Bool (same_account line.account account)) [
-  | inl own ↦
-      ap (λ (b : Bool). lines_of account (if b then line ∷ lines_of account lines else lines_of account lines)) own
-      ∙ ap (λ (b : Bool). if b then line ∷ lines_of account (lines_of account lines) else lines_of account (lines_of account lines)) own
-      ∙ ap (λ (ls : List Posting). line ∷ ls) (lines_again account lines)
-      ∙ ap (λ (b : Bool). if b then line ∷ lines_of account lines else lines_of account lines) (sym own)
-  | inr other ↦
-      ap (λ (b : Bool). lines_of account (if b then line ∷ lines_of account lines else lines_of account lines)) other
-      ∙ lines_again account lines
-      ∙ ap (λ (b : Bool). if b then line ∷ lines_of account lines else lines_of account lines) (sym other)
-]
-
-pub sums_again : (account : Account) (lines : List Posting) → day_sums account lines ≡ day_sums account (lines_of account lines)
-sums_again account lines = ap (λ (ls : List Posting). by_day (sum_on ls) (value_days ls)) (sym (lines_again account lines))

@@ -2,10 +2,6 @@
 use Rattle.std.proofs.Common.{◌≡◌, ℕ, List, [], ◌∷◌, ◌++◌, map, refl, sym, ap, ◌∙◌, append_assoc}
 use Rattle.std.specs.Prelude.{◌&&◌, ◌==◌, if◌then◌else◌, fold, is_none, option_map, find, Some}
 use Rattle.std.proofs.lemmas.List.{append-nil, reverse-append}
-use Rattle.std.proofs.lemmas.List.Elements.{filter-append}
-use Rattle.desk_accounts.specs.declared.account.Account.{Account}
-use Rattle.desk_accounts.specs.declared.posting.Posting.{Posting}
-use Rattle.desk_accounts.specs.Balance.{lines_of}
 use Rattle.desk_history.specs.declared.sent_entry.SentEntry.{SentEntry}
 use Rattle.desk_book.specs.Standing.{sent_row, lapsed_row}
 use Rattle.desk_book.specs.declared.flat_rows.FileRow.{FileRow}
@@ -61,11 +57,6 @@ flat_all_files r (f ∷ fs) =
 flat_entries : (r : Rows) (es : List SentEntry) → flat_book (record r { sent = r.sent ++ es }) ≡ put_entries es (flat_book r)
 flat_entries r es = λ i. record (flat_book r) { sent = reverse-append r.sent es i }
 
-pub flat_postings : (r : Rows) (ps : List Posting) → flat_book (record r { postings = r.postings ++ ps }) ≡ put_postings ps (flat_book r)
-flat_postings r ps = λ i. record (flat_book r) { lines = λ account. posted account i } where
-  posted : (account : Account) → lines_of account (r.postings ++ ps) ≡ lines_of account r.postings ++ lines_of account ps
-  posted account = filter-append _ r.postings ps
-
 pub flat_cut : (r : Rows) (x : CutWrite) → flat_book (cut_in x r) ≡ (commit_cut x).after (flat_book r)
 flat_cut r x =
     let sent : Rows = record r { submissions = in_turn send_in x.sent r.submissions; printed = r.printed ++ x.sent } in
@@ -73,7 +64,6 @@ flat_cut r x =
     let listed : Rows = record lapsed { sent = r.sent ++ x.entries } in
     let posted : Rows = record listed { postings = r.postings ++ x.postings } in
     flat_all_files posted x.files
-    ∙ ap (λ b. fold put_file b x.files) (flat_postings listed x.postings
-    ∙ ap (put_postings x.postings) (flat_entries lapsed x.entries
+    ∙ ap (λ b. fold put_file (put_postings x.postings b) x.files) (flat_entries lapsed x.entries
     ∙ ap (put_entries x.entries) (flat_all_lapsed sent x.lapsed
-    ∙ ap (λ b. fold put_lapsed_row b x.lapsed) (flat_all_sent r x.sent))))
+    ∙ ap (λ b. fold put_lapsed_row b x.lapsed) (flat_all_sent r x.sent)))

@@ -12,7 +12,6 @@ use Rattle.desk_book.specs.Steps.{IntakeWrite, commit_intake, returned_row_by, p
 use Rattle.desk_store.specs.Changes.{return_in, in_turn, intake_in}
 use Rattle.desk_store.proofs.FlatRows.{rows_changed, own_more}
 use Rattle.desk_book.proofs.Finds.{first_more}
-use Rattle.desk_store.proofs.FlatCuts.{flat_postings}
 
 -- ---- one row
 
@@ -57,6 +56,5 @@ flat_intake r x =
     let held : Rows = record changed { suspense = r.suspense ++ x.suspense } in
     let posted : Rows = record held { postings = r.postings ++ x.postings } in
     flat_taken posted x.file
-    ∙ ap (put_taken_file x.file) (flat_postings held x.postings
-    ∙ ap (put_postings x.postings) (ap (put_suspense x.suspense) (flat_all_changed returned x.changed
-    ∙ ap (λ b. fold put_change b x.changed) (flat_all_returned r x.returned))))
+    ∙ ap (λ b. put_taken_file x.file (put_postings x.postings (put_suspense x.suspense b))) (flat_all_changed returned x.changed
+    ∙ ap (λ b. fold put_change b x.changed) (flat_all_returned r x.returned))

@@ -1,10 +1,10 @@
 -- The latest of the settlements of a range of sequences.
-use Rattle.std.proofs.Common.{◌≡◌, ℕ, zero, suc, ◌+◌, ◌<◌, ◌≤◌, ◌==◌, List, [], ◌∷◌, ◌++◌, map, reverse, set, sym, Bool, true, false, Option, Some, None, refl, ap, ◌∙◌, arith}
+use Rattle.std.proofs.Common.{◌≡◌, ℕ, ◌+◌, ◌==◌, List, [], ◌∷◌, ◌++◌, map, reverse, sym, Bool, true, false, Option, Some, None, refl, ap, ◌∙◌}
 use Rattle.std.specs.Prelude.{filter_map, find, max, if◌then◌else◌, option_map}
 use Rattle.std.specs.List.{range_with_len, reduce, cons_option}
-use Rattle.std.proofs.lemmas.Bool.{eq-eqb, ne_eqb}
 use Rattle.std.proofs.lemmas.List.{append-nil, reverse-append}
 use Rattle.std.proofs.lemmas.List.Elements.{filter_map-append}
+use Rattle.std.proofs.lemmas.List.FromFn.{map-range_with_len_more}
 use Rattle.std.proofs.lemmas.List.Sums.{fold_push}
 use Rattle.desk_store.specs.Finds.{later_of, with_settlement}
 use Rattle.desk_history.specs.declared.sent_entry.SentEntry.{SentEntry}
@@ -25,33 +25,23 @@ reduce_more days None = ap (reduce max) (append-nil days) ∙ same (reduce max d
 reduce_more days (Some d) = reduce_push days d
 
 -- one more day
-pub latest_more : (days : List (Option ℕ)) (o : Option ℕ) → reduce max (filter_map (λ d. d) (days ++ o ∷ [])) ≡ later_of (reduce max (filter_map (λ d. d) days)) o
+latest_more : (days : List (Option ℕ)) (o : Option ℕ) → reduce max (filter_map (λ d. d) (days ++ o ∷ [])) ≡ later_of (reduce max (filter_map (λ d. d) days)) o
 latest_more days o = ap (reduce max) (filter_map-append (λ d. d) days (o ∷ [])) ∙ reduce_more (filter_map (λ d. d) days) o
 
 -- those that there are of a list's elements
-pub kept_of_all : (f : ℕ → Option ℕ) (xs : List ℕ) → filter_map (λ d. d) (map f xs) ≡ filter_map f xs
+kept_of_all : (f : ℕ → Option ℕ) (xs : List ℕ) → filter_map (λ d. d) (map f xs) ≡ filter_map f xs
 kept_of_all f [] = refl
 kept_of_all f (x ∷ xs) = ap (cons_option (f x)) (kept_of_all f xs)
 
--- ---- the settlements of a range with that of one more entry
+-- one more sequence of a range
+pub latest_next : (f : ℕ → Option ℕ) (a n j : ℕ) → a + n ≡ j → reduce max (filter_map f (range_with_len a (n + 1))) ≡ later_of (reduce max (filter_map f (range_with_len a n))) (f j)
+latest_next f a n j is =
+    ap (reduce max) (sym (kept_of_all f (range_with_len a (n + 1))))
+    ∙ ap (λ (days : List (Option ℕ)). reduce max (filter_map (λ d. d) days)) (map-range_with_len_more f a n j is)
+    ∙ latest_more (map f (range_with_len a n)) (f j)
+    ∙ ap (λ (days : List ℕ). later_of (reduce max days) (f j)) (kept_of_all f (range_with_len a n))
 
-module _ (e : SentEntry) (f : ℕ → Option ℕ) where
-  -- its sequence is outside of the range
-  pub settled_outside : (a n : ℕ) → ((t : ℕ) → a ≤ t → t < a + n → e.sequence ≡ t → ⊥) → map (with_settlement e f) (range_with_len a n) ≡ map f (range_with_len a n)
-  settled_outside a zero apart = refl
-  settled_outside a (suc n) apart =
-      let differ : (e.sequence == a) ≡ false = ne_eqb e.sequence a (apart a (omega arith) (omega arith)) in
-      (λ i. (if differ i then Some e.settled else f a) ∷ settled_outside (a + 1) n (λ t low high. apart t (omega arith) (omega arith)) i)
-
-  -- or within it
-  pub settled_within : (a n k : ℕ) → e.sequence ≡ a + k → k < n → map (with_settlement e f) (range_with_len a n) ≡ set (map f (range_with_len a n)) k (Some e.settled)
-  settled_within a zero k is within = absurd (omega arith)
-  settled_within a (suc n) zero is within =
-      let same : (e.sequence == a) ≡ true = eq-eqb e.sequence a (omega arith) in
-      (λ i. (if same i then Some e.settled else f a) ∷ settled_outside (a + 1) n (λ t low high e. omega arith) i)
-  settled_within a (suc n) (suc k) is within =
-      let differ : (e.sequence == a) ≡ false = ne_eqb e.sequence a (λ e. omega (arith, e)) in
-      (λ i. (if differ i then Some e.settled else f a) ∷ settled_within (a + 1) n k (omega arith) (omega arith) i)
+-- ---- one more entry
 
 -- the settlement of a sequence with one more entry
 pub settled_more : (sent : List SentEntry) (e : SentEntry) (s : ℕ) → with_settlement e (youngest_settlement (map sent_sequence (reverse sent))) s ≡ youngest_settlement (map sent_sequence (reverse (sent ++ e ∷ []))) s

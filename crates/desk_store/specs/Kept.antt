@@ -3,7 +3,7 @@ use Rattle.std.specs.Prelude.{◌≡◌, map}
 use Rattle.desk_book.specs.Book.{Book}
 use Rattle.desk_store.specs.declared.lists.store.KeptSubmission.{KeptSubmission}
 use Rattle.desk_store.specs.declared.lists.store.ListStore.{ListStore}
-use Rattle.desk_store.specs.Indexed.{IsIndexed}
+use Rattle.desk_store.specs.Indexed.{IsIndexed, AreSettled}
 use Rattle.desk_store.specs.Rows.{Rows, CompanyRow, flat_book}
 
 abbrev pub row_in : KeptSubmission → CompanyRow
@@ -34,7 +34,8 @@ rows_in s = record {
 abbrev pub IsBookOf : ListStore → Book → Type 0
 IsBookOf s b = b ≡ flat_book (rows_in s)
 
--- it holds that book, and finds by its index what the book has
+-- it holds that book, and finds by its indexes what the book has
 pub record IsHeld (s : ListStore) (b : Book) : Type 0 where
   pub book : IsBookOf s b
   pub indexed : IsIndexed s.sent.items s.traces
+  pub settled : AreSettled s.sent.items s.settlements

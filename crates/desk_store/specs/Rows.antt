@@ -1,7 +1,6 @@
 -- The flat lists of a store, each in the order of its key, and the book that they are.
 use Rattle.std.specs.Prelude.{ℕ, Bool, ◌&&◌, ◌==◌, List, map, filter, find, count_by, reverse, Option, option_map, bytes_eq}
 use Rattle.desk_accounts.specs.declared.posting.Posting.{Posting}
-use Rattle.desk_accounts.specs.Balance.{lines_of}
 use Rattle.desk_rules.specs.declared.bodies.company.Company.{Company}
 use Rattle.desk_history.specs.declared.identity.Identity.{Identity}
 use Rattle.desk_history.specs.declared.operations.SuspenseRow.{SuspenseRow}
@@ -54,7 +53,7 @@ flat_book r = record {
   rows = λ c. map (λ x. x.row) (filter (λ x. bytes_eq x.company c) r.submissions);
   returns = λ c. map (λ x. x.row) (filter (λ x. bytes_eq x.company c) r.returned);
   changes = λ c. map (λ x. x.row) (filter (λ x. bytes_eq x.company c) r.changed);
-  lines = λ account. lines_of account r.postings;
+  postings = r.postings;
   sent = reverse r.sent;
   suspense = r.suspense;
   file = λ d modifier. option_map (λ f. f.text) (find (is_file d modifier) r.files);

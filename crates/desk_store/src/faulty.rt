@@ -8,7 +8,7 @@ use bank_days::{Calendar, Day};
 use desk_accounts::{Account, Posting};
 use desk_book::{Caller, HeldSubmission, ReturnsAndChanges, Row};
 use desk_history::{Identity, ListOf, SentEntry, SuspenseRow, TakenFile};
-use desk_rules::{Company, EntryState, Limits, Retry, Submission};
+use desk_rules::{Company, EntryState, Limits, Retry, RuleDay, Submission};
 use std::alloc::Global;
 
 /// A `FaultyStore` is a store of lists that refuses one call: it answers `Unavailable` to the call
@@ -77,7 +77,7 @@ impl Store for FaultyStore {
         self.store.key_of(alloc, caller)
     }
 
-    fn day(&mut self, alloc: Global) -> Result<Option<Day>, StoreFault> {
+    fn day(&mut self, alloc: Global) -> Result<Option<RuleDay>, StoreFault> {
         if self.is_refused() {
             return Err(StoreFault::Unavailable);
         }
@@ -260,7 +260,7 @@ impl Store for FaultyStore {
         self.store.taken(alloc, key)
     }
 
-    fn set_day(&mut self, alloc: Global, day: Day) -> Result<(), StoreFault> {
+    fn set_day(&mut self, alloc: Global, day: RuleDay) -> Result<(), StoreFault> {
         if self.is_refused() {
             return Err(StoreFault::Unavailable);
         }

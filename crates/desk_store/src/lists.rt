@@ -9,6 +9,7 @@ pub(crate) mod intake;
 pub(crate) mod items;
 pub(crate) mod reads;
 pub(crate) mod sent;
+pub(crate) mod settlement_index;
 pub(crate) mod store;
 pub(crate) mod trace_index;
 pub(crate) mod writes;

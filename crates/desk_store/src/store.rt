@@ -1,6 +1,6 @@
 //! A desk keeps its book in a store, in whatever way.
 ghost use Rattle.std.specs.Prelude.{◌≡◌, Option};
-ghost use Rattle.desk_accounts.specs.Balance.{day_sums};
+ghost use Rattle.desk_accounts.specs.Balance.{lines_of, day_sums};
 ghost use Rattle.desk_book.specs.Book.{Book};
 ghost use Rattle.desk_book.specs.Reads.{key_of, company, submission, submission_count, open_rows_of, retries_of, state_of, waiting, last_sequence, sent_count, latest_settled, sent_as, items_of};
 ghost use Rattle.desk_book.specs.Steps.{set_day, set_holidays, put_company, put_limits, add_submission, commit_cut, commit_intake};
@@ -16,7 +16,7 @@ use desk_book::{
     SentRow,
 };
 use desk_history::{ChangeRow, Identity, ListOf, ReturnRow, SentEntry, SuspenseRow, TakenFile};
-use desk_rules::{Company, EntryState, Limits, Retry, Submission};
+use desk_rules::{Company, EntryState, Limits, Retry, RuleDay, Submission};
 use std::alloc::{AllocError, AllocFailed, Global};
 
 /// A `StoreFault` says why a store does not answer.
@@ -103,7 +103,7 @@ pub trait Store {
         ensures left { is_clean self.new → LeavesRead (may_leave self.old) (may_leave self.new) };
 
     /// Reads the desk day, once one was set.
-    fn day(&mut self, alloc: Global) -> Result<Option<Day>, StoreFault>
+    fn day(&mut self, alloc: Global) -> Result<Option<RuleDay>, StoreFault>
         ensures before { is_clean self.new → is_clean self.old }
         ensures read { is_clean self.new → Reads (holds self.old) result (λ b. b.day) (holds self.new) }
         ensures left { is_clean self.new → LeavesRead (may_leave self.old) (may_leave self.new) };
@@ -227,7 +227,7 @@ pub trait Store {
     /// Reads the lines of an account, in the order in which they came.
     fn postings_of(&mut self, alloc: Global, account: Account) -> Result<Vec<Posting>, StoreFault>
         ensures before { is_clean self.new → is_clean self.old }
-        ensures read { is_clean self.new → ReadsList (holds self.old) result (λ b. b.lines account) (holds self.new) }
+        ensures read { is_clean self.new → ReadsList (holds self.old) result (λ b. lines_of account b.postings) (holds self.new) }
         ensures left { is_clean self.new → LeavesRead (may_leave self.old) (may_leave self.new) };
 
     /// Reads the sums of an account's lines by value day, ascending, in cents.
@@ -237,7 +237,7 @@ pub trait Store {
         account: Account,
     ) -> Result<Vec<(Day, i128)>, StoreFault>
         ensures before { is_clean self.new → is_clean self.old }
-        ensures read { is_clean self.new → ReadsList (holds self.old) result (λ b. day_sums account (b.lines account)) (holds self.new) }
+        ensures read { is_clean self.new → ReadsList (holds self.old) result (λ b. day_sums account b.postings) (holds self.new) }
         ensures left { is_clean self.new → LeavesRead (may_leave self.old) (may_leave self.new) };
 
     /// Reads what stands in suspense, in the order in which it came.
@@ -264,7 +264,7 @@ pub trait Store {
         ensures left { is_clean self.new → LeavesRead (may_leave self.old) (may_leave self.new) };
 
     /// Sets the desk day.
-    fn set_day(&mut self, alloc: Global, day: Day) -> Result<(), StoreFault>
+    fn set_day(&mut self, alloc: Global, day: RuleDay) -> Result<(), StoreFault>
         ensures before { is_clean self.new → is_clean self.old }
         ensures write { is_clean self.new → Writes (holds self.old) result (set_day day) (holds self.new) }
         ensures left { is_clean self.new → LeavesWrite keeps (holds self.old) (may_leave self.old) result (set_day day) (may_leave self.new) };

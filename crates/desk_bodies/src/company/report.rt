@@ -8,7 +8,7 @@ use crate::list::{ROW_ROOM, Row, add_list};
 use bank_days::Day;
 use desk_history::{ReportedEntry, RetriedEntry, SubmissionReport};
 use desk_members::{put, put_flag, put_number, put_text};
-use desk_rules::{Direction, EntryState, ReturnCode};
+use desk_rules::{Direction, EntryState, ReturnCode, RuleDay};
 use std::alloc::AllocError;
 
 /// Appends the body of a submission or retry that was looked up.
@@ -92,7 +92,7 @@ fn put_unsent(text: &mut Vec<u8>, entry: &ReportedEntry, state: &str)
     put(text, b"}");
 }
 
-fn put_sent(text: &mut Vec<u8>, entry: &ReportedEntry, settled: Day)
+fn put_sent(text: &mut Vec<u8>, entry: &ReportedEntry, settled: RuleDay)
     requires { vec_len text.old + 1_024 ≤ vec_capacity text.old }
     ensures { text.new.items ≡ text.old.items
         ++ compact_text (object_of (sent_members entry.now.cents entry.now.index settled)) }
@@ -100,7 +100,7 @@ fn put_sent(text: &mut Vec<u8>, entry: &ReportedEntry, settled: Day)
     put(text, b"{");
     put_number(text, false, b"cents", entry.cents.get());
     put_number(text, true, b"index", entry.index);
-    put_text(text, true, b"settled", &settled.text());
+    put_text(text, true, b"settled", &settled.day().text());
     put_text(text, true, b"state", b"sent");
     put(text, b"}");
 }
@@ -108,7 +108,7 @@ fn put_sent(text: &mut Vec<u8>, entry: &ReportedEntry, settled: Day)
 fn put_returned(
     text: &mut Vec<u8>,
     entry: &ReportedEntry,
-    settled: Day,
+    settled: RuleDay,
     code: ReturnCode,
     returned: Day,
     late: bool,
@@ -123,7 +123,7 @@ fn put_returned(
     put_number(text, true, b"index", entry.index);
     put_flag(text, true, b"late", late);
     put_text(text, true, b"returned", &returned.text());
-    put_text(text, true, b"settled", &settled.text());
+    put_text(text, true, b"settled", &settled.day().text());
     put_text(text, true, b"state", b"returned");
     put(text, b"}");
 }

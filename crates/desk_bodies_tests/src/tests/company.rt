@@ -5,7 +5,7 @@ use desk_history::{
     ChangeRow, DayRates, Exposure, ListOf, Outcome, ReportedEntry, RetriedEntry, ReturnRow,
     Statement, StatementLine, SubmissionReport,
 };
-use desk_rules::{Direction, EntryState, Limits, Rate, Rates, ReturnCode, SecCode};
+use desk_rules::{Direction, EntryState, Limits, Rate, Rates, ReturnCode, RuleDay, SecCode};
 use std::alloc::Global;
 use std::test::Fail;
 
@@ -41,7 +41,7 @@ fn a_submission_that_waits(rt: HostRuntime) -> Result<(), Fail> {
 
 // A debit of 25.00 in each of its states.
 fn entries(alloc: Global) -> Result<Vec<ReportedEntry>, Fail> {
-    let settled = day(b"2025-01-10")?;
+    let settled = RuleDay::read(b"2025-01-10").ok_or("a day")?;
     let code = ReturnCode::parse(b"R01").ok_or("R01")?;
     let returned = EntryState::Returned {
         settled,

@@ -6,7 +6,7 @@ ghost use Rattle.desk_book.specs.Standing.{facts_in};
 ghost use Rattle.desk_store.specs.Words.{Reads, LeavesRead};
 ghost use Rattle.desk_core.specs.Taking.{ReadsSuch};
 
-use crate::company::facts::ruled_facts;
+use crate::company::facts::facts_of;
 use ach_fields::Id;
 use bank_days::{Calendar, Day};
 use desk_book::{Row, first_open_day};
@@ -47,7 +47,7 @@ pub(crate) fn exposures<S: Store>(
     ensures left { S.is_clean store.new → LeavesRead (S.may_leave store.old) (S.may_leave store.new) }
 {
     let rows = exposed_rows(store, alloc, company, calendar, today)?;
-    let facts = ruled_facts(alloc, &rows)?;
+    let facts = facts_of(alloc, &rows)?;
     let credit = credit_exposure(&facts, today, calendar);
     Ok((credit, debit_exposure(&facts, today, calendar)))
 }
@@ -67,7 +67,7 @@ pub(crate) fn within_limits<S: Store>(
     ensures left { S.is_clean store.new → LeavesRead (S.may_leave store.old) (S.may_leave store.new) }
 {
     let rows = exposed_rows(store, alloc, company, calendar, today)?;
-    let facts = ruled_facts(alloc, &rows)?;
+    let facts = facts_of(alloc, &rows)?;
     match check_submission(&content, today, limits, &facts, calendar) {
         Ok(()) => Ok(Ok(content)),
         Err(why) => Ok(Err(why)),

@@ -70,6 +70,7 @@ pub(crate) fn look_up<S: Store>(
 }
 
 /// Answers with a company's statement on the desk day.
+#[tactic(auto, using(crate::proofs::OwnLines::own_balance))]
 pub(crate) fn statement_of<S: Store>(
     store: &mut S,
     alloc: Global,

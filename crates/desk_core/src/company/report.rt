@@ -51,7 +51,7 @@ pub(crate) fn submission_report(alloc: Global, row: &Row) -> Result<SubmissionRe
     let entries = row.content.entries.as_slice();
     Ok(SubmissionReport {
         cents: sum(entries)?,
-        day: row.content.day,
+        day: row.content.day.day(),
         direction: row.content.direction,
         entries: ListOf::new(reported_entries(alloc, entries, row.states.as_slice())?),
         retried: retried_entry(&row.retry),

@@ -12,13 +12,13 @@ ghost use Rattle.desk_core.specs.Answering.{Answers, LeavesCall};
 ghost use Rattle.desk_core.specs.Cutting.{HoldsFor, Plans, facts_in, latest_of, refusal_of};
 ghost use Rattle.desk_core.specs.Taking.{ReadsAs};
 
-use crate::guards::desk_day;
+use crate::guards::rule_day;
 use crate::refuse::refuse;
 use bank_days::{Calendar, Day};
 use desk_book::HeldSubmission;
 use desk_cut::{CutFault, CutPlan, plan_cut, ranges_of_cut};
 use desk_history::{Answer, Identity, Outcome};
-use desk_rules::Refusal;
+use desk_rules::{Refusal, RuleDay};
 use desk_store::{CutRows, Store, StoreFault};
 use std::alloc::Global;
 
@@ -26,7 +26,7 @@ use std::alloc::Global;
 #[derive(Drop)]
 pub(crate) struct CutReads {
     pub identity: Identity,
-    pub day: Day,
+    pub day: RuleDay,
     pub holidays: Calendar,
     /// The sequence of the last sent entry.
     pub last: u32,
@@ -35,7 +35,7 @@ pub(crate) struct CutReads {
     pub waiting: Vec<HeldSubmission>,
 }
 
-fn reads_of<S: Store>(store: &mut S, alloc: Global, day: Day) -> Result<CutReads, StoreFault>
+fn reads_of<S: Store>(store: &mut S, alloc: Global, day: RuleDay) -> Result<CutReads, StoreFault>
     ensures before { S.is_clean store.new → S.is_clean store.old }
     ensures read { S.is_clean store.new → ReadsAs facts_in (S.holds store.old) result (λ b. cut_facts b day) (S.holds store.new) }
     ensures left { S.is_clean store.new → LeavesRead (S.may_leave store.old) (S.may_leave store.new) }
@@ -45,7 +45,7 @@ fn reads_of<S: Store>(store: &mut S, alloc: Global, day: Day) -> Result<CutReads
         day,
         holidays: store.calendar(alloc)?,
         last: store.last_sequence(alloc)?,
-        made: store.files_on(alloc, day)?,
+        made: store.files_on(alloc, day.day())?,
         waiting: store.waiting(alloc)?,
     })
 }
@@ -137,7 +137,7 @@ pub(crate) fn cut<S: Store>(store: &mut S, alloc: Global) -> Result<Answer, Stor
     ensures answers { S.is_clean store.new → Answers (S.holds store.old) result (cut_answer_on) (cut_after) (S.holds store.new) }
     ensures left { S.is_clean store.new → LeavesCall S.keeps (S.holds store.old) (S.may_leave store.old) result (λ b. writes_on b Cut) cut_after (S.may_leave store.new) }
 {
-    let day = match desk_day(store, alloc)? {
+    let day = match rule_day(store, alloc)? {
         Ok(day) => day,
         Err(why) => return Ok(refuse(why)),
     };

@@ -8,9 +8,9 @@ ghost use Rattle.desk_book.specs.OnOperator.{new_day, day_answer, day_after, hol
 
 use crate::guards::company_limits;
 use crate::refuse::refuse;
-use bank_days::{Calendar, CalendarFault, Day};
+use bank_days::{Calendar, CalendarFault};
 use desk_history::{Answer, CallRefusal, Outcome};
-use desk_rules::{CompanyDraft, DraftText, LimitsDraft, Refusal};
+use desk_rules::{CompanyDraft, DraftText, LimitsDraft, Refusal, RuleDay};
 use desk_store::{Store, StoreFault};
 use std::alloc::Global;
 
@@ -29,14 +29,18 @@ pub(crate) fn set_day<S: Store>(
     match new_day(day, &holidays, text) {
         Ok(day) => {
             store.set_day(alloc, day)?;
-            Ok(Answer::Done(Outcome::Day(day)))
+            Ok(Answer::Done(Outcome::Day(day.day())))
         }
         Err(why) => Ok(refuse(why)),
     }
 }
 
 // The new desk day, after this one and a banking day by these holidays.
-fn new_day(day: Option<Day>, holidays: &Calendar, text: &Option<DraftText>) -> Result<Day, Refusal>
+fn new_day(
+    day: Option<RuleDay>,
+    holidays: &Calendar,
+    text: &Option<DraftText>,
+) -> Result<RuleDay, Refusal>
     ensures { result ≡ new_day day holidays.now text.now }
 {
     let new = desk_rules::check_day_field(text)?;
@@ -45,7 +49,7 @@ fn new_day(day: Option<Day>, holidays: &Calendar, text: &Option<DraftText>) -> R
             return Err(Refusal::DayNotLater);
         }
     }
-    if !holidays.is_banking(new) {
+    if !holidays.is_banking(new.day()) {
         return Err(Refusal::NotBankingDay);
     }
     Ok(new)

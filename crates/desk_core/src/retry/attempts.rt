@@ -7,7 +7,6 @@ ghost use Rattle.desk_history.specs.Retries.{live_debit};
 ghost use Rattle.desk_book.specs.Standing.{state_at};
 ghost use Rattle.desk_core.specs.Verdicts.{attempts_of};
 
-use crate::company::facts::is_rule_day;
 use ach_fields::ShortText;
 use bank_days::{Calendar, Day};
 use desk_book::{Row, state_numbered};
@@ -114,7 +113,7 @@ pub(crate) fn content_of(
 }
 
 /// May the entry of a row, which has these retries, be tried again? An entry has an attempt unless it
-/// lapsed, which only a retry does, and a day that is asked for is before 2100: other lists are of no desk.
+/// lapsed, which only a retry does: other lists are of no desk.
 pub(crate) fn first_of_attempts(
     alloc: Global,
     retries: &[Row],
@@ -126,7 +125,7 @@ pub(crate) fn first_of_attempts(
     ensures { IfOk result (λ verdict. verdict ≡ retry_verdict (attempts_of retries.now row.now retry.now.index) retry.now.day retry.now.authorized today calendar.now) }
 {
     let tried = attempts_of(alloc, retries, row, retry.index)?;
-    if tried.is_empty() || !is_rule_day(retry.day) {
+    if tried.is_empty() {
         return Err(StoreFault::Unavailable);
     }
     Ok(may_retry(&tried, retry.day, retry.authorized, today, calendar))

@@ -1,6 +1,6 @@
 //! The lines of an account in memory are summed here.
 ghost use Rattle.std.specs.Prelude.{◌≡◌, ◌+ℤ◌, IfOk, IfSome, OnOk};
-ghost use Rattle.desk_accounts.specs.Balance.{lines_of, day_sums};
+ghost use Rattle.desk_accounts.specs.Balance.{day_sums};
 ghost use Rattle.desk_store.specs.Finds.{with_sum};
 
 use crate::store::StoreFault;
@@ -50,7 +50,7 @@ pub(crate) fn day_sums_of(
     postings: &[Posting],
     account: Account,
 ) -> Result<Vec<(Day, i128)>, StoreFault>
-    ensures { IfOk result (λ sums. sums.items ≡ day_sums account (lines_of account postings.now)) }
+    ensures { IfOk result (λ sums. sums.items ≡ day_sums account postings.now) }
 {
     desk_accounts::balances_by_day();
     let mut sums = Vec::new(alloc);

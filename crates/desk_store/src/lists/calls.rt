@@ -5,7 +5,7 @@ use crate::lists::entries::{count_of, open_rows_of, retries_among, state_under};
 use crate::lists::intake::write_intake;
 use crate::lists::items::{changes_of, count_on, lines_of, returns_of, taken_file, text_at};
 use crate::lists::reads::{all_waiting, company_among, copy_of, row_under, rows_of};
-use crate::lists::sent::{last_of, latest_among};
+use crate::lists::sent::last_of;
 use crate::lists::store::ListStore;
 use crate::lists::writes::{held_row, limit_company, place_of};
 use crate::store::{CutRows, IntakeRows, Store, StoreFault};
@@ -14,7 +14,7 @@ use bank_days::{Calendar, Day};
 use desk_accounts::{Account, Posting};
 use desk_book::{Caller, HeldSubmission, ReturnsAndChanges, Row};
 use desk_history::{Identity, ListOf, SentEntry, SuspenseRow, TakenFile};
-use desk_rules::{Company, EntryState, Limits, Retry, Submission};
+use desk_rules::{Company, EntryState, Limits, Retry, RuleDay, Submission};
 use std::alloc::Global;
 
 impl Store for ListStore {
@@ -48,7 +48,7 @@ impl Store for ListStore {
         }
     }
 
-    fn day(&mut self, _alloc: Global) -> Result<Option<Day>, StoreFault> {
+    fn day(&mut self, _alloc: Global) -> Result<Option<RuleDay>, StoreFault> {
         Ok(self.day)
     }
 
@@ -120,11 +120,12 @@ impl Store for ListStore {
 
     fn latest_settled(
         &mut self,
-        alloc: Global,
+        _alloc: Global,
         from: u32,
         to: u32,
     ) -> Result<Option<Day>, StoreFault> {
-        Ok(latest_among(alloc, &self.sent, from, to)?)
+        self.settlements.cover(&self.sent)?;
+        Ok(self.settlements.latest(from, to))
     }
 
     fn files_on(&mut self, _alloc: Global, day: Day) -> Result<u64, StoreFault> {
@@ -174,7 +175,7 @@ impl Store for ListStore {
         Ok(taken_file(&self.taken, key))
     }
 
-    fn set_day(&mut self, _alloc: Global, day: Day) -> Result<(), StoreFault> {
+    fn set_day(&mut self, _alloc: Global, day: RuleDay) -> Result<(), StoreFault> {
         self.day = Some(day);
         Ok(())
     }

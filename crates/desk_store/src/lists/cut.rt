@@ -95,7 +95,8 @@ pub(crate) fn write_cut(
 ) -> Result<(), AllocError>
     ensures ok { OnOk result (rows_in store.new ≡ cut_in (cut_rows cut.now) (rows_in store.old)) }
     ensures err { OnErr result (rows_in store.new ≡ rows_in store.old) }
-    ensures index { store.new.traces ≡ store.old.traces }
+    ensures traces { store.new.traces ≡ store.old.traces }
+    ensures settlements { store.new.settlements ≡ store.old.settlements }
 {
     let files = file_copies(alloc, cut.files)?;
     store.postings.reserve(cut.postings.len())?;

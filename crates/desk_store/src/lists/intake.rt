@@ -61,7 +61,8 @@ impl Change for ReturnedRow {
 pub(crate) fn write_intake(store: &mut ListStore, intake: &IntakeRows<'_>) -> Result<(), AllocError>
     ensures ok { OnOk result (rows_in store.new ≡ intake_in (intake_rows intake.now) (rows_in store.old)) }
     ensures err { OnErr result (rows_in store.new ≡ rows_in store.old) }
-    ensures index { store.new.traces ≡ store.old.traces }
+    ensures traces { store.new.traces ≡ store.old.traces }
+    ensures settlements { store.new.settlements ≡ store.old.settlements }
 {
     store.returned.reserve(intake.returned.len())?;
     store.changed.reserve(intake.changed.len())?;

@@ -10,10 +10,9 @@ ghost use Rattle.desk_book.specs.Reads.{held_submission};
 use crate::lists::copies::copy_content;
 use crate::lists::store::KeptSubmission;
 use ach_fields::{Id, Ref};
-use bank_days::Day;
 use desk_book::{HeldSubmission, Row};
 use desk_history::ListOf;
-use desk_rules::{Company, Entries, Entry, Retry, Submission};
+use desk_rules::{Company, Entries, Entry, Retry, RuleDay, Submission};
 use std::alloc::{AllocError, Global};
 
 /// Gives the company with an identification.
@@ -94,7 +93,7 @@ pub(crate) fn row_under(
 }
 
 /// Gives the day on which a company's submission settled.
-fn row_settlement(kept: &[KeptSubmission], company: Id, reference: Ref) -> Option<Day>
+fn row_settlement(kept: &[KeptSubmission], company: Id, reference: Ref) -> Option<RuleDay>
     ensures { result ≡ row_settlement (rows_for kept.now company) reference }
 {
     for one in kept {
@@ -106,7 +105,7 @@ fn row_settlement(kept: &[KeptSubmission], company: Id, reference: Ref) -> Optio
 }
 
 /// Gives the day on which the original of a retry settled.
-fn original_settled(kept: &[KeptSubmission], company: Id, retry: Option<Retry>) -> Option<Day>
+fn original_settled(kept: &[KeptSubmission], company: Id, retry: Option<Retry>) -> Option<RuleDay>
     ensures { result ≡ original_of_row (rows_for kept.now company) retry }
 {
     match retry {

@@ -3,13 +3,14 @@ ghost use Rattle.std.specs.Prelude.{[]};
 ghost use Rattle.desk_book.specs.Book.{book_of};
 ghost use Rattle.desk_store.specs.Kept.{IsHeld};
 
+use crate::lists::settlement_index::SettlementIndex;
 use crate::lists::trace_index::TraceIndex;
 use ach_fields::Id;
-use bank_days::{Calendar, Day};
+use bank_days::Calendar;
 use desk_accounts::Posting;
 use desk_book::{ChangedRow, FileRow, ReturnedRow, SentRow};
 use desk_history::{Identity, SentEntry, SuspenseRow, TakenFile};
-use desk_rules::{Company, EntryState, Retry, Submission};
+use desk_rules::{Company, EntryState, Retry, RuleDay, Submission};
 use std::alloc::Global;
 
 /// A `KeptSubmission` is a company's submission or retry with its entries.
@@ -19,7 +20,7 @@ pub(crate) struct KeptSubmission {
     pub(crate) order: u64,
     pub(crate) content: Submission,
     pub(crate) retry: Option<Retry>,
-    pub(crate) settled: Option<Day>,
+    pub(crate) settled: Option<RuleDay>,
     pub(crate) lapsed: bool,
     pub(crate) states: Vec<EntryState>,
 }
@@ -29,7 +30,7 @@ pub(crate) struct KeptSubmission {
 pub struct ListStore {
     pub(crate) identity: Identity,
     pub(crate) operator_key: [u8; 32],
-    pub(crate) day: Option<Day>,
+    pub(crate) day: Option<RuleDay>,
     pub(crate) holidays: Calendar,
     pub(crate) companies: Vec<Company>,
     pub(crate) submissions: Vec<KeptSubmission>,
@@ -38,6 +39,7 @@ pub struct ListStore {
     pub(crate) postings: Vec<Posting>,
     pub(crate) sent: Vec<SentEntry>,
     pub(crate) traces: TraceIndex,
+    pub(crate) settlements: SettlementIndex,
     pub(crate) printed: Vec<SentRow>,
     pub(crate) suspense: Vec<SuspenseRow>,
     pub(crate) files: Vec<FileRow>,
@@ -61,6 +63,7 @@ impl ListStore {
             postings: Vec::new(alloc),
             sent: Vec::new(alloc),
             traces: TraceIndex::new(alloc),
+            settlements: SettlementIndex::new(alloc),
             printed: Vec::new(alloc),
             suspense: Vec::new(alloc),
             files: Vec::new(alloc),

@@ -10,8 +10,8 @@ use desk_history::{
     TakenFile,
 };
 use desk_rules::{
-    AccountKind, Company, Direction, Entries, Entry, EntryState, Limits, ReturnCode, SecCode,
-    Submission,
+    AccountKind, Company, Direction, Entries, Entry, EntryState, Limits, ReturnCode, RuleDay,
+    SecCode, Submission,
 };
 use desk_store::{CutRows, IntakeRows, ListStore, Store};
 use std::alloc::Global;
@@ -22,6 +22,10 @@ const OPERATOR_KEY: [u8; 32] = [7; 32];
 
 pub(super) fn day(rt: &impl Abort, text: &[u8]) -> Day {
     Day::read(text).expect(rt, "a day")
+}
+
+pub(super) fn rule_day(rt: &impl Abort, text: &[u8]) -> RuleDay {
+    RuleDay::read(text).expect(rt, "a day")
 }
 
 fn id(rt: &impl Abort, text: &[u8]) -> Id {
@@ -88,7 +92,7 @@ fn submission(rt: &(impl Abort + Alloc<A = Global>), name: &[u8]) -> Result<Subm
         sec: SecCode::Ppd,
         direction: Direction::Debit,
         description: short_text(rt, b"DUES"),
-        day: day(rt, b"2025-01-10"),
+        day: rule_day(rt, b"2025-01-10"),
         entries,
     })
 }
@@ -100,7 +104,7 @@ pub(super) fn sent_entry(rt: &impl Abort) -> SentEntry {
         reference: reference(rt, b"PAY-2"),
         order: 1,
         index: 1,
-        settled: day(rt, b"2025-01-10"),
+        settled: rule_day(rt, b"2025-01-10"),
         sec: SecCode::Ppd,
         debit: true,
         entry: entry(rt),
@@ -155,7 +159,7 @@ fn write_companies(
     store: &mut impl Store,
 ) -> Result<(), Fail> {
     let alloc = rt.alloc();
-    store.set_day(alloc, day(rt, b"2025-01-09"))?;
+    store.set_day(alloc, rule_day(rt, b"2025-01-09"))?;
     store.set_holidays(
         alloc,
         Calendar::read(alloc, b"2025-01-20")
@@ -183,13 +187,13 @@ fn write_companies(
 
 // The first company's submission is sent.
 fn write_cut(rt: &(impl Abort + Alloc<A = Global>), store: &mut impl Store) -> Result<(), Fail> {
-    let settled = day(rt, b"2025-01-10");
+    let settled = rule_day(rt, b"2025-01-10");
     let mill = id(rt, b"MILL01");
     let postings = post_cut(
         mill,
         true,
         cents(rt, 2500),
-        settled,
+        settled.day(),
         reference(rt, b"PAY-2"),
     )
     .expect(rt, "a pair");
@@ -283,7 +287,7 @@ fn companies_and_submissions(rt: HostRuntime) -> Result<(), Fail> {
     let mut store = new_store(&rt);
     write_companies(&rt, &mut store)?;
     let mill = id(&rt, b"MILL01");
-    assert_eq!(rt; store.day(alloc)?, Some(day(&rt, b"2025-01-09")));
+    assert_eq!(rt; store.day(alloc)?, Some(rule_day(&rt, b"2025-01-09")));
     assert_eq!(rt;
         store.calendar(alloc)?.holidays(),
         [day(&rt, b"2025-01-20")].as_slice()
@@ -324,7 +328,7 @@ fn a_cut(rt: HostRuntime) -> Result<(), Fail> {
     write_companies(&rt, &mut store)?;
     write_cut(&rt, &mut store)?;
     let mill = id(&rt, b"MILL01");
-    let settled = day(&rt, b"2025-01-10");
+    let settled = rule_day(&rt, b"2025-01-10");
     assert_eq!(rt;
         first_state(&rt, &mut store, mill)?,
         EntryState::Sent { settled }
@@ -336,14 +340,14 @@ fn a_cut(rt: HostRuntime) -> Result<(), Fail> {
     assert_eq!(rt; store.waiting(alloc)?.len(), 1);
     assert_eq!(rt; store.last_sequence(alloc)?, 1);
     assert_eq!(rt; store.sent_count(alloc)?, 1);
-    assert_eq!(rt; store.latest_settled(alloc, 1, 1)?, Some(settled));
+    assert_eq!(rt; store.latest_settled(alloc, 1, 1)?, Some(settled.day()));
     assert_eq!(rt; store.latest_settled(alloc, 2, 9)?, None);
     let trace = Trace::parse(b"121042880000001").ok().expect(&rt, "a trace");
     assert_eq!(rt; store.sent_as(alloc, trace)?, Some(sent_entry(&rt)));
     let other = Trace::parse(b"061000140000001").ok().expect(&rt, "a trace");
     assert_eq!(rt; store.sent_as(alloc, other)?, None);
     assert_eq!(rt; store.files_on(alloc, day(&rt, b"2025-01-09"))?, 1);
-    assert_eq!(rt; store.files_on(alloc, settled)?, 0);
+    assert_eq!(rt; store.files_on(alloc, settled.day())?, 0);
     let text = store
         .file(alloc, day(&rt, b"2025-01-09"), b'A')?
         .expect(&rt, "a file");
@@ -364,7 +368,7 @@ fn an_incoming_file(rt: HostRuntime) -> Result<(), Fail> {
     write_intake(&rt, &mut store)?;
     let mill = id(&rt, b"MILL01");
     let returned = EntryState::Returned {
-        settled: day(&rt, b"2025-01-10"),
+        settled: rule_day(&rt, b"2025-01-10"),
         code: return_row(&rt).code,
         day: day(&rt, b"2025-01-14"),
         late: false,

@@ -1,5 +1,5 @@
 //! A store refuses one call here.
-use super::calls::{company, day, new_store};
+use super::calls::{company, new_store, rule_day};
 use desk_store::{FaultyStore, Store};
 use std::test::Fail;
 
@@ -15,9 +15,9 @@ fn one_call_is_refused(rt: HostRuntime) -> Result<(), Fail> {
     ];
     for (refused, answered) in rows {
         let mut faulty = FaultyStore::new(new_store(&rt), refused);
-        let first = faulty.set_day(rt.alloc(), day(&rt, b"2025-01-08"));
+        let first = faulty.set_day(rt.alloc(), rule_day(&rt, b"2025-01-08"));
         let second = faulty.put_company(rt.alloc(), company(&rt, b"MILL01"));
-        let third = faulty.set_day(rt.alloc(), day(&rt, b"2025-01-09"));
+        let third = faulty.set_day(rt.alloc(), rule_day(&rt, b"2025-01-09"));
         assert_eq!(rt;
             [first.is_ok(), second.is_ok(), third.is_ok()],
             answered,
@@ -29,7 +29,7 @@ fn one_call_is_refused(rt: HostRuntime) -> Result<(), Fail> {
         } else {
             b"2025-01-09"
         };
-        assert_eq!(rt; store.day(rt.alloc())?, Some(day(&rt, today)));
+        assert_eq!(rt; store.day(rt.alloc())?, Some(rule_day(&rt, today)));
         let mill = company(&rt, b"MILL01");
         assert_eq!(rt; store.company(rt.alloc(), mill.id)?.is_some(), refused != 2);
     }

@@ -2,4 +2,5 @@
 //! does that refuses a call.
 mod calls;
 mod faults;
+mod lists;
 mod traces;

@@ -1,5 +1,5 @@
 //! Several cuts send entries here, with their traces and sequences.
-use super::calls::{day, new_store, sent_entry};
+use super::calls::{day, new_store, rule_day, sent_entry};
 use ach_fields::Trace;
 use desk_history::SentEntry;
 use desk_store::{CutRows, ListStore, Store};
@@ -11,7 +11,7 @@ use std::test::Fail;
 fn entry_as(rt: &impl Abort, sequence: u32, settled: &[u8]) -> SentEntry {
     SentEntry {
         sequence,
-        settled: day(rt, settled),
+        settled: rule_day(rt, settled),
         ..sent_entry(rt)
     }
 }

@@ -10,6 +10,7 @@ returns c = rw (
   c.put_text-4.ensures.items,
   c.put_text-3.ensures.items,
   c.text-3.ensures,
+  c.day.ensures.value,
   c.put_text-2.ensures.items,
   c.text-2.ensures,
   c.put_flag.ensures.items,

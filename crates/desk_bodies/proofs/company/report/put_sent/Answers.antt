@@ -10,6 +10,7 @@ returns c = rw (
   c.put_text-2.ensures.items,
   c.put_text.ensures.items,
   c.text.ensures,
+  c.day.ensures.value,
   c.put_number-2.ensures.items,
   c.put_number.ensures.items,
   c.get.ensures.value,

@@ -3,7 +3,7 @@ use Rattle.std.proofs.Math.Seq.{drop-cons}
 use Rattle.desk_accounts.specs.declared.posting.Posting.{Posting}
 use Rattle.desk_accounts.specs.Balance.{day_sums}
 use Rattle.desk_store.specs.Finds.{with_sum}
-use Rattle.desk_store.proofs.DaySums.{own_line, other_line, sums_again}
+use Rattle.desk_store.proofs.DaySums.{own_line, other_line}
 use Rattle.desk_store.proofs.lists.balances.day_sums_of.Goals.{then-is+in_ok-add_line, else-is}
 use Rattle.desk_store.proofs.lists.balances.day_sums_of.Goals as goal
 
@@ -38,4 +38,3 @@ returns c =
     let none : length c.args.postings.now - c.loop-done.done ≡ 0 = omega arith in
     c.loop-done.invariant
     ∙ ap (λ (n : ℕ). day_sums c.args.account (drop n c.args.postings.now)) none
-    ∙ sums_again c.args.account c.args.postings.now

@@ -24,7 +24,7 @@ added c b held next =
     ∙ sym (ap (λ (rows : List CompanyRow). flat_book (record (rows_in s) { submissions = rows })) pushed)
 
 pub returns-clause-write : goal.returns-clause-write
-returns-clause-write c = λ _ b held next. record { book = added c b held.book next; indexed = held.indexed }
+returns-clause-write c = λ _ b held next. record { book = added c b held.book next; indexed = held.indexed; settled = held.settled }
 
 pub returns-clause-left : goal.returns-clause-left
 returns-clause-left c = λ _ b found held next is. is ∙ sym (added c b held.book next)

@@ -4,7 +4,7 @@ use Rattle.desk_store.specs.Rows.{flat_book}
 use Rattle.desk_book.specs.Steps.{commit_intake}
 use Rattle.desk_store.specs.Written.{intake_rows}
 use Rattle.desk_store.proofs.FlatIntakes.{flat_intake}
-use Rattle.desk_store.proofs.Indexed.{indexed_as}
+use Rattle.desk_store.proofs.Indexed.{indexed_as, settled_as}
 use Rattle.desk_store.proofs.lists.calls.ListStoreStore.commit_intake.Goals as goal
 
 pub returns-clause-write : goal.returns-clause-write
@@ -13,7 +13,8 @@ returns-clause-write c = λ _ b held _.
     let old = c.args.self.now in
     record {
       book = ap (commit_intake x).after held.book ∙ sym (ap flat_book c.in_ok-write_intake.ensures.ok ∙ flat_intake (rows_in old) x);
-      indexed = indexed_as old.sent.items c.write_intake.new.store.sent.items old.traces c.write_intake.new.store.traces (ap (λ r. r.sent) c.in_ok-write_intake.ensures.ok) c.in_ok-write_intake.ensures.index held.indexed;
+      indexed = indexed_as old.sent.items c.write_intake.new.store.sent.items old.traces c.write_intake.new.store.traces (ap (λ r. r.sent) c.in_ok-write_intake.ensures.ok) c.in_ok-write_intake.ensures.traces held.indexed;
+      settled = settled_as old.sent.items c.write_intake.new.store.sent.items old.settlements c.write_intake.new.store.settlements (ap (λ r. r.sent) c.in_ok-write_intake.ensures.ok) c.in_ok-write_intake.ensures.settlements held.settled;
     }
 
 pub returns-clause-left : goal.returns-clause-left
