@@ -31,6 +31,3 @@ pub use short_text::ShortText;
 pub use text::{put_text, take_text, without_blanks_after};
 pub use trace::{MOST_SEQUENCE, Trace};
 pub use ymd::Ymd;
-
-#[cfg(test)]
-mod tests;

@@ -37,9 +37,6 @@ pub use views::{
     Return99,
 };
 
-#[cfg(test)]
-mod tests;
-
 /// A `Kind` is the kind of a record.
 ///
 /// It goes by the first character, and for a `7` by the two after it; 94 nines are a filler.

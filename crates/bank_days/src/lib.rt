@@ -11,8 +11,6 @@ mod date;
 mod day;
 mod laws;
 mod row;
-#[cfg(test)]
-mod tests;
 
 pub use calendar::Calendar;
 pub use calendar_fault::CalendarFault;

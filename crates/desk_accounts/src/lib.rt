@@ -16,6 +16,3 @@ pub use balances::{balance, balance_of_days};
 pub use laws::{balances_by_day, pairs_cancel};
 pub use pairs::{post_cut, post_return, post_suspense};
 pub use posting::{Cause, Posting};
-
-#[cfg(test)]
-mod tests;

@@ -7,9 +7,9 @@ ghost use Rattle.desk_cut.specs.Sent.{sending_in, batch_in};
 use crate::due::Sending;
 use crate::fault::PlanFault;
 use ach_fields::MOST_SEQUENCE;
-use bank_days::Day;
 use desk_book::HeldSubmission;
 use desk_history::SentEntry;
+use desk_rules::RuleDay;
 use std::alloc::{AllocError, Global};
 
 /// A `NumberedBatch` is a submission that is sent, with the day on which it settles and the
@@ -17,7 +17,7 @@ use std::alloc::{AllocError, Global};
 #[derive(Clone, Copy)]
 pub(crate) struct NumberedBatch<'a> {
     pub(crate) waiting: &'a HeldSubmission,
-    pub(crate) settled: Day,
+    pub(crate) settled: RuleDay,
     pub(crate) first: u32,
 }
 

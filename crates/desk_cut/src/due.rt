@@ -1,6 +1,5 @@
 //! A cut decides what is due on a day: some of it is sent, and some lapses.
-ghost use Rattle.std.specs.Prelude.{◌≡◌, ◌≤◌, ◌<◌, IfOk, map, Some, All, if◌then◌else◌};
-ghost use Rattle.bank_days.specs.Day.{last_argument_day};
+ghost use Rattle.std.specs.Prelude.{◌≡◌, ◌<◌, IfOk, map, Some, All, if◌then◌else◌};
 ghost use Rattle.desk_rules.specs.LimitChecks.{is_debit};
 ghost use Rattle.desk_history.specs.State.{is_too_late};
 ghost use Rattle.desk_book.specs.OnCut.{is_due, settles, sendings, lapses_among};
@@ -9,17 +8,14 @@ ghost use Rattle.desk_cut.specs.Sent.{sending_in};
 use crate::fault::PlanFault;
 use bank_days::{Calendar, Day};
 use desk_book::{HeldSubmission, LapsedRow};
-use desk_rules::Direction;
+use desk_rules::{Direction, RuleDay};
 use std::alloc::Global;
-
-/// A calendar may be given no later day than 2100-06-30.
-const LAST_GIVEN: i64 = 47_662;
 
 /// A `Sending` is a submission that a cut sends, with the day on which it settles.
 #[derive(Clone, Copy)]
 pub(crate) struct Sending<'a> {
     pub(crate) waiting: &'a HeldSubmission,
-    pub(crate) settled: Day,
+    pub(crate) settled: RuleDay,
 }
 
 /// A `Decision` says what a cut sends, and what lapses.
@@ -39,29 +35,25 @@ fn days_ahead(direction: Direction) -> u8
     }
 }
 
-fn is_due(waiting: &HeldSubmission, day: Day, holidays: &Calendar) -> bool
-    requires today { day ≤ last_argument_day }
-    requires asked { waiting.now.row.content.day ≤ last_argument_day }
+fn is_due(waiting: &HeldSubmission, day: RuleDay, holidays: &Calendar) -> bool
     ensures { result ≡ is_due holidays.now day waiting.now }
 {
     let content = &waiting.row.content;
-    let horizon = holidays.nth_after(day, days_ahead(content.direction));
-    holidays.roll(content.day) <= horizon
+    let horizon = holidays.nth_after(day.day(), days_ahead(content.direction));
+    holidays.roll(content.day.day()) <= horizon
 }
 
 // The day on which it would settle.
-fn settles(waiting: &HeldSubmission, day: Day, holidays: &Calendar) -> Day
-    requires today { day ≤ last_argument_day }
-    requires asked { waiting.now.row.content.day ≤ last_argument_day }
+fn settles(waiting: &HeldSubmission, day: RuleDay, holidays: &Calendar) -> Day
     ensures value { result ≡ settles holidays.now day waiting.now }
     ensures later { day < result }
 {
-    let asked = waiting.row.content.day;
-    holidays.roll(asked).max(holidays.next(day))
+    let asked = waiting.row.content.day.day();
+    holidays.roll(asked).max(holidays.next(day.day()))
 }
 
 // Would it settle too long after its original?
-fn is_too_late(settles: Day, original: Option<Day>) -> bool
+fn is_too_late(settles: Day, original: Option<RuleDay>) -> bool
     ensures { result ≡ is_too_late (Some settles) original }
 {
     match original {
@@ -73,7 +65,7 @@ fn is_too_late(settles: Day, original: Option<Day>) -> bool
 /// Gives what is sent and what lapses, in the order in which it waits.
 pub(crate) fn decide<'a>(
     alloc: Global,
-    day: Day,
+    day: RuleDay,
     holidays: &Calendar,
     waiting: &'a [HeldSubmission],
 ) -> Result<Decision<'a>, PlanFault>
@@ -83,21 +75,18 @@ pub(crate) fn decide<'a>(
 {
     let mut sent = Vec::new(alloc);
     let mut lapsed = Vec::new(alloc);
-    if day.number() > LAST_GIVEN {
-        return Err(PlanFault::Unprintable);
-    }
     for one in waiting {
-        if one.row.content.day.number() > LAST_GIVEN {
-            return Err(PlanFault::Unprintable);
-        }
         if is_due(one, day, holidays) {
-            let settled = settles(one, day, holidays);
-            if is_too_late(settled, one.original_settled) {
+            let settles = settles(one, day, holidays);
+            if is_too_late(settles, one.original_settled) {
                 lapsed.push(LapsedRow {
                     company: one.company.id,
                     order: one.row.order,
                 })?;
             } else {
+                let Some(settled) = RuleDay::new(settles) else {
+                    return Err(PlanFault::Unprintable);
+                };
                 sent.extend_from_slice(&[Sending {
                     waiting: one,
                     settled,

@@ -18,6 +18,3 @@ mod printing;
 
 pub use fault::CutFault;
 pub use plan::{CutPlan, plan_cut, ranges_of_cut};
-
-#[cfg(test)]
-mod tests;

@@ -58,7 +58,7 @@ fn load_of(sending: &Sending<'_>) -> Result<Batch, PlanFault>
     Ok(Batch {
         company: sending.waiting.company.id,
         order: sending.waiting.row.order,
-        settled: sending.settled,
+        settled: sending.settled.day(),
         debits: cents_if(debit, cents)?,
         credits: cents_if(!debit, cents)?,
         entries: entries.len() as u32,

@@ -14,6 +14,7 @@ use crate::loads::{counts_of, loads_of};
 use bank_days::{Calendar, Day};
 use desk_book::{HeldSubmission, LapsedRow};
 use desk_plan::{Batch, NumberFault, is_past, plan_numbers};
+use desk_rules::RuleDay;
 use std::alloc::Global;
 
 // What a cut decides, and what each submission that it sends takes.
@@ -35,7 +36,7 @@ pub(crate) struct NumberedCut<'a> {
 
 fn load<'a>(
     alloc: Global,
-    day: Day,
+    day: RuleDay,
     holidays: &Calendar,
     waiting: &'a [HeldSubmission],
 ) -> Result<LoadedCut<'a>, PlanFault>
@@ -59,7 +60,7 @@ fn load<'a>(
 /// free is for the caller to see, from the latest settlement of each.
 pub(crate) fn number<'a>(
     alloc: Global,
-    day: Day,
+    day: RuleDay,
     holidays: &Calendar,
     last: u32,
     waiting: &'a [HeldSubmission],

@@ -19,6 +19,7 @@ use desk_accounts::Posting;
 use desk_book::{FileRow, HeldSubmission, LapsedRow, SentRow};
 use desk_history::{CutSummary, Identity, ListOf, SentEntry};
 use desk_plan::{MOST_FILES, divide};
+use desk_rules::RuleDay;
 use std::alloc::Global;
 
 /// A `CutPlan` is all that a cut does.
@@ -44,7 +45,7 @@ pub struct CutPlan {
 /// It is `TracesSpent` where two batches would have a sequence in common.
 pub fn ranges_of_cut(
     alloc: Global,
-    day: Day,
+    day: RuleDay,
     holidays: &Calendar,
     last: u32,
     waiting: &[HeldSubmission],
@@ -116,7 +117,7 @@ fn write(
 pub fn plan_cut(
     alloc: Global,
     identity: &Identity,
-    day: Day,
+    day: RuleDay,
     holidays: &Calendar,
     last: u32,
     made: u64,
@@ -126,12 +127,13 @@ pub fn plan_cut(
     ensures { Plans (cut_of identity.now day holidays.now last made waiting.now) latest.now result }
 {
     let numbered = number(alloc, day, holidays, last, waiting)?;
-    if !are_past(day, latest) {
+    let today = day.day();
+    if !are_past(today, latest) {
         return Err(CutFault::TracesSpent);
     }
     let sizes = divide(alloc, &numbered.loads)?;
     let Some(made) = made_before(made, sizes.len()) else {
         return Err(CutFault::ModifiersSpent);
     };
-    Ok(write(alloc, identity, day, made, &sizes, numbered)?)
+    Ok(write(alloc, identity, today, made, &sizes, numbered)?)
 }

@@ -22,7 +22,8 @@ fn push_lines(
     let content = &sending.waiting.row.content;
     let debit = content.direction.is_debit();
     let cents = if debit { load.debits } else { load.credits };
-    if let Some(lines) = post_cut(company, debit, cents, sending.settled, content.reference) {
+    let settled = sending.settled.day();
+    if let Some(lines) = post_cut(company, debit, cents, settled, content.reference) {
         postings.extend_from_slice(&lines)?;
     }
     Ok(())

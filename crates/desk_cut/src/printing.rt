@@ -108,7 +108,7 @@ fn batch_header<'a>(odfi: Routing, number: u32, batch: &NumberedBatch<'a>) -> Ba
         company: waiting.company.id.bytes(),
         sec: content.sec.text(),
         description: content.description.bytes(),
-        effective: batch.settled.ymd(),
+        effective: batch.settled.day().ymd(),
         settlement: None,
         odfi: odfi.dfi(),
         number,

@@ -40,6 +40,3 @@ pub use reports::{
 };
 pub use sent_entry::{FilePlace, SentEntry};
 pub use sent_laws::{possible_parts, sent_are_accepted};
-
-#[cfg(test)]
-mod tests;

@@ -1,7 +1,7 @@
 //! A cut sends entries, and prints their submission in a file.
 use ach_fields::{Id, Ref};
 use bank_days::Day;
-use desk_rules::{Entry, SecCode};
+use desk_rules::{Entry, RuleDay, SecCode};
 
 /// A `SentEntry` is an entry that was sent.
 #[derive(Clone, Copy, Debug, PartialEq, Eq, Drop)]
@@ -15,7 +15,7 @@ pub struct SentEntry {
     /// Its number in the submission, from 1.
     pub index: u64,
     /// The day on which it settles.
-    pub settled: Day,
+    pub settled: RuleDay,
     pub sec: SecCode,
     pub debit: bool,
     pub entry: Entry,

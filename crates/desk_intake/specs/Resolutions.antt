@@ -1,7 +1,6 @@
 -- The resolutions of the items of a file, as the values that the plan is made of.
-use Rattle.std.specs.Prelude.{Bool, true, nat_le, List, [], ◌∷◌, ◌++◌, Option, Some, None, option_map, Result, Ok, Err}
+use Rattle.std.specs.Prelude.{List, [], ◌∷◌, ◌++◌, Option, Some, None, option_map, Result, Ok, Err}
 use Rattle.ach_files.specs.declared.facts.ItemFacts.{ItemFacts}
-use Rattle.desk_rules.specs.Deadlines.{last_rule_day}
 use Rattle.desk_history.specs.declared.operations.SuspenseReason.{SuspenseReason}
 use Rattle.desk_history.specs.declared.sent_entry.SentEntry.{SentEntry}
 use Rattle.desk_history.specs.Part.{Event, Returned, Changed}
@@ -23,14 +22,6 @@ named_entry_as n = record { entry = n.entry; returned = n.returned }
 -- an item, with what its trace names
 abbrev pub found_item_as : FoundItem → ItemFacts × Option intake.NamedEntry
 found_item_as x = (x.item, option_map named_entry_as x.named)
-
-abbrev pub settles_in_range : Option NamedEntry → Bool
-settles_in_range None = true
-settles_in_range (Some n) = nat_le n.entry.settled last_rule_day
-
--- does the entry that the item names settle on 2100-01-31 at the latest?
-abbrev pub is_in_range : FoundItem → Bool
-is_in_range x = settles_in_range x.named
 
 -- ---- their resolutions
 

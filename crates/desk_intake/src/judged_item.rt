@@ -1,10 +1,9 @@
 //! Each item of a file is judged here: it meets its entry, or stands in suspense.
-ghost use Rattle.std.specs.Prelude.{◌≡◌, [], ◌∷◌, ◌++◌, List, map, IfOk, OnOk, true};
-ghost use Rattle.std.specs.List.{list_all};
+ghost use Rattle.std.specs.Prelude.{◌≡◌, [], ◌∷◌, ◌++◌, List, map, IfOk, OnOk};
 ghost use Rattle.desk_history.specs.declared.sent_entry.SentEntry.{SentEntry};
 ghost use Rattle.desk_book.specs.OnIntake.{entries_returned_by};
 ghost use Rattle.desk_intake.specs.ReturnedEntries.{HasEntries};
-ghost use Rattle.desk_intake.specs.Resolutions.{found_item_as, is_in_range, judged_after, judged_as, resolution_as};
+ghost use Rattle.desk_intake.specs.Resolutions.{found_item_as, judged_after, judged_as, resolution_as};
 
 use crate::found_item::FoundItem;
 use crate::matched_item::MatchedItem;
@@ -58,7 +57,6 @@ fn push(
 
 /// Gives the resolution of each item, in order.
 pub(crate) fn judge(alloc: Global, found: &[FoundItem]) -> Result<Vec<JudgedItem>, AllocError>
-    requires { list_all is_in_range found.now ≡ true }
     ensures { IfOk result (λ judged. map judged_as judged.items ≡ judged_after [] (map found_item_as found.now)) }
 {
     let mut earlier = ReturnedEntries::new(alloc);

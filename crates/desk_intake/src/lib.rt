@@ -7,7 +7,6 @@
 
 mod agreement;
 mod counts;
-mod fault;
 mod found_item;
 mod judged_item;
 mod matched_item;
@@ -17,9 +16,5 @@ mod resolution;
 mod returned_entries;
 mod rows;
 
-pub use fault::IntakeFault;
 pub use found_item::{FoundItem, NamedEntry};
 pub use plan::{IntakePlan, plan_intake};
-
-#[cfg(test)]
-mod tests;

@@ -1,7 +1,4 @@
 //! An item that meets its entry is matched.
-ghost use Rattle.std.specs.Prelude.{◌≤◌};
-ghost use Rattle.desk_rules.specs.Deadlines.{last_rule_day};
-
 use desk_history::SentEntry;
 use desk_rules::ReturnCode;
 
@@ -23,6 +20,4 @@ pub(crate) enum Reaction {
 pub(crate) struct MatchedItem {
     pub entry: SentEntry,
     pub reaction: Reaction,
-    // So that it has a deadline.
-    ghost ruled: { entry.settled ≤ last_rule_day },
 }

@@ -1,14 +1,10 @@
 //! An incoming file is planned here.
-ghost use Rattle.std.specs.Prelude.{◌≡◌, IfOk, IsErrOf, false, true};
-ghost use Rattle.std.specs.List.{list_all};
+ghost use Rattle.std.specs.Prelude.{◌≡◌, IfOk};
 ghost use Rattle.desk_book.specs.OnIntake.{intake_write};
-ghost use Rattle.desk_intake.specs.Resolutions.{is_in_range, settles_in_range};
 ghost use Rattle.desk_intake.specs.Plans.{intake_facts_of, write_of_items, plan_write};
-ghost use Rattle.desk_intake.specs.declared.fault.IntakeFault.TheVariants.{NoMemory, OutOfRange};
 
 use crate::counts::counts;
-use crate::fault::IntakeFault;
-use crate::found_item::{FoundItem, NamedEntry};
+use crate::found_item::FoundItem;
 use crate::judged_item::{JudgedItem, judge};
 use crate::postings::postings_of;
 use crate::rows::{changed_rows, returned_rows, suspense_rows};
@@ -16,7 +12,6 @@ use bank_days::{Calendar, Day};
 use desk_accounts::Posting;
 use desk_book::{ChangedRow, ReturnedRow};
 use desk_history::{SuspenseRow, TakenFile};
-use desk_rules::LAST_RULE_DAY;
 use std::alloc::{AllocError, Global};
 
 /// An `IntakePlan` is all that an incoming file writes.
@@ -32,23 +27,6 @@ pub struct IntakePlan {
     pub postings: Vec<Posting>,
     /// The file, with its answer.
     pub file: TakenFile,
-}
-
-fn settles_in_range(named: &Option<NamedEntry>) -> bool
-    ensures { result ≡ settles_in_range named.now }
-{
-    match named {
-        Some(named) => named.entry.settled.number() <= LAST_RULE_DAY,
-        None => true,
-    }
-}
-
-fn are_in_range(found: &[FoundItem]) -> bool
-    ensures { result ≡ list_all is_in_range found.now }
-{
-    found
-        .iter()
-        .all(|found_item| settles_in_range(&found_item.named))
 }
 
 fn plan_of_items(
@@ -81,9 +59,6 @@ fn plan_of_items(
 
 /// Plans a file with this key and digest that is taken on a day, by the resolutions of its items,
 /// each with what its trace names.
-///
-/// It is `OutOfRange` where a named entry settles after 2100-01-31; a desk sends none. Where none does
-/// it can only be out of memory.
 pub fn plan_intake(
     alloc: Global,
     key: [u8; 21],
@@ -91,14 +66,9 @@ pub fn plan_intake(
     found: &[FoundItem],
     day: Day,
     holidays: &Calendar,
-) -> Result<IntakePlan, IntakeFault>
-    ensures plan { IfOk result (λ plan. plan_write plan ≡ intake_write (intake_facts_of key digest found.now day holidays.now)) }
-    ensures range { IsErrOf result OutOfRange → list_all is_in_range found.now ≡ false }
-    ensures memory { IsErrOf result NoMemory → list_all is_in_range found.now ≡ true }
+) -> Result<IntakePlan, AllocError>
+    ensures { IfOk result (λ plan. plan_write plan ≡ intake_write (intake_facts_of key digest found.now day holidays.now)) }
 {
-    if !are_in_range(found) {
-        return Err(IntakeFault::OutOfRange);
-    }
     let judged = judge(alloc, found)?;
     let plan = plan_of_items(alloc, key, digest, &judged, day, holidays)?;
     Ok(plan)

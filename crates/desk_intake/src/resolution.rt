@@ -1,13 +1,11 @@
 //! The resolution of an item is the entry that it meets, or the first reason against it.
-ghost use Rattle.std.specs.Prelude.{◌≡◌, ◌≤◌, List, option_map, true};
-ghost use Rattle.std.specs.Option.{ForSome};
-ghost use Rattle.desk_rules.specs.Deadlines.{last_rule_day};
+ghost use Rattle.std.specs.Prelude.{◌≡◌, List, option_map};
 ghost use Rattle.desk_history.specs.declared.sent_entry.SentEntry.{SentEntry};
 ghost use Rattle.desk_history.specs.Intake.{is_returned_event};
 ghost use Rattle.desk_history.specs.Resolve.{event_of, resolve_entry};
 ghost use Rattle.desk_book.specs.OnIntake.{is_repeated_return, resolution_after, was_returned};
 ghost use Rattle.desk_intake.specs.ReturnedEntries.{HasEntries};
-ghost use Rattle.desk_intake.specs.Resolutions.{event_as, found_item_as, is_in_range, matched_item_as, named_entry_as, resolution_as};
+ghost use Rattle.desk_intake.specs.Resolutions.{event_as, found_item_as, matched_item_as, named_entry_as, resolution_as};
 
 use crate::agreement::{agrees, is_change_code};
 use crate::found_item::{FoundItem, NamedEntry};
@@ -40,7 +38,6 @@ fn reaction_of(item: &ItemFacts) -> Option<Reaction>
 
 /// Gives the entry that an item meets, or the first reason against it.
 fn resolve(entry: Option<SentEntry>, item: &ItemFacts) -> Result<MatchedItem, SuspenseReason>
-    requires { ForSome entry (λ e. e.settled ≤ last_rule_day) }
     ensures { resolution_as result ≡ resolve_entry entry item.now }
 {
     let Some(entry) = entry else {
@@ -95,7 +92,6 @@ pub(crate) fn resolution_after(
     earlier: &ReturnedEntries,
     found: &FoundItem,
 ) -> Result<MatchedItem, SuspenseReason>
-    requires { is_in_range found.now ≡ true }
     ensures { (es : List SentEntry) → HasEntries earlier.now es → resolution_as result ≡ resolution_after es found.now.item (found_item_as found.now).1 }
 {
     let met = resolve(entry_of(&found.named), &found.item)?;

@@ -25,6 +25,3 @@ pub use laws::{
 };
 pub use numbers::{NumberFault, plan_numbers};
 pub use reuse::is_past;
-
-#[cfg(test)]
-mod tests;

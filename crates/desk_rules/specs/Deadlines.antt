@@ -1,5 +1,5 @@
 -- Until when a return is in time: Nacha's return deadlines.
-use Rattle.std.specs.Prelude.{ℕ, ◌+◌, Bool, false, nat_lt, List, Option, Some, None}
+use Rattle.std.specs.Prelude.{ℕ, ◌+◌, Bool, false, nat_le, nat_lt, if◌then◌else◌, List, Option, Some, None}
 use Rattle.bank_days.specs.Calendar.{nth_after, next_banking}
 use Rattle.desk_rules.specs.declared.rules.time_class.TimeClass.{TimeClass}
 use Rattle.desk_rules.specs.declared.rules.time_class.TimeClass.TheVariants.{TwoBankingDays, SixtyDays, Unlimited}
@@ -8,6 +8,10 @@ use Rattle.desk_rules.specs.TimeClasses.{time_class_of}
 -- 2100-01-31, the last day that a rule may be given
 abbrev pub last_rule_day : ℕ
 last_rule_day = 47_512
+
+-- the day, where a rule may be given it
+abbrev pub rule_day_of : (day : ℕ) → Option ℕ
+rule_day_of day = if nat_le day last_rule_day then Some day else None
 
 -- the last day of a time class, if it has one
 abbrev pub last_day_of : TimeClass → (settled : ℕ) → (holidays : List ℕ) → Option ℕ

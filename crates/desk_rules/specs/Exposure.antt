@@ -1,10 +1,9 @@
 -- Exposures: how many cents a company's entries may still cost the bank. The rule is the desk's own.
-use Rattle.std.specs.Prelude.{ℕ, ◌≤◌, ⊤, Bool, true, false, not, ◌&&◌, nat_le, List, filter, sum_by}
+use Rattle.std.specs.Prelude.{ℕ, Bool, true, false, not, ◌&&◌, nat_le, List, filter, sum_by}
 use Rattle.bank_days.specs.Calendar.{nth_after}
 use Rattle.desk_rules.specs.declared.rules.entry_fact.EntryFact.{EntryFact}
 use Rattle.desk_rules.specs.declared.rules.entry_fact.EntryState.{EntryState}
 use Rattle.desk_rules.specs.declared.rules.entry_fact.EntryState.TheVariants.{Held, Sent, Returned, Lapsed}
-use Rattle.desk_rules.specs.Deadlines.{last_rule_day}
 
 -- held, or settles on the day or after it, also where it came back
 abbrev pub is_open_credit : EntryState → ℕ → Bool
@@ -27,10 +26,3 @@ credit_exposure facts day = sum_by (λ f. f.cents) (filter (λ f. not f.debit &&
 -- the cents of the debits that are open
 abbrev pub debit_exposure : List EntryFact → (day : ℕ) → (holidays : List ℕ) → ℕ
 debit_exposure facts day holidays = sum_by (λ f. f.cents) (filter (λ f. f.debit && is_open_debit f.state day holidays) facts)
-
--- what was sent settled on a day that a rule may be given
-abbrev pub IsSettledInRange : EntryState → Type 0
-IsSettledInRange Held = ⊤
-IsSettledInRange (Sent settled) = settled ≤ last_rule_day
-IsSettledInRange (Returned settled code taken late) = ⊤
-IsSettledInRange Lapsed = ⊤

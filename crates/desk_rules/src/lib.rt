@@ -27,7 +27,7 @@ pub use laws::{counted_deadlines, first_refusals, same_contents};
 pub use refusals::names::RefusalName;
 pub use refusals::refusal::{Field, Refusal, RuleFault};
 pub use rules::attempt::Attempt;
-pub use rules::deadlines::{LAST_RULE_DAY, deadline, is_late};
+pub use rules::deadlines::{deadline, is_late};
 pub use rules::entry_fact::{EntryFact, EntryState};
 pub use rules::exposure::{credit_exposure, debit_exposure, is_open_credit};
 pub use rules::limit_checks::check_submission;
@@ -35,8 +35,6 @@ pub use rules::rate::{Level, Rate, Rates};
 pub use rules::retry_rule::{is_too_late, may_retry};
 pub use rules::return_code::ReturnCode;
 pub use rules::return_rates::{exceeds, rates};
+pub use rules::rule_day::RuleDay;
 pub use rules::size::{MOST_ENTRIES, check_size, total};
 pub use rules::time_class::TimeClass;
-
-#[cfg(test)]
-mod tests;

@@ -8,5 +8,6 @@ pub(crate) mod rate;
 pub(crate) mod retry_rule;
 pub(crate) mod return_code;
 pub(crate) mod return_rates;
+pub(crate) mod rule_day;
 pub(crate) mod size;
 pub(crate) mod time_class;

@@ -10,7 +10,7 @@ ghost use Rattle.desk_rules.specs.Chain.{good};
 ghost use Rattle.desk_rules.specs.Fields.{sec_of, direction_of, kind_of, text_of, description_of, optional_of, prenote_of, entry_cents_of, entry_number_of, is_key, is_key_character, key_of, up_to};
 
 use crate::rules::size::MOST_ENTRIES;
-use crate::{AccountKind, Direction, DraftText, Field, Optional, Refusal, SecCode};
+use crate::{AccountKind, Direction, DraftText, Field, Optional, Refusal, RuleDay, SecCode};
 use ach_fields::{Cents, Id, Ref, Routing, ShortText};
 use bank_days::Day;
 
@@ -143,11 +143,11 @@ pub fn description(draft: &Option<DraftText>) -> Option<ShortText<10>>
     }
 }
 
-pub fn day(draft: &Option<DraftText>) -> Option<Day>
+pub fn day(draft: &Option<DraftText>) -> Option<RuleDay>
     ensures { result ≡ option_and_then day_of draft.now }
 {
     match draft {
-        Some(text) => Day::read(text.bytes()),
+        Some(text) => RuleDay::read(text.bytes()),
         None => None,
     }
 }

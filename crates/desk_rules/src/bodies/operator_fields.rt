@@ -5,9 +5,8 @@ ghost use Rattle.desk_rules.specs.Operator.{company_of, limits_of, new_limits_of
 use crate::bodies::draft::LimitDrafts;
 use crate::bodies::fields;
 use crate::bodies::fields::{MOST_ENTRY_CENTS, good};
-use crate::{Company, CompanyDraft, DraftText, Field, Limits, LimitsDraft, Refusal};
+use crate::{Company, CompanyDraft, DraftText, Field, Limits, LimitsDraft, Refusal, RuleDay};
 use ach_fields::Id;
-use bank_days::Day;
 
 /// The limit of an exposure has at most so many cents.
 const MOST_EXPOSURE_LIMIT: u64 = 999_999_999_999_999;
@@ -69,17 +68,17 @@ fn check_limits(draft: &LimitDrafts) -> Result<Limits, Refusal>
 
 /// Gives the desk day that a draft names, or its bad field: a day of the calendar from 2000-01-01
 /// to 2096-12-31.
-pub fn check_day_field(draft: &Option<DraftText>) -> Result<Day, Refusal>
+pub fn check_day_field(draft: &Option<DraftText>) -> Result<RuleDay, Refusal>
     ensures { result ≡ desk_day_in draft.now }
 {
     good(desk_day(draft), Field::Day, 0)
 }
 
-fn desk_day(draft: &Option<DraftText>) -> Option<Day>
+fn desk_day(draft: &Option<DraftText>) -> Option<RuleDay>
     ensures { result ≡ option_and_then desk_day_of draft.now }
 {
     match fields::day(draft) {
-        Some(day) if day.number() <= LAST_DESK_DAY => Some(day),
+        Some(day) if day.day().number() <= LAST_DESK_DAY => Some(day),
         _ => None,
     }
 }

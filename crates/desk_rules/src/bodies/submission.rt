@@ -3,6 +3,7 @@ ghost use Rattle.std.specs.Prelude.{◌≡◌, [], ◌∷◌, ◌++◌, OnOk, On
 ghost use Rattle.desk_rules.specs.Fields.{sec_text};
 ghost use Rattle.desk_rules.specs.LimitChecks.{is_debit};
 
+use crate::RuleDay;
 use ach_fields::{Cents, Ref, Routing, ShortText};
 use bank_days::Day;
 use std::alloc::{AllocError, Global};
@@ -122,7 +123,7 @@ pub struct Submission {
     pub direction: Direction,
     pub description: ShortText<10>,
     /// The day on which the company wants it to settle.
-    pub day: Day,
+    pub day: RuleDay,
     pub entries: Entries,
 }
 
@@ -135,7 +136,7 @@ pub struct Retry {
     /// The entry's number there, from 1.
     pub index: u64,
     /// The day on which the company wants it to settle.
-    pub day: Day,
+    pub day: RuleDay,
     /// The day on which the receiver authorized a stopped payment again.
     pub authorized: Option<Day>,
 }

@@ -1,7 +1,7 @@
 ghost use Rattle.std.specs.Prelude.{◌≡◌};
 ghost use Rattle.desk_rules.specs.Attempts.{attempt_of};
 
-use crate::{EntryState, ReturnCode};
+use crate::{EntryState, ReturnCode, RuleDay};
 use bank_days::Day;
 
 /// An `Attempt` is an attempt to collect a debit: the entry itself, or a retry of it (Nacha's
@@ -12,12 +12,12 @@ pub enum Attempt {
     Held,
     /// A cut sent it, to settle on this day.
     Sent {
-        settled: Day,
+        settled: RuleDay,
     },
     /// It came back.
     Returned {
         /// The day on which it settled.
-        settled: Day,
+        settled: RuleDay,
         /// The code of its return.
         code: ReturnCode,
         /// The day on which the return was taken.

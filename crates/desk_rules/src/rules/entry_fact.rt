@@ -1,5 +1,5 @@
 //! The rules read these facts of a company's entries.
-use crate::ReturnCode;
+use crate::{ReturnCode, RuleDay};
 use ach_fields::Cents;
 use bank_days::Day;
 
@@ -10,12 +10,12 @@ pub enum EntryState {
     Held,
     /// A cut sent it, to settle on this day.
     Sent {
-        settled: Day,
+        settled: RuleDay,
     },
     /// It came back.
     Returned {
         /// The day on which it settled.
-        settled: Day,
+        settled: RuleDay,
         /// The code of its return.
         code: ReturnCode,
         /// The day on which the return was taken.

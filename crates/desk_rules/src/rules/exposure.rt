@@ -1,8 +1,8 @@
 //! An exposure says how many cents a company's entries may still cost the bank: the desk's own
 //! rule.
-ghost use Rattle.std.specs.Prelude.{◌≡◌, ◌≤◌, ◌*◌, All, length};
+ghost use Rattle.std.specs.Prelude.{◌≡◌, ◌≤◌, ◌*◌, length};
 ghost use Rattle.ach_fields.specs.Cents.{most_cents};
-ghost use Rattle.desk_rules.specs.Exposure.{credit_exposure, debit_exposure, is_open_credit, is_open_debit, IsSettledInRange};
+ghost use Rattle.desk_rules.specs.Exposure.{credit_exposure, debit_exposure, is_open_credit, is_open_debit};
 
 use crate::{EntryFact, EntryState};
 use bank_days::{Calendar, Day};
@@ -29,17 +29,16 @@ pub fn is_open_credit(state: EntryState, day: Day) -> bool
 {
     match state {
         EntryState::Held => true,
-        EntryState::Sent { settled } => settled >= day,
-        EntryState::Returned { settled, .. } => settled >= day,
+        EntryState::Sent { settled } => settled.day() >= day,
+        EntryState::Returned { settled, .. } => settled.day() >= day,
         EntryState::Lapsed => false,
     }
 }
 
 /// Gives the debit exposure: the cents of the company's debits that are held, or were sent and have
 /// their second banking day after settlement on the desk day or after it. Returned and lapsed ones
-/// do not count. What was sent settled on 2100-01-31 at the latest.
+/// do not count.
 pub fn debit_exposure(facts: &[EntryFact], day: Day, calendar: &Calendar) -> u128
-    requires { All (λ f. IsSettledInRange f.state) facts.now }
     ensures value { result ≡ debit_exposure facts.now day calendar.now }
     ensures within { result ≤ most_cents * length facts.now }
 {
@@ -54,12 +53,11 @@ pub fn debit_exposure(facts: &[EntryFact], day: Day, calendar: &Calendar) -> u12
 
 // Is a debit held, or can it still come back in the two banking days?
 fn is_open_debit(state: EntryState, day: Day, calendar: &Calendar) -> bool
-    requires { IsSettledInRange state }
     ensures { result ≡ is_open_debit state day calendar.now }
 {
     match state {
         EntryState::Held => true,
-        EntryState::Sent { settled } => calendar.nth_after(settled, 2) >= day,
+        EntryState::Sent { settled } => calendar.nth_after(settled.day(), 2) >= day,
         EntryState::Returned { .. } => false,
         EntryState::Lapsed => false,
     }

@@ -1,8 +1,7 @@
 //! A submission is judged here by the desk day and the company's limits: the desk's own rules.
-ghost use Rattle.std.specs.Prelude.{◌≡◌, ◌≤◌, ◌*◌, All, length, nat_lt};
+ghost use Rattle.std.specs.Prelude.{◌≡◌, ◌≤◌, ◌*◌, length, nat_lt};
 ghost use Rattle.std.specs.List.{list_any};
 ghost use Rattle.ach_fields.specs.Cents.{most_cents};
-ghost use Rattle.desk_rules.specs.Exposure.{IsSettledInRange};
 ghost use Rattle.desk_rules.specs.LimitChecks.{is_date_in_range, limits_verdict};
 ghost use Rattle.desk_rules.specs.Size.{total_of};
 
@@ -21,7 +20,7 @@ const MOST_DAYS: i64 = 60;
 /// - `CreditLimit`, `DebitLimit`: the company's exposure in the direction of the submission, and the
 ///   total of the submission, are more than its limit in this direction.
 ///
-/// The facts are those of all the company's entries. What was sent settled on 2100-01-31 at the latest.
+/// The facts are those of all the company's entries.
 pub fn check_submission(
     submission: &Submission,
     day: Day,
@@ -29,10 +28,9 @@ pub fn check_submission(
     facts: &[EntryFact],
     calendar: &Calendar,
 ) -> Result<(), Refusal>
-    requires { All (λ f. IsSettledInRange f.state) facts.now }
     ensures { result ≡ limits_verdict submission.now day limits.now facts.now calendar.now }
 {
-    if !is_date_in_range(submission.day, day) {
+    if !is_date_in_range(submission.day.day(), day) {
         return Err(Refusal::DateRange);
     }
     let entries = submission.entries.as_slice();

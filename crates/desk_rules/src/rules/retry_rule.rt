@@ -1,9 +1,8 @@
 //! May a returned debit be tried again? This is Nacha's rule of reinitiation.
-ghost use Rattle.std.specs.Prelude.{◌≡◌, ◌≤◌, ◌<◌, length};
-ghost use Rattle.desk_rules.specs.Deadlines.{last_rule_day};
+ghost use Rattle.std.specs.Prelude.{◌≡◌, ◌<◌, length};
 ghost use Rattle.desk_rules.specs.RetryRule.{is_authorized, is_retryable, is_too_late, retry_verdict};
 
-use crate::{Attempt, Refusal, ReturnCode};
+use crate::{Attempt, Refusal, ReturnCode, RuleDay};
 use bank_days::{Calendar, Day};
 
 /// There are at most so many attempts: the original and two retries.
@@ -22,17 +21,15 @@ const MOST_DAYS: i64 = 180;
 /// - `RetryTooLate`: the asked day, rolled to a banking day, is more than 180 days after the
 ///   settlement of the original.
 ///
-/// The attempts are the original, first, and its retries that have not lapsed, in order. The asked
-/// day is at most 2100-01-31.
+/// The attempts are the original, first, and its retries that have not lapsed, in order.
 pub fn may_retry(
     attempts: &[Attempt],
-    asked: Day,
+    asked: RuleDay,
     authorized: Option<Day>,
     day: Day,
     calendar: &Calendar,
 ) -> Result<(), Refusal>
-    requires some { 0 < length attempts.now }
-    requires asked { asked ≤ last_rule_day }
+    requires { 0 < length attempts.now }
     ensures { result ≡ retry_verdict attempts.now asked authorized day calendar.now }
 {
     let Attempt::Returned {
@@ -56,17 +53,17 @@ pub fn may_retry(
     if attempts.len() >= MOST_ATTEMPTS {
         return Err(Refusal::RetriesSpent);
     }
-    if is_too_late(original, calendar.roll(asked)) {
+    if is_too_late(original, calendar.roll(asked.day())) {
         return Err(Refusal::RetryTooLate);
     }
     Ok(())
 }
 
 /// Does a retry settle too late, more than 180 days after its original settled?
-pub fn is_too_late(original: Day, settles: Day) -> bool
+pub fn is_too_late(original: RuleDay, settles: Day) -> bool
     ensures { result ≡ is_too_late original settles }
 {
-    settles.number() > original.number() + MOST_DAYS
+    settles.number() > original.day().number() + MOST_DAYS
 }
 
 fn is_retryable(code: ReturnCode, taken: Day, authorized: Option<Day>, day: Day) -> bool

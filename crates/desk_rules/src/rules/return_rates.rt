@@ -83,8 +83,8 @@ fn has_settled(state: EntryState, day: Day) -> bool
     ensures { result ≡ has_settled state day }
 {
     match state {
-        EntryState::Sent { settled } => is_in_window(settled, day),
-        EntryState::Returned { settled, .. } => is_in_window(settled, day),
+        EntryState::Sent { settled } => is_in_window(settled.day(), day),
+        EntryState::Returned { settled, .. } => is_in_window(settled.day(), day),
         EntryState::Held | EntryState::Lapsed => false,
     }
 }

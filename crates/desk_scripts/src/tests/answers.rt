@@ -44,7 +44,7 @@ fn state(rt: &impl Abort, out: &mut String, state: EntryState) {
         EntryState::Lapsed => put(rt, out, "lapsed"),
         EntryState::Sent { settled } => {
             put(rt, out, "sent ");
-            put_day(rt, out, settled);
+            put_day(rt, out, settled.day());
         }
         EntryState::Returned {
             code,

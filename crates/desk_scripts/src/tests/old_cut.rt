@@ -3,7 +3,9 @@ use super::script::new_store;
 use ach_fields::{Cents, Id, Ref, Routing, ShortText};
 use bank_days::Day;
 use desk_core::{CutRows, FilePlace, ListStore, SentEntry, SentRow, Store};
-use desk_rules::{AccountKind, Company, Direction, Entries, Entry, Limits, SecCode, Submission};
+use desk_rules::{
+    AccountKind, Company, Direction, Entries, Entry, Limits, RuleDay, SecCode, Submission,
+};
 use std::alloc::Global;
 use std::process::Abort;
 
@@ -15,8 +17,8 @@ fn reference(rt: &impl Abort) -> Ref {
     Ref::new(b"OLD").ok().expect(rt, "a reference")
 }
 
-fn settled(rt: &impl Abort) -> Day {
-    Day::read(b"2025-03-03").expect(rt, "a day")
+fn settled(rt: &impl Abort) -> RuleDay {
+    RuleDay::read(b"2025-03-03").expect(rt, "a day")
 }
 
 fn short_text<const N: usize>(rt: &impl Abort, text: &[u8]) -> ShortText<N> {

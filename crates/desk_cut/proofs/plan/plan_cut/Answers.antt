@@ -1,8 +1,10 @@
 use Rattle.std.proofs.Common.{◌≡◌, ◌∙◌, ◌+◌, ℕ, List, length, sym, ap, map, rules}
 use Rattle.std.specs.Prelude.{nat_le, sum}
+use Rattle.std.specs.List.{list_all}
 use Rattle.desk_plan.specs.declared.batch.Batch.{Batch}
 use Rattle.desk_plan.specs.Modifiers.{most_files}
 use Rattle.desk_plan.specs.Files.{division}
+use Rattle.desk_plan.specs.Reuse.{is_past}
 use Rattle.desk_plan.specs.Runs.{in_runs}
 use Rattle.desk_history.specs.Files.{files_from}
 use Rattle.desk_cut.specs.Numbers.{batches_in, write_of, summary_of}
@@ -17,7 +19,7 @@ returns-in_default c =
     let h = c.in_ok-numbered.ensures.ok in
     let sizes : c.in_ok-sizes.sizes.items ≡ map length (division n.loads.items) = c.in_ok-sizes.ensures.sizes ∙ ap (λ (bs : List Batch). map length (division bs)) c.deref.ensures.value in
     let count : length c.in_ok-sizes.sizes.items ≡ c.len.result = search rules in (
-      may_take x n c.args.latest.now _ h (sym c.are_past.ensures ∙ c.if-not-are_past.false),
+      may_take x n c.args.latest.now _ h (ap (λ (d : ℕ). list_all (is_past d) c.args.latest.now) (sym c.day-today.ensures.value) ∙ sym c.are_past.ensures ∙ c.if-not-are_past.false),
       modifiers_are x n c.in_ok-sizes.sizes.items h sizes
           ∙ ap (λ k. nat_le (c.args.made + k) most_files) count
           ∙ none_left _ c.args.made (sym c.made_before.ensures ∙ c.in_default.is),
@@ -38,9 +40,13 @@ returns c =
     c.deref-2.ensures.value ∙ c.in_ok-sizes.ensures.sizes ∙ ap (λ (bs : List Batch). map length (division bs)) c.deref.ensures.value in
     let count : length c.deref-2.result.now ≡ c.len.result = c.deref-2.ensures.len ∙ sym c.len.ensures in
     let room = left _ c.args.made c.in-Some.made (sym c.made_before.ensures ∙ c.in-Some.is) in (
-      may_take x n c.args.latest.now _ h (sym c.are_past.ensures ∙ c.if-not-are_past.false),
+      may_take x n c.args.latest.now _ h (ap (λ (d : ℕ). list_all (is_past d) c.args.latest.now) (sym c.day-today.ensures.value) ∙ sym c.are_past.ensures ∙ c.if-not-are_past.false),
       modifiers_are x n c.deref-2.result.now h sizes ∙ ap (λ k. nat_le (c.args.made + k) most_files) count ∙ room.0,
       is_plan x n c.deref-2.result.now c.in_ok-write.field-0 h sizes
-          (c.in_ok-write.ensures.write ∙ ap (λ made. write_of x.identity (files_from x.day made (in_runs c.deref-2.result.now (batches_in n))) n) room.1)
-          (c.in_ok-write.ensures.done ∙ ap (λ made. summary_of x.day (files_from x.day made (in_runs c.deref-2.result.now (batches_in n))) n) room.1),
+          (c.in_ok-write.ensures.write
+          ∙ ap (λ (d : ℕ). write_of x.identity (files_from d c.in-Some.made (in_runs c.deref-2.result.now (batches_in n))) n) c.day-today.ensures.value
+          ∙ ap (λ made. write_of x.identity (files_from x.day made (in_runs c.deref-2.result.now (batches_in n))) n) room.1)
+          (c.in_ok-write.ensures.done
+          ∙ ap (λ (d : ℕ). summary_of d (files_from d c.in-Some.made (in_runs c.deref-2.result.now (batches_in n))) n) c.day-today.ensures.value
+          ∙ ap (λ made. summary_of x.day (files_from x.day made (in_runs c.deref-2.result.now (batches_in n))) n) room.1),
     )

@@ -1,11 +1,11 @@
 //! The fields of bodies are tried here, in their order.
-use super::day;
-use crate::{
+use super::{day, rule_day};
+use ach_fields::Id;
+use desk_rules::{
     Company, CompanyDraft, Draft, DraftText, EntryDraft, EntryDrafts, Field, LimitDrafts, Limits,
     LimitsDraft, Optional, Refusal, Retry, RetryDraft, RuleFault, Submission, check_company_fields,
     check_day_field, check_fields, check_limits_fields, check_retry_fields, check_size, total,
 };
-use ach_fields::Id;
 use std::alloc::Global;
 use std::process::Abort;
 
@@ -88,7 +88,7 @@ fn bad(field: Field, index: u64) -> Refusal {
 fn a_submission_is_read(rt: HostRuntime) {
     let submission = submission(&rt, b"2025-01-10", b"credit", &[150_000, 0]);
     assert_eq!(rt; submission.reference.bytes(), b"PAY-1".as_slice());
-    assert_eq!(rt; submission.day, day(&rt, b"2025-01-10"));
+    assert_eq!(rt; submission.day, rule_day(&rt, b"2025-01-10"));
     let entries = submission.entries.as_slice();
     assert_eq!(rt; entries.len(), 2);
     assert_eq!(rt; entries[0].cents.get(), 150_000);
@@ -277,6 +277,6 @@ fn companies_and_limits_are_read(rt: HostRuntime) {
 #[test]
 fn a_desk_day_ends_with_2096(rt: HostRuntime) {
     let last = check_day_field(&Some(text(&rt, b"2096-12-31")));
-    assert_eq!(rt; last, Ok(day(&rt, b"2096-12-31")));
+    assert_eq!(rt; last, Ok(rule_day(&rt, b"2096-12-31")));
     assert!(rt; check_day_field(&Some(text(&rt, b"2097-01-01"))).is_err());
 }

@@ -1,13 +1,12 @@
 //! Retries of returned debits are tried here.
-use super::{calendar, code, day};
-use crate::Refusal::{NotRetryable, NotReturned, RetriesSpent, RetryTooLate};
-use crate::{Attempt, EntryState, is_too_late, may_retry};
-use bank_days::Day;
+use super::{calendar, code, day, rule_day};
+use desk_rules::Refusal::{NotRetryable, NotReturned, RetriesSpent, RetryTooLate};
+use desk_rules::{Attempt, EntryState, RuleDay, is_too_late, may_retry};
 use std::process::Abort;
 
 fn returned_attempt(rt: &impl Abort, settled: &[u8], text: &[u8; 3], taken: &[u8]) -> Attempt {
     Attempt::Returned {
-        settled: day(rt, settled),
+        settled: rule_day(rt, settled),
         code: code(rt, text),
         day: day(rt, taken),
     }
@@ -17,7 +16,7 @@ fn original(rt: &impl Abort) -> Attempt {
     returned_attempt(rt, b"2025-01-10", b"R01", b"2025-01-14")
 }
 
-fn sent_attempt(settled: Day) -> Attempt {
+fn sent_attempt(settled: RuleDay) -> Attempt {
     Attempt::Sent { settled }
 }
 
@@ -32,11 +31,11 @@ fn a_retry_settles_within_180_days_of_the_original(rt: HostRuntime) {
     for count in [1, 2] {
         let tried = &attempts[..count];
         assert_eq!(rt;
-            may_retry(tried, day(&rt, b"2025-07-10"), None, today, &calendar),
+            may_retry(tried, rule_day(&rt, b"2025-07-10"), None, today, &calendar),
             Err(RetryTooLate)
         );
         assert_eq!(rt;
-            may_retry(tried, day(&rt, b"2025-07-09"), None, today, &calendar),
+            may_retry(tried, rule_day(&rt, b"2025-07-09"), None, today, &calendar),
             Ok(())
         );
     }
@@ -44,7 +43,7 @@ fn a_retry_settles_within_180_days_of_the_original(rt: HostRuntime) {
 
 #[test]
 fn the_last_day_of_a_retry_is_day_180(rt: HostRuntime) {
-    let original = day(&rt, b"2025-01-10");
+    let original = rule_day(&rt, b"2025-01-10");
     assert!(rt; !is_too_late(original, day(&rt, b"2025-07-09")));
     assert!(rt; is_too_late(original, day(&rt, b"2025-07-10")));
 }
@@ -53,7 +52,7 @@ fn the_last_day_of_a_retry_is_day_180(rt: HostRuntime) {
 fn a_third_retry_is_refused(rt: HostRuntime) {
     let calendar = calendar(&rt);
     let today = day(&rt, b"2025-01-23");
-    let asked = day(&rt, b"2025-01-24");
+    let asked = rule_day(&rt, b"2025-01-24");
     let attempts = [
         original(&rt),
         returned_attempt(&rt, b"2025-01-16", b"R09", b"2025-01-17"),
@@ -77,12 +76,13 @@ fn a_third_retry_is_refused(rt: HostRuntime) {
 fn the_original_and_the_newest_attempt_came_back(rt: HostRuntime) {
     let calendar = calendar(&rt);
     let today = day(&rt, b"2025-01-14");
-    let asked = day(&rt, b"2025-01-16");
+    let settled = rule_day(&rt, b"2025-01-14");
+    let asked = rule_day(&rt, b"2025-01-16");
     let rows = [
         [original(&rt), Attempt::Held],
-        [original(&rt), sent_attempt(today)],
+        [original(&rt), sent_attempt(settled)],
         [Attempt::Held, original(&rt)],
-        [sent_attempt(today), original(&rt)],
+        [sent_attempt(settled), original(&rt)],
     ];
     for attempts in &rows {
         assert_eq!(rt;
@@ -91,7 +91,7 @@ fn the_original_and_the_newest_attempt_came_back(rt: HostRuntime) {
         );
     }
     assert_eq!(rt;
-        may_retry(&[sent_attempt(today)], asked, None, today, &calendar),
+        may_retry(&[sent_attempt(settled)], asked, None, today, &calendar),
         Err(NotReturned)
     );
 }
@@ -100,7 +100,7 @@ fn the_original_and_the_newest_attempt_came_back(rt: HostRuntime) {
 fn a_stopped_payment_is_retried_once_it_is_authorized_again(rt: HostRuntime) {
     let calendar = calendar(&rt);
     let today = day(&rt, b"2025-01-15");
-    let asked = day(&rt, b"2025-01-22");
+    let asked = rule_day(&rt, b"2025-01-22");
     let rows = [
         (b"R08", None, false),
         (b"R08", Some(b"2025-01-13"), false),
@@ -130,7 +130,7 @@ fn a_stopped_payment_is_retried_once_it_is_authorized_again(rt: HostRuntime) {
 
 #[test]
 fn what_lapsed_is_no_attempt(rt: HostRuntime) {
-    let settled = day(&rt, b"2025-01-10");
+    let settled = rule_day(&rt, b"2025-01-10");
     let taken = day(&rt, b"2025-01-14");
     let code = code(&rt, b"R01");
     let back = EntryState::Returned {

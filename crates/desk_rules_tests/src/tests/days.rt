@@ -1,7 +1,7 @@
 ghost use Rattle.std.specs.Prelude.{◌≤◌};
 
-use crate::CalendarFault::{BadRow, NotAscending, TooMany};
-use crate::{Calendar, CalendarFault, Day};
+use bank_days::CalendarFault::{BadRow, NotAscending, TooMany};
+use bank_days::{Calendar, CalendarFault, Day};
 use std::alloc::Global;
 use std::process::Abort;
 use std::test::Fail;

@@ -1,5 +1,4 @@
 //! These are worked cases: files about a debit of 250.00 that settled on Friday, 2025-01-10.
-use crate::{FoundItem, IntakeFault, IntakePlan, NamedEntry, plan_intake};
 use ach_fields::{Cents, Id, Ref, Routing, ShortText};
 use ach_files::{ItemFacts, ReturnOrChange};
 use bank_days::{Calendar, Day};
@@ -8,8 +7,9 @@ use desk_book::{ChangedRow, ReturnedRow};
 use desk_history::{
     ChangeRow, Intake, ReturnRow, SentEntry, SuspenseReason, SuspenseRow, TakenFile,
 };
-use desk_rules::{AccountKind, Entry, ReturnCode, SecCode};
-use std::alloc::Global;
+use desk_intake::{FoundItem, IntakePlan, NamedEntry, plan_intake};
+use desk_rules::{AccountKind, Entry, ReturnCode, RuleDay, SecCode};
+use std::alloc::{AllocError, Global};
 use std::process::Abort;
 use std::test::Fail;
 
@@ -45,7 +45,7 @@ fn sent_entry(rt: &impl Abort) -> SentEntry {
         reference: pay(rt),
         order: 1,
         index: 2,
-        settled: day(rt, b"2025-01-10"),
+        settled: RuleDay::read(b"2025-01-10").expect(rt, "a day"),
         sec: SecCode::Ppd,
         debit: true,
         entry: Entry {
@@ -100,7 +100,7 @@ fn plan_on(
     rt: &(impl Abort + Alloc<A = Global>),
     text: &[u8],
     found: &[FoundItem],
-) -> Result<IntakePlan, IntakeFault> {
+) -> Result<IntakePlan, AllocError> {
     let holidays = Calendar::empty(rt.alloc());
     plan_intake(rt.alloc(), KEY, DIGEST, found, day(rt, text), &holidays)
 }
@@ -326,21 +326,5 @@ fn a_change_is_told(rt: HostRuntime) -> Result<(), Fail> {
     assert_eq!(rt; plan.changed.as_slice(), [wanted].as_slice());
     assert_eq!(rt; plan.postings.as_slice(), returned_pair(&rt).as_slice());
     assert_eq!(rt; plan.file, file(&rt, b"2025-01-14", 1, 0, 1, 0));
-    Ok(())
-}
-
-#[test]
-fn an_entry_that_settles_too_late_has_no_deadline(rt: HostRuntime) -> Result<(), Fail> {
-    let mut entry = sent_entry(&rt);
-    entry.settled = Day::from_number(47_513).expect(&rt, "2100-02-01");
-    let found = [FoundItem {
-        item: returned_item(&rt),
-        named: Some(NamedEntry {
-            entry,
-            returned: false,
-        }),
-    }];
-    let refused = plan_on(&rt, b"2025-01-14", &found).err();
-    assert_eq!(rt; refused, Some(IntakeFault::OutOfRange));
     Ok(())
 }

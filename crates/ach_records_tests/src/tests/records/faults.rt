@@ -1,7 +1,7 @@
 //! The first fault of records that were changed, and of fields that have no text.
 use super::{INFORMATION, PAYMENT, RETURN};
-use crate::{BatchHeaderText, RecordFault, print_batch_header, view};
 use ach_fields::{FieldFault, Ymd};
+use ach_records::{BatchHeaderText, RecordFault, print_batch_header, view};
 use std::test::Fail;
 
 // The fault of a record in which this offset holds this byte.

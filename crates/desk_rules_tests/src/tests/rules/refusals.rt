@@ -1,6 +1,6 @@
 //! The names of refusals are tried here.
 use super::code;
-use crate::{Field, Refusal, RefusalName};
+use desk_rules::{Field, Refusal, RefusalName};
 
 #[test]
 fn refusals_have_numbers_names_and_statuses(rt: HostRuntime) {

@@ -1,5 +1,5 @@
 //! The values come from outside: routing numbers in use, and the fields of files that banks exchange.
-use crate::{
+use ach_fields::{
     Cents, FieldFault, Id, Ref, Routing, ShortText, Trace, Ymd, check_digit, put_number, put_text,
     take_number, take_text, without_blanks_after,
 };

@@ -1,9 +1,7 @@
 //! These are worked cases, from a desk whose only holiday is 2025-01-20.
-ghost use Rattle.std.specs.Prelude.{◌≤◌};
-
-use crate::ReturnCode;
 use ach_fields::Cents;
 use bank_days::{Calendar, Day};
+use desk_rules::{ReturnCode, RuleDay};
 use std::alloc::Global;
 use std::process::Abort;
 
@@ -13,10 +11,12 @@ mod refusals;
 mod retries;
 mod returns;
 
-fn day(rt: &impl Abort, text: &[u8]) -> Day
-    ensures { result ≤ 47_481 }
-{
+fn day(rt: &impl Abort, text: &[u8]) -> Day {
     Day::read(text).expect(rt, "a day")
+}
+
+fn rule_day(rt: &impl Abort, text: &[u8]) -> RuleDay {
+    RuleDay::read(text).expect(rt, "a day")
 }
 
 fn calendar(rt: &(impl Abort + Alloc<A = Global>)) -> Calendar {

@@ -1,7 +1,7 @@
 //! Codes of returns, their deadlines, and the return rates are tried here.
-use super::{calendar, cents, code, day};
-use crate::TimeClass::{SixtyDays, TwoBankingDays, Unlimited};
-use crate::{
+use super::{calendar, cents, code, day, rule_day};
+use desk_rules::TimeClass::{SixtyDays, TwoBankingDays, Unlimited};
+use desk_rules::{
     EntryFact, EntryState, Level, Rate, Rates, ReturnCode, deadline, exceeds, is_late, rates,
 };
 
@@ -44,7 +44,7 @@ fn a_return_after_its_deadline_is_late(rt: HostRuntime) {
     ];
     for (text, settled, last, next) in rows {
         let code = code(&rt, text);
-        let settled = day(&rt, settled);
+        let settled = rule_day(&rt, settled);
         let last = day(&rt, last);
         assert_eq!(rt; deadline(code, settled, &calendar), Some(last), "{text:?}");
         assert!(rt; !is_late(code, settled, last, &calendar), "{text:?}");
@@ -54,7 +54,7 @@ fn a_return_after_its_deadline_is_late(rt: HostRuntime) {
         );
     }
     let any_time = code(&rt, b"R06");
-    let settled = day(&rt, b"2025-01-10");
+    let settled = rule_day(&rt, b"2025-01-10");
     assert_eq!(rt; deadline(any_time, settled, &calendar), None);
     assert!(rt; !is_late(any_time, settled, day(&rt, b"2099-12-31"), &calendar));
 }
@@ -80,23 +80,26 @@ fn rates_are_compared_by_products(rt: HostRuntime) {
 // The 60 days that end on 2025-03-10 begin on 2025-01-10.
 #[test]
 fn rates_count_live_debits_of_sixty_days(rt: HostRuntime) {
-    let first = day(&rt, b"2025-01-10");
-    let before = day(&rt, b"2025-01-09");
-    let today = day(&rt, b"2025-03-10");
-    let returned = |settled, text, day| EntryState::Returned {
-        settled,
+    let (first, before) = (b"2025-01-10", b"2025-01-09");
+    let last = b"2025-03-10";
+    let today = day(&rt, last);
+    let sent = |settled| EntryState::Sent {
+        settled: rule_day(&rt, settled),
+    };
+    let returned = |settled, text, taken| EntryState::Returned {
+        settled: rule_day(&rt, settled),
         code: code(&rt, text),
-        day,
+        day: day(&rt, taken),
         late: false,
     };
     let rows = [
-        (true, false, EntryState::Sent { settled: first }),
-        (true, false, EntryState::Sent { settled: before }),
+        (true, false, sent(first)),
+        (true, false, sent(before)),
         (true, false, returned(before, b"R29", first)),
         (true, false, returned(before, b"R29", before)),
-        (true, false, returned(today, b"R02", today)),
-        (true, true, returned(today, b"R02", today)),
-        (false, false, returned(today, b"R02", today)),
+        (true, false, returned(last, b"R02", last)),
+        (true, true, returned(last, b"R02", last)),
+        (false, false, returned(last, b"R02", last)),
         (true, false, EntryState::Held),
         (true, false, EntryState::Lapsed),
     ];

@@ -1,12 +1,12 @@
 //! What is printed, against records from outside.
 use super::{CHANGE, INFORMATION, PAYMENT, RETURN};
-use crate::{
+use ach_fields::{Cents, FieldFault, Routing, Trace, Ymd};
+use ach_records::{
     Addenda05Text, BatchControlText, BatchHeaderText, Change98Text, EntryText, FileControlText,
     FileHeaderText, Return99Text, print_addenda05, print_batch_control, print_batch_header,
     print_change98, print_entry, print_file_control, print_file_header, print_filler,
     print_return99,
 };
-use ach_fields::{Cents, FieldFault, Routing, Trace, Ymd};
 use std::test::Fail;
 
 fn cents(amount: u64) -> Result<Cents, FieldFault> {

@@ -1,6 +1,6 @@
 //! What views say of records from outside.
 use super::{CHANGE, INFORMATION, PAYMENT, RETURN};
-use crate::{Kind, Record, has_digits, header_key, kind_of, view};
+use ach_records::{Kind, Record, has_digits, header_key, kind_of, view};
 
 #[test]
 fn file_header(rt: HostRuntime) {

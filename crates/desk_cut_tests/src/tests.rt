@@ -1,12 +1,14 @@
 //! Two companies' submissions, a credit and a debit, for Friday 2025-01-10 are cut here on
 //! Thursday.
-use crate::{CutFault, CutPlan, plan_cut, ranges_of_cut};
 use ach_fields::{Cents, Id, Ref, Routing, ShortText};
 use bank_days::{Calendar, Day};
 use desk_accounts::Account;
 use desk_book::{HeldSubmission, Row};
+use desk_cut::{CutFault, CutPlan, plan_cut, ranges_of_cut};
 use desk_history::{Identity, ListOf};
-use desk_rules::{AccountKind, Company, Direction, Entries, Entry, Limits, SecCode, Submission};
+use desk_rules::{
+    AccountKind, Company, Direction, Entries, Entry, Limits, RuleDay, SecCode, Submission,
+};
 use std::alloc::Global;
 use std::process::Abort;
 use std::test::Fail;
@@ -29,6 +31,10 @@ const TEXT: &[u8] =
 
 fn day(rt: &impl Abort, text: &[u8]) -> Day {
     Day::read(text).expect(rt, "a day")
+}
+
+fn rule_day(rt: &impl Abort, text: &[u8]) -> RuleDay {
+    RuleDay::read(text).expect(rt, "a day")
 }
 
 fn short_text<const N: usize>(rt: &impl Abort, text: &[u8]) -> ShortText<N> {
@@ -90,7 +96,7 @@ fn waits(
         sec: SecCode::Ppd,
         direction,
         description: short_text(rt, b"DUES"),
-        day: day(rt, b"2025-01-10"),
+        day: rule_day(rt, b"2025-01-10"),
         entries: entries(rt, count)?,
     };
     Ok(HeldSubmission {
@@ -123,7 +129,7 @@ fn plan(
     waiting: &[HeldSubmission],
 ) -> Result<CutPlan, CutFault> {
     let holidays = Calendar::empty(rt.alloc());
-    let today = day(rt, b"2025-01-09");
+    let today = rule_day(rt, b"2025-01-09");
     plan_cut(
         rt.alloc(),
         &identity(rt),
@@ -139,7 +145,7 @@ fn plan(
 #[test]
 fn a_batch_that_would_pass_the_last_sequence_begins_at_1(rt: HostRuntime) -> Result<(), Fail> {
     let holidays = Calendar::empty(rt.alloc());
-    let today = day(&rt, b"2025-01-09");
+    let today = rule_day(&rt, b"2025-01-09");
     let ranges = ranges_of_cut(rt.alloc(), today, &holidays, LAST, &two(&rt)?);
     let ranges = ranges.ok().expect(&rt, "ranges");
     assert_eq!(rt;
@@ -155,7 +161,7 @@ fn all_rows_of_a_plan(rt: HostRuntime) -> Result<(), Fail> {
     let plan = plan.ok().expect(&rt, "a plan");
     let friday = day(&rt, b"2025-01-10");
     for (row, batch) in plan.sent.iter().zip([1, 2]) {
-        assert_eq!(rt; row.settled, friday);
+        assert_eq!(rt; row.settled.day(), friday);
         assert_eq!(rt; row.printed.modifier, b'A');
         assert_eq!(rt; row.printed.batch, batch);
     }
@@ -218,7 +224,7 @@ fn a_day_has_36_files(rt: HostRuntime) -> Result<(), Fail> {
 #[test]
 fn a_late_retry_lapses(rt: HostRuntime) -> Result<(), Fail> {
     let mut retry = waits(&rt, b"MILL01", Direction::Debit, 1)?;
-    retry.original_settled = Some(day(&rt, b"2024-07-13"));
+    retry.original_settled = Some(rule_day(&rt, b"2024-07-13"));
     let mut waiting = Vec::new(rt.alloc());
     waiting.push(retry)?;
     let late = plan(&rt, 0, &[], &waiting).ok().expect(&rt, "a plan");
@@ -227,7 +233,7 @@ fn a_late_retry_lapses(rt: HostRuntime) -> Result<(), Fail> {
     assert_eq!(rt; late.lapsed.len(), 1);
     assert_eq!(rt; late.done.lapsed, 1);
     let mut retry = waits(&rt, b"MILL01", Direction::Debit, 1)?;
-    retry.original_settled = Some(day(&rt, b"2024-07-14"));
+    retry.original_settled = Some(rule_day(&rt, b"2024-07-14"));
     let mut waiting = Vec::new(rt.alloc());
     waiting.push(retry)?;
     let sent = plan(&rt, 0, &[None], &waiting).ok().expect(&rt, "a plan");

@@ -1,10 +1,10 @@
 ghost use Rattle.std.specs.Prelude.{◌≤◌, unsigned_abs};
 
-use crate::{
-    Account, Cause, Posting, balance, balance_of_days, post_cut, post_return, post_suspense,
-};
 use ach_fields::{Cents, Id, Ref};
 use bank_days::Day;
+use desk_accounts::{
+    Account, Cause, Posting, balance, balance_of_days, post_cut, post_return, post_suspense,
+};
 use std::process::Abort;
 use std::test::Fail;
 

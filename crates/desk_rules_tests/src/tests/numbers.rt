@@ -1,8 +1,8 @@
 //! Worked rows are tried here: batches at the limits of a file, and sequences at the end of their
 //! range.
-use crate::{Batch, NumberFault, divide, is_past, modifier, plan_numbers};
 use ach_fields::{Cents, Id};
 use bank_days::Day;
+use desk_plan::{Batch, NumberFault, divide, is_past, modifier, plan_numbers};
 use std::test::Fail;
 
 fn batch((debits, credits, records): (u64, u64, u32)) -> Option<Batch> {

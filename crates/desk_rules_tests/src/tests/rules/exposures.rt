@@ -1,18 +1,13 @@
 //! Exposures are tried here, and submissions against limits.
-ghost use Rattle.std.specs.Prelude.{◌≤◌, IfSome};
-ghost use Rattle.desk_rules.specs.Exposure.{IsSettledInRange};
-
 use super::bodies::submission;
-use super::{calendar, cents, code, day};
-use crate::Refusal::{CreditLimit, DateRange, DebitLimit, EntryLimit};
-use crate::{EntryFact, EntryState, Limits, check_submission, credit_exposure, debit_exposure};
-use bank_days::Day;
+use super::{calendar, cents, code, day, rule_day};
+use desk_rules::Refusal::{CreditLimit, DateRange, DebitLimit, EntryLimit};
+use desk_rules::{
+    EntryFact, EntryState, Limits, RuleDay, check_submission, credit_exposure, debit_exposure,
+};
 use std::process::Abort;
 
-fn entry(rt: &impl Abort, debit: bool, amount: u64, settled: Option<Day>) -> EntryFact
-    requires { IfSome settled (λ d. d ≤ 47_481) }
-    ensures { IsSettledInRange result.state }
-{
+fn entry(rt: &impl Abort, debit: bool, amount: u64, settled: Option<RuleDay>) -> EntryFact {
     let state = match settled {
         Some(settled) => EntryState::Sent { settled },
         None => EntryState::Held,
@@ -28,7 +23,7 @@ fn entry(rt: &impl Abort, debit: bool, amount: u64, settled: Option<Day>) -> Ent
 #[test]
 fn entries_are_exposed_until_their_money_is_sure(rt: HostRuntime) {
     let calendar = calendar(&rt);
-    let settled = day(&rt, b"2025-01-10");
+    let settled = rule_day(&rt, b"2025-01-10");
     let facts = [
         entry(&rt, true, 2_500, Some(settled)),
         entry(&rt, false, 150_000, Some(settled)),
@@ -55,8 +50,9 @@ fn entries_are_exposed_until_their_money_is_sure(rt: HostRuntime) {
 fn returned_credits_count_and_returned_debits_do_not(rt: HostRuntime) {
     let calendar = calendar(&rt);
     let today = day(&rt, b"2025-01-10");
+    let settled = rule_day(&rt, b"2025-01-10");
     let back = EntryState::Returned {
-        settled: today,
+        settled,
         code: code(&rt, b"R01"),
         day: today,
         late: false,
@@ -64,7 +60,7 @@ fn returned_credits_count_and_returned_debits_do_not(rt: HostRuntime) {
     // The state of a credit of 700 cents and of a debit of 500, and both exposures.
     let rows = [
         (EntryState::Held, 700, 500),
-        (EntryState::Sent { settled: today }, 700, 500),
+        (EntryState::Sent { settled }, 700, 500),
         (back, 700, 0),
         (EntryState::Lapsed, 0, 0),
     ];
