@@ -13,7 +13,7 @@ use Rattle.clap.specs.declared.parser.matches.ArgMatches.{ArgMatches}
 use Rattle.clap.proofs.OnLiterals.{clap_on_literals}
 use Rattle.clap.proofs.WalkLemmas.{first_value-rows}
 use Rattle.desk_submit.specs.Options.{OptionTexts}
-use Rattle.desk_cli.specs.CommandLine.{Check, Gives, GivesAt, IsFaultAmong, IsFaultOf, NamedCommand, Parses, Submit, app_named, check_app, has_no_kind, is_check, is_submit, kinds_at, named_check, named_command, named_submit, options_in, program_app, submit_app, submit_rules, text_in}
+use Rattle.desk_cli.specs.CommandLine.{AnswerMessages, Check, Gives, GivesAt, IsFaultAmong, IsFaultOf, NamedCommand, Parses, Submit, app_named, check_app, has_no_kind, is_check, is_stdio, is_submit, kinds_at, named_check, named_command, named_stdio, named_submit, options_in, program_app, stdio_app, submit_app, submit_rules, text_in}
 use Rattle.desk_cli.specs.declared.words.command.Command.{Command}
 use Rattle.desk_cli.specs.declared.words.command.LineFault.{LineFault}
 use Rattle.desk_cli.specs.declared.words.command.LineFault.TheVariants.{Help, Usage, NoMemory}
@@ -33,6 +33,14 @@ submit_free = refl
 pub submit_simple : is_simple submit_app ≡ true
 unfolding clap_on_literals submit_rules
 submit_simple = refl
+
+pub stdio_free : is_simple_and_free stdio_app ≡ true
+unfolding clap_on_literals
+stdio_free = refl
+
+pub stdio_simple : is_simple stdio_app ≡ true
+unfolding clap_on_literals
+stdio_simple = refl
 
 pub program_free : is_simple_and_free program_app ≡ true
 unfolding clap_on_literals
@@ -64,6 +72,10 @@ pub submit_given : (words : List Text) (m : ArgMatches) (list : Text) (options :
     → list ≡ text_in (codes "FILE") (rows_of (found_of m)) → options ≡ options_in (rows_of (found_of m)) → named_submit words ≡ Some (Submit list options)
 unfolding named_submit
 submit_given words m list options h e f = rw (h.0, e, f, h.1) refl
+
+pub stdio_given : (words : List Text) (m : ArgMatches) → Parses stdio_app words (Ok m) → named_stdio words ≡ Some AnswerMessages
+unfolding named_stdio
+stdio_given words m h = rw h.0 refl
 
 help_for_memory : (k : ErrorKind) → k ≡ kind.OutOfMemory → k ≡ kind.DisplayHelp → ⊥
 help_for_memory k memory help = cc
@@ -104,6 +116,10 @@ named_submit-none : (words : List Text) → has_no_kind (fault_of submit_app wor
 unfolding named_submit
 named_submit-none words h = rw h refl
 
+named_stdio-none : (words : List Text) → has_no_kind (fault_of stdio_app words) ≡ false → named_stdio words ≡ None
+unfolding named_stdio
+named_stdio-none words h = rw h refl
+
 -- an error of `clap` for a command's arguments, as a fault
 refused : (app : App) (words : List Text) (named : Option NamedCommand) (e : Error) (fault : LineFault)
     → (has_no_kind (fault_of app words) ≡ false → named ≡ None) → Parses app words (Err e) → IsFaultOf (kind_of e) fault
@@ -120,6 +136,10 @@ check_refused words e fault = refused check_app words (named_check words) e faul
 pub submit_refused : (words : List Text) (e : Error) (fault : LineFault) → Parses submit_app words (Err e) → IsFaultOf (kind_of e) fault
     → Gives (named_submit words) (fault_of submit_app words) (Err fault)
 submit_refused words e fault = refused submit_app words (named_submit words) e fault (named_submit-none words)
+
+pub stdio_refused : (words : List Text) (e : Error) (fault : LineFault) → Parses stdio_app words (Err e) → IsFaultOf (kind_of e) fault
+    → Gives (named_stdio words) (fault_of stdio_app words) (Err fault)
+stdio_refused words e fault = refused stdio_app words (named_stdio words) e fault (named_stdio-none words)
 
 -- the words that the first one sends to a command's rules
 abbrev pub texts_of : List (Bor Text) → List Text
@@ -175,13 +195,26 @@ gives_submit (x ∷ xs) name r a apart is g =
     let submit : is_submit x.now ≡ true = is_word-yes (codes "submit") x.now name.now same is in
     gives_at x.now (texts_of xs) submit_app (named_submit (texts_of (x ∷ xs))) r (rw (check, submit) refl) (rw (check, submit) refl) g
 
--- words after one that names no command
-pub gives_none : (words : List (Bor Text)) (name : Bor Text) (fault : LineFault) → Some name ≡ slice_get words 0
-    → ¬ (name.now ≡ codes "check") → ¬ (name.now ≡ codes "submit")
-    → IsFaultAmong (fault_of program_app (texts_of words)) fault → GivesAt (texts_of words) (Err fault)
-gives_none [] name fault a not_check not_submit is = absurd (let no : ⊥ = cc in no)
-gives_none (x ∷ xs) name fault a not_check not_submit is =
+-- words after `stdio`
+pub gives_stdio : (words : List (Bor Text)) (name : Bor Text) (r : Result Command LineFault) → Some name ≡ slice_get words 0
+    → ¬ (name.now ≡ codes "check") → ¬ (name.now ≡ codes "submit") → name.now ≡ codes "stdio"
+    → Gives (named_stdio (texts_of words)) (fault_of stdio_app (texts_of words)) r → GivesAt (texts_of words) r
+gives_stdio [] name r a not_check not_submit is g = absurd (let no : ⊥ = cc in no)
+gives_stdio (x ∷ xs) name r a not_check not_submit is g =
     let same : name.now ≡ x.now = first_now x name xs a in
     let check : is_check x.now ≡ false = is_word-no (codes "check") x.now name.now same not_check in
     let submit : is_submit x.now ≡ false = is_word-no (codes "submit") x.now name.now same not_submit in
-    gives_at x.now (texts_of xs) program_app None (Err fault) (rw (check, submit) refl) (rw (check, submit) refl) (inr refl, is)
+    let stdio : is_stdio x.now ≡ true = is_word-yes (codes "stdio") x.now name.now same is in
+    gives_at x.now (texts_of xs) stdio_app (named_stdio (texts_of (x ∷ xs))) r (rw (check, submit, stdio) refl) (rw (check, submit, stdio) refl) g
+
+-- words after one that names no command
+pub gives_none : (words : List (Bor Text)) (name : Bor Text) (fault : LineFault) → Some name ≡ slice_get words 0
+    → ¬ (name.now ≡ codes "check") → ¬ (name.now ≡ codes "submit") → ¬ (name.now ≡ codes "stdio")
+    → IsFaultAmong (fault_of program_app (texts_of words)) fault → GivesAt (texts_of words) (Err fault)
+gives_none [] name fault a not_check not_submit not_stdio is = absurd (let no : ⊥ = cc in no)
+gives_none (x ∷ xs) name fault a not_check not_submit not_stdio is =
+    let same : name.now ≡ x.now = first_now x name xs a in
+    let check : is_check x.now ≡ false = is_word-no (codes "check") x.now name.now same not_check in
+    let submit : is_submit x.now ≡ false = is_word-no (codes "submit") x.now name.now same not_submit in
+    let stdio : is_stdio x.now ≡ false = is_word-no (codes "stdio") x.now name.now same not_stdio in
+    gives_at x.now (texts_of xs) program_app None (Err fault) (rw (check, submit, stdio) refl) (rw (check, submit, stdio) refl) (inr refl, is)

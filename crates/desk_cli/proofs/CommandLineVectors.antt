@@ -3,7 +3,7 @@ use Rattle.std.proofs.Common.{◌≡◌, [], ◌∷◌, List, Some, None, codes,
 use Rattle.clap.specs.Words.{Text}
 use Rattle.clap.specs.declared.error.kind.ErrorKind.TheVariants as kind
 use Rattle.clap.proofs.OnLiterals.{clap_on_literals}
-use Rattle.desk_cli.specs.CommandLine.{AnswerSubmission, Check, NamedCommand, Submit, kinds_at, named_check, named_command, named_submit, submit_rules}
+use Rattle.desk_cli.specs.CommandLine.{AnswerMessages, AnswerSubmission, Check, NamedCommand, Submit, kinds_at, named_check, named_command, named_stdio, named_submit, submit_rules}
 
 no_words : named_command [] ≡ Some AnswerSubmission
 no_words = refl
@@ -64,6 +64,14 @@ pay = Submit (codes "pay.csv") (record {
 submit_of_a_list : named_command (codes "submit" ∷ codes "pay.csv" ∷ pay_options) ≡ Some pay
 unfolding clap_on_literals named_submit submit_rules pay_options pay
 submit_of_a_list = refl
+
+stdio_alone : named_command (codes "stdio" ∷ []) ≡ Some AnswerMessages
+unfolding clap_on_literals named_stdio
+stdio_alone = refl
+
+stdio_with_a_path : kinds_at (codes "stdio" ∷ codes "desk.db" ∷ []) ≡ kind.UnknownArgument ∷ []
+unfolding clap_on_literals kinds_at
+stdio_with_a_path = refl
 
 -- a word that may be taken for a command or an argument
 no_such_command : kinds_at (codes "bogus" ∷ []) ≡ kind.UnknownArgument ∷ kind.InvalidSubcommand ∷ []

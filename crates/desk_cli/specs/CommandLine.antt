@@ -50,6 +50,10 @@ check_app = app_with (codes "achdesk check") check_rules
 abbrev pub submit_app : App
 submit_app = app_with (codes "achdesk submit") submit_rules
 
+-- `stdio` takes none
+abbrev pub stdio_app : App
+stdio_app = app_with (codes "achdesk stdio") []
+
 -- the program, whose words have to name a command
 abbrev pub program_top : App
 program_top =
@@ -58,7 +62,9 @@ program_top =
 
 -- and with the names of its commands
 abbrev pub program_app : App
-program_app = with_subcommand (with_subcommand program_top (new_app (codes "check")).top) (new_app (codes "submit")).top
+program_app =
+    with_subcommand (with_subcommand (with_subcommand program_top (new_app (codes "check")).top) (new_app (codes "submit")).top)
+    (new_app (codes "stdio")).top
 
 -- the words that name a command
 abbrev pub is_check : (name : Text) → Bool
@@ -67,9 +73,14 @@ is_check name = bytes_eq name (codes "check")
 abbrev pub is_submit : (name : Text) → Bool
 is_submit name = bytes_eq name (codes "submit")
 
+abbrev pub is_stdio : (name : Text) → Bool
+is_stdio name = bytes_eq name (codes "stdio")
+
 -- the rules for words of which this is the first
 abbrev pub app_named : (name : Text) → App
-app_named name = if is_check name then check_app else (if is_submit name then submit_app else program_app)
+app_named name =
+    if is_check name then check_app
+    else (if is_submit name then submit_app else (if is_stdio name then stdio_app else program_app))
 
 -- the kinds of error that `clap` may give at the words: none where they name a command
 unfoldable pub kinds_at : (words : List Text) → Kinds
@@ -102,6 +113,7 @@ pub data NamedCommand : Type 0 where
   AnswerSubmission : NamedCommand
   Check : (file : Text) → NamedCommand
   Submit : (list : Text) → OptionTexts → NamedCommand
+  AnswerMessages : NamedCommand
 
 -- the command that words after `check` name
 unfoldable pub named_check : (words : List Text) → Option NamedCommand
@@ -117,12 +129,16 @@ unfoldable pub named_submit : (words : List Text) → Option NamedCommand
 named_submit words =
     if has_no_kind (fault_of submit_app words) then Some (submit_of (matches_of submit_app words)) else None
 
+-- the command that words after `stdio` name
+unfoldable pub named_stdio : (words : List Text) → Option NamedCommand
+named_stdio words = if has_no_kind (fault_of stdio_app words) then Some AnswerMessages else None
+
 -- the command that words name
 abbrev pub named_command : (words : List Text) → Option NamedCommand
 named_command [] = Some AnswerSubmission
 named_command (name ∷ rest) =
     if is_check name then named_check (name ∷ rest)
-    else (if is_submit name then named_submit (name ∷ rest) else None)
+    else (if is_submit name then named_submit (name ∷ rest) else (if is_stdio name then named_stdio (name ∷ rest) else None))
 
 -- the matches are those of the app, or the error has one of its kinds, or memory ran out
 abbrev pub Parses : App → (words : List Text) → Result ArgMatches Error → Type 0
@@ -134,6 +150,7 @@ abbrev pub command_value : Command → NamedCommand
 command_value command.AnswerSubmission = AnswerSubmission
 command_value (command.Check file) = Check file.now
 command_value (command.Submit list options) = Submit list.now (texts_of options)
+command_value command.AnswerMessages = AnswerMessages
 
 -- the fault is help where `clap`'s error is that, and usage where it is another
 abbrev pub IsFaultOf : ErrorKind → LineFault → Type 0

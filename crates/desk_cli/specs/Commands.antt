@@ -2,13 +2,14 @@
 use Rattle.std.specs.Prelude.{◌≡◌, ◌⊎◌, ℕ, List, Option, None, string_bytes}
 use Rattle.std.specs.Io.KnownBytes.{Appends}
 use Rattle.desk_cli.specs.declared.words.command.Command.{Command}
-use Rattle.desk_cli.specs.declared.words.command.Command.TheVariants.{AnswerSubmission, Check, Submit}
+use Rattle.desk_cli.specs.declared.words.command.Command.TheVariants.{AnswerMessages, AnswerSubmission, Check, Submit}
 use Rattle.desk_cli.specs.declared.words.command.LineFault.{LineFault}
 use Rattle.desk_cli.specs.declared.words.command.LineFault.TheVariants.{Help, Usage, NoMemory}
 use Rattle.desk_submit.specs.Options.{texts_of}
 use Rattle.desk_cli.specs.FileChecks.{HasChecked, IsFailedCheck}
 use Rattle.desk_cli.specs.InputRuns.{HasAnswered, IsFailedRun}
 use Rattle.desk_cli.specs.ListRuns.{list_answer}
+use Rattle.desk_cli.specs.MessageRuns.{HasAnsweredMessages, HasBrokenOff}
 use Rattle.desk_cli.specs.Printing.{unavailable}
 use Rattle.io_retries.specs.Prefixes.{AppendsPrefix}
 use Rattle.desk_cli.specs.SubmissionRuns.{first_run_line}
@@ -19,12 +20,14 @@ abbrev pub CarriesOut : Command → (input old new : Option (List ℕ)) → Stat
 CarriesOut AnswerSubmission input old new status = HasAnswered first_run_line input old new status
 CarriesOut (Check path) input old new status = HasChecked None old new status
 CarriesOut (Submit list options) input old new status = HasAnswered (list_answer (texts_of options)) None old new status
+CarriesOut AnswerMessages input old new status = HasAnsweredMessages input old new status
 
 -- what a command that failed has printed
 abbrev pub FailsToCarryOut : Command → (input old new : Option (List ℕ)) → Type 0
 FailsToCarryOut AnswerSubmission input old new = IsFailedRun first_run_line input old new
 FailsToCarryOut (Check path) input old new = IsFailedCheck None old new
 FailsToCarryOut (Submit list options) input old new = IsFailedRun (list_answer (texts_of options)) None old new
+FailsToCarryOut AnswerMessages input old new = HasBrokenOff input old new
 
 -- the text is printed and the exit status is this code, or a prefix of the text and 3
 abbrev pub PrintsWithCode : (old new : Option (List ℕ)) → (text : List ℕ) → (code given : ℕ) → Type 0

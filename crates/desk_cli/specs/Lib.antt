@@ -7,6 +7,7 @@ pub mod FileChecks
 pub mod InputRuns
 pub mod Inputs
 pub mod ListRuns
+pub mod MessageRuns
 pub mod Printing
 pub mod Programs
 pub mod SubmissionRuns

@@ -7,7 +7,8 @@ mod program;
 mod words;
 
 pub use commands::{
-    NoMemory, Status, check_file, first_run, print_line_fault, run, submission_answer, submit_list,
+    NoMemory, Status, answer_messages, check_file, first_run, print_line_fault, run,
+    submission_answer, submit_list,
 };
 pub use program::{run_program, run_words};
 pub use words::{Command, LineFault, command_of};

@@ -33,6 +33,9 @@ fn carry_out(rt: &HostRuntime, command: &str) -> io::Result<Vec<u8>> {
         run_over(rt, "", body.as_slice())
     } else if let Some(words) = command.strip_prefix("./achdesk ") {
         run_over(rt, words, b"")
+    } else if let Some((paths, words)) = session_parts(command) {
+        let messages = joined_messages(rt, paths, words)?;
+        run_over(rt, "stdio", messages.as_slice())
     } else {
         run_over(rt, "", echo_text(command).unwrap_or("").as_bytes())
     }
@@ -47,6 +50,25 @@ fn run_over(rt: &HostRuntime, line: &str, input: &[u8]) -> io::Result<Vec<u8>> {
     let mut printed = Vec::new(rt.alloc());
     let _code = run_words(rt, words.as_slice(), input, &mut printed);
     Ok(printed)
+}
+
+// The files and the words of `(cat FILE ..; ./achdesk WORD ..) | ./achdesk stdio`.
+fn session_parts(command: &str) -> Option<(&str, &str)> {
+    command
+        .strip_prefix("(cat ")?
+        .strip_suffix(") | ./achdesk stdio")?
+        .split_once("; ./achdesk ")
+}
+
+// What the files have, and then what the program prints that is run with these words.
+fn joined_messages(rt: &HostRuntime, paths: &str, words: &str) -> io::Result<Vec<u8>> {
+    let mut messages = Vec::new(rt.alloc());
+    for path in paths.split(' ') {
+        messages.extend_from_slice(fs::read(rt, path)?.as_slice())?;
+    }
+    let printed = run_over(rt, words, b"")?;
+    messages.extend_from_slice(printed.as_slice())?;
+    Ok(messages)
 }
 
 // What `echo` hands to the program.

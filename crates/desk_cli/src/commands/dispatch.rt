@@ -4,6 +4,7 @@ ghost use Rattle.desk_cli.specs.Commands.{CarriesOut, FailsToCarryOut, PrintsLin
 
 use crate::commands::answer_submission::first_run;
 use crate::commands::check_incoming::check_path;
+use crate::commands::message_session::answer_messages;
 use crate::commands::output::{print_unavailable, write_line};
 use crate::commands::status::Status;
 use crate::commands::submit_entries::submit_path;
@@ -13,7 +14,7 @@ use std::io::{Read, Write};
 
 /// Carries out a command, which reads what it needs of the reader and prints to the writer.
 ///
-/// Where a file cannot be opened or read, `unavailable` is printed.
+/// Where a file cannot be opened or read, `unavailable` is printed. A session prints its answers alone.
 pub fn run<R: Read + Drop, W: Write>(
     rt: &HostRuntime,
     command: &Command<'_>,
@@ -29,6 +30,7 @@ pub fn run<R: Read + Drop, W: Write>(
         Command::AnswerSubmission => first_run(rt.alloc(), reader, writer),
         Command::Check(path) => check_path(rt, path, writer),
         Command::Submit(path, options) => submit_path(rt, path, &options, writer),
+        Command::AnswerMessages => answer_messages(rt.alloc(), reader, writer),
     }
 }
 

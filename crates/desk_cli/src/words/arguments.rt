@@ -1,7 +1,7 @@
 //! The arguments that each command takes, by `clap`'s rules.
 ghost use Rattle.std.specs.Prelude.{◌≡◌, codes, map, IfOk};
 ghost use Rattle.clap.specs.Words.{app_of, fault_of, with_rule, FailsBy};
-ghost use Rattle.desk_cli.specs.CommandLine.{Parses, check_app, program_app, required_argument, required_option, submit_app};
+ghost use Rattle.desk_cli.specs.CommandLine.{Parses, check_app, program_app, required_argument, required_option, stdio_app, submit_app};
 
 use clap::{Arg, ArgAction, ArgMatches, Command as ClapCommand, Error};
 use std::alloc::{AllocError, Global};
@@ -18,7 +18,11 @@ const ABOUT_CHECK: &str =
 const ABOUT_SUBMIT: &str =
     "Prints the message that hands a list of entries to a desk, or the list's first fault";
 
-/// And of its arguments this.
+/// The help says this of `stdio`.
+const ABOUT_STDIO: &str =
+    "Answers HTTP/1.1 messages on standard input, by a new desk of a sample bank, in memory";
+
+/// The help says this of the arguments of `submit`.
 const HELP_LIST: &str =
     "The path of the list, CSV with the header routing,account,kind,prenote,cents,id,name,info";
 
@@ -46,6 +50,14 @@ pub fn submit_matches<'a>(alloc: Global, words: &'a [&'a str]) -> Result<ArgMatc
     command.try_get_matches_from(words)
 }
 
+/// Parses the words of `stdio`, which takes no arguments.
+pub fn stdio_matches<'a>(alloc: Global, words: &'a [&'a str]) -> Result<ArgMatches<'a>, Error>
+    ensures { Parses stdio_app (map (λ w. w.now) words.now) result }
+{
+    let command = stdio_command(alloc)?;
+    command.try_get_matches_from(words)
+}
+
 /// Parses words that name no command. Its error has the help or the usage, with the names of all
 /// commands.
 pub fn program_matches<'a>(alloc: Global, words: &'a [&'a str]) -> Result<ArgMatches<'a>, Error>
@@ -53,12 +65,14 @@ pub fn program_matches<'a>(alloc: Global, words: &'a [&'a str]) -> Result<ArgMat
 {
     let check = ClapCommand::new(alloc, "check").about(ABOUT_CHECK);
     let submit = ClapCommand::new(alloc, "submit").about(ABOUT_SUBMIT);
+    let stdio = ClapCommand::new(alloc, "stdio").about(ABOUT_STDIO);
     let program = ClapCommand::new(alloc, "achdesk")
         .about(ABOUT_PROGRAM)
         .no_binary_name(true)
         .subcommand_required(true)
         .subcommand(check)?
-        .subcommand(submit)?;
+        .subcommand(submit)?
+        .subcommand(stdio)?;
     program.try_get_matches_from(words)
 }
 
@@ -69,6 +83,15 @@ fn check_command<'a>(alloc: Global) -> Result<ClapCommand<'a>, AllocError>
         .about(ABOUT_CHECK)
         .bin_name("achdesk check")?;
     let command = add_file(alloc, command, "The path of the file")?;
+    Ok(command)
+}
+
+fn stdio_command<'a>(alloc: Global) -> Result<ClapCommand<'a>, AllocError>
+    ensures { IfOk result (λ command. app_of command ≡ stdio_app) }
+{
+    let command = ClapCommand::new(alloc, "achdesk stdio")
+        .about(ABOUT_STDIO)
+        .bin_name("achdesk stdio")?;
     Ok(command)
 }
 

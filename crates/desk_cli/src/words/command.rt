@@ -2,9 +2,9 @@
 ghost use Rattle.std.specs.Prelude.{◌≡◌, map};
 ghost use Rattle.clap.specs.Words.{fault_of, found_of, kind_of, rows_of};
 ghost use Rattle.desk_submit.specs.Options.{texts_of};
-ghost use Rattle.desk_cli.specs.CommandLine.{Gives, GivesAt, IsFaultAmong, IsFaultOf, check_app, named_check, named_submit, options_in, program_app, submit_app, text_in};
+ghost use Rattle.desk_cli.specs.CommandLine.{Gives, GivesAt, IsFaultAmong, IsFaultOf, check_app, named_check, named_stdio, named_submit, options_in, program_app, stdio_app, submit_app, text_in};
 
-use crate::words::arguments::{check_matches, program_matches, submit_matches};
+use crate::words::arguments::{check_matches, program_matches, stdio_matches, submit_matches};
 use clap::error::ErrorKind;
 use clap::{ArgMatches, Error};
 use desk_submit::SubmitOptions;
@@ -20,6 +20,8 @@ pub enum Command<'a> {
     /// The program makes the message that hands in the list of entries at this path, with these
     /// options.
     Submit(&'a str, SubmitOptions<'a>),
+    /// The program answers the messages of one session, by a new desk of the sample bank.
+    AnswerMessages,
 }
 
 /// A fault says why the words name no command.
@@ -46,6 +48,7 @@ pub fn command_of<'a>(alloc: Global, words: &'a [&'a str]) -> Result<Command<'a>
     match *name {
         "check" => check_command(alloc, words),
         "submit" => submit_command(alloc, words),
+        "stdio" => stdio_command(alloc, words),
         _ => Err(unknown_command_fault(alloc, words)),
     }
 }
@@ -67,6 +70,15 @@ fn submit_command<'a>(alloc: Global, words: &'a [&'a str]) -> Result<Command<'a>
             let list = argument_text(&matches, "FILE");
             Ok(Command::Submit(list, submit_options(&matches)))
         }
+        Err(error) => Err(line_fault(alloc, &error)),
+    }
+}
+
+fn stdio_command<'a>(alloc: Global, words: &'a [&'a str]) -> Result<Command<'a>, LineFault>
+    ensures { Gives (named_stdio (map (λ w. w.now) words.now)) (fault_of stdio_app (map (λ w. w.now) words.now)) result }
+{
+    match stdio_matches(alloc, words) {
+        Ok(_) => Ok(Command::AnswerMessages),
         Err(error) => Err(line_fault(alloc, &error)),
     }
 }

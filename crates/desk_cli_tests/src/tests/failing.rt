@@ -63,11 +63,11 @@ impl Read for LongReader<'_> {
 /// A writer that is interrupted so many times first, and then takes one byte at a time. When it has
 /// taken so many it fails once, if it is to, or takes no more.
 #[derive(Drop)]
-struct FaultyWriter {
-    text: Vec<u8>,
-    interruptions: u32,
-    failure: Option<ErrorKind>,
-    room: usize,
+pub struct FaultyWriter {
+    pub text: Vec<u8>,
+    pub interruptions: u32,
+    pub failure: Option<ErrorKind>,
+    pub room: usize,
 }
 
 impl Write for FaultyWriter {

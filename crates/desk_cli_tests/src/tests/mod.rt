@@ -5,6 +5,7 @@ mod failing;
 mod files;
 mod large;
 mod lists;
+mod messages;
 mod words;
 
 use desk_cli::{Status, first_run};

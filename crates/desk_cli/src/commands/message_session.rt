@@ -1,0 +1,41 @@
+//! The command that answers messages of HTTP/1.1.
+ghost use Rattle.std.specs.Prelude.{◌≡◌, ◌≢◌};
+ghost use Rattle.desk_cli.specs.MessageRuns.{status_of_session, HasAnsweredMessages, HasBrokenOff};
+
+use crate::commands::sample_bank::sample_desk;
+use crate::commands::status::Status;
+use desk_http::HttpDesk;
+use desk_routes::Routes;
+use desk_session::{Ended, SessionFault, session};
+use std::alloc::Global;
+use std::io::{Read, Write};
+
+/// Answers the messages that a reader's bytes spell, in one session, by a new desk of the sample bank.
+///
+/// Nothing but the answers is printed. The command is done where the input ends between messages, where
+/// a message closes the session, and after 1,000 messages; it is refused where the input ends inside a
+/// message; it has failed where a read or a write fails, or where memory runs out before the first
+/// message.
+pub fn answer_messages<R: Read + Drop, W: Write>(alloc: Global, reader: R, writer: &mut W) -> Status
+    ensures answered { result ≢ Status.Failed →
+        HasAnsweredMessages (R.remaining reader) (W.contents writer.old) (W.contents writer.new) result }
+    ensures failed { result ≡ Status.Failed →
+        HasBrokenOff (R.remaining reader) (W.contents writer.old) (W.contents writer.new) }
+{
+    let Ok(routes) = Routes::new(alloc) else {
+        return Status::Failed;
+    };
+    let mut reader = reader;
+    let mut desk = HttpDesk::new(sample_desk(alloc), routes);
+    status_of_session(session(alloc, &mut desk, &mut reader, writer))
+}
+
+fn status_of_session(ended: Result<Ended, SessionFault>) -> Status
+    ensures { result ≡ status_of_session ended }
+{
+    match ended {
+        Ok(Ended::Closed | Ended::Full) => Status::Done,
+        Ok(Ended::Cut) => Status::Refused,
+        Err(_) => Status::Failed,
+    }
+}
