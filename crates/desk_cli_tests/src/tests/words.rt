@@ -16,7 +16,7 @@ const NOTHING: SubmitOptions<'static> = SubmitOptions {
 
 #[test]
 fn commands(rt: HostRuntime) {
-    let rows: [(&[&str], Command); 7] = [
+    let rows: [(&[&str], Command); 8] = [
         (&[], Command::AnswerSubmission),
         (
             &[
@@ -71,6 +71,7 @@ fn commands(rt: HostRuntime) {
         (&["check", "returns.ach"], Command::Check("returns.ach")),
         (&["check", ""], Command::Check("")),
         (&["check", "--", "-"], Command::Check("-")),
+        (&["stdio"], Command::AnswerMessages),
     ];
     for (words, wanted) in rows {
         match command_of(rt.alloc(), words) {
@@ -82,7 +83,7 @@ fn commands(rt: HostRuntime) {
 
 #[test]
 fn help(rt: HostRuntime) {
-    let rows: [(&[&str], &str); 11] = [
+    let rows: [(&[&str], &str); 13] = [
         (&["--help"], "submit"),
         (&["submit", "--help"], "Usage: achdesk submit "),
         (&["submit", "a", "-h"], "--description <TEXT>"),
@@ -94,6 +95,8 @@ fn help(rt: HostRuntime) {
         (&["check", "a", "-h"], "FILE"),
         (&["help"], "check"),
         (&["help", "check"], "check"),
+        (&["--help"], "stdio"),
+        (&["stdio", "--help"], "Usage: achdesk stdio"),
     ];
     for (words, part) in rows {
         match command_of(rt.alloc(), words) {
@@ -106,7 +109,7 @@ fn help(rt: HostRuntime) {
 
 #[test]
 fn usage(rt: HostRuntime) {
-    let rows: [(&[&str], &str); 14] = [
+    let rows: [(&[&str], &str); 15] = [
         (&["submit"], "--company <COMPANY>"),
         (&["submit", "a", "--key", "k"], "--day <DAY>"),
         (
@@ -123,6 +126,7 @@ fn usage(rt: HostRuntime) {
         (&["help", "bogus"], "'bogus'"),
         (&[""], "''"),
         (&["check", "--fast", "a"], "'--fast'"),
+        (&["stdio", "desk.db"], "'desk.db'"),
         (&["--fast"], "'--fast'"),
     ];
     for (words, part) in rows {
