@@ -1,7 +1,7 @@
 -- A session with a new desk of the sample bank.
 use Rattle.std.specs.Prelude.{◌≡◌, ◌⊎◌, ⊤, ℕ, List, [], Option, Result, Ok, Err, codes}
-use Rattle.std.specs.Io.KnownBytes.{Appends}
 use Rattle.sha2.specs.Sha256.{sha256}
+use Rattle.io_retries.specs.Prefixes.{AppendsPrefix}
 use Rattle.desk_history.specs.declared.identity.Identity.{Identity}
 use Rattle.desk_book.specs.Book.{Book, book_of}
 use Rattle.desk_session.specs.Session.{SessionRan}
@@ -9,6 +9,7 @@ use Rattle.desk_session.specs.declared.sessions.Ended.{Ended}
 use Rattle.desk_session.specs.declared.sessions.Ended.TheVariants.{Closed, Cut, Full}
 use Rattle.desk_session.specs.declared.sessions.SessionFault.{SessionFault}
 use Rattle.desk_http.specs.Answering.{DeskHistory, IsAnswered}
+use Rattle.desk_cli.specs.Printing.{unavailable}
 use Rattle.desk_cli.specs.declared.commands.status.Status.{Status}
 use Rattle.desk_cli.specs.declared.commands.status.Status.TheVariants.{Done, Refused, Failed}
 
@@ -49,6 +50,6 @@ abbrev pub HasAnsweredMessages : (input old new : Option (List ℕ)) → Status 
 HasAnsweredMessages input old new status =
     (ended : Result Ended SessionFault) × (status ≡ status_of_session ended) × HasRun input old new ended
 
--- a read or a write failed in the session, or it did not begin
+-- a read or a write failed in the session; or it did not begin, and a prefix of `unavailable` was printed
 abbrev pub HasBrokenOff : (input old new : Option (List ℕ)) → Type 0
-HasBrokenOff input old new = Appends old new [] ⊎ ((fault : SessionFault) × HasRun input old new (Err fault))
+HasBrokenOff input old new = AppendsPrefix old new unavailable ⊎ ((fault : SessionFault) × HasRun input old new (Err fault))

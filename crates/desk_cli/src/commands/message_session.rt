@@ -2,20 +2,22 @@
 ghost use Rattle.std.specs.Prelude.{◌≡◌, ◌≢◌};
 ghost use Rattle.desk_cli.specs.MessageRuns.{status_of_session, HasAnsweredMessages, HasBrokenOff};
 
+use crate::commands::output::print_unavailable;
 use crate::commands::sample_bank::sample_desk;
 use crate::commands::status::Status;
 use desk_http::HttpDesk;
 use desk_routes::Routes;
 use desk_session::{Ended, SessionFault, session};
+use io_retries::Tries;
 use std::alloc::Global;
 use std::io::{Read, Write};
 
 /// Answers the messages that a reader's bytes spell, in one session, by a new desk of the sample bank.
 ///
-/// Nothing but the answers is printed. The command is done where the input ends between messages, where
-/// a message closes the session, and after 1,000 messages; it is refused where the input ends inside a
-/// message; it has failed where a read or a write fails, or where memory runs out before the first
-/// message.
+/// The command is done where the input ends between messages, where a message closes the session, and
+/// after 1,000 messages; it is refused where the input ends inside a message, and has failed where a
+/// read or a write fails. A session prints its answers alone. Where memory runs out before it begins,
+/// `unavailable` is printed, and the command has failed.
 pub fn answer_messages<R: Read + Drop, W: Write>(alloc: Global, reader: R, writer: &mut W) -> Status
     ensures answered { result ≢ Status.Failed →
         HasAnsweredMessages (R.remaining reader) (W.contents writer.old) (W.contents writer.new) result }
@@ -23,7 +25,7 @@ pub fn answer_messages<R: Read + Drop, W: Write>(alloc: Global, reader: R, write
         HasBrokenOff (R.remaining reader) (W.contents writer.old) (W.contents writer.new) }
 {
     let Ok(routes) = Routes::new(alloc) else {
-        return Status::Failed;
+        return print_unavailable(writer, Tries::new());
     };
     let mut reader = reader;
     let mut desk = HttpDesk::new(sample_desk(alloc), routes);
