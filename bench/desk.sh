@@ -1,6 +1,6 @@
 #!/bin/sh
-# The times of a desk over lists in memory: a submission beside few and many entries of its company and
-# of others, cuts of 1,000 to 100,000 entries, files of up to 20,000 returns against 100,000 entries.
+# The times of a desk over lists in memory: a submission and a retry beside few and many settled entries
+# of their company and of others, cuts of large and of small batches, files of up to 20,000 returns.
 # Proves and builds bench/desk/main.rt.txt beside a copy of the crates, which takes long where they were
 # not proved before.
 set -eu

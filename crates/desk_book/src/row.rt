@@ -3,7 +3,7 @@ ghost use Rattle.std.specs.Prelude.{◌≡◌, ◌-◌, slice_get, unwrap_or};
 ghost use Rattle.desk_rules.specs.declared.rules.entry_fact.EntryState.TheVariants.{Held};
 
 use desk_history::ListOf;
-use desk_rules::{EntryState, Retry, RuleDay, Submission};
+use desk_rules::{EntryState, Retry, RuleDay, SizedSubmission};
 
 /// A `Row` is an accepted submission or retry, with what cuts and returns made of it.
 #[derive(Drop)]
@@ -11,7 +11,7 @@ pub struct Row {
     /// Its number among the company's accepted submissions and retries, from 1.
     pub order: u64,
     /// The content that was submitted; for a retry the one entry that it tries again.
-    pub content: Submission,
+    pub content: SizedSubmission,
     /// The content of the retry's own request.
     pub retry: Option<Retry>,
     /// The day on which it settles, once a cut has sent it.

@@ -5,7 +5,7 @@ use Rattle.serde_json.specs.Data.{Data}
 use Rattle.serde_json.specs.Written.{compact_text}
 use Rattle.desk_rules.specs.Chain.{◌>>=◌}
 use Rattle.desk_rules.specs.Submission.{submission_of}
-use Rattle.desk_rules.specs.Size.{size_of, total_of}
+use Rattle.desk_rules.specs.Size.{sized_of, total_of}
 use Rattle.desk_rules.specs.declared.bodies.submission.Submission.{Submission}
 use Rattle.desk_rules.specs.declared.refusals.refusal.Refusal.{Refusal}
 use Rattle.desk_json.specs.Acceptance.{acceptance_body}
@@ -15,7 +15,7 @@ use Rattle.desk_json.specs.Refusals.{fault_body, refusal_body}
 
 -- the submission that an object is, or the first refusal
 abbrev pub checked_submission : Data → Result Submission Refusal
-checked_submission d = submission_of (submission_draft_of d) >>= (λ s. size_of s >>= (λ _. Ok s))
+checked_submission d = submission_of (submission_draft_of d) >>= sized_of
 
 -- the body of a submission that is accepted as the first order
 abbrev pub acceptance_text : Submission → List ℕ

@@ -7,5 +7,6 @@ pub mod FileReading
 pub mod OwnLines
 pub mod Planned
 pub mod Running
+pub mod Sized
 pub mod Traceless
 pub mod Zips

@@ -79,5 +79,5 @@ planned_refused b x rs latest faults.TracesSpent why is taken settled plans refu
 planned_refused b x rs latest faults.ModifiersSpent why is taken settled plans refuses =
     let same : ModifiersSpent ≡ why = cc in
     subst (λ why. IsPlanned (Err why) (cut_on_day b x.day)) same (planned_without_modifiers b x rs latest is taken settled plans)
-planned_refused b x rs latest faults.Unprintable why is taken settled plans refuses = cc
+planned_refused b x rs latest faults.DaysSpent why is taken settled plans refuses = cc
 planned_refused b x rs latest faults.NoMemory why is taken settled plans refuses = cc

@@ -41,9 +41,10 @@ abbrev pub Plans : (Book → Type 0) → CutFacts → Result (Result CutPlan Ref
 Plans old x (Ok planned) new = (b : Book) → old b → x ≡ cut_facts b x.day → IsPlanned planned (cut_on_day b x.day) × HoldsPlanned new planned b
 Plans old x (Err fault) new = (b : Book) → old b → new b
 
--- why a cut is refused; what stands in no history refuses nothing, nor does being out of memory
+-- why a cut is refused; a settlement after the last day from which rules count refuses nothing, nor does
+-- being out of memory
 abbrev pub refusal_of : CutFault → Result Refusal StoreFault
 refusal_of faults.TracesSpent = Ok TracesSpent
 refusal_of faults.ModifiersSpent = Ok ModifiersSpent
-refusal_of faults.Unprintable = Err Unavailable
+refusal_of faults.DaysSpent = Err Unavailable
 refusal_of faults.NoMemory = Err Unavailable

@@ -1,2 +1,5 @@
 pub mod Plain
 pub mod Planned
+pub mod Prints
+pub mod Sendings
+pub mod Totals

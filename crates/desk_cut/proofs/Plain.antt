@@ -1,5 +1,5 @@
 -- The printed text depends only on what the slices hold, and not on where they are.
-use Rattle.std.proofs.Common.{◌≡◌, ◌∙◌, ap, sym, refl, arith, ℕ, ◌+◌, ◌<◌, get_or, take, List, [], ◌∷◌, ◌++◌, map, length, suc, length-append, length-take-le}
+use Rattle.std.proofs.Common.{◌≡◌, ◌∙◌, ap, sym, refl, arith, ℕ, ◌+◌, ◌<◌, get_or, take, List, [], ◌∷◌, ◌++◌, map, length, suc, append_assoc, length-append, length-take-le}
 use Rattle.std.specs.Prelude.{sum_by, min}
 use Rattle.std.specs.List.{enumerate_from, flat_map, list_all}
 use Rattle.std.proofs.lemmas.List.{length-map, map-append, take_more}
@@ -46,7 +46,7 @@ rows_same e = λ i. entry_row (record (entry_of e) { has_addenda = there e.adden
 
 -- ---- a batch
 
-sums_same : (b : OutgoingBatch) → sums_in (plain_batch b) ≡ sums_in b
+pub sums_same : (b : OutgoingBatch) → sums_in (plain_batch b) ≡ sums_in b
 unfolding batch_sums
 sums_same b = λ i. record {
   count = sum_by-same entry_count plain_entry (λ e. ap length (rows_same e)) b.entries.now i;
@@ -111,7 +111,11 @@ header_same p header wanted batches is h = record {
   sums = h.sums;
 }
 
--- ---- numbered batches
+-- ---- lists
+
+-- one more is made of those that are left
+pub pushed : {X Z : Type 0} (f : X → Z) (xs : List X) (x : X) (z : Z) (zs : List Z) → f x ≡ z → map f (xs ++ x ∷ []) ++ zs ≡ map f xs ++ (z ∷ zs)
+pushed {X} {Z} f xs x z zs same = ap (λ (l : List Z). l ++ zs) (map-append f xs (x ∷ [])) ∙ append_assoc (map f xs) (f x ∷ []) zs ∙ ap (λ (z : Z). map f xs ++ (z ∷ zs)) same
 
 pub numbered : {X Y : Type 0} (g : ℕ × X → Y) (n : ℕ) (xs : List X) (x : X) → map g (enumerate_from n (xs ++ x ∷ [])) ≡ map g (enumerate_from n xs) ++ g (n + length xs, x) ∷ []
 numbered {X} {Y} g n [] x = let here : n ≡ n + 0 = omega arith in ap (λ k. g (k, x) ∷ []) here

@@ -35,7 +35,7 @@ length-ranges : (last : ℕ) (counts : List ℕ) → length (ranges last counts)
 length-ranges last [] = refl
 length-ranges last (n ∷ counts) = ap suc (length-ranges (range_after last n).1 counts)
 
-length-in_runs : {A : Type 0} (sizes : List ℕ) (xs : List A) → length (in_runs sizes xs) ≡ length sizes
+pub length-in_runs : {A : Type 0} (sizes : List ℕ) (xs : List A) → length (in_runs sizes xs) ≡ length sizes
 length-in_runs [] xs = refl
 length-in_runs (n ∷ sizes) xs = ap suc (length-in_runs sizes (drop n xs))
 
@@ -52,11 +52,11 @@ sendings_are x = of_pairs (zip (ranges_after x.last (cut_sendings x)) (cut_sendi
   of_pairs [] = refl
   of_pairs (p ∷ ps) = ap (λ (l : List Sending). p.1 ∷ l) (of_pairs ps)
 
-batches_are : (x : CutFacts) (n : NumberedCut) → IsOf x n → batches_in n ≡ batches x
+pub batches_are : (x : CutFacts) (n : NumberedCut) → IsOf x n → batches_in n ≡ batches x
 batches_are x n h = λ i. map batch_of (zip (h.ranges i) (h.sent i))
 
 -- what each batch takes is what its submission takes
-loads_are : (x : CutFacts) (n : NumberedCut) → IsOf x n → n.loads.items ≡ map (λ b. plan_of b.sending) (batches x)
+pub loads_are : (x : CutFacts) (n : NumberedCut) → IsOf x n → n.loads.items ≡ map (λ b. plan_of b.sending) (batches x)
 loads_are x n h = h.loads ∙ ap (λ (ss : List Sending). map plan_of ss) (sym (sendings_are x)) ∙ sym (of_batches (batches x)) where
   of_batches : (bs : List NumberedBatch) → map (λ b. plan_of b.sending) bs ≡ map plan_of (map (λ b. b.sending) bs)
   of_batches [] = refl

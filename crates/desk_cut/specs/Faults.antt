@@ -1,16 +1,17 @@
--- Why a cut is not planned.
-use Rattle.ach_files.specs.declared.outgoing.PrintFault.{PrintFault}
-use Rattle.ach_files.specs.declared.outgoing.PrintFault.TheVariants as print
+-- Why a cut does not decide what it sends.
+use Rattle.std.specs.Prelude.{◌≡◌, ⊤, Bool, true, List, nat_lt}
+use Rattle.std.specs.List.{list_any}
+use Rattle.desk_rules.specs.Deadlines.{last_rule_day}
+use Rattle.desk_history.specs.Sendings.{Sending}
 use Rattle.desk_cut.specs.declared.fault.CutFault.{CutFault}
-use Rattle.desk_cut.specs.declared.fault.CutFault.TheVariants as cut
-use Rattle.desk_cut.specs.declared.fault.PlanFault.{PlanFault}
-use Rattle.desk_cut.specs.declared.fault.PlanFault.TheVariants as plan
+use Rattle.desk_cut.specs.declared.fault.CutFault.TheVariants.{DaysSpent, NoMemory}
 
-abbrev pub fault_of : PlanFault → CutFault
-fault_of plan.Unprintable = cut.Unprintable
-fault_of plan.NoMemory = cut.NoMemory
+-- whether one of them would settle after the last day from which rules count
+abbrev pub settles_beyond : List Sending → Bool
+settles_beyond ss = list_any (λ s. nat_lt last_rule_day s.settled) ss
 
--- what a file is not printed for; but for memory it is what waits
-abbrev pub print_fault_of : PrintFault → PlanFault
-print_fault_of print.NoMemory = plan.NoMemory
-print_fault_of fault = plan.Unprintable
+-- One would settle too far ahead; or memory was refused.
+abbrev pub IsUndecided : List Sending → CutFault → Type 0
+IsUndecided ss DaysSpent = settles_beyond ss ≡ true
+IsUndecided ss NoMemory = ⊤
+IsUndecided ss fault = ⊥

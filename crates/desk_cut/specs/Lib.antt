@@ -2,4 +2,5 @@ pub mod Faults
 pub mod Numbers
 pub mod Plain
 pub mod Plan
+pub mod Sendable
 pub mod Sent

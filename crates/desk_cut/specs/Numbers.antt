@@ -1,10 +1,11 @@
 -- The sequences of what a cut sends, as the code keeps them.
-use Rattle.std.specs.Prelude.{◌≡◌, ⊤, ℕ, true, false, List, map, zip, length, if◌then◌else◌}
+use Rattle.std.specs.Prelude.{◌≡◌, ℕ, true, false, All, List, map, zip, length, if◌then◌else◌}
 use Rattle.std.specs.List.{list_all, flat_map}
 use Rattle.desk_accounts.specs.Laws.{pairs}
 use Rattle.desk_accounts.specs.declared.posting.Posting.{Posting}
 use Rattle.desk_accounts.specs.Posting.{cut_line}
 use Rattle.desk_plan.specs.declared.batch.Batch as plan
+use Rattle.desk_plan.specs.Batch.{IsBatch}
 use Rattle.desk_plan.specs.Reuse.{is_past, latest_settled, may_send}
 use Rattle.desk_plan.specs.Sequences.{SentSequence, last_sequence, ranges_of, are_apart}
 use Rattle.desk_history.specs.declared.identity.Identity.{Identity}
@@ -16,8 +17,9 @@ use Rattle.desk_book.specs.declared.held_submission.HeldSubmission.{HeldSubmissi
 use Rattle.desk_book.specs.Steps.{CutWrite}
 use Rattle.desk_book.specs.OnCut.{sendings, lapses_among, ranges_after, sent_rows, file_row}
 use Rattle.desk_cut.specs.declared.fault.CutFault.{CutFault}
-use Rattle.desk_cut.specs.declared.fault.CutFault.TheVariants.{TracesSpent, ModifiersSpent}
+use Rattle.desk_cut.specs.declared.fault.CutFault.TheVariants.{TracesSpent}
 use Rattle.desk_cut.specs.declared.numbers.NumberedCut.{NumberedCut}
+use Rattle.desk_cut.specs.Faults.{IsUndecided}
 use Rattle.desk_cut.specs.Sent.{sending_in}
 
 -- What is sent with its sequences, and what lapses. The cut may take them where those of each range may
@@ -27,16 +29,16 @@ pub record IsNumbered (holidays : List ℕ) (day last : ℕ) (waiting : List Hel
   pub lapsed : n.lapsed.items ≡ lapses_among holidays day waiting
   pub loads : n.loads.items ≡ map plan_of (sendings holidays day waiting)
   pub ranges : n.ranges.items ≡ ranges_after last (sendings holidays day waiting)
+  pub batches : All IsBatch (map plan_of (sendings holidays day waiting))
   pub apart : are_apart (ranges_after last (sendings holidays day waiting)) ≡ true
   pub may : (sent : List SentSequence) → last_sequence sent ≡ last
       → may_send day sent (map plan_of (sendings holidays day waiting))
       ≡ list_all (is_past day) (map (latest_settled sent) (ranges_of sent (map plan_of (sendings holidays day waiting))))
 
--- Two batches would have a sequence in common; or what waits stands in no history, or memory was refused.
+-- Two batches would have a sequence in common; or one would settle too far ahead, or memory was refused.
 abbrev pub HasNoRanges : (day : ℕ) → (last : ℕ) → List Sending → CutFault → Type 0
 HasNoRanges day last ss TracesSpent = (are_apart (ranges_after last ss) ≡ false) × ((sent : List SentSequence) → last_sequence sent ≡ last → may_send day sent (map plan_of ss) ≡ false)
-HasNoRanges day last ss ModifiersSpent = ⊥
-HasNoRanges day last ss fault = ⊤
+HasNoRanges day last ss fault = IsUndecided ss fault
 
 -- ---- what is written of them
 

@@ -1,8 +1,11 @@
 -- What the code keeps of what a cut sends, as the definitions have it.
-use Rattle.std.specs.Prelude.{ℕ, List, map}
+use Rattle.std.specs.Prelude.{ℕ, List, map, None}
+use Rattle.ach_records.specs.declared.print.FileHeaderText.{FileHeaderText}
 use Rattle.ach_files.specs.declared.outgoing.OutgoingEntry.{OutgoingEntry}
 use Rattle.ach_fields.specs.Routing.{dfi_of, digit_at}
+use Rattle.bank_days.specs.Day.{day_ymd}
 use Rattle.desk_rules.specs.declared.bodies.submission.Entry.{Entry}
+use Rattle.desk_history.specs.declared.identity.Identity.{Identity}
 use Rattle.desk_history.specs.Files.{borrow_of, payment, transaction_of, outgoing_entry}
 use Rattle.desk_history.specs.Files as files
 use Rattle.desk_history.specs.Sendings as history
@@ -23,6 +26,18 @@ batch_in b = record { sending = sending_on b.settled b.waiting.now; first = b.fi
 
 abbrev pub file_in : File → files.File
 file_in f = record { day = f.day; modifier = f.modifier; batches = map batch_in f.batches.now }
+
+-- the header of a file of a day
+abbrev pub file_header : Identity → ℕ → List ℕ → FileHeaderText
+file_header identity day modifier = record {
+  destination = identity.destination;
+  origin = identity.odfi;
+  date = day_ymd day;
+  time = None;
+  modifier = borrow_of modifier;
+  destination_name = borrow_of identity.destination_name;
+  origin_name = borrow_of identity.odfi_name;
+}
 
 -- an entry of a batch as it is printed, with its trace
 abbrev pub outgoing_as : history.NumberedBatch → List ℕ → Entry → OutgoingEntry

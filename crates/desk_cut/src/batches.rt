@@ -1,12 +1,12 @@
 //! The batches of a cut stand here, and their entries with their sequences.
-ghost use Rattle.std.specs.Prelude.{◌≡◌, ◌+◌, ◌++◌, IfOk, OnOk, map, zip};
+ghost use Rattle.std.specs.Prelude.{◌≡◌, ◌≤◌, ◌+◌, ◌++◌, All, IfOk, OnOk, map, zip};
 ghost use Rattle.std.specs.List.{flat_map};
 ghost use Rattle.desk_history.specs.Sendings.{batch_of, batch_entries};
+ghost use Rattle.ach_fields.specs.Trace.{most_sequence};
+ghost use Rattle.desk_cut.specs.Sendable.{IsSendable};
 ghost use Rattle.desk_cut.specs.Sent.{sending_in, batch_in};
 
 use crate::due::Sending;
-use crate::fault::PlanFault;
-use ach_fields::MOST_SEQUENCE;
 use desk_book::HeldSubmission;
 use desk_history::SentEntry;
 use desk_rules::RuleDay;
@@ -41,24 +41,23 @@ pub(crate) fn batches_of<'a>(
 }
 
 /// Gives the sequence of a batch's entry, by how many entries stand before it.
-pub(crate) fn sequence_of(batch: &NumberedBatch<'_>, before: u64) -> Result<u32, PlanFault>
-    ensures { IfOk result (λ sequence. sequence ≡ batch.now.first + before) }
+pub(crate) fn sequence_of(batch: &NumberedBatch<'_>, before: u64) -> u32
+    requires { batch.now.first + before ≤ most_sequence }
+    ensures { result ≡ batch.now.first + before }
 {
-    match u64::from(batch.first).checked_add(before) {
-        Some(sequence) if sequence <= u64::from(MOST_SEQUENCE) => Ok(sequence as u32),
-        _ => Err(PlanFault::Unprintable),
-    }
+    batch.first + before as u32
 }
 
 // Adds a batch's entries, with their sequences.
-fn push_entries(sent: &mut Vec<SentEntry>, batch: &NumberedBatch<'_>) -> Result<(), PlanFault>
+fn push_entries(sent: &mut Vec<SentEntry>, batch: &NumberedBatch<'_>) -> Result<(), AllocError>
+    requires { IsSendable (batch_in batch.now) }
     ensures { OnOk result (sent.new.items ≡ sent.old.items ++ batch_entries (batch_in batch.now)) }
 {
     let row = &batch.waiting.row;
-    let content = &row.content;
+    let content = row.content.submission();
     let debit = content.direction.is_debit();
     for (index, entry) in content.entries.as_slice().iter().enumerate() {
-        let sequence = sequence_of(batch, index as u64)?;
+        let sequence = sequence_of(batch, index as u64);
         sent.push(SentEntry {
             sequence,
             company: batch.waiting.company.id,
@@ -78,7 +77,16 @@ fn push_entries(sent: &mut Vec<SentEntry>, batch: &NumberedBatch<'_>) -> Result<
 fn count_of(batches: &[NumberedBatch<'_>]) -> usize {
     let mut count: usize = 0;
     for batch in batches {
-        count = count.saturating_add(batch.waiting.row.content.entries.as_slice().len());
+        count = count.saturating_add(
+            batch
+                .waiting
+                .row
+                .content
+                .submission()
+                .entries
+                .as_slice()
+                .len(),
+        );
     }
     count
 }
@@ -87,7 +95,8 @@ fn count_of(batches: &[NumberedBatch<'_>]) -> usize {
 pub(crate) fn entries_of(
     alloc: Global,
     batches: &[NumberedBatch<'_>],
-) -> Result<Vec<SentEntry>, PlanFault>
+) -> Result<Vec<SentEntry>, AllocError>
+    requires { All (λ b. IsSendable (batch_in b)) batches.now }
     ensures { IfOk result (λ entries. entries.items ≡ flat_map batch_entries (map batch_in batches.now)) }
 {
     let mut entries = Vec::with_capacity(alloc, count_of(batches))?;

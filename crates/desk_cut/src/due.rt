@@ -1,11 +1,12 @@
 //! A cut decides what is due on a day: some of it is sent, and some lapses.
-ghost use Rattle.std.specs.Prelude.{◌≡◌, ◌<◌, IfOk, map, Some, All, if◌then◌else◌};
+ghost use Rattle.std.specs.Prelude.{◌≡◌, ◌<◌, IfOk, IfErr, map, Some, All, if◌then◌else◌};
 ghost use Rattle.desk_rules.specs.LimitChecks.{is_debit};
 ghost use Rattle.desk_history.specs.State.{is_too_late};
 ghost use Rattle.desk_book.specs.OnCut.{is_due, settles, sendings, lapses_among};
+ghost use Rattle.desk_cut.specs.Faults.{IsUndecided};
 ghost use Rattle.desk_cut.specs.Sent.{sending_in};
 
-use crate::fault::PlanFault;
+use crate::fault::CutFault;
 use bank_days::{Calendar, Day};
 use desk_book::{HeldSubmission, LapsedRow};
 use desk_rules::{Direction, RuleDay};
@@ -38,7 +39,7 @@ fn days_ahead(direction: Direction) -> u8
 fn is_due(waiting: &HeldSubmission, day: RuleDay, holidays: &Calendar) -> bool
     ensures { result ≡ is_due holidays.now day waiting.now }
 {
-    let content = &waiting.row.content;
+    let content = waiting.row.content.submission();
     let horizon = holidays.nth_after(day.day(), days_ahead(content.direction));
     holidays.roll(content.day.day()) <= horizon
 }
@@ -48,7 +49,7 @@ fn settles(waiting: &HeldSubmission, day: RuleDay, holidays: &Calendar) -> Day
     ensures value { result ≡ settles holidays.now day waiting.now }
     ensures later { day < result }
 {
-    let asked = waiting.row.content.day.day();
+    let asked = waiting.row.content.submission().day.day();
     holidays.roll(asked).max(holidays.next(day.day()))
 }
 
@@ -68,10 +69,11 @@ pub(crate) fn decide<'a>(
     day: RuleDay,
     holidays: &Calendar,
     waiting: &'a [HeldSubmission],
-) -> Result<Decision<'a>, PlanFault>
+) -> Result<Decision<'a>, CutFault>
     ensures sent { IfOk result (λ d. map sending_in d.sent.items ≡ sendings holidays.now day waiting.now) }
     ensures later { IfOk result (λ d. All (λ s. day < s.settled) d.sent.items) }
     ensures lapsed { IfOk result (λ d. d.lapsed.items ≡ lapses_among holidays.now day waiting.now) }
+    ensures err { IfErr result (λ fault. IsUndecided (sendings holidays.now day waiting.now) fault) }
 {
     let mut sent = Vec::new(alloc);
     let mut lapsed = Vec::new(alloc);
@@ -85,7 +87,7 @@ pub(crate) fn decide<'a>(
                 })?;
             } else {
                 let Some(settled) = RuleDay::new(settles) else {
-                    return Err(PlanFault::Unprintable);
+                    return Err(CutFault::DaysSpent);
                 };
                 sent.extend_from_slice(&[Sending {
                     waiting: one,

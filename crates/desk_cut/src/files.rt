@@ -1,15 +1,14 @@
 //! The files of a cut stand here: which batches each has, their rows and their texts.
 ghost use Rattle.std.specs.Prelude.{◌≡◌, ◌≤◌, ◌+◌, ◌++◌, All, IfOk, OnOk, length, map, sum};
 ghost use Rattle.std.specs.List.{flat_map};
-ghost use Rattle.desk_plan.specs.Files.{IsSize, most_batches};
 ghost use Rattle.desk_plan.specs.Modifiers.{most_files};
 ghost use Rattle.desk_plan.specs.Runs.{in_runs};
 ghost use Rattle.desk_history.specs.Files.{files_from};
 ghost use Rattle.desk_book.specs.OnCut.{sent_rows, file_row};
+ghost use Rattle.desk_cut.specs.Sendable.{IsPrintable};
 ghost use Rattle.desk_cut.specs.Sent.{batch_in, file_in};
 
 use crate::batches::NumberedBatch;
-use crate::fault::PlanFault;
 use crate::printing::text_of;
 use bank_days::Day;
 use desk_book::{FileRow, SentRow};
@@ -32,19 +31,16 @@ pub(crate) fn files_of<'a>(
     made: u32,
     sizes: &[usize],
     batches: &'a [NumberedBatch<'a>],
-) -> Result<Vec<File<'a>>, PlanFault>
+) -> Result<Vec<File<'a>>, AllocError>
     requires made { made + length sizes.now ≤ most_files }
-    requires sizes { All IsSize sizes.now }
     requires whole { sum sizes.now ≡ length batches.now }
     ensures files { IfOk result (λ files. map file_in files.items ≡ files_from day made (in_runs sizes.now (map batch_in batches.now))) }
-    ensures sizes { IfOk result (λ files. All (λ f. length f.batches.now ≤ most_batches) files.items) }
 {
+    desk_plan::modifiers_of_a_day();
     let mut files = Vec::new(alloc);
     let mut from = 0;
     for (index, size) in sizes.iter().enumerate() {
-        let Some(modifier) = modifier(made + index as u32) else {
-            return Err(PlanFault::Unprintable);
-        };
+        let modifier = modifier(made + index as u32).unwrap();
         let to = from + *size;
         files.extend_from_slice(&[File {
             day,
@@ -91,8 +87,8 @@ pub(crate) fn texts_of(
     alloc: Global,
     identity: &Identity,
     files: &[File<'_>],
-) -> Result<Vec<FileRow>, PlanFault>
-    requires { All (λ f. length f.batches.now ≤ most_batches) files.now }
+) -> Result<Vec<FileRow>, AllocError>
+    requires { All (λ f. IsPrintable (file_in f)) files.now }
     ensures { IfOk result (λ rows. rows.items ≡ map (file_row identity.now) (map file_in files.now)) }
 {
     let mut rows = Vec::new(alloc);

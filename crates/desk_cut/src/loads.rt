@@ -1,28 +1,14 @@
 //! Each submission takes something of a file and of the sequences: its load.
-ghost use Rattle.std.specs.Prelude.{◌≡◌, ◌≤◌, IfOk, OnOk, All, length, map, sum_by, if◌then◌else◌};
+ghost use Rattle.std.specs.Prelude.{◌≡◌, ◌≤◌, IfOk, All, length, map, sum_by, if◌then◌else◌};
 ghost use Rattle.desk_plan.specs.Batch.{IsBatch, IsEntryCount};
-ghost use Rattle.desk_rules.specs.Size.{total_of};
 ghost use Rattle.desk_history.specs.Sendings.{plan_of, records_of};
 ghost use Rattle.desk_cut.specs.Sent.{sending_in};
 
 use crate::due::Sending;
-use crate::fault::PlanFault;
 use ach_fields::Cents;
 use desk_plan::Batch;
-use desk_rules::{Entry, MOST_ENTRIES};
+use desk_rules::Entry;
 use std::alloc::{AllocError, Global};
-
-/// Gives the sum of a submission's entries in cents. One that was accepted has 1 to 1,000 entries,
-/// and twelve digits of cents.
-pub(crate) fn cents_of(entries: &[Entry]) -> Result<Cents, PlanFault>
-    ensures total { IfOk result (λ cents. cents ≡ total_of entries.now) }
-    ensures count { OnOk result (IsEntryCount (length entries.now)) }
-{
-    if entries.is_empty() || entries.len() > MOST_ENTRIES {
-        return Err(PlanFault::Unprintable);
-    }
-    Cents::new(desk_rules::total(entries)).ok_or(PlanFault::Unprintable)
-}
 
 // How many records 6 and 7 entries have.
 fn records_of(entries: &[Entry]) -> u32
@@ -38,42 +24,43 @@ fn records_of(entries: &[Entry]) -> u32
 }
 
 // The cents where the test holds, else none.
-fn cents_if(test: bool, cents: Cents) -> Result<Cents, PlanFault>
-    ensures { IfOk result (λ given. given ≡ (if test then cents else 0)) }
+fn cents_if(test: bool, cents: Cents) -> Cents
+    ensures { result ≡ (if test then cents else 0) }
 {
     if test {
-        return Ok(cents);
+        return cents;
     }
-    Cents::new(0).ok_or(PlanFault::Unprintable)
+    Cents::new(0).unwrap()
 }
 
-fn load_of(sending: &Sending<'_>) -> Result<Batch, PlanFault>
-    ensures value { IfOk result (λ b. b ≡ plan_of (sending_in sending.now)) }
-    ensures batch { IfOk result (λ b. IsBatch b) }
+fn load_of(sending: &Sending<'_>) -> Batch
+    ensures value { result ≡ plan_of (sending_in sending.now) }
+    ensures batch { IsBatch result }
 {
-    let content = &sending.waiting.row.content;
+    let sized = &sending.waiting.row.content;
+    let content = sized.submission();
     let entries = content.entries.as_slice();
-    let cents = cents_of(entries)?;
+    let cents = sized.total();
     let debit = content.direction.is_debit();
-    Ok(Batch {
+    Batch {
         company: sending.waiting.company.id,
         order: sending.waiting.row.order,
         settled: sending.settled.day(),
-        debits: cents_if(debit, cents)?,
-        credits: cents_if(!debit, cents)?,
+        debits: cents_if(debit, cents),
+        credits: cents_if(!debit, cents),
         entries: entries.len() as u32,
         records: records_of(entries),
-    })
+    }
 }
 
 /// Gives the load of each submission, in order.
-pub(crate) fn loads_of(alloc: Global, sent: &[Sending<'_>]) -> Result<Vec<Batch>, PlanFault>
+pub(crate) fn loads_of(alloc: Global, sent: &[Sending<'_>]) -> Result<Vec<Batch>, AllocError>
     ensures value { IfOk result (λ loads. loads.items ≡ map plan_of (map sending_in sent.now)) }
     ensures batches { IfOk result (λ loads. All IsBatch loads.items) }
 {
     let mut loads = Vec::new(alloc);
     for sending in sent {
-        loads.push(load_of(sending)?)?;
+        loads.push(load_of(sending))?;
     }
     Ok(loads)
 }

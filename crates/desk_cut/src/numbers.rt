@@ -5,11 +5,12 @@ ghost use Rattle.desk_plan.specs.Batch.{IsBatch};
 ghost use Rattle.desk_plan.specs.Reuse.{is_past};
 ghost use Rattle.desk_history.specs.Sendings.{plan_of};
 ghost use Rattle.desk_book.specs.OnCut.{sendings, lapses_among};
+ghost use Rattle.desk_cut.specs.Faults.{IsUndecided};
 ghost use Rattle.desk_cut.specs.Numbers.{IsNumbered, HasNoRanges};
 ghost use Rattle.desk_cut.specs.Sent.{sending_in};
 
 use crate::due::{Decision, Sending, decide};
-use crate::fault::{CutFault, PlanFault};
+use crate::fault::CutFault;
 use crate::loads::{counts_of, loads_of};
 use bank_days::{Calendar, Day};
 use desk_book::{HeldSubmission, LapsedRow};
@@ -39,12 +40,13 @@ fn load<'a>(
     day: RuleDay,
     holidays: &Calendar,
     waiting: &'a [HeldSubmission],
-) -> Result<LoadedCut<'a>, PlanFault>
+) -> Result<LoadedCut<'a>, CutFault>
     ensures sent { IfOk result (λ l. map sending_in l.sent.items ≡ sendings holidays.now day waiting.now) }
     ensures lapsed { IfOk result (λ l. l.lapsed.items ≡ lapses_among holidays.now day waiting.now) }
     ensures loads { IfOk result (λ l. l.loads.items ≡ map plan_of (sendings holidays.now day waiting.now)) }
     ensures batches { IfOk result (λ l. All IsBatch l.loads.items) }
     ensures later { IfOk result (λ l. All (λ b. day < b.settled) l.loads.items) }
+    ensures err { IfErr result (λ fault. IsUndecided (sendings holidays.now day waiting.now) fault) }
 {
     let Decision { sent, lapsed } = decide(alloc, day, holidays, waiting)?;
     let loads = loads_of(alloc, &sent)?;
@@ -56,7 +58,8 @@ fn load<'a>(
 }
 
 /// Gives what a cut sends with its sequences, and what lapses. It is `TracesSpent` where two
-/// batches would have a sequence in common; whether the entries of earlier cuts leave the ranges
+/// batches would have a sequence in common, and `DaysSpent` where a submission would settle after
+/// 2100-01-31; whether the entries of earlier cuts leave the ranges
 /// free is for the caller to see, from the latest settlement of each.
 pub(crate) fn number<'a>(
     alloc: Global,

@@ -1,16 +1,16 @@
 //! A cut is planned here.
 ghost use Rattle.std.specs.Prelude.{◌≡◌, ◌≤◌, ◌+◌, All, IfOk, IfErr, OnOk, length, nat_le, sum, true, if◌then◌else◌, Some, None};
-ghost use Rattle.desk_plan.specs.Files.{IsSize};
 ghost use Rattle.desk_plan.specs.Modifiers.{most_files};
 ghost use Rattle.desk_plan.specs.Runs.{in_runs};
 ghost use Rattle.desk_plan.specs.Sequences.{are_apart};
 ghost use Rattle.desk_history.specs.Files.{files_from};
 ghost use Rattle.desk_book.specs.OnCut.{sendings, ranges_after};
 ghost use Rattle.desk_cut.specs.Numbers.{HasNoRanges, batches_in, write_of, summary_of};
+ghost use Rattle.desk_cut.specs.Sendable.{IsSendable, AreSendable};
 ghost use Rattle.desk_cut.specs.Plan.{Plans, cut_of, plan_write};
 
 use crate::batches::{batches_of, entries_of};
-use crate::fault::{CutFault, PlanFault};
+use crate::fault::CutFault;
 use crate::files::{files_of, modifiers_of, rows_of, texts_of};
 use crate::numbers::{NumberedCut, are_past, number};
 use crate::postings::postings_of;
@@ -20,7 +20,7 @@ use desk_book::{FileRow, HeldSubmission, LapsedRow, SentRow};
 use desk_history::{CutSummary, Identity, ListOf, SentEntry};
 use desk_plan::{MOST_FILES, divide};
 use desk_rules::RuleDay;
-use std::alloc::Global;
+use std::alloc::{AllocError, Global};
 
 /// A `CutPlan` is all that a cut does.
 #[derive(Drop)]
@@ -42,7 +42,8 @@ pub struct CutPlan {
 /// Gives the first and the last sequence of each batch that a cut on a day would send, in order, by
 /// the sequence of the last entry that was sent.
 ///
-/// It is `TracesSpent` where two batches would have a sequence in common.
+/// It is `DaysSpent` where a submission would settle after 2100-01-31, then `TracesSpent` where two
+/// batches would have a sequence in common.
 pub fn ranges_of_cut(
     alloc: Global,
     day: RuleDay,
@@ -76,13 +77,15 @@ fn write(
     made: u32,
     sizes: &[usize],
     numbered: NumberedCut<'_>,
-) -> Result<CutPlan, PlanFault>
+) -> Result<CutPlan, AllocError>
     requires made { made + length sizes.now ≤ most_files }
-    requires sizes { All IsSize sizes.now }
+    requires sendable { All IsSendable (batches_in numbered) }
+    requires runs { All AreSendable (in_runs sizes.now (batches_in numbered)) }
     requires whole { sum sizes.now ≡ length (batches_in numbered) }
     ensures write { IfOk result (λ plan. plan_write plan ≡ write_of identity.now (files_from day made (in_runs sizes.now (batches_in numbered.entry))) numbered.entry) }
     ensures done { IfOk result (λ plan. plan.done ≡ summary_of day (files_from day made (in_runs sizes.now (batches_in numbered.entry))) numbered.entry) }
 {
+    desk_plan::modifiers_of_a_day();
     let batches = batches_of(alloc, &numbered.sent, &numbered.ranges)?;
     let files = files_of(alloc, day, made, sizes, &batches)?;
     let entries = entries_of(alloc, &batches)?;
@@ -109,11 +112,12 @@ fn write(
 ///
 /// A cut is refused in this order:
 ///
+/// - `DaysSpent`: a submission would settle after 2100-01-31;
 /// - `TracesSpent`: a batch would take a sequence of another, or of an entry that settled less than
 ///   366 days before the day;
 /// - `ModifiersSpent`: the day has no modifiers left for the files.
 ///
-/// `Unprintable` and `NoMemory` may come in the place of any.
+/// `NoMemory` may come in the place of any. Each field and each total of the files has a text.
 pub fn plan_cut(
     alloc: Global,
     identity: &Identity,
@@ -135,5 +139,6 @@ pub fn plan_cut(
     let Some(made) = made_before(made, sizes.len()) else {
         return Err(CutFault::ModifiersSpent);
     };
+    desk_plan::one_division();
     Ok(write(alloc, identity, today, made, &sizes, numbered)?)
 }

@@ -19,7 +19,7 @@ fn push_lines(
     ensures { OnOk result (postings.new.items ≡ postings.old.items ++ pairs (line_by (sending_in sending.now, load.now))) }
 {
     let company = sending.waiting.company.id;
-    let content = &sending.waiting.row.content;
+    let content = sending.waiting.row.content.submission();
     let debit = content.direction.is_debit();
     let cents = if debit { load.debits } else { load.credits };
     let settled = sending.settled.day();

@@ -1,13 +1,14 @@
 //! Two companies' submissions, a credit and a debit, for Friday 2025-01-10 are cut here on
 //! Thursday.
-use ach_fields::{Cents, Id, Ref, Routing, ShortText};
+use ach_fields::{Id, Ref, Routing, ShortText};
 use bank_days::{Calendar, Day};
 use desk_accounts::Account;
 use desk_book::{HeldSubmission, Row};
 use desk_cut::{CutFault, CutPlan, plan_cut, ranges_of_cut};
 use desk_history::{Identity, ListOf};
 use desk_rules::{
-    AccountKind, Company, Direction, Entries, Entry, Limits, RuleDay, SecCode, Submission,
+    AccountKind, Company, Direction, Entries, Entry, EntryCents, Limits, RuleDay, SecCode,
+    SizedSubmission, Submission,
 };
 use std::alloc::Global;
 use std::process::Abort;
@@ -28,6 +29,26 @@ const TEXT: &[u8] =
 82250000020018200002000000005000000000000000MILL01                             121042880000002\n\
 9000002000001000000030027300003000000005000000000002500                                       \n\
 9999999999999999999999999999999999999999999999999999999999999999999999999999999999999999999999\n";
+
+// The file of a debit of one cent with payment information and of a prenote, in fields of full width.
+const COMPANIES: &[u8] =
+    b"101 061000146 121042882250109    A094101ACH OPERATOR           OUR BANK                       \n\
+5225RIVER MILLS & CO                    MILL012345CCDINVOICES 1      250110   1121042880000001\n\
+637091000019123456789012345670000000001INVOICE-2025-01NORTH SHORE MILLS NO 2  1121042880000001\n\
+705RMR*IV*0123456789**1.00\\                                                        00010000001\n\
+628091000019123456789012345670000000000               NORTH SHORE MILLS NO 2  0121042880000002\n\
+82250000030018200002000000000001000000000000MILL012345                         121042880000001\n\
+9000001000001000000030018200002000000000001000000000000                                       \n\
+9999999999999999999999999999999999999999999999999999999999999999999999999999999999999999999999\n\
+9999999999999999999999999999999999999999999999999999999999999999999999999999999999999999999999\n\
+9999999999999999999999999999999999999999999999999999999999999999999999999999999999999999999999\n";
+
+// The controls of 1,000 debits with addenda, whose total is 999,999,999,999.
+const BATCH_CONTROL: &[u8] =
+    b"82250020009100001000999999999999000000000000MILL012345                         121042880000001\n";
+
+const FILE_CONTROL: &[u8] =
+    b"9000001000201000020009100001000999999999999000000000000                                       \n";
 
 fn day(rt: &impl Abort, text: &[u8]) -> Day {
     Day::read(text).expect(rt, "a day")
@@ -67,20 +88,25 @@ fn company(rt: &impl Abort, name: &[u8]) -> Company {
     }
 }
 
-// So many entries of 25.00.
+// An entry of 25.00.
+fn entry(rt: &impl Abort) -> Entry {
+    Entry {
+        routing: routing(rt, b"091000019"),
+        account: short_text(rt, b"123456789"),
+        kind: AccountKind::Checking,
+        prenote: false,
+        cents: EntryCents::new(2500).expect(rt, "an amount"),
+        id: short_text(rt, b"E1"),
+        name: short_text(rt, b"ANN LEE"),
+        info: None,
+    }
+}
+
+// So many of them.
 fn entries(rt: &(impl Abort + Alloc<A = Global>), count: u32) -> Result<Entries, Fail> {
-    let mut entries = Entries::new(rt.alloc());
-    for _ in 0..count {
-        entries.push(Entry {
-            routing: routing(rt, b"091000019"),
-            account: short_text(rt, b"123456789"),
-            kind: AccountKind::Checking,
-            prenote: false,
-            cents: Cents::new(2500).expect(rt, "an amount"),
-            id: short_text(rt, b"E1"),
-            name: short_text(rt, b"ANN LEE"),
-            info: None,
-        })?;
+    let mut entries = Entries::new(rt.alloc(), entry(rt))?;
+    for _ in 1..count {
+        entries.push(entry(rt))?;
     }
     Ok(entries)
 }
@@ -91,7 +117,7 @@ fn waits(
     direction: Direction,
     count: u32,
 ) -> Result<HeldSubmission, Fail> {
-    let content = Submission {
+    let submission = Submission {
         reference: Ref::new(b"PAY-1").ok().expect(rt, "a reference"),
         sec: SecCode::Ppd,
         direction,
@@ -103,7 +129,7 @@ fn waits(
         company: company(rt, name),
         row: Row {
             order: 1,
-            content,
+            content: SizedSubmission::new(submission).ok().expect(rt, "a size"),
             retry: None,
             settled: None,
             lapsed: false,
@@ -242,11 +268,123 @@ fn a_late_retry_lapses(rt: HostRuntime) -> Result<(), Fail> {
     Ok(())
 }
 
+// A company's entry of one cent for a savings account, with payment information, and a prenote.
+fn company_entries(rt: &(impl Abort + Alloc<A = Global>)) -> Result<Entries, Fail> {
+    let invoice = Entry {
+        routing: routing(rt, b"091000019"),
+        account: short_text(rt, b"12345678901234567"),
+        kind: AccountKind::Savings,
+        prenote: false,
+        cents: EntryCents::new(1).expect(rt, "an amount"),
+        id: short_text(rt, b"INVOICE-2025-01"),
+        name: short_text(rt, b"NORTH SHORE MILLS NO 2"),
+        info: Some(short_text(rt, b"RMR*IV*0123456789**1.00\\")),
+    };
+    let prenote = Entry {
+        routing: routing(rt, b"091000019"),
+        account: short_text(rt, b"12345678901234567"),
+        kind: AccountKind::Checking,
+        prenote: true,
+        cents: EntryCents::new(0).expect(rt, "an amount"),
+        id: short_text(rt, b""),
+        name: short_text(rt, b"NORTH SHORE MILLS NO 2"),
+        info: None,
+    };
+    let mut entries = Entries::new(rt.alloc(), invoice)?;
+    entries.push(prenote)?;
+    Ok(entries)
+}
+
 #[test]
-fn no_submission_is_empty(rt: HostRuntime) -> Result<(), Fail> {
+fn entries_of_companies_are_printed(rt: HostRuntime) -> Result<(), Fail> {
+    let submission = Submission {
+        reference: Ref::new(b"PAY-1").ok().expect(&rt, "a reference"),
+        sec: SecCode::Ccd,
+        direction: Direction::Debit,
+        description: short_text(&rt, b"INVOICES 1"),
+        day: rule_day(&rt, b"2025-01-10"),
+        entries: company_entries(&rt)?,
+    };
+    let mut held = waits(&rt, b"MILL012345", Direction::Debit, 1)?;
+    held.company.name = short_text(&rt, b"RIVER MILLS & CO");
+    held.row.content = SizedSubmission::new(submission).ok().expect(&rt, "a size");
     let mut waiting = Vec::new(rt.alloc());
-    waiting.push(waits(&rt, b"MILL01", Direction::Debit, 0)?)?;
-    let empty = plan(&rt, 0, &[None], &waiting);
-    assert_eq!(rt; empty.err(), Some(CutFault::Unprintable));
+    waiting.push(held)?;
+    let plan = plan(&rt, 0, &[None], &waiting).ok().expect(&rt, "a plan");
+    let file = plan.files.first().expect(&rt, "a file");
+    assert_eq!(rt; file.text.as_slice(), COMPANIES);
+    Ok(())
+}
+
+// An entry whose texts have all their characters.
+fn widest(rt: &impl Abort, cents: u64) -> Entry {
+    Entry {
+        routing: routing(rt, b"091000019"),
+        account: short_text(rt, &[b'~'; 17]),
+        kind: AccountKind::Savings,
+        prenote: false,
+        cents: EntryCents::new(cents).expect(rt, "an amount"),
+        id: short_text(rt, &[b'~'; 15]),
+        name: short_text(rt, &[b'~'; 22]),
+        info: Some(short_text(rt, &[b'~'; 80])),
+    }
+}
+
+// A thousand debits, each with payment information: 99 of 9,999,999,999 cents, one of 9,999,999,198
+// and 900 of one cent are 999,999,999,999.
+fn largest(rt: &(impl Abort + Alloc<A = Global>)) -> Result<Entries, Fail> {
+    let mut entries = Entries::new(rt.alloc(), widest(rt, 9_999_999_999))?;
+    for index in 1..1_000 {
+        let cents = if index < 99 {
+            9_999_999_999
+        } else if index == 99 {
+            9_999_999_198
+        } else {
+            1
+        };
+        entries.push(widest(rt, cents))?;
+    }
+    Ok(entries)
+}
+
+// 1,000 entries, each with an addenda, are 2,004 records with those of the batch and the file: 201
+// blocks of ten records, each of 95 bytes with its LF.
+#[test]
+fn the_largest_submission_is_printed(rt: HostRuntime) -> Result<(), Fail> {
+    let submission = Submission {
+        reference: Ref::new(b"PAY-1").ok().expect(&rt, "a reference"),
+        sec: SecCode::Ppd,
+        direction: Direction::Debit,
+        description: short_text(&rt, b"~~~~~~~~~~"),
+        day: rule_day(&rt, b"2025-01-10"),
+        entries: largest(&rt)?,
+    };
+    let mut held = waits(&rt, b"MILL012345", Direction::Debit, 1)?;
+    held.row.content = SizedSubmission::new(submission).ok().expect(&rt, "a size");
+    let mut waiting = Vec::new(rt.alloc());
+    waiting.push(held)?;
+    let plan = plan(&rt, 0, &[None], &waiting).ok().expect(&rt, "a plan");
+    assert_eq!(rt; plan.done.entries, 1_000);
+    let text = plan.files.first().expect(&rt, "a file").text.as_slice();
+    assert_eq!(rt; text.len(), 201 * 10 * 95);
+    for line in text.split(|byte| *byte == b'\n').take(2_010) {
+        assert_eq!(rt; line.len(), 94);
+    }
+    let batch_control = text.get(2_002 * 95..2_003 * 95);
+    assert_eq!(rt; batch_control.expect(&rt, "a control"), BATCH_CONTROL);
+    let file_control = text.get(2_003 * 95..2_004 * 95);
+    assert_eq!(rt; file_control.expect(&rt, "a control"), FILE_CONTROL);
+    Ok(())
+}
+
+// On the last day that rules count from, the next day that a submission could settle is behind it.
+#[test]
+fn no_submission_settles_after_january_2100(rt: HostRuntime) -> Result<(), Fail> {
+    let last = Day::from_number(47_512).expect(&rt, "a day");
+    let last = RuleDay::new(last).expect(&rt, "a day");
+    let holidays = Calendar::empty(rt.alloc());
+    let waiting = two(&rt)?;
+    let cut = ranges_of_cut(rt.alloc(), last, &holidays, LAST, &waiting);
+    assert_eq!(rt; cut.err(), Some(CutFault::DaysSpent));
     Ok(())
 }

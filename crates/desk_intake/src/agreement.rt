@@ -54,7 +54,7 @@ fn has_amount(entry: &SentEntry, item: &ItemFacts) -> bool
     ensures { result ≡ (if is_return item.now then item.now.cents == entry.now.entry.cents else true) }
 {
     if is_return(item) {
-        item.cents == entry.entry.cents
+        item.cents == entry.entry.cents.as_cents()
     } else {
         true
     }

@@ -24,7 +24,7 @@ fn returned_pair(met: &MatchedItem, day: Day) -> Option<[Posting; 2]>
     post_return(
         entry.company,
         entry.debit,
-        entry.entry.cents,
+        entry.entry.cents.as_cents(),
         day,
         entry.reference,
         entry.index,

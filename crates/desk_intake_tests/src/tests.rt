@@ -8,7 +8,7 @@ use desk_history::{
     ChangeRow, Intake, ReturnRow, SentEntry, SuspenseReason, SuspenseRow, TakenFile,
 };
 use desk_intake::{FoundItem, IntakePlan, NamedEntry, plan_intake};
-use desk_rules::{AccountKind, Entry, ReturnCode, RuleDay, SecCode};
+use desk_rules::{AccountKind, Entry, EntryCents, ReturnCode, RuleDay, SecCode};
 use std::alloc::{AllocError, Global};
 use std::process::Abort;
 use std::test::Fail;
@@ -55,7 +55,7 @@ fn sent_entry(rt: &impl Abort) -> SentEntry {
             account: short_text(rt, b"123456789"),
             kind: AccountKind::Checking,
             prenote: false,
-            cents: cents(rt, 25_000),
+            cents: EntryCents::new(25_000).expect(rt, "an amount"),
             id: short_text(rt, b"E2"),
             name: short_text(rt, b"BOB RAY"),
             info: None,

@@ -52,10 +52,18 @@ prenote_of Absent = Some false
 prenote_of Wrong = None
 prenote_of (Given b) = Some b
 
+-- ten digits of cents
+abbrev pub most_entry_cents : ℕ
+most_entry_cents = 9_999_999_999
+
+-- an amount of an entry
+abbrev pub cents_within : ℕ → Option ℕ
+cents_within n = if nat_le n most_entry_cents then Some n else None
+
 -- nothing for a prenote, else 1 to ten digits of cents
 abbrev pub entry_cents_of : (accepted : Bool) → ℕ → Option ℕ
 entry_cents_of true n = if n == 0 then Some 0 else None
-entry_cents_of false n = if nat_le 1 n && nat_le n 9_999_999_999 then Some n else None
+entry_cents_of false n = if nat_le 1 n && nat_le n most_entry_cents then Some n else None
 
 -- the number of an entry in its submission
 abbrev pub entry_number_of : ℕ → Option ℕ

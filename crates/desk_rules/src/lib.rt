@@ -18,9 +18,11 @@ pub use bodies::draft::{
     CompanyDraft, Draft, DraftText, EntryDraft, EntryDrafts, LimitDrafts, LimitsDraft, Optional,
     RetryDraft,
 };
+pub use bodies::entry_cents::EntryCents;
 pub use bodies::fields::is_key;
 pub use bodies::operator_fields::{check_company_fields, check_day_field, check_limits_fields};
 pub use bodies::retry_fields::check_retry_fields;
+pub use bodies::sized_submission::SizedSubmission;
 pub use bodies::submission::{AccountKind, Direction, Entries, Entry, Retry, SecCode, Submission};
 pub use bodies::submission_fields::check_fields;
 pub use laws::{counted_deadlines, first_refusals, same_contents};

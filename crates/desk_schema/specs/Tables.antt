@@ -134,14 +134,14 @@ postings_table = plain_table_at 16 (codes "postings")
 
 -- the items of incoming files that name no sent entry, in the order in which they came
 abbrev pub suspense_text : List ℕ
-suspense_text = codes "CREATE TABLE suspense (no INT NOT NULL, file_key TEXT NOT NULL, item INT NOT NULL, why INT NOT NULL, code TEXT NOT NULL, trace TEXT NOT NULL, cents INT NOT NULL, day INT NOT NULL, PRIMARY KEY (no)) STRICT"
+suspense_text = codes "CREATE TABLE suspense (no INT NOT NULL, file_key TEXT NOT NULL, item INT NOT NULL, why TEXT NOT NULL, code TEXT NOT NULL, trace TEXT NOT NULL, cents INT NOT NULL, day INT NOT NULL, PRIMARY KEY (no)) STRICT"
 
 abbrev pub suspense_table : Table
 suspense_table = plain_table_at 18 (codes "suspense")
     (plain_column (codes "no") Integer true
     ∷ plain_column (codes "file_key") Text true
     ∷ plain_column (codes "item") Integer true
-    ∷ plain_column (codes "why") Integer true
+    ∷ plain_column (codes "why") Text true
     ∷ plain_column (codes "code") Text true
     ∷ plain_column (codes "trace") Text true
     ∷ plain_column (codes "cents") Integer true

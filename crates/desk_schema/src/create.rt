@@ -69,7 +69,7 @@ fn create_postings<S: Alter>(tx: &mut Transaction<'_, S>) -> Result<(), Error>
     )?;
     create_table(
         tx,
-        "CREATE TABLE suspense (no INT NOT NULL, file_key TEXT NOT NULL, item INT NOT NULL, why INT NOT NULL, code TEXT NOT NULL, trace TEXT NOT NULL, cents INT NOT NULL, day INT NOT NULL, PRIMARY KEY (no)) STRICT",
+        "CREATE TABLE suspense (no INT NOT NULL, file_key TEXT NOT NULL, item INT NOT NULL, why TEXT NOT NULL, code TEXT NOT NULL, trace TEXT NOT NULL, cents INT NOT NULL, day INT NOT NULL, PRIMARY KEY (no)) STRICT",
     )?;
     Ok(())
 }

@@ -1,12 +1,16 @@
 -- What one more line makes of the sums of an account's lines by value day.
-use Rattle.std.proofs.Common.{◌≡◌, ℕ, suc, ◌+◌, ◌<◌, ◌≤◌, inl, inr, Bool, true, false, List, [], ◌∷◌, ◌++◌, map, length, take, drop, set, get_or, ℤ, pos, ◌+ℤ◌, slice_index, refl, ap, ◌∙◌, arith, sym, subst}
-use Rattle.std.specs.Prelude.{if◌then◌else◌}
+use Rattle.std.proofs.Common.{◌≡◌, ℕ, suc, ◌+◌, ◌<◌, ◌≤◌, inl, inr, Bool, true, false, List, [], ◌∷◌, map, ℤ, pos, ◌+ℤ◌, slice_index, refl, ap, ◌∙◌, arith, sym, subst}
+use Rattle.std.specs.Prelude.{if◌then◌else◌, cond, Option, Some, None, unwrap_or}
+use Rattle.std.specs.BTreeMap.{insert_entry, is_at}
+use Rattle.std.specs.Cmp.{unsigned_tied}
+use Rattle.std.specs.Map.{lookup}
+use Rattle.std.specs.Ordering.{nat_cmp, is_eq, match_ordering}
+use Rattle.std.specs.declared.cmp.Ordering.{Ordering}
+use Rattle.std.specs.declared.cmp.Ordering.TheVariants.{Less, Equal, Greater}
 use Rattle.std.specs.List.Sorted.{IsStrictlyIncreasing}
 use Rattle.std.proofs.lemmas.Bool.{cases_order, eq-eqb, ne_eqb}
 use Rattle.std.proofs.lemmas.Bool.Decides.{nat_tests}
-use Rattle.std.proofs.Math.Seq.{drop-cons}
 use Rattle.std.proofs.lemmas.Int.{ints}
-use Rattle.std.proofs.lemmas.List.{take-append-drop, take-set, drop-set}
 use Rattle.desk_accounts.specs.declared.account.Account.{Account}
 use Rattle.desk_accounts.specs.declared.posting.Posting.{Posting}
 use Rattle.desk_accounts.specs.Posting.{same_account}
@@ -100,16 +104,40 @@ module _ (f g : ℕ → ℤ) (day : ℕ) (cents : ℤ) (others : (d : ℕ) → (
     ]
   ]
 
--- the row of the day is raised at its place
-pub raised_at : (rows : List (ℕ × ℤ)) (i day : ℕ) (cents : ℤ) (row : ℕ × ℤ) → i < length rows → row ≡ get_or rows i row → row.0 ≡ day
-    → take i rows ++ with_sum day cents (drop i rows) ≡ with_sum day cents rows → set rows i (row.0, row.1 +ℤ cents) ≡ with_sum day cents rows
-raised_at rows i day cents row lt is same passed =
-    let made : ℕ × ℤ = (row.0, row.1 +ℤ cents) in
-    let next : suc i ≡ i + 1 = omega arith in
-    let split : drop i rows ≡ row ∷ drop (i + 1) rows = drop-cons rows i row lt ∙ (λ j. sym is j ∷ drop (next j) rows) in
-    sym (take-append-drop i (set rows i made))
-    ∙ (λ j. take-set rows i made j ++ (drop-set rows i made lt ∙ sym (sum_same day row.0 cents row.1 (drop (i + 1) rows) (sym same)) ∙ ap (with_sum day cents) (sym split)) j)
-    ∙ passed
+-- ---- one sum in a map by days
+
+-- a day that is none of the keys has no value
+no_sum : (day : ℕ) (rows : List (ℕ × ℤ)) → Apart day (map (λ row. row.0) rows) → lookup (is_at (nat_cmp day)) rows ≡ None
+no_sum day [] h = refl
+no_sum day (row ∷ rows) h = ap (λ (b : Bool). cond b (Some row.1) (lookup (is_at (nat_cmp day)) rows)) (unsigned_tied day row.0 ∙ ne_eqb day row.0 h.0) ∙ no_sum day rows h.1
+
+-- the sum of the day is written with the amount more
+pub summed : (rows : List (ℕ × ℤ)) (day : ℕ) (cents : ℤ) → IsStrictlyIncreasing (map (λ row. row.0) rows)
+    → insert_entry nat_cmp rows day (unwrap_or (lookup (is_at (nat_cmp day)) rows) (pos 0) +ℤ cents) ≡ with_sum day cents rows
+summed [] day cents h = let e : pos 0 +ℤ cents ≡ cents = omega (arith, ints) in ap (λ (z : ℤ). (day, z) ∷ []) e
+summed (row ∷ rows) day cents h =
+    let days : List ℕ = map (λ (r : ℕ × ℤ). r.0) rows in
+    elim (cases_order day row.0) [
+      | inl same ↦
+          let tied : nat_cmp day row.0 ≡ Equal = grind (arith, nat_tests) in
+          ap (λ (o : Ordering). let v = unwrap_or (cond (is_eq o) (Some row.1) (lookup (is_at (nat_cmp day)) rows)) (pos 0) +ℤ cents in match_ordering o ((day, v) ∷ row ∷ rows) ((row.0, v) ∷ rows) (row ∷ insert_entry nat_cmp rows day v)) tied
+          ∙ sym (sum_same day row.0 cents row.1 rows same)
+      | inr apart ↦ elim apart [
+        | inl lower ↦
+            let below : nat_cmp day row.0 ≡ Less = grind (arith, nat_tests) in
+            let away : Apart day days = apart_above day row.0 days (omega arith) h in
+            let e : pos 0 +ℤ cents ≡ cents = omega (arith, ints) in
+            ap (λ (o : Ordering). let v = unwrap_or (cond (is_eq o) (Some row.1) (lookup (is_at (nat_cmp day)) rows)) (pos 0) +ℤ cents in match_ordering o ((day, v) ∷ row ∷ rows) ((row.0, v) ∷ rows) (row ∷ insert_entry nat_cmp rows day v)) below
+            ∙ ap (λ (o : Option ℤ). (day, unwrap_or o (pos 0) +ℤ cents) ∷ row ∷ rows) (no_sum day rows away)
+            ∙ ap (λ (z : ℤ). (day, z) ∷ row ∷ rows) e
+            ∙ sym (sum_lower day row.0 cents row.1 rows lower)
+        | inr higher ↦
+            let above : nat_cmp day row.0 ≡ Greater = grind (arith, nat_tests) in
+            ap (λ (o : Ordering). let v = unwrap_or (cond (is_eq o) (Some row.1) (lookup (is_at (nat_cmp day)) rows)) (pos 0) +ℤ cents in match_ordering o ((day, v) ∷ row ∷ rows) ((row.0, v) ∷ rows) (row ∷ insert_entry nat_cmp rows day v)) above
+            ∙ ap (λ (more : List (ℕ × ℤ)). row ∷ more) (summed rows day cents (increasing_tail row.0 days h))
+            ∙ sym (sum_higher day row.0 cents row.1 rows higher)
+      ]
+    ]
 
 -- ---- lines
 

@@ -8,7 +8,7 @@ use bank_days::{Calendar, Day};
 use desk_accounts::{Account, Posting};
 use desk_book::{Caller, HeldSubmission, ReturnsAndChanges, Row};
 use desk_history::{Identity, ListOf, SentEntry, SuspenseRow, TakenFile};
-use desk_rules::{Company, EntryState, Limits, Retry, RuleDay, Submission};
+use desk_rules::{Company, EntryState, Limits, Retry, RuleDay, SizedSubmission};
 use std::alloc::Global;
 
 /// A `FaultyStore` is a store of lists that refuses one call: it answers `Unavailable` to the call
@@ -293,7 +293,7 @@ impl Store for FaultyStore {
         alloc: Global,
         company: Id,
         order: u64,
-        content: &Submission,
+        content: &SizedSubmission,
         retry: Option<Retry>,
     ) -> Result<(), StoreFault> {
         if self.is_refused() {

@@ -2,7 +2,6 @@
 pub(crate) mod balances;
 pub(crate) mod calls;
 pub(crate) mod changes;
-pub(crate) mod copies;
 pub(crate) mod cut;
 pub(crate) mod entries;
 pub(crate) mod intake;

@@ -16,7 +16,7 @@ use desk_book::{
     SentRow,
 };
 use desk_history::{ChangeRow, Identity, ListOf, ReturnRow, SentEntry, SuspenseRow, TakenFile};
-use desk_rules::{Company, EntryState, Limits, Retry, RuleDay, Submission};
+use desk_rules::{Company, EntryState, Limits, Retry, RuleDay, SizedSubmission};
 use std::alloc::{AllocError, AllocFailed, Global};
 
 /// A `StoreFault` says why a store does not answer.
@@ -293,7 +293,7 @@ pub trait Store {
         alloc: Global,
         company: Id,
         order: u64,
-        content: &Submission,
+        content: &SizedSubmission,
         retry: Option<Retry>,
     ) -> Result<(), StoreFault>
         ensures before { is_clean self.new → is_clean self.old }

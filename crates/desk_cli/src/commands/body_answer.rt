@@ -1,11 +1,11 @@
 //! The answer to a submission's body, without a desk.
-ghost use Rattle.std.specs.Prelude.{◌≡◌, ◌≤◌, length, IfOk, Some};
+ghost use Rattle.std.specs.Prelude.{◌≡◌, IfOk, Some};
 ghost use Rattle.serde_json.specs.View.{view};
 ghost use Rattle.desk_rules.specs.OrNoMemory.{IsUnlessNoMemory};
 ghost use Rattle.desk_cli.specs.BodyAnswers.{submission_answer, object_answer, acceptance_text, checked_submission, IsAnswer};
 
 use desk_json::{fault_text, put_acceptance, read_object, refusal_text, submission_draft};
-use desk_rules::{RuleFault, Submission, check_fields, check_size, total};
+use desk_rules::{RuleFault, SizedSubmission, check_fields};
 use serde_json::Value;
 use std::alloc::{AllocError, Global};
 
@@ -46,27 +46,24 @@ fn object_answer(alloc: Global, value: &Value) -> Result<(bool, Vec<u8>), NoMemo
     }
 }
 
-fn checked_submission(alloc: Global, value: &Value) -> Result<Submission, RuleFault>
-    ensures checks { IsUnlessNoMemory (checked_submission (view value.now)) result }
-    ensures few { IfOk result (λ s. length s.entries ≤ 1_000) }
+fn checked_submission(alloc: Global, value: &Value) -> Result<SizedSubmission, RuleFault>
+    ensures { IsUnlessNoMemory (checked_submission (view value.now)) result }
 {
     let draft = submission_draft(alloc, value)?;
     let submission = check_fields(alloc, &draft)?;
-    check_size(&submission)?;
-    Ok(submission)
+    Ok(SizedSubmission::new(submission)?)
 }
 
-fn acceptance_text(alloc: Global, submission: &Submission) -> Result<Vec<u8>, AllocError>
-    requires { length submission.now.entries ≤ 1_000 }
-    ensures { IfOk result (λ t. t.items ≡ acceptance_text submission.now) }
+fn acceptance_text(alloc: Global, accepted: &SizedSubmission) -> Result<Vec<u8>, AllocError>
+    ensures { IfOk result (λ t. t.items ≡ acceptance_text accepted.now) }
 {
     let mut text = Vec::with_capacity(alloc, ROOM)?;
-    let entries = submission.entries.as_slice();
+    let submission = accepted.submission();
     put_acceptance(
         &mut text,
         &submission.reference,
-        total(entries),
-        entries.len() as u64,
+        accepted.total().get(),
+        submission.entries.as_slice().len() as u64,
         1,
     );
     Ok(text)

@@ -10,7 +10,9 @@ use crate::company::facts::facts_of;
 use ach_fields::Id;
 use bank_days::{Calendar, Day};
 use desk_book::{Row, first_open_day};
-use desk_rules::{Limits, Refusal, Submission, check_submission, credit_exposure, debit_exposure};
+use desk_rules::{
+    Limits, Refusal, SizedSubmission, check_submission, credit_exposure, debit_exposure,
+};
 use desk_store::{Store, StoreFault};
 use std::alloc::Global;
 
@@ -60,15 +62,15 @@ pub(crate) fn within_limits<S: Store>(
     calendar: &Calendar,
     limits: &Limits,
     today: Day,
-    content: Submission,
-) -> Result<Result<Submission, Refusal>, StoreFault>
+    content: SizedSubmission,
+) -> Result<Result<SizedSubmission, Refusal>, StoreFault>
     ensures before { S.is_clean store.new → S.is_clean store.old }
     ensures read { S.is_clean store.new → Reads (S.holds store.old) result (λ b. within_limits (facts_in (b.rows company)) calendar.now limits.now today content) (S.holds store.new) }
     ensures left { S.is_clean store.new → LeavesRead (S.may_leave store.old) (S.may_leave store.new) }
 {
     let rows = exposed_rows(store, alloc, company, calendar, today)?;
     let facts = facts_of(alloc, &rows)?;
-    match check_submission(&content, today, limits, &facts, calendar) {
+    match check_submission(content.submission(), today, limits, &facts, calendar) {
         Ok(()) => Ok(Ok(content)),
         Err(why) => Ok(Err(why)),
     }

@@ -4,11 +4,9 @@ ghost use Rattle.std.specs.List.{enumerate_from};
 ghost use Rattle.desk_history.specs.Reports.{retried_entry, reported_entry};
 ghost use Rattle.desk_book.specs.OnBook.{row_report};
 
-use crate::company::receipt::sum;
 use desk_book::Row;
 use desk_history::{ListOf, ReportedEntry, RetriedEntry, SubmissionReport};
 use desk_rules::{Entry, EntryState, Retry};
-use desk_store::StoreFault;
 use std::alloc::{AllocError, Global};
 
 fn retried_entry(retry: &Option<Retry>) -> Option<RetriedEntry>
@@ -36,7 +34,7 @@ fn reported_entries(
     for (entry, state) in entries.iter().zip(states) {
         index += 1;
         found.push(ReportedEntry {
-            cents: entry.cents,
+            cents: entry.cents.as_cents(),
             index,
             state: *state,
         })?;
@@ -45,19 +43,20 @@ fn reported_entries(
 }
 
 /// Gives a submission with the states of its entries.
-pub(crate) fn submission_report(alloc: Global, row: &Row) -> Result<SubmissionReport, StoreFault>
+pub(crate) fn submission_report(alloc: Global, row: &Row) -> Result<SubmissionReport, AllocError>
     ensures { IfOk result (λ f. f ≡ row_report row.now) }
 {
-    let entries = row.content.entries.as_slice();
+    let content = row.content.submission();
+    let entries = content.entries.as_slice();
     Ok(SubmissionReport {
-        cents: sum(entries)?,
-        day: row.content.day.day(),
-        direction: row.content.direction,
+        cents: row.content.total(),
+        day: content.day.day(),
+        direction: content.direction,
         entries: ListOf::new(reported_entries(alloc, entries, row.states.as_slice())?),
         retried: retried_entry(&row.retry),
         order: row.order,
-        reference: row.content.reference,
-        sec: row.content.sec,
+        reference: content.reference,
+        sec: content.sec,
     })
 }
 
@@ -65,7 +64,7 @@ pub(crate) fn submission_report(alloc: Global, row: &Row) -> Result<SubmissionRe
 pub(crate) fn report_or_none(
     alloc: Global,
     row: &Option<Row>,
-) -> Result<Option<SubmissionReport>, StoreFault>
+) -> Result<Option<SubmissionReport>, AllocError>
     ensures { IfOk result (λ f. f ≡ option_map row_report row.now) }
 {
     match row {

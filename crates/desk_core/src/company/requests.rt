@@ -11,7 +11,7 @@ use ach_fields::Id;
 use bank_days::Day;
 use desk_book::Row;
 use desk_history::{Answer, Outcome};
-use desk_rules::{Limits, Refusal, Retry, Submission};
+use desk_rules::{Limits, Refusal, Retry, SizedSubmission};
 use desk_store::{Store, StoreFault};
 use std::alloc::Global;
 
@@ -64,40 +64,36 @@ pub(crate) fn refused_verdict(why: Refusal) -> Verdict
 
 /// Gives the verdict where a row has the reference: what is the same is answered as it was the
 /// first time.
-pub(crate) fn known_verdict(row: &Row, same: bool) -> Result<Verdict, StoreFault>
-    ensures { IfOk result (λ verdict. verdict ≡ known_verdict same row.now) }
+pub(crate) fn known_verdict(row: &Row, same: bool) -> Verdict
+    ensures { result ≡ known_verdict same row.now }
 {
     if !same {
-        return Ok(refused_verdict(Refusal::RefReused));
+        return refused_verdict(Refusal::RefReused);
     }
-    let receipt = receipt(&row.content, row.order)?;
-    Ok(Verdict {
-        answer: Answer::Done(Outcome::Submitted(receipt)),
+    Verdict {
+        answer: Answer::Done(Outcome::Submitted(receipt(&row.content, row.order))),
         added: None,
-    })
+    }
 }
 
 /// Gives the verdict where no row has the reference.
 pub(crate) fn fresh_verdict(
     order: u64,
     retry: Option<Retry>,
-    content: Result<Submission, Refusal>,
-) -> Result<Verdict, StoreFault>
-    ensures { IfOk result (λ verdict. verdict ≡ fresh_verdict order retry content) }
+    content: Result<SizedSubmission, Refusal>,
+) -> Verdict
+    ensures { result ≡ fresh_verdict order retry content }
 {
     match content {
-        Err(why) => Ok(refused_verdict(why)),
-        Ok(content) => {
-            let receipt = receipt(&content, order)?;
-            Ok(Verdict {
-                answer: Answer::Done(Outcome::Submitted(receipt)),
-                added: Some(NewRow {
-                    order,
-                    content,
-                    retry,
-                }),
-            })
-        }
+        Err(why) => refused_verdict(why),
+        Ok(content) => Verdict {
+            answer: Answer::Done(Outcome::Submitted(receipt(&content, order))),
+            added: Some(NewRow {
+                order,
+                content,
+                retry,
+            }),
+        },
     }
 }
 

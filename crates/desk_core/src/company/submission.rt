@@ -21,7 +21,7 @@ use ach_fields::Id;
 use bank_days::Day;
 use desk_book::Row;
 use desk_history::Answer;
-use desk_rules::{Draft, Limits, RuleFault, Submission, check_fields, check_size};
+use desk_rules::{Draft, Limits, RuleFault, SizedSubmission, Submission, check_fields};
 use desk_store::{Store, StoreFault};
 use std::alloc::Global;
 
@@ -30,7 +30,7 @@ fn is_plain_row(content: &Submission, row: &Row) -> bool
     ensures { result ≡ is_same_submission content.now row.now.content row.now.retry }
 {
     match row.retry {
-        None => row.content.is_same(content),
+        None => row.content.submission().is_same(content),
         Some(_) => false,
     }
 }
@@ -48,13 +48,14 @@ fn new_submission<S: Store>(
     ensures read { S.is_clean store.new → Reads (S.holds store.old) result (λ b. fresh_verdict (length (b.rows company) + 1) None (new_content (facts_in (b.rows company)) b.holidays limits.now today content)) (S.holds store.new) }
     ensures left { S.is_clean store.new → LeavesRead (S.may_leave store.old) (S.may_leave store.new) }
 {
-    if let Err(why) = check_size(&content) {
-        return Ok(refused_verdict(why));
-    }
+    let content = match SizedSubmission::new(content) {
+        Ok(content) => content,
+        Err(why) => return Ok(refused_verdict(why)),
+    };
     let calendar = store.calendar(alloc)?;
     let judged = within_limits(store, alloc, company, &calendar, limits, today, content)?;
     let order = next_order(store, alloc, company)?;
-    fresh_verdict(order, None, judged)
+    Ok(fresh_verdict(order, None, judged))
 }
 
 /// Gives the verdict of a submission whose fields are right.
@@ -71,7 +72,7 @@ fn submission_on<S: Store>(
     ensures left { S.is_clean store.new → LeavesRead (S.may_leave store.old) (S.may_leave store.new) }
 {
     if let Some(row) = store.submission(alloc, company, content.reference)? {
-        return known_verdict(&row, is_plain_row(&content, &row));
+        return Ok(known_verdict(&row, is_plain_row(&content, &row)));
     }
     new_submission(store, alloc, company, limits, today, content)
 }

@@ -1,13 +1,13 @@
 //! A request has a verdict: its answer, and the row that it adds.
 use desk_history::Answer;
-use desk_rules::{Retry, Submission};
+use desk_rules::{Retry, SizedSubmission};
 
 /// A `NewRow` is a row that is to be added.
 #[derive(Drop)]
 pub(crate) struct NewRow {
     /// Its number among the company's accepted submissions and retries, from 1.
     pub order: u64,
-    pub content: Submission,
+    pub content: SizedSubmission,
     pub retry: Option<Retry>,
 }
 

@@ -68,15 +68,15 @@ fn latest_of<S: Store>(
     Ok(latest)
 }
 
-// Why a cut is refused. What stands in no history refuses nothing, nor does being out of memory.
+// Why a cut is refused. A settlement after the last day from which rules count refuses nothing, nor
+// does being out of memory.
 fn refusal_of(fault: CutFault) -> Result<Refusal, StoreFault>
     ensures { result ≡ refusal_of fault }
 {
     match fault {
         CutFault::TracesSpent => Ok(Refusal::TracesSpent),
         CutFault::ModifiersSpent => Ok(Refusal::ModifiersSpent),
-        CutFault::Unprintable => Err(StoreFault::Unavailable),
-        CutFault::NoMemory => Err(StoreFault::Unavailable),
+        CutFault::DaysSpent | CutFault::NoMemory => Err(StoreFault::Unavailable),
     }
 }
 
@@ -95,7 +95,8 @@ fn plan<S: Store>(
     let ranges = match ranges_of_cut(alloc, day, &reads.holidays, last, &reads.waiting) {
         Ok(ranges) => ranges,
         Err(CutFault::TracesSpent) => return Ok(Err(Refusal::TracesSpent)),
-        Err(_) => return Err(StoreFault::Unavailable),
+        Err(CutFault::DaysSpent | CutFault::NoMemory) => return Err(StoreFault::Unavailable),
+        Err(CutFault::ModifiersSpent) => unreachable!(),
     };
     let latest = latest_of(store, alloc, &ranges)?;
     let plan = plan_cut(

@@ -11,7 +11,7 @@ use ach_fields::ShortText;
 use bank_days::{Calendar, Day};
 use desk_book::{Row, state_numbered};
 use desk_rules::{
-    Attempt, Direction, Entries, Entry, EntryState, Refusal, Retry, Submission, may_retry,
+    Attempt, Direction, Entry, EntryState, Refusal, Retry, SizedSubmission, Submission, may_retry,
 };
 use desk_store::StoreFault;
 use std::alloc::{AllocError, Global};
@@ -31,10 +31,11 @@ fn entry_numbered(entries: &[Entry], index: u64) -> Option<Entry>
 pub(crate) fn entry_named(row: &Row, index: u64) -> Option<Entry>
     ensures { result ≡ live_debit row.now.content row.now.retry index }
 {
-    if row.retry.is_some() || row.content.direction == Direction::Credit {
+    let content = row.content.submission();
+    if row.retry.is_some() || content.direction == Direction::Credit {
         return None;
     }
-    let entry = entry_numbered(row.content.entries.as_slice(), index)?;
+    let entry = entry_numbered(content.entries.as_slice(), index)?;
     if entry.prenote {
         return None;
     }
@@ -81,14 +82,6 @@ fn attempts_of(
     Ok(tried)
 }
 
-fn one_entry(alloc: Global, entry: Entry) -> Result<Entries, AllocError>
-    ensures { IfOk result (λ entries. entries ≡ entry ∷ []) }
-{
-    let mut entries = Entries::new(alloc);
-    entries.push(entry)?;
-    Ok(entries)
-}
-
 /// Gives the submission of a retry: the original's kind and entry, under the description of
 /// retries.
 pub(crate) fn content_of(
@@ -96,20 +89,18 @@ pub(crate) fn content_of(
     retry: &Retry,
     content: &Submission,
     entry: Entry,
-) -> Result<Submission, StoreFault>
+) -> Result<SizedSubmission, AllocError>
     ensures { IfOk result (λ made. made ≡ content_of retry.now content.now entry) }
 {
-    let Ok(description) = ShortText::new(b"RETRY PYMT") else {
-        return Err(StoreFault::Unavailable);
-    };
-    Ok(Submission {
-        reference: retry.reference,
-        sec: content.sec,
-        direction: content.direction,
-        description,
-        day: retry.day,
-        entries: one_entry(alloc, entry)?,
-    })
+    SizedSubmission::of_one(
+        alloc,
+        retry.reference,
+        content.sec,
+        content.direction,
+        ShortText::new(b"RETRY PYMT").unwrap(),
+        retry.day,
+        entry,
+    )
 }
 
 /// May the entry of a row, which has these retries, be tried again? An entry has an attempt unless it

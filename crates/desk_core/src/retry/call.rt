@@ -39,7 +39,7 @@ fn new_retry<S: Store>(
     let calendar = store.calendar(alloc)?;
     let content = retry_content(store, alloc, company, &calendar, limits, today, retry)?;
     let order = next_order(store, alloc, company)?;
-    fresh_verdict(order, Some(*retry), content)
+    Ok(fresh_verdict(order, Some(*retry), content))
 }
 
 /// Gives the verdict of a retry whose fields are right.
@@ -56,7 +56,7 @@ fn retry_on<S: Store>(
     ensures left { S.is_clean store.new → LeavesRead (S.may_leave store.old) (S.may_leave store.new) }
 {
     if let Some(row) = store.submission(alloc, company, retry.reference)? {
-        return known_verdict(&row, is_same_retry(retry, row.retry));
+        return Ok(known_verdict(&row, is_same_retry(retry, row.retry)));
     }
     new_retry(store, alloc, company, limits, today, retry)
 }

@@ -9,7 +9,7 @@ use crate::retry::attempts::{content_of, entry_named, first_of_attempts};
 use ach_fields::Id;
 use bank_days::{Calendar, Day};
 use desk_book::Row;
-use desk_rules::{Entry, Limits, Refusal, Retry, Submission};
+use desk_rules::{Entry, Limits, Refusal, Retry, SizedSubmission};
 use desk_store::{Store, StoreFault};
 use std::alloc::Global;
 
@@ -24,16 +24,17 @@ fn retry_content_of<S: Store>(
     retry: &Retry,
     row: &Row,
     entry: Entry,
-) -> Result<Result<Submission, Refusal>, StoreFault>
+) -> Result<Result<SizedSubmission, Refusal>, StoreFault>
     ensures before { S.is_clean store.new → S.is_clean store.old }
     ensures read { S.is_clean store.new → Reads (S.holds store.old) result (λ b. retry_content (facts_in (b.rows company)) calendar.now limits.now today retry.now row.now.content entry (attempts_at (b.rows company) row.now retry.now.index)) (S.holds store.new) }
     ensures left { S.is_clean store.new → LeavesRead (S.may_leave store.old) (S.may_leave store.new) }
 {
-    let retries = store.retries_of(alloc, company, row.content.reference, retry.index)?;
+    let original = row.content.submission();
+    let retries = store.retries_of(alloc, company, original.reference, retry.index)?;
     if let Err(why) = first_of_attempts(alloc, &retries, row, retry, today, calendar)? {
         return Ok(Err(why));
     }
-    let content = content_of(alloc, retry, &row.content, entry)?;
+    let content = content_of(alloc, retry, original, entry)?;
     within_limits(store, alloc, company, calendar, limits, today, content)
 }
 
@@ -56,7 +57,7 @@ pub(crate) fn retry_content<S: Store>(
     limits: &Limits,
     today: Day,
     retry: &Retry,
-) -> Result<Result<Submission, Refusal>, StoreFault>
+) -> Result<Result<SizedSubmission, Refusal>, StoreFault>
     ensures before { S.is_clean store.new → S.is_clean store.old }
     ensures read { S.is_clean store.new → Reads (S.holds store.old) result (λ b. retry_content_among (b.rows company) calendar.now limits.now today retry.now) (S.holds store.new) }
     ensures left { S.is_clean store.new → LeavesRead (S.may_leave store.old) (S.may_leave store.new) }

@@ -9,13 +9,13 @@ ghost use Rattle.bank_days.specs.Day.{day_of};
 ghost use Rattle.desk_rules.specs.Chain.{good};
 ghost use Rattle.desk_rules.specs.Fields.{sec_of, direction_of, kind_of, text_of, description_of, optional_of, prenote_of, entry_cents_of, entry_number_of, is_key, is_key_character, key_of, up_to};
 
+use crate::bodies::entry_cents::MOST_ENTRY_CENTS;
 use crate::rules::size::MOST_ENTRIES;
-use crate::{AccountKind, Direction, DraftText, Field, Optional, Refusal, RuleDay, SecCode};
-use ach_fields::{Cents, Id, Ref, Routing, ShortText};
+use crate::{
+    AccountKind, Direction, DraftText, EntryCents, Field, Optional, Refusal, RuleDay, SecCode,
+};
+use ach_fields::{Id, Ref, Routing, ShortText};
 use bank_days::Day;
-
-/// An entry has at most so many cents, by the ten digits that files have for them.
-pub(crate) const MOST_ENTRY_CENTS: u64 = 9_999_999_999;
 
 // The value, or the refusal of its field.
 pub fn good<T: Drop>(value: Option<T>, field: Field, index: u64) -> Result<T, Refusal>
@@ -172,7 +172,7 @@ pub fn prenote(draft: &Optional<bool>) -> Option<bool>
     }
 }
 
-pub fn cents(draft: Option<u64>, prenote: bool) -> Option<Cents>
+pub fn cents(draft: Option<u64>, prenote: bool) -> Option<EntryCents>
     ensures { result ≡ option_and_then (entry_cents_of prenote) draft }
 {
     let amount = draft?;
@@ -181,7 +181,7 @@ pub fn cents(draft: Option<u64>, prenote: bool) -> Option<Cents>
     } else {
         amount >= 1 && amount <= MOST_ENTRY_CENTS
     };
-    if right { Cents::new(amount) } else { None }
+    if right { EntryCents::new(amount) } else { None }
 }
 
 pub fn info(draft: &Optional<DraftText>) -> Option<Option<ShortText<80>>>

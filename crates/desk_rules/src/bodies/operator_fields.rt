@@ -3,8 +3,9 @@ ghost use Rattle.std.specs.Prelude.{◌≡◌, option_and_then};
 ghost use Rattle.desk_rules.specs.Operator.{company_of, limits_of, new_limits_of, desk_day_of, desk_day_in};
 
 use crate::bodies::draft::LimitDrafts;
+use crate::bodies::entry_cents::MOST_ENTRY_CENTS;
 use crate::bodies::fields;
-use crate::bodies::fields::{MOST_ENTRY_CENTS, good};
+use crate::bodies::fields::good;
 use crate::{Company, CompanyDraft, DraftText, Field, Limits, LimitsDraft, Refusal, RuleDay};
 use ach_fields::Id;
 

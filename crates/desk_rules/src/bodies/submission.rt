@@ -1,10 +1,10 @@
 //! Submissions and retries have fields that are right.
-ghost use Rattle.std.specs.Prelude.{◌≡◌, [], ◌∷◌, ◌++◌, OnOk, OnErr};
+ghost use Rattle.std.specs.Prelude.{◌≡◌, ◌≤◌, [], ◌∷◌, ◌++◌, length, IfOk, OnOk, OnErr};
 ghost use Rattle.desk_rules.specs.Fields.{sec_text};
 ghost use Rattle.desk_rules.specs.LimitChecks.{is_debit};
 
-use crate::RuleDay;
-use ach_fields::{Cents, Ref, Routing, ShortText};
+use crate::{EntryCents, RuleDay};
+use ach_fields::{Ref, Routing, ShortText};
 use bank_days::Day;
 use std::alloc::{AllocError, Global};
 use std::marker::Model;
@@ -61,7 +61,7 @@ pub struct Entry {
     pub kind: AccountKind,
     /// Is it a prenotification, which tries the account and moves no money?
     pub prenote: bool,
-    pub cents: Cents,
+    pub cents: EntryCents,
     /// The company's name for the receiver, which may be empty.
     pub id: ShortText<15>,
     pub name: ShortText<22>,
@@ -69,7 +69,7 @@ pub struct Entry {
     pub info: Option<ShortText<80>>,
 }
 
-/// `Entries` are the entries of a submission.
+/// `Entries` are the entries of a submission, one at least.
 #[derive(Drop)]
 pub struct Entries {
     items: Vec<Entry>,
@@ -77,22 +77,24 @@ pub struct Entries {
 
 // Clauses see the list.
 impl Model for Entries {
-    ghost use Rattle.std.specs.Prelude.{List};
+    ghost use Rattle.std.specs.Prelude.{List, ◌≤◌, length};
     ghost use Rattle.desk_rules.specs.declared.bodies.submission.Entry.{Entry};
 
     ghost Value = { List Entry };
 
     ghost view = { λ t. t.items.items };
+
+    ghost invariant = { λ t. 1 ≤ length t.items.items };
 }
 
 impl Entries {
-    /// Makes a list of no entries.
-    pub fn new(alloc: Global) -> Entries
-        ensures { result ≡ [] }
+    /// Makes a list of one entry.
+    pub fn new(alloc: Global, first: Entry) -> Result<Entries, AllocError>
+        ensures { IfOk result (λ entries. entries ≡ first ∷ []) }
     {
-        Entries {
-            items: Vec::new(alloc),
-        }
+        Ok(Entries {
+            items: Vec::from_slice(alloc, &[first])?,
+        })
     }
 
     /// Adds an entry at the end. Where this is out of memory the list stays as it was.
@@ -106,9 +108,19 @@ impl Entries {
         Ok(())
     }
 
+    /// Makes a copy of the list.
+    pub fn copy(&self, alloc: Global) -> Result<Entries, AllocError>
+        ensures { IfOk result (λ entries. entries ≡ self.now) }
+    {
+        Ok(Entries {
+            items: Vec::from_slice(alloc, self.items.as_slice())?,
+        })
+    }
+
     /// Gives the entries in their order.
     pub fn as_slice(&self) -> &[Entry]
-        ensures { result.now ≡ self.now }
+        ensures value { result.now ≡ self.now }
+        ensures some { 1 ≤ length self.now }
     {
         self.items.as_slice()
     }

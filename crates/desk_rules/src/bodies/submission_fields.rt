@@ -1,5 +1,5 @@
 //! A submission's fields are checked here, in their order.
-ghost use Rattle.std.specs.Prelude.{◌≡◌, option_and_then, option_map};
+ghost use Rattle.std.specs.Prelude.{◌≡◌, ◌∷◌, option_and_then, option_map};
 ghost use Rattle.desk_rules.specs.Submission.{submission_of, entry_of, entries_of, some_of};
 ghost use Rattle.desk_rules.specs.OrNoMemory.{IsUnlessNoMemory};
 
@@ -27,8 +27,8 @@ pub fn check_fields(alloc: Global, draft: &Draft) -> Result<Submission, RuleFaul
         0,
     )?;
     let day = good(fields::day(&draft.day), Field::Day, 0)?;
-    let drafts = good(some_drafts(&draft.entries), Field::Entries, 0)?;
-    let entries = check_entries(alloc, drafts)?;
+    let (first, others) = good(some_drafts(&draft.entries), Field::Entries, 0)?;
+    let entries = check_entries(alloc, first, others)?;
     Ok(Submission {
         reference,
         sec,
@@ -39,22 +39,26 @@ pub fn check_fields(alloc: Global, draft: &Draft) -> Result<Submission, RuleFaul
     })
 }
 
-// A list of at least one.
-fn some_drafts(drafts: &Option<EntryDrafts>) -> Option<&[Option<EntryDraft>]>
-    ensures { option_map (λ s. s.now) result ≡ option_and_then some_of drafts.now }
+// The first of a list, and the others.
+fn some_drafts(drafts: &Option<EntryDrafts>) -> Option<(&Option<EntryDraft>, &[Option<EntryDraft>])>
+    ensures { option_map (λ s. s.0.now ∷ s.1.now) result ≡ option_and_then some_of drafts.now }
 {
     match drafts {
-        Some(drafts) if !drafts.as_slice().is_empty() => Some(drafts.as_slice()),
-        _ => None,
+        Some(drafts) => drafts.as_slice().split_first(),
+        None => None,
     }
 }
 
-fn check_entries(alloc: Global, drafts: &[Option<EntryDraft>]) -> Result<Entries, RuleFault>
-    ensures { IsUnlessNoMemory (entries_of 1 drafts.now) result }
+fn check_entries(
+    alloc: Global,
+    first: &Option<EntryDraft>,
+    others: &[Option<EntryDraft>],
+) -> Result<Entries, RuleFault>
+    ensures { IsUnlessNoMemory (entries_of 1 (first.now ∷ others.now)) result }
 {
-    let mut entries = Entries::new(alloc);
-    let mut index = 0;
-    for draft in drafts {
+    let mut entries = Entries::new(alloc, check_entry(first, 1)?)?;
+    let mut index = 1;
+    for draft in others {
         index += 1;
         let entry = check_entry(draft, index)?;
         // The checker follows a move of `Entry` only where its parts' types are seen.

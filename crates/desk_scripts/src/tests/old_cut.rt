@@ -1,10 +1,11 @@
 //! A store has sent entries here, before a script begins.
 use super::script::new_store;
-use ach_fields::{Cents, Id, Ref, Routing, ShortText};
+use ach_fields::{Id, Ref, Routing, ShortText};
 use bank_days::Day;
 use desk_core::{CutRows, FilePlace, ListStore, SentEntry, SentRow, Store};
 use desk_rules::{
-    AccountKind, Company, Direction, Entries, Entry, Limits, RuleDay, SecCode, Submission,
+    AccountKind, Company, Direction, Entries, Entry, EntryCents, Limits, RuleDay, SecCode,
+    SizedSubmission, Submission,
 };
 use std::alloc::Global;
 use std::process::Abort;
@@ -34,7 +35,7 @@ fn entry(rt: &impl Abort) -> Entry {
         account: short_text(rt, b"123456789"),
         kind: AccountKind::Checking,
         prenote: false,
-        cents: Cents::new(100).expect(rt, "an amount"),
+        cents: EntryCents::new(100).expect(rt, "an amount"),
         id: short_text(rt, b"E1"),
         name: short_text(rt, b"ANN LEE"),
         info: None,
@@ -57,11 +58,13 @@ fn put_submission(rt: &(impl Abort + Alloc<A = Global>), store: &mut ListStore, 
         .put_company(rt.alloc(), registered)
         .ok()
         .expect(rt, "a company");
-    let mut entries = Entries::new(rt.alloc());
-    for _ in 0..count {
+    let mut entries = Entries::new(rt.alloc(), entry(rt))
+        .ok()
+        .expect(rt, "an entry");
+    for _ in 1..count {
         entries.push(entry(rt)).ok().expect(rt, "an entry");
     }
-    let content = Submission {
+    let submission = Submission {
         reference: reference(rt),
         sec: SecCode::Ppd,
         direction: Direction::Debit,
@@ -69,6 +72,7 @@ fn put_submission(rt: &(impl Abort + Alloc<A = Global>), store: &mut ListStore, 
         day: settled(rt),
         entries,
     };
+    let content = SizedSubmission::new(submission).ok().expect(rt, "a size");
     store
         .add_submission(rt.alloc(), company(rt), 1, &content, None)
         .ok()

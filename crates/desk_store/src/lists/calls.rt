@@ -14,7 +14,7 @@ use bank_days::{Calendar, Day};
 use desk_accounts::{Account, Posting};
 use desk_book::{Caller, HeldSubmission, ReturnsAndChanges, Row};
 use desk_history::{Identity, ListOf, SentEntry, SuspenseRow, TakenFile};
-use desk_rules::{Company, EntryState, Limits, Retry, RuleDay, Submission};
+use desk_rules::{Company, EntryState, Limits, Retry, RuleDay, SizedSubmission};
 use std::alloc::Global;
 
 impl Store for ListStore {
@@ -206,7 +206,7 @@ impl Store for ListStore {
         alloc: Global,
         company: Id,
         order: u64,
-        content: &Submission,
+        content: &SizedSubmission,
         retry: Option<Retry>,
     ) -> Result<(), StoreFault> {
         let kept = held_row(alloc, company, order, content, retry)?;

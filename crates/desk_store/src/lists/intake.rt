@@ -43,7 +43,7 @@ fn give_back(kept: &mut KeptSubmission, returned: &ReturnedRow)
     ensures { row_in kept.new ≡ return_in returned.now (row_in kept.old) }
 {
     if kept.company.bytes() == returned.company.bytes() {
-        if kept.content.reference.bytes() == returned.row.reference.bytes() {
+        if kept.content.submission().reference.bytes() == returned.row.reference.bytes() {
             bring_back(&mut kept.states, returned);
         }
     }

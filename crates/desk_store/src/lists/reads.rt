@@ -7,12 +7,11 @@ ghost use Rattle.desk_store.specs.Finds.{rows_for, row_settlement, waiting_for};
 ghost use Rattle.desk_store.specs.Kept.{row_in};
 ghost use Rattle.desk_book.specs.Reads.{held_submission};
 
-use crate::lists::copies::copy_content;
 use crate::lists::store::KeptSubmission;
 use ach_fields::{Id, Ref};
 use desk_book::{HeldSubmission, Row};
 use desk_history::ListOf;
-use desk_rules::{Company, Entries, Entry, Retry, RuleDay, Submission};
+use desk_rules::{Company, Retry, RuleDay};
 use std::alloc::{AllocError, Global};
 
 /// Gives the company with an identification.
@@ -43,7 +42,7 @@ pub(crate) fn row_like(alloc: Global, kept: &KeptSubmission) -> Result<Row, Allo
     let states = copy_of(alloc, &kept.states)?;
     Ok(Row {
         order: kept.order,
-        content: copy_content(alloc, &kept.content)?,
+        content: kept.content.copy(alloc)?,
         retry: kept.retry,
         settled: kept.settled,
         lapsed: kept.lapsed,
@@ -72,7 +71,8 @@ pub(crate) fn rows_of(
 pub(crate) fn is_submission_of(kept: &KeptSubmission, company: Id, reference: Ref) -> bool
     ensures { result ≡ (bytes_eq kept.now.company company && bytes_eq kept.now.content.reference reference) }
 {
-    kept.company.bytes() == company.bytes() && kept.content.reference.bytes() == reference.bytes()
+    kept.company.bytes() == company.bytes()
+        && kept.content.submission().reference.bytes() == reference.bytes()
 }
 
 /// Gives a company's submission with a reference.

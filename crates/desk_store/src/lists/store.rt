@@ -10,7 +10,7 @@ use bank_days::Calendar;
 use desk_accounts::Posting;
 use desk_book::{ChangedRow, FileRow, ReturnedRow, SentRow};
 use desk_history::{Identity, SentEntry, SuspenseRow, TakenFile};
-use desk_rules::{Company, EntryState, Retry, RuleDay, Submission};
+use desk_rules::{Company, EntryState, Retry, RuleDay, SizedSubmission};
 use std::alloc::Global;
 
 /// A `KeptSubmission` is a company's submission or retry with its entries.
@@ -18,7 +18,7 @@ use std::alloc::Global;
 pub(crate) struct KeptSubmission {
     pub(crate) company: Id,
     pub(crate) order: u64,
-    pub(crate) content: Submission,
+    pub(crate) content: SizedSubmission,
     pub(crate) retry: Option<Retry>,
     pub(crate) settled: Option<RuleDay>,
     pub(crate) lapsed: bool,

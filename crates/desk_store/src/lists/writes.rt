@@ -6,10 +6,9 @@ ghost use Rattle.desk_history.specs.History.{with_company, with_limits};
 ghost use Rattle.desk_store.specs.Held.{held_row};
 ghost use Rattle.desk_store.specs.Kept.{row_in};
 
-use crate::lists::copies::copy_content;
 use crate::lists::store::KeptSubmission;
 use ach_fields::Id;
-use desk_rules::{Company, EntryState, Limits, Retry, Submission};
+use desk_rules::{Company, EntryState, Limits, Retry, SizedSubmission};
 use std::alloc::{AllocError, Global};
 
 /// Gives the place of a company, in the byte order of identifications.
@@ -64,13 +63,14 @@ pub(crate) fn held_row(
     alloc: Global,
     company: Id,
     order: u64,
-    content: &Submission,
+    content: &SizedSubmission,
     retry: Option<Retry>,
 ) -> Result<KeptSubmission, AllocError>
     ensures { IfOk result (λ kept. row_in kept ≡ held_row company order content.now retry) }
 {
-    let states = states_held(alloc, content.entries.as_slice().len())?;
-    let content = copy_content(alloc, content)?;
+    let entries = content.submission().entries.as_slice();
+    let states = states_held(alloc, entries.len())?;
+    let content = content.copy(alloc)?;
     Ok(KeptSubmission {
         company,
         order,

@@ -10,8 +10,8 @@ use desk_history::{
     TakenFile,
 };
 use desk_rules::{
-    AccountKind, Company, Direction, Entries, Entry, EntryState, Limits, ReturnCode, RuleDay,
-    SecCode, Submission,
+    AccountKind, Company, Direction, Entry, EntryCents, EntryState, Limits, ReturnCode, RuleDay,
+    SecCode, SizedSubmission,
 };
 use desk_store::{CutRows, IntakeRows, ListStore, Store};
 use std::alloc::Global;
@@ -77,24 +77,23 @@ fn entry(rt: &impl Abort) -> Entry {
         account: short_text(rt, b"123456789"),
         kind: AccountKind::Checking,
         prenote: false,
-        cents: cents(rt, 2500),
+        cents: EntryCents::new(2500).expect(rt, "an amount"),
         id: short_text(rt, b"E2"),
         name: short_text(rt, b"BOB RAY"),
         info: None,
     }
 }
 
-fn submission(rt: &(impl Abort + Alloc<A = Global>), name: &[u8]) -> Result<Submission, Fail> {
-    let mut entries = Entries::new(rt.alloc());
-    entries.push(entry(rt))?;
-    Ok(Submission {
-        reference: reference(rt, name),
-        sec: SecCode::Ppd,
-        direction: Direction::Debit,
-        description: short_text(rt, b"DUES"),
-        day: rule_day(rt, b"2025-01-10"),
-        entries,
-    })
+fn submission(rt: &(impl Abort + Alloc<A = Global>), name: &[u8]) -> Result<SizedSubmission, Fail> {
+    Ok(SizedSubmission::of_one(
+        rt.alloc(),
+        reference(rt, name),
+        SecCode::Ppd,
+        Direction::Debit,
+        short_text(rt, b"DUES"),
+        rule_day(rt, b"2025-01-10"),
+        entry(rt),
+    )?)
 }
 
 pub(super) fn sent_entry(rt: &impl Abort) -> SentEntry {
@@ -306,7 +305,11 @@ fn companies_and_submissions(rt: HostRuntime) -> Result<(), Fail> {
     assert_eq!(rt; first_state(&rt, &mut store, mill)?, EntryState::Held);
     let row = store.submission(alloc, mill, reference(&rt, b"PAY-2"))?;
     assert_eq!(rt;
-        row.expect(&rt, "a row").content.entries.as_slice(),
+        row.expect(&rt, "a row")
+            .content
+            .submission()
+            .entries
+            .as_slice(),
         [entry(&rt)].as_slice()
     );
     assert!(rt;
@@ -387,6 +390,61 @@ fn an_incoming_file(rt: HostRuntime) -> Result<(), Fail> {
     let days = [
         (day(&rt, b"2025-01-10"), -2500),
         (day(&rt, b"2025-01-14"), 5000),
+    ];
+    assert_eq!(rt; sums.as_slice(), days.as_slice());
+    Ok(())
+}
+
+// A cut that writes nothing but the two lines of an amount.
+fn write_lines(
+    rt: &(impl Abort + Alloc<A = Global>),
+    store: &mut impl Store,
+    company: &[u8],
+    amount: u64,
+    value_day: &[u8],
+) -> Result<(), Fail> {
+    let lines = post_cut(
+        id(rt, company),
+        true,
+        cents(rt, amount),
+        day(rt, value_day),
+        reference(rt, b"PAY-2"),
+    )
+    .expect(rt, "a pair");
+    let cut = CutRows {
+        sent: &[],
+        lapsed: &[],
+        entries: &[],
+        postings: &lines,
+        files: &[],
+    };
+    store.commit_cut(rt.alloc(), &cut)?;
+    Ok(())
+}
+
+#[test]
+fn value_days_come_in_any_order(rt: HostRuntime) -> Result<(), Fail> {
+    let alloc = rt.alloc();
+    let mut store = new_store(&rt);
+    write_lines(&rt, &mut store, b"MILL01", 2500, b"2025-01-14")?;
+    write_lines(&rt, &mut store, b"MILL01", 100, b"2025-01-10")?;
+    write_lines(&rt, &mut store, b"BAKE01", 7, b"2025-01-10")?;
+    write_lines(&rt, &mut store, b"MILL01", 1, b"2025-01-14")?;
+    write_lines(&rt, &mut store, b"MILL01", 30, b"2025-01-13")?;
+    let sums = store.balances_of(alloc, Account::Company(id(&rt, b"MILL01")))?;
+    let days = [
+        (day(&rt, b"2025-01-10"), 100),
+        (day(&rt, b"2025-01-13"), 30),
+        (day(&rt, b"2025-01-14"), 2501),
+    ];
+    assert_eq!(rt; sums.as_slice(), days.as_slice());
+    let sums = store.balances_of(alloc, Account::Company(id(&rt, b"BAKE01")))?;
+    assert_eq!(rt; sums.as_slice(), [(day(&rt, b"2025-01-10"), 7)].as_slice());
+    let sums = store.balances_of(alloc, Account::Operator)?;
+    let days = [
+        (day(&rt, b"2025-01-10"), -107),
+        (day(&rt, b"2025-01-13"), -30),
+        (day(&rt, b"2025-01-14"), -2501),
     ];
     assert_eq!(rt; sums.as_slice(), days.as_slice());
     Ok(())

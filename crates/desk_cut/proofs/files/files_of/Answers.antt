@@ -1,20 +1,15 @@
-use Rattle.std.proofs.Common.{◌≡◌, ◌≤◌, ◌<◌, ◌+◌, ◌-◌, ◌++◌, append_assoc, length, get_or, map, ℕ, List, [], ◌∷◌, take, drop, ap, ◌∙◌, sym, subst, arith, All}
+use Rattle.std.proofs.Common.{◌≡◌, ◌<◌, ◌+◌, ◌-◌, ◌++◌, length, get_or, map, ℕ, List, [], ◌∷◌, take, drop, ap, ◌∙◌, sym, refl, arith}
 use Rattle.std.proofs.lemmas.Grind.{common_steps}
-use Rattle.std.proofs.lemmas.List.{drop_more, map-append, take-map, drop-map, drop-drop, length-take}
-use Rattle.std.proofs.lemmas.List.Elements.{All-push}
+use Rattle.std.proofs.lemmas.List.{drop_more, take-map, drop-map, drop-drop}
 use Rattle.std.proofs.lemmas.Option.{get_or_from_slice_get}
-use Rattle.desk_plan.specs.Files.{most_batches}
-use Rattle.desk_plan.specs.Modifiers.{modifiers, modifier_at}
+use Rattle.desk_plan.specs.Modifiers.{modifiers, modifier_at, most_files}
 use Rattle.desk_plan.specs.Runs.{in_runs}
 use Rattle.desk_history.specs.Files as files
 use Rattle.desk_cut.specs.Sent.{batch_in, file_in}
 use Rattle.desk_cut.specs.declared.batches.NumberedBatch.{NumberedBatch}
 use Rattle.desk_cut.specs.declared.files.File.{File}
+use Rattle.desk_cut.proofs.Plain.{pushed}
 use Rattle.desk_cut.proofs.files.files_of.Goals as goal
-
--- one more is made
-pushed : {X Z : Type 0} (f : X → Z) (xs : List X) (x : X) (z : Z) (zs : List Z) → f x ≡ z → map f (xs ++ x ∷ []) ++ zs ≡ map f xs ++ (z ∷ zs)
-pushed {X} {Z} f xs x z zs same = ap (λ (l : List Z). l ++ zs) (map-append f xs (x ∷ [])) ∙ append_assoc (map f xs) (f x ∷ []) zs ∙ ap (λ (z : Z). map f xs ++ (z ∷ zs)) same
 
 -- the files of the sizes and the batches that are left
 abbrev left : ℕ → ℕ → List ℕ → List NumberedBatch → List files.File
@@ -43,21 +38,20 @@ made_more day made index from sizes bs done f more is =
     ∙ ap (λ (l : List files.File). map file_in done ++ l) (sym (next day (made + index) size (drop (index + 1) sizes) from bs))
     ∙ ap (λ (l : List ℕ). map file_in done ++ left day (made + index) l (drop from bs)) (sym (drop_more sizes index 0 more))
 
-few : (n k most : ℕ) (bs : List NumberedBatch) → k ≡ n → n ≤ most → length (take k bs) ≤ most
-few n k most bs is within = let size = length-take k bs in omega arith
+pub unwrap-modifier-requires : goal.unwrap-modifier-requires
+unwrap-modifier-requires c =
+    let room : c.args.made + c.loop-index.index < most_files = omega arith in
+    rw (c.modifier.ensures ∙ c.modifiers_of_a_day.ensures.some (c.args.made + c.loop-index.index) room) refl
 
 pub loop-index-preserved : goal.loop-index-preserved
 loop-index-preserved c =
     let size : ℕ = get_or c.args.sizes.now c.loop-index.index 0 in
     let run : c.loop-index.from + size - c.loop-index.from ≡ size = omega arith in
-    let named = get_or_from_slice_get modifiers (c.args.made + c.loop-index.index) c.in-Some.modifier 0 (sym c.modifier.ensures ∙ c.in-Some.is) in
+    let named = get_or_from_slice_get modifiers (c.args.made + c.loop-index.index) c.unwrap-modifier.result 0 (sym c.modifier.ensures ∙ c.unwrap-modifier.ensures) in
     record {
       files = ap (λ (l : List File). map file_in l ++ left c.args.day (c.args.made + (c.loop-index.index + 1)) (drop (c.loop-index.index + 1) c.args.sizes.now) (drop (c.loop-index.from + size) c.args.batches.now)) c.in_ok-extend_from_slice.ensures.items
           ∙ made_more c.args.day c.args.made c.loop-index.index c.loop-index.from c.args.sizes.now c.args.batches.now c.loop-index.files.items _ c.loop-index-test.true
           (λ i. record { day = c.args.day; modifier = sym named i; batches = map batch_in (take (run i) (drop c.loop-index.from c.args.batches.now)) })
           ∙ c.loop-index.invariant.files;
-      sizes = subst (λ (l : List File). All (λ f. length f.batches.now ≤ most_batches) l) (sym c.in_ok-extend_from_slice.ensures.items)
-          (All-push (λ (f : File). length f.batches.now ≤ most_batches) c.loop-index.files.items _ c.loop-index.invariant.sizes
-          (few size _ most_batches (drop c.loop-index.from c.args.batches.now) run (c.requires.sizes c.loop-index.index 0 c.loop-index-test.true).1));
       rest = grind (arith, common_steps);
     }

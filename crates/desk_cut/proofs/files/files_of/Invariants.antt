@@ -1,6 +1,5 @@
-use Rattle.std.proofs.Common.{◌≡◌, ◌≤◌, ◌+◌, ◌++◌, map, drop, length, All}
+use Rattle.std.proofs.Common.{◌≡◌, ◌+◌, ◌++◌, map, drop, length}
 use Rattle.std.specs.Prelude.{sum}
-use Rattle.desk_plan.specs.Files.{most_batches}
 use Rattle.desk_plan.specs.Runs.{in_runs}
 use Rattle.desk_history.specs.Files.{files_from}
 use Rattle.desk_cut.specs.Sent.{batch_in, file_in}
@@ -12,6 +11,5 @@ invariant-loop-index l = record {
   files :
       map file_in l.files.items ++ files_from l.day (l.made + l.index) (in_runs (drop l.index l.sizes) (map batch_in (drop l.from l.batches)))
       ≡ files_from l.day l.made (in_runs l.sizes (map batch_in l.batches));
-  sizes : All (λ f. length f.batches.now ≤ most_batches) l.files.items;
   rest : l.from + sum (drop l.index l.sizes) ≡ length l.batches;
 }

@@ -31,6 +31,7 @@ returns-in-Ok-clause-ok c =
       lapsed = loaded.lapsed;
       loads = loaded.loads;
       ranges = c.in-Ok.ensures.ranges ∙ ap (ranges c.args.last) counts;
+      batches = subst (All IsBatch) loaded.loads loaded.batches;
       apart = apart;
       may = λ sent is. each_range c.by_ranges.ensures c.args.day c.args.last bs sent (subst (All IsBatch) loaded.loads loaded.batches)
           (subst (λ (l : List Batch). All (λ b. c.args.day < b.settled) l) loaded.loads loaded.later) is apart;

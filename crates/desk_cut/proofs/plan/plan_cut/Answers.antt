@@ -1,4 +1,4 @@
-use Rattle.std.proofs.Common.{◌≡◌, ◌∙◌, ◌+◌, ℕ, List, length, sym, ap, map, rules}
+use Rattle.std.proofs.Common.{◌≡◌, ◌∙◌, ◌+◌, ℕ, All, List, length, sym, ap, map, subst, rules}
 use Rattle.std.specs.Prelude.{nat_le, sum}
 use Rattle.std.specs.List.{list_all}
 use Rattle.desk_plan.specs.declared.batch.Batch.{Batch}
@@ -7,9 +7,13 @@ use Rattle.desk_plan.specs.Files.{division}
 use Rattle.desk_plan.specs.Reuse.{is_past}
 use Rattle.desk_plan.specs.Runs.{in_runs}
 use Rattle.desk_history.specs.Files.{files_from}
+use Rattle.desk_history.specs.Sendings.{NumberedBatch, plan_of}
+use Rattle.desk_book.specs.OnCut.{cut_sendings, batches}
 use Rattle.desk_cut.specs.Numbers.{batches_in, write_of, summary_of}
 use Rattle.desk_cut.specs.Plan.{cut_of}
-use Rattle.desk_cut.proofs.Planned.{whole, modifiers_are, may_take, is_plan, left, none_left}
+use Rattle.desk_cut.specs.Sendable.{IsSendable, AreSendable}
+use Rattle.desk_cut.proofs.Sendings.{all_sendable, runs_sendable}
+use Rattle.desk_cut.proofs.Planned.{batches_are, loads_are, whole, modifiers_are, may_take, is_plan, left, none_left}
 use Rattle.desk_cut.proofs.plan.plan_cut.Goals as goal
 
 pub returns-in_default : goal.returns-in_default
@@ -30,6 +34,28 @@ write-requires-clause-whole c =
     let x = cut_of c.args.identity.now c.args.day c.args.holidays.now c.args.last c.args.made c.args.waiting.now in
     ap (λ (l : List ℕ). sum l) c.deref-2.ensures.value
     ∙ whole x c.in_ok-numbered.numbered c.in_ok-sizes.sizes.items c.in_ok-numbered.ensures.ok (c.in_ok-sizes.ensures.whole ∙ ap length c.deref.ensures.value)
+
+pub returns-then-not-are_past : goal.returns-then-not-are_past
+returns-then-not-are_past c =
+    let x = cut_of c.args.identity.now c.args.day c.args.holidays.now c.args.last c.args.made c.args.waiting.now in
+    may_take x c.in_ok-numbered.numbered c.args.latest.now _ c.in_ok-numbered.ensures.ok
+    (ap (λ (d : ℕ). list_all (is_past d) c.args.latest.now) (sym c.day-today.ensures.value) ∙ sym c.are_past.ensures ∙ c.if-not-are_past.true)
+
+pub write-requires-clause-sendable : goal.write-requires-clause-sendable
+write-requires-clause-sendable c =
+    let x = cut_of c.args.identity.now c.args.day c.args.holidays.now c.args.last c.args.made c.args.waiting.now in
+    let h = c.in_ok-numbered.ensures.ok in
+    subst (All IsSendable) (sym (batches_are x c.in_ok-numbered.numbered h)) (all_sendable c.args.last (cut_sendings x) h.batches)
+
+pub write-requires-clause-runs : goal.write-requires-clause-runs
+write-requires-clause-runs c =
+    let x = cut_of c.args.identity.now c.args.day c.args.holidays.now c.args.last c.args.made c.args.waiting.now in
+    let n = c.in_ok-numbered.numbered in
+    let h = c.in_ok-numbered.ensures.ok in
+    let sizes : c.deref-2.result.now ≡ map length (division (map (λ (b : NumberedBatch). plan_of b.sending) (batches x))) =
+    c.deref-2.ensures.value ∙ c.in_ok-sizes.ensures.sizes ∙ ap (λ (bs : List Batch). map length (division bs)) (c.deref.ensures.value ∙ loads_are x n h) in
+    subst (All AreSendable) (sym (λ i. in_runs (sizes i) (batches_are x n h i)))
+    (runs_sendable c.one_division.ensures (batches x) (all_sendable c.args.last (cut_sendings x) h.batches))
 
 pub returns : goal.returns
 returns c =

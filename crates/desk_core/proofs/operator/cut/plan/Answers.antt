@@ -23,4 +23,4 @@ returns-clause-plans g c = λ clean b held is.
     let taken : c.deref-2.result.now ≡ ranges_after reads.last (cut_sendings asked) =
     c.deref-2.ensures.value ∙ c.in-Ok.ensures.ranges ∙ ap (λ ws. ranges_after reads.last (sendings reads.holidays reads.day ws)) (c.deref.ensures.value ∙ sym c.deref-4.ensures.value) in
     let read = c.in_ok-latest.ensures.read clean b held in
-    (planned_refused b asked c.deref-2.result.now c.deref-3.result.now c.in-Err-plan.fault c.in_ok-refusal_of-in-Err-plan.field-0 (seen ∙ is) taken (c.deref-3.ensures.value ∙ read.0) c.in-Err-plan.ensures (sym c.refusal_of.ensures ∙ c.in_ok-refusal_of-in-Err-plan.was), read.1)
+    (planned_refused b asked c.deref-2.result.now c.deref-3.result.now c.in-Err.fault c.in_ok-refusal_of-in-Err.field-0 (seen ∙ is) taken (c.deref-3.ensures.value ∙ read.0) c.in-Err.ensures (sym c.refusal_of.ensures ∙ c.in_ok-refusal_of-in-Err.was), read.1)

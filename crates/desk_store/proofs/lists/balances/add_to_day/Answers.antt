@@ -1,17 +1,17 @@
-use Rattle.std.proofs.Common.{◌≡◌, ◌<◌, ◌∙◌, sym, ap, set, length, arith, to_z, of_z}
+use Rattle.std.proofs.Common.{rules, ◌≡◌, ◌∙◌, ◌+ℤ◌, ap, pos, to_z, of_z}
+use Rattle.std.specs.Prelude.{unwrap_or}
+use Rattle.std.specs.BTreeMap.{insert_entry}
 use Rattle.std.specs.Int.{w128}
-use Rattle.std.proofs.lemmas.Bool.{eqb-true}
+use Rattle.std.specs.Ordering.{nat_cmp}
 use Rattle.std.proofs.lemmas.Int.{to_z-of_z}
-use Rattle.desk_store.specs.Finds.{with_sum}
-use Rattle.desk_store.proofs.DaySums.{raised_at}
+use Rattle.desk_store.proofs.DaySums.{summed}
 use Rattle.desk_store.proofs.lists.balances.add_to_day.Goals as goal
 
-pub returns-then-eq : goal.returns-then-eq
-returns-then-eq c =
-    let sums = c.loop-at.sums.items in
-    let row = c.index.result.now in
+pub returns : goal.returns
+returns c = λ ascending.
+    let rows = c.args.sums.now.entries in
     let cents : to_z w128 (of_z w128 c.args.cents) ≡ c.args.cents = to_z-of_z w128 c.args.cents c.ranges.cents in
-    let within : c.loop-at.at < length sums = omega (arith, ap length c.loop-at.invariant.same) in
-    ap (set sums c.loop-at.at) c.in-Some.ensures
-    ∙ raised_at sums c.loop-at.at c.args.day (to_z w128 (of_z w128 c.args.cents)) row within c.index.ensures (eqb-true row.0 c.args.day (sym c.if-eq.ensures)) c.loop-at.invariant.passed
-    ∙ (λ i. with_sum c.args.day (cents i) (c.loop-at.invariant.same i))
+    let sum : to_z w128 (of_z w128 c.in-Some.sum) ≡ c.in-Some.sum = search rules in
+    c.in_ok-insert.ensures.entries
+    ∙ ap (insert_entry nat_cmp rows c.args.day) (sum ∙ c.in-Some.ensures ∙ (λ i. unwrap_or ((c.copied.ensures ∙ c.get.ensures.value) i) (pos 0) +ℤ cents i))
+    ∙ summed rows c.args.day c.args.cents ascending

@@ -1,0 +1,45 @@
+-- How a value stands in a column.
+use Rattle.std.specs.Prelude.{ℕ, ℤ, pos, Bool, true, false, List, ◌++◌, codes}
+use Rattle.std.specs.Fmt.{signed_decimal}
+use Rattle.sqlite_value.specs.declared.value.Value.{Value}
+use Rattle.sqlite_value.specs.declared.value.Value.TheVariants.{Int, Text}
+use Rattle.desk_accounts.specs.declared.account.Account.{Account}
+use Rattle.desk_accounts.specs.declared.account.Account.TheVariants as accounts
+use Rattle.desk_accounts.specs.declared.posting.Cause.{Cause}
+use Rattle.desk_accounts.specs.declared.posting.Cause.TheVariants as causes
+use Rattle.desk_history.specs.declared.operations.SuspenseReason.{SuspenseReason}
+use Rattle.desk_history.specs.declared.operations.SuspenseReason.TheVariants as reasons
+use Rattle.desk_rules.specs.declared.bodies.submission.Direction.{Direction}
+use Rattle.desk_rules.specs.declared.bodies.submission.Direction.TheVariants as directions
+
+-- a number, and a day by its number
+abbrev pub number : ℕ → Value
+number n = Int (pos n)
+
+abbrev pub flag : Bool → Value
+flag true = number 1
+flag false = number 0
+
+-- a number as decimal text: sums may be longer than a column's integer
+abbrev pub decimal_text : ℤ → Value
+decimal_text n = Text (signed_decimal n)
+
+abbrev pub direction_text : Direction → List ℕ
+direction_text directions.Credit = codes "credit"
+direction_text directions.Debit = codes "debit"
+
+abbrev pub cause_text : Cause → List ℕ
+cause_text causes.Cut = codes "cut"
+cause_text causes.Return = codes "return"
+
+abbrev pub reason_text : SuspenseReason → List ℕ
+reason_text reasons.NoTrace = codes "NoTrace"
+reason_text reasons.Differs = codes "Differs"
+reason_text reasons.CodeOutside = codes "CodeOutside"
+reason_text reasons.AlreadyReturned = codes "AlreadyReturned"
+
+-- `C:` and the company, `O` or `S`
+abbrev pub account_text : Account → List ℕ
+account_text (accounts.Company id) = codes "C:" ++ id
+account_text accounts.Operator = codes "O"
+account_text accounts.Suspense = codes "S"

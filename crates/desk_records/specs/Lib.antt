@@ -1,0 +1,13 @@
+pub mod Beside
+pub mod Columns
+pub mod CutTables
+pub mod Encodes
+pub mod Kept
+pub mod KeyOrders
+pub mod QueryRows
+pub mod Ranges
+pub mod Reading
+pub mod RecordRows
+pub mod RowRanges
+pub mod Selected
+pub mod Tables

@@ -1,0 +1,4 @@
+mod items;
+mod queries;
+mod registry;
+mod submissions;

@@ -1,0 +1,5 @@
+pub mod Books
+pub mod Edits
+pub mod EmptyText
+pub mod OneRow
+pub mod QueriesInside

@@ -1,0 +1,19 @@
+-- What tables encode, of which a store speaks in their place: call it a book.
+use Rattle.std.specs.Prelude.{IsTrue}
+use Rattle.sqlite_trees.specs.Tree.{Trees}
+use Rattle.sqlite.specs.State.{State}
+use Rattle.sql_transactions.specs.Edits.{Edit}
+use Rattle.sql_transactions.specs.Layouts.{Layout, Holds}
+
+module _ (layout : Layout) {B : Type 0} (Encodes : layout.Tables → B → Type 0) where
+  -- these trees are tables of the book
+  abbrev pub keeps : Trees → B → Type 0
+  keeps trees b = (t : layout.Tables) × layout.IsStored trees t × Encodes t b
+
+  -- an open connection sees tables of the book
+  abbrev pub holds : State → B → Type 0
+  holds s b = IsTrue s.is_open → (t : layout.Tables) × Holds layout s.now t × Encodes t b
+
+  -- after the edit the tables are those of the book after the step, where the step may be made
+  abbrev pub Follows : Edit layout.Tables → (Admits : B → Type 0) → (after : B → B) → Type 0
+  Follows edit Admits after = (t : layout.Tables) (b : B) → Encodes t b → Admits b → edit.Tells t → Encodes (edit.after t) (after b)
