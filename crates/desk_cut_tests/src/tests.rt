@@ -168,11 +168,46 @@ fn plan(
     )
 }
 
+// The same of the credit and the debit.
+fn plan_of_two(
+    rt: &(impl Abort + Alloc<A = Global>),
+    made: u64,
+    latest: &[Option<Day>],
+) -> Result<Result<CutPlan, CutFault>, Fail> {
+    Ok(plan(rt, made, latest, &two(rt)?))
+}
+
+fn fault_of_two(
+    rt: &(impl Abort + Alloc<A = Global>),
+    made: u64,
+    latest: &[Option<Day>],
+) -> Result<Option<CutFault>, Fail> {
+    Ok(plan_of_two(rt, made, latest)?.err())
+}
+
+// The plan of a submission alone.
+fn plan_of(
+    rt: &(impl Abort + Alloc<A = Global>),
+    latest: &[Option<Day>],
+    held: HeldSubmission,
+) -> Result<CutPlan, Fail> {
+    let mut waiting = Vec::new(rt.alloc());
+    waiting.push(held)?;
+    Ok(plan(rt, 0, latest, &waiting).ok().expect(rt, "a plan"))
+}
+
+// The sequences of both, cut on this day.
+fn ranges_of_two(
+    rt: &(impl Abort + Alloc<A = Global>),
+    today: RuleDay,
+) -> Result<Result<Vec<(u32, u32)>, CutFault>, Fail> {
+    let holidays = Calendar::empty(rt.alloc());
+    Ok(ranges_of_cut(rt.alloc(), today, &holidays, LAST, &two(rt)?))
+}
+
 #[test]
 fn a_batch_that_would_pass_the_last_sequence_begins_at_1(rt: HostRuntime) -> Result<(), Fail> {
-    let holidays = Calendar::empty(rt.alloc());
-    let today = rule_day(&rt, b"2025-01-09");
-    let ranges = ranges_of_cut(rt.alloc(), today, &holidays, LAST, &two(&rt)?);
+    let ranges = ranges_of_two(&rt, rule_day(&rt, b"2025-01-09"))?;
     let ranges = ranges.ok().expect(&rt, "ranges");
     assert_eq!(rt;
         ranges.as_slice(),
@@ -181,90 +216,106 @@ fn a_batch_that_would_pass_the_last_sequence_begins_at_1(rt: HostRuntime) -> Res
     Ok(())
 }
 
-#[test]
-fn all_rows_of_a_plan(rt: HostRuntime) -> Result<(), Fail> {
-    let plan = plan(&rt, 0, &[None, None], &two(&rt)?);
-    let plan = plan.ok().expect(&rt, "a plan");
-    let friday = day(&rt, b"2025-01-10");
+fn sends_both_batches(rt: &impl Abort, plan: &CutPlan) {
+    let friday = day(rt, b"2025-01-10");
     for (row, batch) in plan.sent.iter().zip([1, 2]) {
         assert_eq!(rt; row.settled.day(), friday);
         assert_eq!(rt; row.printed.modifier, b'A');
         assert_eq!(rt; row.printed.batch, batch);
     }
     assert_eq!(rt; plan.sent.len(), 2);
-    assert!(rt; plan.lapsed.is_empty());
-    assert_eq!(rt; plan.entries.len(), 3);
-    for (entry, (sequence, index, debit)) in plan
-        .entries
-        .iter()
-        .zip([(9_999_999, 1, false), (1, 1, true), (2, 2, true)])
-    {
+}
+
+fn numbers_the_entries(rt: &impl Abort, plan: &CutPlan) {
+    let numbers = [(9_999_999, 1, false), (1, 1, true), (2, 2, true)];
+    for (entry, (sequence, index, debit)) in plan.entries.iter().zip(numbers) {
         assert_eq!(rt; entry.sequence, sequence);
         assert_eq!(rt; entry.index, index);
         assert_eq!(rt; entry.debit, debit);
     }
-    assert_eq!(rt; plan.postings.len(), 4);
+    assert_eq!(rt; plan.entries.len(), 3);
+}
+
+fn posts_both_totals(rt: &impl Abort, plan: &CutPlan) {
+    let friday = day(rt, b"2025-01-10");
     for (line, cents) in plan.postings.iter().zip([-2500, 2500, 5000, -5000]) {
         assert_eq!(rt; line.cents, cents);
         assert_eq!(rt; line.value_day, friday);
     }
-    let bakery = plan.postings.first().expect(&rt, "a line");
-    assert_eq!(rt;
-        bakery.account,
-        Account::Company(company(&rt, b"BAKE01").id)
-    );
-    assert_eq!(rt; plan.done.entries, 3);
+    assert_eq!(rt; plan.postings.len(), 4);
+    let bakery = plan.postings.first().expect(rt, "a line");
+    let id = Id::new(b"BAKE01").ok().expect(rt, "an identification");
+    assert_eq!(rt; bakery.account, Account::Company(id));
+}
+
+// It has done so much, and its first file is this.
+fn ends_in(rt: &impl Abort, plan: &CutPlan, entries: u64, lapsed: u64, text: &[u8]) {
+    assert_eq!(rt; plan.done.entries, entries);
+    assert_eq!(rt; plan.done.lapsed, lapsed);
     assert_eq!(rt; plan.done.files.as_slice(), b"A".as_slice());
-    assert_eq!(rt; plan.done.lapsed, 0);
-    let file = plan.files.first().expect(&rt, "a file");
-    assert_eq!(rt; file.text.as_slice(), TEXT);
+    let file = plan.files.first().expect(rt, "a file");
+    assert_eq!(rt; file.text.as_slice(), text);
+}
+
+#[test]
+fn all_rows_of_a_plan(rt: HostRuntime) -> Result<(), Fail> {
+    let plan = plan_of_two(&rt, 0, &[None, None])?;
+    let plan = plan.ok().expect(&rt, "a plan");
+    sends_both_batches(&rt, &plan);
+    assert!(rt; plan.lapsed.is_empty());
+    numbers_the_entries(&rt, &plan);
+    posts_both_totals(&rt, &plan);
+    ends_in(&rt, &plan, 3, 0, TEXT);
     Ok(())
 }
 
 // 365 and 366 days before the cut.
 #[test]
 fn sequences_are_used_again_after_366_days(rt: HostRuntime) -> Result<(), Fail> {
-    let waiting = two(&rt)?;
-    let late = Some(day(&rt, b"2024-01-10"));
-    let early = Some(day(&rt, b"2024-01-09"));
-    let spent = plan(&rt, 0, &[None, late], &waiting);
-    assert_eq!(rt; spent.err(), Some(CutFault::TracesSpent));
-    assert!(rt; plan(&rt, 0, &[None, early], &waiting).is_ok());
+    let late = fault_of_two(&rt, 0, &[None, Some(day(&rt, b"2024-01-10"))])?;
+    assert_eq!(rt; late, Some(CutFault::TracesSpent));
+    let early = fault_of_two(&rt, 0, &[None, Some(day(&rt, b"2024-01-09"))])?;
+    assert_eq!(rt; early, None);
     Ok(())
+}
+
+fn has_the_last_modifier(rt: &impl Abort, plan: &CutPlan) {
+    assert_eq!(rt; plan.done.files.as_slice(), b"9".as_slice());
 }
 
 #[test]
 fn a_day_has_36_files(rt: HostRuntime) -> Result<(), Fail> {
-    let waiting = two(&rt)?;
-    let last = plan(&rt, 35, &[None, None], &waiting);
-    let last = last.ok().expect(&rt, "a plan");
-    assert_eq!(rt; last.done.files.as_slice(), b"9".as_slice());
-    let spent = plan(&rt, 36, &[None, None], &waiting);
-    assert_eq!(rt; spent.err(), Some(CutFault::ModifiersSpent));
+    let last = plan_of_two(&rt, 35, &[None, None])?;
+    has_the_last_modifier(&rt, &last.ok().expect(&rt, "a plan"));
+    let spent = fault_of_two(&rt, 36, &[None, None])?;
+    assert_eq!(rt; spent, Some(CutFault::ModifiersSpent));
     // With nothing to send it needs none.
     assert!(rt; plan(&rt, 36, &[], &[]).is_ok());
     Ok(())
 }
 
+// What is sent, printed and lapses of a retry whose original settled on this day.
+fn counts_of_retry(
+    rt: &(impl Abort + Alloc<A = Global>),
+    original: &[u8],
+    latest: &[Option<Day>],
+) -> Result<(usize, usize, usize, u64), Fail> {
+    let mut retry = waits(rt, b"MILL01", Direction::Debit, 1)?;
+    retry.original_settled = Some(rule_day(rt, original));
+    let plan = plan_of(rt, latest, retry)?;
+    Ok((
+        plan.sent.len(),
+        plan.files.len(),
+        plan.lapsed.len(),
+        plan.done.lapsed,
+    ))
+}
+
 // It would settle 181 days after its original, or 180.
 #[test]
 fn a_late_retry_lapses(rt: HostRuntime) -> Result<(), Fail> {
-    let mut retry = waits(&rt, b"MILL01", Direction::Debit, 1)?;
-    retry.original_settled = Some(rule_day(&rt, b"2024-07-13"));
-    let mut waiting = Vec::new(rt.alloc());
-    waiting.push(retry)?;
-    let late = plan(&rt, 0, &[], &waiting).ok().expect(&rt, "a plan");
-    assert!(rt; late.sent.is_empty());
-    assert!(rt; late.files.is_empty());
-    assert_eq!(rt; late.lapsed.len(), 1);
-    assert_eq!(rt; late.done.lapsed, 1);
-    let mut retry = waits(&rt, b"MILL01", Direction::Debit, 1)?;
-    retry.original_settled = Some(rule_day(&rt, b"2024-07-14"));
-    let mut waiting = Vec::new(rt.alloc());
-    waiting.push(retry)?;
-    let sent = plan(&rt, 0, &[None], &waiting).ok().expect(&rt, "a plan");
-    assert!(rt; sent.lapsed.is_empty());
-    assert_eq!(rt; sent.sent.len(), 1);
+    assert_eq!(rt; counts_of_retry(&rt, b"2024-07-13", &[])?, (0, 0, 1, 1));
+    assert_eq!(rt; counts_of_retry(&rt, b"2024-07-14", &[None])?, (1, 1, 0, 0));
     Ok(())
 }
 
@@ -295,24 +346,31 @@ fn company_entries(rt: &(impl Abort + Alloc<A = Global>)) -> Result<Entries, Fai
     Ok(entries)
 }
 
+// A debit of MILL012345 with these entries.
+fn debit(
+    rt: &(impl Abort + Alloc<A = Global>),
+    sec: SecCode,
+    description: &[u8],
+    entries: Entries,
+) -> Result<HeldSubmission, Fail> {
+    let submission = Submission {
+        reference: Ref::new(b"PAY-1").ok().expect(rt, "a reference"),
+        sec,
+        direction: Direction::Debit,
+        description: short_text(rt, description),
+        day: rule_day(rt, b"2025-01-10"),
+        entries,
+    };
+    let mut held = waits(rt, b"MILL012345", Direction::Debit, 1)?;
+    held.company.name = short_text(rt, b"RIVER MILLS & CO");
+    held.row.content = SizedSubmission::new(submission).ok().expect(rt, "a size");
+    Ok(held)
+}
+
 #[test]
 fn entries_of_companies_are_printed(rt: HostRuntime) -> Result<(), Fail> {
-    let submission = Submission {
-        reference: Ref::new(b"PAY-1").ok().expect(&rt, "a reference"),
-        sec: SecCode::Ccd,
-        direction: Direction::Debit,
-        description: short_text(&rt, b"INVOICES 1"),
-        day: rule_day(&rt, b"2025-01-10"),
-        entries: company_entries(&rt)?,
-    };
-    let mut held = waits(&rt, b"MILL012345", Direction::Debit, 1)?;
-    held.company.name = short_text(&rt, b"RIVER MILLS & CO");
-    held.row.content = SizedSubmission::new(submission).ok().expect(&rt, "a size");
-    let mut waiting = Vec::new(rt.alloc());
-    waiting.push(held)?;
-    let plan = plan(&rt, 0, &[None], &waiting).ok().expect(&rt, "a plan");
-    let file = plan.files.first().expect(&rt, "a file");
-    assert_eq!(rt; file.text.as_slice(), COMPANIES);
+    let held = debit(&rt, SecCode::Ccd, b"INVOICES 1", company_entries(&rt)?)?;
+    ends_in(&rt, &plan_of(&rt, &[None], held)?, 2, 0, COMPANIES);
     Ok(())
 }
 
@@ -347,33 +405,31 @@ fn largest(rt: &(impl Abort + Alloc<A = Global>)) -> Result<Entries, Fail> {
     Ok(entries)
 }
 
+fn has_record(rt: &impl Abort, text: &[u8], at: usize, record: &[u8]) {
+    let given = text.chunks(95).nth(at).expect(rt, "a record");
+    assert_eq!(rt; given, record);
+}
+
 // 1,000 entries, each with an addenda, are 2,004 records with those of the batch and the file: 201
 // blocks of ten records, each of 95 bytes with its LF.
-#[test]
-fn the_largest_submission_is_printed(rt: HostRuntime) -> Result<(), Fail> {
-    let submission = Submission {
-        reference: Ref::new(b"PAY-1").ok().expect(&rt, "a reference"),
-        sec: SecCode::Ppd,
-        direction: Direction::Debit,
-        description: short_text(&rt, b"~~~~~~~~~~"),
-        day: rule_day(&rt, b"2025-01-10"),
-        entries: largest(&rt)?,
-    };
-    let mut held = waits(&rt, b"MILL012345", Direction::Debit, 1)?;
-    held.row.content = SizedSubmission::new(submission).ok().expect(&rt, "a size");
-    let mut waiting = Vec::new(rt.alloc());
-    waiting.push(held)?;
-    let plan = plan(&rt, 0, &[None], &waiting).ok().expect(&rt, "a plan");
-    assert_eq!(rt; plan.done.entries, 1_000);
-    let text = plan.files.first().expect(&rt, "a file").text.as_slice();
+fn is_the_largest(rt: &impl Abort, text: &[u8]) {
     assert_eq!(rt; text.len(), 201 * 10 * 95);
     for line in text.split(|byte| *byte == b'\n').take(2_010) {
         assert_eq!(rt; line.len(), 94);
     }
-    let batch_control = text.get(2_002 * 95..2_003 * 95);
-    assert_eq!(rt; batch_control.expect(&rt, "a control"), BATCH_CONTROL);
-    let file_control = text.get(2_003 * 95..2_004 * 95);
-    assert_eq!(rt; file_control.expect(&rt, "a control"), FILE_CONTROL);
+    has_record(rt, text, 2_002, BATCH_CONTROL);
+    has_record(rt, text, 2_003, FILE_CONTROL);
+}
+
+#[test]
+fn the_largest_submission_is_printed(rt: HostRuntime) -> Result<(), Fail> {
+    let held = debit(&rt, SecCode::Ppd, b"~~~~~~~~~~", largest(&rt)?)?;
+    let plan = plan_of(&rt, &[None], held)?;
+    assert_eq!(rt; plan.done.entries, 1_000);
+    is_the_largest(
+        &rt,
+        &plan.files.first().expect(&rt, "a file").text.as_slice(),
+    );
     Ok(())
 }
 
@@ -382,9 +438,6 @@ fn the_largest_submission_is_printed(rt: HostRuntime) -> Result<(), Fail> {
 fn no_submission_settles_after_january_2100(rt: HostRuntime) -> Result<(), Fail> {
     let last = Day::from_number(47_512).expect(&rt, "a day");
     let last = RuleDay::new(last).expect(&rt, "a day");
-    let holidays = Calendar::empty(rt.alloc());
-    let waiting = two(&rt)?;
-    let cut = ranges_of_cut(rt.alloc(), last, &holidays, LAST, &waiting);
-    assert_eq!(rt; cut.err(), Some(CutFault::DaysSpent));
+    assert_eq!(rt; ranges_of_two(&rt, last)?.err(), Some(CutFault::DaysSpent));
     Ok(())
 }

@@ -11,7 +11,6 @@ use desk_intake::{FoundItem, IntakePlan, NamedEntry, plan_intake};
 use desk_rules::{AccountKind, Entry, EntryCents, ReturnCode, RuleDay, SecCode};
 use std::alloc::{AllocError, Global};
 use std::process::Abort;
-use std::test::Fail;
 
 const KEY: [u8; 21] = [b'K'; 21];
 
@@ -161,6 +160,7 @@ fn suspense_row(
 
 fn line(
     rt: &impl Abort,
+    text: &[u8],
     account: Account,
     amount: i64,
     reference: Option<Ref>,
@@ -168,7 +168,7 @@ fn line(
 ) -> Posting {
     Posting {
         account,
-        value_day: day(rt, b"2025-01-14"),
+        value_day: day(rt, text),
         cents: amount,
         cause: Cause::Return,
         reference,
@@ -177,10 +177,21 @@ fn line(
 }
 
 // The debit goes back: the company's line and the operator's.
-fn returned_pair(rt: &impl Abort) -> [Posting; 2] {
+fn returned_pair(rt: &impl Abort, text: &[u8]) -> [Posting; 2] {
+    let company = Account::Company(mill(rt));
     [
-        line(rt, Account::Company(mill(rt)), -25_000, Some(pay(rt)), 2),
-        line(rt, Account::Operator, 25_000, Some(pay(rt)), 2),
+        line(rt, text, company, -25_000, Some(pay(rt)), 2),
+        line(rt, text, Account::Operator, 25_000, Some(pay(rt)), 2),
+    ]
+}
+
+// So many cents stand in suspense.
+fn suspended_pair(rt: &impl Abort, amount: Cents) -> [Posting; 2] {
+    let text = b"2025-01-14";
+    let amount = amount.get() as i64;
+    [
+        line(rt, text, Account::Suspense, -amount, None, 0),
+        line(rt, text, Account::Operator, amount, None, 0),
     ]
 }
 
@@ -191,58 +202,71 @@ fn coming_back(rt: &impl Abort) -> FoundItem {
     }
 }
 
-#[test]
-fn a_debit_comes_back(rt: HostRuntime) -> Result<(), Fail> {
-    let found = [coming_back(&rt)];
-    let plan = plan_on(&rt, b"2025-01-14", &found)
-        .ok()
-        .expect(&rt, "a plan");
-    assert_eq!(rt;
-        plan.returned.as_slice(),
-        [returned_row(&rt, b"2025-01-14", false)].as_slice()
-    );
-    assert_eq!(rt; plan.postings.as_slice(), returned_pair(&rt).as_slice());
-    assert!(rt; plan.changed.is_empty());
-    assert!(rt; plan.suspense.is_empty());
-    assert_eq!(rt; plan.file, file(&rt, b"2025-01-14", 1, 0, 0, 0));
-    Ok(())
+// The rows of a plan.
+#[derive(Clone, Copy)]
+struct Rows<'a> {
+    returned: &'a [ReturnedRow],
+    changed: &'a [ChangedRow],
+    suspense: &'a [SuspenseRow],
+    postings: &'a [Posting],
+    file: TakenFile,
+}
+
+fn expect_rows(rt: &impl Abort, plan: &IntakePlan, wanted: &Rows<'_>) {
+    assert_eq!(rt; plan.returned.as_slice(), wanted.returned);
+    assert_eq!(rt; plan.changed.as_slice(), wanted.changed);
+    assert_eq!(rt; plan.suspense.as_slice(), wanted.suspense);
+    assert_eq!(rt; plan.postings.as_slice(), wanted.postings);
+    assert_eq!(rt; plan.file, wanted.file);
+}
+
+// A file of these items, taken on this day, has these rows and no others.
+fn expect_plan(
+    rt: &(impl Abort + Alloc<A = Global>),
+    text: &[u8],
+    found: &[FoundItem],
+    wanted: &Rows<'_>,
+) {
+    let plan = plan_on(rt, text, found).ok().expect(rt, "a plan");
+    expect_rows(rt, &plan, wanted);
+}
+
+// The return alone is taken on this day.
+fn expect_returned(rt: &(impl Abort + Alloc<A = Global>), text: &[u8], late: bool) {
+    let wanted = Rows {
+        returned: &[returned_row(rt, text, late)],
+        changed: &[],
+        suspense: &[],
+        postings: &returned_pair(rt, text),
+        file: file(rt, text, 1, u64::from(late), 0, 0),
+    };
+    expect_plan(rt, text, &[coming_back(rt)], &wanted);
 }
 
 #[test]
-fn a_return_after_two_banking_days_is_late(rt: HostRuntime) -> Result<(), Fail> {
-    let found = [coming_back(&rt)];
-    let plan = plan_on(&rt, b"2025-01-15", &found)
-        .ok()
-        .expect(&rt, "a plan");
-    assert_eq!(rt;
-        plan.returned.as_slice(),
-        [returned_row(&rt, b"2025-01-15", true)].as_slice()
-    );
-    assert_eq!(rt; plan.file, file(&rt, b"2025-01-15", 1, 1, 0, 0));
-    Ok(())
+fn a_debit_comes_back(rt: HostRuntime) {
+    expect_returned(&rt, b"2025-01-14", false);
 }
 
 #[test]
-fn the_second_return_of_a_file_is_suspended(rt: HostRuntime) -> Result<(), Fail> {
-    let found = [coming_back(&rt), coming_back(&rt)];
-    let plan = plan_on(&rt, b"2025-01-14", &found)
-        .ok()
-        .expect(&rt, "a plan");
-    assert_eq!(rt;
-        plan.returned.as_slice(),
-        [returned_row(&rt, b"2025-01-14", false)].as_slice()
-    );
-    let wanted = suspense_row(&rt, 2, 25_000, *b"R01", SuspenseReason::AlreadyReturned);
-    assert_eq!(rt; plan.suspense.as_slice(), [wanted].as_slice());
-    let first = returned_pair(&rt);
-    let held = line(&rt, Account::Suspense, -25_000, None, 0);
-    let opposite = line(&rt, Account::Operator, 25_000, None, 0);
-    assert_eq!(rt;
-        plan.postings.as_slice(),
-        [first[0], first[1], held, opposite].as_slice()
-    );
-    assert_eq!(rt; plan.file, file(&rt, b"2025-01-14", 1, 0, 0, 1));
-    Ok(())
+fn a_return_after_two_banking_days_is_late(rt: HostRuntime) {
+    expect_returned(&rt, b"2025-01-15", true);
+}
+
+#[test]
+fn the_second_return_of_a_file_is_suspended(rt: HostRuntime) {
+    let text = b"2025-01-14";
+    let first = returned_pair(&rt, text);
+    let second = suspended_pair(&rt, cents(&rt, 25_000));
+    let why = SuspenseReason::AlreadyReturned;
+    let wanted = Rows {
+        returned: &[returned_row(&rt, text, false)],
+        changed: &[],
+        suspense: &[suspense_row(&rt, 2, 25_000, *b"R01", why)],
+        postings: &[first[0], first[1], second[0], second[1]],
+        file: file(&rt, text, 1, 0, 0, 1),
+    };
+    expect_plan(&rt, text, &[coming_back(&rt), coming_back(&rt)], &wanted);
 }
 
 // The only item of a file stands in suspense with its money.
@@ -252,19 +276,16 @@ fn expect_suspended(
     named: Option<NamedEntry>,
     why: SuspenseReason,
 ) {
+    let text = b"2025-01-14";
     let amount = item.cents.get();
-    let code = item.code;
-    let found = [FoundItem { item, named }];
-    let plan = plan_on(rt, b"2025-01-14", &found).ok().expect(rt, "a plan");
-    assert!(rt; plan.returned.is_empty());
-    let wanted = [suspense_row(rt, 1, amount, code, why)];
-    assert_eq!(rt; plan.suspense.as_slice(), wanted.as_slice());
-    let lines = [
-        line(rt, Account::Suspense, -(amount as i64), None, 0),
-        line(rt, Account::Operator, amount as i64, None, 0),
-    ];
-    assert_eq!(rt; plan.postings.as_slice(), lines.as_slice());
-    assert_eq!(rt; plan.file, file(rt, b"2025-01-14", 0, 0, 0, 1));
+    let wanted = Rows {
+        returned: &[],
+        changed: &[],
+        suspense: &[suspense_row(rt, 1, amount, item.code, why)],
+        postings: &suspended_pair(rt, item.cents),
+        file: file(rt, text, 0, 0, 0, 1),
+    };
+    expect_plan(rt, text, &[FoundItem { item, named }], &wanted);
 }
 
 #[test]
@@ -301,30 +322,35 @@ fn an_entry_that_came_back_before_is_suspended(rt: HostRuntime) {
     );
 }
 
-#[test]
-fn a_change_is_told(rt: HostRuntime) -> Result<(), Fail> {
-    let found = [
-        FoundItem {
-            item: changed_item(&rt),
-            named: named_entry(&rt),
-        },
-        coming_back(&rt),
-    ];
-    let plan = plan_on(&rt, b"2025-01-14", &found)
-        .ok()
-        .expect(&rt, "a plan");
-    let wanted = ChangedRow {
-        company: mill(&rt),
+fn changed_row(rt: &impl Abort, text: &[u8]) -> ChangedRow {
+    ChangedRow {
+        company: mill(rt),
         row: ChangeRow {
             code: *b"C01",
-            day: day(&rt, b"2025-01-14"),
+            day: day(rt, text),
             index: 2,
-            reference: pay(&rt),
+            reference: pay(rt),
             text: *b"123456780                    ",
         },
+    }
+}
+
+fn changed(rt: &impl Abort) -> FoundItem {
+    FoundItem {
+        item: changed_item(rt),
+        named: named_entry(rt),
+    }
+}
+
+#[test]
+fn a_change_is_told(rt: HostRuntime) {
+    let text = b"2025-01-14";
+    let wanted = Rows {
+        returned: &[returned_row(&rt, text, false)],
+        changed: &[changed_row(&rt, text)],
+        suspense: &[],
+        postings: &returned_pair(&rt, text),
+        file: file(&rt, text, 1, 0, 1, 0),
     };
-    assert_eq!(rt; plan.changed.as_slice(), [wanted].as_slice());
-    assert_eq!(rt; plan.postings.as_slice(), returned_pair(&rt).as_slice());
-    assert_eq!(rt; plan.file, file(&rt, b"2025-01-14", 1, 0, 1, 0));
-    Ok(())
+    expect_plan(&rt, text, &[changed(&rt), coming_back(&rt)], &wanted);
 }

@@ -51,7 +51,7 @@ send_keeps s = kept_in s.company (if_order s.order (sent_row s.settled)) (kept_i
 pub lapse_keeps : (l : LapsedRow) → KeepsContent (lapse_in l)
 lapse_keeps l = kept_in l.company (if_order l.order lapsed_row) (kept_if l.order lapsed_row (record { order = λ row. refl; content = λ row. refl; retry = λ row. refl }))
 
-abbrev restated : ReturnedRow → Row → Row
+abbrev pub restated : ReturnedRow → Row → Row
 restated x row = record row { states = map (λ p. if p.0 == x.row.index then returned_state_by x p.1 else p.1) (enumerate_from 1 row.states) }
 
 returned_keeps : (x : ReturnedRow) → KeepsRow (returned_row_by x)

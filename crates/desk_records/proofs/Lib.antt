@@ -1,6 +1,4 @@
-pub mod CutFollows
 pub mod CutRecords
-pub mod CutStates
 pub mod Decimals
 pub mod KeptRows
 mod SelectedColumns

@@ -1,5 +1,5 @@
 -- What the flat rows of a desk obey beside their tables.
-use Rattle.std.specs.Prelude.{◌≡◌, ℕ, ℤ, Bool, true, false, ◌&&◌, ◌==◌, List, [], ◌∷◌, map, filter, filter_map, find, length, All, AllPairs, Contains, IsSome, Option, Some, None, option_map, option_and_then, bytes_eq}
+use Rattle.std.specs.Prelude.{◌≡◌, ◌≤◌, ℕ, ℤ, Bool, true, false, ◌&&◌, ◌==◌, List, [], ◌∷◌, map, filter, filter_map, find, length, All, AllPairs, Contains, IsSome, Option, Some, None, option_map, option_and_then, bytes_eq}
 use Rattle.std.specs.Int.{IsInRange}
 use Rattle.std.specs.List.{enumerate_from, range_with_len}
 use Rattle.ach_fields.specs.Trace.{most_sequence}
@@ -25,6 +25,10 @@ orders_of rows c = map (λ x. x.row.order) (filter (is_of_company c) rows)
 -- each company's order numbers are 1, 2, and so on
 abbrev pub AreNumbered : List CompanyRow → Type 0
 AreNumbered rows = (company : List ℕ) → orders_of rows company ≡ range_with_len 1 (length (orders_of rows company))
+
+-- under a reference a company has one submission at most
+abbrev pub AreUnderReferences : List CompanyRow → Type 0
+AreUnderReferences rows = (company reference : List ℕ) → length (filter (is_submission_under company reference) rows) ≤ 1
 
 abbrev pub is_submission : (company : List ℕ) → (order : ℕ) → CompanyRow → Bool
 is_submission c order x = bytes_eq x.company c && x.row.order == order
@@ -72,6 +76,7 @@ AreSums balances postings = (account : Account) (day : ℕ) → balance_of balan
 
 pub record Beside (t : Tables) (r : Rows) : Type 0 where
   pub orders : AreNumbered r.submissions
+  pub references : AreUnderReferences r.submissions
   pub printed : ArePrinted r.printed r.submissions
   pub lapsed : All LapsesUnsettled r.submissions
   pub back : All (ReturnsSettled r.submissions) r.returned

@@ -2,12 +2,15 @@ pub mod Beside
 pub mod Columns
 pub mod CutTables
 pub mod Encodes
-pub mod Kept
 pub mod KeyOrders
+pub mod Layout
 pub mod QueryRows
 pub mod Ranges
 pub mod Reading
 pub mod RecordRows
+pub mod RowParts
 pub mod RowRanges
 pub mod Selected
+pub mod TableEdits
+pub mod TableReads
 pub mod Tables

@@ -139,7 +139,7 @@ fn create_numbers<S: Alter>(tx: &mut Transaction<'_, S>) -> Result<(), Error>
 {
     create_table(
         tx,
-        "CREATE TABLE numbers (sequence INT NOT NULL, nth INT NOT NULL, PRIMARY KEY (sequence)) STRICT",
+        "CREATE TABLE numbers (sequence INT NOT NULL, nth INT NOT NULL, PRIMARY KEY (sequence), UNIQUE (nth)) STRICT",
     )?;
     create_table(
         tx,

@@ -10,6 +10,7 @@ pub mod NewIndexes
 pub mod NewTables
 pub mod OneList
 pub mod Queries
+pub mod SelectTexts
 pub mod Selects
 pub mod StoredRows
 pub mod Upserts

@@ -1,11 +1,10 @@
 //! A statement is run inside a transaction, and a query outside one.
 ghost use Rattle.std.specs.Prelude.{◌≡◌, true, IsTrue, IfOk, Ok};
-ghost use Rattle.sqlite.specs.Given.{IsPlain};
 ghost use Rattle.sqlite.specs.Held.{state};
-ghost use Rattle.sqlite.specs.Listing.{understood};
 ghost use Rattle.sqlite.specs.State.{HasCleanDisk, Survives, KeepsCommit, Shows, Executes, Shown};
 ghost use Rattle.sqlite.specs.Values.{bound};
 ghost use Rattle.sql_statements.specs.Queries.{Stays};
+ghost use Rattle.sql_statements.specs.SelectTexts.{IsSelectText};
 
 use sqlite::types::ValueRef;
 use sqlite::{Alter, Connection, Error, Row, Transaction};
@@ -35,8 +34,8 @@ pub fn query<S: Alter>(
 ) -> Result<Vec<Row>, Error>
     ensures shown { HasCleanDisk (state S.Store conn.new) → IfOk result (λ rows. IsTrue (state S.Store conn.old).is_open × Shown sql.now (bound params.now) (state S.Store conn.old) (state S.Store conn.new) rows.items) }
     ensures was_open { HasCleanDisk (state S.Store conn.new) → IsTrue (state S.Store conn.new).is_open → IsTrue (state S.Store conn.old).is_open }
-    ensures stays { HasCleanDisk (state S.Store conn.new) → IsPlain (understood (state S.Store conn.old).now.schema sql.now) → Stays (state S.Store conn.old) (state S.Store conn.new) }
-    ensures survives { IsPlain (understood (state S.Store conn.old).now.schema sql.now) → Survives (state S.Store conn.old) (state S.Store conn.new) (λ _. ⊥) }
+    ensures stays { IsSelectText sql.now → HasCleanDisk (state S.Store conn.new) → Stays (state S.Store conn.old) (state S.Store conn.new) }
+    ensures survives { IsSelectText sql.now → Survives (state S.Store conn.old) (state S.Store conn.new) (λ _. ⊥) }
 {
     if !conn.is_autocommit() {
         return Err(Error::InvalidQuery);

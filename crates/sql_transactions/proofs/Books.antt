@@ -3,8 +3,9 @@ use Rattle.std.proofs.Common.{◌⊎◌, inl, inr, subst, sym, arith, IsTrue, �
 use Rattle.sqlite_trees.specs.Tree.{Trees}
 use Rattle.sqlite.specs.State.{State, HasCleanDisk, Survives}
 use Rattle.sql_statements.specs.Queries.{Stays}
-use Rattle.sql_transactions.specs.Books.{keeps, holds, Follows}
+use Rattle.sql_transactions.specs.Books.{keeps, holds, Follows, Agrees}
 use Rattle.sql_transactions.specs.Edits.{Edit}
+use Rattle.sql_transactions.specs.Findings.{Finds}
 use Rattle.sql_transactions.specs.Layouts.{Layout, Holds}
 use Rattle.sql_transactions.specs.Transactions.{Commits, Leaves}
 
@@ -28,17 +29,19 @@ module _ (layout : Layout) {B : Type 0} (Encodes : layout.Tables → B → Type 
       let it = h s.0 in
       (it.0, subst (λ d. Holds layout d it.0) (sym s.1) it.1, it.2)
 
-  -- what was read of the tables is that of the book, and the book is held as before
-  pub read_done : {A : Type 0} (value : B → A) (x : A) (old new : State) → IsTrue old.is_open → ((t : layout.Tables) (b : B) → Holds layout old.now t → Encodes t b → x ≡ value b) → Stays old new
-      → (b : B) → holds layout Encodes old b → (x ≡ value b) × holds layout Encodes new b
-  read_done value x old new is_open shows stays b h = let it = h is_open in (shows it.0 b it.1 it.2, write_undone old new stays b h)
+  -- what reads found is so of the book, which is held as before
+  pub read_agreed : (Tells : layout.Tables → Type 0) (Says : B → Type 0) → Agrees layout Encodes Tells Says → (old new : State) → Finds layout Tells old → Stays old new
+      → (b : B) → holds layout Encodes old b → Says b × holds layout Encodes new b
+  read_agreed Tells Says agrees old new found stays b h =
+      let it = h found.was_open in
+      (agrees old.now.trees it.0 b it.1.1 it.2 (found.told it.0 it.1), write_undone old new stays b h)
 
   module _ (edit : Edit layout.Tables) (Admits : B → Type 0) (after : B → B) (follows : Follows layout Encodes edit Admits after) (old new : State) where
     pub write_done : Commits layout edit old new → (b : B) → holds layout Encodes old b → Admits b → holds layout Encodes new (after b)
     write_done done b h admits is_open =
         let it = h done.was_open in
         let made = done.holds it.0 it.1 in
-        (edit.after it.0, made.0, follows it.0 b it.2 admits made.1)
+        (edit.after it.0, made.0, follows old.now.trees it.0 b it.1.1 it.2 admits made.1)
 
     pub left_done : Commits layout edit old new → (b : B) (k : Trees) → holds layout Encodes old b → Admits b → new.may_leave k → keeps layout Encodes k (after b)
     left_done done b k h admits left =
@@ -53,4 +56,4 @@ module _ (layout : Layout) {B : Type 0} (Encodes : layout.Tables → B → Type 
         go (inr made) =
             let it = h made.0 in
             let is = made.1 it.0 it.1 in
-            inr (edit.after it.0, is.0, follows it.0 b it.2 admits is.1)
+            inr (edit.after it.0, is.0, follows old.now.trees it.0 b it.1.1 it.2 admits is.1)

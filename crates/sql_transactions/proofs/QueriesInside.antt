@@ -5,22 +5,22 @@ use Rattle.sqlite_schema.specs.declared.command.Returning.{Returning}
 use Rattle.sqlite.specs.declared.error.Error.{Error}
 use Rattle.sqlite.specs.Clock.{timed}
 use Rattle.sqlite.specs.Effect.{Database}
-use Rattle.sqlite.specs.Given.{IsPlain}
 use Rattle.sqlite.specs.Listing.{understood, reads_listing, IsSourceOf}
 use Rattle.sqlite.specs.State.{State, Shown, FailsToQuery, IsTooLate, IsUnchanged, IsNotRun, Shows, ShowsRows, FailsToShow, KeepsCommit}
 use Rattle.sqlite.proofs.Callers.{unchanged_then}
-use Rattle.sql_statements.proofs.Queries.{shown_same}
+use Rattle.sql_statements.specs.SelectTexts.{HasNoReturning}
+use Rattle.sql_statements.proofs.Queries.{shown_same, returns_none}
 
 unchanged_keeps : (old new : State) → IsUnchanged old new → KeepsCommit old new
 unchanged_keeps old new h = record { was_open = λ _. h.0.was_open; committed = λ _. h.0.committed_is }
 
 -- what is shown after a call that changed nothing is shown from before it
-pub shown_after : (sql : List ℕ) (params : Row) (old mid new : State) (rows : List Row) → IsPlain (understood old.now.schema sql) → IsUnchanged old mid → Shown sql params mid new rows → Shown sql params old new rows
+pub shown_after : (sql : List ℕ) (params : Row) (old mid new : State) (rows : List Row) → HasNoReturning sql → IsUnchanged old mid → Shown sql params mid new rows → Shown sql params old new rows
 unfolding Shown
-shown_after sql params old mid new rows plain same h =
+shown_after sql params old mid new rows bare same h =
     let now = same.0.now_is in
     let known = subst (λ (d : Database). understood d.schema sql ≡ Ok h.0) now h.1.is in
-    let none = (subst IsPlain known plain).0 in
+    let none = returns_none sql bare old.now.schema h.0 known in
     let full = timed params h.0.formats h.1.now in
     let it = subst (ShowsRows mid new sql h.0 full rows) none h.2 in (
       h.0,
@@ -28,10 +28,10 @@ shown_after sql params old mid new rows plain same h =
       subst (ShowsRows old new sql h.0 full rows) (sym none) (it.0, subst (λ (d : Database). IsSourceOf (reads_listing d.schema sql) d it.0) now it.1, it.2, unchanged_then old mid new same it.3),
     )
 
-pub shown_leaves : (sql : List ℕ) (params : Row) (old mid new : State) (rows : List Row) → IsPlain (understood old.now.schema sql) → IsTrue old.in_transaction → IsUnchanged old mid → Shown sql params mid new rows
+pub shown_leaves : (sql : List ℕ) (params : Row) (old mid new : State) (rows : List Row) → HasNoReturning sql → IsTrue old.in_transaction → IsUnchanged old mid → Shown sql params mid new rows
     → Shows old new old.now old.committed true
-shown_leaves sql params old mid new rows plain inside same h =
-    let all = shown_same sql params old new rows plain (shown_after sql params old mid new rows plain same h) in
+shown_leaves sql params old mid new rows bare inside same h =
+    let all = shown_same sql params old new rows bare (shown_after sql params old mid new rows bare same h) in
     record { was_open = all.0.was_open; is_open = all.0.is_open; now_is = all.0.now_is; committed_is = all.0.committed_is; mode = all.0.mode ∙ inside }
 
 pub kept_after : (old mid new : State) → IsUnchanged old mid → KeepsCommit mid new → KeepsCommit old new

@@ -16,4 +16,8 @@ module _ (layout : Layout) {B : Type 0} (Encodes : layout.Tables → B → Type 
 
   -- after the edit the tables are those of the book after the step, where the step may be made
   abbrev pub Follows : Edit layout.Tables → (Admits : B → Type 0) → (after : B → B) → Type 0
-  Follows edit Admits after = (t : layout.Tables) (b : B) → Encodes t b → Admits b → edit.Tells t → Encodes (edit.after t) (after b)
+  Follows edit Admits after = (trees : Trees) (t : layout.Tables) (b : B) → layout.IsStored trees t → Encodes t b → Admits b → edit.Tells t → Encodes (edit.after t) (after b)
+
+  -- what is told of tables says this of their book
+  abbrev pub Agrees : (Tells : layout.Tables → Type 0) → (Says : B → Type 0) → Type 0
+  Agrees Tells Says = (trees : Trees) (t : layout.Tables) (b : B) → layout.IsStored trees t → Encodes t b → Tells t → Says b

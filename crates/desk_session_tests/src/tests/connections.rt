@@ -1,11 +1,10 @@
 //! When the connection ends.
-use crate::tests::texts::{EMPTY, EMPTY_CLOSE, GET, join_texts, over_pieces};
+use crate::tests::texts::{EMPTY, EMPTY_CLOSE, GET, ends_over_pieces};
 use desk_session::Ended;
-use std::test::Fail;
 
 /// What is written for a GET with these fields, and then another.
 #[test]
-fn ends_where_a_message_asks_for_it(rt: HostRuntime) -> Result<(), Fail> {
+fn ends_where_a_message_asks_for_it(rt: HostRuntime) {
     let on: &[&[u8]] = &[EMPTY, EMPTY];
     let off: &[&[u8]] = &[EMPTY_CLOSE];
     let cases: [(&[u8], &[&[u8]]); 12] = [
@@ -29,11 +28,7 @@ fn ends_where_a_message_asks_for_it(rt: HostRuntime) -> Result<(), Fail> {
         (b"HTTP/1.1\r\nExpect: x\r\nExpect:\r\n", on),
     ];
     for (head, answers) in cases {
-        let start: &[u8] = b"GET /ops/suspense?close ";
-        let bytes = join_texts(&rt, &[start, head, b"\r\n", GET]);
-        let (ended, written) = over_pieces(&rt, &bytes, usize::MAX);
-        assert_eq!(rt; ended, Ok(Ended::Closed));
-        assert_eq!(rt; written, join_texts(&rt, answers));
+        let texts: [&[u8]; 4] = [b"GET /ops/suspense?close ", head, b"\r\n", GET];
+        ends_over_pieces(&rt, &texts, usize::MAX, Ended::Closed, answers);
     }
-    Ok(())
 }

@@ -1,13 +1,13 @@
 //! What heads say of their bodies.
 use crate::tests::texts::{
-    ABC, BAD_HEAD, EMPTY, GET, LENGTH_REQUIRED, TOO_LARGE, add, join_texts, over_pieces,
+    ABC, BAD_HEAD, EMPTY, GET, LENGTH_REQUIRED, TOO_LARGE, ends, ends_over_pieces, join_texts,
+    many, over_pieces,
 };
 use desk_session::Ended;
-use std::test::Fail;
 
 /// What is written for a POST with these fields, then the bytes `abc`, then a GET.
 #[test]
-fn reads_bodies_by_their_lengths(rt: HostRuntime) -> Result<(), Fail> {
+fn reads_bodies_by_their_lengths(rt: HostRuntime) {
     let cases: [(&[u8], &[&[u8]]); 18] = [
         (b"Content-Length: 3\r\n", &[ABC, EMPTY]),
         (b"content-LENGTH:   3  \r\n", &[ABC, EMPTY]),
@@ -41,20 +41,14 @@ fn reads_bodies_by_their_lengths(rt: HostRuntime) -> Result<(), Fail> {
         (b"Content-Length: 18446744073709551619\r\n", &[TOO_LARGE]),
     ];
     for (fields, answers) in cases {
-        let start: &[u8] = b"POST /ops/returns HTTP/1.1\r\n";
-        let bytes = join_texts(&rt, &[start, fields, b"\r\nabc", GET]);
-        for most in [1, usize::MAX] {
-            let (ended, written) = over_pieces(&rt, &bytes, most);
-            assert_eq!(rt; ended, Ok(Ended::Closed));
-            assert_eq!(rt; written, join_texts(&rt, answers));
-        }
+        let texts: [&[u8]; 4] = [b"POST /ops/returns HTTP/1.1\r\n", fields, b"\r\nabc", GET];
+        ends(&rt, &texts, Ended::Closed, answers);
     }
-    Ok(())
 }
 
 /// Another method than POST has no body where it has no length; a GET's body is read.
 #[test]
-fn reads_bodies_of_every_method(rt: HostRuntime) -> Result<(), Fail> {
+fn reads_bodies_of_every_method(rt: HostRuntime) {
     let cases: [(&[u8], &[&[u8]]); 4] = [
         (b"GET /ops/settlement HTTP/1.1\r\n\r\n", &[EMPTY, EMPTY]),
         (
@@ -71,30 +65,25 @@ fn reads_bodies_of_every_method(rt: HostRuntime) -> Result<(), Fail> {
         ),
     ];
     for (text, answers) in cases {
-        let (ended, written) = over_pieces(&rt, &join_texts(&rt, &[text, GET]), usize::MAX);
-        assert_eq!(rt; ended, Ok(Ended::Closed));
-        assert_eq!(rt; written, join_texts(&rt, answers));
+        ends_over_pieces(&rt, &[text, GET], usize::MAX, Ended::Closed, answers);
     }
-    Ok(())
 }
 
 /// A body of 4,194,304 bytes is read whole.
 #[test]
-fn reads_the_longest_body(rt: HostRuntime) -> Result<(), Fail> {
-    let piece = [b'x'; 4_096];
-    let start: &[u8] = b"POST /ops/returns HTTP/1.1\r\nContent-Length: 4194304\r\n\r\n";
-    let head: &[u8] =
-        b"HTTP/1.1 200 OK\r\nContent-Type: application/json\r\nContent-Length: 4194304\r\nConnection: keep-alive\r\n\r\n";
-    let mut bytes = join_texts(&rt, &[start]);
-    let mut wanted = join_texts(&rt, &[head]);
-    for _ in 0..1_024 {
-        add(&rt, &mut bytes, &piece);
-        add(&rt, &mut wanted, &piece);
-    }
-    add(&rt, &mut bytes, GET);
-    add(&rt, &mut wanted, EMPTY);
-    let (ended, written) = over_pieces(&rt, &bytes, 10_000);
+fn reads_the_longest_body(rt: HostRuntime) {
+    let body = many(&rt, b"x", 4_194_304);
+    let texts: [&[u8]; 3] = [
+        b"POST /ops/returns HTTP/1.1\r\nContent-Length: 4194304\r\n\r\n",
+        &body,
+        GET,
+    ];
+    let answers: [&[u8]; 3] = [
+        b"HTTP/1.1 200 OK\r\nContent-Type: application/json\r\nContent-Length: 4194304\r\nConnection: keep-alive\r\n\r\n",
+        &body,
+        EMPTY,
+    ];
+    let (ended, written) = over_pieces(&rt, &join_texts(&rt, &texts), 10_000);
     assert_eq!(rt; ended, Ok(Ended::Closed));
-    assert!(rt; written == wanted);
-    Ok(())
+    assert!(rt; written == join_texts(&rt, &answers));
 }

@@ -1,13 +1,41 @@
 //! The routes.
-use crate::tests::texts::{BAD_METHOD, LENGTH_REQUIRED, NOT_FOUND, over_pieces};
+use crate::tests::texts::{BAD_METHOD, LENGTH_REQUIRED, NOT_FOUND, ends_over_pieces};
 use desk_routes::Route::{Company, Operator};
 use desk_routes::{CompanyRoute, OperatorRoute, Route, RouteFault, Routes, piece_of};
-use std::test::Fail;
+use desk_session::Ended;
+use std::alloc::Global;
+use std::process::Abort;
+
+const METHODS: [&[u8]; 5] = [b"GET", b"POST", b"PUT", b"get", b""];
+
+// These have no clause, so that the proof of a test does not carry the table of routes.
+fn routes(rt: &(impl Abort + Alloc<A = Global>)) -> Routes {
+    Routes::new(rt.alloc()).ok().expect(rt, "memory")
+}
+
+fn found(routes: &Routes, method: &[u8], path: &[u8]) -> Result<Route, RouteFault> {
+    routes.find(method, path)
+}
+
+fn takes_one_method(rt: &impl Abort, routes: &Routes, method: &[u8], path: &[u8], route: Route) {
+    for tried in METHODS {
+        let wanted = if tried == method {
+            Ok(route)
+        } else {
+            Err(RouteFault::BadMethod)
+        };
+        assert_eq!(rt; found(routes, tried, path), wanted);
+    }
+}
+
+fn piece(path: &[u8], slashes: usize) -> &[u8] {
+    piece_of(path, slashes)
+}
 
 /// Each route takes its method and no other.
 #[test]
-fn finds_each_route(rt: HostRuntime) -> Result<(), Fail> {
-    let routes = Routes::new(rt.alloc())?;
+fn finds_each_route(rt: HostRuntime) {
+    let routes = routes(&rt);
     let cases: [(&[u8], &[u8], Route); 17] = [
         (
             b"POST",
@@ -60,23 +88,14 @@ fn finds_each_route(rt: HostRuntime) -> Result<(), Fail> {
         (b"GET", b"/ops/suspense", Operator(OperatorRoute::Suspense)),
     ];
     for (method, path, route) in cases {
-        assert_eq!(rt; routes.find(method, path), Ok(route));
-        let other: &[u8] = if method == b"GET".as_slice() {
-            b"POST"
-        } else {
-            b"GET"
-        };
-        for wrong in [other, b"PUT", b"get", b""] {
-            assert_eq!(rt; routes.find(wrong, path), Err(RouteFault::BadMethod));
-        }
+        takes_one_method(&rt, &routes, method, path, route);
     }
-    Ok(())
 }
 
 /// Paths that are near a route have none.
 #[test]
-fn finds_no_other_path(rt: HostRuntime) -> Result<(), Fail> {
-    let routes = Routes::new(rt.alloc())?;
+fn finds_no_other_path(rt: HostRuntime) {
+    let routes = routes(&rt);
     let paths: [&[u8]; 16] = [
         b"",
         b"/",
@@ -96,11 +115,14 @@ fn finds_no_other_path(rt: HostRuntime) -> Result<(), Fail> {
         b"/c/\xff/rates",
     ];
     for path in paths {
-        for method in [b"GET".as_slice(), b"POST".as_slice(), b"PUT".as_slice()] {
-            assert_eq!(rt; routes.find(method, path), Err(RouteFault::NotFound));
+        for method in METHODS {
+            assert_eq!(rt;
+                found(&routes, method, path),
+                Err(RouteFault::NotFound),
+                "{path:?}"
+            );
         }
     }
-    Ok(())
 }
 
 /// The pieces of a path are what stands between its slashes.
@@ -109,13 +131,13 @@ fn cuts_paths_at_slashes(rt: HostRuntime) {
     let path: &[u8] = b"/c/MILL01/submissions/PAY-1";
     let pieces: [&[u8]; 7] = [b"", b"c", b"MILL01", b"submissions", b"PAY-1", b"", b""];
     for slashes in 0..7 {
-        assert_eq!(rt; piece_of(path, slashes), pieces[slashes]);
+        assert_eq!(rt; piece(path, slashes), pieces[slashes]);
     }
 }
 
 /// An unknown path is told before a wrong method, and a missing length before both.
 #[test]
-fn tells_the_first_fault(rt: HostRuntime) -> Result<(), Fail> {
+fn tells_the_first_fault(rt: HostRuntime) {
     let cases: [(&[u8], &[u8]); 5] = [
         (
             b"GET /nowhere HTTP/1.1\r\nX-Desk-Key: wrong\r\n\r\n",
@@ -133,8 +155,6 @@ fn tells_the_first_fault(rt: HostRuntime) -> Result<(), Fail> {
         (b"POST /nowhere HTTP/1.1\r\n\r\n", LENGTH_REQUIRED),
     ];
     for (bytes, answer) in cases {
-        let (_, written) = over_pieces(&rt, bytes, usize::MAX);
-        assert_eq!(rt; written.as_slice(), answer);
+        ends_over_pieces(&rt, &[bytes], usize::MAX, Ended::Closed, &[answer]);
     }
-    Ok(())
 }

@@ -57,6 +57,15 @@ pub fn join_texts(rt: &(impl Abort + Alloc<A = Global>), texts: &[&[u8]]) -> Vec
     out
 }
 
+/// The text, so many times.
+pub fn many(rt: &(impl Abort + Alloc<A = Global>), text: &[u8], count: usize) -> Vec<u8> {
+    let mut out = Vec::new(rt.alloc());
+    for _ in 0..count {
+        add(rt, &mut out, text);
+    }
+    out
+}
+
 pub fn front(rt: &(impl Abort + Alloc<A = Global>)) -> Front {
     Front {
         routes: Routes::new(rt.alloc()).ok().expect(rt, "memory"),
@@ -95,4 +104,25 @@ pub fn over_pieces(
     let ended = run(rt, &mut Pieces::new(bytes, most), &mut writer);
     let Sink { taken, .. } = writer;
     (ended, taken)
+}
+
+/// A session over the texts, joined, ends so and writes these answers, where a read gives at most so
+/// many bytes.
+pub fn ends_over_pieces(
+    rt: &(impl Abort + Alloc<A = Global>),
+    texts: &[&[u8]],
+    most: usize,
+    end: Ended,
+    answers: &[&[u8]],
+) {
+    let (ended, written) = over_pieces(rt, &join_texts(rt, texts), most);
+    assert_eq!(rt; ended, Ok(end), "in pieces of {most}");
+    assert_eq!(rt; written, join_texts(rt, answers), "in pieces of {most}");
+}
+
+/// So it is in one read and in many.
+pub fn ends(rt: &(impl Abort + Alloc<A = Global>), texts: &[&[u8]], end: Ended, answers: &[&[u8]]) {
+    for most in [1, 2, 7, usize::MAX] {
+        ends_over_pieces(rt, texts, most, end, answers);
+    }
 }

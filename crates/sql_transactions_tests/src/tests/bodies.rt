@@ -10,11 +10,12 @@ use sql_transactions::{
     RowBody, TransactionBody, execute_one, query_first_inside, query_inside, run_each,
 };
 use sqlite::{Alter, Connection, Error, MemStore, Transaction};
+use std::alloc::Global;
 
 // These have no clause, so that the proof of a test does not carry the state of each call.
 
 /// Gives a database with two accounts and no line.
-pub(super) fn bank(rt: &HostRuntime) -> Result<Connection<MemStore>, Error> {
+pub(super) fn bank(rt: &impl Alloc<A = Global>) -> Result<Connection<MemStore>, Error> {
     let mut conn = Connection::open_in_memory(rt.alloc())?;
     conn.execute_batch(
         "CREATE TABLE accounts (id INT PRIMARY KEY, cents INT NOT NULL) STRICT; CREATE TABLE lines (no INT PRIMARY KEY, cents INT NOT NULL) STRICT; INSERT INTO accounts VALUES (1, 0), (2, 0)",
@@ -22,13 +23,15 @@ pub(super) fn bank(rt: &HostRuntime) -> Result<Connection<MemStore>, Error> {
     Ok(conn)
 }
 
+/// Gives the number that a query shows.
+pub(super) fn shown<S: Alter>(conn: &mut Connection<S>, sql: &str) -> Result<i64, Error> {
+    conn.query_row(sql, &[])?.get(0)
+}
+
 /// Tells the number of lines, and the cents of all accounts.
 pub(super) fn totals<S: Alter>(conn: &mut Connection<S>) -> Result<(i64, i64), Error> {
-    let lines = conn.query_row("SELECT count(*) FROM lines", &[])?.get(0)?;
-    let cents = conn
-        .query_row("SELECT sum(cents) FROM accounts", &[])?
-        .get(0)?;
-    Ok((lines, cents))
+    let lines = shown(conn, "SELECT count(*) FROM lines")?;
+    Ok((lines, shown(conn, "SELECT sum(cents) FROM accounts")?))
 }
 
 /// `Lines` writes a line under its number.
@@ -124,6 +127,17 @@ fn line_count<S: Alter>(tx: &mut Transaction<'_, S>) -> Result<i64, Error>
     }
 }
 
+/// Gives what `NextLine` writes.
+fn next_line<S: Alter>(tx: &mut Transaction<'_, S>) -> Result<(i64, i64), Error>
+    ensures same_reference { tx.new.conn.ghost_name ≡ tx.old.conn.ghost_name }
+    ensures keeps { HasCleanDisk (state S.Store tx.new.conn.now) → KeepsCommit (state S.Store tx.old.conn.now) (state S.Store tx.new.conn.now) }
+    ensures survives { Survives (state S.Store tx.old.conn.now) (state S.Store tx.new.conn.now) (λ _. ⊥) }
+{
+    let last = last_line(tx)?;
+    let count = line_count(tx)?;
+    Ok((last.saturating_add(10), count))
+}
+
 /// `NextLine` writes a line under a number that is 10 above the last one, of as many cents as there
 /// were lines.
 #[derive(Clone, Copy)]
@@ -135,17 +149,12 @@ impl TransactionBody for NextLine {
     ghost edit = { λ _. no_edit };
 
     fn run<S: Alter>(&self, tx: &mut Transaction<'_, S>) -> Result<(), Error> {
-        let last = last_line(tx)?;
-        let count = line_count(tx)?;
-        let Some(next) = last.checked_add(10) else {
-            return Err(Error::IntegralValueOutOfRange(0));
-        };
+        let (no, count) = next_line(tx)?;
         execute_one(
             tx,
             "INSERT INTO lines VALUES (?1, ?2)",
-            &[number(next), number(count)],
-        )?;
-        Ok(())
+            &[number(no), number(count)],
+        )
     }
 }
 

@@ -8,9 +8,7 @@ fn mark(conn: &mut Connection<MemStore>, first: u64, rows: &[u8]) -> Result<(), 
     commit(conn, &Marked { first, rows })
 }
 
-#[test]
-fn each_row_has_its_number(rt: HostRuntime) -> Result<(), Fail> {
-    let mut conn = bank(&rt)?;
+fn deposit(conn: &mut Connection<MemStore>) -> Result<(), Error> {
     let lines = [4, 5, 6];
     let body = Deposit {
         account: 1,
@@ -18,7 +16,13 @@ fn each_row_has_its_number(rt: HostRuntime) -> Result<(), Fail> {
         first: 20,
         lines: &lines,
     };
-    assert_eq!(rt; commit(&mut conn, &body), Ok(()));
+    commit(conn, &body)
+}
+
+#[test]
+fn each_row_has_its_number(rt: HostRuntime) -> Result<(), Fail> {
+    let mut conn = bank(&rt)?;
+    deposit(&mut conn)?;
     for (no, cents) in [(20, 4), (21, 5), (22, 6)] {
         assert_eq!(rt; line(&mut conn, no)?, cents);
     }
@@ -38,8 +42,13 @@ fn line(conn: &mut Connection<MemStore>, no: i64) -> Result<i64, Error> {
 fn a_row_needs_a_number_after_its_own(rt: HostRuntime) -> Result<(), Fail> {
     let mut conn = bank(&rt)?;
     let past = Error::SqliteFailure(ErrorCode::IntegerOverflow);
-    assert_eq!(rt; mark(&mut conn, u64::MAX, &[]), Ok(()));
-    assert_eq!(rt; mark(&mut conn, u64::MAX - 1, &[7]), Ok(()));
-    assert_eq!(rt; mark(&mut conn, u64::MAX, &[7]), Err(past));
+    let cases: [(u64, &[u8], Result<(), Error>); 3] = [
+        (u64::MAX, &[], Ok(())),
+        (u64::MAX - 1, &[7], Ok(())),
+        (u64::MAX, &[7], Err(past)),
+    ];
+    for (first, rows, end) in cases {
+        assert_eq!(rt; mark(&mut conn, first, rows), end);
+    }
     Ok(())
 }

@@ -1,0 +1,5 @@
+mod EntryUpdates
+mod FileInserts
+mod KeyTests
+mod NumberUpserts
+mod SubmissionUpdates

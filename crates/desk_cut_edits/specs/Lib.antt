@@ -1,0 +1,2 @@
+pub mod PlaceEdits
+pub mod Texts

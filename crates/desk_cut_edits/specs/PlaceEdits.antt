@@ -1,0 +1,15 @@
+-- What the two statements that give an entry its place make of the tables.
+use Rattle.std.specs.Prelude.{⊤, ℕ}
+use Rattle.sql_transactions.specs.Edits.{Edit}
+use Rattle.desk_history.specs.declared.sent_entry.SentEntry.{SentEntry}
+use Rattle.desk_records.specs.CutTables.{mark_entry, with_number}
+use Rattle.desk_records.specs.TableEdits.{IsUnsent}
+use Rattle.desk_records.specs.Tables.{Tables}
+
+-- UPDATE entries SET seq = ? WHERE company = ? AND ord = ? AND idx = ? AND seq IS NULL
+abbrev pub mark_entry_edit : (place : ℕ) → SentEntry → Edit Tables
+mark_entry_edit n e = record { after = λ t. record t { entries = mark_entry n e t.entries }; Tells = IsUnsent e }
+
+-- INSERT INTO numbers .. ON CONFLICT (sequence) DO UPDATE SET nth = ?
+abbrev pub put_number_edit : (sequence : ℕ) → (place : ℕ) → Edit Tables
+put_number_edit s n = record { after = λ t. record t { numbers = with_number s n t.numbers }; Tells = λ _. ⊤ }

@@ -1,0 +1,17 @@
+-- The texts of the statements of a cut.
+use Rattle.std.specs.Prelude.{ℕ, List, codes}
+
+abbrev pub update_sent : List ℕ
+update_sent = codes "UPDATE submissions SET settled = ?3, file_day = ?4, modifier = ?5, batch = ?6 WHERE company = ?1 AND ord = ?2 AND settled IS NULL AND lapsed = 0"
+
+abbrev pub update_lapsed : List ℕ
+update_lapsed = codes "UPDATE submissions SET lapsed = 1 WHERE company = ?1 AND ord = ?2 AND settled IS NULL AND lapsed = 0"
+
+abbrev pub update_entry : List ℕ
+update_entry = codes "UPDATE entries SET seq = ?4 WHERE company = ?1 AND ord = ?2 AND idx = ?3 AND seq IS NULL"
+
+abbrev pub upsert_number : List ℕ
+upsert_number = codes "INSERT INTO numbers VALUES (?1, ?2) ON CONFLICT (sequence) DO UPDATE SET nth = ?2"
+
+abbrev pub insert_file : List ℕ
+insert_file = codes "INSERT INTO files VALUES (?1, ?2, ?3)"

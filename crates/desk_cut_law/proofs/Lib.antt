@@ -1,0 +1,10 @@
+pub mod Cut
+pub mod Lapses
+pub mod PlacedNumbers
+pub mod Places
+pub mod PutFiles
+pub mod Sends
+pub mod SentRecords
+pub mod SentStates
+pub mod Standing
+pub mod Waiting

@@ -1,0 +1,7 @@
+mod Companies
+pub mod Conditions
+mod Days
+mod Holidays
+pub mod Keys
+pub mod OtherTables
+pub mod SubmissionRows

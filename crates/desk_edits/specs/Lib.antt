@@ -1,0 +1,2 @@
+pub mod HolidayEdits
+pub mod Texts

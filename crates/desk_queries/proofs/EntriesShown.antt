@@ -1,0 +1,34 @@
+-- The queries of entries, and of the places of those that were sent.
+use Rattle.std.proofs.Common.{ℕ, List, [], ◌∷◌, refl}
+use Rattle.sqlite_value.specs.declared.value.Value.TheVariants.{Text}
+use Rattle.sql_statements.proofs.Conditions.{text_is}
+use Rattle.sql_statements.specs.Statements.{column_is, at_least, at_most, columns}
+use Rattle.desk_records.specs.Columns.{number}
+use Rattle.desk_records.specs.QueryRows.{numbered_entry_row, placed_entry_row}
+use Rattle.desk_records.specs.Selected.{numbered_of, placed_of}
+use Rattle.desk_records.specs.TableReads.{is_entry_of, entries_in, is_at_place, entry_at_place, place_in, is_between, places_between}
+use Rattle.std.specs.Prelude.{◌==◌}
+use Rattle.desk_queries.proofs.Conditions.{one, two, number_is, number_least, number_most, number_if_any_is}
+use Rattle.desk_queries.proofs.Listings.{entries, numbers}
+use Rattle.desk_queries.proofs.Selects.{all_selected, first_selected}
+use Rattle.desk_queries.proofs.Texts.{places, entries_is, sent_entry_is, place_is, places_is}
+use Rattle.desk_queries.specs.Shows.{ShowsAll, ShowsFirst}
+use Rattle.desk_queries.specs.Texts.{entries_text, sent_entry_text, place_text, places_text}
+
+pub entries_shown : (c : List ℕ) (order : ℕ) → ShowsAll entries_text (Text c ∷ number order ∷ []) numbered_entry_row (entries_in c order)
+entries_shown c order =
+    all_selected entries entries_text (column_is 1 0 ∷ column_is 2 1 ∷ []) (places (3 ∷ 4 ∷ 5 ∷ 6 ∷ 7 ∷ 8 ∷ 9 ∷ 10 ∷ 11 ∷ [])) (Text c ∷ number order ∷ []) (is_entry_of c order) numbered_of numbered_entry_row
+    entries_is (λ i e. two (text_is e.company c) (number_is e.order order)) (λ i e. refl)
+
+pub sent_entry_shown : (place : ℕ) → ShowsFirst sent_entry_text (number place ∷ []) placed_entry_row (entry_at_place place)
+sent_entry_shown place =
+    first_selected entries sent_entry_text (column_is 12 0 ∷ []) (columns 11) (number place ∷ []) (is_at_place place) placed_of placed_entry_row sent_entry_is (λ i e. one (number_if_any_is e.place place)) (λ i e. refl)
+
+pub place_shown : (sequence : ℕ) → ShowsFirst place_text (number sequence ∷ []) (λ n. number n ∷ []) (place_in sequence)
+place_shown sequence =
+    first_selected numbers place_text (column_is 1 0 ∷ []) (places (2 ∷ [])) (number sequence ∷ []) (λ n. n.sequence == sequence) (λ n. n.place) (λ n. number n ∷ []) place_is (λ i n. one (number_is n.sequence sequence)) (λ i n. refl)
+
+pub places_shown : (from to : ℕ) → ShowsAll places_text (number from ∷ number to ∷ []) (λ n. number n ∷ []) (places_between from to)
+places_shown from to =
+    all_selected numbers places_text (at_least 1 0 ∷ at_most 1 1 ∷ []) (places (2 ∷ [])) (number from ∷ number to ∷ []) (is_between from to) (λ n. n.place) (λ n. number n ∷ [])
+    places_is (λ i n. two (number_least n.sequence from) (number_most n.sequence to)) (λ i n. refl)

@@ -1,0 +1,15 @@
+pub mod Conditions
+pub mod EntriesShown
+pub mod Found
+pub mod Injective
+pub mod ItemsShown
+pub mod Keys
+pub mod LastShown
+pub mod LinesShown
+pub mod Listings
+pub mod RegistryShown
+pub mod Selects
+pub mod SumRows
+pub mod SubmissionsShown
+pub mod Texts
+pub mod TextsAnywhere

@@ -1,0 +1,12 @@
+use Rattle.std.proofs.lemmas.Result.{IfOk-weaker}
+use Rattle.desk_queries.proofs.Found.{first_found}
+use Rattle.desk_queries.proofs.Injective.{blob_columns}
+use Rattle.desk_queries.proofs.LinesShown.{file_shown}
+use Rattle.desk_queries.proofs.TextsAnywhere.{file_selects}
+use Rattle.desk_queries.proofs.files.file_text.Goals as goal
+
+pub blob_of-requires : goal.blob_of-requires
+blob_of-requires g c = file_selects
+
+pub returns-clause-answer : goal.returns-clause-answer
+returns-clause-answer g c clean = IfOk-weaker c.blob_of.result _ _ (λ x read. first_found _ blob_columns (file_shown c.args.day c.args.modifier) (rw (c.day.ensures, c.in_ok-count.ensures, c.from.ensures) at read)) (c.blob_of.ensures.answer clean)

@@ -1,0 +1,12 @@
+use Rattle.std.proofs.lemmas.Result.{IfOk-weaker}
+use Rattle.desk_queries.proofs.SubmissionsShown.{open_submissions_shown}
+use Rattle.desk_queries.proofs.Found.{all_found}
+use Rattle.desk_queries.proofs.Injective.{submission_head_rows}
+use Rattle.desk_queries.proofs.TextsAnywhere.{open_submissions_selects}
+use Rattle.desk_queries.proofs.submissions.open_submissions.Goals as goal
+
+pub all_of-requires : goal.all_of-requires
+all_of-requires g c = open_submissions_selects
+
+pub returns-clause-answer : goal.returns-clause-answer
+returns-clause-answer g c clean = IfOk-weaker c.all_of.result _ _ (λ x read. all_found _ submission_head_rows (open_submissions_shown c.args.company c.args.since) (rw (c.name.ensures, c.bytes.ensures.value, c.day.ensures) at read)) (c.all_of.ensures.answer clean)

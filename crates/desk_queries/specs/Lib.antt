@@ -1,0 +1,4 @@
+pub mod DigestRows
+pub mod Postings
+pub mod Shows
+pub mod Texts

@@ -1,0 +1,95 @@
+//! Entries, and the places of those that were sent.
+ghost use Rattle.std.specs.Prelude.{◌≡◌, IfOk};
+ghost use Rattle.sqlite.specs.Held.{state};
+ghost use Rattle.sqlite.specs.State.{HasCleanDisk, Survives};
+ghost use Rattle.sql_statements.specs.Queries.{Stays};
+ghost use Rattle.sql_transactions.specs.Findings.{Finds};
+ghost use Rattle.desk_records.specs.Layout.{desk_layout};
+ghost use Rattle.desk_records.specs.TableReads.{entries_in, entry_at_place, place_in, places_between, IsLastNumber};
+
+use crate::parameter::{count, name};
+use crate::rows::{all_of, cell_of, column_of, first_of};
+use ach_fields::Id;
+use desk_records::{NumberRecord, NumberedEntry, PlacedEntry};
+use sqlite::{Alter, Connection, Error};
+use std::alloc::Global;
+
+/// Gives the entries of the submission with a number in its company.
+pub fn entries_of<S: Alter>(
+    conn: &mut Connection<S>,
+    alloc: Global,
+    company: Id,
+    order: u64,
+) -> Result<Vec<NumberedEntry>, Error>
+    ensures answer { HasCleanDisk (state S.Store conn.new) → IfOk result (λ found. Finds desk_layout (λ t. found.items ≡ entries_in company order t) (state S.Store conn.old)) }
+    ensures stays { HasCleanDisk (state S.Store conn.new) → Stays (state S.Store conn.old) (state S.Store conn.new) }
+    ensures survives { Survives (state S.Store conn.old) (state S.Store conn.new) (λ _. ⊥) }
+{
+    all_of(
+        conn,
+        alloc,
+        "SELECT idx, routing, account, savings, prenote, cents, ident, name, info FROM entries WHERE company = ?1 AND ord = ?2 ORDER BY company, ord, idx",
+        &[name(company.bytes()), count(order)?],
+    )
+}
+
+/// Finds the entry that has a place among all sent entries.
+pub fn sent_entry<S: Alter>(
+    conn: &mut Connection<S>,
+    place: u64,
+) -> Result<Option<PlacedEntry>, Error>
+    ensures answer { HasCleanDisk (state S.Store conn.new) → IfOk result (λ found. Finds desk_layout (λ t. found ≡ entry_at_place place t) (state S.Store conn.old)) }
+    ensures stays { HasCleanDisk (state S.Store conn.new) → Stays (state S.Store conn.old) (state S.Store conn.new) }
+    ensures survives { Survives (state S.Store conn.old) (state S.Store conn.new) (λ _. ⊥) }
+{
+    first_of(
+        conn,
+        "SELECT company, ord, idx, routing, account, savings, prenote, cents, ident, name, info FROM entries WHERE seq = ?1 ORDER BY company, ord, idx",
+        &[count(place)?],
+    )
+}
+
+/// Finds the place of the youngest sent entry that has a sequence.
+pub fn place<S: Alter>(conn: &mut Connection<S>, sequence: u32) -> Result<Option<u64>, Error>
+    ensures answer { HasCleanDisk (state S.Store conn.new) → IfOk result (λ found. Finds desk_layout (λ t. found ≡ place_in sequence t) (state S.Store conn.old)) }
+    ensures stays { HasCleanDisk (state S.Store conn.new) → Stays (state S.Store conn.old) (state S.Store conn.new) }
+    ensures survives { Survives (state S.Store conn.old) (state S.Store conn.new) (λ _. ⊥) }
+{
+    cell_of(
+        conn,
+        "SELECT nth FROM numbers WHERE sequence = ?1 ORDER BY sequence",
+        &[count(u64::from(sequence))?],
+    )
+}
+
+/// Gives the places of the youngest sent entries that have the sequences of a range.
+pub fn places<S: Alter>(
+    conn: &mut Connection<S>,
+    alloc: Global,
+    from: u32,
+    to: u32,
+) -> Result<Vec<u64>, Error>
+    ensures answer { HasCleanDisk (state S.Store conn.new) → IfOk result (λ found. Finds desk_layout (λ t. found.items ≡ places_between from to t) (state S.Store conn.old)) }
+    ensures stays { HasCleanDisk (state S.Store conn.new) → Stays (state S.Store conn.old) (state S.Store conn.new) }
+    ensures survives { Survives (state S.Store conn.old) (state S.Store conn.new) (λ _. ⊥) }
+{
+    column_of(
+        conn,
+        alloc,
+        "SELECT nth FROM numbers WHERE sequence >= ?1 AND sequence <= ?2 ORDER BY sequence",
+        &[count(u64::from(from))?, count(u64::from(to))?],
+    )
+}
+
+/// Finds the sequence of the last place among all sent entries, with that place.
+pub fn last_number<S: Alter>(conn: &mut Connection<S>) -> Result<Option<NumberRecord>, Error>
+    ensures answer { HasCleanDisk (state S.Store conn.new) → IfOk result (λ found. Finds desk_layout (IsLastNumber found) (state S.Store conn.old)) }
+    ensures stays { HasCleanDisk (state S.Store conn.new) → Stays (state S.Store conn.old) (state S.Store conn.new) }
+    ensures survives { Survives (state S.Store conn.old) (state S.Store conn.new) (λ _. ⊥) }
+{
+    first_of(
+        conn,
+        "SELECT sequence, nth FROM numbers ORDER BY nth DESC LIMIT 1",
+        &[],
+    )
+}

@@ -1,0 +1,68 @@
+//! Files: those that were cut, and those that were taken.
+ghost use Rattle.std.specs.Prelude.{◌≡◌, IfOk, option_map};
+ghost use Rattle.sqlite.specs.Held.{state};
+ghost use Rattle.sqlite.specs.State.{HasCleanDisk, Survives};
+ghost use Rattle.sql_statements.specs.Queries.{Stays};
+ghost use Rattle.sql_transactions.specs.Findings.{Finds};
+ghost use Rattle.desk_records.specs.Layout.{desk_layout};
+ghost use Rattle.desk_records.specs.TableReads.{modifiers_in, text_in, taken_in};
+
+use crate::parameter::{count, day as by_day, name};
+use crate::rows::{blob_of, column_of, first_of};
+use bank_days::Day;
+use desk_history::TakenFile;
+use sqlite::{Alter, Connection, Error};
+use std::alloc::Global;
+
+/// Gives the modifiers of the files of a day, from the least.
+pub fn modifiers<S: Alter>(
+    conn: &mut Connection<S>,
+    alloc: Global,
+    day: Day,
+) -> Result<Vec<u8>, Error>
+    ensures answer { HasCleanDisk (state S.Store conn.new) → IfOk result (λ found. Finds desk_layout (λ t. found.items ≡ modifiers_in day t) (state S.Store conn.old)) }
+    ensures stays { HasCleanDisk (state S.Store conn.new) → Stays (state S.Store conn.old) (state S.Store conn.new) }
+    ensures survives { Survives (state S.Store conn.old) (state S.Store conn.new) (λ _. ⊥) }
+{
+    column_of(
+        conn,
+        alloc,
+        "SELECT modifier FROM files WHERE day = ?1 ORDER BY day, modifier",
+        &[by_day(day)],
+    )
+}
+
+/// Finds the incoming file that was taken under a key.
+pub fn taken_file<S: Alter>(
+    conn: &mut Connection<S>,
+    key: [u8; 21],
+) -> Result<Option<TakenFile>, Error>
+    ensures answer { HasCleanDisk (state S.Store conn.new) → IfOk result (λ found. Finds desk_layout (λ t. found ≡ taken_in key t) (state S.Store conn.old)) }
+    ensures stays { HasCleanDisk (state S.Store conn.new) → Stays (state S.Store conn.old) (state S.Store conn.new) }
+    ensures survives { Survives (state S.Store conn.old) (state S.Store conn.new) (λ _. ⊥) }
+{
+    first_of(
+        conn,
+        "SELECT file_key, digest, day, returns, changes, late, suspense FROM taken WHERE file_key = ?1 ORDER BY file_key",
+        &[name(&key)],
+    )
+}
+
+/// Finds the text of the file that was cut on a day with a modifier.
+pub fn file_text<S: Alter>(
+    conn: &mut Connection<S>,
+    alloc: Global,
+    day: Day,
+    modifier: u8,
+) -> Result<Option<Vec<u8>>, Error>
+    ensures answer { HasCleanDisk (state S.Store conn.new) → IfOk result (λ found. Finds desk_layout (λ t. option_map (λ v. v.items) found ≡ text_in day modifier t) (state S.Store conn.old)) }
+    ensures stays { HasCleanDisk (state S.Store conn.new) → Stays (state S.Store conn.old) (state S.Store conn.new) }
+    ensures survives { Survives (state S.Store conn.old) (state S.Store conn.new) (λ _. ⊥) }
+{
+    blob_of(
+        conn,
+        alloc,
+        "SELECT text FROM files WHERE day = ?1 AND modifier = ?2 ORDER BY day, modifier",
+        &[by_day(day), count(u64::from(modifier))?],
+    )
+}

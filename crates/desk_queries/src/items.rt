@@ -1,0 +1,106 @@
+//! What came back of entries.
+ghost use Rattle.std.specs.Prelude.{◌≡◌, IfOk};
+ghost use Rattle.sqlite.specs.Held.{state};
+ghost use Rattle.sqlite.specs.State.{HasCleanDisk, Survives};
+ghost use Rattle.sql_statements.specs.Queries.{Stays};
+ghost use Rattle.sql_transactions.specs.Findings.{Finds};
+ghost use Rattle.desk_records.specs.Layout.{desk_layout};
+ghost use Rattle.desk_records.specs.TableReads.{returns_in, return_at, return_lines_in, change_lines_in, suspense_in};
+
+use crate::parameter::{count, name};
+use crate::rows::{all_of, first_of};
+use ach_fields::Id;
+use desk_history::SuspenseRow;
+use desk_records::{ChangeLine, EntryReturn, ReturnLine};
+use sqlite::{Alter, Connection, Error};
+use std::alloc::Global;
+
+/// Gives the returns of the entries of the submission with a number in its company.
+pub fn returns<S: Alter>(
+    conn: &mut Connection<S>,
+    alloc: Global,
+    company: Id,
+    order: u64,
+) -> Result<Vec<EntryReturn>, Error>
+    ensures answer { HasCleanDisk (state S.Store conn.new) → IfOk result (λ found. Finds desk_layout (λ t. found.items ≡ returns_in company order t) (state S.Store conn.old)) }
+    ensures stays { HasCleanDisk (state S.Store conn.new) → Stays (state S.Store conn.old) (state S.Store conn.new) }
+    ensures survives { Survives (state S.Store conn.old) (state S.Store conn.new) (λ _. ⊥) }
+{
+    all_of(
+        conn,
+        alloc,
+        "SELECT idx, code, day, late FROM returns WHERE company = ?1 AND ord = ?2 ORDER BY no",
+        &[name(company.bytes()), count(order)?],
+    )
+}
+
+/// Finds the return of the entry with a number in its submission.
+pub fn entry_return<S: Alter>(
+    conn: &mut Connection<S>,
+    company: Id,
+    order: u64,
+    index: u64,
+) -> Result<Option<EntryReturn>, Error>
+    ensures answer { HasCleanDisk (state S.Store conn.new) → IfOk result (λ found. Finds desk_layout (λ t. found ≡ return_at company order index t) (state S.Store conn.old)) }
+    ensures stays { HasCleanDisk (state S.Store conn.new) → Stays (state S.Store conn.old) (state S.Store conn.new) }
+    ensures survives { Survives (state S.Store conn.old) (state S.Store conn.new) (λ _. ⊥) }
+{
+    first_of(
+        conn,
+        "SELECT idx, code, day, late FROM returns WHERE company = ?1 AND ord = ?2 AND idx = ?3 ORDER BY no",
+        &[name(company.bytes()), count(order)?, count(index)?],
+    )
+}
+
+/// Gives the returns of a company, in the order in which they came.
+pub fn return_lines<S: Alter>(
+    conn: &mut Connection<S>,
+    alloc: Global,
+    company: Id,
+) -> Result<Vec<ReturnLine>, Error>
+    ensures answer { HasCleanDisk (state S.Store conn.new) → IfOk result (λ found. Finds desk_layout (λ t. found.items ≡ return_lines_in company t) (state S.Store conn.old)) }
+    ensures stays { HasCleanDisk (state S.Store conn.new) → Stays (state S.Store conn.old) (state S.Store conn.new) }
+    ensures survives { Survives (state S.Store conn.old) (state S.Store conn.new) (λ _. ⊥) }
+{
+    all_of(
+        conn,
+        alloc,
+        "SELECT ord, idx, code, day, late, info FROM returns WHERE company = ?1 ORDER BY no",
+        &[name(company.bytes())],
+    )
+}
+
+/// Gives the notifications of change of a company, in the order in which they came.
+pub fn change_lines<S: Alter>(
+    conn: &mut Connection<S>,
+    alloc: Global,
+    company: Id,
+) -> Result<Vec<ChangeLine>, Error>
+    ensures answer { HasCleanDisk (state S.Store conn.new) → IfOk result (λ found. Finds desk_layout (λ t. found.items ≡ change_lines_in company t) (state S.Store conn.old)) }
+    ensures stays { HasCleanDisk (state S.Store conn.new) → Stays (state S.Store conn.old) (state S.Store conn.new) }
+    ensures survives { Survives (state S.Store conn.old) (state S.Store conn.new) (λ _. ⊥) }
+{
+    all_of(
+        conn,
+        alloc,
+        "SELECT ord, idx, code, day, text FROM changes WHERE company = ?1 ORDER BY no",
+        &[name(company.bytes())],
+    )
+}
+
+/// Gives the items that name no sent entry, in the order in which they came.
+pub fn suspense<S: Alter>(
+    conn: &mut Connection<S>,
+    alloc: Global,
+) -> Result<Vec<SuspenseRow>, Error>
+    ensures answer { HasCleanDisk (state S.Store conn.new) → IfOk result (λ found. Finds desk_layout (λ t. found.items ≡ suspense_in t) (state S.Store conn.old)) }
+    ensures stays { HasCleanDisk (state S.Store conn.new) → Stays (state S.Store conn.old) (state S.Store conn.new) }
+    ensures survives { Survives (state S.Store conn.old) (state S.Store conn.new) (λ _. ⊥) }
+{
+    all_of(
+        conn,
+        alloc,
+        "SELECT file_key, item, why, code, trace, cents, day FROM suspense ORDER BY no",
+        &[],
+    )
+}

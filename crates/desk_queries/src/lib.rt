@@ -1,0 +1,25 @@
+//! This crate asks the tables of a desk: one function for each query, outside of a transaction, which
+//! finds what `TableReads` of `desk_records` says of the tables.
+//!
+//! Each query names its rows by a key or by the first columns of an index, and gives them in the order
+//! of the table's key. A row that stores no value within its ranges is `Error::InvalidQuery`.
+#![tactic(auto)]
+
+mod entries;
+mod files;
+mod items;
+mod lines;
+mod parameter;
+mod registry;
+mod rows;
+mod submissions;
+
+pub use entries::{entries_of, last_number, place, places, sent_entry};
+pub use files::{file_text, modifiers, taken_file};
+pub use items::{change_lines, entry_return, return_lines, returns, suspense};
+pub use lines::{postings, sum, sums};
+pub use registry::{companies, company, day, holidays, identity, operator_key};
+pub use submissions::{
+    authorization, facts, last_order, open_submissions, order_and_settlement, retries, submission,
+    submissions_of, waiting_submissions,
+};

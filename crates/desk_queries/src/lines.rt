@@ -1,0 +1,98 @@
+//! The lines of accounts, and their sums.
+ghost use Rattle.std.specs.Prelude.{◌≡◌, IfOk, map};
+ghost use Rattle.sqlite.specs.Held.{state};
+ghost use Rattle.sqlite.specs.State.{HasCleanDisk, Survives};
+ghost use Rattle.sql_statements.specs.Queries.{Stays};
+ghost use Rattle.sql_transactions.specs.Findings.{Finds};
+ghost use Rattle.desk_records.specs.Layout.{desk_layout};
+ghost use Rattle.desk_records.specs.TableReads.{lines_in, sums_in, sum_in};
+ghost use Rattle.desk_queries.specs.Postings.{posting_of};
+
+use crate::parameter::{account_text, day, name};
+use crate::rows::{all_of, cell_of};
+use bank_days::Day;
+use desk_accounts::{Account, Posting};
+use desk_history::DaySum;
+use desk_records::PostingLine;
+use sqlite::{Alter, Connection, Error};
+use std::alloc::Global;
+
+/// Gives the lines of an account, in the order in which they came.
+pub fn postings<S: Alter>(
+    conn: &mut Connection<S>,
+    alloc: Global,
+    account: Account,
+) -> Result<Vec<Posting>, Error>
+    ensures answer { HasCleanDisk (state S.Store conn.new) → IfOk result (λ found. Finds desk_layout (λ t. found.items ≡ lines_in account t) (state S.Store conn.old)) }
+    ensures stays { HasCleanDisk (state S.Store conn.new) → Stays (state S.Store conn.old) (state S.Store conn.new) }
+    ensures survives { Survives (state S.Store conn.old) (state S.Store conn.new) (λ _. ⊥) }
+{
+    let text = account_text(alloc, &account)?;
+    let lines = all_of(
+        conn,
+        alloc,
+        "SELECT value_day, cents, cause, ref, idx FROM postings WHERE account = ?1 ORDER BY no",
+        &[name(&text)],
+    )?;
+    of_account(alloc, &account, &lines)
+}
+
+// The lines, with their account.
+fn of_account(
+    alloc: Global,
+    account: &Account,
+    lines: &[PostingLine],
+) -> Result<Vec<Posting>, Error>
+    ensures { IfOk result (λ postings. postings.items ≡ map (posting_of account.now) lines.now) }
+{
+    let mut postings = Vec::new(alloc);
+    for line in lines {
+        postings.push(Posting {
+            account: *account,
+            value_day: line.value_day,
+            cents: line.cents,
+            cause: line.cause,
+            reference: line.reference,
+            idx: line.idx,
+        })?;
+    }
+    Ok(postings)
+}
+
+/// Gives the sums of an account's lines of each value day, from the first.
+pub fn sums<S: Alter>(
+    conn: &mut Connection<S>,
+    alloc: Global,
+    account: Account,
+) -> Result<Vec<DaySum>, Error>
+    ensures answer { HasCleanDisk (state S.Store conn.new) → IfOk result (λ found. Finds desk_layout (λ t. found.items ≡ sums_in account t) (state S.Store conn.old)) }
+    ensures stays { HasCleanDisk (state S.Store conn.new) → Stays (state S.Store conn.old) (state S.Store conn.new) }
+    ensures survives { Survives (state S.Store conn.old) (state S.Store conn.new) (λ _. ⊥) }
+{
+    let text = account_text(alloc, &account)?;
+    all_of(
+        conn,
+        alloc,
+        "SELECT value_day, cents FROM balances WHERE account = ?1 ORDER BY account, value_day",
+        &[name(&text)],
+    )
+}
+
+/// Finds the sum of an account's lines of a value day, in cents.
+pub fn sum<S: Alter>(
+    conn: &mut Connection<S>,
+    alloc: Global,
+    account: Account,
+    value_day: Day,
+) -> Result<Option<i128>, Error>
+    ensures answer { HasCleanDisk (state S.Store conn.new) → IfOk result (λ found. Finds desk_layout (λ t. found ≡ sum_in account value_day t) (state S.Store conn.old)) }
+    ensures stays { HasCleanDisk (state S.Store conn.new) → Stays (state S.Store conn.old) (state S.Store conn.new) }
+    ensures survives { Survives (state S.Store conn.old) (state S.Store conn.new) (λ _. ⊥) }
+{
+    let text = account_text(alloc, &account)?;
+    cell_of(
+        conn,
+        "SELECT cents FROM balances WHERE account = ?1 AND value_day = ?2 ORDER BY account, value_day",
+        &[name(&text), day(value_day)],
+    )
+}

@@ -1,0 +1,176 @@
+//! Submissions.
+ghost use Rattle.std.specs.Prelude.{◌≡◌, IfOk};
+ghost use Rattle.sqlite.specs.Held.{state};
+ghost use Rattle.sqlite.specs.State.{HasCleanDisk, Survives};
+ghost use Rattle.sql_statements.specs.Queries.{Stays};
+ghost use Rattle.sql_transactions.specs.Findings.{Finds};
+ghost use Rattle.desk_records.specs.Layout.{desk_layout};
+ghost use Rattle.desk_records.specs.TableReads.{is_of, is_open_of, is_waiting_of, is_retry_of, heads_in, head_under, order_in, facts_in, last_order, authorized_in};
+
+use crate::parameter::{count, day, name};
+use crate::rows::{all_of, cell_of, first_of};
+use ach_fields::{Id, Ref};
+use bank_days::Day;
+use desk_records::{OrderAndSettlement, SubmissionFacts, SubmissionHead};
+use sqlite::{Alter, Connection, Error};
+use std::alloc::Global;
+
+/// Gives the submissions and retries of a company, in their order.
+pub fn submissions_of<S: Alter>(
+    conn: &mut Connection<S>,
+    alloc: Global,
+    company: Id,
+) -> Result<Vec<SubmissionHead>, Error>
+    ensures answer { HasCleanDisk (state S.Store conn.new) → IfOk result (λ found. Finds desk_layout (λ t. found.items ≡ heads_in (is_of company) t) (state S.Store conn.old)) }
+    ensures stays { HasCleanDisk (state S.Store conn.new) → Stays (state S.Store conn.old) (state S.Store conn.new) }
+    ensures survives { Survives (state S.Store conn.old) (state S.Store conn.new) (λ _. ⊥) }
+{
+    all_of(
+        conn,
+        alloc,
+        "SELECT company, ord, ref, sec, direction, description, asked, of_ref, of_index, lapsed, settled FROM submissions WHERE company = ?1 ORDER BY company, ord",
+        &[name(company.bytes())],
+    )
+}
+
+/// Gives those of a company that settle on a day or later, or that still wait.
+pub fn open_submissions<S: Alter>(
+    conn: &mut Connection<S>,
+    alloc: Global,
+    company: Id,
+    since: Day,
+) -> Result<Vec<SubmissionHead>, Error>
+    ensures answer { HasCleanDisk (state S.Store conn.new) → IfOk result (λ found. Finds desk_layout (λ t. found.items ≡ heads_in (is_open_of company since) t) (state S.Store conn.old)) }
+    ensures stays { HasCleanDisk (state S.Store conn.new) → Stays (state S.Store conn.old) (state S.Store conn.new) }
+    ensures survives { Survives (state S.Store conn.old) (state S.Store conn.new) (λ _. ⊥) }
+{
+    all_of(
+        conn,
+        alloc,
+        "SELECT company, ord, ref, sec, direction, description, asked, of_ref, of_index, lapsed, settled FROM submissions WHERE company = ?1 AND (settled >= ?2 OR settled IS NULL AND lapsed = 0) ORDER BY company, ord",
+        &[name(company.bytes()), day(since)],
+    )
+}
+
+/// Gives those of a company that wait for a cut.
+pub fn waiting_submissions<S: Alter>(
+    conn: &mut Connection<S>,
+    alloc: Global,
+    company: Id,
+) -> Result<Vec<SubmissionHead>, Error>
+    ensures answer { HasCleanDisk (state S.Store conn.new) → IfOk result (λ found. Finds desk_layout (λ t. found.items ≡ heads_in (is_waiting_of company) t) (state S.Store conn.old)) }
+    ensures stays { HasCleanDisk (state S.Store conn.new) → Stays (state S.Store conn.old) (state S.Store conn.new) }
+    ensures survives { Survives (state S.Store conn.old) (state S.Store conn.new) (λ _. ⊥) }
+{
+    all_of(
+        conn,
+        alloc,
+        "SELECT company, ord, ref, sec, direction, description, asked, of_ref, of_index, lapsed, settled FROM submissions WHERE company = ?1 AND settled IS NULL AND lapsed = 0 ORDER BY company, ord",
+        &[name(company.bytes())],
+    )
+}
+
+/// Gives the retries of an entry of a company: of the submission under a reference, the entry with a
+/// number.
+pub fn retries<S: Alter>(
+    conn: &mut Connection<S>,
+    alloc: Global,
+    company: Id,
+    of: Ref,
+    index: u64,
+) -> Result<Vec<SubmissionHead>, Error>
+    ensures answer { HasCleanDisk (state S.Store conn.new) → IfOk result (λ found. Finds desk_layout (λ t. found.items ≡ heads_in (is_retry_of company of index) t) (state S.Store conn.old)) }
+    ensures stays { HasCleanDisk (state S.Store conn.new) → Stays (state S.Store conn.old) (state S.Store conn.new) }
+    ensures survives { Survives (state S.Store conn.old) (state S.Store conn.new) (λ _. ⊥) }
+{
+    all_of(
+        conn,
+        alloc,
+        "SELECT company, ord, ref, sec, direction, description, asked, of_ref, of_index, lapsed, settled FROM submissions WHERE company = ?1 AND of_ref = ?2 AND of_index = ?3 ORDER BY company, ord",
+        &[name(company.bytes()), name(of.bytes()), count(index)?],
+    )
+}
+
+/// Finds the submission or retry of a company under a reference.
+pub fn submission<S: Alter>(
+    conn: &mut Connection<S>,
+    company: Id,
+    reference: Ref,
+) -> Result<Option<SubmissionHead>, Error>
+    ensures answer { HasCleanDisk (state S.Store conn.new) → IfOk result (λ found. Finds desk_layout (λ t. found ≡ head_under company reference t) (state S.Store conn.old)) }
+    ensures stays { HasCleanDisk (state S.Store conn.new) → Stays (state S.Store conn.old) (state S.Store conn.new) }
+    ensures survives { Survives (state S.Store conn.old) (state S.Store conn.new) (λ _. ⊥) }
+{
+    first_of(
+        conn,
+        "SELECT company, ord, ref, sec, direction, description, asked, of_ref, of_index, lapsed, settled FROM submissions WHERE company = ?1 AND ref = ?2 ORDER BY company, ord",
+        &[name(company.bytes()), name(reference.bytes())],
+    )
+}
+
+/// Finds which submission of a company is under a reference, and when it settles.
+pub fn order_and_settlement<S: Alter>(
+    conn: &mut Connection<S>,
+    company: Id,
+    reference: Ref,
+) -> Result<Option<OrderAndSettlement>, Error>
+    ensures answer { HasCleanDisk (state S.Store conn.new) → IfOk result (λ found. Finds desk_layout (λ t. found ≡ order_in company reference t) (state S.Store conn.old)) }
+    ensures stays { HasCleanDisk (state S.Store conn.new) → Stays (state S.Store conn.old) (state S.Store conn.new) }
+    ensures survives { Survives (state S.Store conn.old) (state S.Store conn.new) (λ _. ⊥) }
+{
+    first_of(
+        conn,
+        "SELECT ord, settled FROM submissions WHERE company = ?1 AND ref = ?2 ORDER BY company, ord",
+        &[name(company.bytes()), name(reference.bytes())],
+    )
+}
+
+/// Finds what the submission with a number in its company says of each of its entries.
+pub fn facts<S: Alter>(
+    conn: &mut Connection<S>,
+    company: Id,
+    order: u64,
+) -> Result<Option<SubmissionFacts>, Error>
+    ensures answer { HasCleanDisk (state S.Store conn.new) → IfOk result (λ found. Finds desk_layout (λ t. found ≡ facts_in company order t) (state S.Store conn.old)) }
+    ensures stays { HasCleanDisk (state S.Store conn.new) → Stays (state S.Store conn.old) (state S.Store conn.new) }
+    ensures survives { Survives (state S.Store conn.old) (state S.Store conn.new) (λ _. ⊥) }
+{
+    first_of(
+        conn,
+        "SELECT ref, sec, direction, settled FROM submissions WHERE company = ?1 AND ord = ?2 ORDER BY company, ord",
+        &[name(company.bytes()), count(order)?],
+    )
+}
+
+/// Finds the day on which the payment of a retry was authorized again.
+pub fn authorization<S: Alter>(
+    conn: &mut Connection<S>,
+    company: Id,
+    order: u64,
+) -> Result<Option<Day>, Error>
+    ensures answer { HasCleanDisk (state S.Store conn.new) → IfOk result (λ found. Finds desk_layout (λ t. found ≡ authorized_in company order t) (state S.Store conn.old)) }
+    ensures stays { HasCleanDisk (state S.Store conn.new) → Stays (state S.Store conn.old) (state S.Store conn.new) }
+    ensures survives { Survives (state S.Store conn.old) (state S.Store conn.new) (λ _. ⊥) }
+{
+    cell_of(
+        conn,
+        "SELECT day FROM authorizations WHERE company = ?1 AND ord = ?2 ORDER BY company, ord",
+        &[name(company.bytes()), count(order)?],
+    )
+}
+
+/// Gives the number of the last submission or retry of a company, 0 before the first.
+pub fn last_order<S: Alter>(conn: &mut Connection<S>, company: Id) -> Result<u64, Error>
+    ensures answer { HasCleanDisk (state S.Store conn.new) → IfOk result (λ found. Finds desk_layout (λ t. found ≡ last_order company t) (state S.Store conn.old)) }
+    ensures stays { HasCleanDisk (state S.Store conn.new) → Stays (state S.Store conn.old) (state S.Store conn.new) }
+    ensures survives { Survives (state S.Store conn.old) (state S.Store conn.new) (λ _. ⊥) }
+{
+    match cell_of(
+        conn,
+        "SELECT ord FROM submissions WHERE company = ?1 ORDER BY company DESC, ord DESC LIMIT 1",
+        &[name(company.bytes())],
+    )? {
+        Some(order) => Ok(order),
+        None => Ok(0),
+    }
+}

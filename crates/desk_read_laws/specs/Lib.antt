@@ -1,0 +1,5 @@
+pub mod Composed
+pub mod NumberLaws
+pub mod ReadsAs
+pub mod RegistryLaws
+pub mod RowLaws

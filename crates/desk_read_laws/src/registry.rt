@@ -1,0 +1,15 @@
+//! The laws of reads of what stands in one row, or in whole tables, stand here.
+ghost use Rattle.desk_read_laws.specs.RegistryLaws.{RegistryLaws, FileLaws};
+
+/// The desk, its holidays and its companies stand in the tables as in the book.
+pub fn registry_of_tables()
+    ensures { RegistryLaws }
+{}
+
+/// So do files, those that came in, what stands in suspense, and the lines of accounts with their
+/// sums.
+pub fn files_of_tables()
+    ensures { FileLaws }
+{
+    desk_accounts::balances_by_day();
+}
