@@ -60,7 +60,7 @@ company_put k old new count ran t h =
       (
         done.0.schema_is,
         companies_changed old.now.trees new.now.trees t h.1 done.0.others _
-        (put_in_order company_row company_cmp company_total (has_id k.id) new.now.trees s k t.companies (λ y. is_eq-slice_cmp y.id k.id) free h.1.companies.rise done.1),
+            (put_in_order company_row company_cmp company_total (has_id k.id) new.now.trees s k t.companies (λ y. is_eq-slice_cmp y.id k.id) free h.1.companies.rise done.1),
       ),
       find_none (has_id k.id) t.companies free,
     )
