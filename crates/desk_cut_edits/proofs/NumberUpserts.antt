@@ -1,8 +1,9 @@
 -- The upsert of a cut, against the records of numbers.
-use Rattle.std.proofs.Common.{◌≡◌, ℕ, ℤ, Bool, true, false, ◌||◌, ◌==◌, cond, [], ◌∷◌, Some, Ok, refl, ap, ◌∙◌, Less}
+use Rattle.std.proofs.Common.{◌≡◌, ℕ, ℤ, Bool, true, false, ◌==◌, cond, [], ◌∷◌, Some, Ok, refl, ap, ◌∙◌, Less}
 use Rattle.std.specs.Cmp.{IsTotalOrder}
 use Rattle.std.specs.List.{list_any}
 use Rattle.std.specs.Ordering.{nat_cmp}
+use Rattle.std.proofs.Math.Bool.{or-false}
 use Rattle.std.proofs.lemmas.Cmp.{on_total, nat_cmp_total}
 use Rattle.sqlite_tied.specs.Compute.{everything}
 use Rattle.sqlite.specs.Listing.{understood}
@@ -40,10 +41,6 @@ upsert_number_is = record { update = _; is = refl; body = refl; alone = refl; pl
 number_total : IsTotalOrder number_cmp
 number_total = on_total (λ (r : NumberRecord). r.sequence) nat_cmp_total
 
-or_false : (b : Bool) → (b || false) ≡ b
-or_false true = refl
-or_false false = refl
-
 module _ (n : NumberRecord) where
   abbrev set : NumberRecord → NumberRecord
   set m = record m { place = n.place }
@@ -53,7 +50,7 @@ module _ (n : NumberRecord) where
 
   meets : (i j : ℤ) (y : NumberRecord) → conflicts (Some (1 ∷ [])) desk_schema.indexes numbers_table (row_of number_row (j, n)) (row_of number_row (i, y)) ≡ is_it y
   unfolding first_key
-  meets i j y = or_false _ ∙ and_true _ ∙ conditions.number_is y.sequence n.sequence
+  meets i j y = or-false _ ∙ and_true _ ∙ conditions.number_is y.sequence n.sequence
 
   one_number : (a b : NumberRecord) → is_it a ≡ true → is_it b ≡ true → number_cmp a b ≡ Less → ⊥
   one_number = not_before number_cmp is_it (λ a b here there. conditions.equal_numbers a.sequence b.sequence ∙ ap (λ s. a.sequence == s) (conditions.same_number b.sequence n.sequence there) ∙ here)

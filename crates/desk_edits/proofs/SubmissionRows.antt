@@ -97,7 +97,7 @@ submission_put x old new count ran t h =
 
 -- ---- entries
 
-flag_kept : (b : Bool) → is_kept kind.Integer (flag b) ≡ true
+pub flag_kept : (b : Bool) → is_kept kind.Integer (flag b) ≡ true
 flag_kept true = refl
 flag_kept false = refl
 

@@ -40,7 +40,7 @@ pub fn characters<'a>(bytes: &'a [u8]) -> ValueRef<'a>
 }
 
 /// Gives a flag as a parameter: 1 or 0.
-pub(crate) fn switch<'a>(is_set: bool) -> ValueRef<'a>
+pub fn switch<'a>(is_set: bool) -> ValueRef<'a>
     ensures { bound_value (owned result) ≡ flag is_set }
 {
     if is_set {
@@ -71,7 +71,7 @@ pub(crate) fn direction<'a>(direction: Direction) -> ValueRef<'a>
 }
 
 /// Gives the cause of a line as a parameter.
-pub(crate) fn cause<'a>(cause: Cause) -> ValueRef<'a>
+pub fn cause<'a>(cause: Cause) -> ValueRef<'a>
     ensures { bound_value (owned result) ≡ Text (cause_text cause) }
 {
     match cause {
@@ -81,7 +81,7 @@ pub(crate) fn cause<'a>(cause: Cause) -> ValueRef<'a>
 }
 
 /// Gives the reason of an item in suspense as a parameter.
-pub(crate) fn reason<'a>(reason: SuspenseReason) -> ValueRef<'a>
+pub fn reason<'a>(reason: SuspenseReason) -> ValueRef<'a>
     ensures { bound_value (owned result) ≡ Text (reason_text reason) }
 {
     match reason {
@@ -103,7 +103,7 @@ pub(crate) fn optional_text<'a, const N: usize>(text: &'a Option<ShortText<N>>) 
 }
 
 /// Gives a reference as a parameter, NULL where there is none.
-pub(crate) fn optional_reference<'a>(reference: &'a Option<Ref>) -> ValueRef<'a>
+pub fn optional_reference<'a>(reference: &'a Option<Ref>) -> ValueRef<'a>
     ensures { bound_value (owned result) ≡ or_null Text reference.now }
 {
     match reference {

@@ -4,21 +4,27 @@ use Rattle.sqlite_value.specs.declared.value.Value.TheVariants.{Text}
 use Rattle.sql_statements.proofs.Conditions.{text_is}
 use Rattle.sql_statements.specs.Statements.{column_is, at_least, at_most, columns}
 use Rattle.desk_records.specs.Columns.{number}
+use Rattle.desk_records.specs.CutTables.{is_entry_row}
 use Rattle.desk_records.specs.QueryRows.{numbered_entry_row, placed_entry_row}
 use Rattle.desk_records.specs.Selected.{numbered_of, placed_of}
-use Rattle.desk_records.specs.TableReads.{is_entry_of, entries_in, is_at_place, entry_at_place, place_in, is_between, places_between}
+use Rattle.desk_records.specs.TableReads.{is_entry_of, entries_in, entry_at, is_at_place, entry_at_place, place_in, is_between, places_between}
 use Rattle.std.specs.Prelude.{◌==◌}
-use Rattle.desk_queries.proofs.Conditions.{one, two, number_is, number_least, number_most, number_if_any_is}
+use Rattle.desk_queries.proofs.Conditions.{one, two, three, number_is, number_least, number_most, number_if_any_is}
 use Rattle.desk_queries.proofs.Listings.{entries, numbers}
 use Rattle.desk_queries.proofs.Selects.{all_selected, first_selected}
-use Rattle.desk_queries.proofs.Texts.{places, entries_is, sent_entry_is, place_is, places_is}
+use Rattle.desk_queries.proofs.Texts.{places, entries_is, entry_is, sent_entry_is, place_is, places_is}
 use Rattle.desk_queries.specs.Shows.{ShowsAll, ShowsFirst}
-use Rattle.desk_queries.specs.Texts.{entries_text, sent_entry_text, place_text, places_text}
+use Rattle.desk_queries.specs.Texts.{entries_text, entry_text, sent_entry_text, place_text, places_text}
 
 pub entries_shown : (c : List ℕ) (order : ℕ) → ShowsAll entries_text (Text c ∷ number order ∷ []) numbered_entry_row (entries_in c order)
 entries_shown c order =
     all_selected entries entries_text (column_is 1 0 ∷ column_is 2 1 ∷ []) (places (3 ∷ 4 ∷ 5 ∷ 6 ∷ 7 ∷ 8 ∷ 9 ∷ 10 ∷ 11 ∷ [])) (Text c ∷ number order ∷ []) (is_entry_of c order) numbered_of numbered_entry_row
     entries_is (λ i e. two (text_is e.company c) (number_is e.order order)) (λ i e. refl)
+
+pub entry_shown : (c : List ℕ) (order index : ℕ) → ShowsFirst entry_text (Text c ∷ number order ∷ number index ∷ []) numbered_entry_row (entry_at c order index)
+entry_shown c order index =
+    first_selected entries entry_text (column_is 1 0 ∷ column_is 2 1 ∷ column_is 3 2 ∷ []) (places (3 ∷ 4 ∷ 5 ∷ 6 ∷ 7 ∷ 8 ∷ 9 ∷ 10 ∷ 11 ∷ [])) (Text c ∷ number order ∷ number index ∷ []) (is_entry_row c order index) numbered_of numbered_entry_row
+    entry_is (λ i e. three (text_is e.company c) (number_is e.order order) (number_is e.index index)) (λ i e. refl)
 
 pub sent_entry_shown : (place : ℕ) → ShowsFirst sent_entry_text (number place ∷ []) placed_entry_row (entry_at_place place)
 sent_entry_shown place =

@@ -28,7 +28,7 @@ use Rattle.desk_queries.proofs.Texts.{places, last_order_is, last_number_is}
 use Rattle.desk_queries.specs.Shows.{ShowsFirst, ReadsFirst}
 use Rattle.desk_queries.specs.Texts.{last_order_text, last_number_text}
 
-backwards_is : {X : Type 0} (xs : List X) → backwards xs ≡ reverse xs
+pub backwards_is : {X : Type 0} (xs : List X) → backwards xs ≡ reverse xs
 backwards_is [] = refl
 backwards_is (x ∷ xs) = ap (λ l. l ++ x ∷ []) (backwards_is xs) ∙ sym (reverse_onto xs x [])
 

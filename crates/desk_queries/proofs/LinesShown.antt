@@ -45,7 +45,7 @@ taken_shown key =
     (first_selected taken taken_text (column_is 1 0 ∷ []) (columns 7) (Text key ∷ []) (has_key key) (λ f. f) taken_row taken_is (λ i f. one (text_is f.key key)) (λ i f. refl))
 
 -- an account has a text of its own
-accounts_are : (a b : Account) → bytes_eq (account_text a) (account_text b) ≡ same_account a b
+pub accounts_are : (a b : Account) → bytes_eq (account_text a) (account_text b) ≡ same_account a b
 accounts_are (accounts.Company x) (accounts.Company y) = refl
 accounts_are (accounts.Company x) accounts.Operator = refl
 accounts_are (accounts.Company x) accounts.Suspense = refl

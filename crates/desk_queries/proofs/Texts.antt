@@ -6,7 +6,7 @@ use Rattle.sqlite_sql.specs.declared.ops.BinaryOp.TheVariants.{And, Or}
 use Rattle.sqlite_tied.specs.Compute.{everything}
 use Rattle.sql_statements.specs.Statements.{IsSelect, query_from, query_within, column_is, number_is, null_at, at_least, at_most, by, falling, columns}
 use Rattle.desk_schema.specs.Schema.{desk_schema}
-use Rattle.desk_queries.specs.Texts.{identity_text, operator_key_text, day_text, company_text, companies_text, holidays_text, submissions_of_text, open_submissions_text, waiting_submissions_text, retries_text, submission_text, order_text, facts_text, last_order_text, authorization_text, entries_text, sent_entry_text, place_text, places_text, last_number_text, returns_text, return_text, return_lines_text, change_lines_text, suspense_text, postings_text, sums_text, sum_text, modifiers_text, file_text, taken_text}
+use Rattle.desk_queries.specs.Texts.{identity_text, operator_key_text, day_text, company_text, companies_text, holidays_text, submissions_of_text, open_submissions_text, waiting_submissions_text, retries_text, submission_text, order_text, facts_text, last_order_text, authorization_text, entries_text, entry_text, sent_entry_text, place_text, places_text, last_number_text, returns_text, return_text, return_lines_text, change_lines_text, suspense_text, postings_text, sums_text, sum_text, modifiers_text, file_text, taken_text}
 
 -- the columns at these places, from 1
 abbrev pub places : List ℕ → List Term
@@ -75,6 +75,10 @@ authorization_is = record { selects = refl; body = refl; alone = refl; unlisted 
 pub entries_is : IsSelect desk_schema entries_text (query_from 9 (column_is 1 0 ∷ column_is 2 1 ∷ []) (places (3 ∷ 4 ∷ 5 ∷ 6 ∷ 7 ∷ 8 ∷ 9 ∷ 10 ∷ 11 ∷ [])) (by 1 ∷ by 2 ∷ by 3 ∷ []))
 unfolding understood everything
 entries_is = record { selects = refl; body = refl; alone = refl; unlisted = refl; plain = (refl, refl) }
+
+pub entry_is : IsSelect desk_schema entry_text (query_from 9 (column_is 1 0 ∷ column_is 2 1 ∷ column_is 3 2 ∷ []) (places (3 ∷ 4 ∷ 5 ∷ 6 ∷ 7 ∷ 8 ∷ 9 ∷ 10 ∷ 11 ∷ [])) (by 1 ∷ by 2 ∷ by 3 ∷ []))
+unfolding understood everything
+entry_is = record { selects = refl; body = refl; alone = refl; unlisted = refl; plain = (refl, refl) }
 
 pub sent_entry_is : IsSelect desk_schema sent_entry_text (query_from 9 (column_is 12 0 ∷ []) (columns 11) (by 1 ∷ by 2 ∷ by 3 ∷ []))
 unfolding understood everything

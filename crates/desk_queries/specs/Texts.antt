@@ -55,6 +55,9 @@ authorization_text = codes "SELECT day FROM authorizations WHERE company = ?1 AN
 abbrev pub entries_text : List ℕ
 entries_text = codes "SELECT idx, routing, account, savings, prenote, cents, ident, name, info FROM entries WHERE company = ?1 AND ord = ?2 ORDER BY company, ord, idx"
 
+abbrev pub entry_text : List ℕ
+entry_text = codes "SELECT idx, routing, account, savings, prenote, cents, ident, name, info FROM entries WHERE company = ?1 AND ord = ?2 AND idx = ?3 ORDER BY company, ord, idx"
+
 abbrev pub sent_entry_text : List ℕ
 sent_entry_text = codes "SELECT company, ord, idx, routing, account, savings, prenote, cents, ident, name, info FROM entries WHERE seq = ?1 ORDER BY company, ord, idx"
 

@@ -5,7 +5,7 @@ ghost use Rattle.sqlite.specs.State.{HasCleanDisk, Survives};
 ghost use Rattle.sql_statements.specs.Queries.{Stays};
 ghost use Rattle.sql_transactions.specs.Findings.{Finds};
 ghost use Rattle.desk_records.specs.Layout.{desk_layout};
-ghost use Rattle.desk_records.specs.TableReads.{entries_in, entry_at_place, place_in, places_between, IsLastNumber};
+ghost use Rattle.desk_records.specs.TableReads.{entries_in, entry_at, entry_at_place, place_in, places_between, IsLastNumber};
 
 use crate::parameter::{count, name};
 use crate::rows::{all_of, cell_of, column_of, first_of};
@@ -30,6 +30,24 @@ pub fn entries_of<S: Alter>(
         alloc,
         "SELECT idx, routing, account, savings, prenote, cents, ident, name, info FROM entries WHERE company = ?1 AND ord = ?2 ORDER BY company, ord, idx",
         &[name(company.bytes()), count(order)?],
+    )
+}
+
+/// Finds the entry with a number in the submission with a number in its company.
+pub fn entry<S: Alter>(
+    conn: &mut Connection<S>,
+    company: Id,
+    order: u64,
+    index: u64,
+) -> Result<Option<NumberedEntry>, Error>
+    ensures answer { HasCleanDisk (state S.Store conn.new) → IfOk result (λ found. Finds desk_layout (λ t. found ≡ entry_at company order index t) (state S.Store conn.old)) }
+    ensures stays { HasCleanDisk (state S.Store conn.new) → Stays (state S.Store conn.old) (state S.Store conn.new) }
+    ensures survives { Survives (state S.Store conn.old) (state S.Store conn.new) (λ _. ⊥) }
+{
+    first_of(
+        conn,
+        "SELECT idx, routing, account, savings, prenote, cents, ident, name, info FROM entries WHERE company = ?1 AND ord = ?2 AND idx = ?3 ORDER BY company, ord, idx",
+        &[name(company.bytes()), count(order)?, count(index)?],
     )
 }
 

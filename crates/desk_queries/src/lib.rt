@@ -14,7 +14,7 @@ mod registry;
 mod rows;
 mod submissions;
 
-pub use entries::{entries_of, last_number, place, places, sent_entry};
+pub use entries::{entries_of, entry, last_number, place, places, sent_entry};
 pub use files::{file_text, modifiers, taken_file};
 pub use items::{change_lines, entry_return, return_lines, returns, suspense};
 pub use lines::{postings, sum, sums};

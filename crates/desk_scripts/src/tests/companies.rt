@@ -1,6 +1,6 @@
 //! These scripts try companies, days, holidays, limits and submissions.
 use super::calls::COMPANY_DIGEST;
-use super::script::{BAKE, DAY, HOLIDAYS, MILL, OPERATOR_DIGEST, PAY_1, follow, holds, new_store};
+use super::script::{BAKE, DAY, HOLIDAYS, MILL, OPERATOR_DIGEST, PAY_1, follow, holds, new_lists};
 use ach_fields::Id;
 use desk_core::{Caller, Desk};
 use std::test::Fail;
@@ -155,7 +155,7 @@ fn no_day_was_set(rt: HostRuntime) {
 // The operator and registered companies are known by their own keys.
 #[test]
 fn who_may_call(rt: HostRuntime) -> Result<(), Fail> {
-    let mut desk = Desk::new(new_store(&rt));
+    let mut desk = Desk::new(new_lists(&rt));
     assert!(rt; !follow(&rt, &mut desk, &[MILL]));
     let mill = Caller::Company(Id::new(b"MILL01").ok().expect(&rt, "a company"));
     let bake = Caller::Company(Id::new(b"BAKE01").ok().expect(&rt, "a company"));

@@ -1,5 +1,5 @@
 //! These scripts try the files that cuts make.
-use super::script::{DAY, HOLIDAYS, MILL, MOST_CALLS, PAY_1, PAY_2, follow, holds, new_store};
+use super::script::{DAY, HOLIDAYS, MILL, MOST_CALLS, PAY_1, PAY_2, follow, holds, new_lists};
 use desk_core::{Desk, FaultyStore, Store};
 use std::alloc::Global;
 use std::process::Abort;
@@ -108,7 +108,7 @@ fn files_of_a_day(rt: HostRuntime) {
         ("desk cut", "2025-01-09 sent 1 in [A], lapsed 0"),
     ];
     for call in 1..MOST_CALLS {
-        let mut desk = Desk::new(FaultyStore::new(new_store(&rt), call));
+        let mut desk = Desk::new(FaultyStore::new(new_lists(&rt), call));
         let asked_again = fill_day(&rt, &mut desk);
         if !follow(&rt, &mut desk, &end) && !asked_again {
             return;

@@ -1,5 +1,5 @@
-//! Worked scripts are calls with their answers, over lists in memory, and with each call of the
-//! store refused in turn.
+//! Worked scripts are calls with their answers, over tables and over lists in memory, and with each
+//! call of the store refused in turn.
 mod answers;
 mod calls;
 mod companies;

@@ -1,8 +1,7 @@
 //! A store has sent entries here, before a script begins.
-use super::script::new_store;
 use ach_fields::{Id, Ref, Routing, ShortText};
 use bank_days::Day;
-use desk_core::{CutRows, FilePlace, ListStore, SentEntry, SentRow, Store};
+use desk_core::{CutRows, FilePlace, SentEntry, SentRow, Store};
 use desk_rules::{
     AccountKind, Company, Direction, Entries, Entry, EntryCents, Limits, RuleDay, SecCode,
     SizedSubmission, Submission,
@@ -43,7 +42,7 @@ fn entry(rt: &impl Abort) -> Entry {
 }
 
 // A company with a submission of so many entries.
-fn put_submission(rt: &(impl Abort + Alloc<A = Global>), store: &mut ListStore, count: usize) {
+fn put_submission<S: Store>(rt: &(impl Abort + Alloc<A = Global>), store: &mut S, count: usize) {
     let registered = Company {
         id: company(rt),
         name: short_text(rt, b"BAKERY"),
@@ -106,11 +105,14 @@ fn sent_entry(rt: &impl Abort, index: u64, sequence: u32) -> SentEntry {
     }
 }
 
-/// Makes a store of the sample bank that has sent a submission. Its entries of 1.00 have these
-/// sequences, and settled on 2025-03-03.
-pub(super) fn store_after(rt: &(impl Abort + Alloc<A = Global>), sequences: &[u32]) -> ListStore {
-    let mut store = new_store(rt);
-    put_submission(rt, &mut store, sequences.len());
+/// Sends a submission from a new store of the sample bank. Its entries of 1.00 have these sequences, and
+/// settled on 2025-03-03.
+pub(super) fn put_old_cut<S: Store>(
+    rt: &(impl Abort + Alloc<A = Global>),
+    store: &mut S,
+    sequences: &[u32],
+) {
+    put_submission(rt, store, sequences.len());
     let mut entries = Vec::new(rt.alloc());
     for (before, sequence) in sequences.iter().enumerate() {
         entries
@@ -126,5 +128,4 @@ pub(super) fn store_after(rt: &(impl Abort + Alloc<A = Global>), sequences: &[u3
         files: &[],
     };
     store.commit_cut(rt.alloc(), &rows).ok().expect(rt, "a cut");
-    store
 }

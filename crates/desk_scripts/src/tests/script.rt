@@ -1,9 +1,11 @@
 //! Scripts of calls and answers are run here.
 use super::answers::words_of;
 use super::calls::call_of;
-use super::old_cut::store_after;
+use super::old_cut::put_old_cut;
 use ach_fields::{Routing, ShortText};
 use desk_core::{Desk, FaultyStore, Identity, ListStore, Store};
+use desk_tables::SqlStore;
+use sqlite::MemStore;
 use std::alloc::Global;
 use std::process::Abort;
 
@@ -46,15 +48,25 @@ fn routing(rt: &impl Abort, text: &[u8]) -> Routing {
     Routing::parse(text).ok().expect(rt, "a routing number")
 }
 
-/// Makes a new store of the sample bank.
-pub(super) fn new_store(rt: &(impl Abort + Alloc<A = Global>)) -> ListStore {
-    let identity = Identity {
+fn identity(rt: &impl Abort) -> Identity {
+    Identity {
         odfi: routing(rt, b"121042882"),
         odfi_name: name(rt, b"OUR BANK"),
         destination: routing(rt, b"061000146"),
         destination_name: name(rt, b"ACH OPERATOR"),
-    };
-    ListStore::new(rt.alloc(), identity, OPERATOR_DIGEST)
+    }
+}
+
+/// Makes a new store of the sample bank, in lists.
+pub(super) fn new_lists(rt: &(impl Abort + Alloc<A = Global>)) -> ListStore {
+    ListStore::new(rt.alloc(), identity(rt), OPERATOR_DIGEST)
+}
+
+// A new store of the sample bank, in tables.
+fn new_tables(rt: &(impl Abort + Alloc<A = Global>)) -> SqlStore<MemStore> {
+    SqlStore::in_memory(rt.alloc(), identity(rt), OPERATOR_DIGEST)
+        .ok()
+        .expect(rt, "tables")
 }
 
 /// Each call of a script is answered as beside it. What the store could not act on is asked once more:
@@ -78,25 +90,36 @@ pub(super) fn follow<S: Store>(
     asked_again
 }
 
-// A store of the sample bank that has sent entries with these sequences; a new one where there are none.
-fn store_with(rt: &(impl Abort + Alloc<A = Global>), sequences: &[u32]) -> ListStore {
-    if sequences.is_empty() {
-        return new_store(rt);
+// The store, which has sent entries with these sequences; as it is where there are none.
+fn after<S: Store>(rt: &(impl Abort + Alloc<A = Global>), store: S, sequences: &[u32]) -> S {
+    let mut store = store;
+    if !sequences.is_empty() {
+        put_old_cut(rt, &mut store, sequences);
     }
-    store_after(rt, sequences)
+    store
 }
 
-/// Runs a script over lists, and with each call of the store refused in turn, until none is; the
-/// store has sent entries with these sequences before.
+// Runs a script over a store that refuses nothing.
+fn follow_once<S: Store + Drop>(
+    rt: &(impl Abort + Alloc<A = Global>),
+    store: S,
+    script: &[(&str, &str)],
+) {
+    assert!(rt; !follow(rt, &mut Desk::new(store), script));
+}
+
+/// Runs a script over tables and over lists, and with each call of the store refused in turn, until
+/// none is; the store has sent entries with these sequences before.
 pub(super) fn holds_after(
     rt: &(impl Abort + Alloc<A = Global>),
     sequences: &[u32],
     script: &[(&str, &str)],
 ) {
-    assert!(rt; !follow(rt, &mut Desk::new(store_with(rt, sequences)), script));
+    follow_once(rt, after(rt, new_tables(rt), sequences), script);
+    follow_once(rt, after(rt, new_lists(rt), sequences), script);
     for call in 1..MOST_CALLS {
-        let mut desk = Desk::new(FaultyStore::new(store_with(rt, sequences), call));
-        if !follow(rt, &mut desk, script) {
+        let store = FaultyStore::new(after(rt, new_lists(rt), sequences), call);
+        if !follow(rt, &mut Desk::new(store), script) {
             return;
         }
     }

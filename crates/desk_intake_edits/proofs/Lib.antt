@@ -1,0 +1,5 @@
+mod ChangeInserts
+mod NamedSubmissions
+mod ReturnInserts
+mod SuspenseInserts
+mod TakenInserts

@@ -1,0 +1,2 @@
+pub mod RowEdits
+pub mod Texts

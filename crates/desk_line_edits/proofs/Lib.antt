@@ -1,0 +1,5 @@
+mod BalanceUpserts
+mod LastNumbers
+mod LineSums
+pub mod Numbered
+mod PostingInserts

@@ -1,0 +1,3 @@
+pub mod LineEdits
+pub mod Numbering
+pub mod Texts

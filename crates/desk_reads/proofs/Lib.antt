@@ -1,0 +1,5 @@
+pub mod HeldRows
+pub mod Joined
+pub mod ListReads
+pub mod TracesOfBank
+pub mod WholeRows

@@ -1,0 +1,23 @@
+use Rattle.std.proofs.Common.{◌∙◌, ap, List, map}
+use Rattle.std.specs.List.{flat_map}
+use Rattle.desk_book.specs.declared.held_submission.HeldSubmission.{HeldSubmission}
+use Rattle.desk_rules.specs.declared.bodies.company.Company.{Company}
+use Rattle.desk_read_laws.specs.Composed.{held_in}
+use Rattle.desk_records.specs.TableReads.{rows_in, is_waiting_of}
+use Rattle.desk_records.specs.Tables.{Tables}
+use Rattle.desk_reads.proofs.Joined.{query, learnt, both, answered}
+use Rattle.desk_reads.proofs.ListReads.{flat_map_same}
+use Rattle.desk_reads.proofs.held.waiting.Goals as goal
+
+-- those of one company
+abbrev held : Tables → Company → List HeldSubmission
+held t k = map (held_in k t) (rows_in (is_waiting_of k.id) t)
+
+pub returns : goal.returns
+returns g c =
+    let companies = query (rw c.in_ok-companies.ensures at c.companies.ensures.answer) c.companies.ensures.stays c.companies.ensures.survives in
+    answered (both companies (learnt c.read_each.ensures c.in_ok-lists.was))
+    (λ t told.
+    c.in_ok-all.ensures
+    ∙ flat_map_same (λ list. list.items) (held t) c.in_ok-lists.lists.items c.in_ok-companies.companies.items (rw c.deref.ensures.value at told.1)
+    ∙ ap (flat_map (held t)) told.0)

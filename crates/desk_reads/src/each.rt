@@ -1,0 +1,50 @@
+//! A read does the same for each item of a list.
+ghost use Rattle.std.specs.Prelude.{◌≡◌, map};
+ghost use Rattle.sqlite.specs.Held.{state};
+ghost use Rattle.desk_records.specs.Tables.{Tables};
+ghost use Rattle.desk_reads.specs.Answers.{Learns};
+
+use desk_store::StoreFault;
+use sqlite::{Alter, Connection};
+use std::alloc::Global;
+
+/// An `ItemRead` reads what belongs to an item of a list.
+pub(crate) trait ItemRead {
+    type Item;
+
+    type Found: Drop;
+
+    /// Is what clauses see of what is found.
+    ghost Shown: { Type 0 };
+
+    /// Shows what is found.
+    ghost shown: { Self.Found → Shown };
+
+    /// Says what the tables have for an item.
+    ghost value: { Self → Tables → Self.Item → Shown };
+
+    /// Reads what belongs to an item.
+    fn read_item<S: Alter>(
+        &self,
+        conn: &mut Connection<S>,
+        alloc: Global,
+        item: &Self::Item,
+    ) -> Result<Self::Found, StoreFault>
+        ensures { Learns (λ found t. shown found ≡ value self.now t item.now) result (state S.Store conn.old) (state S.Store conn.new) };
+}
+
+/// Reads what belongs to each item of a list, in its order.
+pub(crate) fn read_each<S: Alter, R: ItemRead>(
+    conn: &mut Connection<S>,
+    alloc: Global,
+    read: &R,
+    items: &[R::Item],
+) -> Result<Vec<R::Found>, StoreFault>
+    ensures { Learns (λ found t. map R.ItemRead.shown found.items ≡ map (R.ItemRead.value read.now t) items.now) result (state S.Store conn.old) (state S.Store conn.new) }
+{
+    let mut all = Vec::new(alloc);
+    for item in items {
+        all.push(read.read_item(conn, alloc, item)?)?;
+    }
+    Ok(all)
+}

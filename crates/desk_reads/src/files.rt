@@ -1,0 +1,40 @@
+//! Files that were cut.
+ghost use Rattle.std.specs.Prelude.{◌≡◌, length};
+ghost use Rattle.sqlite.specs.Held.{state};
+ghost use Rattle.desk_records.specs.TableReads.{modifiers_in, text_in};
+ghost use Rattle.desk_reads.specs.Answers.{Answers};
+
+use crate::fault::or_unavailable;
+use bank_days::Day;
+use desk_history::ListOf;
+use desk_queries::{file_text, modifiers};
+use desk_store::StoreFault;
+use sqlite::{Alter, Connection};
+use std::alloc::Global;
+
+/// Says how many files a day has.
+pub fn files_on<S: Alter>(
+    conn: &mut Connection<S>,
+    alloc: Global,
+    day: Day,
+) -> Result<u64, StoreFault>
+    ensures { Answers (λ found t. found ≡ length (modifiers_in day t)) result (state S.Store conn.old) (state S.Store conn.new) }
+{
+    let modifiers = or_unavailable(modifiers(conn, alloc, day))?;
+    Ok(modifiers.len() as u64)
+}
+
+/// Finds the text of a file, by its day and modifier.
+pub fn file<S: Alter>(
+    conn: &mut Connection<S>,
+    alloc: Global,
+    day: Day,
+    modifier: u8,
+) -> Result<Option<ListOf<u8>>, StoreFault>
+    ensures { Answers (λ found t. found ≡ text_in day modifier t) result (state S.Store conn.old) (state S.Store conn.new) }
+{
+    match or_unavailable(file_text(conn, alloc, day, modifier))? {
+        Some(text) => Ok(Some(ListOf::new(text))),
+        None => Ok(None),
+    }
+}

@@ -1,0 +1,122 @@
+//! Submissions that wait for a cut.
+ghost use Rattle.std.specs.Prelude.{◌≡◌, List, map, IfOk};
+ghost use Rattle.std.specs.List.{flat_map};
+ghost use Rattle.sqlite.specs.Held.{state};
+ghost use Rattle.desk_book.specs.declared.held_submission.HeldSubmission.{HeldSubmission};
+ghost use Rattle.desk_read_laws.specs.Composed.{original_in, held_in, waiting_in};
+ghost use Rattle.desk_records.specs.TableReads.{whole_row, rows_in, is_waiting_of};
+ghost use Rattle.desk_reads.specs.Answers.{Answers, Learns};
+
+use crate::each::{ItemRead, read_each};
+use crate::fault::or_unavailable;
+use crate::rows::row;
+use ach_fields::Id;
+use desk_book::HeldSubmission;
+use desk_queries::{companies, order_and_settlement, waiting_submissions};
+use desk_records::SubmissionHead;
+use desk_rules::{Company, Retry, RuleDay};
+use desk_store::StoreFault;
+use sqlite::{Alter, Connection};
+use std::alloc::Global;
+
+// The day on which the original of a retry settled. Of a submission nothing is asked.
+fn original_of<S: Alter>(
+    conn: &mut Connection<S>,
+    company: Id,
+    retry: Option<Retry>,
+) -> Result<Option<RuleDay>, StoreFault>
+    ensures { Learns (λ found t. found ≡ original_in company retry t) result (state S.Store conn.old) (state S.Store conn.new) }
+{
+    match retry {
+        None => Ok(None),
+        Some(retry) => match or_unavailable(order_and_settlement(conn, company, retry.of))? {
+            Some(original) => Ok(original.settled),
+            None => Ok(None),
+        },
+    }
+}
+
+// The held submissions of a company, of which the heads are known.
+#[derive(Clone, Copy)]
+struct HeldSubmissions {
+    company: Company,
+}
+
+impl ItemRead for HeldSubmissions {
+    type Item = SubmissionHead;
+
+    type Found = HeldSubmission;
+
+    ghost Shown = { HeldSubmission };
+
+    ghost shown = { λ held. held };
+
+    ghost value = { λ held t head. held_in held.company t (whole_row t head) };
+
+    fn read_item<S: Alter>(
+        &self,
+        conn: &mut Connection<S>,
+        alloc: Global,
+        head: &SubmissionHead,
+    ) -> Result<HeldSubmission, StoreFault> {
+        let row = row(conn, alloc, head)?;
+        let original_settled = original_of(conn, self.company.id, row.retry)?;
+        Ok(HeldSubmission {
+            company: self.company,
+            row,
+            original_settled,
+        })
+    }
+}
+
+// The held submissions of each company of a list.
+#[derive(Clone, Copy)]
+struct HeldByCompany;
+
+impl ItemRead for HeldByCompany {
+    type Item = Company;
+
+    type Found = Vec<HeldSubmission>;
+
+    ghost Shown = { List HeldSubmission };
+
+    ghost shown = { λ found. found.items };
+
+    ghost value = { λ _ t company. map (held_in company t) (rows_in (is_waiting_of company.id) t) };
+
+    fn read_item<S: Alter>(
+        &self,
+        conn: &mut Connection<S>,
+        alloc: Global,
+        company: &Company,
+    ) -> Result<Vec<HeldSubmission>, StoreFault> {
+        let heads = or_unavailable(waiting_submissions(conn, alloc, company.id))?;
+        let held = HeldSubmissions { company: *company };
+        let found = read_each(conn, alloc, &held, &heads)?;
+        Ok(found)
+    }
+}
+
+// Lists one after another, in one.
+fn joined(alloc: Global, lists: Vec<Vec<HeldSubmission>>) -> Result<Vec<HeldSubmission>, StoreFault>
+    ensures { IfOk result (λ all. all.items ≡ flat_map (λ list. list.items) lists.items) }
+{
+    let mut all = Vec::new(alloc);
+    for mut list in lists {
+        all.append(&mut list)?;
+    }
+    Ok(all)
+}
+
+/// Reads the held submissions of all companies, by identification and then by order number.
+pub fn waiting<S: Alter>(
+    conn: &mut Connection<S>,
+    alloc: Global,
+) -> Result<Vec<HeldSubmission>, StoreFault>
+    ensures { Answers (λ found t. found.items ≡ waiting_in t) result (state S.Store conn.old) (state S.Store conn.new) }
+{
+    let companies = or_unavailable(companies(conn, alloc))?;
+    let lists = read_each(conn, alloc, &HeldByCompany, &companies)?;
+    let all = joined(alloc, lists)?;
+    Ok(all)
+}

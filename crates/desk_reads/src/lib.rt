@@ -1,0 +1,30 @@
+//! This crate reads the tables of a desk where a read takes several queries, outside of a transaction.
+//!
+//! Each read finds what `Composed` of `desk_read_laws` says of the tables as they were at its first
+//! query. Whatever goes wrong, the store could not act: `StoreFault::Unavailable`.
+#![tactic(auto)]
+
+mod balances;
+mod each;
+mod fault;
+mod files;
+mod held;
+mod items;
+mod key;
+mod latest;
+mod open_row;
+mod rows;
+mod sent;
+mod state;
+
+pub use balances::balances_of;
+pub use fault::or_unavailable;
+pub use files::{file, files_on};
+pub use held::waiting;
+pub use items::items_of;
+pub use key::key_of;
+pub use latest::latest_settled;
+pub use open_row::open_rows;
+pub use rows::{entries_of, retries_of, submission};
+pub use sent::sent_as;
+pub use state::state_of;

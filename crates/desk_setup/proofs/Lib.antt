@@ -1,0 +1,8 @@
+pub mod DeskChecks
+pub mod DeskPlain
+pub mod DeskRows
+pub mod FreeNames
+pub mod Memory
+pub mod NewDesks
+pub mod Plain
+pub mod VersionShown

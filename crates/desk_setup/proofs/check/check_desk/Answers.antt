@@ -1,0 +1,14 @@
+use Rattle.std.proofs.Common.{rules, ◌≡◌, false, IsTrue}
+use Rattle.std.proofs.lemmas.Result.{on_ok_weaker}
+use Rattle.sqlite.specs.Held.{state}
+use Rattle.desk_setup.proofs.DeskChecks.{is_desk}
+use Rattle.desk_setup.proofs.check.check_desk.Goals as goal
+
+pub returns-clause-checked : goal.returns-clause-checked
+returns-clause-checked g c clean =
+    let old = state g.S.Store c.args.conn.now in
+    let value = c.is_autocommit.ensures.value in
+    let left = c.if-not-is_autocommit.false in
+    let autocommit : old.in_transaction ≡ false = search rules in
+    let is : IsTrue c.is_autocommit.result = search rules in
+    on_ok_weaker c.check_tables.result (is_desk old (state g.S.Store c.check_tables.new.conn) autocommit (c.is_autocommit.ensures.settled is)) (c.check_tables.ensures.checked clean)

@@ -1,0 +1,4 @@
+pub mod Checked
+pub mod Plain
+pub mod Setup
+pub mod Versions

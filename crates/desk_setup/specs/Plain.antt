@@ -1,0 +1,30 @@
+-- Tables that have nothing but columns and keys.
+use Rattle.std.specs.Prelude.{◌≡◌, [], None}
+use Rattle.std.specs.List.{AllByRecursion}
+use Rattle.sqlite_schema.specs.declared.schema.Column.{Column}
+use Rattle.sqlite_schema.specs.declared.schema.Schema.{Schema}
+use Rattle.sqlite_schema.specs.declared.schema.Stamps.{Stamps}
+use Rattle.sqlite_schema.specs.declared.schema.Table.{Table}
+use Rattle.sqlite_value.specs.declared.value.Value.TheVariants.{Null}
+
+-- its default is NULL
+abbrev pub IsPlainColumn : Column → Type 0
+IsPlainColumn c = c.default ≡ Null
+
+-- no default reads the time
+abbrev pub no_stamps : Stamps
+no_stamps = record { places = []; terms = []; formats = [] }
+
+-- there is no INTEGER PRIMARY KEY, no CHECK, no reference, and no default
+pub record IsPlainTable (t : Table) : Type 0 where
+  pub columns : AllByRecursion IsPlainColumn t.columns
+  pub key : t.key ≡ None
+  pub checks : t.checks ≡ []
+  pub references : t.references ≡ []
+  pub computed : t.computed ≡ []
+  pub stamps : t.stamps ≡ no_stamps
+
+-- there is no view, and each table is such a one
+pub record IsPlainSchema (s : Schema) : Type 0 where
+  pub tables : AllByRecursion IsPlainTable s.tables
+  pub views : s.views ≡ []

@@ -1,0 +1,4 @@
+pub mod Cutting
+pub mod Days
+pub mod Reading
+pub mod Writing
