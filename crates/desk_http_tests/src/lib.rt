@@ -1,5 +1,5 @@
-//! Worked sessions with a desk: messages with the bytes that must answer them, over lists and with each
-//! call of the store refused.
+//! Worked sessions with a desk: messages with the bytes that must answer them, over lists, over tables,
+//! and with each call of the store refused.
 //!
 //! They have a crate of their own so that the desk is not proved once more beside them. Nothing but its
 //! tests stands here.

@@ -1,5 +1,5 @@
 //! This crate makes the tables of a new desk on a connection, and tells whether a connection has a
-//! desk's tables.
+//! desk's tables. What it compares schemas with serves other versions of the tables too.
 #![tactic(auto)]
 
 mod blank;
@@ -13,3 +13,5 @@ mod version;
 pub use check::check_desk;
 pub use fault::OpenFault;
 pub use new_desk::make_desk;
+pub use pattern::empty_tables;
+pub use same::{are_same_indexes, are_same_tables, is_same_first_table};

@@ -9,7 +9,7 @@ use sqlite::{Connection, Error, MemStore};
 use std::alloc::Global;
 
 /// Gives a connection in memory that has a desk's tables, with no rows.
-pub(crate) fn empty_tables(alloc: Global) -> Result<Connection<MemStore>, Error>
+pub fn empty_tables(alloc: Global) -> Result<Connection<MemStore>, Error>
     ensures { IfOk result (λ c. (state over_memory c).now.schema ≡ desk_schema) }
 {
     let mut conn = Connection::open_in_memory(alloc)?;

@@ -98,9 +98,9 @@ fn are_same_keys(these: &[Items<usize>], others: &[Items<usize>]) -> bool
     are_same(these, others)
 }
 
-// Are the indexes the same?
+/// Are the indexes the same?
 #[tactic(auto, using(crate::proofs::Plain::all_plain))]
-fn are_same_indexes(these: &[Index], others: &[Index]) -> bool
+pub fn are_same_indexes(these: &[Index], others: &[Index]) -> bool
     ensures { IsTrue result ↔ (these.now ≡ others.now) }
 {
     are_same(these, others)
@@ -159,21 +159,29 @@ impl Same for Index {
     }
 }
 
+/// Are the tables the same, each to each, and plain ones?
+pub fn are_same_tables(these: &[Table], others: &[Table]) -> bool
+    ensures told { IsTrue result → these.now ≡ others.now }
+    ensures found { AllByRecursion IsPlainTable these.now → these.now ≡ others.now → IsTrue result }
+{
+    are_same(these, others)
+}
+
 /// Are the two schemas the same, and of plain tables and indexes alone?
 pub(crate) fn is_same_schema(this: &Schema, other: &Schema) -> bool
     ensures told { IsTrue result → this.now ≡ other.now }
     ensures found { IsPlainSchema this.now → this.now ≡ other.now → IsTrue result }
 {
-    are_same(this.tables.as_slice(), other.tables.as_slice())
+    are_same_tables(this.tables.as_slice(), other.tables.as_slice())
         && are_same_indexes(this.indexes.as_slice(), other.indexes.as_slice())
         && this.views.is_empty()
         && other.views.is_empty()
 }
 
 /// Is the first table the same in both schemas, and a plain one?
-pub(crate) fn is_same_first_table(this: &Schema, other: &Schema) -> bool
+pub fn is_same_first_table(this: &Schema, other: &Schema) -> bool
     ensures told { IsTrue result → slice_get this.now.tables 0 ≡ slice_get other.now.tables 0 }
-    ensures found { IsPlainSchema this.now → this.now.tables ≢ [] → this.now ≡ other.now → IsTrue result }
+    ensures found { IsPlainSchema this.now → this.now.tables ≢ [] → slice_get this.now.tables 0 ≡ slice_get other.now.tables 0 → IsTrue result }
 {
     match (this.tables.as_slice(), other.tables.as_slice()) {
         ([this, ..], [other, ..]) => this.is_same(other),

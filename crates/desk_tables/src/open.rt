@@ -26,6 +26,7 @@ impl<S: Alter + Drop> SqlStore<S> {
         operator_key: [u8; 32],
     ) -> Result<SqlStore<S>, OpenFault>
         ensures created { IfOk result (λ s. HasCleanDisk (state S.Store s.conn) → HasNewDesk identity operator_key (state S.Store conn) (state S.Store s.conn)) }
+        ensures before { IfOk result (λ s. HasCleanDisk (state S.Store s.conn) → HasCleanDisk (state S.Store conn)) }
         ensures exists { result ≡ Err OpenFault.Exists → HasDesk (state S.Store conn).now.schema }
         ensures otherwise { IfErr result (λ fault. (fault ≡ OpenFault.Exists) ⊎ (fault ≡ OpenFault.Unavailable)) }
     {
@@ -39,12 +40,20 @@ impl<S: Alter + Drop> SqlStore<S> {
     /// Tables of another version are `OpenFault::WrongVersion`, and other tables, or none,
     /// `OpenFault::NotADesk`. A connection that is inside a transaction is `OpenFault::Unavailable`.
     pub fn adopt(alloc: Global, conn: Connection<S>) -> Result<SqlStore<S>, OpenFault>
+        ensures before { IfOk result (λ s. HasCleanDisk (state S.Store s.conn) → HasCleanDisk (state S.Store conn)) }
         ensures adopted { IfOk result (λ s. HasCleanDisk (state S.Store s.conn) → IsDesk (state S.Store conn) (state S.Store s.conn)) }
         ensures otherwise { IfErr result (λ fault. fault ≢ OpenFault.Exists) }
     {
         let mut conn = conn;
         check_desk(alloc, &mut conn)?;
         Ok(SqlStore { conn })
+    }
+
+    /// Gives the connection back, so that its file may be closed.
+    pub fn into_connection(self) -> Connection<S>
+        ensures { result ≡ self.conn }
+    {
+        self.conn
     }
 }
 

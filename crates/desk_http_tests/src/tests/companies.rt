@@ -1,8 +1,8 @@
 //! What companies ask and are told.
-use super::exchanges::{follow, http_desk};
+use super::exchanges::holds;
 use super::samples::{
     BAKE, DAY_8, DAY_9, DAY_14, HOLIDAYS, MILL, PAY_1, PAY_1_ACCEPTED, RETURN_1, SUBMIT_1,
-    SUBMIT_2, TAKEN, new_store,
+    SUBMIT_2, TAKEN,
 };
 
 const PAY_1_OF_150001: &str =
@@ -10,10 +10,8 @@ const PAY_1_OF_150001: &str =
 
 #[test]
 fn a_submission_is_accepted_and_found(rt: HostRuntime) {
-    let mut desk = http_desk(&rt, new_store(&rt));
-    follow(
+    holds(
         &rt,
-        &mut desk,
         &[
             HOLIDAYS,
             MILL,
@@ -31,10 +29,8 @@ fn a_submission_is_accepted_and_found(rt: HostRuntime) {
 
 #[test]
 fn a_submission_that_comes_again_is_answered_as_before(rt: HostRuntime) {
-    let mut desk = http_desk(&rt, new_store(&rt));
-    follow(
+    holds(
         &rt,
-        &mut desk,
         &[
             HOLIDAYS,
             MILL,
@@ -59,10 +55,8 @@ fn a_submission_that_comes_again_is_answered_as_before(rt: HostRuntime) {
 
 #[test]
 fn each_company_has_its_own_references(rt: HostRuntime) {
-    let mut desk = http_desk(&rt, new_store(&rt));
-    follow(
+    holds(
         &rt,
-        &mut desk,
         &[
             HOLIDAYS,
             MILL,
@@ -93,10 +87,8 @@ fn each_company_has_its_own_references(rt: HostRuntime) {
 
 #[test]
 fn a_return_is_told_once(rt: HostRuntime) {
-    let mut desk = http_desk(&rt, new_store(&rt));
-    follow(
+    holds(
         &rt,
-        &mut desk,
         &[
             HOLIDAYS,
             MILL,

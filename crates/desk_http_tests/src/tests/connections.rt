@@ -1,6 +1,6 @@
 //! Connections to a desk.
 use super::exchanges::{follow, http_desk};
-use super::samples::{MILL, new_store};
+use super::samples::{MILL, new_lists};
 use desk_server::{ServeFault, serve};
 use std::alloc::Global;
 use std::io::{Read, Write};
@@ -15,7 +15,7 @@ const NO_DAY: &[u8] =
 
 #[test]
 fn a_connection_is_answered(rt: HostRuntime) {
-    let mut desk = http_desk(&rt, new_store(&rt));
+    let mut desk = http_desk(&rt, new_lists(&rt));
     follow(&rt, &mut desk, &[MILL]);
     let listener = TcpListener::bind(&rt, "127.0.0.1:0")
         .ok()
@@ -33,7 +33,7 @@ fn a_connection_is_answered(rt: HostRuntime) {
 
 #[test]
 fn a_client_that_goes_away_ends_its_own_connection(rt: HostRuntime) {
-    let mut desk = http_desk(&rt, new_store(&rt));
+    let mut desk = http_desk(&rt, new_lists(&rt));
     follow(&rt, &mut desk, &[MILL]);
     let listener = TcpListener::bind(&rt, "127.0.0.1:0")
         .ok()
@@ -59,7 +59,7 @@ fn a_client_that_goes_away_ends_its_own_connection(rt: HostRuntime) {
 
 #[test]
 fn what_cannot_be_accepted_ends_the_service(rt: HostRuntime) {
-    let mut desk = http_desk(&rt, new_store(&rt));
+    let mut desk = http_desk(&rt, new_lists(&rt));
     let listener = TcpListener::bind(&rt, "127.0.0.1:0")
         .ok()
         .expect(&rt, "a port");

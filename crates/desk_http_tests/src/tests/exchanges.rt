@@ -1,5 +1,5 @@
 //! Messages and answers as bytes, and sessions over them.
-use super::samples::Exchange;
+use super::samples::{Exchange, new_lists, new_tables};
 use desk_core::{Desk, Store};
 use desk_http::HttpDesk;
 use desk_routes::Routes;
@@ -106,4 +106,12 @@ pub(super) fn follow<S: Store>(
     }
     let out = run(rt, desk, &input);
     assert_eq!(rt; out.as_slice(), wanted.as_slice());
+}
+
+/// Does so over lists and over tables, each the store of a new desk of the sample bank.
+pub(super) fn holds(rt: &(impl Abort + Alloc<A = Global>), script: &[Exchange]) {
+    let mut over_lists = http_desk(rt, new_lists(rt));
+    follow(rt, &mut over_lists, script);
+    let mut over_tables = http_desk(rt, new_tables(rt));
+    follow(rt, &mut over_tables, script);
 }

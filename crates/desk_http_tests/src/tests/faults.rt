@@ -1,6 +1,6 @@
 //! Messages that make no call, and the order in which that is told.
-use super::exchanges::{follow, http_desk, run};
-use super::samples::{DAY_8, HOLIDAYS, MILL, PAY_1, PAY_1_ACCEPTED, new_store};
+use super::exchanges::{holds, http_desk, run};
+use super::samples::{DAY_8, HOLIDAYS, MILL, PAY_1, PAY_1_ACCEPTED, new_lists};
 use std::alloc::Global;
 use std::process::Abort;
 
@@ -8,10 +8,8 @@ const DENIED: &str = r#"{"error":"Denied"}"#;
 
 #[test]
 fn a_wrong_key_and_an_unknown_company_are_denied_alike(rt: HostRuntime) {
-    let mut desk = http_desk(&rt, new_store(&rt));
-    follow(
+    holds(
         &rt,
-        &mut desk,
         &[
             MILL,
             ("wrong-key GET /c/MILL01/rates", "", "403 Forbidden", DENIED),
@@ -32,10 +30,8 @@ fn a_wrong_key_and_an_unknown_company_are_denied_alike(rt: HostRuntime) {
 
 #[test]
 fn the_path_is_told_before_the_method_and_that_before_the_key(rt: HostRuntime) {
-    let mut desk = http_desk(&rt, new_store(&rt));
-    follow(
+    holds(
         &rt,
-        &mut desk,
         &[
             (
                 "wrong-key GET /nowhere",
@@ -74,10 +70,8 @@ fn the_path_is_told_before_the_method_and_that_before_the_key(rt: HostRuntime) {
 
 #[test]
 fn what_is_not_there_is_not_found(rt: HostRuntime) {
-    let mut desk = http_desk(&rt, new_store(&rt));
-    follow(
+    holds(
         &rt,
-        &mut desk,
         &[
             MILL,
             (
@@ -122,7 +116,7 @@ fn what_is_not_there_is_not_found(rt: HostRuntime) {
 
 // What a session with a new desk writes that reads these bytes.
 fn answer_to(rt: &(impl Abort + Alloc<A = Global>), input: &[u8]) -> Vec<u8> {
-    run(rt, &mut http_desk(rt, new_store(rt)), input)
+    run(rt, &mut http_desk(rt, new_lists(rt)), input)
 }
 
 #[test]
@@ -176,10 +170,8 @@ fn the_first_key_counts_and_its_name_has_no_case(rt: HostRuntime) {
 
 #[test]
 fn a_company_that_was_refused_may_come_again(rt: HostRuntime) {
-    let mut desk = http_desk(&rt, new_store(&rt));
-    follow(
+    holds(
         &rt,
-        &mut desk,
         &[
             HOLIDAYS,
             (

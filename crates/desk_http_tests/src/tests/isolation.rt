@@ -1,9 +1,10 @@
 //! A company gets the same bytes whatever others do, and from a desk that serves no one else.
 use super::exchanges::{add_request, follow, http_desk, run};
 use super::samples::{
-    BAKE, DAY_8, DAY_9, DAY_14, Exchange, HOLIDAYS, MILL, RETURN_1, SUBMIT_2, TAKEN, new_store,
+    BAKE, DAY_8, DAY_9, DAY_14, Exchange, HOLIDAYS, MILL, RETURN_1, SUBMIT_2, TAKEN, new_lists,
+    new_tables,
 };
-use desk_core::ListStore;
+use desk_core::Store;
 use desk_http::HttpDesk;
 use std::alloc::Global;
 use std::process::Abort;
@@ -92,8 +93,8 @@ fn has_cut(entries: &'static str) -> Exchange {
     ("desk POST /ops/cut", "", "200 OK", entries)
 }
 
-fn serve_alone(rt: &(impl Abort + Alloc<A = Global>)) -> HttpDesk<ListStore> {
-    let mut desk = http_desk(rt, new_store(rt));
+fn serve_alone<S: Store>(rt: &(impl Abort + Alloc<A = Global>), store: S) -> HttpDesk<S> {
+    let mut desk = http_desk(rt, store);
     let cut = has_cut(r#"{"day":"2025-01-09","entries":1,"files":["A"],"lapsed":0}"#);
     let returned = ("desk POST /ops/returns", RETURN_1, "200 OK", TAKEN);
     follow(
@@ -106,8 +107,8 @@ fn serve_alone(rt: &(impl Abort + Alloc<A = Global>)) -> HttpDesk<ListStore> {
     desk
 }
 
-fn serve_beside_another(rt: &(impl Abort + Alloc<A = Global>)) -> HttpDesk<ListStore> {
-    let mut desk = http_desk(rt, new_store(rt));
+fn serve_beside_another<S: Store>(rt: &(impl Abort + Alloc<A = Global>), store: S) -> HttpDesk<S> {
+    let mut desk = http_desk(rt, store);
     follow(rt, &mut desk, &[HOLIDAYS, MILL, BAKE, DAY_8, SUBMIT_2]);
     let mut input = Vec::new(rt.alloc());
     let body = debits(rt, 40);
@@ -127,6 +128,8 @@ fn serve_beside_another(rt: &(impl Abort + Alloc<A = Global>)) -> HttpDesk<ListS
 
 #[test]
 fn what_others_send_changes_no_byte(rt: HostRuntime) {
-    follow(&rt, &mut serve_alone(&rt), &AFTER);
-    follow(&rt, &mut serve_beside_another(&rt), &AFTER);
+    follow(&rt, &mut serve_alone(&rt, new_lists(&rt)), &AFTER);
+    follow(&rt, &mut serve_alone(&rt, new_tables(&rt)), &AFTER);
+    follow(&rt, &mut serve_beside_another(&rt, new_lists(&rt)), &AFTER);
+    follow(&rt, &mut serve_beside_another(&rt, new_tables(&rt)), &AFTER);
 }

@@ -1,6 +1,6 @@
 //! The days again, with each call of the store refused in turn.
 use super::exchanges::{UNAVAILABLE, add_request, add_response, http_desk, run};
-use super::samples::{Exchange, new_store};
+use super::samples::{Exchange, new_lists};
 use super::settlements::DAYS;
 use desk_core::{FaultyStore, Store};
 use desk_http::HttpDesk;
@@ -31,7 +31,7 @@ fn is_answered<S: Store>(
 
 // How many messages were answered 503, and then, sent again, as they have to be.
 fn refused_messages(rt: &(impl Abort + Alloc<A = Global>), call: u64) -> u64 {
-    let mut desk = http_desk(rt, FaultyStore::new(new_store(rt), call));
+    let mut desk = http_desk(rt, FaultyStore::new(new_lists(rt), call));
     let mut refused: u64 = 0;
     for exchange in DAYS.iter() {
         if !is_answered(rt, &mut desk, exchange) {

@@ -1,7 +1,9 @@
 //! The sample bank, its companies, their submissions, and files of returns.
 use ach_fields::{Routing, ShortText};
 use desk_core::{Identity, ListStore};
+use desk_tables::SqlStore;
 use sha2::{Digest, Sha256};
+use sqlite::MemStore;
 use std::alloc::Global;
 use std::process::Abort;
 
@@ -99,13 +101,23 @@ fn routing(rt: &impl Abort, text: &[u8]) -> Routing {
     Routing::parse(text).ok().expect(rt, "a routing number")
 }
 
-/// Makes a new store of the sample bank, whose operator has the key `operator-key`.
-pub(super) fn new_store(rt: &(impl Abort + Alloc<A = Global>)) -> ListStore {
-    let identity = Identity {
+fn identity(rt: &impl Abort) -> Identity {
+    Identity {
         odfi: routing(rt, b"121042882"),
         odfi_name: name(rt, b"OUR BANK"),
         destination: routing(rt, b"061000146"),
         destination_name: name(rt, b"ACH OPERATOR"),
-    };
-    ListStore::new(rt.alloc(), identity, Sha256::digest(b"operator-key"))
+    }
+}
+
+/// Makes a new store of the sample bank in lists, whose operator has the key `operator-key`.
+pub(super) fn new_lists(rt: &(impl Abort + Alloc<A = Global>)) -> ListStore {
+    ListStore::new(rt.alloc(), identity(rt), Sha256::digest(b"operator-key"))
+}
+
+/// Makes the same store in tables.
+pub(super) fn new_tables(rt: &(impl Abort + Alloc<A = Global>)) -> SqlStore<MemStore> {
+    SqlStore::in_memory(rt.alloc(), identity(rt), Sha256::digest(b"operator-key"))
+        .ok()
+        .expect(rt, "tables")
 }

@@ -1,8 +1,6 @@
 //! A bank's days: what was cut, what came back, and the accounts.
-use super::exchanges::{follow, http_desk};
-use super::samples::{
-    DAY_8, DAY_9, DAY_14, Exchange, HOLIDAYS, MILL, PAY_2, SUBMIT_1, TAKEN, new_store,
-};
+use super::exchanges::holds;
+use super::samples::{DAY_8, DAY_9, DAY_14, Exchange, HOLIDAYS, MILL, PAY_2, SUBMIT_1, TAKEN};
 
 /// The return of the second entry that the desk sent.
 const RETURN_2: &str = concat!(
@@ -76,5 +74,5 @@ pub(super) const DAYS: [Exchange; 13] = [
 
 #[test]
 fn what_was_sent_and_came_back_is_in_the_accounts(rt: HostRuntime) {
-    follow(&rt, &mut http_desk(&rt, new_store(&rt)), &DAYS);
+    holds(&rt, &DAYS);
 }

@@ -1,0 +1,8 @@
+use Rattle.sqlite_wal.specs.Files.{image_at}
+use Rattle.desk_files.proofs.Openings.{made_in}
+use Rattle.desk_files.proofs.new_file.create.Goals as goal
+
+pub returns-clause-created : goal.returns-clause-created
+returns-clause-created g c =
+    let was = c.in_ok-conn.ensures in
+    made_in (image_at g.S.Start) c.in_ok-conn.conn was.opened was.found (λ s. s.conn) c.args.identity c.args.operator_key c.create_on.result c.create_on.ensures.before c.create_on.ensures.created

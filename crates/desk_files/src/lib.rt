@@ -1,0 +1,15 @@
+//! This crate makes a desk's database file, and opens one, by its path.
+//!
+//! A database file `PATH` has its log beside it, in `PATH-wal`: what was written last may stand there
+//! alone, so the two are kept together.
+#![tactic(auto)]
+
+mod connect;
+mod found_file;
+mod new_file;
+mod presence;
+
+pub use desk_tables::{OpenFault, SqlStore};
+pub use found_file::open;
+pub use new_file::create;
+pub use sqlite::{FileFrom, FileStore, Start, Unknown, Wary};
