@@ -1,0 +1,5 @@
+mod bank;
+mod commands;
+mod damage;
+mod paths;
+mod tables;
