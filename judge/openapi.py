@@ -1,0 +1,308 @@
+#!/usr/bin/env python3
+"""Sends every example of docs/openapi.yaml to the desk: `python3 judge/openapi.py [PROGRAM..]`.
+
+`PROGRAM stdio`, which is ./achdesk where none is given, answers each script of the page with a new desk, and each
+answer has to be that of the page, to the byte. Its paths have to be those of the routes in crates/desk_routes,
+and its refusals and faults those of docs/BODIES.md, each with an example that is sent or with the reason why none
+can be. Then the schemas are judged: a body is a bad field to the desk exactly where it does not fit its schema.
+
+It takes PyYAML; with openapi-spec-validator the page itself is checked too. One line is printed for each group
+of checks, and one for each failure. The last line is `N examples, M failed`, and the exit status is 1 for a failure.
+"""
+
+import re
+import sys
+from pathlib import Path
+
+import openapi_faults
+from desk_messages import LARGEST_SESSION, Exchange, compact, differences, keyed, request, response
+from openapi_bounds import bounds
+from openapi_page import Page
+
+try:
+    import openapi_spec_validator
+    from jsonschema import Draft202012Validator, FormatChecker
+except ImportError:
+    openapi_spec_validator = None
+
+TOP = Path(__file__).resolve().parent.parent
+MOST_DATA = 2 << 20
+PREPARED = ("companyRegistered", "daySet")
+ORDERS = {
+    "Submission": "submit",
+    "Retry": "retry",
+    "Desk day": "setDay",
+    "Company": "registerCompany",
+    "Limits": "setLimits",
+    "Holiday list": "setHolidays",
+    "Cut": "cut",
+    "Incoming file": "takeReturns",
+    "Settlement": "settlement",
+    "Statement": "statement",
+    "rates": "rates",
+    "exposure": "exposure",
+    "Look-up": "lookUp",
+    "returns": "returns",
+    "changes of a company": "changes",
+}
+
+
+class Report:
+    """What is printed: a line for each group of checks, and the failures in it."""
+
+    def __init__(self):
+        self.failed = 0
+
+    def tell(self, group, failures):
+        print(f"{group}: {'ok' if not failures else f'{len(failures)} failed'}", flush=True)
+        for line in failures:
+            print(f"  {line}", flush=True)
+        self.failed += len(failures)
+
+
+# ---- the page itself
+
+
+def validator(page, schema):
+    return Draft202012Validator({**schema, "components": page.tree["components"]}, format_checker=FormatChecker())
+
+
+def faults_of_page(page):
+    errors = openapi_spec_validator.OpenAPIV31SpecValidator(page.tree).iter_errors()
+    return [f"{'/'.join(map(str, it.path))}: {it.message}" for it in errors]
+
+
+def is_bad_body(page, operation, name):
+    """Is an example of a body refused as a bad field that a schema can tell? None can tell a check digit."""
+    answers = [it.value for it in page.examples_of(operation) if it.asks.get("body") == name]
+    return any(it.get("error") == "BadField" and it["field"] != "routing" for it in answers)
+
+
+def misfits(page):
+    """The examples that do not fit their schema, or fit it though the desk refuses them."""
+    for operation in page.operations.values():
+        for name, it in operation.body()[1]["examples"].items() if operation.body() else ():
+            fits = "externalValue" in it or validator(page, operation.body()[1]["schema"]).is_valid(it["value"])
+            if fits == is_bad_body(page, operation, name):
+                yield f"body {name} {'fits' if fits else 'does not fit'} its schema"
+    for place, kind in page.kinds():
+        for name, it in kind["examples"].items():
+            value = page.at(it).get("value")
+            if not place.endswith(", body") and not validator(page, kind["schema"]).is_valid(value):
+                yield f"{place}: {name} does not fit its schema"
+
+
+# ---- the page beside the other pages
+
+
+def differing_routes(page):
+    source = (TOP / "crates/desk_routes/src/routes.rt").read_text()
+    routes = {(method.upper(), path) for method, path in re.findall(r'\b(Get|Post) "(/[^"]*)" =>', source)}
+    shown = {(it.method, it.path) for it in page.operations.values()}
+    return [f"{method} {path} is in one of the two alone" for method, path in sorted(routes ^ shown)]
+
+
+def rows(text, header):
+    """The rows of the table with this header, as lists of texts."""
+    _, _, rest = text.partition(f"{header}\n")
+    lines = rest.split("\n\n")[0].splitlines()[1:]
+    return [[cell.strip(" `") for cell in line.strip("|").split("|")] for line in lines]
+
+
+def numbers(text):
+    """The numbers of `1, 10 to 12`."""
+    for part in text.split(", "):
+        first, _, last = part.partition(" to ")
+        yield from range(int(first), int(last or first) + 1)
+
+
+def told_orders(bodies):
+    """For each call the numbers of its refusals, in the order in which they are told."""
+    _, _, rest = bodies.partition("The first that applies is told, in this order:")
+    for names, told in re.findall(r"(?:- |\. )([A-Z][^:.]*): ([0-9, to]+)", rest.split("\n\n")[1]):
+        for name in re.split(r", | and (?=rates|exposure|changes)", names):
+            yield name, list(numbers(told))
+
+
+def differing_orders(page, bodies, names):
+    """Of a company that is not registered the key is told first, so no path of a company has 23."""
+    for name, told in told_orders(bodies):
+        operation = page.operations[ORDERS[name]]
+        wanted = [names[it] for it in told if it != 23 or not operation.path.startswith("/c/")]
+        if operation.tree["x-refusals"] != wanted:
+            yield f"{operation.name} has the refusals {operation.tree['x-refusals']}, and not {wanted}"
+
+
+def lacking_refusals(page):
+    """The refusals of operations for which they have no example, or one too many."""
+    for operation in page.operations.values():
+        values = [it.value for it in page.examples_of(operation) if it.status in (409, 422)]
+        for name in sorted({it["error"] for it in values} ^ set(operation.tree["x-refusals"])):
+            yield f"{operation.name}: {name} is in its list or in its examples alone"
+
+
+def wrong_refusals(page, refusals):
+    """The examples with another number or status than docs/BODIES.md has, and names without an example."""
+    told = {name: (int(number), int(status)) for number, name, status, _ in refusals}
+    shown = [it for it in page.examples.values() if isinstance(it.value, dict) and "number" in it.value]
+    for it in shown:
+        if told.get(it.value["error"]) != (it.value["number"], it.status):
+            yield f"{it.name}: {it.value} with status {it.status} is not in docs/BODIES.md"
+    yield from (f"{name} has no example" for name in sorted(told.keys() - {it.value["error"] for it in shown}))
+
+
+def wrong_faults(page, faults):
+    told = {name: int(status) for name, status, _ in faults}
+    shown = {(it.value["error"], it.status) for it in page.examples.values() if it.status == 404}
+    for operation in page.operations.values():
+        shown |= {(page.shared[name]["error"], status) for name, status in page.shared_answers(operation)}
+    shown |= {(page.shared[name]["error"], status) for name, status in (("notFound", 404), ("badMethod", 405))}
+    return [f"{it} is in one of the two alone" for it in sorted(shown ^ set(told.items()), key=str)]
+
+
+def lacking_faults(page, bodies):
+    """The faults of files and holiday lists without an example, but for those that the page says come to nobody."""
+    wanted = {name for _, name, _ in rows(bodies, "| Number | Name | What is wrong |")}
+    wanted |= {"BadRow", "NotAscending", "TooMany"}
+    shown = {it.value["fault"] for it in page.examples.values() if isinstance(it.value, dict) and "fault" in it.value}
+    never = {it["fault"] for it in page.tree["x-not-sent"]}
+    return [f"{it} has no example, or is not in docs/BODIES.md" for it in sorted(wanted ^ (shown | never))]
+
+
+# ---- messages
+
+
+def unsent(page):
+    """The examples that are in no script, or in one though they say that none can bring them about."""
+    sent = {step for script in page.tree["x-scripts"] for step in script["steps"] if isinstance(step, str)}
+    wrong = [it.name for it in page.examples.values() if (it.name in sent) != it.is_sent]
+    return [f"{it} is {'in a script' if it in sent else 'in no script'}" for it in wrong]
+
+
+def run_script(page, program, steps):
+    exchanges = list(page.exchanges(steps))
+    return len(exchanges), differences(program, exchanges)
+
+
+def shared_exchanges(page, name, status, operation):
+    """The messages to an operation that are answered by a shared example."""
+    closes = name in openapi_faults.CLOSING
+    wanted = response(status, compact(page.shared[name]), closes=closes)
+    for at, sent in enumerate(openapi_faults.MESSAGES[name](operation)):
+        yield Exchange(f"{name} {at + 1} at {operation.name}", sent, wanted)
+
+
+def run_shared(page, program, name, status, operation):
+    """Those that end the connection come alone, and the others after one another."""
+    prepared = list(page.exchanges(PREPARED))
+    exchanges = list(shared_exchanges(page, name, status, operation))
+    sessions = [[it] for it in exchanges] if name in openapi_faults.CLOSING else [exchanges]
+    return len(exchanges), [line for it in sessions for line in differences(program, prepared + it)]
+
+
+def run_all_shared(page, program, name):
+    """Sends the shared example wherever operations have it, or beside each of them where none has it."""
+    count, failures = 0, []
+    for operation in page.operations.values():
+        status = dict(page.shared_answers(operation)).get(name, openapi_faults.ELSEWHERE.get(name))
+        if status is not None:
+            sent, lines = run_shared(page, program, name, status, operation)
+            count, failures = count + sent, failures + lines
+    return count, failures
+
+
+def run_unavailable(page, program):
+    """The program gets less memory than a body needs."""
+    wanted = response(503, compact(page.shared["unavailable"]), closes=True)
+    places = [it for it in page.operations.values() if it.method == "POST"]
+    lines = []
+    for operation in places:
+        sent = keyed(operation.method, operation.target({}), operation.key, b" " * (4 << 20))
+        lines += differences(program, [Exchange(f"unavailable at {operation.name}", sent, wanted)], MOST_DATA)
+    return len(places), lines
+
+
+def last_messages(operation):
+    """Messages that are the last of their connection, each with one more, which is not answered."""
+    key = f"X-Desk-Key: {operation.key}"
+    plain = keyed(operation.method, operation.target({}), operation.key)
+    yield 0, request(operation.method, operation.target({}), [key, "Connection: Close"]) + plain
+    yield 0, plain.replace(b"HTTP/1.1", b"HTTP/1.0") + plain
+    yield LARGEST_SESSION - 1, plain + plain
+
+
+def run_connections(page, program):
+    """A connection is kept, up to the message that closes it."""
+    it = page.examples["noSuspense"]
+    body, plain = compact(it.value), keyed(it.operation.method, it.operation.target({}), it.operation.key)
+    count, lines = 0, []
+    for before, last in last_messages(it.operation):
+        exchanges = [Exchange("kept", plain, response(200, body))] * before
+        exchanges.append(Exchange("the last", last, response(200, body, closes=True)))
+        count, lines = count + len(exchanges), lines + differences(program, exchanges)
+    return count, lines
+
+
+def run_bounds(page, program):
+    prepared, exchanges = list(page.exchanges(PREPARED)), list(bounds(page, validator))
+    size, lines = LARGEST_SESSION - len(prepared) - 1, []
+    for at in range(0, len(exchanges), size):
+        lines += differences(program, prepared + exchanges[at : at + size])
+    return sum(it.wanted is None for it in exchanges), len(exchanges), lines
+
+
+# ---- all of it
+
+
+def judge_page(page, report):
+    if openapi_spec_validator is None:
+        print("page: openapi_spec_validator is not installed, so it is not checked as OpenAPI, nor are its schemas")
+    else:
+        report.tell(f"page: OpenAPI {page.tree['openapi']}, {len(page.operations)} operations", faults_of_page(page))
+        report.tell("schemas: each example fits, but for bodies with a bad field", list(misfits(page)))
+    report.tell("routes: those of crates/desk_routes", differing_routes(page))
+
+
+def judge_names(page, report):
+    bodies = (TOP / "docs/BODIES.md").read_text()
+    refusals = rows(bodies, "| Number | Name | HTTP status | Cause |")
+    names = {int(number): name for number, name, _, _ in refusals}
+    wrong = [*wrong_refusals(page, refusals), *lacking_refusals(page), *differing_orders(page, bodies, names)]
+    report.tell(f"refusals: the {len(refusals)} of docs/BODIES.md, in their orders", wrong)
+    faults = rows(bodies, "| Name | HTTP status | Cause |")
+    report.tell(f"faults: the {len(faults)} of docs/BODIES.md", wrong_faults(page, faults))
+    report.tell("faults of files and of holiday lists: those of docs/BODIES.md", lacking_faults(page, bodies))
+    report.tell("examples: each in a script, or with a reason", unsent(page))
+
+
+def judge_messages(page, program, report):
+    for script in page.tree["x-scripts"]:
+        count, lines = run_script(page, program, script["steps"])
+        report.tell(f"script, {script['name']}: {count} messages", lines)
+    for name in openapi_faults.MESSAGES:
+        count, lines = run_all_shared(page, program, name)
+        report.tell(f"shared, {name}: {count} messages", lines)
+    count, lines = run_unavailable(page, program)
+    report.tell(f"shared, unavailable: {count} messages", lines)
+    count, lines = run_connections(page, program)
+    report.tell(f"connections: {count} messages", lines)
+    if openapi_spec_validator is not None:
+        fitting, count, lines = run_bounds(page, program)
+        report.tell(f"bounds: {fitting} bodies that fit and {count - fitting} that do not", lines)
+
+
+def main():
+    program = sys.argv[1:] or [str(TOP / "achdesk")]
+    page, report = Page(TOP / "docs/openapi.yaml"), Report()
+    judge_page(page, report)
+    judge_names(page, report)
+    judge_messages(page, program, report)
+    for name, reason in page.reasons():
+        print(f"not sent, {name}: {reason}")
+    sent = sum(it.is_sent for it in page.examples.values()) + len(page.shared)
+    print(f"{sent} examples, {report.failed} failed")
+    sys.exit(report.failed != 0)
+
+
+if __name__ == "__main__":
+    main()
