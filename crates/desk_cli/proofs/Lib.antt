@@ -1,8 +1,12 @@
-pub mod CommandLineLemmas
-pub mod CommandLineVectors
+pub mod ClosedFiles
 pub mod FeedingLemmas
 pub mod FileCheckLemmas
+pub mod InitLemmas
 pub mod InputLemmas
+pub mod KeptRunLemmas
 pub mod MessageRunLemmas
+pub mod OpenFaultLemmas
+pub mod PrefixLemmas
 pub mod PrintingLemmas
+pub mod ServedLemmas
 pub mod VerdictLemmas

@@ -1,7 +1,6 @@
 -- A session with a desk that stands for the empty history.
 use Rattle.std.proofs.Common.{◌≡◌, ℕ, List, Option, Result, Ok, Err, sym, subst, inr}
 use Rattle.desk_book.specs.Book.{Book}
-use Rattle.desk_session.specs.Exchanges.{Follows}
 use Rattle.desk_session.specs.Session.{SessionRan}
 use Rattle.desk_session.specs.declared.sessions.Ended.{Ended}
 use Rattle.desk_session.specs.declared.sessions.Ended.TheVariants.{Closed, Cut, Full}

@@ -1,21 +1,21 @@
 -- What the program does by its words.
 use Rattle.std.specs.Prelude.{◌≡◌, ◌≢◌, ℕ, List, Option, Result, Ok, Err}
 use Rattle.clap.specs.Words.{Text}
-use Rattle.desk_cli.specs.CommandLine.{GivesAt}
-use Rattle.desk_cli.specs.Commands.{CarriesOut, FailsToCarryOut, PrintsLineFault}
+use Rattle.desk_command_line.specs.CommandLine.{GivesAt}
+use Rattle.desk_cli.specs.Commands.{CarriesOut, FailsToCarryOut, PrintsLineFault, no_files}
 use Rattle.desk_cli.specs.ExitCodes.{code_of}
 use Rattle.desk_cli.specs.declared.commands.status.Status.{Status}
 use Rattle.desk_cli.specs.declared.commands.status.Status.TheVariants.{Failed}
-use Rattle.desk_cli.specs.declared.words.command.Command.{Command}
-use Rattle.desk_cli.specs.declared.words.command.LineFault.{LineFault}
+use Rattle.desk_command_line.specs.declared.command.Command.{Command}
+use Rattle.desk_command_line.specs.declared.command.LineFault.{LineFault}
 
 -- the command was carried out, or failed, and the exit status says which
 abbrev pub RunsCommand : Command → (input old new : Option (List ℕ)) → (code : ℕ) → Type 0
 RunsCommand command input old new code =
     (status : Status)
     × (code ≡ code_of status)
-    × (status ≢ Failed → CarriesOut command input old new status)
-    × (status ≡ Failed → FailsToCarryOut command input old new)
+    × (status ≢ Failed → CarriesOut no_files command input old new status)
+    × (status ≡ Failed → FailsToCarryOut no_files command input old new)
 
 -- the command that the words give is run, or why they give none is printed
 abbrev pub DoesRead : Result Command LineFault → (input old new : Option (List ℕ)) → (code : ℕ) → Type 0

@@ -1,23 +1,60 @@
 -- A store whose connection is clean was opened on clean files, so what they held is known.
-use Rattle.std.proofs.Common.{ℕ, List, Result, Ok, Err, IfOk, sym, subst}
+use Rattle.std.proofs.Common.{◌≡◌, ◌≢◌, ◌∙◌, ℕ, zero, suc, List, [], ◌∷◌, Result, Ok, Err, IfOk, inl, refl, sym, ap, subst, arith}
 use Rattle.sqlite_disk.specs.declared.Disk.{Ghosts}
 use Rattle.sqlite_wal.specs.Recovery.{Image}
 use Rattle.sqlite_trees.specs.Tree.{Trees}
 use Rattle.sqlite_store.specs.declared.store.FileStore.{FileStore}
-use Rattle.sqlite.specs.Files.{file_state, IsOpened}
+use Rattle.sqlite.specs.Files.{file_state, IsOpened, HoldsDatabase}
 use Rattle.sqlite.specs.Held.{Held}
 use Rattle.sqlite.specs.Start.{FindsIn}
+use Rattle.sqlite.specs.Effect.{Database}
 use Rattle.sqlite.specs.State.{HasCleanDisk}
+use Rattle.sql_statements.specs.StoredRows.{Stores}
+use Rattle.desk_book.specs.Book.{Book}
 use Rattle.desk_history.specs.declared.identity.Identity.{Identity}
+use Rattle.desk_schema.specs.Tables.{desk_table}
 use Rattle.desk_records.specs.Layout.{Keeps}
+use Rattle.desk_records.specs.declared.records.DeskRecord.{DeskRecord}
 use Rattle.desk_setup.specs.Checked.{IsDesk}
 use Rattle.desk_setup.specs.Setup.{HasNewDesk}
-use Rattle.desk_files.specs.Opened.{IsFoundIn, IsMadeIn, IsOpenedOn}
+use Rattle.desk_migration.specs.FirstVersion.{first_version, first_schema, versioned_row, KeepsFirst}
+use Rattle.desk_migration.specs.Migration.{HasMigrated}
+use Rattle.desk_migration.specs.Versions.{IsOfVersion}
+use Rattle.desk_files.specs.Opened.{IsFoundIn, IsMadeIn, IsMigratedIn, IsOpenedOn}
+
+-- a number that is no other than 1
+no_other : (n : ℕ) → (n ≢ first_version → ⊥) → n ≡ first_version
+no_other zero only = absurd (only (λ e. omega (arith, e)))
+no_other (suc zero) only = refl
+no_other (suc (suc n)) only = absurd (only (λ e. omega (arith, e)))
 
 module _ {D : Type 0} {g : Ghosts D} (held : Image) (was : Held (FileStore D g))
     (opened : HasCleanDisk (file_state was) → IsOpened was) (found : HasCleanDisk (file_state was) → FindsIn held (file_state was)) where
   opened_on : HasCleanDisk (file_state was) → IsOpenedOn held was
   opened_on clean = record { opened = opened clean; found = found clean }
+
+  -- the row is seen as the files held it
+  seen_version : IsOpenedOn held was → (db : Trees) (n : ℕ) (row : DeskRecord) → HoldsDatabase held db → (file_state was).now.schema ≡ first_schema
+      → Stores (versioned_row n) (db desk_table.tree) (row ∷ []) → IsOfVersion (file_state was).now n
+  seen_version early db n row is_held schema stored = record {
+    schema = inl schema;
+    desk = row;
+    row = subst (λ (trees : Trees). Stores (versioned_row n) (trees desk_table.tree) (row ∷ [])) (sym (ap (λ (d : Database). d.trees) early.opened.0.clean ∙ early.found.holds db is_held)) stored;
+  }
+
+  pub migrated_in : (now : Held (FileStore D g)) → HasCleanDisk (file_state was) → HasMigrated (file_state was) (file_state now)
+      → ((n : ℕ) → IsOfVersion (file_state was).now n → n ≢ first_version → ⊥) → IsMigratedIn held now
+  migrated_in now before desk other =
+      let early = opened_on before in
+      let first = λ (db : Trees) (b : Book) (is_held : HoldsDatabase held db) (keeps : KeepsFirst db b). subst (λ (trees : Trees). KeepsFirst trees b) (sym (early.found.holds db is_held)) keeps in
+      record {
+        was = was;
+        opened = early;
+        desk = desk;
+        version = λ db n row is_held stored. no_other n (other n (seen_version early db n row is_held desk.was_first stored));
+        sees = λ db b is_held keeps. desk.sees b (first db b is_held keeps);
+        keeps = λ db b is_held keeps. desk.keeps b (first db b is_held keeps);
+      }
 
   module _ {S E : Type 0} (conn : S → Held (FileStore D g)) where
     pub made_in : (identity : Identity) (operator_key : List ℕ) (r : Result S E)

@@ -1,5 +1,5 @@
--- What a store is, whose connection was opened on files.
-use Rattle.std.specs.Prelude.{ℕ, List}
+-- What a store is, or a connection, that was opened on files.
+use Rattle.std.specs.Prelude.{◌≡◌, ℕ, List, [], ◌∷◌}
 use Rattle.sqlite_disk.specs.declared.Disk.{Ghosts}
 use Rattle.sqlite_wal.specs.Recovery.{Image}
 use Rattle.sqlite_trees.specs.Tree.{Trees}
@@ -7,11 +7,16 @@ use Rattle.sqlite_store.specs.declared.store.FileStore.{FileStore}
 use Rattle.sqlite.specs.Files.{file_state, IsOpened, HoldsDatabase}
 use Rattle.sqlite.specs.Held.{Held}
 use Rattle.sqlite.specs.Start.{FindsIn}
+use Rattle.sql_statements.specs.StoredRows.{Stores}
 use Rattle.desk_book.specs.Book.{Book}
 use Rattle.desk_history.specs.declared.identity.Identity.{Identity}
+use Rattle.desk_schema.specs.Tables.{desk_table}
 use Rattle.desk_records.specs.Layout.{Keeps, Sees}
+use Rattle.desk_records.specs.declared.records.DeskRecord.{DeskRecord}
 use Rattle.desk_setup.specs.Checked.{IsDesk}
 use Rattle.desk_setup.specs.Setup.{HasNewDesk}
+use Rattle.desk_migration.specs.FirstVersion.{first_version, versioned_row, KeepsFirst}
+use Rattle.desk_migration.specs.Migration.{HasMigrated}
 
 module _ {D : Type 0} {g : Ghosts D} where
   -- it has just been opened, and what is committed is what the files held
@@ -31,3 +36,13 @@ module _ {D : Type 0} {g : Ghosts D} where
     pub opened : IsOpenedOn held was
     pub desk : IsDesk (file_state was) (file_state now)
     pub sees : (db : Trees) (b : Book) → HoldsDatabase held db → Keeps db b → Sees (file_state now) b
+
+  -- It was opened on these files, and then version 1's tables became version 2's. The row of the desk said version 1; each
+  -- book that the files kept is seen, and is kept by whatever a crash may leave.
+  pub record IsMigratedIn (held : Image) (now : Held (FileStore D g)) : Type 0 where
+    pub was : Held (FileStore D g)
+    pub opened : IsOpenedOn held was
+    pub desk : HasMigrated (file_state was) (file_state now)
+    pub version : (db : Trees) (n : ℕ) (row : DeskRecord) → HoldsDatabase held db → Stores (versioned_row n) (db desk_table.tree) (row ∷ []) → n ≡ first_version
+    pub sees : (db : Trees) (b : Book) → HoldsDatabase held db → KeepsFirst db b → Sees (file_state now) b
+    pub keeps : (db : Trees) (b : Book) → HoldsDatabase held db → KeepsFirst db b → (trees : Trees) → (file_state now).may_leave trees → Keeps trees b

@@ -13,9 +13,9 @@ use sqlite::{FileFrom, FileStore, Start};
 /// Opens the desk in the database file at a path. The store then holds each book that the file and its
 /// log keep, whatever moment a crash left them at.
 ///
-/// A database with no desk, and an empty file, are `OpenFault::NotADesk`; a desk of another version is
-/// `OpenFault::WrongVersion`. Where there is no file, or it cannot be opened as a database, it is
-/// `OpenFault::Unavailable`, and no file is made. `S` stands for what the files hold, as in `create`.
+/// Where there is no file, an empty one, or a database with no desk, it is `OpenFault::NotADesk`, and
+/// no file is made; a desk of another version is `OpenFault::WrongVersion`. A file that cannot be opened
+/// as a database is `OpenFault::Unavailable`. `S` stands for what the files hold, as in `create`.
 pub fn open<S: Start>(
     rt: &HostRuntime,
     path: &str,

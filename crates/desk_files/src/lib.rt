@@ -1,4 +1,4 @@
-//! This crate makes a desk's database file, and opens one, by its path.
+//! This crate makes a desk's database file, opens one, and migrates one of version 1, by its path.
 //!
 //! A database file `PATH` has its log beside it, in `PATH-wal`: what was written last may stand there
 //! alone, so the two are kept together.
@@ -6,10 +6,12 @@
 
 mod connect;
 mod found_file;
+mod migrated_file;
 mod new_file;
 mod presence;
 
 pub use desk_tables::{OpenFault, SqlStore};
 pub use found_file::open;
+pub use migrated_file::migrate_file;
 pub use new_file::create;
-pub use sqlite::{FileFrom, FileStore, Start, Unknown, Wary};
+pub use sqlite::{Connection, FileFrom, FileStore, Start, Unknown, Wary};

@@ -1,14 +1,20 @@
 //! Commands that are carried out, and line faults that are printed.
 ghost use Rattle.std.specs.Prelude.{◌≡◌, ◌≢◌};
-ghost use Rattle.desk_cli.specs.Commands.{CarriesOut, FailsToCarryOut, PrintsLineFault, PrintsWithCode};
+ghost use Rattle.sqlite_wal.specs.Files.{image_at};
+ghost use Rattle.desk_cli.specs.Commands.{CarriesOut, FailsToCarryOut, PrintsLineFault, PrintsWithCode, no_files};
 
 use crate::commands::answer_submission::first_run;
 use crate::commands::check_incoming::check_path;
+use crate::commands::init_desk::make_and_close;
+use crate::commands::kept_session::answer_and_close;
 use crate::commands::message_session::answer_messages;
+use crate::commands::migrated_file::migrate_and_close;
 use crate::commands::output::{print_unavailable, write_line};
+use crate::commands::served_file::serve_and_close;
 use crate::commands::status::Status;
 use crate::commands::submit_entries::submit_path;
-use crate::words::{Command, LineFault};
+use desk_command_line::{Command, LineFault};
+use desk_files::{Start, Wary};
 use io_retries::Tries;
 use std::io::{Read, Write};
 
@@ -22,15 +28,36 @@ pub fn run<R: Read + Drop, W: Write>(
     writer: &mut W,
 ) -> Status
     ensures answered { result ≢ Status.Failed →
-        CarriesOut command.now (R.remaining reader) (W.contents writer.old) (W.contents writer.new) result }
+        CarriesOut no_files command.now (R.remaining reader) (W.contents writer.old) (W.contents writer.new) result }
     ensures failed { result ≡ Status.Failed →
-        FailsToCarryOut command.now (R.remaining reader) (W.contents writer.old) (W.contents writer.new) }
+        FailsToCarryOut no_files command.now (R.remaining reader) (W.contents writer.old) (W.contents writer.new) }
+{
+    run_from(rt, Wary, command, reader, writer)
+}
+
+/// Carries out a command as `run` does, where `S` stands for what the files of a desk hold. No code can
+/// read that: what is proved for all `S` is so for whatever they hold.
+pub fn run_from<S: Start, R: Read + Drop, W: Write>(
+    rt: &HostRuntime,
+    start: S,
+    command: &Command<'_>,
+    reader: R,
+    writer: &mut W,
+) -> Status
+    ensures answered { result ≢ Status.Failed →
+        CarriesOut (image_at S.Start) command.now (R.remaining reader) (W.contents writer.old) (W.contents writer.new) result }
+    ensures failed { result ≡ Status.Failed →
+        FailsToCarryOut (image_at S.Start) command.now (R.remaining reader) (W.contents writer.old) (W.contents writer.new) }
 {
     match *command {
         Command::AnswerSubmission => first_run(rt.alloc(), reader, writer),
         Command::Check(path) => check_path(rt, path, writer),
         Command::Submit(path, options) => submit_path(rt, path, &options, writer),
         Command::AnswerMessages => answer_messages(rt.alloc(), reader, writer),
+        Command::Init(path, options) => make_and_close(rt, path, start, &options, writer),
+        Command::AnswerByFile(path) => answer_and_close(rt, path, start, reader, writer),
+        Command::Serve(path, options) => serve_and_close(rt, path, start, options, writer),
+        Command::Migrate(path) => migrate_and_close(rt, path, start, writer),
     }
 }
 

@@ -32,7 +32,8 @@ pub fn answer_messages<R: Read + Drop, W: Write>(alloc: Global, reader: R, write
     status_of_session(session(alloc, &mut desk, &mut reader, writer))
 }
 
-fn status_of_session(ended: Result<Ended, SessionFault>) -> Status
+/// Gives how a session ends the command.
+pub fn status_of_session(ended: Result<Ended, SessionFault>) -> Status
     ensures { result ≡ status_of_session ended }
 {
     match ended {

@@ -3,7 +3,7 @@ ghost use Rattle.std.specs.Prelude.{◌≡◌, ◌≢◌, IfSome, MatchResult};
 ghost use Rattle.std.specs.Io.KnownBytes.{Appends};
 ghost use Rattle.io_retries.specs.Prefixes.{AppendsPrefix};
 ghost use Rattle.desk_cli.specs.BodyAnswers.{IsAnswer};
-ghost use Rattle.desk_cli.specs.Printing.{status_of, with_line_feed, PrintsLine, PrintsPrefixOf};
+ghost use Rattle.desk_cli.specs.Printing.{status_of, with_line_feed, PrintsAnswer, PrintsLine, PrintsPrefixOf};
 
 use crate::commands::status::Status;
 use io_retries::{Tries, write_all_with_retries};
@@ -61,6 +61,18 @@ pub fn print_answer<W: Write>(
             Err(_) => Status::Failed,
         },
         None => print_unavailable(writer, tries),
+    }
+}
+
+/// Prints a line that is known, which says whether the input is accepted.
+pub fn print_line<W: Write>(writer: &mut W, is_accepted: bool, line: &[u8]) -> Status
+    ensures printed { result ≢ Status.Failed →
+        PrintsAnswer (W.contents writer.old) (W.contents writer.new) (is_accepted, line.now) result }
+    ensures failed { result ≡ Status.Failed → AppendsPrefix (W.contents writer.old) (W.contents writer.new) line.now }
+{
+    match write_line(writer, line, Tries::new()) {
+        Ok(()) => status_of(is_accepted),
+        Err(_) => Status::Failed,
     }
 }
 

@@ -30,7 +30,7 @@ fn a_submission_and_a_file_that_is_not_there(rt: HostRuntime) {
 #[test]
 fn words_and_their_exit_status(rt: HostRuntime) {
     // The words, the exit status, and what the first line begins with.
-    let rows: [(&[&str], u8, &[u8]); 11] = [
+    let rows: [(&[&str], u8, &[u8]); 24] = [
         (&[], 0, PAY_1_LINE.as_bytes()),
         (&["check", "no such file"], 3, b"unavailable\n"),
         (&["--help"], 0, b"The ACH desk of an originating bank."),
@@ -55,7 +55,36 @@ fn words_and_their_exit_status(rt: HostRuntime) {
         (&["submit"], 2, b"error: "),
         (&["stdio"], 1, b""),
         (&["stdio", "--help"], 0, b"Answers HTTP/1.1 messages"),
-        (&["stdio", "desk.db"], 2, b"error: "),
+        (&["stdio", "no such desk"], 1, b"NotADesk\n"),
+        (&["init", "--help"], 0, b"Makes a new desk in a file"),
+        (&["init", "desk.db"], 2, b"error: "),
+        (
+            &["serve", "--help"],
+            0,
+            b"Answers HTTP/1.1 messages on connections",
+        ),
+        (&["serve", "no such desk"], 2, b"error: "),
+        (&["serve", "no such desk", "0"], 2, b"error: "),
+        (&["serve", "no such desk", "65536"], 2, b"error: "),
+        (&["serve", "no such desk", "port"], 2, b"error: "),
+        (
+            &["serve", "no such desk", "8080", "--connections", "0"],
+            2,
+            b"error: ",
+        ),
+        (
+            &["serve", "no such desk", "8080", "--connections=1000001"],
+            2,
+            b"error: ",
+        ),
+        (&["serve", "no such desk", "8080"], 1, b"NotADesk\n"),
+        (
+            &["migrate", "--help"],
+            0,
+            b"Brings a desk's file of version 1",
+        ),
+        (&["migrate"], 2, b"error: "),
+        (&["migrate", "no such desk"], 1, b"NotADesk\n"),
     ];
     for (words, code, start) in rows {
         let mut output = Vec::new(rt.alloc());

@@ -7,21 +7,21 @@ use std::io::ErrorKind;
 use std::test::Fail;
 
 /// The operator registers the company `MILL01`.
-const REGISTER: &str =
+pub const REGISTER: &str =
     "POST /ops/companies HTTP/1.1\r\nX-Desk-Key: operator-key\r\nContent-Length: 146\r\n\r\n{\"id\":\"MILL01\",\"name\":\"MILL STREET\",\"key\":\"mill-street-key\",\"entry_limit\":9999999999,\"credit_limit\":999999999999999,\"debit_limit\":999999999999999}";
 
-const REGISTERED: &str =
+pub const REGISTERED: &str =
     "HTTP/1.1 201 Created\r\nContent-Type: application/json\r\nContent-Length: 15\r\nConnection: keep-alive\r\n\r\n{\"id\":\"MILL01\"}";
 
 /// The operator sets the desk day.
-const SET_DAY: &str =
+pub const SET_DAY: &str =
     "POST /ops/day HTTP/1.1\r\nX-Desk-Key: operator-key\r\nContent-Length: 20\r\n\r\n{\"day\":\"2025-01-08\"}";
 
-const DAY_SET: &str =
+pub const DAY_SET: &str =
     "HTTP/1.1 200 OK\r\nContent-Type: application/json\r\nContent-Length: 20\r\nConnection: keep-alive\r\n\r\n{\"day\":\"2025-01-08\"}";
 
 /// The pay run of the list is taken as the company's first order.
-const PAY_TAKEN: &str =
+pub const PAY_TAKEN: &str =
     "HTTP/1.1 201 Created\r\nContent-Type: application/json\r\nContent-Length: 52\r\nConnection: keep-alive\r\n\r\n{\"cents\":150000,\"entries\":1,\"order\":1,\"ref\":\"PAY-1\"}";
 
 /// Nobody has this key.

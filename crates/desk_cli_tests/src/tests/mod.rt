@@ -1,11 +1,15 @@
 //! Several tests take these bodies, and look at the outcome of a run over one.
 mod bodies;
 mod commands;
+mod desks;
 mod failing;
 mod files;
+mod kept;
 mod large;
 mod lists;
 mod messages;
+mod migrated;
+mod served;
 mod words;
 
 use desk_cli::{Status, first_run};

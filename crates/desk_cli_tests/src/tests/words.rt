@@ -1,7 +1,9 @@
 //! What the words of a command line ask for.
+use super::desks::SAMPLE_BANK;
 use super::lists::OPTIONS;
-use desk_cli::{Command, LineFault, command_of};
+use desk_cli::{Command, LineFault, ServeOptions, command_of};
 use desk_submit::SubmitOptions;
+use std::alloc::Global;
 
 /// Options of which each says nothing.
 const NOTHING: SubmitOptions<'static> = SubmitOptions {
@@ -14,9 +16,21 @@ const NOTHING: SubmitOptions<'static> = SubmitOptions {
     day: "",
 };
 
+fn served(port: u16, connections: u32) -> ServeOptions {
+    ServeOptions { port, connections }
+}
+
+// Do the words name this command?
+fn names(alloc: Global, words: &[&str], wanted: Command<'_>) -> bool {
+    match command_of(alloc, words) {
+        Ok(command) => command == wanted,
+        Err(_) => false,
+    }
+}
+
 #[test]
-fn commands(rt: HostRuntime) {
-    let rows: [(&[&str], Command); 8] = [
+fn commands_without_a_desk(rt: HostRuntime) {
+    let rows: [(&[&str], Command); 7] = [
         (&[], Command::AnswerSubmission),
         (
             &[
@@ -71,19 +85,54 @@ fn commands(rt: HostRuntime) {
         (&["check", "returns.ach"], Command::Check("returns.ach")),
         (&["check", ""], Command::Check("")),
         (&["check", "--", "-"], Command::Check("-")),
-        (&["stdio"], Command::AnswerMessages),
     ];
     for (words, wanted) in rows {
-        match command_of(rt.alloc(), words) {
-            Ok(command) => assert_eq!(rt; command, wanted),
-            Err(_) => assert!(rt; false, "{wanted:?}"),
-        }
+        assert!(rt; names(rt.alloc(), words, wanted), "{wanted:?}");
+    }
+}
+
+#[test]
+fn commands_of_a_desk(rt: HostRuntime) {
+    let rows: [(&[&str], Command); 7] = [
+        (&["stdio"], Command::AnswerMessages),
+        (&["stdio", "desk.db"], Command::AnswerByFile("desk.db")),
+        (&["migrate", "desk.db"], Command::Migrate("desk.db")),
+        (
+            &["serve", "desk.db", "1"],
+            Command::Serve("desk.db", served(1, 1000)),
+        ),
+        (
+            &["serve", "desk.db", "65535", "--connections", "1"],
+            Command::Serve("desk.db", served(65_535, 1)),
+        ),
+        (
+            &["serve", "--connections=1000000", "desk.db", "8080"],
+            Command::Serve("desk.db", served(8080, 1_000_000)),
+        ),
+        (
+            &[
+                "init",
+                "desk.db",
+                "--key=operator-key",
+                "--odfi",
+                "121042882",
+                "--odfi-name=OUR BANK",
+                "--destination",
+                "061000146",
+                "--destination-name",
+                "ACH OPERATOR",
+            ],
+            Command::Init("desk.db", SAMPLE_BANK),
+        ),
+    ];
+    for (words, wanted) in rows {
+        assert!(rt; names(rt.alloc(), words, wanted), "{wanted:?}");
     }
 }
 
 #[test]
 fn help(rt: HostRuntime) {
-    let rows: [(&[&str], &str); 13] = [
+    let rows: [(&[&str], &str); 19] = [
         (&["--help"], "submit"),
         (&["submit", "--help"], "Usage: achdesk submit "),
         (&["submit", "a", "-h"], "--description <TEXT>"),
@@ -97,6 +146,12 @@ fn help(rt: HostRuntime) {
         (&["help", "check"], "check"),
         (&["--help"], "stdio"),
         (&["stdio", "--help"], "Usage: achdesk stdio"),
+        (&["--help"], "init"),
+        (&["init", "--help"], "--odfi-name <ODFI_NAME>"),
+        (&["--help"], "serve"),
+        (&["serve", "--help"], "--connections"),
+        (&["--help"], "migrate"),
+        (&["migrate", "--help"], "Usage: achdesk migrate <DB>"),
     ];
     for (words, part) in rows {
         match command_of(rt.alloc(), words) {
@@ -109,7 +164,7 @@ fn help(rt: HostRuntime) {
 
 #[test]
 fn usage(rt: HostRuntime) {
-    let rows: [(&[&str], &str); 15] = [
+    let rows: [(&[&str], &str); 17] = [
         (&["submit"], "--company <COMPANY>"),
         (&["submit", "a", "--key", "k"], "--day <DAY>"),
         (
@@ -126,8 +181,13 @@ fn usage(rt: HostRuntime) {
         (&["help", "bogus"], "'bogus'"),
         (&[""], "''"),
         (&["check", "--fast", "a"], "'--fast'"),
-        (&["stdio", "desk.db"], "'desk.db'"),
+        (&["stdio", "desk.db", "more.db"], "'more.db'"),
         (&["--fast"], "'--fast'"),
+        (
+            &["init", "desk.db", "--odfi", "121042882"],
+            "--destination-name <DESTINATION_NAME>",
+        ),
+        (&["init", "desk.db", "more.db"], "'more.db'"),
     ];
     for (words, part) in rows {
         match command_of(rt.alloc(), words) {

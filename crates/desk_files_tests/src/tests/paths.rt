@@ -108,7 +108,7 @@ fn a_desk_stays_in_its_file(rt: HostRuntime) -> Result<(), Fail> {
 fn what_is_not_there_is_not_made(rt: HostRuntime) -> Result<(), Fail> {
     let path = "desk_that_is_not_there.db";
     clear(&rt, path)?;
-    assert_eq!(rt; fault_of(&rt, path), Some(OpenFault::Unavailable));
+    assert_eq!(rt; fault_of(&rt, path), Some(OpenFault::NotADesk));
     assert!(rt; !fs::exists(&rt, path)? && !fs::exists(&rt, log_of(&rt, path)?.as_str())?);
     fs::write(&rt, path, b"".as_slice())?;
     assert_eq!(rt; fault_of(&rt, path), Some(OpenFault::NotADesk));

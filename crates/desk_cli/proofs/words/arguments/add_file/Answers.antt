@@ -1,9 +1,0 @@
-use Rattle.std.proofs.Common.{rules, ap, codes, ◌≡◌, ◌∙◌}
-use Rattle.clap.specs.Words.{Rule, app_of, rule_of, with_rule}
-use Rattle.desk_cli.specs.CommandLine.{required_argument}
-use Rattle.desk_cli.proofs.words.arguments.add_file.Goals as goal
-
-pub returns : goal.returns
-returns c =
-    let ruled : rule_of c.help-file.result ≡ required_argument (codes "FILE") = search rules in
-    c.in_ok-command.ensures.shape (search rules) ∙ ap (λ (r : Rule). with_rule (app_of c.args.command) r) ruled

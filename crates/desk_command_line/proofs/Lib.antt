@@ -1,0 +1,4 @@
+pub mod CommandLineLemmas
+pub mod CommandLineVectors
+pub mod NumberLemmas
+pub mod ServeLemmas

@@ -1,0 +1,16 @@
+use Rattle.std.proofs.Common.{rules, ap, codes, ◌≡◌, ◌∙◌}
+use Rattle.clap.specs.Words.{Rule, app_of, new_app, with_rule}
+use Rattle.desk_command_line.specs.Arguments.{serve_rules}
+use Rattle.desk_command_line.proofs.CommandLineLemmas.{with_more}
+use Rattle.desk_command_line.proofs.desk_arguments.serve_command.Goals as goal
+
+pub returns : goal.returns
+unfolding serve_rules
+returns c =
+    let start : app_of c.in_ok-command.command ≡ new_app (codes "achdesk serve") = search (rules, c.in_ok-command.ensures.0, c.about.ensures, c.new.ensures) in
+    let path = with_more _ _ _ _ start c.in_ok-command-2.ensures in
+    let port =
+    with_more _ _ _ _ path
+    (c.in_ok-command-3.ensures.shape c.port_argument.ensures.local ∙ ap (λ (r : Rule). with_rule (app_of c.in_ok-command-2.command) r) c.port_argument.ensures.rule) in
+    with_more _ _ _ _ port
+    (c.in_ok-command-4.ensures.shape c.connections_option.ensures.local ∙ ap (λ (r : Rule). with_rule (app_of c.in_ok-command-3.command) r) c.connections_option.ensures.rule)

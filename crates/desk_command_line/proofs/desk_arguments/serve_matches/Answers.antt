@@ -1,0 +1,15 @@
+use Rattle.desk_command_line.proofs.CommandLineLemmas.{parses_as, serve_simple, serve_free}
+use Rattle.desk_command_line.proofs.ServeLemmas.{has_connections, has_port}
+use Rattle.desk_command_line.specs.Arguments.{serve_app}
+use Rattle.desk_command_line.proofs.desk_arguments.serve_matches.Goals as goal
+
+pub returns-clause-parses : goal.returns-clause-parses
+returns-clause-parses c =
+    let parse = c.try_get_matches_from in
+    parses_as serve_app _ _ parse.result c.in_ok-command.ensures serve_simple serve_free parse.ensures.matches parse.ensures.kinds
+
+pub returns-clause-port : goal.returns-clause-port
+returns-clause-port c = has_port _ c.try_get_matches_from.result c.in_ok-command.ensures c.try_get_matches_from.ensures.parsed
+
+pub returns-clause-connections : goal.returns-clause-connections
+returns-clause-connections c = has_connections _ c.try_get_matches_from.result c.in_ok-command.ensures c.try_get_matches_from.ensures.parsed

@@ -1,0 +1,106 @@
+-- The arguments that each command takes, by `clap`'s rules.
+use Rattle.std.specs.Prelude.{ℕ, pos, true, List, [], ◌∷◌, Some, codes, fold}
+use Rattle.clap.specs.Words.{App, Rule, Text, new_app, new_rule, with_subcommand}
+use Rattle.clap.specs.Simple.{new_shape}
+use Rattle.clap.specs.declared.builder.action.ArgAction.TheVariants.{Set}
+use Rattle.clap.specs.declared.builder.value_parser.ValueParser.{ValueParser}
+use Rattle.clap.specs.declared.builder.value_parser.ValueParser.TheVariants as parser
+
+-- an argument that has to be there
+abbrev pub required_argument : (id : Text) → Rule
+required_argument id = record (new_rule id) { required = true; action = Some Set }
+
+-- an argument that may be left out
+abbrev pub argument : (id : Text) → Rule
+argument id = record (new_rule id) { action = Some Set }
+
+-- an option that has to be there, with its value, under a long name
+abbrev pub required_option : (id name : Text) → Rule
+required_option id name = record (required_argument id) { long = Some name }
+
+-- a number in a range
+abbrev pub number_between : (low high : ℕ) → ValueParser
+number_between low high = parser.Signed (pos low) (pos high)
+
+-- a port: 1 to 65,535
+abbrev pub port_rule : Rule
+port_rule = record (required_argument (codes "PORT")) { parser = Some (number_between 1 65535) }
+
+-- a number of connections: 1 to 1,000,000, and 1,000 where it is left out
+abbrev pub connections_rule : Rule
+connections_rule = record (argument (codes "N")) {
+  long = Some (codes "connections");
+  parser = Some (number_between 1 1000000);
+  defaults = codes "1000" ∷ [];
+}
+
+-- a command with these arguments
+abbrev pub app_with : (name : Text) → List Rule → App
+app_with name rules = record { top = record (new_shape name) { rules = rules }; subs = [] }
+
+-- the arguments of `check`
+abbrev pub check_rules : List Rule
+check_rules = required_argument (codes "FILE") ∷ []
+
+-- the arguments of `submit`
+unfoldable pub submit_rules : List Rule
+submit_rules =
+    required_argument (codes "FILE")
+    ∷ required_option (codes "COMPANY") (codes "company")
+    ∷ required_option (codes "KEY") (codes "key")
+    ∷ required_option (codes "REF") (codes "ref")
+    ∷ required_option (codes "SEC") (codes "sec")
+    ∷ required_option (codes "DIRECTION") (codes "direction")
+    ∷ required_option (codes "TEXT") (codes "description")
+    ∷ required_option (codes "DAY") (codes "day") ∷ []
+
+-- the arguments of `init`
+unfoldable pub init_rules : List Rule
+init_rules =
+    required_argument (codes "DB")
+    ∷ required_option (codes "ODFI") (codes "odfi")
+    ∷ required_option (codes "ODFI_NAME") (codes "odfi-name")
+    ∷ required_option (codes "DESTINATION") (codes "destination")
+    ∷ required_option (codes "DESTINATION_NAME") (codes "destination-name")
+    ∷ required_option (codes "KEY") (codes "key") ∷ []
+
+-- the arguments of `serve`
+unfoldable pub serve_rules : List Rule
+serve_rules = required_argument (codes "DB") ∷ port_rule ∷ connections_rule ∷ []
+
+-- the commands
+abbrev pub check_app : App
+check_app = app_with (codes "achdesk check") check_rules
+
+abbrev pub submit_app : App
+submit_app = app_with (codes "achdesk submit") submit_rules
+
+abbrev pub stdio_app : App
+stdio_app = app_with (codes "achdesk stdio") (argument (codes "DB") ∷ [])
+
+abbrev pub init_app : App
+init_app = app_with (codes "achdesk init") init_rules
+
+abbrev pub serve_app : App
+serve_app = app_with (codes "achdesk serve") serve_rules
+
+abbrev pub migrate_app : App
+migrate_app = app_with (codes "achdesk migrate") (required_argument (codes "DB") ∷ [])
+
+-- the program, whose words have to name a command
+abbrev pub program_top : App
+program_top =
+    let program = new_app (codes "achdesk") in
+    record program { top = record program.top { no_binary_name = true; subcommand_required = true } }
+
+-- the program with the name of a command more
+abbrev pub with_command : App → (name : Text) → App
+with_command program name = with_subcommand program (new_app name).top
+
+-- the names of the commands, in the help's order
+abbrev pub command_names : List Text
+command_names = codes "check" ∷ codes "submit" ∷ codes "stdio" ∷ codes "init" ∷ codes "serve" ∷ codes "migrate" ∷ []
+
+-- and with the names of its commands
+abbrev pub program_app : App
+program_app = fold with_command program_top command_names

@@ -1,0 +1,132 @@
+//! The arguments that each command takes, by `clap`'s rules.
+ghost use Rattle.std.specs.Prelude.{◌≡◌, codes, map, IfOk};
+ghost use Rattle.clap.specs.Words.{app_of, with_rule};
+ghost use Rattle.desk_command_line.specs.Arguments.{check_app, required_argument, required_option, stdio_app, submit_app};
+ghost use Rattle.desk_command_line.specs.CommandLine.{Parses};
+
+use clap::{Arg, ArgAction, ArgMatches, Command as ClapCommand, Error};
+use std::alloc::{AllocError, Global};
+
+/// The help says this of `check`.
+pub const ABOUT_CHECK: &str =
+    "Checks an incoming ACH file, and tells how many returns and changes it has";
+
+/// The help says this of `submit`.
+pub const ABOUT_SUBMIT: &str =
+    "Prints the message that hands a list of entries to a desk, or the list's first fault";
+
+/// The help says this of `stdio`.
+pub const ABOUT_STDIO: &str =
+    "Answers HTTP/1.1 messages on standard input, by a desk's file, or by a new desk of a sample bank";
+
+/// The help says this of the arguments of `submit`.
+const HELP_LIST: &str =
+    "The path of the list, CSV with the header routing,account,kind,prenote,cents,id,name,info";
+
+const HELP_COMPANY: &str = "The company's identification";
+
+const HELP_REFERENCE: &str = "The company's own reference for the submission";
+
+const HELP_DESCRIPTION: &str = "What the receivers are told that it is for";
+
+const HELP_DAY: &str = "The day on which it is to settle, as 2025-01-10";
+
+/// Parses the words of `check FILE`.
+pub fn check_matches<'a>(alloc: Global, words: &'a [&'a str]) -> Result<ArgMatches<'a>, Error>
+    ensures { Parses check_app (map (λ w. w.now) words.now) result }
+{
+    let command = check_command(alloc)?;
+    command.try_get_matches_from(words)
+}
+
+/// Parses the words of `submit FILE` with its options.
+pub fn submit_matches<'a>(alloc: Global, words: &'a [&'a str]) -> Result<ArgMatches<'a>, Error>
+    ensures { Parses submit_app (map (λ w. w.now) words.now) result }
+{
+    let command = submit_command(alloc)?;
+    command.try_get_matches_from(words)
+}
+
+/// Parses the words of `stdio [DB]`.
+pub fn stdio_matches<'a>(alloc: Global, words: &'a [&'a str]) -> Result<ArgMatches<'a>, Error>
+    ensures { Parses stdio_app (map (λ w. w.now) words.now) result }
+{
+    let command = stdio_command(alloc)?;
+    command.try_get_matches_from(words)
+}
+
+fn check_command<'a>(alloc: Global) -> Result<ClapCommand<'a>, AllocError>
+    ensures { IfOk result (λ command. app_of command ≡ check_app) }
+{
+    let command = ClapCommand::new(alloc, "achdesk check")
+        .about(ABOUT_CHECK)
+        .bin_name("achdesk check")?;
+    let command = add_argument(alloc, command, "FILE", "The path of the file")?;
+    Ok(command)
+}
+
+fn stdio_command<'a>(alloc: Global) -> Result<ClapCommand<'a>, AllocError>
+    ensures { IfOk result (λ command. app_of command ≡ stdio_app) }
+{
+    let command = ClapCommand::new(alloc, "achdesk stdio")
+        .about(ABOUT_STDIO)
+        .bin_name("achdesk stdio")?;
+    let path = Arg::new(alloc, "DB")
+        .action(ArgAction::Set)
+        .help("The path of the desk's file");
+    let command = command.arg(path)?;
+    Ok(command)
+}
+
+fn submit_command<'a>(alloc: Global) -> Result<ClapCommand<'a>, AllocError>
+    ensures { IfOk result (λ command. app_of command ≡ submit_app) }
+{
+    let command = ClapCommand::new(alloc, "achdesk submit")
+        .about(ABOUT_SUBMIT)
+        .bin_name("achdesk submit")?;
+    let command = add_argument(alloc, command, "FILE", HELP_LIST)?;
+    let command = add_option(alloc, command, "COMPANY", "company", HELP_COMPANY)?;
+    let command = add_option(alloc, command, "KEY", "key", "The company's key")?;
+    let command = add_option(alloc, command, "REF", "ref", HELP_REFERENCE)?;
+    let command = add_option(alloc, command, "SEC", "sec", "The entry class: PPD or CCD")?;
+    let command = add_option(alloc, command, "DIRECTION", "direction", "credit or debit")?;
+    let command = add_option(alloc, command, "TEXT", "description", HELP_DESCRIPTION)?;
+    let command = add_option(alloc, command, "DAY", "day", HELP_DAY)?;
+    Ok(command)
+}
+
+/// Gives the command with an argument more, which has to be there.
+pub fn add_argument<'a>(
+    alloc: Global,
+    command: ClapCommand<'a>,
+    id: &'a str,
+    help: &'a str,
+) -> Result<ClapCommand<'a>, AllocError>
+    ensures { IfOk result (λ more. app_of more ≡ with_rule (app_of command.entry) (required_argument id.now)) }
+{
+    let argument = Arg::new(alloc, id)
+        .required(true)
+        .action(ArgAction::Set)
+        .help(help);
+    let command = command.arg(argument)?;
+    Ok(command)
+}
+
+/// Gives the command with an option more that has to be there, under a long name.
+pub fn add_option<'a>(
+    alloc: Global,
+    command: ClapCommand<'a>,
+    id: &'a str,
+    name: &'a str,
+    help: &'a str,
+) -> Result<ClapCommand<'a>, AllocError>
+    ensures { IfOk result (λ more. app_of more ≡ with_rule (app_of command.entry) (required_option id.now name.now)) }
+{
+    let option = Arg::new(alloc, id)
+        .long(name)
+        .required(true)
+        .action(ArgAction::Set)
+        .help(help);
+    let command = command.arg(option)?;
+    Ok(command)
+}

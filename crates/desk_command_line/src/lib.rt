@@ -1,0 +1,17 @@
+//! This crate reads the words of the command line: the command that they name, with its options,
+//! or why they name none.
+#![tactic(auto)]
+
+mod argument_values;
+mod arguments;
+mod command;
+mod desk_arguments;
+mod desk_commands;
+mod init_options;
+mod program_arguments;
+mod serve_arguments;
+mod serve_options;
+
+pub use command::{Command, LineFault, command_of};
+pub use init_options::InitOptions;
+pub use serve_options::ServeOptions;

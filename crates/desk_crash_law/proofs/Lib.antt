@@ -1,0 +1,4 @@
+mod Books
+mod Kept
+mod Openings
+mod Runs

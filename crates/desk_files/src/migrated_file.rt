@@ -1,0 +1,34 @@
+//! The desk of version 1 in the file at a path becomes one of version 2.
+ghost use Rattle.std.specs.Prelude.{◌≢◌, IfOk, IfErr};
+ghost use Rattle.sqlite.specs.Files.{file_state};
+ghost use Rattle.sqlite.specs.State.{HasCleanDisk};
+ghost use Rattle.sqlite_wal.specs.Files.{image_at};
+ghost use Rattle.desk_files.specs.Opened.{IsMigratedIn};
+
+use crate::connect::connect;
+use crate::presence::check_presence;
+use desk_migration::migrate;
+use desk_tables::OpenFault;
+use sqlite::{Connection, FileFrom, FileStore, Start};
+
+/// Makes the desk of version 1 in the database file at a path one of version 2, in one transaction, and
+/// gives the connection. Each book that the file and its log kept is kept, whatever moment a crash left
+/// them at, and whatever moment the next one comes at.
+///
+/// A desk of another version, also one that was migrated before, is `OpenFault::WrongVersion`. Where
+/// there is no file, an empty one, or a database with no desk, it is `OpenFault::NotADesk`, and no file
+/// is made. A file that cannot be opened as a database is `OpenFault::Unavailable`. `S` stands for what
+/// the files hold, as in `create`.
+pub fn migrate_file<S: Start>(
+    rt: &HostRuntime,
+    path: &str,
+    start: S,
+) -> Result<Connection<FileStore<FileFrom<S>>>, OpenFault>
+    ensures migrated { IfOk result (λ c. HasCleanDisk (file_state c) → IsMigratedIn (image_at S.Start) c) }
+    ensures otherwise { IfErr result (λ fault. fault ≢ OpenFault.Exists) }
+{
+    check_presence(rt, path)?;
+    let mut conn = connect(rt, path, start)?;
+    migrate(rt.alloc(), &mut conn)?;
+    Ok(conn)
+}
