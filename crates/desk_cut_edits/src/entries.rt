@@ -8,8 +8,8 @@ ghost use Rattle.desk_records.specs.TableEdits.{place_edit};
 ghost use Rattle.desk_cut_edits.specs.PlaceEdits.{mark_entry_edit, put_number_edit};
 
 use ach_fields::MOST_SEQUENCE;
-use desk_edits::{characters, natural};
 use desk_history::SentEntry;
+use desk_queries::{characters, natural};
 use sql_statements::execute;
 use sql_transactions::{RowBody, execute_one};
 use sqlite::{Alter, Error, Transaction};

@@ -3,7 +3,7 @@ ghost use Rattle.desk_records.specs.Layout.{desk_layout};
 ghost use Rattle.desk_records.specs.TableEdits.{put_file_edit};
 
 use desk_book::FileRow;
-use desk_edits::{date, natural};
+use desk_queries::{date, natural};
 use sql_statements::{blob, execute};
 use sql_transactions::RowBody;
 use sqlite::{Alter, Error, Transaction};

@@ -9,6 +9,6 @@ mod parameters;
 mod registry;
 mod submissions;
 
-pub use parameters::{cause, characters, date, natural, optional_reference, reason, switch};
+pub use parameters::{cause, optional_reference, reason, switch};
 pub use registry::{PutCompany, PutLimits, SetDay, SetHolidays};
 pub use submissions::AddSubmission;

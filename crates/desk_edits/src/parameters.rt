@@ -1,43 +1,17 @@
 //! Values of the desk are parameters of statements.
-ghost use Rattle.std.specs.Prelude.{◌≡◌, IfOk};
+ghost use Rattle.std.specs.Prelude.{◌≡◌};
 ghost use Rattle.sqlite.specs.Values.{bound_value, or_null};
 ghost use Rattle.sqlite_value.specs.Value.{owned};
 ghost use Rattle.sqlite_value.specs.declared.value.Value.TheVariants.{Text};
 ghost use Rattle.desk_history.specs.Resolve.{is_savings};
-ghost use Rattle.desk_records.specs.Columns.{number, flag, direction_text, cause_text, reason_text};
+ghost use Rattle.desk_records.specs.Columns.{flag, direction_text, cause_text, reason_text};
 
 use ach_fields::{Ref, ShortText};
-use bank_days::Day;
 use desk_accounts::Cause;
 use desk_history::SuspenseReason;
+use desk_queries::characters;
 use desk_rules::{AccountKind, Direction};
-use sqlite::Error;
 use sqlite::types::ValueRef;
-
-/// Gives a number from zero on as a parameter. `Error::InvalidQuery` says that it is past 2^63 - 1,
-/// the last that a column has.
-pub fn natural<'a>(n: u64) -> Result<ValueRef<'a>, Error>
-    ensures { IfOk result (λ v. bound_value (owned v) ≡ number n) }
-{
-    match i64::try_from(n) {
-        Ok(m) => Ok(sql_statements::number(m)),
-        Err(_) => Err(Error::InvalidQuery),
-    }
-}
-
-/// Gives a day as a parameter, by its number.
-pub fn date<'a>(day: Day) -> ValueRef<'a>
-    ensures { bound_value (owned result) ≡ number day }
-{
-    sql_statements::number(day.number())
-}
-
-/// Gives the characters of a text as a parameter.
-pub fn characters<'a>(bytes: &'a [u8]) -> ValueRef<'a>
-    ensures { bound_value (owned result) ≡ Text bytes.now }
-{
-    ValueRef::Text(bytes)
-}
 
 /// Gives a flag as a parameter: 1 or 0.
 pub fn switch<'a>(is_set: bool) -> ValueRef<'a>

@@ -7,9 +7,9 @@ ghost use Rattle.desk_records.specs.Layout.{desk_layout};
 ghost use Rattle.desk_records.specs.TableEdits.{set_day_edit, set_holidays_edit, put_company_edit, put_limits_edit};
 ghost use Rattle.desk_edits.specs.HolidayEdits.{clear_holidays_edit, put_holiday_edit};
 
-use crate::parameters::{characters, date, natural};
 use ach_fields::Id;
 use bank_days::{Calendar, Day};
+use desk_queries::{characters, date, natural};
 use desk_rules::{Company, Limits, RuleDay};
 use sql_statements::{blob, execute};
 use sql_transactions::{RowBody, TransactionBody, run_each};

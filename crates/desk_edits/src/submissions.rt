@@ -11,9 +11,10 @@ ghost use Rattle.desk_records.specs.Encodes.{AsksAs, retried_entry};
 ghost use Rattle.desk_records.specs.Layout.{desk_layout};
 ghost use Rattle.desk_records.specs.TableEdits.{add_submission_edit, put_submission_edit, put_entry_edit, put_authorization_edit};
 
-use crate::parameters::{characters, date, direction, natural, optional_text, savings, switch};
+use crate::parameters::{direction, optional_text, savings, switch};
 use ach_fields::{Id, Ref};
 use bank_days::Day;
+use desk_queries::{characters, date, natural};
 use desk_rules::{Entry, Retry, RuleDay, SizedSubmission, Submission};
 use sql_statements::execute;
 use sql_transactions::{RowBody, TransactionBody, run_each};

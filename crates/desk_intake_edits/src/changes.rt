@@ -9,8 +9,8 @@ ghost use Rattle.desk_intake_edits.specs.RowEdits.{insert_change_edit};
 
 use crate::orders::order_under;
 use desk_book::ChangedRow;
-use desk_edits::{characters, date, natural};
 use desk_line_edits::{NumberedTable, next_after};
+use desk_queries::{characters, date, natural};
 use desk_records::ChangeRecord;
 use sql_statements::execute;
 use sql_transactions::{RowBody, run_each};

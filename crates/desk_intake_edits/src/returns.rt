@@ -10,8 +10,9 @@ ghost use Rattle.desk_intake_edits.specs.RowEdits.{insert_return_edit};
 
 use crate::orders::order_under;
 use desk_book::ReturnedRow;
-use desk_edits::{characters, date, natural, switch};
+use desk_edits::switch;
 use desk_line_edits::{NumberedTable, next_after};
+use desk_queries::{characters, date, natural};
 use desk_records::ReturnRecord;
 use sql_statements::execute;
 use sql_transactions::{RowBody, run_each};

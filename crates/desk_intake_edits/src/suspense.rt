@@ -6,9 +6,10 @@ ghost use Rattle.sql_transactions.specs.Transactions.{Makes};
 ghost use Rattle.desk_records.specs.Layout.{desk_layout};
 ghost use Rattle.desk_records.specs.TableEdits.{put_suspense_edit, each_edit_on, next_number};
 
-use desk_edits::{characters, date, natural, reason};
+use desk_edits::reason;
 use desk_history::SuspenseRow;
 use desk_line_edits::{NumberedTable, next_after};
+use desk_queries::{characters, date, natural};
 use sql_statements::execute;
 use sql_transactions::{RowBody, run_each};
 use sqlite::{Alter, Error, Transaction};

@@ -6,8 +6,8 @@ ghost use Rattle.sql_transactions.specs.Transactions.{Makes};
 ghost use Rattle.desk_records.specs.Layout.{desk_layout};
 ghost use Rattle.desk_records.specs.TableEdits.{put_taken_edit};
 
-use desk_edits::{characters, date, natural};
 use desk_history::TakenFile;
+use desk_queries::{characters, date, natural};
 use sql_statements::{blob, execute};
 use sqlite::{Alter, Error, Transaction};
 

@@ -10,7 +10,7 @@ use crate::accounts::account_text;
 use crate::cell::cell_inside;
 use bank_days::Day;
 use desk_accounts::Account;
-use desk_edits::{characters, date};
+use desk_queries::{characters, date};
 use itoa::Buffer;
 use sql_statements::execute;
 use sqlite::{Alter, Error, Transaction};

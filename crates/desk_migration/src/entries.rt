@@ -5,7 +5,7 @@ ghost use Rattle.sqlite.specs.State.{HasCleanDisk, Survives, KeepsCommit};
 ghost use Rattle.sql_transactions.specs.Transactions.{Makes};
 ghost use Rattle.desk_migration.specs.Migration.{put_number_edit, number_entries_edit, number_in, seen_layout, if_seen};
 
-use desk_edits::natural;
+use desk_queries::natural;
 use desk_records::read_only_column;
 use sql_statements::{execute, number};
 use sql_transactions::{RowBody, query_inside, run_each};

@@ -7,7 +7,7 @@ ghost use Rattle.sql_transactions.specs.Findings.{Finds};
 ghost use Rattle.desk_records.specs.Layout.{desk_layout};
 ghost use Rattle.desk_records.specs.TableReads.{entries_in, entry_at, entry_at_place, place_in, places_between, IsLastNumber};
 
-use crate::parameter::{count, name};
+use crate::parameter::{characters, natural};
 use crate::rows::{all_of, cell_of, column_of, first_of};
 use ach_fields::Id;
 use desk_records::{NumberRecord, NumberedEntry, PlacedEntry};
@@ -29,7 +29,7 @@ pub fn entries_of<S: Alter>(
         conn,
         alloc,
         "SELECT idx, routing, account, savings, prenote, cents, ident, name, info FROM entries WHERE company = ?1 AND ord = ?2 ORDER BY company, ord, idx",
-        &[name(company.bytes()), count(order)?],
+        &[characters(company.bytes()), natural(order)?],
     )
 }
 
@@ -47,7 +47,11 @@ pub fn entry<S: Alter>(
     first_of(
         conn,
         "SELECT idx, routing, account, savings, prenote, cents, ident, name, info FROM entries WHERE company = ?1 AND ord = ?2 AND idx = ?3 ORDER BY company, ord, idx",
-        &[name(company.bytes()), count(order)?, count(index)?],
+        &[
+            characters(company.bytes()),
+            natural(order)?,
+            natural(index)?,
+        ],
     )
 }
 
@@ -63,7 +67,7 @@ pub fn sent_entry<S: Alter>(
     first_of(
         conn,
         "SELECT company, ord, idx, routing, account, savings, prenote, cents, ident, name, info FROM entries WHERE seq = ?1 ORDER BY company, ord, idx",
-        &[count(place)?],
+        &[natural(place)?],
     )
 }
 
@@ -76,7 +80,7 @@ pub fn place<S: Alter>(conn: &mut Connection<S>, sequence: u32) -> Result<Option
     cell_of(
         conn,
         "SELECT nth FROM numbers WHERE sequence = ?1 ORDER BY sequence",
-        &[count(u64::from(sequence))?],
+        &[natural(u64::from(sequence))?],
     )
 }
 
@@ -95,7 +99,7 @@ pub fn places<S: Alter>(
         conn,
         alloc,
         "SELECT nth FROM numbers WHERE sequence >= ?1 AND sequence <= ?2 ORDER BY sequence",
-        &[count(u64::from(from))?, count(u64::from(to))?],
+        &[natural(u64::from(from))?, natural(u64::from(to))?],
     )
 }
 

@@ -7,7 +7,7 @@ ghost use Rattle.sql_transactions.specs.Findings.{Finds};
 ghost use Rattle.desk_records.specs.Layout.{desk_layout};
 ghost use Rattle.desk_records.specs.TableReads.{modifiers_in, text_in, taken_in};
 
-use crate::parameter::{count, day as by_day, name};
+use crate::parameter::{characters, date, natural};
 use crate::rows::{blob_of, column_of, first_of};
 use bank_days::Day;
 use desk_history::TakenFile;
@@ -28,7 +28,7 @@ pub fn modifiers<S: Alter>(
         conn,
         alloc,
         "SELECT modifier FROM files WHERE day = ?1 ORDER BY day, modifier",
-        &[by_day(day)],
+        &[date(day)],
     )
 }
 
@@ -44,7 +44,7 @@ pub fn taken_file<S: Alter>(
     first_of(
         conn,
         "SELECT file_key, digest, day, returns, changes, late, suspense FROM taken WHERE file_key = ?1 ORDER BY file_key",
-        &[name(&key)],
+        &[characters(&key)],
     )
 }
 
@@ -63,6 +63,6 @@ pub fn file_text<S: Alter>(
         conn,
         alloc,
         "SELECT text FROM files WHERE day = ?1 AND modifier = ?2 ORDER BY day, modifier",
-        &[by_day(day), count(u64::from(modifier))?],
+        &[date(day), natural(u64::from(modifier))?],
     )
 }

@@ -7,7 +7,7 @@ ghost use Rattle.sql_transactions.specs.Findings.{Finds};
 ghost use Rattle.desk_records.specs.Layout.{desk_layout};
 ghost use Rattle.desk_records.specs.TableReads.{returns_in, return_at, return_lines_in, change_lines_in, suspense_in};
 
-use crate::parameter::{count, name};
+use crate::parameter::{characters, natural};
 use crate::rows::{all_of, first_of};
 use ach_fields::Id;
 use desk_history::SuspenseRow;
@@ -30,7 +30,7 @@ pub fn returns<S: Alter>(
         conn,
         alloc,
         "SELECT idx, code, day, late FROM returns WHERE company = ?1 AND ord = ?2 ORDER BY no",
-        &[name(company.bytes()), count(order)?],
+        &[characters(company.bytes()), natural(order)?],
     )
 }
 
@@ -48,7 +48,11 @@ pub fn entry_return<S: Alter>(
     first_of(
         conn,
         "SELECT idx, code, day, late FROM returns WHERE company = ?1 AND ord = ?2 AND idx = ?3 ORDER BY no",
-        &[name(company.bytes()), count(order)?, count(index)?],
+        &[
+            characters(company.bytes()),
+            natural(order)?,
+            natural(index)?,
+        ],
     )
 }
 
@@ -66,7 +70,7 @@ pub fn return_lines<S: Alter>(
         conn,
         alloc,
         "SELECT ord, idx, code, day, late, info FROM returns WHERE company = ?1 ORDER BY no",
-        &[name(company.bytes())],
+        &[characters(company.bytes())],
     )
 }
 
@@ -84,7 +88,7 @@ pub fn change_lines<S: Alter>(
         conn,
         alloc,
         "SELECT ord, idx, code, day, text FROM changes WHERE company = ?1 ORDER BY no",
-        &[name(company.bytes())],
+        &[characters(company.bytes())],
     )
 }
 

@@ -18,6 +18,7 @@ pub use entries::{entries_of, entry, last_number, place, places, sent_entry};
 pub use files::{file_text, modifiers, taken_file};
 pub use items::{change_lines, entry_return, return_lines, returns, suspense};
 pub use lines::{postings, sum, sums};
+pub use parameter::{characters, date, natural};
 pub use registry::{companies, company, day, holidays, identity, operator_key};
 pub use submissions::{
     authorization, facts, last_order, open_submissions, order_and_settlement, retries, submission,

@@ -8,7 +8,7 @@ ghost use Rattle.desk_records.specs.Layout.{desk_layout};
 ghost use Rattle.desk_records.specs.TableReads.{lines_in, sums_in, sum_in};
 ghost use Rattle.desk_queries.specs.Postings.{posting_of};
 
-use crate::parameter::{account_text, day, name};
+use crate::parameter::{account_text, characters, date};
 use crate::rows::{all_of, cell_of};
 use bank_days::Day;
 use desk_accounts::{Account, Posting};
@@ -32,7 +32,7 @@ pub fn postings<S: Alter>(
         conn,
         alloc,
         "SELECT value_day, cents, cause, ref, idx FROM postings WHERE account = ?1 ORDER BY no",
-        &[name(&text)],
+        &[characters(&text)],
     )?;
     of_account(alloc, &account, &lines)
 }
@@ -74,7 +74,7 @@ pub fn sums<S: Alter>(
         conn,
         alloc,
         "SELECT value_day, cents FROM balances WHERE account = ?1 ORDER BY account, value_day",
-        &[name(&text)],
+        &[characters(&text)],
     )
 }
 
@@ -93,6 +93,6 @@ pub fn sum<S: Alter>(
     cell_of(
         conn,
         "SELECT cents FROM balances WHERE account = ?1 AND value_day = ?2 ORDER BY account, value_day",
-        &[name(&text), day(value_day)],
+        &[characters(&text), date(value_day)],
     )
 }

@@ -1,4 +1,4 @@
-//! A query takes these values of the desk as its parameters.
+//! Values of the desk are parameters of statements.
 ghost use Rattle.std.specs.Prelude.{◌≡◌, IfOk};
 ghost use Rattle.sqlite.specs.Values.{bound_value};
 ghost use Rattle.sqlite_value.specs.Value.{owned};
@@ -11,15 +11,16 @@ use sqlite::Error;
 use sqlite::types::ValueRef;
 use std::alloc::Global;
 
-/// Gives characters as a text.
-pub(crate) fn name<'a>(bytes: &'a [u8]) -> ValueRef<'a>
+/// Gives the characters of a text as a parameter.
+pub fn characters<'a>(bytes: &'a [u8]) -> ValueRef<'a>
     ensures { bound_value (owned result) ≡ Text bytes.now }
 {
     ValueRef::Text(bytes)
 }
 
-/// Gives a number. One of 2^63 or more is `Error::InvalidQuery`: no column stores it.
-pub(crate) fn count<'a>(n: u64) -> Result<ValueRef<'a>, Error>
+/// Gives a number from zero on as a parameter. `Error::InvalidQuery` says that it is past 2^63 - 1,
+/// the last that a column has.
+pub fn natural<'a>(n: u64) -> Result<ValueRef<'a>, Error>
     ensures { IfOk result (λ v. bound_value (owned v) ≡ number n) }
 {
     match i64::try_from(n) {
@@ -28,8 +29,8 @@ pub(crate) fn count<'a>(n: u64) -> Result<ValueRef<'a>, Error>
     }
 }
 
-/// Gives a day, as its number.
-pub(crate) fn day<'a>(day: Day) -> ValueRef<'a>
+/// Gives a day as a parameter, by its number.
+pub fn date<'a>(day: Day) -> ValueRef<'a>
     ensures { bound_value (owned result) ≡ number day }
 {
     ValueRef::Int(day.number())

@@ -8,7 +8,7 @@ ghost use Rattle.desk_records.specs.Layout.{desk_layout};
 ghost use Rattle.desk_records.specs.TableReads.{company_in};
 ghost use Rattle.desk_queries.specs.DigestRows.{key_digest_row};
 
-use crate::parameter::name;
+use crate::parameter::characters;
 use crate::rows::{all_of, cell_of, column_of, first_of};
 use ach_fields::Id;
 use bank_days::Day;
@@ -115,6 +115,6 @@ pub fn company<S: Alter>(conn: &mut Connection<S>, id: Id) -> Result<Option<Comp
     first_of(
         conn,
         "SELECT id, name, key_digest, entry_limit, credit_limit, debit_limit FROM companies WHERE id = ?1 ORDER BY id",
-        &[name(id.bytes())],
+        &[characters(id.bytes())],
     )
 }

@@ -7,7 +7,7 @@ ghost use Rattle.sql_transactions.specs.Findings.{Finds};
 ghost use Rattle.desk_records.specs.Layout.{desk_layout};
 ghost use Rattle.desk_records.specs.TableReads.{is_of, is_open_of, is_waiting_of, is_retry_of, heads_in, head_under, order_in, facts_in, last_order, authorized_in};
 
-use crate::parameter::{count, day, name};
+use crate::parameter::{characters, date, natural};
 use crate::rows::{all_of, cell_of, first_of};
 use ach_fields::{Id, Ref};
 use bank_days::Day;
@@ -29,7 +29,7 @@ pub fn submissions_of<S: Alter>(
         conn,
         alloc,
         "SELECT company, ord, ref, sec, direction, description, asked, of_ref, of_index, lapsed, settled FROM submissions WHERE company = ?1 ORDER BY company, ord",
-        &[name(company.bytes())],
+        &[characters(company.bytes())],
     )
 }
 
@@ -48,7 +48,7 @@ pub fn open_submissions<S: Alter>(
         conn,
         alloc,
         "SELECT company, ord, ref, sec, direction, description, asked, of_ref, of_index, lapsed, settled FROM submissions WHERE company = ?1 AND (settled >= ?2 OR settled IS NULL AND lapsed = 0) ORDER BY company, ord",
-        &[name(company.bytes()), day(since)],
+        &[characters(company.bytes()), date(since)],
     )
 }
 
@@ -66,7 +66,7 @@ pub fn waiting_submissions<S: Alter>(
         conn,
         alloc,
         "SELECT company, ord, ref, sec, direction, description, asked, of_ref, of_index, lapsed, settled FROM submissions WHERE company = ?1 AND settled IS NULL AND lapsed = 0 ORDER BY company, ord",
-        &[name(company.bytes())],
+        &[characters(company.bytes())],
     )
 }
 
@@ -87,7 +87,11 @@ pub fn retries<S: Alter>(
         conn,
         alloc,
         "SELECT company, ord, ref, sec, direction, description, asked, of_ref, of_index, lapsed, settled FROM submissions WHERE company = ?1 AND of_ref = ?2 AND of_index = ?3 ORDER BY company, ord",
-        &[name(company.bytes()), name(of.bytes()), count(index)?],
+        &[
+            characters(company.bytes()),
+            characters(of.bytes()),
+            natural(index)?,
+        ],
     )
 }
 
@@ -104,7 +108,7 @@ pub fn submission<S: Alter>(
     first_of(
         conn,
         "SELECT company, ord, ref, sec, direction, description, asked, of_ref, of_index, lapsed, settled FROM submissions WHERE company = ?1 AND ref = ?2 ORDER BY company, ord",
-        &[name(company.bytes()), name(reference.bytes())],
+        &[characters(company.bytes()), characters(reference.bytes())],
     )
 }
 
@@ -121,7 +125,7 @@ pub fn order_and_settlement<S: Alter>(
     first_of(
         conn,
         "SELECT ord, settled FROM submissions WHERE company = ?1 AND ref = ?2 ORDER BY company, ord",
-        &[name(company.bytes()), name(reference.bytes())],
+        &[characters(company.bytes()), characters(reference.bytes())],
     )
 }
 
@@ -138,7 +142,7 @@ pub fn facts<S: Alter>(
     first_of(
         conn,
         "SELECT ref, sec, direction, settled FROM submissions WHERE company = ?1 AND ord = ?2 ORDER BY company, ord",
-        &[name(company.bytes()), count(order)?],
+        &[characters(company.bytes()), natural(order)?],
     )
 }
 
@@ -155,7 +159,7 @@ pub fn authorization<S: Alter>(
     cell_of(
         conn,
         "SELECT day FROM authorizations WHERE company = ?1 AND ord = ?2 ORDER BY company, ord",
-        &[name(company.bytes()), count(order)?],
+        &[characters(company.bytes()), natural(order)?],
     )
 }
 
@@ -168,7 +172,7 @@ pub fn last_order<S: Alter>(conn: &mut Connection<S>, company: Id) -> Result<u64
     match cell_of(
         conn,
         "SELECT ord FROM submissions WHERE company = ?1 ORDER BY company DESC, ord DESC LIMIT 1",
-        &[name(company.bytes())],
+        &[characters(company.bytes())],
     )? {
         Some(order) => Ok(order),
         None => Ok(0),
