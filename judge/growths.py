@@ -89,7 +89,7 @@ def build(work):
     (work / "crates" / "growths" / "src").mkdir(parents=True)
     shutil.copy(HERE / "main.rt.txt", work / "crates" / "growths" / "src" / "main.rt")
     with open(work / "crates.txt", "a") as crates:
-        crates.write("growths: ach_fields desk_core desk_session desk_routes desk_http sha2\n")
+        crates.write("growths: ach_fields desk_core desk_lists desk_session desk_routes desk_http sha2\n")
     subprocess.run(["rt", "run"], cwd=work / "crates" / "growths", input=b"", check=True)
     return work / "crates" / "growths" / "out" / "growths"
 

@@ -31,5 +31,5 @@ pub use desk_history::{
     served_alone, traces_name, traces_of_cuts, two_worlds,
 };
 pub use desk_intake::{FoundItem, IntakePlan, NamedEntry, plan_intake};
-pub use desk_store::{CutRows, FaultyStore, IntakeRows, ListStore, Store, StoreFault};
+pub use desk_store::{CutRows, IntakeRows, Store, StoreFault};
 pub use laws::{crashes_leave, desk_alone, two_desks};

@@ -17,8 +17,7 @@ use Rattle.desk_history.specs.declared.sent_entry.SentEntry.{SentEntry}
 use Rattle.desk_plan.specs.Reuse.{youngest_settlement}
 use Rattle.desk_book.specs.Reads.{latest_settled}
 use Rattle.desk_store.specs.Rows.{Rows, flat_book}
-use Rattle.desk_store.proofs.Indexed.{none_found}
-use Rattle.desk_store.proofs.Traced.{traced, other_bank}
+use Rattle.desk_store.proofs.Traced.{traced, other_bank, none_found}
 use Rattle.desk_records.specs.Beside.{Beside}
 use Rattle.desk_records.specs.Encodes.{Encodes}
 use Rattle.desk_records.specs.KeyOrders.{IsInOrder, submission_cmp, number_cmp}

@@ -1,10 +1,5 @@
 pub mod FlatRows
 pub mod FlatCuts
 pub mod FlatIntakes
-pub mod Numbered
-pub mod DaySums
-pub mod Latest
 pub mod Traced
-pub mod Indexed
-pub mod Places
 pub mod Added

@@ -1,6 +1,6 @@
 -- A trace is that of an entry exactly where its two numbers are.
-use Rattle.std.proofs.Common.{◌≡◌, ℕ, ◌+◌, ◌*◌, ◌/◌, ◌%◌, ◌≤◌, ◌==◌, Bool, true, false, List, ◌++◌, length, take, drop, sym, ap, ◌∙◌, arith, inl, inr}
-use Rattle.std.specs.Prelude.{bytes_eq}
+use Rattle.std.proofs.Common.{◌≡◌, ℕ, ◌+◌, ◌*◌, ◌/◌, ◌%◌, ◌≤◌, ◌==◌, Bool, true, false, List, [], ◌∷◌, ◌++◌, length, take, drop, None, refl, sym, ap, ◌∙◌, arith, inl, inr}
+use Rattle.std.specs.Prelude.{bytes_eq, find}
 use Rattle.std.proofs.Math.Seq.{take-append_seam, drop-append_seam}
 use Rattle.std.proofs.lemmas.Bool.{cases_Bool, and_parts, eq-eqb, ne_eqb, eqb-true, false_from_ne_true}
 use Rattle.std.proofs.lemmas.List.{take-append-drop, length-take-le, length-drop}
@@ -8,6 +8,7 @@ use Rattle.std.proofs.lemmas.Slice.Eq.{bytes_eq-Decides}
 use Rattle.ach_fields.specs.Digits.{digits, number, AreDigits}
 use Rattle.ach_fields.specs.Laws.{NumbersAndDigits}
 use Rattle.ach_fields.specs.Trace.{is_trace, trace_text, dfi_in, sequence_in}
+use Rattle.desk_history.specs.declared.sent_entry.SentEntry.{SentEntry}
 use Rattle.ach_fields.proofs.Digits.{digits-split, AreDigits-take, AreDigits-drop}
 
 -- only the last seven digits count
@@ -57,3 +58,8 @@ traced law d s t few is bank = elim (cases_Bool (bytes_eq (trace_text d s) t)) [
 
 pub other_bank : NumbersAndDigits → (d s : ℕ) (t : List ℕ) → d ≤ 99_999_999 → (d ≡ dfi_in t → ⊥) → bytes_eq (trace_text d s) t ≡ false
 other_bank law d s t few apart = false_from_ne_true _ (λ same. apart (sym (dfi_of_text law d s few) ∙ ap dfi_in ((bytes_eq-Decides (trace_text d s) t).0 same)))
+
+-- nothing is found by a test that none passes
+pub none_found : (es : List SentEntry) → find (λ _. false) es ≡ None
+none_found [] = refl
+none_found (e ∷ es) = none_found es

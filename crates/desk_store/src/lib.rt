@@ -1,14 +1,10 @@
-//! This crate has the store of a desk: what it reads and writes, whatever keeps it; one store that
-//! keeps lists in memory, and one that refuses a call.
+//! This crate has the store of a desk: what it reads and writes, whatever keeps it.
 //!
 //! A store holds a book, which `desk_book` defines. Each read gives its value of the book, each
-//! write makes its one step of it; or the store could not act, and holds what it held.
+//! write makes its one step of it; or the store could not act, and holds what it held. For stores of
+//! rows it has the book that flat rows are (`Rows`), and how writes change them.
 #![tactic(auto)]
 
-mod faulty;
-mod lists;
 mod store;
 
-pub use faulty::FaultyStore;
-pub use lists::store::ListStore;
 pub use store::{CutRows, IntakeRows, Store, StoreFault};

@@ -1,7 +1,8 @@
 //! The library in use, as the README shows it.
 use ach_fields::{FieldFault, Id, Routing, ShortText};
-use desk_core::{Answer, Call, Desk, Identity, ListStore, Outcome, StoreFault};
+use desk_core::{Answer, Call, Desk, Identity, Outcome, StoreFault};
 use desk_json::{company_draft, day_draft, read_object, submission_draft};
+use desk_lists::ListStore;
 use serde_json::Value;
 use std::alloc::{AllocError, Global};
 use std::io;

@@ -1,10 +1,11 @@
 //! The sample bank, whose new desk answers the messages of a session.
 ghost use Rattle.std.specs.Prelude.{◌≡◌};
-ghost use Rattle.desk_store.specs.Kept.{IsHeld};
+ghost use Rattle.desk_lists.specs.Kept.{IsHeld};
 ghost use Rattle.desk_cli.specs.MessageRuns.{new_book, sample_identity};
 
 use ach_fields::{Routing, ShortText};
-use desk_core::{Desk, Identity, ListStore};
+use desk_core::{Desk, Identity};
+use desk_lists::ListStore;
 use sha2::{Digest, Sha256};
 use std::alloc::Global;
 

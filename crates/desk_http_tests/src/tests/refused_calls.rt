@@ -2,8 +2,9 @@
 use super::exchanges::{UNAVAILABLE, add_request, add_response, http_desk, run};
 use super::samples::{Exchange, new_lists};
 use super::settlements::DAYS;
-use desk_core::{FaultyStore, Store};
+use desk_core::Store;
 use desk_http::HttpDesk;
+use desk_lists::FaultyStore;
 use std::alloc::Global;
 use std::process::Abort;
 

@@ -1,6 +1,7 @@
 //! The sample bank, its companies, their submissions, and files of returns.
 use ach_fields::{Routing, ShortText};
-use desk_core::{Identity, ListStore};
+use desk_core::Identity;
+use desk_lists::ListStore;
 use desk_tables::SqlStore;
 use sha2::{Digest, Sha256};
 use sqlite::MemStore;

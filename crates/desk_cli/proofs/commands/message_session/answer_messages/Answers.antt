@@ -1,7 +1,7 @@
 use Rattle.std.proofs.Common.{sym, ◌∙◌, subst}
 use Rattle.desk_http.specs.Answering.{StandsBehind}
-use Rattle.desk_store.specs.Kept.{IsHeld}
-use Rattle.desk_store.specs.declared.lists.store.ListStore.{ListStore}
+use Rattle.desk_lists.specs.Kept.{IsHeld}
+use Rattle.desk_lists.specs.declared.list_store.ListStore.{ListStore}
 use Rattle.desk_cli.specs.MessageRuns.{new_history}
 use Rattle.desk_cli.proofs.MessageRunLemmas.{broken_off, run_of_new_desk, stands_for_nothing}
 use Rattle.desk_cli.proofs.commands.message_session.answer_messages.Goals as goal

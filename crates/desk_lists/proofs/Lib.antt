@@ -1,0 +1,5 @@
+mod Numbered
+mod DaySums
+mod Latest
+mod Indexed
+mod Places

@@ -1,0 +1,23 @@
+use Rattle.std.proofs.Common.{◌∙◌, ◌++◌, sym, ap}
+use Rattle.desk_lists.specs.Kept.{rows_in}
+use Rattle.desk_store.specs.Rows.{flat_book}
+use Rattle.desk_book.specs.Steps.{commit_cut}
+use Rattle.desk_store.specs.Written.{cut_rows}
+use Rattle.desk_store.proofs.FlatCuts.{flat_cut}
+use Rattle.desk_lists.proofs.Indexed.{indexed_as, indexed_behind, settled_as, settled_behind}
+use Rattle.desk_lists.proofs.calls.ListStoreStore.commit_cut.Goals as goal
+
+pub returns-clause-write : goal.returns-clause-write
+returns-clause-write c = λ _ b held _.
+    let x = cut_rows c.args.cut.now in
+    let old = c.args.self.now in
+    record {
+      book = ap (commit_cut x).after held.book ∙ sym (ap flat_book c.in_ok-write_cut.ensures.ok ∙ flat_cut (rows_in old) x);
+      indexed = indexed_as (old.sent.items ++ x.entries) c.write_cut.new.store.sent.items old.traces c.write_cut.new.store.traces (ap (λ r. r.sent) c.in_ok-write_cut.ensures.ok) c.in_ok-write_cut.ensures.traces (indexed_behind old.sent.items x.entries old.traces held.indexed);
+      settled = settled_as (old.sent.items ++ x.entries) c.write_cut.new.store.sent.items old.settlements c.write_cut.new.store.settlements (ap (λ r. r.sent) c.in_ok-write_cut.ensures.ok) c.in_ok-write_cut.ensures.settlements (settled_behind old.sent.items x.entries old.settlements held.settled);
+    }
+
+pub returns-clause-left : goal.returns-clause-left
+returns-clause-left c = λ _ b found held _ is.
+    let x = cut_rows c.args.cut.now in
+    is ∙ ap flat_book c.in_ok-write_cut.ensures.ok ∙ flat_cut (rows_in c.args.self.now) x ∙ sym (ap (commit_cut x).after held.book)

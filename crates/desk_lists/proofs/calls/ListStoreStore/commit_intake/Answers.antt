@@ -1,0 +1,23 @@
+use Rattle.std.proofs.Common.{◌∙◌, sym, ap}
+use Rattle.desk_lists.specs.Kept.{rows_in}
+use Rattle.desk_store.specs.Rows.{flat_book}
+use Rattle.desk_book.specs.Steps.{commit_intake}
+use Rattle.desk_store.specs.Written.{intake_rows}
+use Rattle.desk_store.proofs.FlatIntakes.{flat_intake}
+use Rattle.desk_lists.proofs.Indexed.{indexed_as, settled_as}
+use Rattle.desk_lists.proofs.calls.ListStoreStore.commit_intake.Goals as goal
+
+pub returns-clause-write : goal.returns-clause-write
+returns-clause-write c = λ _ b held _.
+    let x = intake_rows c.args.intake.now in
+    let old = c.args.self.now in
+    record {
+      book = ap (commit_intake x).after held.book ∙ sym (ap flat_book c.in_ok-write_intake.ensures.ok ∙ flat_intake (rows_in old) x);
+      indexed = indexed_as old.sent.items c.write_intake.new.store.sent.items old.traces c.write_intake.new.store.traces (ap (λ r. r.sent) c.in_ok-write_intake.ensures.ok) c.in_ok-write_intake.ensures.traces held.indexed;
+      settled = settled_as old.sent.items c.write_intake.new.store.sent.items old.settlements c.write_intake.new.store.settlements (ap (λ r. r.sent) c.in_ok-write_intake.ensures.ok) c.in_ok-write_intake.ensures.settlements held.settled;
+    }
+
+pub returns-clause-left : goal.returns-clause-left
+returns-clause-left c = λ _ b found held _ is.
+    let x = intake_rows c.args.intake.now in
+    is ∙ ap flat_book c.in_ok-write_intake.ensures.ok ∙ flat_intake (rows_in c.args.self.now) x ∙ sym (ap (commit_intake x).after held.book)

@@ -1,0 +1,7 @@
+use Rattle.std.proofs.Common.{◌≡◌, drop, map}
+use Rattle.desk_store.specs.Changes.{in_turn}
+use Rattle.desk_lists.specs.Kept.{row_in}
+use Rattle.desk_lists.proofs.changes.change_in_turn.Given as goal
+
+abbrev pub invariant-loop-change : goal.invariant-loop-change
+invariant-loop-change g l = in_turn g.C.Change.makes (drop l.change-index l.changes) (map row_in l.kept) ≡ in_turn g.C.Change.makes l.changes (map row_in l.fn.kept)

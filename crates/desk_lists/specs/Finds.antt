@@ -1,0 +1,39 @@
+-- What the reads of the lists in memory find.
+use Rattle.std.specs.Prelude.{ℕ, ◌==◌, nat_lt, if◌then◌else◌, List, [], ◌∷◌, map, filter, bytes_eq, option_and_then, max, Option, Some, None, ℤ, ◌+ℤ◌}
+use Rattle.desk_rules.specs.declared.bodies.company.Company.{Company}
+use Rattle.desk_book.specs.declared.row.Row.{Row}
+use Rattle.desk_history.specs.declared.sent_entry.SentEntry.{SentEntry}
+use Rattle.desk_book.specs.Standing.{row_under, is_held}
+use Rattle.desk_lists.specs.declared.list_store.KeptSubmission.{KeptSubmission}
+use Rattle.desk_book.specs.declared.held_submission.HeldSubmission.{HeldSubmission}
+use Rattle.desk_lists.specs.Kept.{row_in}
+use Rattle.desk_book.specs.Reads.{held_submission}
+
+-- a company's rows
+abbrev pub rows_for : List KeptSubmission → List ℕ → List Row
+rows_for kept c = map (λ x. x.row) (filter (λ x. bytes_eq x.company c) (map row_in kept))
+
+-- the day on which a company's submission settled
+abbrev pub row_settlement : List Row → List ℕ → Option ℕ
+row_settlement rows reference = option_and_then (λ row. row.settled) (row_under rows reference)
+
+-- a company's held submissions
+abbrev pub waiting_for : Company → List Row → List HeldSubmission
+waiting_for k rows = map (held_submission k rows) (filter is_held rows)
+
+-- the later of two days, where there are any
+abbrev pub later_of : Option ℕ → (day : Option ℕ) → Option ℕ
+later_of None d = d
+later_of (Some d) None = Some d
+later_of (Some d) (Some e) = Some (max d e)
+
+-- the settlements of sequences, with that of one more entry
+abbrev pub with_settlement : SentEntry → (ℕ → Option ℕ) → ℕ → Option ℕ
+with_settlement e f s = if e.sequence == s then Some e.settled else f s
+
+-- sums by day with one more amount on a day
+abbrev pub with_sum : (day : ℕ) → (cents : ℤ) → List (ℕ × ℤ) → List (ℕ × ℤ)
+with_sum day cents [] = (day, cents) ∷ []
+with_sum day cents (row ∷ rows) =
+    if day == row.0 then (row.0, row.1 +ℤ cents) ∷ rows
+    else (if nat_lt day row.0 then (day, cents) ∷ row ∷ rows else row ∷ with_sum day cents rows)

@@ -1,0 +1,41 @@
+-- The rows that a store in memory keeps, and the book that they are.
+use Rattle.std.specs.Prelude.{◌≡◌, map}
+use Rattle.desk_book.specs.Book.{Book}
+use Rattle.desk_lists.specs.declared.list_store.KeptSubmission.{KeptSubmission}
+use Rattle.desk_lists.specs.declared.list_store.ListStore.{ListStore}
+use Rattle.desk_lists.specs.Indexed.{IsIndexed, AreSettled}
+use Rattle.desk_store.specs.Rows.{Rows, CompanyRow, flat_book}
+
+abbrev pub row_in : KeptSubmission → CompanyRow
+row_in k = record {
+  company = k.company;
+  row = record { order = k.order; content = k.content; retry = k.retry; settled = k.settled; lapsed = k.lapsed; states = k.states.items };
+}
+
+abbrev pub rows_in : ListStore → Rows
+rows_in s = record {
+  identity = s.identity;
+  operator_key = s.operator_key;
+  day = s.day;
+  holidays = s.holidays;
+  companies = s.companies.items;
+  submissions = map row_in s.submissions.items;
+  returned = s.returned.items;
+  changed = s.changed.items;
+  postings = s.postings.items;
+  sent = s.sent.items;
+  printed = s.printed.items;
+  suspense = s.suspense.items;
+  files = s.files.items;
+  taken = s.taken.items;
+}
+
+-- the book that its rows are, and no other
+abbrev pub IsBookOf : ListStore → Book → Type 0
+IsBookOf s b = b ≡ flat_book (rows_in s)
+
+-- it holds that book, and finds by its indexes what the book has
+pub record IsHeld (s : ListStore) (b : Book) : Type 0 where
+  pub book : IsBookOf s b
+  pub indexed : IsIndexed s.sent.items s.traces
+  pub settled : AreSettled s.sent.items s.settlements

@@ -1,0 +1,224 @@
+//! A store that keeps lists in memory answers these calls.
+use crate::balances::day_sums_of;
+use crate::cut::write_cut;
+use crate::entries::{count_of, open_rows_of, retries_among, state_under};
+use crate::intake::write_intake;
+use crate::items::{changes_of, count_on, lines_of, returns_of, taken_file, text_at};
+use crate::list_store::ListStore;
+use crate::reads::{all_waiting, company_among, copy_of, row_under, rows_of};
+use crate::sent::last_of;
+use crate::writes::{held_row, limit_company, place_of};
+use ach_fields::{Id, Ref, Trace};
+use bank_days::{Calendar, Day};
+use desk_accounts::{Account, Posting};
+use desk_book::{Caller, HeldSubmission, ReturnsAndChanges, Row};
+use desk_history::{Identity, ListOf, SentEntry, SuspenseRow, TakenFile};
+use desk_rules::{Company, EntryState, Limits, Retry, RuleDay, SizedSubmission};
+use desk_store::{CutRows, IntakeRows, Store, StoreFault};
+use std::alloc::Global;
+
+impl Store for ListStore {
+    ghost use Rattle.std.specs.Prelude.{◌≡◌, ⊤};
+    ghost use Rattle.desk_book.specs.Book.{Book};
+    ghost use Rattle.desk_lists.specs.Kept.{IsBookOf, IsHeld};
+
+    ghost holds = { IsHeld };
+
+    ghost Kept = { Book };
+
+    ghost keeps = { λ k b. k ≡ b };
+
+    // A crash leaves the book that it holds. It leaves no index: what begins again makes one.
+    ghost may_leave = { IsBookOf };
+
+    ghost is_clean = { λ _. ⊤ };
+
+    fn identity(&mut self, _alloc: Global) -> Result<Identity, StoreFault> {
+        Ok(self.identity)
+    }
+
+    fn key_of(&mut self, _alloc: Global, caller: Caller) -> Result<Option<[u8; 32]>, StoreFault> {
+        let company = match caller {
+            Caller::Operator => return Ok(Some(self.operator_key)),
+            Caller::Company(company) => company,
+        };
+        match company_among(&self.companies, company) {
+            Some(company) => Ok(Some(company.digest)),
+            None => Ok(None),
+        }
+    }
+
+    fn day(&mut self, _alloc: Global) -> Result<Option<RuleDay>, StoreFault> {
+        Ok(self.day)
+    }
+
+    fn calendar(&mut self, alloc: Global) -> Result<Calendar, StoreFault> {
+        Ok(self.holidays.try_clone(alloc)?)
+    }
+
+    fn company(&mut self, _alloc: Global, id: Id) -> Result<Option<Company>, StoreFault> {
+        Ok(company_among(&self.companies, id))
+    }
+
+    fn submission(
+        &mut self,
+        alloc: Global,
+        company: Id,
+        reference: Ref,
+    ) -> Result<Option<Row>, StoreFault> {
+        Ok(row_under(alloc, &self.submissions, company, reference)?)
+    }
+
+    fn submission_count(&mut self, _alloc: Global, company: Id) -> Result<u64, StoreFault> {
+        Ok(count_of(&self.submissions, company))
+    }
+
+    fn open_rows(
+        &mut self,
+        alloc: Global,
+        company: Id,
+        since: Day,
+    ) -> Result<Vec<Row>, StoreFault> {
+        Ok(open_rows_of(alloc, &self.submissions, company, since)?)
+    }
+
+    fn retries_of(
+        &mut self,
+        alloc: Global,
+        company: Id,
+        of: Ref,
+        index: u64,
+    ) -> Result<Vec<Row>, StoreFault> {
+        Ok(retries_among(alloc, &self.submissions, company, of, index)?)
+    }
+
+    fn state_of(
+        &mut self,
+        _alloc: Global,
+        company: Id,
+        reference: Ref,
+        index: u64,
+    ) -> Result<Option<EntryState>, StoreFault> {
+        Ok(state_under(&self.submissions, company, reference, index))
+    }
+
+    fn entries_of(&mut self, alloc: Global, company: Id) -> Result<Vec<Row>, StoreFault> {
+        Ok(rows_of(alloc, &self.submissions, company)?)
+    }
+
+    fn waiting(&mut self, alloc: Global) -> Result<Vec<HeldSubmission>, StoreFault> {
+        Ok(all_waiting(alloc, &self.companies, &self.submissions)?)
+    }
+
+    fn last_sequence(&mut self, _alloc: Global) -> Result<u32, StoreFault> {
+        Ok(last_of(&self.sent))
+    }
+
+    fn sent_count(&mut self, _alloc: Global) -> Result<u64, StoreFault> {
+        Ok(self.sent.len() as u64)
+    }
+
+    fn latest_settled(
+        &mut self,
+        _alloc: Global,
+        from: u32,
+        to: u32,
+    ) -> Result<Option<Day>, StoreFault> {
+        self.settlements.cover(&self.sent)?;
+        Ok(self.settlements.latest(from, to))
+    }
+
+    fn files_on(&mut self, _alloc: Global, day: Day) -> Result<u64, StoreFault> {
+        Ok(count_on(&self.files, day))
+    }
+
+    fn sent_as(&mut self, _alloc: Global, trace: Trace) -> Result<Option<SentEntry>, StoreFault> {
+        self.traces.cover(&self.sent)?;
+        Ok(self.traces.entry_of(self.identity.odfi, trace))
+    }
+
+    fn items_of(&mut self, alloc: Global, company: Id) -> Result<ReturnsAndChanges, StoreFault> {
+        let returns = returns_of(alloc, &self.returned, company)?;
+        let changes = changes_of(alloc, &self.changed, company)?;
+        Ok(ReturnsAndChanges {
+            returns: ListOf::new(returns),
+            changes: ListOf::new(changes),
+        })
+    }
+
+    fn postings_of(&mut self, alloc: Global, account: Account) -> Result<Vec<Posting>, StoreFault> {
+        Ok(lines_of(alloc, &self.postings, account)?)
+    }
+
+    fn balances_of(
+        &mut self,
+        alloc: Global,
+        account: Account,
+    ) -> Result<Vec<(Day, i128)>, StoreFault> {
+        day_sums_of(alloc, &self.postings, account)
+    }
+
+    fn suspense(&mut self, alloc: Global) -> Result<Vec<SuspenseRow>, StoreFault> {
+        Ok(copy_of(alloc, &self.suspense)?)
+    }
+
+    fn file(
+        &mut self,
+        alloc: Global,
+        day: Day,
+        modifier: u8,
+    ) -> Result<Option<ListOf<u8>>, StoreFault> {
+        Ok(text_at(alloc, &self.files, day, modifier)?)
+    }
+
+    fn taken(&mut self, _alloc: Global, key: [u8; 21]) -> Result<Option<TakenFile>, StoreFault> {
+        Ok(taken_file(&self.taken, key))
+    }
+
+    fn set_day(&mut self, _alloc: Global, day: RuleDay) -> Result<(), StoreFault> {
+        self.day = Some(day);
+        Ok(())
+    }
+
+    fn set_holidays(&mut self, _alloc: Global, holidays: Calendar) -> Result<(), StoreFault> {
+        self.holidays = holidays;
+        Ok(())
+    }
+
+    fn put_company(&mut self, _alloc: Global, company: Company) -> Result<(), StoreFault> {
+        let at = place_of(&self.companies, company.id);
+        self.companies.insert(at, company)?;
+        Ok(())
+    }
+
+    fn put_limits(
+        &mut self,
+        _alloc: Global,
+        company: Id,
+        limits: Limits,
+    ) -> Result<(), StoreFault> {
+        limit_company(&mut self.companies, company, limits);
+        Ok(())
+    }
+
+    fn add_submission(
+        &mut self,
+        alloc: Global,
+        company: Id,
+        order: u64,
+        content: &SizedSubmission,
+        retry: Option<Retry>,
+    ) -> Result<(), StoreFault> {
+        let kept = held_row(alloc, company, order, content, retry)?;
+        self.submissions.push(kept)?;
+        Ok(())
+    }
+
+    fn commit_cut(&mut self, alloc: Global, cut: &CutRows<'_>) -> Result<(), StoreFault> {
+        Ok(write_cut(self, alloc, cut)?)
+    }
+
+    fn commit_intake(&mut self, _alloc: Global, intake: &IntakeRows<'_>) -> Result<(), StoreFault> {
+        Ok(write_intake(self, intake)?)
+    }
+}
