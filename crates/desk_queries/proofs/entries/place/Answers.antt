@@ -9,4 +9,4 @@ pub cell_of-requires : goal.cell_of-requires
 cell_of-requires g c = place_selects
 
 pub returns-clause-answer : goal.returns-clause-answer
-returns-clause-answer g c clean = IfOk-weaker c.cell_of.result _ _ (λ x read. first_found _ number_columns (place_shown c.args.sequence) (rw (c.in_ok-count.ensures, c.from.ensures) at read)) (c.cell_of.ensures.answer clean)
+returns-clause-answer g c clean = IfOk-weaker c.cell_of.result _ _ (λ x read. first_found _ number_columns (place_shown c.args.sequence) (rw (c.in_ok-natural.ensures, c.from.ensures) at read)) (c.cell_of.ensures.answer clean)

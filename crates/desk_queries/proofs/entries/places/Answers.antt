@@ -9,4 +9,4 @@ pub column_of-requires : goal.column_of-requires
 column_of-requires g c = places_selects
 
 pub returns-clause-answer : goal.returns-clause-answer
-returns-clause-answer g c clean = IfOk-weaker c.column_of.result _ _ (λ x read. all_found _ number_columns (places_shown c.args.from c.args.to) (rw (c.in_ok-count.ensures, c.from.ensures, c.in_ok-count-2.ensures, c.from-2.ensures) at read)) (c.column_of.ensures.answer clean)
+returns-clause-answer g c clean = IfOk-weaker c.column_of.result _ _ (λ x read. all_found _ number_columns (places_shown c.args.from c.args.to) (rw (c.in_ok-natural.ensures, c.from.ensures, c.in_ok-natural-2.ensures, c.from-2.ensures) at read)) (c.column_of.ensures.answer clean)

@@ -9,4 +9,4 @@ pub first_of-requires : goal.first_of-requires
 first_of-requires g c = sent_entry_selects
 
 pub returns-clause-answer : goal.returns-clause-answer
-returns-clause-answer g c clean = IfOk-weaker c.first_of.result _ _ (λ x read. first_found _ placed_entry_rows (sent_entry_shown c.args.place) (rw c.in_ok-count.ensures at read)) (c.first_of.ensures.answer clean)
+returns-clause-answer g c clean = IfOk-weaker c.first_of.result _ _ (λ x read. first_found _ placed_entry_rows (sent_entry_shown c.args.place) (rw c.in_ok-natural.ensures at read)) (c.first_of.ensures.answer clean)

@@ -9,4 +9,4 @@ pub first_of-requires : goal.first_of-requires
 first_of-requires g c = taken_selects
 
 pub returns-clause-answer : goal.returns-clause-answer
-returns-clause-answer g c clean = IfOk-weaker c.first_of.result _ _ (λ x read. first_found _ taken_rows (taken_shown c.args.key) (rw c.name.ensures at read)) (c.first_of.ensures.answer clean)
+returns-clause-answer g c clean = IfOk-weaker c.first_of.result _ _ (λ x read. first_found _ taken_rows (taken_shown c.args.key) (rw c.characters.ensures at read)) (c.first_of.ensures.answer clean)

@@ -9,4 +9,4 @@ pub all_of-requires : goal.all_of-requires
 all_of-requires g c = returns_selects
 
 pub returns-clause-answer : goal.returns-clause-answer
-returns-clause-answer g c clean = IfOk-weaker c.all_of.result _ _ (λ x read. all_found _ entry_return_rows (returns_shown c.args.company c.args.order) (rw (c.name.ensures, c.bytes.ensures.value, c.in_ok-count.ensures) at read)) (c.all_of.ensures.answer clean)
+returns-clause-answer g c clean = IfOk-weaker c.all_of.result _ _ (λ x read. all_found _ entry_return_rows (returns_shown c.args.company c.args.order) (rw (c.characters.ensures, c.bytes.ensures.value, c.in_ok-natural.ensures) at read)) (c.all_of.ensures.answer clean)

@@ -12,5 +12,5 @@ cell_of-requires g c = sum_selects
 
 pub returns-clause-answer : goal.returns-clause-answer
 returns-clause-answer g c clean =
-    together c.cell_of.result _ _ _ (λ x read fits. first_found_within (λ n. decimal_text n ∷ []) (λ n. fits_i128 n ≡ true) sums_apart (sum_shown c.args.account c.args.value_day) (rw (c.name.ensures, c.deref.ensures.value, c.in_ok-text.ensures, c.day.ensures) at read) fits)
+    together c.cell_of.result _ _ _ (λ x read fits. first_found_within (λ n. decimal_text n ∷ []) (λ n. fits_i128 n ≡ true) sums_apart (sum_shown c.args.account c.args.value_day) (rw (c.characters.ensures, c.deref.ensures.value, c.in_ok-text.ensures, c.date.ensures) at read) fits)
     (c.cell_of.ensures.answer clean) c.cell_of.ensures.fits

@@ -9,4 +9,4 @@ pub first_of-requires : goal.first_of-requires
 first_of-requires g c = company_selects
 
 pub returns-clause-answer : goal.returns-clause-answer
-returns-clause-answer g c clean = IfOk-weaker c.first_of.result _ _ (λ x read. first_found _ company_rows (company_shown c.args.id) (rw (c.name.ensures, c.bytes.ensures.value) at read)) (c.first_of.ensures.answer clean)
+returns-clause-answer g c clean = IfOk-weaker c.first_of.result _ _ (λ x read. first_found _ company_rows (company_shown c.args.id) (rw (c.characters.ensures, c.bytes.ensures.value) at read)) (c.first_of.ensures.answer clean)

@@ -9,4 +9,4 @@ pub cell_of-requires : goal.cell_of-requires
 cell_of-requires g c = authorization_selects
 
 pub returns-clause-answer : goal.returns-clause-answer
-returns-clause-answer g c clean = IfOk-weaker c.cell_of.result _ _ (λ x read. first_found _ number_columns (authorization_shown c.args.company c.args.order) (rw (c.name.ensures, c.bytes.ensures.value, c.in_ok-count.ensures) at read)) (c.cell_of.ensures.answer clean)
+returns-clause-answer g c clean = IfOk-weaker c.cell_of.result _ _ (λ x read. first_found _ number_columns (authorization_shown c.args.company c.args.order) (rw (c.characters.ensures, c.bytes.ensures.value, c.in_ok-natural.ensures) at read)) (c.cell_of.ensures.answer clean)

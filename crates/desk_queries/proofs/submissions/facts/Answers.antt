@@ -9,4 +9,4 @@ pub first_of-requires : goal.first_of-requires
 first_of-requires g c = facts_selects
 
 pub returns-clause-answer : goal.returns-clause-answer
-returns-clause-answer g c clean = IfOk-weaker c.first_of.result _ _ (λ x read. first_found _ submission_facts_rows (facts_shown c.args.company c.args.order) (rw (c.name.ensures, c.bytes.ensures.value, c.in_ok-count.ensures) at read)) (c.first_of.ensures.answer clean)
+returns-clause-answer g c clean = IfOk-weaker c.first_of.result _ _ (λ x read. first_found _ submission_facts_rows (facts_shown c.args.company c.args.order) (rw (c.characters.ensures, c.bytes.ensures.value, c.in_ok-natural.ensures) at read)) (c.first_of.ensures.answer clean)

@@ -9,4 +9,4 @@ pub all_of-requires : goal.all_of-requires
 all_of-requires g c = submissions_of_selects
 
 pub returns-clause-answer : goal.returns-clause-answer
-returns-clause-answer g c clean = IfOk-weaker c.all_of.result _ _ (λ x read. all_found _ submission_head_rows (submissions_of_shown c.args.company) (rw (c.name.ensures, c.bytes.ensures.value) at read)) (c.all_of.ensures.answer clean)
+returns-clause-answer g c clean = IfOk-weaker c.all_of.result _ _ (λ x read. all_found _ submission_head_rows (submissions_of_shown c.args.company) (rw (c.characters.ensures, c.bytes.ensures.value) at read)) (c.all_of.ensures.answer clean)
