@@ -6,20 +6,20 @@ use Rattle.desk_command_line.specs.declared.command.Command.TheVariants.{AnswerB
 use Rattle.desk_command_line.specs.declared.command.LineFault.{LineFault}
 use Rattle.desk_command_line.specs.declared.command.LineFault.TheVariants.{Help, Usage, NoMemory}
 use Rattle.desk_submit.specs.Options.{texts_of}
-use Rattle.desk_cli.specs.FileChecks.{HasChecked, IsFailedCheck}
+use Rattle.desk_commands.specs.FileChecks.{HasChecked, IsFailedCheck}
 use Rattle.desk_command_line.specs.InitOptions.{init_texts_of}
-use Rattle.desk_cli.specs.InitRuns.{HasInitialized, IsFailedInit}
-use Rattle.desk_cli.specs.InputRuns.{HasAnswered, IsFailedRun}
+use Rattle.desk_file_commands.specs.InitRuns.{HasInitialized, IsFailedInit}
+use Rattle.desk_commands.specs.InputRuns.{HasAnswered, IsFailedRun}
 use Rattle.sqlite_wal.specs.Recovery.{Image}
-use Rattle.desk_cli.specs.KeptRuns.{HasAnsweredKept, HasBrokenOffKept}
-use Rattle.desk_cli.specs.ListRuns.{list_answer}
-use Rattle.desk_cli.specs.MessageRuns.{HasAnsweredMessages, HasBrokenOff}
-use Rattle.desk_cli.specs.MigrationRuns.{FailsToMigrateFile, HasMigratedFile}
-use Rattle.desk_cli.specs.Printing.{unavailable}
-use Rattle.desk_cli.specs.ServedRuns.{FailsToServeFile, HasServedFile}
+use Rattle.desk_file_commands.specs.KeptRuns.{HasAnsweredKept, HasBrokenOffKept}
+use Rattle.desk_commands.specs.ListRuns.{list_answer}
+use Rattle.desk_commands.specs.MessageRuns.{HasAnsweredMessages, HasBrokenOff}
+use Rattle.desk_file_commands.specs.MigrationRuns.{FailsToMigrateFile, HasMigratedFile}
+use Rattle.desk_commands.specs.Printing.{unavailable}
+use Rattle.desk_file_commands.specs.ServedFiles.{FailsToServeFile, HasServedFile}
 use Rattle.io_retries.specs.Prefixes.{AppendsPrefix}
-use Rattle.desk_cli.specs.SubmissionRuns.{first_run_line}
-use Rattle.desk_cli.specs.declared.commands.status.Status.{Status}
+use Rattle.desk_commands.specs.SubmissionRuns.{first_run_line}
+use Rattle.desk_commands.specs.declared.status.Status.{Status}
 
 -- no file, and no log beside it
 abbrev pub no_files : Image

@@ -3,9 +3,9 @@ use Rattle.std.specs.Prelude.{◌≡◌, ◌≢◌, ℕ, List, Option, Result, O
 use Rattle.clap.specs.Words.{Text}
 use Rattle.desk_command_line.specs.CommandLine.{GivesAt}
 use Rattle.desk_cli.specs.Commands.{CarriesOut, FailsToCarryOut, PrintsLineFault, no_files}
-use Rattle.desk_cli.specs.ExitCodes.{code_of}
-use Rattle.desk_cli.specs.declared.commands.status.Status.{Status}
-use Rattle.desk_cli.specs.declared.commands.status.Status.TheVariants.{Failed}
+use Rattle.desk_commands.specs.ExitCodes.{code_of}
+use Rattle.desk_commands.specs.declared.status.Status.{Status}
+use Rattle.desk_commands.specs.declared.status.Status.TheVariants.{Failed}
 use Rattle.desk_command_line.specs.declared.command.Command.{Command}
 use Rattle.desk_command_line.specs.declared.command.LineFault.{LineFault}
 

@@ -2,7 +2,7 @@
 ghost use Rattle.std.specs.Prelude.{◌≤◌, map};
 ghost use Rattle.desk_cli.specs.Programs.{RunsWords};
 
-use crate::commands::{print_line_fault, run};
+use crate::dispatch::{print_line_fault, run};
 use desk_command_line::{LineFault, command_of};
 use std::io::{ErrorKind, Read, Write};
 use std::{env, io};

@@ -1,0 +1,77 @@
+//! Commands that are carried out, and line faults that are printed.
+ghost use Rattle.std.specs.Prelude.{◌≡◌, ◌≢◌};
+ghost use Rattle.sqlite_wal.specs.Files.{image_at};
+ghost use Rattle.desk_cli.specs.Commands.{CarriesOut, FailsToCarryOut, PrintsLineFault, PrintsWithCode, no_files};
+
+use desk_command_line::{Command, LineFault};
+use desk_commands::{
+    Status, answer_messages, check_path, first_run, print_unavailable, submit_path, write_line,
+};
+use desk_file_commands::{answer_and_close, make_and_close, migrate_and_close, serve_and_close};
+use desk_files::{Start, Wary};
+use io_retries::Tries;
+use std::io::{Read, Write};
+
+/// Carries out a command, which reads what it needs of the reader and prints to the writer.
+///
+/// Where a file cannot be opened or read, `unavailable` is printed. A session prints its answers alone.
+pub fn run<R: Read + Drop, W: Write>(
+    rt: &HostRuntime,
+    command: &Command<'_>,
+    reader: R,
+    writer: &mut W,
+) -> Status
+    ensures answered { result ≢ Status.Failed →
+        CarriesOut no_files command.now (R.remaining reader) (W.contents writer.old) (W.contents writer.new) result }
+    ensures failed { result ≡ Status.Failed →
+        FailsToCarryOut no_files command.now (R.remaining reader) (W.contents writer.old) (W.contents writer.new) }
+{
+    run_from(rt, Wary, command, reader, writer)
+}
+
+/// Carries out a command as `run` does, where `S` stands for what the files of a desk hold. No code can
+/// read that: what is proved for all `S` is so for whatever they hold.
+pub fn run_from<S: Start, R: Read + Drop, W: Write>(
+    rt: &HostRuntime,
+    start: S,
+    command: &Command<'_>,
+    reader: R,
+    writer: &mut W,
+) -> Status
+    ensures answered { result ≢ Status.Failed →
+        CarriesOut (image_at S.Start) command.now (R.remaining reader) (W.contents writer.old) (W.contents writer.new) result }
+    ensures failed { result ≡ Status.Failed →
+        FailsToCarryOut (image_at S.Start) command.now (R.remaining reader) (W.contents writer.old) (W.contents writer.new) }
+{
+    match *command {
+        Command::AnswerSubmission => first_run(rt.alloc(), reader, writer),
+        Command::Check(path) => check_path(rt, path, writer),
+        Command::Submit(path, options) => submit_path(rt, path, &options, writer),
+        Command::AnswerMessages => answer_messages(rt.alloc(), reader, writer),
+        Command::Init(path, options) => make_and_close(rt, path, start, &options, writer),
+        Command::AnswerByFile(path) => answer_and_close(rt, path, start, reader, writer),
+        Command::Serve(path, options) => serve_and_close(rt, path, start, options, writer),
+        Command::Migrate(path) => migrate_and_close(rt, path, start, writer),
+    }
+}
+
+/// Prints why words name no command, and gives the exit status: 0 for help, 2 for wrong words, and 3
+/// where a write fails or the program is out of memory.
+pub fn print_line_fault<W: Write>(writer: &mut W, fault: &LineFault) -> u8
+    ensures { PrintsLineFault fault.now (W.contents writer.old) (W.contents writer.new) result }
+{
+    match fault {
+        LineFault::Help(text) => print_with_code(writer, text.as_bytes(), 0),
+        LineFault::Usage(text) => print_with_code(writer, text.as_bytes(), 2),
+        LineFault::NoMemory => print_unavailable(writer, Tries::new()).code(),
+    }
+}
+
+fn print_with_code<W: Write>(writer: &mut W, text: &[u8], code: u8) -> u8
+    ensures { PrintsWithCode (W.contents writer.old) (W.contents writer.new) text.now code result }
+{
+    match write_line(writer, text, Tries::new()) {
+        Ok(()) => code,
+        Err(_) => 3,
+    }
+}

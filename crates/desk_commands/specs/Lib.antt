@@ -1,0 +1,12 @@
+pub mod BodyAnswers
+pub mod ExitCodes
+pub mod Feeding
+pub mod FileChecks
+pub mod InputRuns
+pub mod Inputs
+pub mod ListRuns
+pub mod MessageRuns
+pub mod Printing
+pub mod ServedRuns
+pub mod StoreRuns
+pub mod SubmissionRuns

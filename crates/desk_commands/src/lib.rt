@@ -1,0 +1,27 @@
+//! The commands that need no file of a desk: what each reads, prints and ends with; and a session, or
+//! connections, by the desk of any store.
+#![tactic(auto)]
+
+mod answer_submission;
+mod body_answer;
+mod check_incoming;
+mod file_feed;
+mod file_verdict;
+mod input;
+mod message_session;
+mod output;
+mod sample_bank;
+mod served_store;
+mod status;
+mod store_session;
+mod submit_entries;
+
+pub use answer_submission::first_run;
+pub use body_answer::{NoMemory, submission_answer};
+pub use check_incoming::{check_file, check_path};
+pub use message_session::answer_messages;
+pub use output::{end_line, print_answer, print_line, print_unavailable, write_line};
+pub use served_store::serve_by_store;
+pub use status::Status;
+pub use store_session::answer_by_store;
+pub use submit_entries::{submit_list, submit_path};

@@ -1,0 +1,33 @@
+//! The sample bank, whose new desk answers the messages of a session.
+ghost use Rattle.std.specs.Prelude.{◌≡◌};
+ghost use Rattle.desk_lists.specs.Kept.{IsHeld};
+ghost use Rattle.desk_commands.specs.MessageRuns.{new_book, sample_identity};
+
+use ach_fields::{Routing, ShortText};
+use desk_core::{Desk, Identity};
+use desk_lists::ListStore;
+use sha2::{Digest, Sha256};
+use std::alloc::Global;
+
+/// The operator of the sample bank has this key.
+const OPERATOR_KEY: &[u8; 12] = b"operator-key";
+
+/// Makes a new desk of the sample bank, which keeps its books in memory.
+pub fn sample_desk(alloc: Global) -> Desk<ListStore>
+    ensures { IsHeld result new_book }
+{
+    let key = Sha256::digest(OPERATOR_KEY);
+    Desk::new(ListStore::new(alloc, sample_identity(), key))
+}
+
+// The bank and the operator to which its files go.
+fn sample_identity() -> Identity
+    ensures { result ≡ sample_identity }
+{
+    Identity {
+        odfi: Routing::parse(b"121042882").unwrap(),
+        odfi_name: ShortText::new(b"OUR BANK").unwrap(),
+        destination: Routing::parse(b"061000146").unwrap(),
+        destination_name: ShortText::new(b"ACH OPERATOR").unwrap(),
+    }
+}

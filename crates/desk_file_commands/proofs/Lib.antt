@@ -1,0 +1,5 @@
+pub mod ClosedFiles
+pub mod InitLemmas
+pub mod KeptRunLemmas
+pub mod OpenFaultLemmas
+pub mod ServedLemmas
