@@ -3,7 +3,7 @@ ghost use Rattle.std.specs.Prelude.{◌≡◌, ◌≢◌, IfSome, MatchResult};
 ghost use Rattle.std.specs.Io.KnownBytes.{Appends};
 ghost use Rattle.io_retries.specs.Prefixes.{AppendsPrefix};
 ghost use Rattle.desk_commands.specs.BodyAnswers.{IsAnswer};
-ghost use Rattle.desk_commands.specs.Printing.{status_of, with_line_feed, PrintsAnswer, PrintsLine, PrintsPrefixOf};
+ghost use Rattle.desk_commands.specs.Printing.{status_of, unavailable, with_line_feed, PrintsAnswer, PrintsLine, PrintsPrefixOf};
 
 use crate::status::Status;
 use io_retries::{Tries, write_all_with_retries};
@@ -11,7 +11,7 @@ use std::io;
 use std::io::Write;
 
 /// This line is printed where a read failed or memory ran out.
-pub const UNAVAILABLE: &[u8; 12] = b"unavailable\n";
+const UNAVAILABLE: &[u8; 12] = b"unavailable\n";
 
 /// Ends the line of an answer, which is whether the input is accepted, and its text. It gives `None`
 /// where memory runs out.
@@ -37,7 +37,7 @@ pub fn write_line<W: Write>(writer: &mut W, line: &[u8], mut tries: Tries) -> io
 /// Prints that a read failed or memory ran out, or as much of that line as the writer takes.
 pub fn print_unavailable<W: Write>(writer: &mut W, tries: Tries) -> Status
     ensures status { result ≡ Status.Failed }
-    ensures printed { AppendsPrefix (W.contents writer.old) (W.contents writer.new) UNAVAILABLE.now }
+    ensures printed { AppendsPrefix (W.contents writer.old) (W.contents writer.new) unavailable }
 {
     let _ = write_line(writer, UNAVAILABLE, tries);
     Status::Failed
