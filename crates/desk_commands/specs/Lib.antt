@@ -6,6 +6,7 @@ pub mod InputRuns
 pub mod Inputs
 pub mod ListRuns
 pub mod MessageRuns
+pub mod NewIdentities
 pub mod Printing
 pub mod ServedRuns
 pub mod StoreRuns

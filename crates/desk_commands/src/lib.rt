@@ -1,5 +1,5 @@
-//! The commands that need no file of a desk: what each reads, prints and ends with; and a session, or
-//! connections, by the desk of any store.
+//! The commands that need no file of a desk: what each reads, prints and ends with; a session, or
+//! connections, by the desk of any store; and whose desk a new one is.
 #![tactic(auto)]
 
 mod answer_submission;
@@ -9,6 +9,7 @@ mod file_feed;
 mod file_verdict;
 mod input;
 mod message_session;
+mod new_identity;
 mod output;
 mod sample_bank;
 mod served_store;
@@ -20,6 +21,7 @@ pub use answer_submission::first_run;
 pub use body_answer::{NoMemory, submission_answer};
 pub use check_incoming::{check_file, check_path};
 pub use message_session::answer_messages;
+pub use new_identity::{OptionFault, identity_of};
 pub use output::{end_line, print_answer, print_line, print_unavailable, write_line};
 pub use served_store::serve_by_store;
 pub use status::Status;

@@ -3,9 +3,9 @@ use Rattle.std.specs.Prelude.{◌≡◌, ◌⊎◌, ℕ, Bool, true, false, List
 use Rattle.io_retries.specs.Prefixes.{AppendsPrefix}
 use Rattle.desk_history.specs.declared.identity.Identity.{Identity}
 use Rattle.desk_command_line.specs.InitOptions.{InitTexts}
-use Rattle.desk_file_commands.specs.NewDesks.{fault_line, identity_of}
+use Rattle.desk_commands.specs.NewIdentities.{fault_line, identity_of}
 use Rattle.desk_commands.specs.Printing.{unavailable, with_line_feed, PrintsAnswer}
-use Rattle.desk_file_commands.specs.declared.new_desk.OptionFault.{OptionFault}
+use Rattle.desk_commands.specs.declared.new_identity.OptionFault.{OptionFault}
 use Rattle.desk_commands.specs.declared.status.Status.{Status}
 
 abbrev pub created_answer : Bool × List ℕ

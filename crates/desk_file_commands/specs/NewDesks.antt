@@ -1,44 +1,12 @@
--- A new desk, as the options of `init` say, or why there is none.
-use Rattle.std.specs.Prelude.{◌≡◌, ◌⊎◌, ℕ, List, [], ◌∷◌, ◌++◌, codes, if◌then◌else◌, Result, Ok, Err}
+-- A new desk in a file, or why there is none.
+use Rattle.std.specs.Prelude.{◌≡◌, ◌⊎◌, ℕ, List, Ok, Err}
 use Rattle.sha2.specs.Sha256.{sha256}
-use Rattle.ach_fields.specs.Routing.{routing_of}
-use Rattle.ach_fields.specs.Text.{short_text_of}
-use Rattle.ach_fields.specs.declared.fault.FieldFault.{FieldFault}
 use Rattle.desk_history.specs.declared.identity.Identity.{Identity}
-use Rattle.desk_rules.specs.Fields.{is_key}
 use Rattle.desk_setup.specs.declared.fault.OpenFault.TheVariants.{Exists, Unavailable}
 use Rattle.desk_command_line.specs.InitOptions.{InitTexts}
+use Rattle.desk_commands.specs.NewIdentities.{identity_of}
 use Rattle.desk_file_commands.specs.declared.new_desk.InitFault.{InitFault}
 use Rattle.desk_file_commands.specs.declared.new_desk.InitFault.TheVariants.{Bad, File}
-use Rattle.desk_file_commands.specs.declared.new_desk.OptionFault.{OptionFault}
-use Rattle.desk_file_commands.specs.declared.new_desk.OptionFault.TheVariants.{Odfi, OdfiName, Destination, DestinationName, Key}
-
--- what is made of an option's value, or the option's fault
-abbrev pub checked : {A B : Type 0} → OptionFault → Result A FieldFault → (A → Result B OptionFault) → Result B OptionFault
-checked fault (Ok value) rest = rest value
-checked fault (Err e) rest = Err fault
-
--- Whose desk it is, or the first bad option: two routing numbers, two names of at most 23 characters, and a key.
-abbrev pub identity_of : InitTexts → Result Identity OptionFault
-identity_of t =
-    checked Odfi (routing_of t.odfi) λ odfi.
-    checked OdfiName (short_text_of 23 t.odfi_name) λ odfi_name.
-    checked Destination (routing_of t.destination) λ destination.
-    checked DestinationName (short_text_of 23 t.destination_name) λ destination_name.
-    if is_key t.key then Ok (record {
-      odfi = odfi;
-      odfi_name = odfi_name;
-      destination = destination;
-      destination_name = destination_name;
-    }) else Err Key
-
--- the line of a bad option
-abbrev pub fault_line : OptionFault → List ℕ
-fault_line Odfi = codes "bad odfi" ++ 10 ∷ []
-fault_line OdfiName = codes "bad odfi-name" ++ 10 ∷ []
-fault_line Destination = codes "bad destination" ++ 10 ∷ []
-fault_line DestinationName = codes "bad destination-name" ++ 10 ∷ []
-fault_line Key = codes "bad key" ++ 10 ∷ []
 
 -- the options are good, and the desk is this bank's, with the digest of this key
 abbrev pub IsMade : InitTexts → (is_desk : Identity → (key : List ℕ) → Type 0) → Type 0
