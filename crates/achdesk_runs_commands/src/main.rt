@@ -73,7 +73,7 @@ fn show_commands(rt: &HostRuntime) -> io::Result<()> {
 }
 
 // Shows a desk in a file: it is made once, answers the messages of some days, and after that what is sent
-// again. Then files that are no desks, and a desk that is not of version 1.
+// again. It is not of version 1. Then a file that is no database, and one that is not there.
 fn show_desk(rt: &HostRuntime) -> io::Result<()> {
     let days = fs::read(rt, "bank_day.http")?;
     let again = fs::read(rt, "sent_again.http")?;
