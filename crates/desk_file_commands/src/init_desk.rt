@@ -59,6 +59,7 @@ pub fn make_and_close<S: Start, W: Write>(
     ensures failed { result ≡ Status.Failed →
         IsFailedInit (init_texts_of options.now) (W.contents writer.old) (W.contents writer.new) }
 {
-    let (status, _store) = make_desk(rt, path, start, options, writer);
+    let (status, store) = make_desk(rt, path, start, options, writer);
+    drop(store);
     status
 }

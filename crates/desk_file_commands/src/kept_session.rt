@@ -78,6 +78,7 @@ pub fn answer_and_close<S: Start, R: Read + Drop, W: Write>(
     ensures failed { result ≡ Status.Failed →
         HasBrokenOffKept (image_at S.Start) (R.remaining reader) (W.contents writer.old) (W.contents writer.new) }
 {
-    let (status, _store) = answer_by_file(rt, path, start, reader, writer);
+    let (status, store) = answer_by_file(rt, path, start, reader, writer);
+    drop(store);
     status
 }

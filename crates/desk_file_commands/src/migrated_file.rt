@@ -52,6 +52,7 @@ pub fn migrate_and_close<S: Start, W: Write>(
     ensures failed { result ≡ Status.Failed →
         FailsToMigrateFile (W.contents writer.old) (W.contents writer.new) }
 {
-    let (status, _conn) = migrate_by_file(rt, path, start, writer);
+    let (status, conn) = migrate_by_file(rt, path, start, writer);
+    drop(conn);
     status
 }

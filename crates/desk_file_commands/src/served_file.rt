@@ -82,6 +82,7 @@ pub fn serve_and_close<S: Start, W: Write>(
     ensures failed { result ≡ Status.Failed →
         FailsToServeFile options.port (W.contents writer.old) (W.contents writer.new) }
 {
-    let (status, _store) = serve_by_file(rt, path, start, options, writer);
+    let (status, store) = serve_by_file(rt, path, start, options, writer);
+    drop(store);
     status
 }
