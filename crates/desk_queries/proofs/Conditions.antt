@@ -1,16 +1,14 @@
 -- What the tests of WHERE say of the values of columns.
-use Rattle.std.proofs.Common.{unwrap_or, ◌≡◌, ℕ, pos, Bool, true, false, not, ◌&&◌, ◌||◌, ◌==◌, nat_le, is_none, Option, Some, None, refl, ◌∙◌, is_eq, is_ge, is_le, int_cmp, arith}
+use Rattle.std.proofs.Common.{◌≡◌, ℕ, pos, Bool, true, false, ◌&&◌, ◌==◌, nat_le, Option, Some, None, refl, ◌∙◌, is_eq, is_ge, is_le, int_cmp, arith}
 use Rattle.std.proofs.lemmas.Int.{ints}
 use Rattle.sqlite.specs.Values.{or_null}
-use Rattle.sqlite_value.specs.declared.value.Value.TheVariants.{Null}
 use Rattle.sqlite_value.specs.declared.keys.Collation.TheVariants.{Binary}
-use Rattle.sqlite_sql.specs.declared.ops.BinaryOp.TheVariants.{Compare, Is, And, Or}
+use Rattle.sqlite_sql.specs.declared.ops.BinaryOp.TheVariants.{Compare}
 use Rattle.sqlite_sql.specs.declared.ops.CompareOp.TheVariants.{Eq, Ge, Le}
-use Rattle.sqlite_sql.specs.Ops.{binary, is_true, truth, from_truth, and3, or3}
-use Rattle.sqlite_value.specs.declared.value.Value.{Value}
+use Rattle.sqlite_sql.specs.Ops.{binary, is_true}
 use Rattle.desk_records.specs.TableReads.{is_place, is_since}
-use Rattle.sql_statements.proofs.Conditions.{and_true, int_is, int_least, int_most, null_is}
-use Rattle.desk_records.specs.Columns.{number, flag}
+use Rattle.sql_statements.proofs.Conditions.{and_true, int_is, int_least, int_most}
+use Rattle.desk_records.specs.Columns.{number}
 
 pub number_is : (a b : ℕ) → is_true (binary (Compare Eq Binary) (number a) (number b)) ≡ (a == b)
 number_is a b = int_is (pos a) (pos b) ∙ same a b
@@ -30,14 +28,6 @@ number_most a b = int_most (pos a) (pos b) ∙ same a b
     same : (a b : ℕ) → is_le (int_cmp (pos a) (pos b)) ≡ nat_le a b
     same a b = grind (arith, ints)
 
-pub unset_is : (o : Option ℕ) → is_true (binary (Is Binary) (or_null number o) Null) ≡ is_none o
-unset_is None = null_is Null
-unset_is (Some n) = null_is (number n)
-
-pub unflagged_is : (b : Bool) → is_true (binary (Compare Eq Binary) (flag b) (number 0)) ≡ not b
-unflagged_is true = number_is 1 0
-unflagged_is false = number_is 0 0
-
 -- ---- of columns that may be NULL
 
 pub number_if_any_is : (o : Option ℕ) (n : ℕ) → is_true (binary (Compare Eq Binary) (or_null number o) (number n)) ≡ is_place n o
@@ -49,38 +39,6 @@ pub number_if_any_least : (o : Option ℕ) (n : ℕ) → is_true (binary (Compar
 unfolding binary
 number_if_any_least None n = refl
 number_if_any_least (Some m) n = number_least m n
-
--- ---- of tests that are joined
-
-pub both_hold : (a b : Value) → is_true (binary And a b) ≡ (is_true a && is_true b)
-unfolding binary
-both_hold a b = go (truth a) (truth b)
-  where
-    go : (x y : Option Bool) → is_true (from_truth (and3 x y)) ≡ (unwrap_or x false && unwrap_or y false)
-    go None None = refl
-    go None (Some true) = refl
-    go None (Some false) = refl
-    go (Some true) None = refl
-    go (Some true) (Some true) = refl
-    go (Some true) (Some false) = refl
-    go (Some false) None = refl
-    go (Some false) (Some true) = refl
-    go (Some false) (Some false) = refl
-
-pub either_holds : (a b : Value) → is_true (binary Or a b) ≡ (is_true a || is_true b)
-unfolding binary
-either_holds a b = go (truth a) (truth b)
-  where
-    go : (x y : Option Bool) → is_true (from_truth (or3 x y)) ≡ (unwrap_or x false || unwrap_or y false)
-    go None None = refl
-    go None (Some true) = refl
-    go None (Some false) = refl
-    go (Some true) None = refl
-    go (Some true) (Some true) = refl
-    go (Some true) (Some false) = refl
-    go (Some false) None = refl
-    go (Some false) (Some true) = refl
-    go (Some false) (Some false) = refl
 
 -- WHERE of one, two or three tests
 pub one : {a x : Bool} → a ≡ x → (a && true) ≡ x

@@ -2,6 +2,7 @@
 use Rattle.std.proofs.Common.{true, ◌≡◌, ℕ, pos, List, [], ◌∷◌, refl, ◌∙◌, arith, Ordering, Less, Equal, Greater, int_cmp}
 use Rattle.std.proofs.lemmas.Int.{ints}
 use Rattle.std.specs.Ordering.{nat_cmp, ordering_then}
+use Rattle.sqlite_value.specs.declared.value.Value.{Value}
 use Rattle.sqlite_value.specs.declared.value.Value.TheVariants.{Text}
 use Rattle.sqlite_value.specs.declared.keys.Collation.TheVariants.{Binary}
 use Rattle.sqlite_value.specs.Keys.{ascending}
@@ -11,7 +12,7 @@ use Rattle.sqlite_sql.specs.Query.{key_cmp}
 use Rattle.desk_records.specs.Columns.{number}
 use Rattle.desk_records.specs.KeyOrders.{text_cmp}
 
-numbers_compare : (a b : ℕ) → value_cmp (number a) (number b) ≡ nat_cmp a b
+pub numbers_compare : (a b : ℕ) → value_cmp (number a) (number b) ≡ nat_cmp a b
 numbers_compare a b = value_cmp-Int (pos a) (pos b) ∙ same a b
   where
     same : (a b : ℕ) → int_cmp (pos a) (pos b) ≡ nat_cmp a b
@@ -41,6 +42,12 @@ by_text_then_numbers s t a b c d = (let first = value_cmp-Text s t in let then =
     joined Less y z = refl
     joined Equal y z = refl
     joined Greater y z = refl
+
+-- by a text, by two more columns, and by a number
+pub by_text_then_more : (s t : List ℕ) (u v f g : Value) (a b : ℕ)
+    → key_cmp 0 (ascending Binary ∷ ascending Binary ∷ ascending Binary ∷ ascending Binary ∷ []) (Text s ∷ u ∷ f ∷ number a ∷ []) (Text t ∷ v ∷ g ∷ number b ∷ [])
+    ≡ ordering_then (text_cmp s t) (ordering_then (value_cmp u v) (ordering_then (value_cmp f g) (nat_cmp a b)))
+by_text_then_more s t u v f g a b = let first = value_cmp-Text s t in let last = by_number a b in λ i. ordering_then (first i) (ordering_then (value_cmp u v) (ordering_then (value_cmp f g) (last i)))
 
 -- DESC
 pub by_falling_number : (a b : ℕ) → key_cmp 0 (record { collation = Binary; descending = true } ∷ []) (number b ∷ []) (number a ∷ []) ≡ nat_cmp a b

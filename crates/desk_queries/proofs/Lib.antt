@@ -1,5 +1,6 @@
 pub mod Conditions
 pub mod EntriesShown
+pub mod FirstRows
 pub mod Found
 pub mod Injective
 pub mod ItemsShown
@@ -7,9 +8,12 @@ pub mod Keys
 pub mod LastShown
 pub mod LinesShown
 pub mod Listings
+pub mod OpenParts
 pub mod RegistryShown
 pub mod Selects
+pub mod Sorting
 pub mod SumRows
 pub mod SubmissionsShown
 pub mod Texts
 pub mod TextsAnywhere
+pub mod WaitingFirst

@@ -1,50 +1,36 @@
 -- The queries of submissions.
-use Rattle.std.proofs.Common.{◌≡◌, ℕ, pos, List, [], ◌∷◌, Option, Some, None, Bool, ◌&&◌, ◌||◌, is_none, not, refl, ◌∙◌, true}
+use Rattle.std.proofs.Common.{◌≡◌, ℕ, List, [], ◌∷◌, Option, Some, None, ◌&&◌, refl, true}
 use Rattle.sqlite.specs.Values.{or_null}
 use Rattle.sqlite_sql.specs.Ops.{binary, is_true}
-use Rattle.sqlite_sql.specs.Term.{op2}
-use Rattle.sqlite_sql.specs.declared.ops.BinaryOp.TheVariants.{And, Or, Compare, Is}
-use Rattle.sqlite_sql.specs.declared.ops.CompareOp.TheVariants.{Eq, Ge}
+use Rattle.sqlite_sql.specs.declared.ops.BinaryOp.TheVariants.{Compare}
+use Rattle.sqlite_sql.specs.declared.ops.CompareOp.TheVariants.{Eq}
 use Rattle.sqlite_value.specs.declared.keys.Collation.TheVariants.{Binary}
-use Rattle.sqlite_value.specs.declared.value.Value.TheVariants.{Text, Null}
+use Rattle.sqlite_value.specs.declared.value.Value.TheVariants.{Text}
 use Rattle.sql_statements.proofs.Conditions.{text_is}
-use Rattle.sql_statements.specs.Statements as sql
-use Rattle.sql_statements.specs.Statements.{column_is, null_at, at_least, columns}
+use Rattle.sql_statements.specs.Statements.{column_is, at_least, columns}
 use Rattle.desk_history.specs.declared.reports.RetriedEntry.{RetriedEntry}
 use Rattle.std.specs.Prelude.{option_map}
-use Rattle.desk_records.specs.Columns.{number, flag}
+use Rattle.desk_records.specs.Columns.{number}
 use Rattle.desk_records.specs.CutTables.{is_row}
 use Rattle.desk_records.specs.QueryRows.{submission_head_row, submission_facts_row, order_and_settlement_row}
 use Rattle.desk_records.specs.Selected.{head_of, facts_of, order_of}
-use Rattle.desk_records.specs.TableReads.{is_of, is_under, is_since, is_open_of, is_waiting_of, is_retry_of, tries, heads_in, head_under, order_in, facts_in, authorized_in, is_authorization_of}
-use Rattle.desk_queries.proofs.Conditions.{one, two, number_is, number_if_any_least, unset_is, unflagged_is, both_hold, either_holds}
+use Rattle.desk_records.specs.TableReads.{is_of, is_under, is_retry_of, tries, heads_in, head_under, order_in, facts_in, authorized_in, is_authorization_of}
+use Rattle.desk_queries.proofs.Conditions.{one, two, number_is, number_if_any_least}
 use Rattle.desk_queries.proofs.Listings.{submissions, authorizations}
 use Rattle.desk_queries.proofs.Selects.{all_selected, first_selected}
-use Rattle.desk_queries.proofs.Texts.{places, submissions_of_is, open_submissions_is, waiting_submissions_is, retries_is, submission_is, order_is, facts_is, authorization_is}
+use Rattle.desk_queries.proofs.Texts.{places, submissions_of_is, settled_submissions_is, retries_is, submission_is, order_is, facts_is, authorization_is}
 use Rattle.desk_queries.specs.Shows.{ShowsAll, ShowsFirst}
-use Rattle.desk_queries.specs.Texts.{submissions_of_text, open_submissions_text, waiting_submissions_text, retries_text, submission_text, order_text, facts_text, authorization_text}
+use Rattle.desk_queries.specs.Texts.{submissions_of_text, settled_submissions_text, retries_text, submission_text, order_text, facts_text, authorization_text}
+use Rattle.desk_queries.specs.Waiting.{is_settled_of}
 
 pub submissions_of_shown : (c : List ℕ) → ShowsAll submissions_of_text (Text c ∷ []) submission_head_row (heads_in (is_of c))
 submissions_of_shown c =
     all_selected submissions submissions_of_text (column_is 1 0 ∷ []) (columns 11) (Text c ∷ []) (is_of c) head_of submission_head_row submissions_of_is (λ i s. one (text_is s.company c)) (λ i s. refl)
 
-waits : (settled : Option ℕ) (lapsed : Bool) → is_true (binary And (binary (Is Binary) (or_null number settled) Null) (binary (Compare Eq Binary) (flag lapsed) (number 0))) ≡ (is_none settled && not lapsed)
-waits settled lapsed = both_hold _ _ ∙ (let a = unset_is settled in let b = unflagged_is lapsed in λ i. a i && b i)
-
-is_open : (since : ℕ) (settled : Option ℕ) (lapsed : Bool)
-    → is_true (binary Or (binary (Compare Ge Binary) (or_null number settled) (number since)) (binary And (binary (Is Binary) (or_null number settled) Null) (binary (Compare Eq Binary) (flag lapsed) (number 0))))
-    ≡ (is_since since settled || (is_none settled && not lapsed))
-is_open since settled lapsed = either_holds _ _ ∙ (let a = number_if_any_least settled since in let b = waits settled lapsed in λ i. a i || b i)
-
-pub open_submissions_shown : (c : List ℕ) (since : ℕ) → ShowsAll open_submissions_text (Text c ∷ number since ∷ []) submission_head_row (heads_in (is_open_of c since))
-open_submissions_shown c since =
-    all_selected submissions open_submissions_text (column_is 1 0 ∷ op2 Or (at_least 11 1) (op2 And (null_at 11) (sql.number_is 10 (pos 0))) ∷ []) (columns 11) (Text c ∷ number since ∷ []) (is_open_of c since) head_of submission_head_row
-    open_submissions_is (λ i s. two (text_is s.company c) (is_open since s.settled s.lapsed)) (λ i s. refl)
-
-pub waiting_submissions_shown : (c : List ℕ) → ShowsAll waiting_submissions_text (Text c ∷ []) submission_head_row (heads_in (is_waiting_of c))
-waiting_submissions_shown c =
-    all_selected submissions waiting_submissions_text (column_is 1 0 ∷ null_at 11 ∷ sql.number_is 10 (pos 0) ∷ []) (columns 11) (Text c ∷ []) (is_waiting_of c) head_of submission_head_row
-    waiting_submissions_is (λ i s. let a = text_is s.company c in let b = two (unset_is s.settled) (unflagged_is s.lapsed) in λ j. a j && b j) (λ i s. refl)
+pub settled_submissions_shown : (c : List ℕ) (since : ℕ) → ShowsAll settled_submissions_text (Text c ∷ number since ∷ []) submission_head_row (heads_in (is_settled_of c since))
+settled_submissions_shown c since =
+    all_selected submissions settled_submissions_text (column_is 1 0 ∷ at_least 11 1 ∷ []) (columns 11) (Text c ∷ number since ∷ []) (is_settled_of c since) head_of submission_head_row
+    settled_submissions_is (λ i s. two (text_is s.company c) (number_if_any_least s.settled since)) (λ i s. refl)
 
 retries_it : (of : List ℕ) (index : ℕ) (r : Option RetriedEntry)
     → (is_true (binary (Compare Eq Binary) (or_null Text (option_map (λ t. t.of) r)) (Text of)) && (is_true (binary (Compare Eq Binary) (or_null number (option_map (λ t. t.index) r)) (number index)) && true)) ≡ tries of index r

@@ -1,12 +1,11 @@
 -- What the texts are in the schema of a desk.
 use Rattle.std.proofs.Common.{[], ◌∷◌, pos, ℕ, List, map, refl}
 use Rattle.sqlite.specs.Listing.{understood}
-use Rattle.sqlite_sql.specs.Term.{Term, col, op2}
-use Rattle.sqlite_sql.specs.declared.ops.BinaryOp.TheVariants.{And, Or}
+use Rattle.sqlite_sql.specs.Term.{Term, col}
 use Rattle.sqlite_tied.specs.Compute.{everything}
-use Rattle.sql_statements.specs.Statements.{IsSelect, query_from, query_within, column_is, number_is, null_at, at_least, at_most, by, falling, columns}
+use Rattle.sql_statements.specs.Statements.{IsSelect, query_from, query_within, column_is, number_is, at_least, at_most, by, falling, columns}
 use Rattle.desk_schema.specs.Schema.{desk_schema}
-use Rattle.desk_queries.specs.Texts.{identity_text, operator_key_text, day_text, company_text, companies_text, holidays_text, submissions_of_text, open_submissions_text, waiting_submissions_text, retries_text, submission_text, order_text, facts_text, last_order_text, authorization_text, entries_text, entry_text, sent_entry_text, place_text, places_text, last_number_text, returns_text, return_text, return_lines_text, change_lines_text, suspense_text, postings_text, sums_text, sum_text, modifiers_text, file_text, taken_text}
+use Rattle.desk_queries.specs.Texts.{identity_text, operator_key_text, day_text, company_text, companies_text, holidays_text, submissions_of_text, settled_submissions_text, waiting_submissions_text, retries_text, submission_text, order_text, facts_text, last_order_text, authorization_text, entries_text, entry_text, sent_entry_text, place_text, places_text, last_number_text, returns_text, return_text, return_lines_text, change_lines_text, suspense_text, postings_text, sums_text, sum_text, modifiers_text, file_text, taken_text}
 
 -- the columns at these places, from 1
 abbrev pub places : List ℕ → List Term
@@ -40,11 +39,11 @@ pub submissions_of_is : IsSelect desk_schema submissions_of_text (query_from 6 (
 unfolding understood everything
 submissions_of_is = record { selects = refl; body = refl; alone = refl; unlisted = refl; plain = (refl, refl) }
 
-pub open_submissions_is : IsSelect desk_schema open_submissions_text (query_from 6 (column_is 1 0 ∷ op2 Or (at_least 11 1) (op2 And (null_at 11) (number_is 10 (pos 0))) ∷ []) (columns 11) (by 1 ∷ by 2 ∷ []))
+pub settled_submissions_is : IsSelect desk_schema settled_submissions_text (query_from 6 (column_is 1 0 ∷ at_least 11 1 ∷ []) (columns 11) (by 1 ∷ by 2 ∷ []))
 unfolding understood everything
-open_submissions_is = record { selects = refl; body = refl; alone = refl; unlisted = refl; plain = (refl, refl) }
+settled_submissions_is = record { selects = refl; body = refl; alone = refl; unlisted = refl; plain = (refl, refl) }
 
-pub waiting_submissions_is : IsSelect desk_schema waiting_submissions_text (query_from 6 (column_is 1 0 ∷ null_at 11 ∷ number_is 10 (pos 0) ∷ []) (columns 11) (by 1 ∷ by 2 ∷ []))
+pub waiting_submissions_is : IsSelect desk_schema waiting_submissions_text (query_from 6 (column_is 1 0 ∷ []) (columns 11) (by 1 ∷ by 11 ∷ by 10 ∷ by 2 ∷ []))
 unfolding understood everything
 waiting_submissions_is = record { selects = refl; body = refl; alone = refl; unlisted = refl; plain = (refl, refl) }
 

@@ -2,3 +2,4 @@ pub mod DigestRows
 pub mod Postings
 pub mod Shows
 pub mod Texts
+pub mod Waiting

@@ -1,6 +1,7 @@
 -- What the rows of a query are of the tables of a desk.
-use Rattle.std.specs.Prelude.{◌≡◌, ℕ, List, map, slice_get, Option, option_map, IsTrue}
-use Rattle.sqlite.specs.State.{State, Shown}
+use Rattle.std.specs.Prelude.{◌≡◌, ◌⊎◌, ℕ, Bool, true, false, List, [], ◌∷◌, ◌++◌, map, slice_get, Option, option_map, IsTrue}
+use Rattle.std.specs.List.{AllByRecursion}
+use Rattle.sqlite.specs.State.{State, Shown, Begins, IsUnchanged}
 use Rattle.sqlite_value.specs.Order.{Row}
 use Rattle.sql_transactions.specs.Layouts.{Holds}
 use Rattle.desk_records.specs.Layout.{desk_layout}
@@ -32,3 +33,9 @@ module _ {X : Type 0} (sql : List ℕ) (params : Row) (show : X → Row) where
     pub rows : List Row
     pub shown : Shown sql params old new rows
     pub is : option_map show x ≡ slice_get rows 0
+
+  -- the values of its first rows, up to the last, or up to a row whose value does not pass
+  pub record ReadsWhile (passes : X → Bool) (old new : State) (xs : List X) : Type 0 where
+    pub same : IsUnchanged old new
+    pub pass : AllByRecursion (λ x. passes x ≡ true) xs
+    pub ends : Shown sql params old new (map show xs) ⊎ ((x : X) × (passes x ≡ false) × Begins sql params old (map show xs ++ show x ∷ []))

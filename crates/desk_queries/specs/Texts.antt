@@ -26,11 +26,11 @@ holidays_text = codes "SELECT day FROM holidays ORDER BY day"
 abbrev pub submissions_of_text : List ℕ
 submissions_of_text = codes "SELECT company, ord, ref, sec, direction, description, asked, of_ref, of_index, lapsed, settled FROM submissions WHERE company = ?1 ORDER BY company, ord"
 
-abbrev pub open_submissions_text : List ℕ
-open_submissions_text = codes "SELECT company, ord, ref, sec, direction, description, asked, of_ref, of_index, lapsed, settled FROM submissions WHERE company = ?1 AND (settled >= ?2 OR settled IS NULL AND lapsed = 0) ORDER BY company, ord"
+abbrev pub settled_submissions_text : List ℕ
+settled_submissions_text = codes "SELECT company, ord, ref, sec, direction, description, asked, of_ref, of_index, lapsed, settled FROM submissions WHERE company = ?1 AND settled >= ?2 ORDER BY company, ord"
 
 abbrev pub waiting_submissions_text : List ℕ
-waiting_submissions_text = codes "SELECT company, ord, ref, sec, direction, description, asked, of_ref, of_index, lapsed, settled FROM submissions WHERE company = ?1 AND settled IS NULL AND lapsed = 0 ORDER BY company, ord"
+waiting_submissions_text = codes "SELECT company, ord, ref, sec, direction, description, asked, of_ref, of_index, lapsed, settled FROM submissions WHERE company = ?1 ORDER BY company, settled, lapsed, ord"
 
 abbrev pub retries_text : List ℕ
 retries_text = codes "SELECT company, ord, ref, sec, direction, description, asked, of_ref, of_index, lapsed, settled FROM submissions WHERE company = ?1 AND of_ref = ?2 AND of_index = ?3 ORDER BY company, ord"

@@ -2,7 +2,8 @@
 //! finds what `TableReads` of `desk_records` says of the tables.
 //!
 //! Each query names its rows by a key or by the first columns of an index, and gives them in the order
-//! of the table's key. A row that stores no value within its ranges is `Error::InvalidQuery`.
+//! of the table's key. What waits for a cut stands first in an index, and is read one row at a time, up
+//! to the first that does not wait. A row that stores no value within its ranges is `Error::InvalidQuery`.
 #![tactic(auto)]
 
 mod entries;
@@ -13,6 +14,7 @@ mod parameter;
 mod registry;
 mod rows;
 mod submissions;
+mod waiting;
 
 pub use entries::{entries_of, entry, last_number, place, places, sent_entry};
 pub use files::{file_text, modifiers, taken_file};

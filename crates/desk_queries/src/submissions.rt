@@ -1,14 +1,16 @@
 //! Submissions.
-ghost use Rattle.std.specs.Prelude.{◌≡◌, IfOk};
+ghost use Rattle.std.specs.Prelude.{◌≡◌, ◌++◌, IfOk, IsPermutation, IsSorted};
 ghost use Rattle.sqlite.specs.Held.{state};
 ghost use Rattle.sqlite.specs.State.{HasCleanDisk, Survives};
 ghost use Rattle.sql_statements.specs.Queries.{Stays};
 ghost use Rattle.sql_transactions.specs.Findings.{Finds};
 ghost use Rattle.desk_records.specs.Layout.{desk_layout};
 ghost use Rattle.desk_records.specs.TableReads.{is_of, is_open_of, is_waiting_of, is_retry_of, heads_in, head_under, order_in, facts_in, last_order, authorized_in};
+ghost use Rattle.desk_queries.specs.Waiting.{by_head_order, is_settled_of};
 
 use crate::parameter::{characters, date, natural};
 use crate::rows::{all_of, cell_of, first_of};
+use crate::waiting::first_that_wait;
 use ach_fields::{Id, Ref};
 use bank_days::Day;
 use desk_records::{OrderAndSettlement, SubmissionFacts, SubmissionHead};
@@ -44,10 +46,39 @@ pub fn open_submissions<S: Alter>(
     ensures stays { HasCleanDisk (state S.Store conn.new) → Stays (state S.Store conn.old) (state S.Store conn.new) }
     ensures survives { Survives (state S.Store conn.old) (state S.Store conn.new) (λ _. ⊥) }
 {
+    let waiting = waiting_submissions(conn, alloc, company)?;
+    let settled = settled_submissions(conn, alloc, company, since)?;
+    in_order(waiting, &settled)
+}
+
+// Both lists, in the order of their numbers.
+fn in_order(
+    mut these: Vec<SubmissionHead>,
+    others: &[SubmissionHead],
+) -> Result<Vec<SubmissionHead>, Error>
+    ensures same { IfOk result (λ all. IsPermutation (these.items ++ others.now) all.items) }
+    ensures sorted { IfOk result (λ all. IsSorted by_head_order all.items) }
+{
+    these.extend_from_slice(others)?;
+    these.sort_by_key(|head| head.order)?;
+    Ok(these)
+}
+
+// Those of a company that settle on a day or later.
+fn settled_submissions<S: Alter>(
+    conn: &mut Connection<S>,
+    alloc: Global,
+    company: Id,
+    since: Day,
+) -> Result<Vec<SubmissionHead>, Error>
+    ensures answer { HasCleanDisk (state S.Store conn.new) → IfOk result (λ found. Finds desk_layout (λ t. found.items ≡ heads_in (is_settled_of company since) t) (state S.Store conn.old)) }
+    ensures stays { HasCleanDisk (state S.Store conn.new) → Stays (state S.Store conn.old) (state S.Store conn.new) }
+    ensures survives { Survives (state S.Store conn.old) (state S.Store conn.new) (λ _. ⊥) }
+{
     all_of(
         conn,
         alloc,
-        "SELECT company, ord, ref, sec, direction, description, asked, of_ref, of_index, lapsed, settled FROM submissions WHERE company = ?1 AND (settled >= ?2 OR settled IS NULL AND lapsed = 0) ORDER BY company, ord",
+        "SELECT company, ord, ref, sec, direction, description, asked, of_ref, of_index, lapsed, settled FROM submissions WHERE company = ?1 AND settled >= ?2 ORDER BY company, ord",
         &[characters(company.bytes()), date(since)],
     )
 }
@@ -62,10 +93,10 @@ pub fn waiting_submissions<S: Alter>(
     ensures stays { HasCleanDisk (state S.Store conn.new) → Stays (state S.Store conn.old) (state S.Store conn.new) }
     ensures survives { Survives (state S.Store conn.old) (state S.Store conn.new) (λ _. ⊥) }
 {
-    all_of(
+    first_that_wait(
         conn,
         alloc,
-        "SELECT company, ord, ref, sec, direction, description, asked, of_ref, of_index, lapsed, settled FROM submissions WHERE company = ?1 AND settled IS NULL AND lapsed = 0 ORDER BY company, ord",
+        "SELECT company, ord, ref, sec, direction, description, asked, of_ref, of_index, lapsed, settled FROM submissions WHERE company = ?1 ORDER BY company, settled, lapsed, ord",
         &[characters(company.bytes())],
     )
 }

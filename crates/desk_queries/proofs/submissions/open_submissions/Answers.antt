@@ -1,12 +1,14 @@
-use Rattle.std.proofs.lemmas.Result.{IfOk-weaker}
-use Rattle.desk_queries.proofs.SubmissionsShown.{open_submissions_shown}
-use Rattle.desk_queries.proofs.Found.{all_found}
-use Rattle.desk_queries.proofs.Injective.{submission_head_rows}
-use Rattle.desk_queries.proofs.TextsAnywhere.{open_submissions_selects}
+use Rattle.std.proofs.Common.{arith}
+use Rattle.sqlite.specs.State.{HasCleanDisk}
+use Rattle.sqlite.specs.Held.{state}
+use Rattle.sql_transactions.proofs.Findings.{finds_then}
+use Rattle.desk_records.specs.Layout.{desk_layout}
+use Rattle.desk_queries.proofs.Found.{together}
+use Rattle.desk_queries.proofs.OpenParts.{open_found}
 use Rattle.desk_queries.proofs.submissions.open_submissions.Goals as goal
 
-pub all_of-requires : goal.all_of-requires
-all_of-requires g c = open_submissions_selects
-
 pub returns-clause-answer : goal.returns-clause-answer
-returns-clause-answer g c clean = IfOk-weaker c.all_of.result _ _ (λ x read. all_found _ submission_head_rows (open_submissions_shown c.args.company c.args.since) (rw (c.characters.ensures, c.bytes.ensures.value, c.date.ensures) at read)) (c.all_of.ensures.answer clean)
+returns-clause-answer g c clean =
+    let before : HasCleanDisk (state g.S.Store c.waiting_submissions.new.conn) = omega (arith, c.settled_submissions.ensures.survives.clean, clean) in
+    let parts = finds_then desk_layout _ _ _ _ (c.in_ok-waiting.ensures.answer before) (c.waiting_submissions.ensures.stays before) (c.in_ok-settled.ensures.answer clean) in
+    together c.in_order.result _ _ _ (λ all same sorted. open_found c.args.company c.args.since parts (rw c.deref.ensures.value at same) sorted) c.in_order.ensures.same c.in_order.ensures.sorted

@@ -1,12 +1,10 @@
 use Rattle.std.proofs.lemmas.Result.{IfOk-weaker}
-use Rattle.desk_queries.proofs.SubmissionsShown.{waiting_submissions_shown}
-use Rattle.desk_queries.proofs.Found.{all_found}
-use Rattle.desk_queries.proofs.Injective.{submission_head_rows}
 use Rattle.desk_queries.proofs.TextsAnywhere.{waiting_submissions_selects}
+use Rattle.desk_queries.proofs.WaitingFirst.{waiting_found}
 use Rattle.desk_queries.proofs.submissions.waiting_submissions.Goals as goal
 
-pub all_of-requires : goal.all_of-requires
-all_of-requires g c = waiting_submissions_selects
+pub first_that_wait-requires : goal.first_that_wait-requires
+first_that_wait-requires g c = waiting_submissions_selects
 
 pub returns-clause-answer : goal.returns-clause-answer
-returns-clause-answer g c clean = IfOk-weaker c.all_of.result _ _ (λ x read. all_found _ submission_head_rows (waiting_submissions_shown c.args.company) (rw (c.characters.ensures, c.bytes.ensures.value) at read)) (c.all_of.ensures.answer clean)
+returns-clause-answer g c clean = IfOk-weaker c.first_that_wait.result _ _ (λ x read. waiting_found (rw (c.characters.ensures, c.bytes.ensures.value) at read)) (c.first_that_wait.ensures.answer clean)
