@@ -5,12 +5,13 @@ use Rattle.std.proofs.lemmas.Bool.{cases_Bool}
 use Rattle.std.proofs.lemmas.List.{map-append}
 use Rattle.std.proofs.lemmas.List.Sums.{take_while-cons}
 use Rattle.sqlite.proofs.Callers.{EndsIn, command_of, begins_shown, given_begin, unchanged_then}
+use Rattle.sqlite.proofs.StateLemmas.{survives_weaker}
 use Rattle.sqlite.specs.Clock.{timed}
 use Rattle.sqlite.specs.Effect.{Database}
 use Rattle.sqlite.specs.Given.{HasBegun, HasGiven, Advances, Returns}
 use Rattle.sqlite.specs.Held.{Held, state}
 use Rattle.sqlite.specs.Listing.{understood, reads_listing, IsSourceOf}
-use Rattle.sqlite.specs.State.{State, Shown, ShowsRows, Begins, IsStatement, IsUnchanged}
+use Rattle.sqlite.specs.State.{State, Shown, ShowsRows, Begins, IsStatement, IsUnchanged, Survives, CommitsShowing}
 use Rattle.sqlite_keyed.proofs.ListLemmas.{all_weaker, filter_none}
 use Rattle.sqlite_resolve.specs.declared.compiled.Compiled.{Compiled}
 use Rattle.sqlite_resolve.specs.declared.error.CompileError.{CompileError}
@@ -21,7 +22,7 @@ use Rattle.sqlite_sql.specs.Query.{Query}
 use Rattle.sqlite_trees.specs.Tree.{IsAscending}
 use Rattle.sqlite_trees.specs.declared.store.Store.{Ghosts}
 use Rattle.sqlite_value.specs.Order.{Row}
-use Rattle.sql_statements.proofs.Queries.{returns_none}
+use Rattle.sql_statements.proofs.Queries.{commits_nothing, returns_none}
 use Rattle.sql_statements.specs.SelectTexts.{DoesNotReturn, HasNoReturning}
 use Rattle.sql_statements.specs.Statements.{IsSelect, HasNoLets}
 use Rattle.sql_transactions.specs.Findings.{Finds}
@@ -39,11 +40,11 @@ module _ (sql : List ℕ) (params : Row) (old mid : State) (same : mid.now ≡ o
   source_before : (db : Database) → IsSourceOf (reads_listing mid.now.schema sql) mid.now db → IsSourceOf (reads_listing old.now.schema sql) old.now db
   source_before db = subst (λ (d : Database). IsSourceOf (reads_listing d.schema sql) d db) same
 
-  pub begins_before : (rows : List Row) → Begins sql params mid rows → Begins sql params old rows
+  begins_before : (rows : List Row) → Begins sql params mid rows → Begins sql params old rows
   unfolding Begins statement_before
   begins_before rows h = (h.0, statement_before h.0 h.1, h.2, h.3, source_before h.3 h.4, h.5)
 
-pub shown_before : (sql : List ℕ) (params : Row) (old mid new : State) (rows : List Row) → HasNoReturning sql → IsUnchanged old mid → Shown sql params mid new rows → Shown sql params old new rows
+shown_before : (sql : List ℕ) (params : Row) (old mid new : State) (rows : List Row) → HasNoReturning sql → IsUnchanged old mid → Shown sql params mid new rows → Shown sql params old new rows
 unfolding Shown statement_before
 shown_before sql params old mid new rows bare same h =
     let none = returns_none sql bare mid.now.schema h.0 h.1.is in
@@ -61,24 +62,25 @@ ends_alone (Select q names) db params alone = subst (Ends db.trees params []) (s
 ends_alone _ db params alone = tt
 
 -- the rows that an answer begins with are the first of all rows
-pub more_shown : {sql : List ℕ} {q : Query} (params : Row) (old new : State) (rows : List Row) → IsSelect desk_schema sql q → old.now.schema ≡ desk_schema → IsUnchanged old new → Begins sql params old rows
+more_shown : {sql : List ℕ} {q : Query} (params : Row) (old new : State) (rows : List Row) → IsSelect desk_schema sql q → old.now.schema ≡ desk_schema → IsUnchanged old new → Begins sql params old rows
     → (tail : List Row) × Shown sql params old new (rows ++ tail)
 more_shown {sql} params old new rows is has same begins =
     begins_shown sql params old new rows begins same
     (λ c db it source. ends_alone c.command db _ (subst HasNoLets (ap command_of (sym (ap (λ s. understood s sql) has) ∙ it.is)) is.alone))
 
 module _ {X : Type 0} (show : X → Row) (apart : IsInjective show) (p : X → Bool) where
-  pub all_of_while : (xs ys : List X) → AllByRecursion (λ x. p x ≡ true) xs → map show xs ≡ map show ys → xs ≡ take_while p ys
+  one_more : (x y : X) (xs ys : List X) → x ≡ y → p x ≡ true → xs ≡ take_while p ys → x ∷ xs ≡ take_while p (y ∷ ys)
+  one_more x y xs ys first passes rest = (λ i. first i ∷ rest i) ∙ sym (take_while-cons p y ys ∙ ap (λ b. cond b (y ∷ take_while p ys) []) (ap p (sym first) ∙ passes))
+
+  all_of_while : (xs ys : List X) → AllByRecursion (λ x. p x ≡ true) xs → map show xs ≡ map show ys → xs ≡ take_while p ys
   all_of_while [] [] pass e = refl
   all_of_while [] (y ∷ ys) pass e = cc
   all_of_while (x ∷ xs) [] pass e = cc
   all_of_while (x ∷ xs) (y ∷ ys) pass e =
-      let first = apart x y (let h = e in cc) in
-      let rest = all_of_while xs ys pass.1 (let h = e in cc) in
-      (λ i. first i ∷ rest i) ∙ sym (ap (λ b. cond b (y ∷ take_while p ys) []) (ap p (sym first) ∙ pass.0)) ∙ sym (take_while-cons p y ys)
+      one_more x y xs ys (apart x y (let h = e in cc)) pass.0 (all_of_while xs ys pass.1 (let h = e in cc))
 
   -- one that does not pass comes next
-  pub first_of_while : (xs ys : List X) (x : X) (tail : List Row) → AllByRecursion (λ x. p x ≡ true) xs → p x ≡ false → (map show xs ++ show x ∷ []) ++ tail ≡ map show ys → xs ≡ take_while p ys
+  first_of_while : (xs ys : List X) (x : X) (tail : List Row) → AllByRecursion (λ x. p x ≡ true) xs → p x ≡ false → (map show xs ++ show x ∷ []) ++ tail ≡ map show ys → xs ≡ take_while p ys
   first_of_while xs [] x tail pass fails e = absurd (none xs e)
     where
       none : (xs : List X) → ((map show xs ++ show x ∷ []) ++ tail ≡ []) → ⊥
@@ -88,9 +90,7 @@ module _ {X : Type 0} (show : X → Row) (apart : IsInjective show) (p : X → B
       let first = apart x y (let h = e in cc) in
       sym (take_while-cons p y ys ∙ ap (λ b. cond b (y ∷ take_while p ys) []) (ap p (sym first) ∙ fails))
   first_of_while (z ∷ xs) (y ∷ ys) x tail pass fails e =
-      let first = apart z y (let h = e in cc) in
-      let rest = first_of_while xs ys x tail pass.1 fails (let h = e in cc) in
-      (λ i. first i ∷ rest i) ∙ sym (ap (λ b. cond b (y ∷ take_while p ys) []) (ap p (sym first) ∙ pass.0)) ∙ sym (take_while-cons p y ys)
+      one_more z y xs ys (apart z y (let h = e in cc)) pass.0 (first_of_while xs ys x tail pass.1 fails (let h = e in cc))
 
   -- what was read is the first values of the tables, up to one that does not pass
   pub found_while : {sql : List ℕ} {q : Query} {params : Row} {values : Tables → List X} {old new : State} {xs : List X} → IsSelect desk_schema sql q → ShowsAll sql params show values → ReadsWhile sql params show p old new xs
@@ -110,6 +110,10 @@ module _ {X : Type 0} (show : X → Row) (apart : IsInjective show) (p : X → B
 never_both : (r : Result Compiled CompileError) → DoesNotReturn r → ¬ Returns r
 never_both (Ok c) none some = absurd (let no = rw none at some in cc)
 never_both (Err e) none some = some
+
+-- a SELECT commits nothing
+pub select_survives : (sql : List ℕ) (params : Row) (old new : State) → HasNoReturning sql → Survives old new (CommitsShowing sql params old) → Survives old new (λ _. ⊥)
+select_survives sql params old new bare = survives_weaker old new _ _ (λ clean db. commits_nothing sql params old db bare)
 
 -- none is given yet
 pub begun_select : {S : Type 0} (g : Ghosts S) (sql : List ℕ) (params : Row) (old new : Held S) → HasNoReturning sql → HasBegun g sql params old new → HasGiven g sql params new [] × IsUnchanged (state g old) (state g new)

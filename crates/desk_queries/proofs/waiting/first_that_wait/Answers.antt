@@ -3,12 +3,12 @@ use Rattle.sqlite.specs.Given.{Advances}
 use Rattle.sqlite.specs.Held.{state}
 use Rattle.sqlite.specs.State.{HasCleanDisk}
 use Rattle.sqlite.specs.Values.{bound}
-use Rattle.sqlite.proofs.StateLemmas.{survives_then, survives_weaker}
+use Rattle.sqlite.proofs.StateLemmas.{survives_then}
 use Rattle.sqlite_keyed.proofs.ListLemmas.{all-append}
-use Rattle.sql_statements.proofs.Queries.{fails_same, stays_rolled_back, commits_nothing}
+use Rattle.sql_statements.proofs.Queries.{fails_same, stays_rolled_back}
 use Rattle.sql_statements.proofs.SelectTexts.{select_returns_none}
 use Rattle.desk_records.specs.QueryRows.{submission_head_row}
-use Rattle.desk_queries.proofs.FirstRows.{begun_select, while_ended, while_stopped, while_goes_on}
+use Rattle.desk_queries.proofs.FirstRows.{begun_select, select_survives, while_ended, while_stopped, while_goes_on}
 use Rattle.desk_queries.specs.Shows.{ReadsWhile}
 use Rattle.desk_queries.specs.Waiting.{waits}
 use Rattle.desk_queries.proofs.waiting.first_that_wait.Goals as goal
@@ -22,17 +22,15 @@ returns-in_err-rows-clause-stays g c clean =
 pub returns-in_err-rows-clause-survives : goal.returns-in_err-rows-clause-survives
 returns-in_err-rows-clause-survives g c =
     let held = rw c.in_err-rows.was at c.query.follows.holds-at-none in
-    survives_weaker (state g.S.Store c.args.conn.now) (state g.S.Store c.query.follows.lender-at-none) _ _
-    (λ clean db writes. commits_nothing c.args.sql.now (bound c.args.params.now) (state g.S.Store c.args.conn.now) db (select_returns_none c.args.sql.now c.requires) writes) held.survives
+    select_survives c.args.sql.now (bound c.args.params.now) (state g.S.Store c.args.conn.now) (state g.S.Store c.query.follows.lender-at-none) (select_returns_none c.args.sql.now c.requires) held.survives
 
 pub rows-init : goal.rows-init
 rows-init g c =
-    let old = state g.S.Store c.args.conn.now in
     let bare = select_returns_none c.args.sql.now c.requires in
     let made = c.in_ok-rows.ensures in
     record {
       same_reference = refl;
-      survives = survives_weaker old (state g.S.Store c.in_ok-rows.rows.conn.now) _ _ (λ clean db writes. commits_nothing c.args.sql.now (bound c.args.params.now) old db bare writes) made.survives;
+      survives = select_survives c.args.sql.now (bound c.args.params.now) (state g.S.Store c.args.conn.now) (state g.S.Store c.in_ok-rows.rows.conn.now) bare made.survives;
       pass = rw c.new-waiting.ensures.items tt;
       read = λ clean. rw c.new-waiting.ensures.items (begun_select g.S.Store c.args.sql.now (bound c.args.params.now) c.args.conn.now c.in_ok-rows.rows.conn.now bare (made.begun clean));
     }
