@@ -3,9 +3,12 @@ messages with their answers, and checks that are counted."""
 
 import os
 import select
+import shutil
 import socket
+import sqlite3
 import subprocess
 import sys
+import tempfile
 import time
 from pathlib import Path
 
@@ -148,6 +151,21 @@ def read_answer(reader):
             size = int(line.split(b":")[1])
         head += line
     return head + reader.read(size)
+
+
+def rows_of(path):
+    """All rows of a desk's file, by stock SQLite."""
+    with tempfile.TemporaryDirectory() as folder:
+        copy = Path(folder) / "copy.db"
+        for end in ("", "-wal"):
+            if Path(f"{path}{end}").exists():
+                shutil.copyfile(f"{path}{end}", f"{copy}{end}")
+        db = sqlite3.connect(copy)
+        tables = [name for (name,) in db.execute("SELECT name FROM sqlite_master WHERE type = 'table' ORDER BY name")]
+        rows = {name: sorted(map(repr, db.execute(f"SELECT * FROM {name}"))) for name in tables}
+        rows["integrity_check"] = db.execute("PRAGMA integrity_check").fetchall()
+        db.close()
+        return rows
 
 
 def body_of(text):

@@ -16,15 +16,13 @@ have the same rows. The last line counts the checks; the status is 1 where one f
 import datetime
 import json
 import random
-import shutil
-import sqlite3
 import sys
 import tempfile
 import time
 from pathlib import Path
 
 from returned import file_of_returns
-from running import MILL, MILL_KEY, OPERATOR_KEY, Checks, Serving, connect, make_desk, message, program_of, read_answer, run
+from running import MILL, MILL_KEY, OPERATOR_KEY, Checks, Serving, connect, make_desk, message, program_of, read_answer, rows_of, run
 
 SESSION = 1_000
 KEYS = {"MILL01": MILL_KEY, "BAKE01": "bakery-key"}
@@ -156,21 +154,6 @@ def served(desk, messages, chance, watch):
                 came.append(plain(read_answer(reader)))
                 watch(len(came))
     return came, connections
-
-
-def rows_of(path):
-    """All rows of a desk's file, by stock SQLite."""
-    with tempfile.TemporaryDirectory() as folder:
-        copy = Path(folder) / "copy.db"
-        for end in ("", "-wal"):
-            if Path(f"{path}{end}").exists():
-                shutil.copyfile(f"{path}{end}", f"{copy}{end}")
-        db = sqlite3.connect(copy)
-        tables = [name for (name,) in db.execute("SELECT name FROM sqlite_master WHERE type = 'table' ORDER BY name")]
-        rows = {name: sorted(map(repr, db.execute(f"SELECT * FROM {name}"))) for name in tables}
-        rows["integrity_check"] = db.execute("PRAGMA integrity_check").fetchall()
-        db.close()
-        return rows
 
 
 def size_of(path):
