@@ -3,3 +3,4 @@ mod DaySums
 mod Latest
 mod Indexed
 mod Places
+mod Bounded

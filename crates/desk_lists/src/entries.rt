@@ -3,17 +3,16 @@ ghost use Rattle.std.specs.Prelude.{◌≡◌, ◌&&◌, bytes_eq, filter, lengt
 ghost use Rattle.std.specs.List.{list_any};
 ghost use Rattle.desk_rules.specs.Exposure.{is_open_credit};
 ghost use Rattle.desk_history.specs.Retries.{is_same_entry};
-ghost use Rattle.desk_book.specs.OpenRows.{is_open_row};
 ghost use Rattle.desk_book.specs.Standing.{row_under, retry_rows, state_at};
 ghost use Rattle.desk_lists.specs.Finds.{rows_for};
-ghost use Rattle.desk_lists.specs.Kept.{row_in};
+ghost use Rattle.desk_lists.specs.Kept.{row_in, may_be_open, is_found_open};
 
 use crate::list_store::KeptSubmission;
 use crate::reads::{is_submission_of, row_like};
 use ach_fields::{Id, Ref};
 use bank_days::Day;
 use desk_book::{Row, state_numbered};
-use desk_rules::{EntryState, Retry, is_open_credit};
+use desk_rules::{EntryState, Retry, RuleDay, is_open_credit};
 use std::alloc::{AllocError, Global};
 
 /// Says how many submissions a company has.
@@ -35,11 +34,24 @@ fn is_any_open(states: &[EntryState], since: Day) -> bool
     states.iter().any(|state| is_open_credit(*state, since))
 }
 
+/// May a submission that settled on this day have an entry that is held or settled since a day? This
+/// is asked before its entries are gone through: most of a company's settled long ago.
+fn may_be_open(settled: Option<RuleDay>, since: Day) -> bool
+    ensures { result ≡ may_be_open since settled }
+{
+    match settled {
+        Some(settled) => settled.day() >= since,
+        None => true,
+    }
+}
+
 /// Is it a company's, with an entry that is held or settled since a day?
 fn is_open_of(kept: &KeptSubmission, company: Id, since: Day) -> bool
-    ensures { result ≡ (bytes_eq kept.now.company company && is_open_row since (row_in kept.now).row) }
+    ensures { result ≡ (bytes_eq kept.now.company company && is_found_open since (row_in kept.now).row) }
 {
-    kept.company.bytes() == company.bytes() && is_any_open(&kept.states, since)
+    kept.company.bytes() == company.bytes()
+        && may_be_open(kept.settled, since)
+        && is_any_open(&kept.states, since)
 }
 
 /// Gives a company's submissions that have an entry which is held or settled since a day.
@@ -49,7 +61,7 @@ pub(crate) fn open_rows_of(
     company: Id,
     since: Day,
 ) -> Result<Vec<Row>, AllocError>
-    ensures { IfOk result (λ rows. rows.items ≡ filter (is_open_row since) (rows_for kept.now company)) }
+    ensures { IfOk result (λ rows. rows.items ≡ filter (is_found_open since) (rows_for kept.now company)) }
 {
     let mut rows = Vec::new(alloc);
     for one in kept {
