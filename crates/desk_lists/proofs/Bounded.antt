@@ -12,7 +12,7 @@ use Rattle.desk_book.specs.Steps.{CutWrite, IntakeWrite, returned_state_by}
 use Rattle.desk_store.specs.Changes.{in_turn, send_in, lapse_in, return_in, cut_in, intake_in}
 use Rattle.desk_store.specs.Rows.{CompanyRow, Rows}
 use Rattle.desk_book.specs.OpenRows.{is_open_row}
-use Rattle.desk_lists.specs.Kept.{IsBounded, is_found_open, may_be_open}
+use Rattle.desk_lists.specs.Open.{IsBounded, is_found_open, may_be_open}
 
 -- ---- the entries of one submission
 

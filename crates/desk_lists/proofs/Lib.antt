@@ -4,3 +4,4 @@ mod Latest
 mod Indexed
 mod Places
 mod Bounded
+mod Placed

@@ -1,5 +1,5 @@
 -- What the reads of the lists in memory find.
-use Rattle.std.specs.Prelude.{ℕ, ◌==◌, nat_lt, if◌then◌else◌, List, [], ◌∷◌, map, filter, bytes_eq, option_and_then, max, Option, Some, None, ℤ, ◌+ℤ◌}
+use Rattle.std.specs.Prelude.{ℕ, Bool, ◌==◌, nat_lt, if◌then◌else◌, List, [], ◌∷◌, map, filter, bytes_eq, option_and_then, max, Option, Some, None, ℤ, ◌+ℤ◌}
 use Rattle.desk_rules.specs.declared.bodies.company.Company.{Company}
 use Rattle.desk_book.specs.declared.row.Row.{Row}
 use Rattle.desk_history.specs.declared.sent_entry.SentEntry.{SentEntry}
@@ -8,6 +8,11 @@ use Rattle.desk_lists.specs.declared.list_store.KeptSubmission.{KeptSubmission}
 use Rattle.desk_book.specs.declared.held_submission.HeldSubmission.{HeldSubmission}
 use Rattle.desk_lists.specs.Kept.{row_in}
 use Rattle.desk_book.specs.Reads.{held_submission}
+use Rattle.desk_history.specs.Retries.{is_same_entry}
+use Rattle.desk_lists.specs.Open.{is_found_open}
+use Rattle.desk_lists.specs.Placed.{picked}
+use Rattle.desk_lists.specs.declared.entries.Wanted.{Wanted}
+use Rattle.desk_lists.specs.declared.entries.Wanted.TheVariants as wanted
 
 -- a company's rows
 abbrev pub rows_for : List KeptSubmission → List ℕ → List Row
@@ -16,6 +21,15 @@ rows_for kept c = map (λ x. x.row) (filter (λ x. bytes_eq x.company c) (map ro
 -- the day on which a company's submission settled
 abbrev pub row_settlement : List Row → List ℕ → Option ℕ
 row_settlement rows reference = option_and_then (λ row. row.settled) (row_under rows reference)
+
+-- whether a row is wanted
+abbrev pub is_wanted : Wanted → Row → Bool
+is_wanted (wanted.OpenSince since) row = is_found_open since row
+is_wanted (wanted.RetriesOf of index) row = is_same_entry of index row.retry
+
+-- what stands at a place, where it is a company's and wanted
+abbrev pub wanted_at : List KeptSubmission → (place : ℕ) → (company : List ℕ) → Wanted → List Row
+wanted_at kept place c w = filter (is_wanted w) (rows_for (picked kept (place ∷ [])) c)
 
 -- a company's held submissions
 abbrev pub waiting_for : Company → List Row → List HeldSubmission

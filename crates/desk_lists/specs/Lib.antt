@@ -1,3 +1,6 @@
+pub mod RowKeys
 pub mod Indexed
+pub mod Open
+pub mod Placed
 pub mod Kept
 pub mod Finds

@@ -1,11 +1,13 @@
 //! A store that keeps lists in memory answers these calls.
 use crate::balances::day_sums_of;
 use crate::cut::write_cut;
-use crate::entries::{count_of, open_rows_of, retries_among, state_under};
+use crate::entries::{Wanted, row_of, rows_wanted, state_of, submission_among};
 use crate::intake::write_intake;
 use crate::items::{changes_of, count_on, lines_of, returns_of, taken_file, text_at};
 use crate::list_store::ListStore;
-use crate::reads::{all_waiting, company_among, copy_of, row_under, rows_of};
+use crate::place_index::By;
+use crate::reads::{all_waiting, company_among, copy_of, rows_of};
+use crate::row_key::RowKey;
 use crate::sent::last_of;
 use crate::writes::{held_row, limit_company, place_of};
 use ach_fields::{Id, Ref, Trace};
@@ -66,11 +68,18 @@ impl Store for ListStore {
         company: Id,
         reference: Ref,
     ) -> Result<Option<Row>, StoreFault> {
-        Ok(row_under(alloc, &self.submissions, company, reference)?)
+        let kept = self.submissions.as_slice();
+        self.places.references.cover(alloc, kept, &By::Reference)?;
+        let key = RowKey::under(company, reference);
+        let places = self.places.references.of(key);
+        let found = submission_among(kept, places, company, reference);
+        Ok(row_of(alloc, found)?)
     }
 
-    fn submission_count(&mut self, _alloc: Global, company: Id) -> Result<u64, StoreFault> {
-        Ok(count_of(&self.submissions, company))
+    fn submission_count(&mut self, alloc: Global, company: Id) -> Result<u64, StoreFault> {
+        let kept = self.submissions.as_slice();
+        self.places.companies.cover(alloc, kept, &By::Company)?;
+        Ok(self.places.companies.of(RowKey::whole(company)).len() as u64)
     }
 
     fn open_rows(
@@ -79,7 +88,11 @@ impl Store for ListStore {
         company: Id,
         since: Day,
     ) -> Result<Vec<Row>, StoreFault> {
-        Ok(open_rows_of(alloc, &self.submissions, company, since)?)
+        let kept = self.submissions.as_slice();
+        self.places.cover_recent(alloc, kept, since)?;
+        let places = self.places.recent.of(RowKey::whole(company));
+        let wanted = Wanted::OpenSince(since);
+        Ok(rows_wanted(alloc, kept, places, company, &wanted)?)
     }
 
     fn retries_of(
@@ -89,17 +102,26 @@ impl Store for ListStore {
         of: Ref,
         index: u64,
     ) -> Result<Vec<Row>, StoreFault> {
-        Ok(retries_among(alloc, &self.submissions, company, of, index)?)
+        let kept = self.submissions.as_slice();
+        self.places.originals.cover(alloc, kept, &By::Original)?;
+        let places = self.places.originals.of(RowKey::under(company, of));
+        let wanted = Wanted::RetriesOf(of, index);
+        Ok(rows_wanted(alloc, kept, places, company, &wanted)?)
     }
 
     fn state_of(
         &mut self,
-        _alloc: Global,
+        alloc: Global,
         company: Id,
         reference: Ref,
         index: u64,
     ) -> Result<Option<EntryState>, StoreFault> {
-        Ok(state_under(&self.submissions, company, reference, index))
+        let kept = self.submissions.as_slice();
+        self.places.references.cover(alloc, kept, &By::Reference)?;
+        let key = RowKey::under(company, reference);
+        let places = self.places.references.of(key);
+        let found = submission_among(kept, places, company, reference);
+        Ok(state_of(found, index))
     }
 
     fn entries_of(&mut self, alloc: Global, company: Id) -> Result<Vec<Row>, StoreFault> {
@@ -215,7 +237,9 @@ impl Store for ListStore {
     }
 
     fn commit_cut(&mut self, alloc: Global, cut: &CutRows<'_>) -> Result<(), StoreFault> {
-        Ok(write_cut(self, alloc, cut)?)
+        write_cut(self, alloc, cut)?;
+        self.places.since = None;
+        Ok(())
     }
 
     fn commit_intake(&mut self, _alloc: Global, intake: &IntakeRows<'_>) -> Result<(), StoreFault> {

@@ -97,6 +97,7 @@ pub(crate) fn write_cut(
     ensures err { OnErr result (rows_in store.new ≡ rows_in store.old) }
     ensures traces { store.new.traces ≡ store.old.traces }
     ensures settlements { store.new.settlements ≡ store.old.settlements }
+    ensures places { store.new.places ≡ store.old.places }
 {
     let files = file_copies(alloc, cut.files)?;
     store.postings.reserve(cut.postings.len())?;

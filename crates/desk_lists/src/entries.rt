@@ -1,11 +1,13 @@
-//! The rows of one company in memory are gone through for a few of them.
-ghost use Rattle.std.specs.Prelude.{◌≡◌, ◌&&◌, bytes_eq, filter, length, option_map, IfOk};
+//! The rows of one company in memory are looked at, where they stand, for a few of them.
+ghost use Rattle.std.specs.Prelude.{◌≡◌, ◌&&◌, ◌++◌, ◌∷◌, [], bytes_eq, filter, map, option_map, IfOk, OnOk};
 ghost use Rattle.std.specs.List.{list_any};
 ghost use Rattle.desk_rules.specs.Exposure.{is_open_credit};
 ghost use Rattle.desk_history.specs.Retries.{is_same_entry};
-ghost use Rattle.desk_book.specs.Standing.{row_under, retry_rows, state_at};
-ghost use Rattle.desk_lists.specs.Finds.{rows_for};
-ghost use Rattle.desk_lists.specs.Kept.{row_in, may_be_open, is_found_open};
+ghost use Rattle.desk_book.specs.Standing.{row_under, state_at};
+ghost use Rattle.desk_lists.specs.Finds.{rows_for, is_wanted, wanted_at};
+ghost use Rattle.desk_lists.specs.Kept.{row_in};
+ghost use Rattle.desk_lists.specs.Open.{may_be_open, is_found_open};
+ghost use Rattle.desk_lists.specs.Placed.{picked};
 
 use crate::list_store::KeptSubmission;
 use crate::reads::{is_submission_of, row_like};
@@ -15,17 +17,13 @@ use desk_book::{Row, state_numbered};
 use desk_rules::{EntryState, Retry, RuleDay, is_open_credit};
 use std::alloc::{AllocError, Global};
 
-/// Says how many submissions a company has.
-pub(crate) fn count_of(kept: &[KeptSubmission], company: Id) -> u64
-    ensures { result ≡ length (rows_for kept.now company) }
-{
-    let mut count = 0;
-    for one in kept {
-        if one.company.bytes() == company.bytes() {
-            count += 1;
-        }
-    }
-    count
+/// `Wanted` says which of a company's rows are wanted.
+#[derive(Clone, Copy)]
+pub(crate) enum Wanted {
+    /// Those with an entry that is held or settled since a day.
+    OpenSince(Day),
+    /// The retries of the entry that has this number in the submission with this reference.
+    RetriesOf(Ref, u64),
 }
 
 fn is_any_open(states: &[EntryState], since: Day) -> bool
@@ -36,40 +34,13 @@ fn is_any_open(states: &[EntryState], since: Day) -> bool
 
 /// May a submission that settled on this day have an entry that is held or settled since a day? This
 /// is asked before its entries are gone through: most of a company's settled long ago.
-fn may_be_open(settled: Option<RuleDay>, since: Day) -> bool
+pub(crate) fn may_be_open(settled: Option<RuleDay>, since: Day) -> bool
     ensures { result ≡ may_be_open since settled }
 {
     match settled {
         Some(settled) => settled.day() >= since,
         None => true,
     }
-}
-
-/// Is it a company's, with an entry that is held or settled since a day?
-fn is_open_of(kept: &KeptSubmission, company: Id, since: Day) -> bool
-    ensures { result ≡ (bytes_eq kept.now.company company && is_found_open since (row_in kept.now).row) }
-{
-    kept.company.bytes() == company.bytes()
-        && may_be_open(kept.settled, since)
-        && is_any_open(&kept.states, since)
-}
-
-/// Gives a company's submissions that have an entry which is held or settled since a day.
-pub(crate) fn open_rows_of(
-    alloc: Global,
-    kept: &[KeptSubmission],
-    company: Id,
-    since: Day,
-) -> Result<Vec<Row>, AllocError>
-    ensures { IfOk result (λ rows. rows.items ≡ filter (is_found_open since) (rows_for kept.now company)) }
-{
-    let mut rows = Vec::new(alloc);
-    for one in kept {
-        if is_open_of(one, company, since) {
-            rows.push(row_like(alloc, one)?)?;
-        }
-    }
-    Ok(rows)
 }
 
 fn is_same_entry(of: Ref, index: u64, retry: Option<Retry>) -> bool
@@ -81,45 +52,116 @@ fn is_same_entry(of: Ref, index: u64, retry: Option<Retry>) -> bool
     }
 }
 
-/// Is it a company's retry of the entry?
-fn is_retry_of(kept: &KeptSubmission, company: Id, of: Ref, index: u64) -> bool
-    ensures { result ≡ (bytes_eq kept.now.company company && is_same_entry of index kept.now.retry) }
+fn is_wanted(kept: &KeptSubmission, wanted: &Wanted) -> bool
+    ensures { result ≡ is_wanted wanted.now (row_in kept.now).row }
 {
-    kept.company.bytes() == company.bytes() && is_same_entry(of, index, kept.retry)
+    match *wanted {
+        Wanted::OpenSince(since) => {
+            may_be_open(kept.settled, since) && is_any_open(&kept.states, since)
+        }
+        Wanted::RetriesOf(of, index) => is_same_entry(of, index, kept.retry),
+    }
 }
 
-/// Gives a company's retries of an entry.
-pub(crate) fn retries_among(
-    alloc: Global,
-    kept: &[KeptSubmission],
-    company: Id,
-    of: Ref,
-    index: u64,
-) -> Result<Vec<Row>, AllocError>
-    ensures { IfOk result (λ rows. rows.items ≡ retry_rows (rows_for kept.now company) of index) }
+/// Is it a company's, and wanted?
+fn is_wanted_of(kept: &KeptSubmission, company: Id, wanted: &Wanted) -> bool
+    ensures { result ≡ (bytes_eq kept.now.company company && is_wanted wanted.now (row_in kept.now).row) }
 {
-    let mut rows = Vec::new(alloc);
-    for one in kept {
-        if is_retry_of(one, company, of, index) {
+    kept.company.bytes() == company.bytes() && is_wanted(kept, wanted)
+}
+
+/// Adds what stands at a place, where it is a company's and wanted.
+fn push_wanted(
+    alloc: Global,
+    rows: &mut Vec<Row>,
+    kept: &[KeptSubmission],
+    place: usize,
+    company: Id,
+    wanted: &Wanted,
+) -> Result<(), AllocError>
+    ensures { OnOk result (rows.new.items ≡ rows.old.items ++ wanted_at kept.now place company wanted.now) }
+{
+    if place < kept.len() {
+        let one = &kept[place];
+        if is_wanted_of(one, company, wanted) {
             rows.push(row_like(alloc, one)?)?;
         }
+    }
+    Ok(())
+}
+
+/// Gives those rows of a company that are wanted, of what stands at these places.
+pub(crate) fn rows_wanted(
+    alloc: Global,
+    kept: &[KeptSubmission],
+    places: &[usize],
+    company: Id,
+    wanted: &Wanted,
+) -> Result<Vec<Row>, AllocError>
+    ensures { IfOk result (λ rows. rows.items ≡ filter (is_wanted wanted.now) (rows_for (picked kept.now places.now) company)) }
+{
+    let mut rows = Vec::new(alloc);
+    for place in places {
+        push_wanted(alloc, &mut rows, kept, *place, company, wanted)?;
     }
     Ok(rows)
 }
 
-/// Gives the state of an entry of a company's submission.
-pub(crate) fn state_under(
-    kept: &[KeptSubmission],
+/// Gives the row at a place, where it is the company's submission with a reference.
+fn submission_at<'a>(
+    kept: &'a [KeptSubmission],
+    place: usize,
     company: Id,
     reference: Ref,
-    index: u64,
-) -> Option<EntryState>
-    ensures { result ≡ option_map (λ row. state_at row index) (row_under (rows_for kept.now company) reference) }
+) -> Option<&'a KeptSubmission>
+    ensures { option_map (λ k. (row_in k.now).row) result ≡ row_under (rows_for (picked kept.now (place ∷ [])) company) reference }
 {
-    for one in kept {
+    if place < kept.len() {
+        let one = &kept[place];
         if is_submission_of(one, company, reference) {
-            return Some(state_numbered(&one.states, index));
+            return Some(one);
         }
     }
     None
+}
+
+/// Gives a company's submission with a reference, of what stands at these places.
+pub(crate) fn submission_among<'a>(
+    kept: &'a [KeptSubmission],
+    places: &[usize],
+    company: Id,
+    reference: Ref,
+) -> Option<&'a KeptSubmission>
+    ensures { option_map (λ k. (row_in k.now).row) result ≡ row_under (rows_for (picked kept.now places.now) company) reference }
+{
+    for place in places {
+        let found = submission_at(kept, *place, company, reference);
+        if found.is_some() {
+            return found;
+        }
+    }
+    None
+}
+
+/// Copies a row that was found.
+pub(crate) fn row_of(
+    alloc: Global,
+    found: Option<&KeptSubmission>,
+) -> Result<Option<Row>, AllocError>
+    ensures { IfOk result (λ row. row ≡ option_map (λ k. (row_in k.now).row) found.entry) }
+{
+    match found {
+        Some(one) => Ok(Some(row_like(alloc, one)?)),
+        None => Ok(None),
+    }
+}
+
+/// Gives the state of an entry of a row that was found.
+pub(crate) fn state_of(found: Option<&KeptSubmission>, index: u64) -> Option<EntryState>
+    ensures { result ≡ option_map (λ row. state_at row index) (option_map (λ k. (row_in k.now).row) found.entry) }
+{
+    match found {
+        Some(one) => Some(state_numbered(&one.states, index)),
+        None => None,
+    }
 }

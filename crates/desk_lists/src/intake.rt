@@ -63,6 +63,7 @@ pub(crate) fn write_intake(store: &mut ListStore, intake: &IntakeRows<'_>) -> Re
     ensures err { OnErr result (rows_in store.new ≡ rows_in store.old) }
     ensures traces { store.new.traces ≡ store.old.traces }
     ensures settlements { store.new.settlements ≡ store.old.settlements }
+    ensures places { store.new.places ≡ store.old.places }
 {
     store.returned.reserve(intake.returned.len())?;
     store.changed.reserve(intake.changed.len())?;

@@ -3,6 +3,7 @@ ghost use Rattle.std.specs.Prelude.{[]};
 ghost use Rattle.desk_book.specs.Book.{book_of};
 ghost use Rattle.desk_lists.specs.Kept.{IsHeld};
 
+use crate::row_places::RowPlaces;
 use crate::settlement_index::SettlementIndex;
 use crate::trace_index::TraceIndex;
 use ach_fields::Id;
@@ -34,6 +35,7 @@ pub struct ListStore {
     pub(crate) holidays: Calendar,
     pub(crate) companies: Vec<Company>,
     pub(crate) submissions: Vec<KeptSubmission>,
+    pub(crate) places: RowPlaces,
     pub(crate) returned: Vec<ReturnedRow>,
     pub(crate) changed: Vec<ChangedRow>,
     pub(crate) postings: Vec<Posting>,
@@ -58,6 +60,7 @@ impl ListStore {
             holidays: Calendar::empty(alloc),
             companies: Vec::new(alloc),
             submissions: Vec::new(alloc),
+            places: RowPlaces::new(alloc),
             returned: Vec::new(alloc),
             changed: Vec::new(alloc),
             postings: Vec::new(alloc),

@@ -2,7 +2,7 @@
 ghost use Rattle.std.specs.Prelude.{◌≡◌, ◌++◌, Option, find, bytes_eq, ◌&&◌, IfOk, OnOk};
 ghost use Rattle.std.specs.List.{flat_map};
 ghost use Rattle.desk_history.specs.Operator.{has_id};
-ghost use Rattle.desk_book.specs.Standing.{row_under, is_held, original_of_row};
+ghost use Rattle.desk_book.specs.Standing.{is_held, original_of_row};
 ghost use Rattle.desk_lists.specs.Finds.{rows_for, row_settlement, waiting_for};
 ghost use Rattle.desk_lists.specs.Kept.{row_in};
 ghost use Rattle.desk_book.specs.Reads.{held_submission};
@@ -73,23 +73,6 @@ pub(crate) fn is_submission_of(kept: &KeptSubmission, company: Id, reference: Re
 {
     kept.company.bytes() == company.bytes()
         && kept.content.submission().reference.bytes() == reference.bytes()
-}
-
-/// Gives a company's submission with a reference.
-pub(crate) fn row_under(
-    alloc: Global,
-    kept: &[KeptSubmission],
-    company: Id,
-    reference: Ref,
-) -> Result<Option<Row>, AllocError>
-    ensures { IfOk result (λ row. row ≡ row_under (rows_for kept.now company) reference) }
-{
-    for one in kept {
-        if is_submission_of(one, company, reference) {
-            return Ok(Some(row_like(alloc, one)?));
-        }
-    }
-    Ok(None)
 }
 
 /// Gives the day on which a company's submission settled.

@@ -3,8 +3,10 @@ use Rattle.std.specs.Prelude.{All}
 use Rattle.std.proofs.lemmas.List.{map-append}
 use Rattle.desk_book.specs.Book.{Book}
 use Rattle.desk_store.specs.Held.{held_row}
-use Rattle.desk_lists.specs.Kept.{row_in, rows_in, IsBookOf, IsBounded}
+use Rattle.desk_lists.specs.Kept.{row_in, rows_in, IsBookOf}
+use Rattle.desk_lists.specs.Open.{IsBounded}
 use Rattle.desk_lists.proofs.Bounded.{added_keeps}
+use Rattle.desk_lists.proofs.Placed.{placed_before}
 use Rattle.desk_store.specs.Rows.{CompanyRow, flat_book}
 use Rattle.desk_book.specs.Steps.{add_submission}
 use Rattle.desk_store.proofs.Added.{flat-add}
@@ -34,6 +36,7 @@ returns-clause-write c = λ _ b held next. record {
   indexed = held.indexed;
   settled = held.settled;
   bounded = subst (λ (rows : List CompanyRow). All IsBounded rows) (sym (pushed c)) (added_keeps (map row_in c.args.self.now.submissions.items) (held_row c.args.company c.args.order c.args.content.now c.args.retry) held.bounded (λ since. refl));
+  placed = placed_before (map row_in c.args.self.now.submissions.items) (map row_in c.push.new.self.items) (held_row c.args.company c.args.order c.args.content.now c.args.retry ∷ []) c.args.self.now.places (pushed c) held.placed;
 }
 
 pub returns-clause-left : goal.returns-clause-left

@@ -1,11 +1,14 @@
-use Rattle.std.proofs.Common.{List, subst, ◌∙◌, ◌++◌, sym, ap}
+use Rattle.std.proofs.Common.{List, None, map, subst, ◌∙◌, ◌++◌, sym, ap}
 use Rattle.std.specs.Prelude.{All}
-use Rattle.desk_lists.specs.Kept.{rows_in, IsBounded}
+use Rattle.desk_lists.specs.Kept.{row_in, rows_in}
+use Rattle.desk_lists.specs.Open.{IsBounded}
 use Rattle.desk_store.specs.Rows.{CompanyRow, flat_book}
 use Rattle.desk_book.specs.Steps.{commit_cut}
 use Rattle.desk_store.specs.Written.{cut_rows}
 use Rattle.desk_store.proofs.FlatCuts.{flat_cut}
 use Rattle.desk_lists.proofs.Bounded.{cut_keeps}
+use Rattle.desk_lists.proofs.Placed.{placed_after_cut}
+use Rattle.desk_lists.specs.declared.row_places.RowPlaces.{RowPlaces}
 use Rattle.desk_lists.proofs.Indexed.{indexed_as, indexed_behind, settled_as, settled_behind}
 use Rattle.desk_lists.proofs.calls.ListStoreStore.commit_cut.Goals as goal
 
@@ -18,6 +21,7 @@ returns-clause-write c = λ _ b held _.
       indexed = indexed_as (old.sent.items ++ x.entries) c.write_cut.new.store.sent.items old.traces c.write_cut.new.store.traces (ap (λ r. r.sent) c.in_ok-write_cut.ensures.ok) c.in_ok-write_cut.ensures.traces (indexed_behind old.sent.items x.entries old.traces held.indexed);
       settled = settled_as (old.sent.items ++ x.entries) c.write_cut.new.store.sent.items old.settlements c.write_cut.new.store.settlements (ap (λ r. r.sent) c.in_ok-write_cut.ensures.ok) c.in_ok-write_cut.ensures.settlements (settled_behind old.sent.items x.entries old.settlements held.settled);
       bounded = subst (λ (rows : List CompanyRow). All IsBounded rows) (sym (ap (λ r. r.submissions) c.in_ok-write_cut.ensures.ok)) (cut_keeps x (rows_in old) held.bounded);
+      placed = placed_after_cut x (rows_in old) (map row_in c.write_cut.new.store.submissions.items) old.places _ (ap (λ r. r.submissions) c.in_ok-write_cut.ensures.ok) (ap (λ (p : RowPlaces). record p { since = None }) c.in_ok-write_cut.ensures.places) held.placed;
     }
 
 pub returns-clause-left : goal.returns-clause-left

@@ -1,11 +1,13 @@
-use Rattle.std.proofs.Common.{List, subst, ◌∙◌, sym, ap}
+use Rattle.std.proofs.Common.{List, map, subst, ◌∙◌, sym, ap}
 use Rattle.std.specs.Prelude.{All}
-use Rattle.desk_lists.specs.Kept.{rows_in, IsBounded}
+use Rattle.desk_lists.specs.Kept.{row_in, rows_in}
+use Rattle.desk_lists.specs.Open.{IsBounded}
 use Rattle.desk_store.specs.Rows.{CompanyRow, flat_book}
 use Rattle.desk_book.specs.Steps.{commit_intake}
 use Rattle.desk_store.specs.Written.{intake_rows}
 use Rattle.desk_store.proofs.FlatIntakes.{flat_intake}
 use Rattle.desk_lists.proofs.Bounded.{intake_keeps}
+use Rattle.desk_lists.proofs.Placed.{placed_after_intake}
 use Rattle.desk_lists.proofs.Indexed.{indexed_as, settled_as}
 use Rattle.desk_lists.proofs.calls.ListStoreStore.commit_intake.Goals as goal
 
@@ -18,6 +20,7 @@ returns-clause-write c = λ _ b held _.
       indexed = indexed_as old.sent.items c.write_intake.new.store.sent.items old.traces c.write_intake.new.store.traces (ap (λ r. r.sent) c.in_ok-write_intake.ensures.ok) c.in_ok-write_intake.ensures.traces held.indexed;
       settled = settled_as old.sent.items c.write_intake.new.store.sent.items old.settlements c.write_intake.new.store.settlements (ap (λ r. r.sent) c.in_ok-write_intake.ensures.ok) c.in_ok-write_intake.ensures.settlements held.settled;
       bounded = subst (λ (rows : List CompanyRow). All IsBounded rows) (sym (ap (λ r. r.submissions) c.in_ok-write_intake.ensures.ok)) (intake_keeps x (rows_in old) held.bounded);
+      placed = placed_after_intake x (rows_in old) (map row_in c.write_intake.new.store.submissions.items) old.places c.write_intake.new.store.places (ap (λ r. r.submissions) c.in_ok-write_intake.ensures.ok) c.in_ok-write_intake.ensures.places held.placed;
     }
 
 pub returns-clause-left : goal.returns-clause-left

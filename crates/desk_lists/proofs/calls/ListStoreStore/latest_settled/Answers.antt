@@ -13,4 +13,4 @@ returns-clause-read c = λ _ b held.
     let before : AreSettled c.deref.result.now s.settlements = settled_as sent c.deref.result.now s.settlements s.settlements own refl held.settled in
     let right : AreSettled sent c.cover.new.self = subst (λ (es : List SentEntry). AreSettled es c.cover.new.self) own (c.in_ok-cover.ensures.right before) in
     let whole : c.cover.new.self.indexed ≡ length sent = c.in_ok-cover.ensures.whole before ∙ ap length own in
-    (c.latest.ensures sent right whole ∙ ap (latest_settled c.args.from c.args.to) (sym held.book), record { book = held.book; indexed = held.indexed; settled = right; bounded = held.bounded })
+    (c.latest.ensures sent right whole ∙ ap (latest_settled c.args.from c.args.to) (sym held.book), record { book = held.book; indexed = held.indexed; settled = right; bounded = held.bounded; placed = held.placed })

@@ -13,4 +13,4 @@ returns-clause-read c = λ _ b held.
     let before : IsIndexed c.deref.result.now s.traces = indexed_as sent c.deref.result.now s.traces s.traces own refl held.indexed in
     let right : IsIndexed sent c.cover.new.self = subst (λ (es : List SentEntry). IsIndexed es c.cover.new.self) own (c.in_ok-cover.ensures.right before) in
     let whole : c.cover.new.self.indexed ≡ length sent = c.in_ok-cover.ensures.whole before ∙ ap length own in
-    (c.entry_of.ensures sent right whole ∙ ap (sent_as c.args.trace) (sym held.book), record { book = held.book; indexed = right; settled = held.settled; bounded = held.bounded })
+    (c.entry_of.ensures sent right whole ∙ ap (sent_as c.args.trace) (sym held.book), record { book = held.book; indexed = right; settled = held.settled; bounded = held.bounded; placed = held.placed })

@@ -1,0 +1,73 @@
+//! The rows of a company in memory are found without going through all rows.
+ghost use Rattle.std.specs.Prelude.{◌≡◌, true, List, [], Some, map, length, OnOk};
+ghost use Rattle.desk_lists.specs.Kept.{row_in};
+ghost use Rattle.desk_lists.specs.Placed.{ArePlaced};
+ghost use Rattle.desk_store.specs.Rows.{CompanyRow};
+
+use crate::list_store::KeptSubmission;
+use crate::place_index::{By, PlaceIndex};
+use bank_days::Day;
+use desk_store::StoreFault;
+use std::alloc::Global;
+
+/// `RowPlaces` are indexes of the rows.
+#[derive(Drop)]
+pub(crate) struct RowPlaces {
+    pub(crate) companies: PlaceIndex,
+    pub(crate) references: PlaceIndex,
+    /// It finds the retries of a submission's entries.
+    pub(crate) originals: PlaceIndex,
+    /// It finds the rows that may be open since the day. A cut settles rows, and so ends it.
+    pub(crate) recent: PlaceIndex,
+    pub(crate) since: Option<Day>,
+}
+
+impl RowPlaces {
+    /// Makes the indexes of no rows.
+    pub(crate) fn new(alloc: Global) -> RowPlaces
+        ensures { ArePlaced [] result }
+    {
+        RowPlaces {
+            companies: PlaceIndex::new(alloc),
+            references: PlaceIndex::new(alloc),
+            originals: PlaceIndex::new(alloc),
+            recent: PlaceIndex::new(alloc),
+            since: None,
+        }
+    }
+
+    fn is_since(&self, since: Day) -> bool
+        ensures { result ≡ true → self.now.since ≡ Some since }
+    {
+        match self.since {
+            Some(first) => first == since,
+            None => false,
+        }
+    }
+
+    /// Begins the index of open rows again, where it is for another day.
+    fn begin(&mut self, since: Day)
+        ensures right { (rows : List CompanyRow) → ArePlaced rows self.old → ArePlaced rows self.new }
+        ensures since { self.new.since ≡ Some since }
+    {
+        if !self.is_since(since) {
+            self.recent.clear();
+            self.since = Some(since);
+        }
+    }
+
+    /// Covers the rows that may be open since a day.
+    pub(crate) fn cover_recent(
+        &mut self,
+        alloc: Global,
+        kept: &[KeptSubmission],
+        since: Day,
+    ) -> Result<(), StoreFault>
+        ensures right { ArePlaced (map row_in kept.now) self.old → ArePlaced (map row_in kept.now) self.new }
+        ensures since { self.new.since ≡ Some since }
+        ensures whole { OnOk result (ArePlaced (map row_in kept.now) self.old → self.new.recent.indexed ≡ length kept.now) }
+    {
+        self.begin(since);
+        self.recent.cover(alloc, kept, &By::OpenSince(since))
+    }
+}
