@@ -69,7 +69,7 @@ impl Store for ListStore {
         reference: Ref,
     ) -> Result<Option<Row>, StoreFault> {
         let kept = self.submissions.as_slice();
-        self.places.references.cover(alloc, kept, &By::Reference)?;
+        self.places.cover_references(alloc, kept)?;
         let key = RowKey::under(company, reference);
         let places = self.places.references.of(key);
         let found = submission_among(kept, places, company, reference);

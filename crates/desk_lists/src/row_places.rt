@@ -36,6 +36,20 @@ impl RowPlaces {
         }
     }
 
+    /// Covers the rows by their references, and retries by what they try again. Each submission asks
+    /// for its reference, so a retry never has to cover many rows.
+    pub(crate) fn cover_references(
+        &mut self,
+        alloc: Global,
+        kept: &[KeptSubmission],
+    ) -> Result<(), StoreFault>
+        ensures right { ArePlaced (map row_in kept.now) self.old → ArePlaced (map row_in kept.now) self.new }
+        ensures whole { OnOk result (ArePlaced (map row_in kept.now) self.old → self.new.references.indexed ≡ length kept.now) }
+    {
+        self.references.cover(alloc, kept, &By::Reference)?;
+        self.originals.cover(alloc, kept, &By::Original)
+    }
+
     fn is_since(&self, since: Day) -> bool
         ensures { result ≡ true → self.now.since ≡ Some since }
     {
