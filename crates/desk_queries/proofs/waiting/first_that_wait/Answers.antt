@@ -1,7 +1,7 @@
 use Rattle.std.proofs.Common.{◌≡◌, false, [], ◌∷◌, option_map, refl, subst, ◌∙◌, rules, arith}
 use Rattle.sqlite.specs.Given.{Advances}
 use Rattle.sqlite.specs.Held.{state}
-use Rattle.sqlite.specs.State.{HasCleanDisk}
+use Rattle.sqlite.specs.State.{State, HasCleanDisk, Survives}
 use Rattle.sqlite.specs.Values.{bound}
 use Rattle.sqlite.proofs.StateLemmas.{survives_then}
 use Rattle.sqlite_keyed.proofs.ListLemmas.{all-append}
@@ -12,6 +12,9 @@ use Rattle.desk_queries.proofs.FirstRows.{begun_select, select_survives, while_e
 use Rattle.desk_queries.specs.Shows.{ReadsWhile}
 use Rattle.desk_queries.specs.Waiting.{waits}
 use Rattle.desk_queries.proofs.waiting.first_that_wait.Goals as goal
+
+survives_both : (a b c : State) → Survives a b (λ _. ⊥) → Survives b c (λ _. ⊥) → Survives a c (λ _. ⊥)
+survives_both a b c = survives_then a b c _ _ _ (λ _ db made. made) (λ _ db made. made)
 
 pub returns-in_err-rows-clause-stays : goal.returns-in_err-rows-clause-stays
 returns-in_err-rows-clause-stays g c clean =
@@ -56,9 +59,14 @@ returns-then-not-waits-clause-answer g c clean =
     let read = while_stopped g.S.Store submission_head_row waits c.args.sql.now (bound c.args.params.now) (state g.S.Store c.args.conn.now) mid new _ was (c.in_ok-head.ensures.same late) c.rows.invariant.pass c.in-Some.head fails more in
     subst (λ s. ReadsWhile c.args.sql.now (bound c.args.params.now) submission_head_row waits (state g.S.Store c.args.conn.now) s c.rows.waiting.items) (search rules) read
 
+pub returns-then-not-waits-clause-survives : goal.returns-then-not-waits-clause-survives
+returns-then-not-waits-clause-survives g c =
+    let kept = survives_both (state g.S.Store c.args.conn.now) (state g.S.Store c.rows.rows.conn.now) (state g.S.Store c.next_of.new.rows.conn.now) c.rows.invariant.survives c.next_of.ensures.survives in
+    search rules
+
 pub returns-in_err-push-clause-survives : goal.returns-in_err-push-clause-survives
 returns-in_err-push-clause-survives g c =
-    let kept = survives_then (state g.S.Store c.args.conn.now) (state g.S.Store c.rows.rows.conn.now) (state g.S.Store c.next_of.new.rows.conn.now) _ _ _ (λ _ db made. made) (λ _ db made. made) c.rows.invariant.survives c.next_of.ensures.survives in
+    let kept = survives_both (state g.S.Store c.args.conn.now) (state g.S.Store c.rows.rows.conn.now) (state g.S.Store c.next_of.new.rows.conn.now) c.rows.invariant.survives c.next_of.ensures.survives in
     search rules
 
 pub rows-preserved : goal.rows-preserved
@@ -67,7 +75,7 @@ rows-preserved g c =
     let new = c.next_of.new.rows.conn.now in
     record {
       same_reference = c.next_of.ensures.same_reference ∙ c.rows.invariant.same_reference;
-      survives = survives_then (state g.S.Store c.args.conn.now) (state g.S.Store mid) (state g.S.Store new) _ _ _ (λ _ db made. made) (λ _ db made. made) c.rows.invariant.survives c.next_of.ensures.survives;
+      survives = survives_both (state g.S.Store c.args.conn.now) (state g.S.Store mid) (state g.S.Store new) c.rows.invariant.survives c.next_of.ensures.survives;
       pass = rw c.in_ok-push.ensures.items (all-append _ c.rows.waiting.items (c.in-Some.head ∷ []) c.rows.invariant.pass (search rules, tt));
       read = λ clean.
           let was = c.rows.invariant.read (omega (arith, c.next_of.ensures.survives.clean, clean)) in
