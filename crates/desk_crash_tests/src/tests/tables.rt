@@ -1,8 +1,6 @@
 //! All tables of a desk, as one text.
 use sqlite::types::ValueRef;
 use sqlite::{Alter, Connection, Error, Row};
-use std::alloc::Global;
-use std::process::Abort;
 
 const TABLES: [&str; 14] = [
     "SELECT * FROM desk",
@@ -46,15 +44,14 @@ fn rows_of<S: Alter>(conn: &mut Connection<S>, sql: &str) -> Result<Vec<Row>, Er
     conn.query_all(sql, &[])
 }
 
-/// Gives all rows of all tables.
-pub(super) fn tables<S: Alter>(
-    rt: &(impl Abort + Alloc<A = Global>),
+/// Adds all rows of all tables.
+pub(super) fn add_tables<S: Alter>(
     conn: &mut Connection<S>,
-) -> Vec<u8> {
-    let mut out = Vec::new(rt.alloc());
+    out: &mut Vec<u8>,
+) -> Result<(), Error> {
     for sql in &TABLES {
-        let rows = rows_of(conn, sql).ok().expect(rt, "rows");
-        add_rows(&mut out, &rows).ok().expect(rt, "memory");
+        let rows = rows_of(conn, sql)?;
+        add_rows(out, &rows)?;
     }
-    out
+    Ok(())
 }

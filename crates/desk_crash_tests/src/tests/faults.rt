@@ -1,0 +1,205 @@
+//! What is tried is cut off at each call of a file in turn.
+use super::exchanges::count_answers;
+use super::limits::{Harm, Which, limited};
+use super::scripts::{DAYS, RETRIES};
+use super::tears::{half_written, spoiled};
+use super::trials::{Trial, attempt, is_ahead, migration, new_desk, session_of};
+use super::visits::Visited;
+use std::alloc::Global;
+use std::process::Abort;
+
+/// Fewer calls of a file are made.
+const MOST_CALLS: u64 = 20_000;
+
+/// What was found.
+#[derive(Clone, Copy)]
+struct Findings {
+    /// In so many files that a process left more was done than answered, and in so many not. Files that are
+    /// those before count once.
+    ahead: u64,
+    behind: u64,
+    /// So many messages were found done and not answered, and this was the last.
+    unanswered: usize,
+    last: Option<usize>,
+    /// So many writes were torn.
+    torn: usize,
+    /// It was cut off so many times.
+    times: usize,
+}
+
+impl Findings {
+    const NONE: Findings = Findings {
+        ahead: 0,
+        behind: 0,
+        unanswered: 0,
+        last: None,
+        torn: 0,
+        times: 0,
+    };
+
+    fn note(&mut self, answered: usize, is_ahead: bool) {
+        if !is_ahead {
+            self.behind = self.behind.saturating_add(1);
+            return;
+        }
+        self.ahead = self.ahead.saturating_add(1);
+        if self.last != Some(answered) {
+            self.unanswered = self.unanswered.saturating_add(1);
+            self.last = Some(answered);
+        }
+    }
+}
+
+// What there is before any call.
+fn untouched(rt: &(impl Abort + Alloc<A = Global>), trial: &Trial) -> Visited {
+    Visited {
+        told: Vec::new(rt.alloc()),
+        fault: None,
+        is_closed: false,
+        written: trial.image.copied(rt),
+        synced: trial.image.copied(rt),
+        refusals: 0,
+    }
+}
+
+// The files are as they have to be where a process ended and where a machine stopped, unless they are what
+// was found last.
+fn look(
+    rt: &(impl Abort + Alloc<A = Global>),
+    trial: &Trial,
+    last: &Visited,
+    now: &Visited,
+    findings: &mut Findings,
+) {
+    let answered = count_answers(rt, trial.script.messages, &now.told);
+    let is_told = last.told == now.told;
+    if !(is_told && now.written.is(&last.written)) {
+        let is_ahead = is_ahead(rt, trial, &now.written, answered);
+        findings.note(answered, is_ahead);
+    }
+    if !(is_told && now.synced.is(&last.synced)) {
+        let _ = is_ahead(rt, trial, &now.synced, answered);
+    }
+}
+
+// They are so too where this file has these bytes.
+fn look_at_file(
+    rt: &(impl Abort + Alloc<A = Global>),
+    trial: &Trial,
+    which: Which,
+    last: &Visited,
+    bytes: &[u8],
+) {
+    let answered = count_answers(rt, trial.script.messages, &last.told);
+    let image = last.written.with(rt, which, bytes);
+    let _ = is_ahead(rt, trial, &image, answered);
+}
+
+// They are so too where the write of this file between the two was torn. Was there one?
+fn look_at_tears(
+    rt: &(impl Abort + Alloc<A = Global>),
+    trial: &Trial,
+    which: Which,
+    last: &Visited,
+    now: &Visited,
+) -> bool {
+    let old = last.written.file(which);
+    let new = now.written.file(which);
+    if old == new {
+        return false;
+    }
+    look_at_file(rt, trial, which, last, &half_written(rt, old, new));
+    look_at_file(rt, trial, which, last, &spoiled(rt, old, new));
+    true
+}
+
+// The files before are so too.
+fn begin(rt: &(impl Abort + Alloc<A = Global>), trial: &Trial) -> Findings {
+    let mut findings = Findings::NONE;
+    let is_ahead = is_ahead(rt, trial, &trial.image, 0);
+    findings.note(0, is_ahead);
+    findings
+}
+
+// The files are as they have to be after each number of calls, or writes, that the file bears.
+fn bear(
+    rt: &(impl Abort + Alloc<A = Global>),
+    trial: &Trial,
+    which: Which,
+    harm: Harm,
+) -> Findings {
+    let mut findings = begin(rt, trial);
+    let mut last = untouched(rt, trial);
+    for number in 0..MOST_CALLS {
+        let now = attempt(rt, trial, limited(which, harm, number));
+        look(rt, trial, &last, &now, &mut findings);
+        if matches!(harm, Harm::Stops) && look_at_tears(rt, trial, which, &last, &now) {
+            findings.torn = findings.torn.saturating_add(1);
+        }
+        if now.is_closed && now.refusals == 0 {
+            return findings;
+        }
+        findings.times = findings.times.saturating_add(1);
+        last = now;
+    }
+    panic!(rt; "it takes more calls")
+}
+
+// A message is written to the log before it is synced there, and answered after.
+#[test]
+fn the_log_stops(rt: HostRuntime) {
+    let found = bear(&rt, &session_of(&rt, DAYS), Which::Log, Harm::Stops);
+    assert!(rt; found.unanswered == DAYS.changes);
+    assert!(rt; found.torn >= DAYS.changes);
+}
+
+#[test]
+fn the_database_file_stops(rt: HostRuntime) {
+    let found = bear(&rt, &session_of(&rt, DAYS), Which::Db, Harm::Stops);
+    assert!(rt; found.torn > 0);
+}
+
+#[test]
+fn the_log_stops_while_a_debit_is_tried_again(rt: HostRuntime) {
+    let found = bear(&rt, &session_of(&rt, RETRIES), Which::Log, Harm::Stops);
+    assert!(rt; found.unanswered == RETRIES.changes);
+    assert!(rt; found.torn >= RETRIES.changes);
+}
+
+#[test]
+fn the_database_file_stops_while_a_debit_is_tried_again(rt: HostRuntime) {
+    let found = bear(&rt, &session_of(&rt, RETRIES), Which::Db, Harm::Stops);
+    assert!(rt; found.torn > 0);
+}
+
+// A desk is closed after it was made, which takes calls of both files.
+#[test]
+fn a_file_of_a_new_desk_stops(rt: HostRuntime) {
+    let trial = new_desk(&rt);
+    for which in [Which::Log, Which::Db] {
+        let found = bear(&rt, &trial, which, Harm::Stops);
+        assert!(rt; found.ahead > 1 && found.behind > 0 && found.torn > 0);
+    }
+}
+
+// A desk is closed after it was migrated, which takes calls of both files.
+#[test]
+fn a_file_stops_while_a_desk_is_migrated(rt: HostRuntime) {
+    let trial = migration(&rt);
+    for which in [Which::Log, Which::Db] {
+        let found = bear(&rt, &trial, which, Harm::Stops);
+        assert!(rt; found.ahead > 1 && found.behind > 0 && found.torn > 0);
+    }
+}
+
+// Each message that changes something is written to the log.
+#[test]
+fn a_file_has_no_room(rt: HostRuntime) {
+    let trial = session_of(&rt, DAYS);
+    for (which, least) in [(Which::Log, DAYS.changes), (Which::Db, 1)] {
+        let once = bear(&rt, &trial, which, Harm::HasNoRoom(1));
+        let ever = bear(&rt, &trial, which, Harm::HasNoRoom(u64::MAX));
+        assert!(rt; once.times >= least);
+        assert!(rt; once.times == ever.times);
+    }
+}

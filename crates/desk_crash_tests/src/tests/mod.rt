@@ -1,0 +1,13 @@
+mod damage;
+mod exchanges;
+mod faults;
+mod full;
+mod images;
+mod limits;
+mod paths;
+mod scripts;
+mod tables;
+mod tasks;
+mod tears;
+mod trials;
+mod visits;
