@@ -62,13 +62,17 @@ fn remove_desk(rt: &HostRuntime) {
     let _ = fs::remove_file(rt, "bank.db-wal");
 }
 
-// Shows the commands that need no desk.
+// Shows the commands that need no desk. One amount of the spoiled file is not added up in its batch's
+// control, which stands after the first 65,536 bytes.
 fn show_commands(rt: &HostRuntime) -> io::Result<()> {
+    let pay = fs::read(rt, "pay.json")?;
     let bad_routing = fs::read(rt, "bad_routing.json")?;
+    show(rt, &[], pay.as_slice())?;
     show(rt, &[], bad_routing.as_slice())?;
     show(rt, &["--help"], NOTHING)?;
     show(rt, &["bogus"], NOTHING)?;
     show(rt, &["check", "returns.ach"], NOTHING)?;
+    show(rt, &["check", "spoiled.ach"], NOTHING)?;
     show(rt, MESSAGE, NOTHING)
 }
 
