@@ -1,9 +1,10 @@
 #!/usr/bin/env python3
 """Proves the crates that the desk's program stands on, builds it, and says on standard error how far it is.
 
-Crates that do not stand on each other are proved side by side, and share the cores. rt lets one run at a
-time into a crate's folder, so each is proved in a folder of its own, with hard links to what it stands on.
-What a run has proved is kept, also where it is broken off: the next one goes on from there.
+Crates that do not stand on each other are proved side by side. The one with the longest chain of crates above
+it comes first: it may use all cores, and what the others need gives way to it. rt lets one run at a time into a
+crate's folder, so each is proved in a folder of its own, with hard links to what it stands on. What a run has
+proved is kept, also where it is broken off: the next one goes on from there.
 """
 
 import os
@@ -48,6 +49,21 @@ def crates_below():
     return found
 
 
+def chains_above(below):
+    """Returns of each crate how much work the longest chain of crates has that leads from it to the program."""
+    chains = {}
+    for crate in reversed(below):
+        above = (chains[it] for it in chains if crate in below[it])
+        chains[crate] = work_of(crate, below[crate]) + max(above, default=0)
+    return chains
+
+
+def work_of(crate, below):
+    """Returns roughly how much work a crate's proof is: that of a line grows with what the crate stands on."""
+    lines = sum(it.read_bytes().count(b"\n") for it in (TOP / "crates" / crate / "src").rglob("*.rt"))
+    return (100 + lines) * (8 + len(below))
+
+
 def link(source, target):
     shutil.copytree(source, target, copy_function=os.link)
 
@@ -76,12 +92,13 @@ def set_up(crate, below):
     return folder
 
 
-def prove(crate, below, jobs):
-    """Returns whether a library is proved, and how many seconds that took."""
+def prove(crate, below, jobs, is_first):
+    """Returns whether a library is proved, and how many seconds that took. What is not first gives way."""
     start = time.monotonic()
     folder = set_up(crate, below)
+    words = [*([] if is_first else ["nice"]), "rt", "lib", "--jobs", str(jobs)]
     try:
-        status = run(["rt", "lib", "--jobs", str(jobs)], folder / "crates" / crate, log_of(crate))
+        status = run(words, folder / "crates" / crate, log_of(crate))
     finally:
         move_work(crate, folder, TOP)
         shutil.rmtree(folder)
@@ -119,17 +136,18 @@ def told(crate, is_done, seconds, count, total):
 
 def prove_all(below, cores):
     """Proves the libraries, each once those below it are, and returns whether all are proved."""
-    total, proved, running, is_fine = len(below), set(), {}, True
-    waiting = [it for it in below if it != PROGRAM]
+    total, proved, running, is_fine, chains = len(below), set(), {}, True, chains_above(below)
+    waiting = sorted((it for it in below if it != PROGRAM), key=chains.get, reverse=True)
     with ThreadPoolExecutor(cores) as pool:
         while running or (waiting and is_fine):
             ready = [it for it in waiting if below[it] <= proved][: cores - len(running)] if is_fine else []
-            # Rounded up: a crate that ends early leaves no core idle.
-            jobs = -(-cores // max(1, len(ready) + len(running)))
             for crate in ready:
                 say(f"{crate} begins")
                 waiting.remove(crate)
-                running[pool.submit(prove, crate, below[crate], jobs)] = crate
+                is_first = all(chains[crate] >= chains[it] for it in (*ready, *running.values()))
+                # Rounded up: a crate that ends early leaves no core idle.
+                jobs = cores if is_first else -(-cores // (len(ready) + len(running)))
+                running[pool.submit(prove, crate, below[crate], jobs, is_first)] = crate
             for ended in wait(running, return_when=FIRST_COMPLETED).done:
                 crate = running.pop(ended)
                 is_done, seconds = ended.result()
