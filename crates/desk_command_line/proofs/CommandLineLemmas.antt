@@ -14,7 +14,7 @@ use Rattle.clap.proofs.OnLiterals.{clap_on_literals}
 use Rattle.clap.proofs.WalkLemmas.{first_value-rows}
 use Rattle.desk_submit.specs.Options.{OptionTexts}
 use Rattle.desk_command_line.specs.InitOptions.{InitTexts}
-use Rattle.desk_command_line.specs.Arguments.{check_app, init_app, init_rules, migrate_app, program_app, serve_app, serve_rules, stdio_app, submit_app, submit_rules, with_command}
+use Rattle.desk_command_line.specs.Arguments.{check_app, init_app, init_rules, migrate_app, program_app, serve_app, serve_rules, stdio_app, submit_app, submit_rules}
 use Rattle.desk_command_line.specs.CommandLine.{Check, Gives, GivesAt, HasConnections, HasNumber, HasPort, Init, IsFaultAmong, IsFaultOf, Migrate, NamedCommand, Parses, Serve, Submit, app_named, has_no_kind, init_texts_in, is_between, is_check, is_init, is_migrate, is_serve, is_stdio, is_submit, kinds_at, named_check, named_command, named_init, named_migrate, named_serve, named_stdio, named_submit, number_in, number_of, options_in, server, session_with, text_in}
 use Rattle.desk_command_line.specs.declared.command.Command.{Command}
 use Rattle.desk_command_line.specs.declared.command.LineFault.{LineFault}
@@ -75,10 +75,6 @@ program_free = refl
 -- a command to which another step adds an argument
 pub with_more : (app : App) (rule : Rule) (old new : ClapCommand) → app_of old ≡ app → app_of new ≡ with_rule (app_of old) rule → app_of new ≡ with_rule app rule
 with_more app rule old new is more = more ∙ ap (λ (a : App). with_rule a rule) is
-
--- a program to which another step adds the name of a command
-pub with_one_command_more : (app : App) (name : Text) (old new : ClapCommand) → app_of old ≡ app → app_of new ≡ with_command (app_of old) name → app_of new ≡ with_command app name
-with_one_command_more app name old new is more = more ∙ ap (λ (a : App). with_command a name) is
 
 parses : (app : App) (words : List Text) (r : Result ArgMatches Error) → is_simple app ≡ true → is_simple_and_free app ≡ true
     → IfOk r (HasMatchesOf app words) → (is_simple_and_free app ≡ true → FailsBy (fault_of app words) r) → Parses app words r

@@ -2,3 +2,4 @@ pub mod CommandLineLemmas
 pub mod CommandLineVectors
 pub mod NumberLemmas
 pub mod ServeLemmas
+pub mod Adding

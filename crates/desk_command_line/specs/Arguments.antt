@@ -1,6 +1,6 @@
 -- The arguments that each command takes, by `clap`'s rules.
 use Rattle.std.specs.Prelude.{ℕ, pos, true, List, [], ◌∷◌, Some, codes, fold}
-use Rattle.clap.specs.Words.{App, Rule, Text, new_app, new_rule, with_subcommand}
+use Rattle.clap.specs.Words.{App, Rule, Text, new_app, new_rule, with_rule, with_subcommand}
 use Rattle.clap.specs.Simple.{new_shape}
 use Rattle.clap.specs.declared.builder.action.ArgAction.TheVariants.{Set}
 use Rattle.clap.specs.declared.builder.value_parser.ValueParser.{ValueParser}
@@ -37,6 +37,10 @@ connections_rule = record (argument (codes "N")) {
 -- a command with these arguments
 abbrev pub app_with : (name : Text) → List Rule → App
 app_with name rules = record { top = record (new_shape name) { rules = rules }; subs = [] }
+
+-- a command with options more that have to be there, each with its identification and its long name
+abbrev pub with_options : App → List (Text × Text) → App
+with_options = fold (λ app option. with_rule app (required_option option.0 option.1))
 
 -- the arguments of `check`
 abbrev pub check_rules : List Rule

@@ -1,7 +1,7 @@
 //! The arguments that each command takes, by `clap`'s rules.
 ghost use Rattle.std.specs.Prelude.{◌≡◌, codes, map, IfOk};
-ghost use Rattle.clap.specs.Words.{app_of, with_rule};
-ghost use Rattle.desk_command_line.specs.Arguments.{check_app, required_argument, required_option, stdio_app, submit_app};
+ghost use Rattle.clap.specs.Words.{app_of, new_app, with_rule};
+ghost use Rattle.desk_command_line.specs.Arguments.{check_app, required_argument, required_option, stdio_app, submit_app, with_options};
 ghost use Rattle.desk_command_line.specs.CommandLine.{Parses};
 
 use clap::{Arg, ArgAction, ArgMatches, Command as ClapCommand, Error};
@@ -31,6 +31,17 @@ const HELP_DESCRIPTION: &str = "What the receivers are told that it is for";
 
 const HELP_DAY: &str = "The day on which it is to settle, as 2025-01-10";
 
+/// The options of `submit`, as `add_options` takes them.
+const SUBMIT_OPTIONS: [(&str, &str, &str); 7] = [
+    ("COMPANY", "company", HELP_COMPANY),
+    ("KEY", "key", "The company's key"),
+    ("REF", "ref", HELP_REFERENCE),
+    ("SEC", "sec", "The entry class: PPD or CCD"),
+    ("DIRECTION", "direction", "credit or debit"),
+    ("TEXT", "description", HELP_DESCRIPTION),
+    ("DAY", "day", HELP_DAY),
+];
+
 /// Parses the words of `check FILE`.
 pub fn check_matches<'a>(alloc: Global, words: &'a [&'a str]) -> Result<ArgMatches<'a>, Error>
     ensures { Parses check_app (map (λ w. w.now) words.now) result }
@@ -58,19 +69,14 @@ pub fn stdio_matches<'a>(alloc: Global, words: &'a [&'a str]) -> Result<ArgMatch
 fn check_command<'a>(alloc: Global) -> Result<ClapCommand<'a>, AllocError>
     ensures { IfOk result (λ command. app_of command ≡ check_app) }
 {
-    let command = ClapCommand::new(alloc, "achdesk check")
-        .about(ABOUT_CHECK)
-        .bin_name("achdesk check")?;
-    let command = add_argument(alloc, command, "FILE", "The path of the file")?;
-    Ok(command)
+    let command = new_command(alloc, "achdesk check", ABOUT_CHECK)?;
+    add_argument(alloc, command, "FILE", "The path of the file")
 }
 
 fn stdio_command<'a>(alloc: Global) -> Result<ClapCommand<'a>, AllocError>
     ensures { IfOk result (λ command. app_of command ≡ stdio_app) }
 {
-    let command = ClapCommand::new(alloc, "achdesk stdio")
-        .about(ABOUT_STDIO)
-        .bin_name("achdesk stdio")?;
+    let command = new_command(alloc, "achdesk stdio", ABOUT_STDIO)?;
     let path = Arg::new(alloc, "DB")
         .action(ArgAction::Set)
         .help("The path of the desk's file");
@@ -81,17 +87,20 @@ fn stdio_command<'a>(alloc: Global) -> Result<ClapCommand<'a>, AllocError>
 fn submit_command<'a>(alloc: Global) -> Result<ClapCommand<'a>, AllocError>
     ensures { IfOk result (λ command. app_of command ≡ submit_app) }
 {
-    let command = ClapCommand::new(alloc, "achdesk submit")
-        .about(ABOUT_SUBMIT)
-        .bin_name("achdesk submit")?;
+    let command = new_command(alloc, "achdesk submit", ABOUT_SUBMIT)?;
     let command = add_argument(alloc, command, "FILE", HELP_LIST)?;
-    let command = add_option(alloc, command, "COMPANY", "company", HELP_COMPANY)?;
-    let command = add_option(alloc, command, "KEY", "key", "The company's key")?;
-    let command = add_option(alloc, command, "REF", "ref", HELP_REFERENCE)?;
-    let command = add_option(alloc, command, "SEC", "sec", "The entry class: PPD or CCD")?;
-    let command = add_option(alloc, command, "DIRECTION", "direction", "credit or debit")?;
-    let command = add_option(alloc, command, "TEXT", "description", HELP_DESCRIPTION)?;
-    let command = add_option(alloc, command, "DAY", "day", HELP_DAY)?;
+    add_options(alloc, command, &SUBMIT_OPTIONS)
+}
+
+/// Gives a command with its name and what the help says of it. It has no arguments yet.
+pub fn new_command<'a>(
+    alloc: Global,
+    name: &'a str,
+    about: &'a str,
+) -> Result<ClapCommand<'a>, AllocError>
+    ensures { IfOk result (λ command. app_of command ≡ new_app name.now) }
+{
+    let command = ClapCommand::new(alloc, name).about(about).bin_name(name)?;
     Ok(command)
 }
 
@@ -128,5 +137,22 @@ pub fn add_option<'a>(
         .action(ArgAction::Set)
         .help(help);
     let command = command.arg(option)?;
+    Ok(command)
+}
+
+/// Gives the command with options more that have to be there, each with its identification, its long
+/// name and what the help says of it.
+pub fn add_options<'a>(
+    alloc: Global,
+    command: ClapCommand<'a>,
+    options: &[(&'static str, &'static str, &'static str)],
+) -> Result<ClapCommand<'a>, AllocError>
+    ensures { IfOk result (λ more. app_of more ≡ with_options (app_of command.entry) (map (λ o. (o.0.now, o.1.now)) options.now)) }
+{
+    let mut command = command;
+    for option in options {
+        let (id, name, help) = *option;
+        command = add_option(alloc, command, id, name, help)?;
+    }
     Ok(command)
 }

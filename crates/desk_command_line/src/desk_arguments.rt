@@ -4,7 +4,7 @@ ghost use Rattle.clap.specs.Words.{app_of, found_of, rows_of};
 ghost use Rattle.desk_command_line.specs.Arguments.{init_app, migrate_app, serve_app};
 ghost use Rattle.desk_command_line.specs.CommandLine.{HasConnections, HasPort, Parses};
 
-use crate::arguments::{add_argument, add_option};
+use crate::arguments::{add_argument, add_options, new_command};
 use crate::serve_arguments::{connections_option, port_argument};
 use clap::{ArgMatches, Command as ClapCommand, Error};
 use std::alloc::{AllocError, Global};
@@ -33,6 +33,19 @@ const HELP_DESTINATION_NAME: &str = "That operator's name";
 
 const HELP_OPERATOR_KEY: &str = "The key of who operates the desk";
 
+/// The options of `init`, as `add_options` takes them.
+const INIT_OPTIONS: [(&str, &str, &str); 5] = [
+    ("ODFI", "odfi", HELP_ODFI),
+    ("ODFI_NAME", "odfi-name", HELP_ODFI_NAME),
+    ("DESTINATION", "destination", HELP_DESTINATION),
+    (
+        "DESTINATION_NAME",
+        "destination-name",
+        HELP_DESTINATION_NAME,
+    ),
+    ("KEY", "key", HELP_OPERATOR_KEY),
+];
+
 /// Parses the words of `init DB` with its options.
 pub fn init_matches<'a>(alloc: Global, words: &'a [&'a str]) -> Result<ArgMatches<'a>, Error>
     ensures { Parses init_app (map (λ w. w.now) words.now) result }
@@ -44,28 +57,9 @@ pub fn init_matches<'a>(alloc: Global, words: &'a [&'a str]) -> Result<ArgMatche
 fn init_command<'a>(alloc: Global) -> Result<ClapCommand<'a>, AllocError>
     ensures { IfOk result (λ command. app_of command ≡ init_app) }
 {
-    let command = ClapCommand::new(alloc, "achdesk init")
-        .about(ABOUT_INIT)
-        .bin_name("achdesk init")?;
+    let command = new_command(alloc, "achdesk init", ABOUT_INIT)?;
     let command = add_argument(alloc, command, "DB", "The path of the new desk's file")?;
-    let command = add_option(alloc, command, "ODFI", "odfi", HELP_ODFI)?;
-    let command = add_option(alloc, command, "ODFI_NAME", "odfi-name", HELP_ODFI_NAME)?;
-    let command = add_option(
-        alloc,
-        command,
-        "DESTINATION",
-        "destination",
-        HELP_DESTINATION,
-    )?;
-    let command = add_option(
-        alloc,
-        command,
-        "DESTINATION_NAME",
-        "destination-name",
-        HELP_DESTINATION_NAME,
-    )?;
-    let command = add_option(alloc, command, "KEY", "key", HELP_OPERATOR_KEY)?;
-    Ok(command)
+    add_options(alloc, command, &INIT_OPTIONS)
 }
 
 /// Parses the words of `serve DB PORT` with its option. Matches have both numbers, each in its range.
@@ -81,9 +75,7 @@ pub fn serve_matches<'a>(alloc: Global, words: &'a [&'a str]) -> Result<ArgMatch
 fn serve_command<'a>(alloc: Global) -> Result<ClapCommand<'a>, AllocError>
     ensures { IfOk result (λ command. app_of command ≡ serve_app) }
 {
-    let command = ClapCommand::new(alloc, "achdesk serve")
-        .about(ABOUT_SERVE)
-        .bin_name("achdesk serve")?;
+    let command = new_command(alloc, "achdesk serve", ABOUT_SERVE)?;
     let command = add_argument(alloc, command, "DB", HELP_DESK)?;
     let command = command.arg(port_argument(alloc))?;
     let command = command.arg(connections_option(alloc))?;
@@ -101,9 +93,6 @@ pub fn migrate_matches<'a>(alloc: Global, words: &'a [&'a str]) -> Result<ArgMat
 fn migrate_command<'a>(alloc: Global) -> Result<ClapCommand<'a>, AllocError>
     ensures { IfOk result (λ command. app_of command ≡ migrate_app) }
 {
-    let command = ClapCommand::new(alloc, "achdesk migrate")
-        .about(ABOUT_MIGRATE)
-        .bin_name("achdesk migrate")?;
-    let command = add_argument(alloc, command, "DB", HELP_DESK)?;
-    Ok(command)
+    let command = new_command(alloc, "achdesk migrate", ABOUT_MIGRATE)?;
+    add_argument(alloc, command, "DB", HELP_DESK)
 }

@@ -1,5 +1,5 @@
 //! The names of the commands, by `clap`'s rules.
-ghost use Rattle.std.specs.Prelude.{◌≡◌, map, IfOk};
+ghost use Rattle.std.specs.Prelude.{◌≡◌, fold, map, IfOk};
 ghost use Rattle.clap.specs.Words.{app_of, fault_of, FailsBy};
 ghost use Rattle.desk_command_line.specs.Arguments.{program_app, with_command};
 
@@ -11,6 +11,16 @@ use std::alloc::{AllocError, Global};
 /// The help says this of the program.
 const ABOUT_PROGRAM: &str =
     "The ACH desk of an originating bank. With no command it answers the submission on standard input.";
+
+/// The names of the commands, in the help's order, and what it says of them.
+const COMMANDS: [(&str, &str); 6] = [
+    ("check", ABOUT_CHECK),
+    ("submit", ABOUT_SUBMIT),
+    ("stdio", ABOUT_STDIO),
+    ("init", ABOUT_INIT),
+    ("serve", ABOUT_SERVE),
+    ("migrate", ABOUT_MIGRATE),
+];
 
 /// Parses words that name no command. Its error has the help or the usage, with the names of all
 /// commands.
@@ -28,12 +38,22 @@ fn program_command<'a>(alloc: Global) -> Result<ClapCommand<'a>, AllocError>
         .about(ABOUT_PROGRAM)
         .no_binary_name(true)
         .subcommand_required(true);
-    let program = add_command(alloc, program, "check", ABOUT_CHECK)?;
-    let program = add_command(alloc, program, "submit", ABOUT_SUBMIT)?;
-    let program = add_command(alloc, program, "stdio", ABOUT_STDIO)?;
-    let program = add_command(alloc, program, "init", ABOUT_INIT)?;
-    let program = add_command(alloc, program, "serve", ABOUT_SERVE)?;
-    let program = add_command(alloc, program, "migrate", ABOUT_MIGRATE)?;
+    add_commands(alloc, program, &COMMANDS)
+}
+
+/// Gives the program with the names of commands more, each with what the help says of it.
+fn add_commands<'a>(
+    alloc: Global,
+    program: ClapCommand<'a>,
+    commands: &[(&'static str, &'static str)],
+) -> Result<ClapCommand<'a>, AllocError>
+    ensures { IfOk result (λ more. app_of more ≡ fold with_command (app_of program.entry) (map (λ c. c.0.now) commands.now)) }
+{
+    let mut program = program;
+    for command in commands {
+        let (name, about) = *command;
+        program = add_command(alloc, program, name, about)?;
+    }
     Ok(program)
 }
 

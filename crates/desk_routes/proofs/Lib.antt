@@ -1,3 +1,4 @@
 pub mod Walks
 pub mod Seeking
 pub mod Cutting
+pub mod Building

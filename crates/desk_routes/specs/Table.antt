@@ -1,7 +1,10 @@
 -- The routes of the desk: one table.
-use Rattle.std.specs.Prelude.{ℕ, ◌+◌, List, [], ◌∷◌, ◌++◌, length, map, codes}
+use Rattle.std.specs.Prelude.{ℕ, ◌+◌, List, [], ◌∷◌, ◌++◌, length, map, codes, Result, Ok, Err}
 use Rattle.matchit.specs.Rows.{RowsOf, param_token}
-use Rattle.matchit.specs.Router.{RouteOf}
+use Rattle.matchit.specs.Order.{placed}
+use Rattle.matchit.specs.Router.{RouteOf, route_from}
+use Rattle.matchit.specs.Route.{Scan, parse_route}
+use Rattle.matchit.specs.declared.error.InsertError.{InsertError}
 use Rattle.desk_routes.specs.declared.route.Method.{Method}
 use Rattle.desk_routes.specs.declared.route.Method.TheVariants.{Get, Post}
 use Rattle.desk_routes.specs.declared.route.Route.{Route}
@@ -77,3 +80,13 @@ router_row r = (pattern r.path, record { pattern = pattern r.path; text = path_t
 
 abbrev pub router_rows : RowsOf (RouteOf Served)
 router_rows = map router_row table
+
+-- the router's rows with one more route, as its path's text is read
+abbrev pub with_read : Result Scan InsertError → Served → RowsOf (RouteOf Served) → RowsOf (RouteOf Served)
+with_read (Ok s) served rows = placed (s.pattern, route_from s served) rows
+with_read (Err e) served rows = rows
+
+-- its rows with more routes, each by its path and what is served there
+abbrev pub with_routes : List (List ℕ × Served) → RowsOf (RouteOf Served) → RowsOf (RouteOf Served)
+with_routes [] rows = rows
+with_routes ((path, served) ∷ routes) rows = with_routes routes (with_read (parse_route path) served rows)

@@ -1,7 +1,7 @@
 //! The routes, by path.
-ghost use Rattle.std.specs.Prelude.{◌≡◌, IfOk, Err, IsUtf8, bytes_eq};
+ghost use Rattle.std.specs.Prelude.{◌≡◌, IfOk, OnOk, Err, IsUtf8, bytes_eq, map};
 ghost use Rattle.desk_routes.specs.Finding.{route_verdict, method_text, route_at};
-ghost use Rattle.desk_routes.specs.Table.{router_rows};
+ghost use Rattle.desk_routes.specs.Table.{router_rows, with_routes};
 
 use crate::route::Route::{Company, Operator};
 use crate::route::{CompanyRoute, Method, OperatorRoute, Route, Served};
@@ -25,17 +25,46 @@ pub struct Routes {
     ghost all: { router ≡ router_rows },
 }
 
-/// Adds routes to a router: of each its method, its path and what is called.
-macro_rules! add {
-    ($router:ident: $($method:ident $path:literal => $route:expr;)*) => {
-        $($router.insert(
-            $path,
-            Served {
-                method: Method::$method,
-                route: $route,
-            },
-        )?;)*
+/// Writes a list of routes, of each its method, its path and what is called.
+macro_rules! routes {
+    ($($method:ident $path:literal => $route:expr;)*) => {
+        [$((Method::$method, $path, $route)),*]
     };
+}
+
+/// The routes of the desk.
+const ROUTES: [(Method, &str, Route); 17] = routes! {
+    Get "/c/{company}/changes" => Company(CompanyRoute::Changes);
+    Get "/c/{company}/exposure" => Company(CompanyRoute::Exposure);
+    Get "/c/{company}/rates" => Company(CompanyRoute::Rates);
+    Post "/c/{company}/retries" => Company(CompanyRoute::Retry);
+    Get "/c/{company}/returns" => Company(CompanyRoute::Returns);
+    Get "/c/{company}/statement" => Company(CompanyRoute::Statement);
+    Get "/c/{company}/submissions/{ref}" => Company(CompanyRoute::LookUp);
+    Post "/c/{company}/submissions" => Company(CompanyRoute::Submit);
+    Post "/ops/companies" => Operator(OperatorRoute::PutCompany);
+    Post "/ops/cut" => Operator(OperatorRoute::Cut);
+    Post "/ops/day" => Operator(OperatorRoute::SetDay);
+    Get "/ops/files/{day}/{modifier}" => Operator(OperatorRoute::FileText);
+    Post "/ops/holidays" => Operator(OperatorRoute::SetHolidays);
+    Post "/ops/limits" => Operator(OperatorRoute::PutLimits);
+    Post "/ops/returns" => Operator(OperatorRoute::TakeFile);
+    Get "/ops/settlement" => Operator(OperatorRoute::Settlement);
+    Get "/ops/suspense" => Operator(OperatorRoute::Suspense);
+};
+
+/// Adds routes to a router, one after another.
+fn add_routes(
+    router: &mut Router<Served>,
+    routes: &[(Method, &'static str, Route)],
+) -> Result<(), InsertError>
+    ensures { OnOk result (router.new ≡ with_routes (map (λ r. (r.1.now, record { method = r.0; route = r.2 })) routes.now) router.old) }
+{
+    for served in routes {
+        let (method, path, route) = *served;
+        router.insert(path, Served { method, route })?;
+    }
+    Ok(())
 }
 
 /// The router of all routes.
@@ -43,25 +72,7 @@ fn build(alloc: Global) -> Result<Router<Served>, InsertError>
     ensures { IfOk result (λ router. router ≡ router_rows) }
 {
     let mut router = Router::new(alloc);
-    add! { router:
-        Get "/c/{company}/changes" => Company(CompanyRoute::Changes);
-        Get "/c/{company}/exposure" => Company(CompanyRoute::Exposure);
-        Get "/c/{company}/rates" => Company(CompanyRoute::Rates);
-        Post "/c/{company}/retries" => Company(CompanyRoute::Retry);
-        Get "/c/{company}/returns" => Company(CompanyRoute::Returns);
-        Get "/c/{company}/statement" => Company(CompanyRoute::Statement);
-        Get "/c/{company}/submissions/{ref}" => Company(CompanyRoute::LookUp);
-        Post "/c/{company}/submissions" => Company(CompanyRoute::Submit);
-        Post "/ops/companies" => Operator(OperatorRoute::PutCompany);
-        Post "/ops/cut" => Operator(OperatorRoute::Cut);
-        Post "/ops/day" => Operator(OperatorRoute::SetDay);
-        Get "/ops/files/{day}/{modifier}" => Operator(OperatorRoute::FileText);
-        Post "/ops/holidays" => Operator(OperatorRoute::SetHolidays);
-        Post "/ops/limits" => Operator(OperatorRoute::PutLimits);
-        Post "/ops/returns" => Operator(OperatorRoute::TakeFile);
-        Get "/ops/settlement" => Operator(OperatorRoute::Settlement);
-        Get "/ops/suspense" => Operator(OperatorRoute::Suspense);
-    }
+    add_routes(&mut router, &ROUTES)?;
     Ok(router)
 }
 

@@ -1,4 +1,4 @@
-use Rattle.std.proofs.Common.{rules, ap, codes, ◌≡◌, ◌∙◌}
+use Rattle.std.proofs.Common.{ap, codes, ◌≡◌, ◌∙◌}
 use Rattle.clap.specs.Words.{Rule, app_of, new_app, with_rule}
 use Rattle.desk_command_line.specs.Arguments.{serve_rules}
 use Rattle.desk_command_line.proofs.CommandLineLemmas.{with_more}
@@ -7,7 +7,7 @@ use Rattle.desk_command_line.proofs.desk_arguments.serve_command.Goals as goal
 pub returns : goal.returns
 unfolding serve_rules
 returns c =
-    let start : app_of c.in_ok-command.command ≡ new_app (codes "achdesk serve") = search (rules, c.in_ok-command.ensures.0, c.about.ensures, c.new.ensures) in
+    let start : app_of c.in_ok-command.command ≡ new_app (codes "achdesk serve") = c.in_ok-command.ensures in
     let path = with_more _ _ _ _ start c.in_ok-command-2.ensures in
     let port =
     with_more _ _ _ _ path
