@@ -1,5 +1,5 @@
 -- The rows that no cut has decided, by the indexes that find them.
-use Rattle.std.proofs.Common.{◌≡◌, ◌∙◌, ℕ, Bool, true, false, List, map, Option, None, Some, refl, ap, sym, true≢false}
+use Rattle.std.proofs.Common.{◌≡◌, ◌∙◌, ℕ, Bool, true, List, map, Option, None, Some, refl, ap, sym, true≢false}
 use Rattle.std.specs.Prelude.{◌&&◌, if◌then◌else◌, not, bytes_eq, filter, is_none}
 use Rattle.desk_rules.specs.declared.bodies.company.Company.{Company}
 use Rattle.desk_book.specs.Reads.{held_submission}

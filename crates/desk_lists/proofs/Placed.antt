@@ -10,17 +10,12 @@ use Rattle.std.proofs.lemmas.Bool.{eqb-true}
 use Rattle.std.proofs.lemmas.Option.{none-some, slice_get-get_or, slice_get_past}
 use Rattle.std.proofs.lemmas.List.{take_more, take-append-le, length-append, length-map, length-take-le, append-nil, get_or-map, map-append}
 use Rattle.desk_rules.specs.declared.bodies.submission.Retry.{Retry}
-use Rattle.desk_rules.specs.declared.rules.entry_fact.EntryState.{EntryState}
-use Rattle.desk_rules.specs.declared.rules.entry_fact.EntryState.TheVariants as states
 use Rattle.desk_history.specs.Retries.{is_same_entry}
 use Rattle.desk_history.proofs.Alone.LoneCompany.{find_filtered}
 use Rattle.desk_book.specs.declared.row.Row.{Row}
-use Rattle.desk_book.specs.declared.flat_rows.LapsedRow.{LapsedRow}
-use Rattle.desk_book.specs.declared.flat_rows.ReturnedRow.{ReturnedRow}
-use Rattle.desk_book.specs.declared.flat_rows.SentRow.{SentRow}
 use Rattle.desk_book.specs.OpenRows.{is_open_row}
 use Rattle.desk_book.specs.Standing.{is_row_under, retry_rows, row_under}
-use Rattle.desk_book.specs.Steps.{CutWrite, IntakeWrite, returned_state_by}
+use Rattle.desk_book.specs.Steps.{CutWrite, IntakeWrite}
 use Rattle.desk_store.specs.Changes.{in_turn, send_in, lapse_in, return_in, cut_in, intake_in}
 use Rattle.desk_store.specs.Rows.{CompanyRow, Rows}
 use Rattle.desk_lists.specs.Finds.{passes, passing_at, rows_for}

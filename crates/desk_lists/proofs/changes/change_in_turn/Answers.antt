@@ -1,7 +1,6 @@
-use Rattle.std.proofs.Common.{◌≡◌, ◌∙◌, ◌+◌, ap, sym, map, drop, List, ◌∷◌}
+use Rattle.std.proofs.Common.{◌∙◌, ◌+◌, ap, sym, map, drop, ◌∷◌}
 use Rattle.std.proofs.lemmas.List.{drop_more}
 use Rattle.desk_store.specs.Changes.{in_turn}
-use Rattle.desk_store.specs.Rows.{CompanyRow}
 use Rattle.desk_lists.specs.Kept.{row_in}
 use Rattle.desk_lists.proofs.Changed.{finds_after}
 use Rattle.desk_lists.proofs.changes.change_in_turn.Goals as goal

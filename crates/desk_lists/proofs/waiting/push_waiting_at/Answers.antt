@@ -1,9 +1,9 @@
-use Rattle.std.proofs.Common.{◌≡◌, ◌∙◌, ◌++◌, List, Bool, [], ◌∷◌, ap, sym, map}
+use Rattle.std.proofs.Common.{◌∙◌, ◌++◌, Bool, [], ◌∷◌, ap, sym, map}
 use Rattle.std.specs.Prelude.{if◌then◌else◌}
 use Rattle.std.proofs.lemmas.List.{append-nil}
 use Rattle.desk_book.specs.Reads.{held_submission}
 use Rattle.desk_book.specs.declared.held_submission.HeldSubmission.{HeldSubmission}
-use Rattle.desk_lists.specs.Finds.{passing_at, rows_for}
+use Rattle.desk_lists.specs.Finds.{rows_for}
 use Rattle.desk_lists.specs.Kept.{row_in}
 use Rattle.desk_lists.specs.declared.entries.RowFilter.TheVariants as filters
 use Rattle.desk_lists.proofs.Placed.{passing_here, passing_past}

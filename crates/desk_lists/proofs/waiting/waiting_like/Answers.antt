@@ -1,4 +1,3 @@
-use Rattle.std.proofs.Common.{◌∙◌, ap}
 use Rattle.desk_lists.proofs.waiting.waiting_like.Goals as goal
 
 pub returns : goal.returns

@@ -1,4 +1,4 @@
-use Rattle.std.proofs.Common.{◌≡◌, ◌∙◌, ℕ, List, Some, ap, map, sym, subst}
+use Rattle.std.proofs.Common.{◌≡◌, ◌∙◌, ℕ, List, ap, map, sym, subst}
 use Rattle.std.specs.List.{flat_map}
 use Rattle.desk_book.specs.Reads.{waiting}
 use Rattle.desk_rules.specs.declared.bodies.company.Company.{Company}
@@ -45,8 +45,8 @@ returns-clause-read c = λ _ b held.
     let references = c.cover.new.self in
     let index = c.cover-2.new.self in
     let originals = covered (IsPlaced kinds.Reference) kinds.Reference own kept s.places.references references references same held.placed.references c.in_ok-cover.ensures.right c.in_ok-cover.ensures.whole in
-    let right = subst (λ (d : ℕ). IsPlaced (kinds.OpenSince d) (map row_in own) s.places.recent → IsPlaced (kinds.OpenSince d) (map row_in own) index) (sym c.in-Some.since-is) c.in_ok-cover-3.ensures.right in
-    let whole = subst (λ (d : ℕ). IsPlaced (kinds.OpenSince d) (map row_in own) s.places.recent → FindsAll (kinds.OpenSince d) (map row_in own) index) (sym c.in-Some.since-is) c.in_ok-cover-3.ensures.whole in
+    let right = subst (λ (d : ℕ). IsPlaced (kinds.OpenSince d) (map row_in own) s.places.recent → IsPlaced (kinds.OpenSince d) (map row_in own) index) c.in-Some.since-is c.in_ok-cover-3.ensures.right in
+    let whole = subst (λ (d : ℕ). IsPlaced (kinds.OpenSince d) (map row_in own) s.places.recent → FindsAll (kinds.OpenSince d) (map row_in own) index) c.in-Some.since-is c.in_ok-cover-3.ensures.whole in
     let rows = covered (IsPlaced (kinds.OpenSince since)) (kinds.OpenSince since) own kept s.places.recent index index same (held.placed.recent since c.in-Some.is) right whole in
     let find = subst (λ (xs : List KeptSubmission). FindWaiting (map row_in xs) index references) (sym same) (find_open since (map row_in kept) index references rows.1 originals.1) in (
       c.in_ok-all_waiting-2.ensures find
@@ -69,6 +69,3 @@ returns-clause-read c = λ _ b held.
         };
       },
     )
-
-test : (c : goal.In_ok-all_waiting-2) → ℕ
-test c = let h = c.in-Some.since-is in ?
