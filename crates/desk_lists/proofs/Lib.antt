@@ -5,3 +5,5 @@ mod Indexed
 mod Places
 mod Bounded
 mod Placed
+mod Changed
+mod HeldRows

@@ -1,39 +1,48 @@
 -- What the reads of the lists in memory find.
-use Rattle.std.specs.Prelude.{ℕ, Bool, ◌==◌, nat_lt, if◌then◌else◌, List, [], ◌∷◌, map, filter, bytes_eq, option_and_then, max, Option, Some, None, ℤ, ◌+ℤ◌}
+use Rattle.std.specs.Prelude.{◌≡◌, ℕ, Bool, ◌==◌, nat_lt, if◌then◌else◌, List, [], ◌∷◌, map, filter, bytes_eq, max, Option, Some, None, ℤ, ◌+ℤ◌}
 use Rattle.desk_rules.specs.declared.bodies.company.Company.{Company}
 use Rattle.desk_book.specs.declared.row.Row.{Row}
 use Rattle.desk_history.specs.declared.sent_entry.SentEntry.{SentEntry}
-use Rattle.desk_book.specs.Standing.{row_under, is_held}
+use Rattle.desk_book.specs.Standing.{is_held}
 use Rattle.desk_lists.specs.declared.list_store.KeptSubmission.{KeptSubmission}
 use Rattle.desk_book.specs.declared.held_submission.HeldSubmission.{HeldSubmission}
 use Rattle.desk_lists.specs.Kept.{row_in}
 use Rattle.desk_book.specs.Reads.{held_submission}
 use Rattle.desk_history.specs.Retries.{is_same_entry}
+use Rattle.desk_store.specs.Rows.{CompanyRow}
 use Rattle.desk_lists.specs.Open.{is_found_open}
-use Rattle.desk_lists.specs.Placed.{picked}
-use Rattle.desk_lists.specs.declared.entries.Wanted.{Wanted}
-use Rattle.desk_lists.specs.declared.entries.Wanted.TheVariants as wanted
+use Rattle.desk_lists.specs.Placed.{FindsAll, key_in, picked, whole}
+use Rattle.desk_lists.specs.declared.entries.RowFilter.{RowFilter}
+use Rattle.desk_lists.specs.declared.entries.RowFilter.TheVariants as filters
+use Rattle.desk_lists.specs.declared.place_index.KeyKind.{KeyKind}
+use Rattle.desk_lists.specs.declared.place_index.KeyKind.TheVariants as kinds
+use Rattle.desk_lists.specs.declared.place_index.PlaceIndex.{PlaceIndex}
 
 -- a company's rows
 abbrev pub rows_for : List KeptSubmission → List ℕ → List Row
 rows_for kept c = map (λ x. x.row) (filter (λ x. bytes_eq x.company c) (map row_in kept))
 
--- the day on which a company's submission settled
-abbrev pub row_settlement : List Row → List ℕ → Option ℕ
-row_settlement rows reference = option_and_then (λ row. row.settled) (row_under rows reference)
+-- whether a row passes a filter
+abbrev pub passes : RowFilter → Row → Bool
+passes (filters.OpenSince since) row = is_found_open since row
+passes (filters.RetriesOf of index) row = is_same_entry of index row.retry
+passes filters.Held row = is_held row
 
--- whether a row is wanted
-abbrev pub is_wanted : Wanted → Row → Bool
-is_wanted (wanted.OpenSince since) row = is_found_open since row
-is_wanted (wanted.RetriesOf of index) row = is_same_entry of index row.retry
-
--- what stands at a place, where it is a company's and wanted
-abbrev pub wanted_at : List KeptSubmission → (place : ℕ) → (company : List ℕ) → Wanted → List Row
-wanted_at kept place c w = filter (is_wanted w) (rows_for (picked kept (place ∷ [])) c)
+-- what stands at a place, where it is a company's and passes
+abbrev pub passing_at : List KeptSubmission → (place : ℕ) → (company : List ℕ) → RowFilter → List Row
+passing_at kept place c f = filter (passes f) (rows_for (picked kept (place ∷ [])) c)
 
 -- a company's held submissions
 abbrev pub waiting_for : Company → List Row → List HeldSubmission
 waiting_for k rows = map (held_submission k rows) (filter is_held rows)
+
+-- the rows are found of which no cut has decided: an index has each row that did not settle under the key of
+-- its company, whatever else it has, and another has the submission with each reference
+pub record FindWaiting (rows : List CompanyRow) (index references : PlaceIndex) : Type 0 where
+  pub kind : KeyKind
+  pub has : (x : CompanyRow) → x.row.settled ≡ None → key_in kind x ≡ Some (whole x.company)
+  pub held : FindsAll kind rows index
+  pub originals : FindsAll kinds.Reference rows references
 
 -- the later of two days, where there are any
 abbrev pub later_of : Option ℕ → (day : Option ℕ) → Option ℕ

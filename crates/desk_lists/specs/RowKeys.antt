@@ -1,34 +1,37 @@
--- How keys of a company and perhaps a reference compare: by their bytes, the company first.
-use Rattle.std.specs.Prelude.{◌≡◌, ℕ, Bool, List, Option, None, Some, refl, bytes_eq}
+-- How keys compare: by the bytes of the company first, then by those of the reference, then by the order number.
+use Rattle.std.specs.Prelude.{◌≡◌, Bool, ◌&&◌, Option, None, Some, refl, bytes_eq, nat_eq}
 use Rattle.std.specs.Option.{option_eq, option_cmp}
 use Rattle.std.specs.declared.cmp.Ordering.{Ordering}
-use Rattle.std.specs.Ordering.{nat_cmp, is_eq, on, then_cmp, eq_of_both, eq_by_cmp}
-use Rattle.std.specs.Cmp.{IsEquivalence, IsTotalOrder, and_equiv, on_equiv, on_total, then_total, both_tied}
+use Rattle.std.specs.Ordering.{nat_cmp, is_eq, on, ordering_then, then_cmp, eq_of_both, eq_by_cmp}
+use Rattle.std.specs.Cmp.{IsEquivalence, IsTotalOrder, and_equiv, on_equiv, on_total, then_total, both_tied, nat_cmp_total, nat_eq_equiv, unsigned_ties}
 use Rattle.std.specs.Cmp.Lexicographic.{slice_cmp, nat_list_eq_equiv, nat_list_cmp_total, on_texts, options_equiv, options_total, texts_ties}
+use Rattle.desk_lists.specs.declared.row_key.RowKey.{RowKey}
 
-options_tie : (first second : Option (List ℕ)) → option_eq bytes_eq first second ≡ is_eq (option_cmp (slice_cmp nat_cmp) first second)
-options_tie None None = refl
-options_tie None (Some y) = refl
-options_tie (Some x) None = refl
-options_tie (Some x) (Some y) = texts_ties x y
+-- whether they are one
+abbrev pub is_same_key : RowKey → RowKey → Bool
+is_same_key = eq_of_both (eq_of_both (on (λ k. k.company) bytes_eq) (on (λ k. k.reference) (option_eq bytes_eq))) (on (λ k. k.order) (option_eq nat_eq))
 
-module _ {K : Type 0} (company : K → List ℕ) (reference : K → Option (List ℕ)) where
-  -- whether they are one
-  abbrev pub is_same_by : K → K → Bool
-  is_same_by = eq_of_both (on company bytes_eq) (on reference (option_eq bytes_eq))
+-- which comes first
+abbrev pub key_cmp : RowKey → RowKey → Ordering
+key_cmp = then_cmp (then_cmp (on (λ k. k.company) (slice_cmp nat_cmp)) (on (λ k. k.reference) (option_cmp (slice_cmp nat_cmp)))) (on (λ k. k.order) (option_cmp nat_cmp))
 
-  -- which comes first
-  abbrev pub order_by : K → K → Ordering
-  order_by = then_cmp (on company (slice_cmp nat_cmp)) (on reference (option_cmp (slice_cmp nat_cmp)))
+pub same_key_equiv : IsEquivalence is_same_key
+same_key_equiv = and_equiv (and_equiv (on_equiv (λ k. k.company) nat_list_eq_equiv) (on_equiv (λ k. k.reference) (options_equiv nat_list_eq_equiv))) (on_equiv (λ k. k.order) (options_equiv nat_eq_equiv))
 
-  pub same_by_equiv : IsEquivalence is_same_by
-  same_by_equiv = and_equiv (on_equiv company nat_list_eq_equiv) (on_equiv reference (options_equiv nat_list_eq_equiv))
+pub key_cmp_total : IsTotalOrder key_cmp
+key_cmp_total = then_total (then_total (on_texts (λ k. k.company)) (on_total (λ k. k.reference) (options_total nat_list_cmp_total))) (on_total (λ k. k.order) (options_total nat_cmp_total))
 
-  pub order_by_total : IsTotalOrder order_by
-  order_by_total = then_total (on_texts company) (on_total reference (options_total nat_list_cmp_total))
+options_tie : {A : Type 0} (E : A → A → Bool) (R : A → A → Ordering) → ((x y : A) → E x y ≡ is_eq (R x y)) → (first second : Option A) → option_eq E first second ≡ is_eq (option_cmp R first second)
+options_tie E R ties None None = refl
+options_tie E R ties None (Some y) = refl
+options_tie E R ties (Some x) None = refl
+options_tie E R ties (Some x) (Some y) = ties x y
 
-  -- the order ties those that are one
-  pub order_by_ties : (x y : K) → is_same_by x y ≡ eq_by_cmp order_by x y
-  order_by_ties x y =
-      both_tied (bytes_eq (company x) (company y)) (option_eq bytes_eq (reference x) (reference y)) (slice_cmp nat_cmp (company x) (company y)) (option_cmp (slice_cmp nat_cmp) (reference x) (reference y))
-      (texts_ties (company x) (company y)) (options_tie (reference x) (reference y))
+-- the order ties those that are one
+pub key_cmp_ties : (k l : RowKey) → is_same_key k l ≡ eq_by_cmp key_cmp k l
+key_cmp_ties k l =
+    let company = slice_cmp nat_cmp k.company l.company in
+    let reference = option_cmp (slice_cmp nat_cmp) k.reference l.reference in
+    let texts = both_tied (bytes_eq k.company l.company) (option_eq bytes_eq k.reference l.reference) company reference (texts_ties k.company l.company) (options_tie bytes_eq (slice_cmp nat_cmp) texts_ties k.reference l.reference) in
+    both_tied (bytes_eq k.company l.company && option_eq bytes_eq k.reference l.reference) (option_eq nat_eq k.order l.order) (ordering_then company reference) (option_cmp nat_cmp k.order l.order)
+    texts (options_tie nat_eq nat_cmp unsigned_ties k.order l.order)

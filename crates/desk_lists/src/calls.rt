@@ -1,14 +1,15 @@
 //! A store that keeps lists in memory answers these calls.
 use crate::balances::day_sums_of;
 use crate::cut::write_cut;
-use crate::entries::{Wanted, row_of, rows_wanted, state_of, submission_among};
+use crate::entries::{RowFilter, row_of, rows_passing, state_of, submission_among};
 use crate::intake::write_intake;
 use crate::items::{changes_of, count_on, lines_of, returns_of, taken_file, text_at};
 use crate::list_store::ListStore;
-use crate::place_index::By;
-use crate::reads::{all_waiting, company_among, copy_of, rows_of};
+use crate::place_index::KeyKind;
+use crate::reads::{company_among, copy_of, rows_of};
 use crate::row_key::RowKey;
 use crate::sent::last_of;
+use crate::waiting::all_waiting;
 use crate::writes::{held_row, limit_company, place_of};
 use ach_fields::{Id, Ref, Trace};
 use bank_days::{Calendar, Day};
@@ -78,7 +79,7 @@ impl Store for ListStore {
 
     fn submission_count(&mut self, alloc: Global, company: Id) -> Result<u64, StoreFault> {
         let kept = self.submissions.as_slice();
-        self.places.companies.cover(alloc, kept, &By::Company)?;
+        self.places.companies.cover(alloc, kept, &KeyKind::Company)?;
         Ok(self.places.companies.of(RowKey::whole(company)).len() as u64)
     }
 
@@ -91,8 +92,8 @@ impl Store for ListStore {
         let kept = self.submissions.as_slice();
         self.places.cover_recent(alloc, kept, since)?;
         let places = self.places.recent.of(RowKey::whole(company));
-        let wanted = Wanted::OpenSince(since);
-        Ok(rows_wanted(alloc, kept, places, company, &wanted)?)
+        let which = RowFilter::OpenSince(since);
+        Ok(rows_passing(alloc, kept, places, company, &which)?)
     }
 
     fn retries_of(
@@ -103,10 +104,12 @@ impl Store for ListStore {
         index: u64,
     ) -> Result<Vec<Row>, StoreFault> {
         let kept = self.submissions.as_slice();
-        self.places.originals.cover(alloc, kept, &By::Original)?;
+        self.places
+            .originals
+            .cover(alloc, kept, &KeyKind::Original)?;
         let places = self.places.originals.of(RowKey::under(company, of));
-        let wanted = Wanted::RetriesOf(of, index);
-        Ok(rows_wanted(alloc, kept, places, company, &wanted)?)
+        let which = RowFilter::RetriesOf(of, index);
+        Ok(rows_passing(alloc, kept, places, company, &which)?)
     }
 
     fn state_of(
@@ -117,7 +120,9 @@ impl Store for ListStore {
         index: u64,
     ) -> Result<Option<EntryState>, StoreFault> {
         let kept = self.submissions.as_slice();
-        self.places.references.cover(alloc, kept, &By::Reference)?;
+        self.places
+            .references
+            .cover(alloc, kept, &KeyKind::Reference)?;
         let key = RowKey::under(company, reference);
         let places = self.places.references.of(key);
         let found = submission_among(kept, places, company, reference);
@@ -129,7 +134,22 @@ impl Store for ListStore {
     }
 
     fn waiting(&mut self, alloc: Global) -> Result<Vec<HeldSubmission>, StoreFault> {
-        Ok(all_waiting(alloc, &self.companies, &self.submissions)?)
+        let kept = self.submissions.as_slice();
+        self.places
+            .references
+            .cover(alloc, kept, &KeyKind::Reference)?;
+        let Some(since) = self.places.since else {
+            self.places.companies.cover(alloc, kept, &KeyKind::Company)?;
+            let index = &self.places.companies;
+            let references = &self.places.references;
+            return Ok(all_waiting(alloc, &self.companies, kept, index, references)?);
+        };
+        // What no cut has decided may be open since any day.
+        let kind = KeyKind::OpenSince(since);
+        self.places.recent.cover(alloc, kept, &kind)?;
+        let index = &self.places.recent;
+        let references = &self.places.references;
+        Ok(all_waiting(alloc, &self.companies, kept, index, references)?)
     }
 
     fn last_sequence(&mut self, _alloc: Global) -> Result<u32, StoreFault> {
@@ -237,12 +257,16 @@ impl Store for ListStore {
     }
 
     fn commit_cut(&mut self, alloc: Global, cut: &CutRows<'_>) -> Result<(), StoreFault> {
+        let kept = self.submissions.as_slice();
+        self.places.cover_orders(alloc, kept)?;
         write_cut(self, alloc, cut)?;
         self.places.since = None;
         Ok(())
     }
 
-    fn commit_intake(&mut self, _alloc: Global, intake: &IntakeRows<'_>) -> Result<(), StoreFault> {
+    fn commit_intake(&mut self, alloc: Global, intake: &IntakeRows<'_>) -> Result<(), StoreFault> {
+        let kept = self.submissions.as_slice();
+        self.places.cover_references(alloc, kept)?;
         Ok(write_intake(self, intake)?)
     }
 }

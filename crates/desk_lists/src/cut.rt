@@ -1,11 +1,16 @@
 //! A cut is written here.
-ghost use Rattle.std.specs.Prelude.{◌≡◌, ◌+◌, ◌≤◌, ◌++◌, vec_len, vec_capacity, IfOk, OnOk, OnErr};
-ghost use Rattle.desk_store.specs.Changes.{send_in, lapse_in, cut_in};
+ghost use Rattle.std.specs.Prelude.{◌≡◌, ◌+◌, ◌≤◌, ◌++◌, map, vec_len, vec_capacity, IfOk, OnOk, OnErr};
+ghost use Rattle.desk_store.specs.Changes.{in_turn, send_in, lapse_in, cut_in};
+ghost use Rattle.desk_lists.specs.Keyed.{sent_keyed, lapsed_keyed};
 ghost use Rattle.desk_lists.specs.Kept.{row_in, rows_in};
+ghost use Rattle.desk_lists.specs.Placed.{FindsAll, numbered};
+ghost use Rattle.desk_lists.specs.declared.place_index.KeyKind.TheVariants as kinds;
 ghost use Rattle.desk_store.specs.Written.{cut_rows};
 
 use crate::changes::{Change, add_within, change_all, set_states};
 use crate::list_store::{KeptSubmission, ListStore};
+use crate::place_index::PlaceIndex;
+use crate::row_key::RowKey;
 use desk_book::{FileRow, LapsedRow, SentRow};
 use desk_history::ListOf;
 use desk_rules::EntryState;
@@ -42,6 +47,16 @@ fn let_lapse(kept: &mut KeptSubmission, row: &LapsedRow)
 impl Change for SentRow {
     ghost makes = { send_in };
 
+    ghost kind = { kinds.Order };
+
+    ghost key = { λ s. numbered s.company s.order };
+
+    ghost keyed = { sent_keyed };
+
+    fn key(&self) -> RowKey {
+        RowKey::numbered(self.company, self.order)
+    }
+
     fn change(&self, kept: &mut KeptSubmission) {
         settle(kept, self);
     }
@@ -49,6 +64,16 @@ impl Change for SentRow {
 
 impl Change for LapsedRow {
     ghost makes = { lapse_in };
+
+    ghost kind = { kinds.Order };
+
+    ghost key = { λ l. numbered l.company l.order };
+
+    ghost keyed = { lapsed_keyed };
+
+    fn key(&self) -> RowKey {
+        RowKey::numbered(self.company, self.order)
+    }
 
     fn change(&self, kept: &mut KeptSubmission) {
         let_lapse(kept, self);
@@ -87,13 +112,22 @@ fn move_within(list: &mut Vec<FileRow>, files: Vec<FileRow>)
     let _done = list.append(&mut files);
 }
 
-/// Writes a cut. Where this is out of memory the lists stay as they were.
+/// Changes the submissions that a cut sends or lets lapse, which an index finds.
+fn decide(kept: &mut Vec<KeptSubmission>, orders: &PlaceIndex, cut: &CutRows<'_>)
+    ensures { FindsAll kinds.Order (map row_in kept.old.items) orders.now → map row_in kept.new.items ≡ in_turn lapse_in (cut_rows cut.now).lapsed (in_turn send_in (cut_rows cut.now).sent (map row_in kept.old.items)) }
+{
+    change_all(kept, orders, cut.sent);
+    change_all(kept, orders, cut.lapsed);
+}
+
+/// Writes a cut, where the index of order numbers covers all submissions. Where this is out of memory
+/// the lists stay as they were.
 pub(crate) fn write_cut(
     store: &mut ListStore,
     alloc: Global,
     cut: &CutRows<'_>,
 ) -> Result<(), AllocError>
-    ensures ok { OnOk result (rows_in store.new ≡ cut_in (cut_rows cut.now) (rows_in store.old)) }
+    ensures ok { OnOk result (FindsAll kinds.Order (map row_in store.old.submissions.items) store.old.places.orders → rows_in store.new ≡ cut_in (cut_rows cut.now) (rows_in store.old)) }
     ensures err { OnErr result (rows_in store.new ≡ rows_in store.old) }
     ensures traces { store.new.traces ≡ store.old.traces }
     ensures settlements { store.new.settlements ≡ store.old.settlements }
@@ -109,7 +143,6 @@ pub(crate) fn write_cut(
     add_within(&mut store.sent, cut.entries);
     add_within(&mut store.printed, cut.sent);
     move_within(&mut store.files, files);
-    change_all(&mut store.submissions, cut.sent);
-    change_all(&mut store.submissions, cut.lapsed);
+    decide(&mut store.submissions, &store.places.orders, cut);
     Ok(())
 }

@@ -3,8 +3,8 @@ ghost use Rattle.std.specs.Prelude.{◌≡◌, ◌&&◌, ◌++◌, ◌∷◌, []
 ghost use Rattle.std.specs.List.{list_any};
 ghost use Rattle.desk_rules.specs.Exposure.{is_open_credit};
 ghost use Rattle.desk_history.specs.Retries.{is_same_entry};
-ghost use Rattle.desk_book.specs.Standing.{row_under, state_at};
-ghost use Rattle.desk_lists.specs.Finds.{rows_for, is_wanted, wanted_at};
+ghost use Rattle.desk_book.specs.Standing.{is_held, row_under, state_at};
+ghost use Rattle.desk_lists.specs.Finds.{rows_for, passes, passing_at};
 ghost use Rattle.desk_lists.specs.Kept.{row_in};
 ghost use Rattle.desk_lists.specs.Open.{may_be_open, is_found_open};
 ghost use Rattle.desk_lists.specs.Placed.{picked};
@@ -17,13 +17,15 @@ use desk_book::{Row, state_numbered};
 use desk_rules::{EntryState, Retry, RuleDay, is_open_credit};
 use std::alloc::{AllocError, Global};
 
-/// `Wanted` says which of a company's rows are wanted.
+/// A `RowFilter` says which rows of a company a read is after.
 #[derive(Clone, Copy)]
-pub(crate) enum Wanted {
+pub(crate) enum RowFilter {
     /// Those with an entry that is held or settled since a day.
     OpenSince(Day),
     /// The retries of the entry that has this number in the submission with this reference.
     RetriesOf(Ref, u64),
+    /// Those that no cut has decided.
+    Held,
 }
 
 fn is_any_open(states: &[EntryState], since: Day) -> bool
@@ -52,57 +54,64 @@ fn is_same_entry(of: Ref, index: u64, retry: Option<Retry>) -> bool
     }
 }
 
-fn is_wanted(kept: &KeptSubmission, wanted: &Wanted) -> bool
-    ensures { result ≡ is_wanted wanted.now (row_in kept.now).row }
+fn is_held(kept: &KeptSubmission) -> bool
+    ensures { result ≡ is_held (row_in kept.now).row }
 {
-    match *wanted {
-        Wanted::OpenSince(since) => {
+    kept.settled.is_none() && !kept.lapsed
+}
+
+fn passes(kept: &KeptSubmission, which: &RowFilter) -> bool
+    ensures { result ≡ passes which.now (row_in kept.now).row }
+{
+    match *which {
+        RowFilter::OpenSince(since) => {
             may_be_open(kept.settled, since) && is_any_open(&kept.states, since)
         }
-        Wanted::RetriesOf(of, index) => is_same_entry(of, index, kept.retry),
+        RowFilter::RetriesOf(of, index) => is_same_entry(of, index, kept.retry),
+        RowFilter::Held => is_held(kept),
     }
 }
 
-/// Is it a company's, and wanted?
-fn is_wanted_of(kept: &KeptSubmission, company: Id, wanted: &Wanted) -> bool
-    ensures { result ≡ (bytes_eq kept.now.company company && is_wanted wanted.now (row_in kept.now).row) }
+/// Is it a company's, and does it pass a filter?
+pub(crate) fn passes_of(kept: &KeptSubmission, company: Id, which: &RowFilter) -> bool
+    ensures { result ≡ (bytes_eq kept.now.company company && passes which.now (row_in kept.now).row) }
 {
-    kept.company.bytes() == company.bytes() && is_wanted(kept, wanted)
+    kept.company.bytes() == company.bytes() && passes(kept, which)
 }
 
-/// Adds what stands at a place, where it is a company's and wanted.
-fn push_wanted(
+/// Adds what stands at a place, where it is a company's and passes.
+fn push_passing(
     alloc: Global,
     rows: &mut Vec<Row>,
     kept: &[KeptSubmission],
     place: usize,
     company: Id,
-    wanted: &Wanted,
+    which: &RowFilter,
 ) -> Result<(), AllocError>
-    ensures { OnOk result (rows.new.items ≡ rows.old.items ++ wanted_at kept.now place company wanted.now) }
+    ensures { OnOk result (rows.new.items ≡ rows.old.items ++ passing_at kept.now place company which.now) }
 {
     if place < kept.len() {
         let one = &kept[place];
-        if is_wanted_of(one, company, wanted) {
+        if passes_of(one, company, which) {
             rows.push(row_like(alloc, one)?)?;
         }
     }
     Ok(())
 }
 
-/// Gives those rows of a company that are wanted, of what stands at these places.
-pub(crate) fn rows_wanted(
+/// Gives those rows of a company that pass, of what stands at these places.
+pub(crate) fn rows_passing(
     alloc: Global,
     kept: &[KeptSubmission],
     places: &[usize],
     company: Id,
-    wanted: &Wanted,
+    which: &RowFilter,
 ) -> Result<Vec<Row>, AllocError>
-    ensures { IfOk result (λ rows. rows.items ≡ filter (is_wanted wanted.now) (rows_for (picked kept.now places.now) company)) }
+    ensures { IfOk result (λ rows. rows.items ≡ filter (passes which.now) (rows_for (picked kept.now places.now) company)) }
 {
     let mut rows = Vec::new(alloc);
     for place in places {
-        push_wanted(alloc, &mut rows, kept, *place, company, wanted)?;
+        push_passing(alloc, &mut rows, kept, *place, company, which)?;
     }
     Ok(rows)
 }

@@ -2,12 +2,16 @@
 ghost use Rattle.std.specs.Prelude.{◌≡◌, ◌==◌, if◌then◌else◌, map, OnOk, OnErr};
 ghost use Rattle.std.specs.List.{enumerate_from};
 ghost use Rattle.desk_store.specs.Changes.{return_in, intake_in};
+ghost use Rattle.desk_lists.specs.Keyed.{returned_keyed};
 ghost use Rattle.desk_lists.specs.Kept.{row_in, rows_in};
+ghost use Rattle.desk_lists.specs.Placed.{FindsAll, under};
+ghost use Rattle.desk_lists.specs.declared.place_index.KeyKind.TheVariants as kinds;
 ghost use Rattle.desk_book.specs.Steps.{returned_state_by};
 ghost use Rattle.desk_store.specs.Written.{intake_rows};
 
 use crate::changes::{Change, add_within, change_all};
 use crate::list_store::{KeptSubmission, ListStore};
+use crate::row_key::RowKey;
 use desk_book::ReturnedRow;
 use desk_rules::EntryState;
 use desk_store::IntakeRows;
@@ -52,14 +56,25 @@ fn give_back(kept: &mut KeptSubmission, returned: &ReturnedRow)
 impl Change for ReturnedRow {
     ghost makes = { return_in };
 
+    ghost kind = { kinds.Reference };
+
+    ghost key = { λ r. under r.company r.row.reference };
+
+    ghost keyed = { returned_keyed };
+
+    fn key(&self) -> RowKey {
+        RowKey::under(self.company, self.row.reference)
+    }
+
     fn change(&self, kept: &mut KeptSubmission) {
         give_back(kept, self);
     }
 }
 
-/// Writes an incoming file. Where this is out of memory the lists stay as they were.
+/// Writes an incoming file, where the index of references covers all submissions. Where this is out
+/// of memory the lists stay as they were.
 pub(crate) fn write_intake(store: &mut ListStore, intake: &IntakeRows<'_>) -> Result<(), AllocError>
-    ensures ok { OnOk result (rows_in store.new ≡ intake_in (intake_rows intake.now) (rows_in store.old)) }
+    ensures ok { OnOk result (FindsAll kinds.Reference (map row_in store.old.submissions.items) store.old.places.references → rows_in store.new ≡ intake_in (intake_rows intake.now) (rows_in store.old)) }
     ensures err { OnErr result (rows_in store.new ≡ rows_in store.old) }
     ensures traces { store.new.traces ≡ store.old.traces }
     ensures settlements { store.new.settlements ≡ store.old.settlements }
@@ -75,6 +90,10 @@ pub(crate) fn write_intake(store: &mut ListStore, intake: &IntakeRows<'_>) -> Re
     add_within(&mut store.changed, intake.changed);
     add_within(&mut store.suspense, intake.suspense);
     add_within(&mut store.postings, intake.postings);
-    change_all(&mut store.submissions, intake.returned);
+    change_all(
+        &mut store.submissions,
+        &store.places.references,
+        intake.returned,
+    );
     Ok(())
 }

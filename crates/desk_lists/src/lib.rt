@@ -18,6 +18,7 @@ mod row_places;
 mod sent;
 mod settlement_index;
 mod trace_index;
+mod waiting;
 mod writes;
 
 pub use faulty_store::FaultyStore;

@@ -1,9 +1,9 @@
 //! An index finds the rows in memory that a key names, without going through all rows.
-ghost use Rattle.std.specs.Prelude.{◌≡◌, ◌++◌, List, map, length, OnOk, OnErr};
+ghost use Rattle.std.specs.Prelude.{◌≡◌, ◌++◌, List, map, OnOk, OnErr};
 ghost use Rattle.desk_lists.specs.Kept.{row_in};
-ghost use Rattle.desk_lists.specs.Placed.{IsPlaced, key_in, places_of, place_under, listed_under, under, whole};
+ghost use Rattle.desk_lists.specs.Placed.{IsPlaced, FindsAll, key_in, place_under, listed_under, numbered, under, whole};
 ghost use Rattle.desk_lists.specs.declared.row_key.RowKey.{RowKey};
-ghost use Rattle.desk_lists.specs.declared.place_index.By.{By};
+ghost use Rattle.desk_lists.specs.declared.place_index.KeyKind.{KeyKind};
 ghost use Rattle.desk_store.specs.Rows.{CompanyRow};
 
 use crate::entries::may_be_open;
@@ -15,13 +15,15 @@ use desk_store::StoreFault;
 use std::alloc::Global;
 use std::collections::BTreeMap;
 
-/// `By` says which key an index has for a row.
+/// A `KeyKind` says which key an index has for a row.
 #[derive(Clone, Copy)]
-pub(crate) enum By {
+pub(crate) enum KeyKind {
     /// Its company.
     Company,
     /// Its company and its reference.
     Reference,
+    /// Its company and its order number.
+    Order,
     /// Of a retry, its company and the reference of the submission that has the entry.
     Original,
     /// Of a row that may be open since a day, its company.
@@ -36,6 +38,7 @@ impl RowKey {
         RowKey {
             company,
             reference: None,
+            order: None,
         }
     }
 
@@ -46,24 +49,37 @@ impl RowKey {
         RowKey {
             company,
             reference: Some(reference),
+            order: None,
+        }
+    }
+
+    /// Names those that have an order number.
+    pub(crate) fn numbered(company: Id, order: u64) -> RowKey
+        ensures { result ≡ numbered company order }
+    {
+        RowKey {
+            company,
+            reference: None,
+            order: Some(order),
         }
     }
 }
 
-fn key_of(kept: &KeptSubmission, by: &By) -> Option<RowKey>
-    ensures { result ≡ key_in by.now (row_in kept.now) }
+fn key_of(kept: &KeptSubmission, kind: &KeyKind) -> Option<RowKey>
+    ensures { result ≡ key_in kind.now (row_in kept.now) }
 {
-    match *by {
-        By::Company => Some(RowKey::whole(kept.company)),
-        By::Reference => {
+    match *kind {
+        KeyKind::Company => Some(RowKey::whole(kept.company)),
+        KeyKind::Reference => {
             let reference = kept.content.submission().reference;
             Some(RowKey::under(kept.company, reference))
         }
-        By::Original => {
+        KeyKind::Order => Some(RowKey::numbered(kept.company, kept.order)),
+        KeyKind::Original => {
             let retry = kept.retry?;
             Some(RowKey::under(kept.company, retry.of))
         }
-        By::OpenSince(since) => {
+        KeyKind::OpenSince(since) => {
             if may_be_open(kept.settled, since) {
                 Some(RowKey::whole(kept.company))
             } else {
@@ -86,7 +102,7 @@ pub(crate) struct PlaceIndex {
 impl PlaceIndex {
     /// Makes the index of no rows.
     pub(crate) fn new(alloc: Global) -> PlaceIndex
-        ensures { (by : By) (rows : List CompanyRow) → IsPlaced by rows result }
+        ensures { (kind : KeyKind) (rows : List CompanyRow) → IsPlaced kind rows result }
     {
         PlaceIndex {
             places: BTreeMap::new(alloc),
@@ -96,7 +112,7 @@ impl PlaceIndex {
 
     /// Forgets all rows.
     pub(crate) fn clear(&mut self)
-        ensures { (by : By) (rows : List CompanyRow) → IsPlaced by rows self.new }
+        ensures { (kind : KeyKind) (rows : List CompanyRow) → IsPlaced kind rows self.new }
     {
         self.places.clear();
         self.indexed = 0;
@@ -126,22 +142,22 @@ impl PlaceIndex {
         &mut self,
         alloc: Global,
         kept: &[KeptSubmission],
-        by: &By,
+        kind: &KeyKind,
     ) -> Result<(), StoreFault>
-        ensures right { IsPlaced by.now (map row_in kept.now) self.old → IsPlaced by.now (map row_in kept.now) self.new }
-        ensures whole { OnOk result (IsPlaced by.now (map row_in kept.now) self.old → self.new.indexed ≡ length kept.now) }
+        ensures right { IsPlaced kind.now (map row_in kept.now) self.old → IsPlaced kind.now (map row_in kept.now) self.new }
+        ensures whole { OnOk result (IsPlaced kind.now (map row_in kept.now) self.old → FindsAll kind.now (map row_in kept.now) self.new) }
     {
         for at in self.indexed..kept.len() {
-            let key = key_of(&kept[at], by);
+            let key = key_of(&kept[at], kind);
             self.add(alloc, key, at)?;
             self.indexed = at + 1;
         }
         Ok(())
     }
 
-    /// Gives the places of the rows that a key names, where all rows are covered.
+    /// Gives the places of the rows that a key names, among those that are covered.
     pub(crate) fn of(&self, key: RowKey) -> &[usize]
-        ensures { (by : By) (rows : List CompanyRow) → IsPlaced by rows self.now → self.now.indexed ≡ length rows → result.now ≡ places_of key (map (key_in by) rows) }
+        ensures { result.now ≡ listed_under key self.now }
     {
         match self.places.get(&key) {
             Some(list) => list.as_slice(),

@@ -1,19 +1,21 @@
 //! A key names rows in the lists in memory.
-ghost use Rattle.std.specs.Prelude.{◌≡◌, Some, refl, bytes_eq};
+ghost use Rattle.std.specs.Prelude.{◌≡◌, refl, bytes_eq};
 ghost use Rattle.std.specs.Cmp.{partial_equiv_from_equiv, partial_order_from_agreeing_total};
 ghost use Rattle.std.specs.Cmp.Lexicographic.{slice_cmp};
 ghost use Rattle.std.specs.Option.{option_eq, option_cmp};
 ghost use Rattle.std.specs.Ordering.{nat_cmp, as_partial_cmp};
-ghost use Rattle.desk_lists.specs.RowKeys.{is_same_by, order_by, same_by_equiv, order_by_total, order_by_ties};
+ghost use Rattle.desk_lists.specs.RowKeys.{is_same_key, key_cmp, same_key_equiv, key_cmp_total, key_cmp_ties};
 
 use ach_fields::{Id, Ref};
 use std::cmp::Ordering;
 
-/// A `RowKey` names the rows of a company, or those of them that go by a reference.
+/// A `RowKey` names the rows of a company, or those of them that go by a reference, or that have an
+/// order number.
 #[derive(Clone, Copy)]
 pub(crate) struct RowKey {
     pub(crate) company: Id,
     pub(crate) reference: Option<Ref>,
+    pub(crate) order: Option<u64>,
 }
 
 fn is_same_reference(first: Option<Ref>, second: Option<Ref>) -> bool
@@ -39,24 +41,25 @@ fn reference_order(first: Option<Ref>, second: Option<Ref>) -> Ordering
 }
 
 impl PartialEq for RowKey {
-    ghost eq = { is_same_by (λ k. k.company) (λ k. k.reference) };
+    ghost eq = { is_same_key };
 
-    ghost laws = { partial_equiv_from_equiv (same_by_equiv (λ k. k.company) (λ k. k.reference)) };
+    ghost laws = { partial_equiv_from_equiv same_key_equiv };
 
     fn eq(&self, other: &RowKey) -> bool {
         self.company.bytes() == other.company.bytes()
             && is_same_reference(self.reference, other.reference)
+            && self.order == other.order
     }
 }
 
 impl Eq for RowKey {
-    ghost laws = { same_by_equiv (λ k. k.company) (λ k. k.reference) };
+    ghost laws = { same_key_equiv };
 }
 
 impl PartialOrd for RowKey {
-    ghost partial_cmp = { as_partial_cmp (order_by (λ k. k.company) (λ k. k.reference)) };
+    ghost partial_cmp = { as_partial_cmp key_cmp };
 
-    ghost laws = { partial_order_from_agreeing_total (order_by (λ k. k.company) (λ k. k.reference)) (order_by_total (λ k. k.company) (λ k. k.reference)) (λ x y. refl) (order_by_ties (λ k. k.company) (λ k. k.reference)) };
+    ghost laws = { partial_order_from_agreeing_total key_cmp key_cmp_total (λ x y. refl) key_cmp_ties };
 
     fn partial_cmp(&self, other: &RowKey) -> Option<Ordering> {
         Some(self.cmp(other))
@@ -64,18 +67,19 @@ impl PartialOrd for RowKey {
 }
 
 impl Ord for RowKey {
-    ghost cmp = { order_by (λ k. k.company) (λ k. k.reference) };
+    ghost cmp = { key_cmp };
 
-    ghost total = { order_by_total (λ k. k.company) (λ k. k.reference) };
+    ghost total = { key_cmp_total };
 
     ghost matches_partial_cmp = { λ x y. refl };
 
-    ghost matches_eq = { order_by_ties (λ k. k.company) (λ k. k.reference) };
+    ghost matches_eq = { key_cmp_ties };
 
     fn cmp(&self, other: &RowKey) -> Ordering {
         self.company
             .bytes()
             .cmp(other.company.bytes())
             .then(reference_order(self.reference, other.reference))
+            .then(self.order.cmp(&other.order))
     }
 }

@@ -1,11 +1,12 @@
 //! The rows of a company in memory are found without going through all rows.
-ghost use Rattle.std.specs.Prelude.{◌≡◌, true, List, [], Some, map, length, OnOk};
+ghost use Rattle.std.specs.Prelude.{◌≡◌, true, List, [], Some, map, OnOk};
 ghost use Rattle.desk_lists.specs.Kept.{row_in};
-ghost use Rattle.desk_lists.specs.Placed.{ArePlaced};
+ghost use Rattle.desk_lists.specs.Placed.{ArePlaced, FindsAll};
+ghost use Rattle.desk_lists.specs.declared.place_index.KeyKind.TheVariants as kinds;
 ghost use Rattle.desk_store.specs.Rows.{CompanyRow};
 
 use crate::list_store::KeptSubmission;
-use crate::place_index::{By, PlaceIndex};
+use crate::place_index::{KeyKind, PlaceIndex};
 use bank_days::Day;
 use desk_store::StoreFault;
 use std::alloc::Global;
@@ -15,6 +16,8 @@ use std::alloc::Global;
 pub(crate) struct RowPlaces {
     pub(crate) companies: PlaceIndex,
     pub(crate) references: PlaceIndex,
+    /// It finds the submissions that a cut sends or lets lapse.
+    pub(crate) orders: PlaceIndex,
     /// It finds the retries of a submission's entries.
     pub(crate) originals: PlaceIndex,
     /// It finds the rows that may be open since the day. A cut settles rows, and so ends it.
@@ -30,6 +33,7 @@ impl RowPlaces {
         RowPlaces {
             companies: PlaceIndex::new(alloc),
             references: PlaceIndex::new(alloc),
+            orders: PlaceIndex::new(alloc),
             originals: PlaceIndex::new(alloc),
             recent: PlaceIndex::new(alloc),
             since: None,
@@ -44,10 +48,24 @@ impl RowPlaces {
         kept: &[KeptSubmission],
     ) -> Result<(), StoreFault>
         ensures right { ArePlaced (map row_in kept.now) self.old → ArePlaced (map row_in kept.now) self.new }
-        ensures whole { OnOk result (ArePlaced (map row_in kept.now) self.old → self.new.references.indexed ≡ length kept.now) }
+        ensures whole { OnOk result (ArePlaced (map row_in kept.now) self.old → FindsAll kinds.Reference (map row_in kept.now) self.new.references) }
     {
-        self.references.cover(alloc, kept, &By::Reference)?;
-        self.originals.cover(alloc, kept, &By::Original)
+        self.references.cover(alloc, kept, &KeyKind::Reference)?;
+        self.originals.cover(alloc, kept, &KeyKind::Original)?;
+        Ok(())
+    }
+
+    /// Covers the rows by their order numbers. A cut is written whole or not at all, and memory for
+    /// the index could be refused in the middle of it, so this comes before it.
+    pub(crate) fn cover_orders(
+        &mut self,
+        alloc: Global,
+        kept: &[KeptSubmission],
+    ) -> Result<(), StoreFault>
+        ensures right { ArePlaced (map row_in kept.now) self.old → ArePlaced (map row_in kept.now) self.new }
+        ensures whole { OnOk result (ArePlaced (map row_in kept.now) self.old → FindsAll kinds.Order (map row_in kept.now) self.new.orders) }
+    {
+        self.orders.cover(alloc, kept, &KeyKind::Order)
     }
 
     fn is_since(&self, since: Day) -> bool
@@ -79,9 +97,9 @@ impl RowPlaces {
     ) -> Result<(), StoreFault>
         ensures right { ArePlaced (map row_in kept.now) self.old → ArePlaced (map row_in kept.now) self.new }
         ensures since { self.new.since ≡ Some since }
-        ensures whole { OnOk result (ArePlaced (map row_in kept.now) self.old → self.new.recent.indexed ≡ length kept.now) }
+        ensures whole { OnOk result (ArePlaced (map row_in kept.now) self.old → FindsAll (kinds.OpenSince since) (map row_in kept.now) self.new.recent) }
     {
         self.begin(since);
-        self.recent.cover(alloc, kept, &By::OpenSince(since))
+        self.recent.cover(alloc, kept, &KeyKind::OpenSince(since))
     }
 }

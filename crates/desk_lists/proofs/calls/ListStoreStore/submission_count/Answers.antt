@@ -1,16 +1,19 @@
-use Rattle.std.proofs.Common.{◌∙◌, ℕ, List, ap, length, sym}
+use Rattle.std.proofs.Common.{◌∙◌, ℕ, List, ap, length, map, sym}
 use Rattle.desk_book.specs.Reads.{submission_count}
-use Rattle.desk_lists.specs.Placed.{whole}
-use Rattle.desk_lists.specs.declared.place_index.By.TheVariants as by
-use Rattle.desk_lists.proofs.Placed.{counted_all, looked_up}
+use Rattle.desk_lists.specs.Kept.{row_in}
+use Rattle.desk_lists.specs.Placed.{IsPlaced, whole}
+use Rattle.desk_lists.specs.declared.place_index.KeyKind.TheVariants as kinds
+use Rattle.desk_lists.proofs.Placed.{counted_all, covered, standing}
 use Rattle.desk_lists.proofs.calls.ListStoreStore.submission_count.Goals as goal
 
 pub returns-clause-read : goal.returns-clause-read
 returns-clause-read c = λ _ b held.
     let s = c.args.self.now in
     let kept = s.submissions.items in
-    let found = looked_up by.Company c.whole.result (whole c.args.company) c.as_slice-kept.result.now kept s.places.companies c.cover.new.self c.of.result.now c.whole.ensures c.as_slice-kept.ensures.value held.placed.companies c.in_ok-cover.ensures.right c.in_ok-cover.ensures.whole c.of.ensures in (
-      ap (λ (places : List ℕ). length places) found.1
+    let index = c.cover.new.self in
+    let found = covered (IsPlaced kinds.Company) kinds.Company c.as_slice-kept.result.now kept s.places.companies index index c.as_slice-kept.ensures.value held.placed.companies c.in_ok-cover.ensures.right c.in_ok-cover.ensures.whole in
+    let stand = standing kinds.Company c.whole.result (whole c.args.company) (map row_in kept) index c.of.result.now c.whole.ensures found.1 c.of.ensures in (
+      ap (λ (places : List ℕ). length places) stand
           ∙ counted_all c.args.company kept
           ∙ ap (submission_count c.args.company) (sym held.book),
       record {
@@ -18,6 +21,6 @@ returns-clause-read c = λ _ b held.
         indexed = held.indexed;
         settled = held.settled;
         bounded = held.bounded;
-        placed = record { companies = found.0; references = held.placed.references; originals = held.placed.originals; recent = held.placed.recent };
+        placed = record { companies = found.0; references = held.placed.references; orders = held.placed.orders; originals = held.placed.originals; recent = held.placed.recent };
       },
     )

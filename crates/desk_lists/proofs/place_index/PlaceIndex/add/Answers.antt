@@ -1,7 +1,8 @@
 use Rattle.std.proofs.Common.{rules, ◌∙◌, ◌++◌, ◌∷◌, [], List, ℕ, Option, Some, cond, ap, sym, subst}
 use Rattle.std.specs.Prelude.{option_map, unwrap_or, IsSome}
 use Rattle.std.specs.BTreeMap.{get, is_at}
-use Rattle.desk_lists.specs.Placed.{key_cmp, listed_under, place_under}
+use Rattle.desk_lists.specs.Placed.{listed_under, place_under}
+use Rattle.desk_lists.specs.RowKeys.{key_cmp}
 use Rattle.desk_lists.specs.declared.row_key.RowKey.{RowKey}
 use Rattle.desk_lists.proofs.Placed.{one_more_under, as_many_under}
 use Rattle.desk_lists.proofs.place_index.PlaceIndex.add.Goals as goal

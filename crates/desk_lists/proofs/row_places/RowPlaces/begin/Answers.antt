@@ -1,10 +1,11 @@
-use Rattle.desk_lists.specs.declared.place_index.By.TheVariants as by
+use Rattle.desk_lists.specs.declared.place_index.KeyKind.TheVariants as kinds
 use Rattle.desk_lists.proofs.row_places.RowPlaces.begin.Goals as goal
 
 pub returns-then-not-is_since-clause-right : goal.returns-then-not-is_since-clause-right
 returns-then-not-is_since-clause-right c = λ rows held. record {
   companies = held.companies;
   references = held.references;
+  orders = held.orders;
   originals = held.originals;
-  recent = λ since is. c.clear.ensures (by.OpenSince since) rows;
+  recent = λ since is. c.clear.ensures (kinds.OpenSince since) rows;
 }
