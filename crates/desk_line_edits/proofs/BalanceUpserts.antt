@@ -26,7 +26,6 @@ use Rattle.sql_transactions.specs.Layouts.{Holds}
 use Rattle.desk_schema.specs.Schema.{desk_schema}
 use Rattle.desk_schema.specs.Tables.{balances_table}
 use Rattle.desk_accounts.specs.Posting.{same_account}
-use Rattle.desk_accounts.specs.declared.account.Account.{Account}
 use Rattle.desk_records.specs.Beside.{is_balance_of}
 use Rattle.desk_records.specs.Columns.{account_text}
 use Rattle.desk_records.specs.KeyOrders.{IsInOrder, balance_cmp, text_cmp}

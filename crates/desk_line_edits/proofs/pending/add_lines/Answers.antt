@@ -1,4 +1,4 @@
-use Rattle.std.proofs.Common.{◌≡◌, rules, arith, subst, sym, ap, ◌∙◌, take, ◌++◌, ◌∷◌, [], ◌+◌, List}
+use Rattle.std.proofs.Common.{◌≡◌, rules, arith, subst, sym, ap, ◌∙◌, take, ◌++◌, ◌∷◌, [], ◌+◌}
 use Rattle.std.proofs.lemmas.List.{take_more, take_all}
 use Rattle.sqlite.specs.Held.{state}
 use Rattle.sqlite.specs.State.{HasCleanDisk}

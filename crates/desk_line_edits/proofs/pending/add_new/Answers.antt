@@ -1,4 +1,4 @@
-use Rattle.std.proofs.Common.{◌≡◌, ◌+ℤ◌, pos, unwrap_or, [], ◌∷◌, ◌++◌, None, arith, rules, to_z, of_z, subst, sym, ap, ◌∙◌}
+use Rattle.std.proofs.Common.{◌≡◌, [], ◌∷◌, ◌++◌, None, arith, rules, to_z, of_z, subst, sym, ap, ◌∙◌}
 use Rattle.std.specs.Int.{w64, w128}
 use Rattle.sqlite.specs.Held.{state}
 use Rattle.sqlite.specs.State.{HasCleanDisk}

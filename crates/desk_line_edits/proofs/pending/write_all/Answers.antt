@@ -1,4 +1,4 @@
-use Rattle.std.proofs.Common.{rules, arith, [], subst, sym}
+use Rattle.std.proofs.Common.{rules, arith}
 use Rattle.sqlite.specs.Held.{state}
 use Rattle.desk_line_edits.proofs.PendingSums.{but_same, but_then}
 use Rattle.desk_line_edits.proofs.pending.write_all.Goals as goal

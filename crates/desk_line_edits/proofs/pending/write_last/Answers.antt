@@ -1,4 +1,4 @@
-use Rattle.std.proofs.Common.{◌≡◌, [], ◌∷◌, ◌++◌, to_z, of_z, sym, subst, ap, ◌∙◌, option_to_list, Some, rules}
+use Rattle.std.proofs.Common.{◌≡◌, [], ◌∷◌, ◌++◌, to_z, of_z, sym, subst, rules}
 use Rattle.std.specs.Int.{w128}
 use Rattle.sqlite.specs.Held.{state}
 use Rattle.desk_line_edits.specs.PendingBalances.{MakesBut}
