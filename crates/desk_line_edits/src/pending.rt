@@ -1,6 +1,6 @@
 //! Lines are added to balances in memory, so that the row of a balance is read and written once for
 //! many lines.
-ghost use Rattle.std.specs.Prelude.{◌≡◌, ◌-◌, ◌<◌, ◌+ℤ◌, ℕ, pos, [], length, take, IfOk, OnOk, unwrap_or, ◌&&◌, ◌==◌};
+ghost use Rattle.std.specs.Prelude.{◌≡◌, ◌-◌, ◌<◌, ◌+ℤ◌, ℕ, pos, [], length, take, IfOk, OnOk, unwrap_or};
 ghost use Rattle.std.specs.List.{position_or_len};
 ghost use Rattle.arrayvec.specs.ArrayVec.{array_vec_len};
 ghost use Rattle.sqlite.specs.Held.{state};
@@ -19,24 +19,24 @@ use sqlite::{Alter, Error, ErrorCode, Transaction};
 /// So many balances are pending at most.
 const MOST_PENDING: usize = 64;
 
-/// The number of 2000-01-01.
-const FIRST_DAY: i64 = 10_957;
+/// The number of any day.
+const ANY_DAY: i64 = 20_000;
 
 /// A `PendingBalance` is the sum of an account's lines of a value day, some of which its row does not
 /// have yet.
-#[derive(Clone, Copy, Debug, PartialEq, Eq, Drop)]
+#[derive(Clone, Copy, Drop)]
 pub(crate) struct PendingBalance {
     account: Account,
     value_day: Day,
     cents: i128,
 }
 
-// An unused place of a list has it.
+// An unused place of a list has it, and nothing reads it there.
 impl Default for PendingBalance {
     fn default() -> PendingBalance {
         PendingBalance {
             account: Account::Operator,
-            value_day: Day::from_number(FIRST_DAY).unwrap(),
+            value_day: Day::from_number(ANY_DAY).unwrap(),
             cents: 0,
         }
     }
