@@ -1,5 +1,5 @@
 -- The statement that writes a balance, against the records of balances.
-use Rattle.std.proofs.Common.{◌≡◌, ℕ, ℤ, Bool, true, false, ◌&&◌, ◌==◌, cond, [], ◌∷◌, Some, Ok, bytes_eq, refl, sym, ap, ap₂, ◌∙◌, Less, is_eq}
+use Rattle.std.proofs.Common.{◌≡◌, ℕ, ℤ, Bool, true, false, ◌&&◌, ◌==◌, cond, List, [], ◌∷◌, Some, Ok, bytes_eq, refl, sym, ap, ap₂, ◌∙◌, Less, is_eq}
 use Rattle.std.proofs.Math.Bool.{or-false}
 use Rattle.std.specs.Cmp.{IsTotalOrder}
 use Rattle.std.specs.List.{list_any}
@@ -11,6 +11,7 @@ use Rattle.sqlite_tied.specs.Compute.{everything}
 use Rattle.sqlite.specs.Listing.{understood}
 use Rattle.sqlite.specs.State.{State, Executes}
 use Rattle.sqlite.specs.declared.types.Value.TheVariants.{Null, Int}
+use Rattle.sqlite_keyed.specs.Lists.{insert_sorted, update_where}
 use Rattle.sqlite_rules.specs.Keys.{conflicts}
 use Rattle.sqlite_sql.specs.Term.{col}
 use Rattle.sqlite_value.specs.Keys.{first_key}
@@ -18,17 +19,16 @@ use Rattle.sql_statements.specs.Statements.{IsUpsert}
 use Rattle.sql_statements.specs.StoredRows.{row_of, Stores}
 use Rattle.sql_statements.proofs.Casts.{row_kept}
 use Rattle.sql_statements.proofs.Conditions.{int_is, and_true, text_is}
-use Rattle.sql_statements.proofs.KeyOrder.{rises_updated}
+use Rattle.sql_statements.proofs.KeyOrder.{rises_sorted, rises_updated}
 use Rattle.sql_statements.proofs.Upserts.{upserted, put_or_update}
 use Rattle.sql_transactions.proofs.OneRow.{one_of}
 use Rattle.sql_transactions.specs.Layouts.{Holds}
 use Rattle.desk_schema.specs.Schema.{desk_schema}
 use Rattle.desk_schema.specs.Tables.{balances_table}
 use Rattle.desk_accounts.specs.Posting.{same_account}
-use Rattle.desk_accounts.specs.declared.account.Account.{Account}
 use Rattle.desk_records.specs.Beside.{is_balance_of}
 use Rattle.desk_records.specs.Columns.{account_text}
-use Rattle.desk_records.specs.KeyOrders.{balance_cmp, text_cmp}
+use Rattle.desk_records.specs.KeyOrders.{IsInOrder, balance_cmp, text_cmp}
 use Rattle.desk_records.specs.Layout.{desk_layout}
 use Rattle.desk_records.specs.RecordRows.{balance_row}
 use Rattle.desk_records.specs.TableEdits.{with_balance}
@@ -45,10 +45,10 @@ upsert_balance_is : IsUpsert desk_schema upsert_balance 11 24 balances_table (1 
 unfolding understood everything
 upsert_balance_is = record { update = _; is = refl; body = refl; alone = refl; plain = (refl, refl) }
 
-balance_total : IsTotalOrder balance_cmp
+pub balance_total : IsTotalOrder balance_cmp
 balance_total = then_total (on_total (λ (b : BalanceRecord). account_text b.account) nat_list_cmp_total) (on_total (λ (b : BalanceRecord). b.value_day) nat_cmp_total)
 
-equal_balances : (a b : BalanceRecord) → is_eq (balance_cmp a b) ≡ is_balance_of b.account b.value_day a
+pub equal_balances : (a b : BalanceRecord) → is_eq (balance_cmp a b) ≡ is_balance_of b.account b.value_day a
 equal_balances a b =
     equal_both _ _ ∙ ap₂ (λ p q. p && q) (is_eq-slice_cmp (account_text a.account) (account_text b.account) ∙ accounts_are a.account b.account) (equal_numbers a.value_day b.value_day)
 
@@ -85,6 +85,14 @@ module _ (n : BalanceRecord) where
 
       day : (d : BalanceRecord) → (cond (is_it d) (set d) d).value_day ≡ d.value_day
       day d = elim (is_it d) as (λ q. (cond q (set d) d).value_day ≡ d.value_day) [ true ↦ refl | false ↦ refl ]
+
+  -- the row is in the order of its key, or stays there
+  pub put_rises : (bs : List BalanceRecord) → IsInOrder balance_cmp bs → IsInOrder balance_cmp (with_balance n.account n.value_day n.cents bs)
+  put_rises bs rise = go (list_any is_it bs) refl
+    where
+      go : (b : Bool) → list_any is_it bs ≡ b → IsInOrder balance_cmp (cond b (update_where is_it set bs) (insert_sorted balance_cmp n bs))
+      go true e = rises_updated balance_cmp is_it set keeps_order bs rise
+      go false e = rises_sorted balance_cmp balance_total n bs ((λ i. list_any (λ y. equal_balances y n i) bs) ∙ e) rise
 
   pub balance_put : (old new : State) (count : ℕ) → Executes upsert_balance (balance_row n) old new (Ok count) → (t : Tables) → Holds desk_layout old.now t
       → Holds desk_layout new.now (record t { balances = with_balance n.account n.value_day n.cents t.balances })

@@ -1,3 +1,4 @@
 pub mod LineEdits
 pub mod Numbering
+pub mod PendingBalances
 pub mod Texts

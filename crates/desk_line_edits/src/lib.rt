@@ -1,8 +1,8 @@
 //! This crate writes the lines of accounts inside a transaction: each under the number after the last,
-//! and with the sum of its account and value day.
+//! and the sums of their accounts and value days with them.
 //!
 //! What a statement of a transaction depends on is read inside it: the last number of a table, and the
-//! sum before a line. `desk_records` says which edit of the tables each function makes.
+//! sum before the first of its lines. `desk_records` says which edit of the tables each function makes.
 #![tactic(auto)]
 
 mod accounts;
@@ -10,6 +10,7 @@ mod balances;
 mod cell;
 mod lines;
 mod numbering;
+mod pending;
 
 pub use cell::cell_inside;
 pub use lines::put_lines;

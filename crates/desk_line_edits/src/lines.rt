@@ -1,25 +1,25 @@
 //! The lines of accounts are written.
-ghost use Rattle.std.specs.Prelude.{◌≡◌, ◌+ℤ◌, pos, IfOk, OnOk, unwrap_or};
+ghost use Rattle.std.specs.Prelude.{◌≡◌, OnOk};
 ghost use Rattle.sqlite.specs.Held.{state};
 ghost use Rattle.sqlite.specs.State.{HasCleanDisk, Survives, KeepsCommit};
 ghost use Rattle.sql_transactions.specs.Transactions.{Makes};
 ghost use Rattle.desk_records.specs.Columns.{account_text as text_of};
 ghost use Rattle.desk_records.specs.Layout.{desk_layout};
-ghost use Rattle.desk_records.specs.TableEdits.{put_line_edit, put_lines_edit};
-ghost use Rattle.desk_line_edits.specs.LineEdits.{put_posting_edit, put_summed_line_edit};
+ghost use Rattle.desk_records.specs.TableEdits.{put_lines_edit};
+ghost use Rattle.desk_line_edits.specs.LineEdits.{put_posting_edit};
 
 use crate::accounts::{AccountText, account_text};
-use crate::balances::{put_balance, sum_inside};
 use crate::numbering::{NumberedTable, next_after};
+use crate::pending::add_lines;
 use desk_accounts::Posting;
 use desk_edits::{cause, optional_reference};
 use desk_queries::{characters, date, natural};
 use sql_statements::{execute, number};
 use sql_transactions::{RowBody, run_each};
-use sqlite::{Alter, Error, ErrorCode, Transaction};
+use sqlite::{Alter, Error, Transaction};
 
-/// Writes lines of accounts, numbered on from the last one. The balance of each line's account and
-/// value day is read before and written with the line; where it has no sum, it ends with
+/// Writes lines of accounts, numbered on from the last one, and adds them to the balances of their
+/// accounts and value days. Where a balance has no sum with a line, it ends with
 /// `ErrorCode::IntegerOverflow`.
 pub fn put_lines<S: Alter>(tx: &mut Transaction<'_, S>, lines: &[Posting]) -> Result<(), Error>
     ensures same_reference { tx.new.conn.ghost_name ≡ tx.old.conn.ghost_name }
@@ -28,20 +28,21 @@ pub fn put_lines<S: Alter>(tx: &mut Transaction<'_, S>, lines: &[Posting]) -> Re
     ensures survives { Survives (state S.Store tx.old.conn.now) (state S.Store tx.new.conn.now) (λ _. ⊥) }
 {
     let first = next_after(tx, NumberedTable::Postings)?;
-    run_each(tx, &PutLines, first, lines)?;
+    run_each(tx, &PutPostings, first, lines)?;
+    add_lines(tx, lines)?;
     Ok(())
 }
 
-// A line is written under its number.
+// A line's row is written under its number.
 #[derive(Clone, Copy)]
-struct PutLines;
+struct PutPostings;
 
-impl RowBody for PutLines {
+impl RowBody for PutPostings {
     type Row = Posting;
 
     ghost layout = { desk_layout };
 
-    ghost edit = { λ _. put_line_edit };
+    ghost edit = { λ _. put_posting_edit };
 
     fn run_row<S: Alter>(
         &self,
@@ -49,43 +50,14 @@ impl RowBody for PutLines {
         number: u64,
         line: &Posting,
     ) -> Result<(), Error> {
-        let before = sum_inside(tx, &line.account, line.value_day)?;
-        let sum = sum_with(before, line.cents)?;
-        put_line(tx, number, line, sum)?;
+        let row = PostingRow {
+            number,
+            account: account_text(&line.account),
+            posting: *line,
+        };
+        put_posting(tx, &row)?;
         Ok(())
     }
-}
-
-// The sum of an account and value day, with a line.
-fn sum_with(before: Option<i128>, cents: i64) -> Result<i128, Error>
-    ensures { IfOk result (λ sum. sum ≡ unwrap_or before (pos 0) +ℤ cents) }
-{
-    match before.unwrap_or(0).checked_add(i128::from(cents)) {
-        Some(sum) => Ok(sum),
-        None => Err(Error::SqliteFailure(ErrorCode::IntegerOverflow)),
-    }
-}
-
-// Writes the row of a line, and the balance that has it.
-fn put_line<S: Alter>(
-    tx: &mut Transaction<'_, S>,
-    number: u64,
-    line: &Posting,
-    sum: i128,
-) -> Result<(), Error>
-    ensures same_reference { tx.new.conn.ghost_name ≡ tx.old.conn.ghost_name }
-    ensures makes { HasCleanDisk (state S.Store tx.new.conn.now) → OnOk result (Makes desk_layout (put_summed_line_edit number line.now sum) (state S.Store tx.old.conn.now) (state S.Store tx.new.conn.now)) }
-    ensures keeps { HasCleanDisk (state S.Store tx.new.conn.now) → KeepsCommit (state S.Store tx.old.conn.now) (state S.Store tx.new.conn.now) }
-    ensures survives { Survives (state S.Store tx.old.conn.now) (state S.Store tx.new.conn.now) (λ _. ⊥) }
-{
-    let row = PostingRow {
-        number,
-        account: account_text(&line.account),
-        posting: *line,
-    };
-    put_posting(tx, &row)?;
-    put_balance(tx, &line.account, line.value_day, sum)?;
-    Ok(())
 }
 
 // A line stands beside the text of its account, so that its row borrows from one value.
