@@ -1,38 +1,36 @@
 //! A store refuses one call here.
-use super::calls::{company, new_store, rule_day};
+use super::calls::LIMITS;
+use super::reads::Read;
+use super::samples::new_store;
+use super::steps::{Step, take_all};
+use super::writes::{Write, carry_out};
 use desk_lists::FaultyStore;
-use desk_store::Store;
-use std::test::Fail;
 
-// Which call is refused, and which of three calls are answered.
+// Which call is refused; which of three calls are answered; the day, and the limits of the company, after
+// them.
+const ROWS: [(u64, [bool; 3], &[u8], bool); 5] = [
+    (0, [true, true, true], b"2025-01-09", true),
+    (1, [false, true, true], b"2025-01-09", true),
+    (2, [true, false, true], b"2025-01-09", false),
+    (3, [true, true, false], b"2025-01-08", true),
+    (4, [true, true, true], b"2025-01-09", true),
+];
+
 #[test]
-fn one_call_is_refused(rt: HostRuntime) -> Result<(), Fail> {
-    let rows = [
-        (0, [true, true, true]),
-        (1, [false, true, true]),
-        (2, [true, false, true]),
-        (3, [true, true, false]),
-        (4, [true, true, true]),
-    ];
-    for (refused, answered) in rows {
+fn one_call_is_refused(rt: HostRuntime) {
+    for (refused, answered, day, is_registered) in ROWS {
         let mut faulty = FaultyStore::new(new_store(&rt), refused);
-        let first = faulty.set_day(rt.alloc(), rule_day(&rt, b"2025-01-08"));
-        let second = faulty.put_company(rt.alloc(), company(&rt, b"MILL01"));
-        let third = faulty.set_day(rt.alloc(), rule_day(&rt, b"2025-01-09"));
-        assert_eq!(rt;
-            [first.is_ok(), second.is_ok(), third.is_ok()],
-            answered,
-            "{refused}"
-        );
-        let mut store = faulty.into_inner();
-        let today = if refused == 3 {
-            b"2025-01-08"
-        } else {
-            b"2025-01-09"
-        };
-        assert_eq!(rt; store.day(rt.alloc())?, Some(rule_day(&rt, today)));
-        let mill = company(&rt, b"MILL01");
-        assert_eq!(rt; store.company(rt.alloc(), mill.id)?.is_some(), refused != 2);
+        let given = [
+            carry_out(&rt, &mut faulty, Write::Day(b"2025-01-08")).is_ok(),
+            carry_out(&rt, &mut faulty, Write::Company(b"MILL01")).is_ok(),
+            carry_out(&rt, &mut faulty, Write::Day(b"2025-01-09")).is_ok(),
+        ];
+        assert!(rt; given == answered, "{refused}");
+        let limits = if is_registered { Some(LIMITS) } else { None };
+        let found = [
+            Step::Read(Read::Day(Some(day))),
+            Step::Read(Read::Company(b"MILL01", limits)),
+        ];
+        take_all(&rt, &mut faulty.into_inner(), &found);
     }
-    Ok(())
 }
