@@ -1,6 +1,6 @@
 //! Lines are added to balances in memory, so that the row of a balance is read and written once for
 //! many lines.
-ghost use Rattle.std.specs.Prelude.{◌≡◌, ◌-◌, ◌<◌, ◌+ℤ◌, ℕ, pos, [], length, take, IfOk, OnOk, unwrap_or};
+ghost use Rattle.std.specs.Prelude.{◌≡◌, ◌-◌, ◌<◌, ◌+ℤ◌, ℕ, pos, [], take, IfOk, OnOk, unwrap_or};
 ghost use Rattle.std.specs.List.{position_or_len};
 ghost use Rattle.arrayvec.specs.ArrayVec.{array_vec_len};
 ghost use Rattle.sqlite.specs.Held.{state};
