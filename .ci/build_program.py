@@ -2,7 +2,7 @@
 """Proves the crates that the desk's program stands on, builds it, and says on standard error how far it is.
 
 Crates that do not stand on each other are proved side by side. The one with the longest chain of crates above
-it comes first: it may use all cores, and what the others need gives way to it. rt lets one run at a time into a
+it comes first: it may use all cores, and the others give way to it. rt lets one run at a time into a
 crate's folder, so each is proved in a folder of its own, with hard links to what it stands on. What a run has
 proved is kept, also where it is broken off: the next one goes on from there.
 """
