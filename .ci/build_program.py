@@ -2,11 +2,13 @@
 """Proves the crates that the desk's program stands on, builds it, and says on standard error how far it is.
 
 Crates that do not stand on each other are proved side by side. The one with the longest chain of crates above
-it comes first: it may use all cores, and the others give way to it. rt lets one run at a time into a
-crate's folder, so each is proved in a folder of its own, with hard links to what it stands on. What a run has
-proved is kept, also where it is broken off: the next one goes on from there.
+it comes first: it may use all cores, and the others give way to it. The library that is made of a proved crate
+holds its statements alone, which the crates above read in less time than its proofs. What is proved stays in
+out/ of the program's crate, also where a run is broken off: the next run proves what is left, what changed and
+what stands on that.
 """
 
+import hashlib
 import os
 import shutil
 import subprocess
@@ -16,32 +18,34 @@ from concurrent.futures import FIRST_COMPLETED, ThreadPoolExecutor, wait
 from pathlib import Path
 
 TOP = Path(__file__).resolve().parent.parent
+CRATES = TOP / "crates"
 PROGRAM = "achdesk"
-BUILDING = TOP / "crates" / PROGRAM / "out" / "building"
-SOURCES = ("src", "specs", "proofs")
+OUT = CRATES / PROGRAM / "out"
+LIBRARIES = OUT / "libraries"
+# The Rattle toolchain lies where its command does.
+KIT = Path(shutil.which("rattle") or "no toolchain/bin/rattle").resolve().parent.parent
 
 
 def say(line):
     print(f"{PROGRAM}: {line}", file=sys.stderr, flush=True)
 
 
-def crate_lines():
-    """Returns the line of each crate in the list of crates."""
+def uses_of_crates():
+    """Returns for each crate of the list of crates the libraries that its line names."""
     lines = [it.partition("#")[0] for it in (TOP / "crates.txt").read_text().splitlines()]
-    return {it.partition(":")[0].split()[0]: it for it in lines if ":" in it}
+    return {it.partition(":")[0].split()[0]: it.partition(":")[2].split() for it in lines if ":" in it}
 
 
-def crates_below():
+def crates_below(uses):
     """Returns the crates of this repository that the program stands on, itself last, each with those below it."""
-    named = {name: line.partition(":")[2].split() for name, line in crate_lines().items()}
     found = {}
 
     def visit(name):
-        if name in found or name not in named:
+        if name in found or name not in uses:
             return found.get(name, set())
         below = set()
-        for it in named[name]:
-            below |= visit(it) | ({it} & named.keys())
+        for it in uses[name]:
+            below |= visit(it) | ({it} & uses.keys())
         found[name] = below
         return below
 
@@ -60,69 +64,64 @@ def chains_above(below):
 
 def work_of(crate, below):
     """Returns roughly how much work a crate's proof is: that of a line grows with what the crate stands on."""
-    lines = sum(it.read_bytes().count(b"\n") for it in (TOP / "crates" / crate / "src").rglob("*.rt"))
+    lines = sum(it.read_bytes().count(b"\n") for it in (CRATES / crate / "src").rglob("*.rt"))
     return (100 + lines) * (8 + len(below))
 
 
-def link(source, target):
-    shutil.copytree(source, target, copy_function=os.link)
+def sum_of(crate, below, uses):
+    """Returns a sum over what a crate's proof reads: the toolchain, and each crate at or below it."""
+    total = hashlib.sha256((KIT / "KIT-ID").read_bytes())
+    for name in (crate, *sorted(below)):
+        total.update(f"{name}: {uses[name]} ".encode())
+        for part in ("src", "specs", "proofs"):
+            for file in sorted((CRATES / name / part).rglob("*.*")):
+                text = file.read_bytes()
+                total.update(f"{file.relative_to(CRATES)} {len(text)} ".encode() + text)
+    return total.hexdigest()
 
 
-def move_work(crate, source, target):
-    """Moves what earlier runs proved of a crate, if there is any."""
-    kept = source / "crates" / crate / "out"
-    if kept.is_dir():
-        shutil.rmtree(target / "crates" / crate / "out", ignore_errors=True)
-        kept.rename(target / "crates" / crate / "out")
+def commands_of(crate, uses, jobs):
+    """Returns the commands that prove a crate and make its library, or the program."""
+    root = "src/main.rt" if crate == PROGRAM else "src/lib.rt"
+    words = [KIT / "bin/rattle", "build", "--crate-name", crate, root, "--links", f"{crate}=", "--jobs", jobs]
+    for it in ("std", *uses[crate]):
+        words += ["--extern", f"{it}={LIBRARIES if it in uses else KIT / 'rlibs'}/{it}.rlib"]
+    words += ["-L", f"dependency={LIBRARIES}", "-L", f"dependency={KIT}/rlibs"]
+    words += ["--antt-project", KIT / "rattle/logic/antt-project.json", "--logic-built", KIT / "logic_built"]
+    if crate != PROGRAM:
+        return [[*words, "--statements", "-o", made_of(crate)]]
+    tools, part = ["--toolchain", KIT / "toolchain"], OUT / f"{PROGRAM}.o"
+    link = [KIT / "bin/rattle-link", "--target", "x86_64-unknown-linux-gnu", *tools, "-o", made_of(crate), part]
+    return [[*words, *tools, "--backend", "llvm", "-o", part], [*link, KIT / "c/libos_c.a", KIT / "c/liblibc_c.a"]]
 
 
-def set_up(crate, below):
-    """Makes the folder in which a crate is proved: its own work is moved there, that of the crates below is linked."""
-    folder = BUILDING / crate
-    (folder / "crates" / crate).mkdir(parents=True)
-    lines = crate_lines()
-    (folder / "crates.txt").write_text("".join(f"{lines[it]}\n" for it in (crate, *below)))
-    for it in (crate, *below):
-        for part in SOURCES:
-            if (TOP / "crates" / it / part).is_dir():
-                link(TOP / "crates" / it / part, folder / "crates" / it / part)
-    for it in below:
-        link(TOP / "crates" / it / "out" / "rlib", folder / "crates" / it / "out" / "rlib")
-    move_work(crate, TOP, folder)
-    return folder
+def made_of(crate):
+    return OUT / PROGRAM if crate == PROGRAM else LIBRARIES / f"{crate}.rlib"
 
 
-def prove(crate, below, jobs, is_first):
-    """Returns whether a library is proved, and how many seconds that took. What is not first gives way."""
-    start = time.monotonic()
-    folder = set_up(crate, below)
-    words = [*([] if is_first else ["nice"]), "rt", "lib", "--jobs", str(jobs)]
-    try:
-        status = run(words, folder / "crates" / crate, log_of(crate))
-    finally:
-        move_work(crate, folder, TOP)
-        shutil.rmtree(folder)
-    return status == 0, time.monotonic() - start
-
-
-def build(jobs):
-    """Returns whether the program is built, and how many seconds that took."""
-    start = time.monotonic()
-    program = TOP / "crates" / PROGRAM / "out" / PROGRAM
-    program.unlink(missing_ok=True)
-    run(["rt", "run", "--jobs", str(jobs)], TOP / "crates" / PROGRAM, log_of(PROGRAM))
-    return program.is_file(), time.monotonic() - start
+def make(crate, below, uses, jobs, is_first):
+    """Returns whether a crate is proved and built, and how many seconds that took. What is not first gives way."""
+    start, total = time.monotonic(), sum_of(crate, below, uses)
+    proved = LIBRARIES / f"{crate}.sum"
+    if not (made_of(crate).exists() and proved.is_file() and proved.read_text() == total):
+        proved.unlink(missing_ok=True)
+        way = [] if is_first else ["nice"]
+        is_made = all(run([*way, *it], crate) for it in commands_of(crate, uses, jobs))
+        # What changed while it was proved is proved again by the next run.
+        if is_made and total == sum_of(crate, below, uses):
+            proved.write_text(total)
+    return proved.is_file(), time.monotonic() - start
 
 
 def log_of(crate):
-    return BUILDING.parent / f"{crate}.log"
+    return OUT / f"{crate}.log"
 
 
-def run(words, folder, log):
-    """Runs rt and returns its status. It keeps the lock of this run, so that no other begins while it still works."""
-    with open(log, "w") as out:
-        how = {"cwd": folder, "stdin": subprocess.DEVNULL, "stdout": out, "stderr": out, "close_fds": False}
-        return subprocess.run(words, **how).returncode
+def run(words, crate):
+    """Returns whether a command ends well. It keeps the lock of this run, so that no other begins while it still works."""
+    with open(log_of(crate), "w") as out:
+        how = {"cwd": CRATES / crate, "stdin": subprocess.DEVNULL, "stdout": out, "stderr": out, "close_fds": False}
+        return subprocess.run([str(it) for it in words], **how).returncode == 0
 
 
 def told(crate, is_done, seconds, count, total):
@@ -134,7 +133,7 @@ def told(crate, is_done, seconds, count, total):
     return is_done
 
 
-def prove_all(below, cores):
+def prove_all(below, uses, cores):
     """Proves the libraries, each once those below it are, and returns whether all are proved."""
     total, proved, running, is_fine, chains = len(below), set(), {}, True, chains_above(below)
     waiting = sorted((it for it in below if it != PROGRAM), key=chains.get, reverse=True)
@@ -147,7 +146,7 @@ def prove_all(below, cores):
                 is_first = all(chains[crate] >= chains[it] for it in (*ready, *running.values()))
                 # Rounded up: a crate that ends early leaves no core idle.
                 jobs = cores if is_first else -(-cores // (len(ready) + len(running)))
-                running[pool.submit(prove, crate, below[crate], jobs, is_first)] = crate
+                running[pool.submit(make, crate, below[crate], uses, jobs, is_first)] = crate
             for ended in wait(running, return_when=FIRST_COMPLETED).done:
                 crate = running.pop(ended)
                 is_done, seconds = ended.result()
@@ -157,21 +156,20 @@ def prove_all(below, cores):
 
 
 def main():
-    cores = len(os.sched_getaffinity(0))
-    below = crates_below()
-    start = time.monotonic()
-    # What a run that was broken off had proved stands in the folders that it used.
-    for folder in BUILDING.glob("*"):
-        move_work(folder.name, folder, TOP)
-    shutil.rmtree(BUILDING, ignore_errors=True)
-    BUILDING.mkdir(parents=True)
+    start, cores, uses = time.monotonic(), len(os.sched_getaffinity(0)), uses_of_crates()
+    below = crates_below(uses)
+    if not (KIT / "KIT-ID").is_file():
+        say("it is proved and built first, and that needs the Rattle toolchain: its command rattle is not on the PATH")
+        return 1
+    LIBRARIES.mkdir(parents=True, exist_ok=True)
     say(f"{len(below)} crates are proved and the program is built first, on {cores} cores; this takes some minutes")
-    if not prove_all(below, cores):
+    if not prove_all(below, uses, cores):
         return 1
     say(f"{PROGRAM} begins")
-    if not told(PROGRAM, *build(cores), len(below), len(below)):
+    if not told(PROGRAM, *make(PROGRAM, below[PROGRAM], uses, cores, True), len(below), len(below)):
         return 1
-    shutil.rmtree(BUILDING, ignore_errors=True)
+    # It is newer now than each source, also where no crate of its own had changed.
+    os.utime(made_of(PROGRAM))
     say(f"done in {time.monotonic() - start:.0f} seconds")
     return 0
 

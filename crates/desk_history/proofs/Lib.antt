@@ -13,10 +13,10 @@
 --   company_of_part        Lines, PartCompany
 --   served_alone           Alone
 --   first_answer_stands    Repeated
--- Basics are lemmas on lists and checks that several laws stand on; Vectors are computed cases.
+-- Basics are lemmas on lists and checks that several laws stand on.
 pub mod Basics
 mod OneMessage
-mod Equal
+pub mod Equal
 pub mod Acceptance
 pub mod Sent
 pub mod Traces
@@ -24,4 +24,3 @@ pub mod Accounts
 pub mod Lines
 pub mod Alone
 pub mod Repeated
-mod Vectors

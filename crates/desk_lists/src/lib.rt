@@ -1,5 +1,4 @@
-//! This crate has stores that keep a desk's book in memory: one of lists, and one that refuses a call, to
-//! try what a desk makes of it.
+//! This crate has the store that keeps a desk's book in memory, in lists.
 #![tactic(auto)]
 
 mod balances;
@@ -7,7 +6,6 @@ mod calls;
 mod changes;
 mod cut;
 mod entries;
-mod faulty_store;
 mod intake;
 mod items;
 mod list_store;
@@ -21,5 +19,4 @@ mod trace_index;
 mod waiting;
 mod writes;
 
-pub use faulty_store::FaultyStore;
 pub use list_store::ListStore;

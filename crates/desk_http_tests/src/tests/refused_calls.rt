@@ -4,7 +4,7 @@ use super::samples::{Exchange, new_lists};
 use super::settlements::DAYS;
 use desk_core::Store;
 use desk_http::HttpDesk;
-use desk_lists::FaultyStore;
+use desk_faulty_store::FaultyStore;
 use std::alloc::Global;
 use std::process::Abort;
 

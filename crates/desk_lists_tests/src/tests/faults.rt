@@ -4,7 +4,7 @@ use super::reads::Read;
 use super::samples::new_store;
 use super::steps::{Step, take_all};
 use super::writes::{Write, carry_out};
-use desk_lists::FaultyStore;
+use desk_faulty_store::FaultyStore;
 
 // Which call is refused; which of three calls are answered; the day, and the limits of the company, after
 // them.

@@ -1,7 +1,7 @@
 //! These scripts try the files that cuts make.
 use super::script::{DAY, HOLIDAYS, MILL, MOST_CALLS, PAY_1, PAY_2, follow, holds, new_lists};
 use desk_core::{Desk, Store};
-use desk_lists::FaultyStore;
+use desk_faulty_store::FaultyStore;
 use std::alloc::Global;
 use std::process::Abort;
 

@@ -16,8 +16,8 @@ use Rattle.desk_history.specs.declared.answer.Outcome.TheVariants as done
 use Rattle.desk_history.specs.Part.{Event, DaySet, Asked, CutMade, Returned}
 use Rattle.desk_history.specs.Reply.{reply}
 use Rattle.desk_history.specs.Request.{Submit, Retry, LookUp, Rates}
-use Rattle.desk_history.proofs.Vectors.OnLiterals.{desk_on_literals}
-use Rattle.desk_history.proofs.Vectors.Samples.{pay_1, pay_2, debit, retry, retry_with, no_information, accepted_as, refused, opened, states_under}
+use Rattle.desk_history_tests.proofs.OnLiterals.{desk_on_literals}
+use Rattle.desk_history_tests.proofs.Samples.{pay_1, pay_2, debit, retry, retry_with, no_information, accepted_as, refused, opened, states_under}
 
 -- ---- a debit that came back
 

@@ -21,8 +21,8 @@ use Rattle.desk_history.specs.Message.{Message, Of, SetHolidays, Cut, TakeFile, 
 use Rattle.desk_history.specs.Operator.{answer_to, history_after}
 use Rattle.desk_history.specs.Postings.{postings}
 use Rattle.desk_history.specs.Request as request
-use Rattle.desk_history.proofs.Vectors.OnLiterals.{desk_on_literals}
-use Rattle.desk_history.proofs.Vectors.Samples.{identity, mill, pay_2, debit, no_information, refused, states_under, on, submits, returning, file_as, sample_return, new_desk, answer_after}
+use Rattle.desk_history_tests.proofs.OnLiterals.{desk_on_literals}
+use Rattle.desk_history_tests.proofs.Samples.{identity, mill, pay_2, debit, no_information, refused, states_under, on, submits, returning, file_as, sample_return, new_desk, answer_after}
 
 -- the answer of a file that was first taken on a day: so many changes, late returns, returns and items in suspense
 abbrev taken_on : ℕ → ℕ → ℕ → ℕ → ℕ → Answer

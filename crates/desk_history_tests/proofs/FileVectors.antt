@@ -19,8 +19,8 @@ use Rattle.desk_history.specs.Message.{Cut, FileText, Pair}
 use Rattle.desk_history.specs.Sendings.{Sending, batches}
 use Rattle.desk_history.specs.Files.{runs_of, files_from, new_files, file_places, borrow_of, transaction_of, outgoing}
 use Rattle.desk_history.specs.Operator.{answer_to, history_after}
-use Rattle.desk_history.proofs.Vectors.OnLiterals.{desk_on_literals}
-use Rattle.desk_history.proofs.Vectors.Samples.{identity, mill, bakery, credit, credit_entry, credits, pay_1, pay_2, entry_of, sending_of, on, submits, new_desk, answer_after}
+use Rattle.desk_history_tests.proofs.OnLiterals.{desk_on_literals}
+use Rattle.desk_history_tests.proofs.Samples.{identity, mill, bakery, credit, credit_entry, credits, pay_1, pay_2, entry_of, sending_of, on, submits, new_desk, answer_after}
 
 -- ---- the division into files
 

@@ -1,12 +1,12 @@
 //! A faulty store once does not answer, to try what a desk makes of it.
 ghost use Rattle.std.specs.Prelude.{◌≡◌, ◌↔◌, ◌-◌, IsTrue};
 
-use crate::list_store::ListStore;
 use ach_fields::{Id, Ref, Trace};
 use bank_days::{Calendar, Day};
 use desk_accounts::{Account, Posting};
 use desk_book::{Caller, HeldSubmission, ReturnsAndChanges, Row};
 use desk_history::{Identity, ListOf, SentEntry, SuspenseRow, TakenFile};
+use desk_lists::ListStore;
 use desk_rules::{Company, EntryState, Limits, Retry, RuleDay, SizedSubmission};
 use desk_store::{CutRows, IntakeRows, Store, StoreFault};
 use std::alloc::Global;

@@ -12,8 +12,8 @@ use Rattle.desk_history.specs.declared.answer.Outcome.TheVariants as done
 use Rattle.desk_history.specs.declared.answer.CallRefusal.TheVariants.{BadCalendar}
 use Rattle.desk_history.specs.Message.{Message, SetHolidays}
 use Rattle.desk_history.specs.Operator.{answer_to}
-use Rattle.desk_history.proofs.Vectors.OnLiterals.{desk_on_literals}
-use Rattle.desk_history.proofs.Vectors.Samples.{identity, listed, refused, on, new_desk}
+use Rattle.desk_history_tests.proofs.OnLiterals.{desk_on_literals}
+use Rattle.desk_history_tests.proofs.Samples.{identity, listed, refused, on, new_desk}
 
 -- the day on which most of the histories begin, and the last day that a desk may have
 wednesday : day_of (codes "2025-01-08") ≡ Some 20096

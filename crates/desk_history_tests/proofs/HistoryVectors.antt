@@ -20,8 +20,8 @@ use Rattle.desk_history.specs.Alone.{alone}
 use Rattle.desk_history.specs.Request as request
 use Rattle.desk_history.specs.Request.{Request}
 use Rattle.desk_history.proofs.Equal.{two_worlds}
-use Rattle.desk_history.proofs.Vectors.OnLiterals.{desk_on_literals}
-use Rattle.desk_history.proofs.Vectors.Samples.{identity, mill, bakery, wide_limits, digest, entry_with, debits, credit, pay_1, pay_2, accepted_as, refused, listed, registers, on, submits, no_information, sample_return, first_messages, new_desk, answer_after}
+use Rattle.desk_history_tests.proofs.OnLiterals.{desk_on_literals}
+use Rattle.desk_history_tests.proofs.Samples.{identity, mill, bakery, wide_limits, digest, entry_with, debits, credit, pay_1, pay_2, accepted_as, refused, listed, registers, on, submits, no_information, sample_return, first_messages, new_desk, answer_after}
 
 -- ---- what is told makes a history
 

@@ -16,8 +16,8 @@ use Rattle.desk_history.specs.Files.{cut_sendings, files, file_count, new_files}
 use Rattle.desk_history.specs.History.{day, sent_entries}
 use Rattle.desk_history.specs.Cutting.{cut}
 use Rattle.desk_history.specs.Operator.{history_after, answer_to, cut_answer}
-use Rattle.desk_history.proofs.Vectors.OnLiterals.{desk_on_literals}
-use Rattle.desk_history.proofs.Vectors.Samples.{identity, on, registers, submits, credits, credit_entry, refused}
+use Rattle.desk_history_tests.proofs.OnLiterals.{desk_on_literals}
+use Rattle.desk_history_tests.proofs.Samples.{identity, on, registers, submits, credits, credit_entry, refused}
 
 -- a cut is refused where its files and those of the day before it are more than 36
 more_files_than_modifiers : (odfi : List ℕ) (H : List Pair) (d : ℕ) → day H ≡ Some d

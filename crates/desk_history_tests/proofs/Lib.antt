@@ -1,4 +1,5 @@
--- The outcomes of the definitions on worked cases, computed by the checker.
+-- The answers of the definitions on worked cases, computed by the checker. Each file has the cases of one
+-- concern, over what Samples has and with what OnLiterals unfolds.
 mod Samples
 mod OnLiterals
 mod DayVectors

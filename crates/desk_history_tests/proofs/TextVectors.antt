@@ -11,8 +11,8 @@ use Rattle.bank_days.specs.Day.{day_ymd}
 use Rattle.desk_history.specs.declared.answer.Answer.TheVariants.{Done}
 use Rattle.desk_history.specs.declared.answer.Outcome.TheVariants as done
 use Rattle.desk_history.specs.Message.{Cut, FileText}
-use Rattle.desk_history.proofs.Vectors.OnLiterals.{desk_on_literals}
-use Rattle.desk_history.proofs.Vectors.Samples.{mill, pay_1, pay_2, on, submits, new_desk, answer_after}
+use Rattle.desk_history_tests.proofs.OnLiterals.{desk_on_literals}
+use Rattle.desk_history_tests.proofs.Samples.{mill, pay_1, pay_2, on, submits, new_desk, answer_after}
 
 -- the first records, then as many of nines
 abbrev with_nines : List ℕ → ℕ → List ℕ

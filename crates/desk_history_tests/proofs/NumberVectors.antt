@@ -11,8 +11,8 @@ use Rattle.desk_history.specs.declared.sent_entry.SentEntry.{SentEntry}
 use Rattle.desk_history.specs.Words.{holds_or}
 use Rattle.desk_history.specs.Sendings.{Sending, plan_of, sent_sequence, batches, with_sendings}
 use Rattle.desk_history.specs.Resolve.{named_entry, resolve}
-use Rattle.desk_history.proofs.Vectors.OnLiterals.{desk_on_literals}
-use Rattle.desk_history.proofs.Vectors.Samples.{identity, mill, entry_of, sending_of, returning}
+use Rattle.desk_history_tests.proofs.OnLiterals.{desk_on_literals}
+use Rattle.desk_history_tests.proofs.Samples.{identity, mill, entry_of, sending_of, returning}
 
 -- so many debits of 25.00
 abbrev sending : ℕ → Sending

@@ -7,8 +7,8 @@ use Rattle.desk_history.specs.declared.answer.Outcome.TheVariants as done
 use Rattle.desk_history.specs.History.{sent_entries}
 use Rattle.desk_history.specs.Message.{Message, Cut, Pair}
 use Rattle.desk_history.specs.Operator.{answer_to, history_after}
-use Rattle.desk_history.proofs.Vectors.OnLiterals.{desk_on_literals}
-use Rattle.desk_history.proofs.Vectors.Samples.{identity, mill, pay_1, pay_2, retry, refused, on, submits, retries, sample_return, new_desk, answer_after}
+use Rattle.desk_history_tests.proofs.OnLiterals.{desk_on_literals}
+use Rattle.desk_history_tests.proofs.Samples.{identity, mill, pay_1, pay_2, retry, refused, on, submits, retries, sample_return, new_desk, answer_after}
 
 -- a cut on a day that sent so many entries in these files
 abbrev cut_on : ℕ → ℕ → List ℕ → ℕ → Answer

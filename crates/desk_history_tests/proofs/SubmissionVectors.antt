@@ -11,8 +11,8 @@ use Rattle.desk_history.specs.declared.answer.Outcome.TheVariants as done
 use Rattle.desk_history.specs.Part.{Event, DaySet, Registered, Limited, Asked, CutMade}
 use Rattle.desk_history.specs.Reply.{reply}
 use Rattle.desk_history.specs.Request.{Submit, LookUp, Returns, Exposure}
-use Rattle.desk_history.proofs.Vectors.OnLiterals.{desk_on_literals}
-use Rattle.desk_history.proofs.Vectors.Samples.{wide_limits, digest, credit_entry, credits, credit, debit, pay_1, pay_2, bad_routing, accepted_as, refused, opened}
+use Rattle.desk_history_tests.proofs.OnLiterals.{desk_on_literals}
+use Rattle.desk_history_tests.proofs.Samples.{wide_limits, digest, credit_entry, credits, credit, debit, pay_1, pay_2, bad_routing, accepted_as, refused, opened}
 
 -- ---- accepted, and asked again
 

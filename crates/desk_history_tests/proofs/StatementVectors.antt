@@ -9,8 +9,8 @@ use Rattle.desk_history.specs.Part.{Event, DaySet, Asked, CutMade, Returned}
 use Rattle.desk_history.specs.Reply.{reply}
 use Rattle.desk_history.specs.Reports.{lines}
 use Rattle.desk_history.specs.Request.{Submit, Statement}
-use Rattle.desk_history.proofs.Vectors.OnLiterals.{desk_on_literals}
-use Rattle.desk_history.proofs.Vectors.Samples.{pay_1, pay_2, prenote, credit, debit, no_information, opened, states_under}
+use Rattle.desk_history_tests.proofs.OnLiterals.{desk_on_literals}
+use Rattle.desk_history_tests.proofs.Samples.{pay_1, pay_2, prenote, credit, debit, no_information, opened, states_under}
 
 -- ---- when a cut sends
 
