@@ -1,11 +1,11 @@
 #!/usr/bin/env python3
 """Proves the crates that the desk's program stands on, builds it, and says on standard error how far it is.
 
-Crates that do not stand on each other are proved side by side. The one with the longest chain of crates above
-it comes first: it may use all cores, and the others give way to it. The library that is made of a proved crate
-holds its statements alone, which the crates above read in less time than its proofs. What is proved stays in
-out/ of the program's crate, also where a run is broken off: the next run proves what is left, what changed and
-what stands on that.
+Crates that do not stand on each other are proved side by side. The longer the chain of crates above one, the
+more cores it may use, and the others give way to it. The library that is made of a proved crate holds its
+statements alone, which the crates above read in less time than its proofs. What is proved stays in out/ of the
+program's crate, also where a run is broken off: the next run proves what is left, what changed and what stands
+on that.
 """
 
 import hashlib
@@ -53,19 +53,20 @@ def crates_below(uses):
     return found
 
 
-def chains_above(below):
+def chains_above(below, uses):
     """Returns of each crate how much work the longest chain of crates has that leads from it to the program."""
     chains = {}
     for crate in reversed(below):
         above = (chains[it] for it in chains if crate in below[it])
-        chains[crate] = work_of(crate, below[crate]) + max(above, default=0)
+        chains[crate] = work_of(crate, below[crate], uses) + max(above, default=0)
     return chains
 
 
-def work_of(crate, below):
-    """Returns roughly how much work a crate's proof is: that of a line grows with what the crate stands on."""
+def work_of(crate, below, uses):
+    """Returns roughly how many seconds a crate's proof takes: those of its lines, and of what it loads of the toolchain."""
     lines = sum(it.read_bytes().count(b"\n") for it in (CRATES / crate / "src").rglob("*.rt"))
-    return (100 + lines) * (8 + len(below))
+    loaded = {it for name in (crate, *below) for it in uses[name]} - uses.keys()
+    return lines / 6 + 5 * len(loaded)
 
 
 def sum_of(crate, below, uses):
@@ -99,14 +100,13 @@ def made_of(crate):
     return OUT / PROGRAM if crate == PROGRAM else LIBRARIES / f"{crate}.rlib"
 
 
-def make(crate, below, uses, jobs, is_first):
-    """Returns whether a crate is proved and built, and how many seconds that took. What is not first gives way."""
+def make(crate, below, uses, jobs, rank):
+    """Returns whether a crate is proved and built, and how many seconds that took. It gives way to those of lower rank."""
     start, total = time.monotonic(), sum_of(crate, below, uses)
     proved = LIBRARIES / f"{crate}.sum"
     if not (made_of(crate).exists() and proved.is_file() and proved.read_text() == total):
         proved.unlink(missing_ok=True)
-        way = [] if is_first else ["nice"]
-        is_made = all(run([*way, *it], crate) for it in commands_of(crate, uses, jobs))
+        is_made = all(run(["nice", "-n", 5 * rank, *it], crate) for it in commands_of(crate, uses, jobs))
         # What changed while it was proved is proved again by the next run.
         if is_made and total == sum_of(crate, below, uses):
             proved.write_text(total)
@@ -135,7 +135,7 @@ def told(crate, is_done, seconds, count, total):
 
 def prove_all(below, uses, cores):
     """Proves the libraries, each once those below it are, and returns whether all are proved."""
-    total, proved, running, is_fine, chains = len(below), set(), {}, True, chains_above(below)
+    total, proved, running, is_fine, chains = len(below), set(), {}, True, chains_above(below, uses)
     waiting = sorted((it for it in below if it != PROGRAM), key=chains.get, reverse=True)
     with ThreadPoolExecutor(cores) as pool:
         while running or (waiting and is_fine):
@@ -143,10 +143,11 @@ def prove_all(below, uses, cores):
             for crate in ready:
                 say(f"{crate} begins")
                 waiting.remove(crate)
-                is_first = all(chains[crate] >= chains[it] for it in (*ready, *running.values()))
+                beside = {*ready, *running.values()}
+                rank = sum(chains[crate] < chains[it] for it in beside)
                 # Rounded up: a crate that ends early leaves no core idle.
-                jobs = cores if is_first else -(-cores // (len(ready) + len(running)))
-                running[pool.submit(make, crate, below[crate], uses, jobs, is_first)] = crate
+                jobs = max(cores >> rank, -(-cores // len(beside)))
+                running[pool.submit(make, crate, below[crate], uses, jobs, rank)] = crate
             for ended in wait(running, return_when=FIRST_COMPLETED).done:
                 crate = running.pop(ended)
                 is_done, seconds = ended.result()
@@ -166,7 +167,7 @@ def main():
     if not prove_all(below, uses, cores):
         return 1
     say(f"{PROGRAM} begins")
-    if not told(PROGRAM, *make(PROGRAM, below[PROGRAM], uses, cores, True), len(below), len(below)):
+    if not told(PROGRAM, *make(PROGRAM, below[PROGRAM], uses, cores, 0), len(below), len(below)):
         return 1
     # It is newer now than each source, also where no crate of its own had changed.
     os.utime(made_of(PROGRAM))

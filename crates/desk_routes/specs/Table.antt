@@ -1,5 +1,5 @@
 -- The routes of the desk: one table.
-use Rattle.std.specs.Prelude.{ℕ, ◌+◌, List, [], ◌∷◌, ◌++◌, length, map, codes, Result, Ok, Err}
+use Rattle.std.specs.Prelude.{ℕ, ◌+◌, List, [], ◌∷◌, ◌++◌, length, map, fold, codes, Result, Ok, Err}
 use Rattle.matchit.specs.Rows.{RowsOf, param_token}
 use Rattle.matchit.specs.Order.{placed}
 use Rattle.matchit.specs.Router.{RouteOf, route_from}
@@ -86,7 +86,10 @@ abbrev pub with_read : Result Scan InsertError → Served → RowsOf (RouteOf Se
 with_read (Ok s) served rows = placed (s.pattern, route_from s served) rows
 with_read (Err e) served rows = rows
 
--- its rows with more routes, each by its path and what is served there
-abbrev pub with_routes : List (List ℕ × Served) → RowsOf (RouteOf Served) → RowsOf (RouteOf Served)
-with_routes [] rows = rows
-with_routes ((path, served) ∷ routes) rows = with_routes routes (with_read (parse_route path) served rows)
+-- its rows with one more route, by its path and what is served there
+abbrev pub with_route : RowsOf (RouteOf Served) → List ℕ × Served → RowsOf (RouteOf Served)
+with_route rows route = with_read (parse_route route.0) route.1 rows
+
+-- and with more routes, one after another
+abbrev pub with_routes : RowsOf (RouteOf Served) → List (List ℕ × Served) → RowsOf (RouteOf Served)
+with_routes = fold with_route

@@ -63,7 +63,7 @@ fn place_of(which: Which, damage: Damage, number: usize) -> usize {
     before.saturating_add(from)
 }
 
-fn damaged(
+fn with_damage(
     rt: &(impl Abort + Alloc<A = Global>),
     bytes: &[u8],
     damage: Damage,
@@ -128,7 +128,7 @@ fn count_outcomes(
         if place >= bytes.len() {
             return counts;
         }
-        let image = image.with(rt, which, &damaged(rt, bytes, damage, place));
+        let image = image.with(rt, which, &with_damage(rt, bytes, damage, place));
         let outcome = outcome_of(rt, trial, &image);
         count(&mut counts, outcome, trial.script.messages.len());
     }

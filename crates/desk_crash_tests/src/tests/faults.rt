@@ -1,8 +1,8 @@
 //! What is tried is cut off at each call of a file in turn.
 use super::exchanges::count_answers;
-use super::limits::{Harm, Which, limited};
+use super::limits::{Harm, Which, limits_of};
 use super::scripts::{DAYS, RETRIES};
-use super::tears::{half_written, spoiled};
+use super::tears::{garbage_of, half_of_write};
 use super::trials::{Trial, attempt, is_ahead, migration, new_desk, session_of};
 use super::visits::Visited;
 use std::alloc::Global;
@@ -51,13 +51,13 @@ impl Findings {
 }
 
 // What there is before any call.
-fn untouched(rt: &(impl Abort + Alloc<A = Global>), trial: &Trial) -> Visited {
+fn first_visit(rt: &(impl Abort + Alloc<A = Global>), trial: &Trial) -> Visited {
     Visited {
         told: Vec::new(rt.alloc()),
         fault: None,
         is_closed: false,
-        written: trial.image.copied(rt),
-        synced: trial.image.copied(rt),
+        written: trial.image.copy(rt),
+        synced: trial.image.copy(rt),
         refusals: 0,
     }
 }
@@ -108,8 +108,8 @@ fn look_at_tears(
     if old == new {
         return false;
     }
-    look_at_file(rt, trial, which, last, &half_written(rt, old, new));
-    look_at_file(rt, trial, which, last, &spoiled(rt, old, new));
+    look_at_file(rt, trial, which, last, &half_of_write(rt, old, new));
+    look_at_file(rt, trial, which, last, &garbage_of(rt, old, new));
     true
 }
 
@@ -129,9 +129,9 @@ fn bear(
     harm: Harm,
 ) -> Findings {
     let mut findings = begin(rt, trial);
-    let mut last = untouched(rt, trial);
+    let mut last = first_visit(rt, trial);
     for number in 0..MOST_CALLS {
-        let now = attempt(rt, trial, limited(which, harm, number));
+        let now = attempt(rt, trial, limits_of(which, harm, number));
         look(rt, trial, &last, &now, &mut findings);
         if matches!(harm, Harm::Stops) && look_at_tears(rt, trial, which, &last, &now) {
             findings.torn = findings.torn.saturating_add(1);

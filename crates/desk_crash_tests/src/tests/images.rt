@@ -30,7 +30,7 @@ impl Image {
         self.log == other.log && self.db == other.db
     }
 
-    pub(super) fn copied(&self, rt: &(impl Abort + Alloc<A = Global>)) -> Image {
+    pub(super) fn copy(&self, rt: &(impl Abort + Alloc<A = Global>)) -> Image {
         Image {
             log: copy(rt, &self.log),
             db: copy(rt, &self.db),

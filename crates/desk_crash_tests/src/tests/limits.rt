@@ -48,7 +48,7 @@ pub(super) enum Harm {
 }
 
 /// The limits of a file that bears so many calls, or so many writes, and then not. The other file has none.
-pub(super) fn limited(which: Which, harm: Harm, number: u64) -> Both {
+pub(super) fn limits_of(which: Which, harm: Harm, number: u64) -> Both {
     let mut limits = NO_LIMITS;
     match harm {
         Harm::Stops => limits.calls = number,

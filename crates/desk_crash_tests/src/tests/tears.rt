@@ -18,7 +18,7 @@ fn middle_of_change(old: &[u8], new: &[u8]) -> usize {
 }
 
 /// About half of the bytes that it changes.
-pub(super) fn half_written(
+pub(super) fn half_of_write(
     rt: &(impl Abort + Alloc<A = Global>),
     old: &[u8],
     new: &[u8],
@@ -30,7 +30,7 @@ pub(super) fn half_written(
 }
 
 // The byte where it stays, and neither of the two where the write changes it.
-fn spoiled_byte(old: Option<&u8>, new: u8) -> u8 {
+fn garbage_byte(old: Option<&u8>, new: u8) -> u8 {
     match old {
         Some(old) if *old == new => new,
         Some(old) => (*old & new) ^ 0x5a,
@@ -39,10 +39,10 @@ fn spoiled_byte(old: Option<&u8>, new: u8) -> u8 {
 }
 
 /// Other bytes where it changes any.
-pub(super) fn spoiled(rt: &(impl Abort + Alloc<A = Global>), old: &[u8], new: &[u8]) -> Vec<u8> {
+pub(super) fn garbage_of(rt: &(impl Abort + Alloc<A = Global>), old: &[u8], new: &[u8]) -> Vec<u8> {
     let mut out = copy(rt, new);
     for (at, byte) in out.iter_mut().enumerate() {
-        *byte = spoiled_byte(old.get(at), *byte);
+        *byte = garbage_byte(old.get(at), *byte);
     }
     out
 }

@@ -37,21 +37,21 @@ pub(super) struct Trial {
 }
 
 // What the tasks tell, all of which are done.
-fn told(rt: &(impl Abort + Alloc<A = Global>), image: &Image, tasks: &[Task<'_>]) -> Vec<u8> {
+fn output_of(rt: &(impl Abort + Alloc<A = Global>), image: &Image, tasks: &[Task<'_>]) -> Vec<u8> {
     let seen = free_visit(rt, image, tasks);
     assert!(rt; seen.fault.is_none());
     seen.told
 }
 
 // The files that the tasks leave, all of which are done.
-fn left(rt: &(impl Abort + Alloc<A = Global>), image: &Image, tasks: &[Task<'_>]) -> Image {
+fn image_after(rt: &(impl Abort + Alloc<A = Global>), image: &Image, tasks: &[Task<'_>]) -> Image {
     let seen = free_visit(rt, image, tasks);
     assert!(rt; seen.is_closed);
     seen.written
 }
 
 fn add_tables(rt: &(impl Abort + Alloc<A = Global>), all: &mut Vec<Vec<u8>>, image: &Image) {
-    let tables = told(rt, image, &[Task::Read]);
+    let tables = output_of(rt, image, &[Task::Read]);
     all.push(tables).ok().expect(rt, "memory");
 }
 
@@ -69,11 +69,11 @@ fn course_of(
     messages: &[Exchange],
 ) -> Vec<Vec<u8>> {
     let mut all = Vec::new(rt.alloc());
-    let mut image = image.copied(rt);
+    let mut image = image.copy(rt);
     add_tables(rt, &mut all, &image);
     for message in messages {
         let input = requests(rt, &[*message]);
-        image = left(rt, &image, &[Task::Answer(&input)]);
+        image = image_after(rt, &image, &[Task::Answer(&input)]);
         add_tables(rt, &mut all, &image);
     }
     all
@@ -81,7 +81,7 @@ fn course_of(
 
 /// A new desk answers the messages.
 pub(super) fn session_of(rt: &(impl Abort + Alloc<A = Global>), script: Script) -> Trial {
-    let image = left(rt, &Image::empty(rt), &[Task::Make]);
+    let image = image_after(rt, &Image::empty(rt), &[Task::Make]);
     let tables = course_of(rt, &image, script.messages);
     Trial {
         kind: Kind::Session,
@@ -112,7 +112,7 @@ pub(super) fn migration(rt: &(impl Abort + Alloc<A = Global>)) -> Trial {
     let input = requests(rt, trial.script.messages);
     let tasks = [Task::Answer(&input), Task::Run(TO_FIRST_VERSION)];
     trial.kind = Kind::Migration;
-    trial.image = left(rt, &trial.image, &tasks);
+    trial.image = image_after(rt, &trial.image, &tasks);
     let told = free_visit(rt, &trial.image, &[Task::Check]).fault;
     assert!(rt; told == Some(OpenFault::WrongVersion(1)));
     trial
@@ -143,7 +143,7 @@ fn tables_at(trial: &Trial, count: usize) -> &[u8] {
 
 // What a desk has to tell that did so many of the messages, of which so many were answered: its tables, the
 // answers to the other messages and once more to all that was accepted, and the tables after that.
-fn wanted(
+fn expected_output(
     rt: &(impl Abort + Alloc<A = Global>),
     trial: &Trial,
     answered: usize,
@@ -160,7 +160,7 @@ fn wanted(
 }
 
 // What a desk tells that gets the messages that were not answered, and then once more all that was accepted.
-fn told_after(
+fn output_after(
     rt: &(impl Abort + Alloc<A = Global>),
     trial: &Trial,
     image: &Image,
@@ -168,7 +168,7 @@ fn told_after(
 ) -> Vec<u8> {
     let mut input = requests(rt, trial.script.messages.get(answered..).unwrap_or(&[]));
     add_requests(rt, &mut input, trial.script.accepted);
-    told(rt, image, &[Task::Read, Task::Answer(&input), Task::Read])
+    output_of(rt, image, &[Task::Read, Task::Answer(&input), Task::Read])
 }
 
 /// The files have the tables after the messages that were answered, or after one more. From there on the
@@ -182,11 +182,11 @@ pub(super) fn goes_on(
     image: &Image,
     answered: usize,
 ) -> bool {
-    let found = told_after(rt, trial, image, answered);
-    let is_ahead = found != wanted(rt, trial, answered, answered);
+    let found = output_after(rt, trial, image, answered);
+    let is_ahead = found != expected_output(rt, trial, answered, answered);
     let next = answered.saturating_add(1);
     assert!(rt;
-        !is_ahead || found == wanted(rt, trial, answered, next),
+        !is_ahead || found == expected_output(rt, trial, answered, next),
         "{answered}"
     );
     is_ahead
