@@ -1,5 +1,5 @@
 //! A faulty store once does not answer, to try what a desk makes of it.
-ghost use Rattle.std.specs.Prelude.{◌≡◌, ◌↔◌, ◌-◌, IsTrue};
+ghost use Rattle.std.specs.Prelude.{◌≡◌, ◌↔◌, ◌-◌, Err};
 
 use ach_fields::{Id, Ref, Trace};
 use bank_days::{Calendar, Day};
@@ -36,16 +36,19 @@ impl FaultyStore {
         self.store
     }
 
-    // Counts a call. Is it the one to refuse?
-    fn is_refused(&mut self) -> bool
-        ensures refused { IsTrue result ↔ (self.old.until ≡ 1) }
+    // Counts a call, and refuses the one that is to be refused.
+    fn count_call(&mut self) -> Result<(), StoreFault>
+        ensures refused { (result ≡ Err StoreFault.Unavailable) ↔ (self.old.until ≡ 1) }
         ensures counted { self.new ≡ record self.old { until = self.old.until - 1 } }
     {
         if self.until == 0 {
-            return false;
+            return Ok(());
         }
         self.until -= 1;
-        self.until == 0
+        if self.until == 0 {
+            return Err(StoreFault::Unavailable);
+        }
+        Ok(())
     }
 }
 
@@ -64,37 +67,27 @@ impl Store for FaultyStore {
     ghost is_clean = { λ _. ⊤ };
 
     fn identity(&mut self, alloc: Global) -> Result<Identity, StoreFault> {
-        if self.is_refused() {
-            return Err(StoreFault::Unavailable);
-        }
+        self.count_call()?;
         self.store.identity(alloc)
     }
 
     fn key_of(&mut self, alloc: Global, caller: Caller) -> Result<Option<[u8; 32]>, StoreFault> {
-        if self.is_refused() {
-            return Err(StoreFault::Unavailable);
-        }
+        self.count_call()?;
         self.store.key_of(alloc, caller)
     }
 
     fn day(&mut self, alloc: Global) -> Result<Option<RuleDay>, StoreFault> {
-        if self.is_refused() {
-            return Err(StoreFault::Unavailable);
-        }
+        self.count_call()?;
         self.store.day(alloc)
     }
 
     fn calendar(&mut self, alloc: Global) -> Result<Calendar, StoreFault> {
-        if self.is_refused() {
-            return Err(StoreFault::Unavailable);
-        }
+        self.count_call()?;
         self.store.calendar(alloc)
     }
 
     fn company(&mut self, alloc: Global, id: Id) -> Result<Option<Company>, StoreFault> {
-        if self.is_refused() {
-            return Err(StoreFault::Unavailable);
-        }
+        self.count_call()?;
         self.store.company(alloc, id)
     }
 
@@ -104,16 +97,12 @@ impl Store for FaultyStore {
         company: Id,
         reference: Ref,
     ) -> Result<Option<Row>, StoreFault> {
-        if self.is_refused() {
-            return Err(StoreFault::Unavailable);
-        }
+        self.count_call()?;
         self.store.submission(alloc, company, reference)
     }
 
     fn submission_count(&mut self, alloc: Global, company: Id) -> Result<u64, StoreFault> {
-        if self.is_refused() {
-            return Err(StoreFault::Unavailable);
-        }
+        self.count_call()?;
         self.store.submission_count(alloc, company)
     }
 
@@ -123,9 +112,7 @@ impl Store for FaultyStore {
         company: Id,
         since: Day,
     ) -> Result<Vec<Row>, StoreFault> {
-        if self.is_refused() {
-            return Err(StoreFault::Unavailable);
-        }
+        self.count_call()?;
         self.store.open_rows(alloc, company, since)
     }
 
@@ -136,9 +123,7 @@ impl Store for FaultyStore {
         of: Ref,
         index: u64,
     ) -> Result<Vec<Row>, StoreFault> {
-        if self.is_refused() {
-            return Err(StoreFault::Unavailable);
-        }
+        self.count_call()?;
         self.store.retries_of(alloc, company, of, index)
     }
 
@@ -149,37 +134,27 @@ impl Store for FaultyStore {
         reference: Ref,
         index: u64,
     ) -> Result<Option<EntryState>, StoreFault> {
-        if self.is_refused() {
-            return Err(StoreFault::Unavailable);
-        }
+        self.count_call()?;
         self.store.state_of(alloc, company, reference, index)
     }
 
     fn entries_of(&mut self, alloc: Global, company: Id) -> Result<Vec<Row>, StoreFault> {
-        if self.is_refused() {
-            return Err(StoreFault::Unavailable);
-        }
+        self.count_call()?;
         self.store.entries_of(alloc, company)
     }
 
     fn waiting(&mut self, alloc: Global) -> Result<Vec<HeldSubmission>, StoreFault> {
-        if self.is_refused() {
-            return Err(StoreFault::Unavailable);
-        }
+        self.count_call()?;
         self.store.waiting(alloc)
     }
 
     fn last_sequence(&mut self, alloc: Global) -> Result<u32, StoreFault> {
-        if self.is_refused() {
-            return Err(StoreFault::Unavailable);
-        }
+        self.count_call()?;
         self.store.last_sequence(alloc)
     }
 
     fn sent_count(&mut self, alloc: Global) -> Result<u64, StoreFault> {
-        if self.is_refused() {
-            return Err(StoreFault::Unavailable);
-        }
+        self.count_call()?;
         self.store.sent_count(alloc)
     }
 
@@ -189,37 +164,27 @@ impl Store for FaultyStore {
         from: u32,
         to: u32,
     ) -> Result<Option<Day>, StoreFault> {
-        if self.is_refused() {
-            return Err(StoreFault::Unavailable);
-        }
+        self.count_call()?;
         self.store.latest_settled(alloc, from, to)
     }
 
     fn files_on(&mut self, alloc: Global, day: Day) -> Result<u64, StoreFault> {
-        if self.is_refused() {
-            return Err(StoreFault::Unavailable);
-        }
+        self.count_call()?;
         self.store.files_on(alloc, day)
     }
 
     fn sent_as(&mut self, alloc: Global, trace: Trace) -> Result<Option<SentEntry>, StoreFault> {
-        if self.is_refused() {
-            return Err(StoreFault::Unavailable);
-        }
+        self.count_call()?;
         self.store.sent_as(alloc, trace)
     }
 
     fn items_of(&mut self, alloc: Global, company: Id) -> Result<ReturnsAndChanges, StoreFault> {
-        if self.is_refused() {
-            return Err(StoreFault::Unavailable);
-        }
+        self.count_call()?;
         self.store.items_of(alloc, company)
     }
 
     fn postings_of(&mut self, alloc: Global, account: Account) -> Result<Vec<Posting>, StoreFault> {
-        if self.is_refused() {
-            return Err(StoreFault::Unavailable);
-        }
+        self.count_call()?;
         self.store.postings_of(alloc, account)
     }
 
@@ -228,16 +193,12 @@ impl Store for FaultyStore {
         alloc: Global,
         account: Account,
     ) -> Result<Vec<(Day, i128)>, StoreFault> {
-        if self.is_refused() {
-            return Err(StoreFault::Unavailable);
-        }
+        self.count_call()?;
         self.store.balances_of(alloc, account)
     }
 
     fn suspense(&mut self, alloc: Global) -> Result<Vec<SuspenseRow>, StoreFault> {
-        if self.is_refused() {
-            return Err(StoreFault::Unavailable);
-        }
+        self.count_call()?;
         self.store.suspense(alloc)
     }
 
@@ -247,44 +208,32 @@ impl Store for FaultyStore {
         day: Day,
         modifier: u8,
     ) -> Result<Option<ListOf<u8>>, StoreFault> {
-        if self.is_refused() {
-            return Err(StoreFault::Unavailable);
-        }
+        self.count_call()?;
         self.store.file(alloc, day, modifier)
     }
 
     fn taken(&mut self, alloc: Global, key: [u8; 21]) -> Result<Option<TakenFile>, StoreFault> {
-        if self.is_refused() {
-            return Err(StoreFault::Unavailable);
-        }
+        self.count_call()?;
         self.store.taken(alloc, key)
     }
 
     fn set_day(&mut self, alloc: Global, day: RuleDay) -> Result<(), StoreFault> {
-        if self.is_refused() {
-            return Err(StoreFault::Unavailable);
-        }
+        self.count_call()?;
         self.store.set_day(alloc, day)
     }
 
     fn set_holidays(&mut self, alloc: Global, holidays: Calendar) -> Result<(), StoreFault> {
-        if self.is_refused() {
-            return Err(StoreFault::Unavailable);
-        }
+        self.count_call()?;
         self.store.set_holidays(alloc, holidays)
     }
 
     fn put_company(&mut self, alloc: Global, company: Company) -> Result<(), StoreFault> {
-        if self.is_refused() {
-            return Err(StoreFault::Unavailable);
-        }
+        self.count_call()?;
         self.store.put_company(alloc, company)
     }
 
     fn put_limits(&mut self, alloc: Global, company: Id, limits: Limits) -> Result<(), StoreFault> {
-        if self.is_refused() {
-            return Err(StoreFault::Unavailable);
-        }
+        self.count_call()?;
         self.store.put_limits(alloc, company, limits)
     }
 
@@ -296,24 +245,18 @@ impl Store for FaultyStore {
         content: &SizedSubmission,
         retry: Option<Retry>,
     ) -> Result<(), StoreFault> {
-        if self.is_refused() {
-            return Err(StoreFault::Unavailable);
-        }
+        self.count_call()?;
         self.store
             .add_submission(alloc, company, order, content, retry)
     }
 
     fn commit_cut(&mut self, alloc: Global, cut: &CutRows<'_>) -> Result<(), StoreFault> {
-        if self.is_refused() {
-            return Err(StoreFault::Unavailable);
-        }
+        self.count_call()?;
         self.store.commit_cut(alloc, cut)
     }
 
     fn commit_intake(&mut self, alloc: Global, intake: &IntakeRows<'_>) -> Result<(), StoreFault> {
-        if self.is_refused() {
-            return Err(StoreFault::Unavailable);
-        }
+        self.count_call()?;
         self.store.commit_intake(alloc, intake)
     }
 }

@@ -335,7 +335,7 @@ fn changed_row(rt: &impl Abort, text: &[u8]) -> ChangedRow {
     }
 }
 
-fn changed(rt: &impl Abort) -> FoundItem {
+fn change_item(rt: &impl Abort) -> FoundItem {
     FoundItem {
         item: changed_item(rt),
         named: named_entry(rt),
@@ -352,5 +352,5 @@ fn a_change_is_told(rt: HostRuntime) {
         postings: &returned_pair(&rt, text),
         file: file(&rt, text, 1, 0, 1, 0),
     };
-    expect_plan(&rt, text, &[changed(&rt), coming_back(&rt)], &wanted);
+    expect_plan(&rt, text, &[change_item(&rt), coming_back(&rt)], &wanted);
 }

@@ -33,11 +33,11 @@ fn head(rt: &impl Abort) -> SubmissionHead {
         asked: rule_day(rt, b"2025-01-10"),
         retried: None,
         lapsed: false,
-        settled: Some(settled(rt)),
+        settled: Some(settlement_day(rt)),
     }
 }
 
-fn numbered(rt: &impl Abort, index: u64, name: &[u8]) -> NumberedEntry {
+fn numbered_entry(rt: &impl Abort, index: u64, name: &[u8]) -> NumberedEntry {
     NumberedEntry {
         index,
         entry: Entry {
@@ -55,7 +55,7 @@ fn numbered(rt: &impl Abort, index: u64, name: &[u8]) -> NumberedEntry {
     }
 }
 
-fn settled(rt: &impl Abort) -> RuleDay {
+fn settlement_day(rt: &impl Abort) -> RuleDay {
     rule_day(rt, b"2025-01-13")
 }
 
@@ -75,18 +75,21 @@ fn an_entry_came_back(rt: HostRuntime) -> Result<(), Fail> {
         day: day(&rt, b"2025-01-15"),
         late: false,
     }];
-    let entries = [numbered(&rt, 1, b"ANN LEE"), numbered(&rt, 2, b"BOB RAY")];
+    let entries = [
+        numbered_entry(&rt, 1, b"ANN LEE"),
+        numbered_entry(&rt, 2, b"BOB RAY"),
+    ];
     let row = row_from(rt.alloc(), &head(&rt), &entries, &returns, None)?;
     assert_eq!(rt; row.order, 2);
-    assert_eq!(rt; row.settled, Some(settled(&rt)));
+    assert_eq!(rt; row.settled, Some(settlement_day(&rt)));
     assert!(rt; row.retry.is_none());
     assert_eq!(rt; row.content.submission().entries.as_slice().len(), 2);
     let states = [
         EntryState::Sent {
-            settled: settled(&rt),
+            settled: settlement_day(&rt),
         },
         EntryState::Returned {
-            settled: settled(&rt),
+            settled: settlement_day(&rt),
             code: code(&rt),
             day: day(&rt, b"2025-01-15"),
             late: false,
@@ -105,7 +108,7 @@ fn a_retry_lapsed(rt: HostRuntime) -> Result<(), Fail> {
     });
     head.settled = None;
     head.lapsed = true;
-    let entries = [numbered(&rt, 1, b"ANN LEE")];
+    let entries = [numbered_entry(&rt, 1, b"ANN LEE")];
     let authorized = Some(day(&rt, b"2025-01-09"));
     let row = row_from(rt.alloc(), &head, &entries, &[], authorized)?;
     let retry = Retry {

@@ -39,7 +39,7 @@ const NO_MESSAGE: &str = "no message\r\n\r\n";
 const BAD_HEAD: &str =
     "HTTP/1.1 400 Bad Request\r\nContent-Type: application/json\r\nContent-Length: 19\r\nConnection: close\r\n\r\n{\"error\":\"BadHead\"}";
 
-fn joined(alloc: Global, texts: &[&str]) -> Result<Vec<u8>, AllocError> {
+fn join(alloc: Global, texts: &[&str]) -> Result<Vec<u8>, AllocError> {
     let mut all = Vec::new(alloc);
     for text in texts {
         all.extend_from_slice(text.as_bytes())?;
@@ -54,8 +54,8 @@ fn answers(
     status: Status,
     answers: &[&str],
 ) -> Result<bool, AllocError> {
-    let input = joined(alloc, messages)?;
-    let wanted = joined(alloc, answers)?;
+    let input = join(alloc, messages)?;
+    let wanted = join(alloc, answers)?;
     let mut printed = Vec::new(alloc);
     let ended = answer_messages(alloc, input.as_slice(), &mut printed);
     Ok(ended == status && printed.as_slice() == wanted.as_slice())
@@ -118,7 +118,7 @@ fn the_message_of_a_list_is_taken(rt: HostRuntime) -> Result<(), Fail> {
 
 #[test]
 fn a_fault_of_the_reader_or_the_writer_fails(rt: HostRuntime) -> Result<(), Fail> {
-    let input = joined(rt.alloc(), &[SET_DAY, WRONG_KEY])?;
+    let input = join(rt.alloc(), &[SET_DAY, WRONG_KEY])?;
     let reader = FaultyReader {
         interruptions: 7,
         failure: Some(ErrorKind::ConnectionReset),

@@ -16,7 +16,7 @@ const NOTHING: SubmitOptions<'static> = SubmitOptions {
     day: "",
 };
 
-fn served(port: u16, connections: u32) -> ServeOptions {
+fn serve_options(port: u16, connections: u32) -> ServeOptions {
     ServeOptions { port, connections }
 }
 
@@ -99,15 +99,15 @@ fn commands_of_a_desk(rt: HostRuntime) {
         (&["migrate", "desk.db"], Command::Migrate("desk.db")),
         (
             &["serve", "desk.db", "1"],
-            Command::Serve("desk.db", served(1, 1000)),
+            Command::Serve("desk.db", serve_options(1, 1000)),
         ),
         (
             &["serve", "desk.db", "65535", "--connections", "1"],
-            Command::Serve("desk.db", served(65_535, 1)),
+            Command::Serve("desk.db", serve_options(65_535, 1)),
         ),
         (
             &["serve", "--connections=1000000", "desk.db", "8080"],
-            Command::Serve("desk.db", served(8080, 1_000_000)),
+            Command::Serve("desk.db", serve_options(8080, 1_000_000)),
         ),
         (
             &[

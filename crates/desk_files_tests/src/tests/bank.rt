@@ -123,6 +123,6 @@ pub(super) fn debit(rt: &(impl Abort + Alloc<A = Global>)) -> Call {
     submission(rt, "PAY-2", "debit", entry(rt, "E2", "BOB RAY", 2_500))
 }
 
-pub(super) fn returned(rt: &(impl Abort + Alloc<A = Global>)) -> Call {
+pub(super) fn file_of_returns(rt: &(impl Abort + Alloc<A = Global>)) -> Call {
     Call::TakeFile(bytes(rt, RETURN))
 }

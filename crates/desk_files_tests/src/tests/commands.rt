@@ -1,5 +1,5 @@
 //! The commands of some days: a credit and a debit are sent, and the debit comes back.
-use super::bank::{company, credit, day, debit, holidays, returned};
+use super::bank::{company, credit, day, debit, file_of_returns, holidays};
 use desk_core::{Answer, Call, Desk, Store};
 use std::alloc::Global;
 use std::process::Abort;
@@ -22,7 +22,7 @@ fn command(rt: &(impl Abort + Alloc<A = Global>), number: usize) -> Call {
         6 => day(rt, "2025-01-09"),
         7 => Call::Cut,
         8 => day(rt, "2025-01-14"),
-        _ => returned(rt),
+        _ => file_of_returns(rt),
     }
 }
 

@@ -1,6 +1,6 @@
 //! Files of desks that were damaged are refused.
 use super::bank::identity;
-use super::paths::{FileConnection, clear, fault_of, given, made};
+use super::paths::{FileConnection, clear, fault_of, given, make};
 use sqlite::Error;
 use std::fs;
 use std::test::Fail;
@@ -23,7 +23,7 @@ fn is_opened(rt: &HostRuntime, bytes: &[u8]) -> Result<bool, Fail> {
 #[test]
 fn a_damaged_byte_is_found(rt: HostRuntime) -> Result<(), Fail> {
     clear(&rt, PATH)?;
-    let conn = made(&rt, PATH, identity(&rt))
+    let conn = make(&rt, PATH, identity(&rt))
         .ok()
         .expect(&rt, "a new desk");
     close(given(&rt, conn, 0))?;

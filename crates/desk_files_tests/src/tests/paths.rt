@@ -14,7 +14,7 @@ pub(super) type FileConnection = Connection<FileStore<FileFrom<Wary>>>;
 
 // These have no clause, so that the proof of a test does not carry the state of each call.
 
-pub(super) fn made(
+pub(super) fn make(
     rt: &HostRuntime,
     path: &str,
     identity: Identity,
@@ -37,7 +37,7 @@ pub(super) fn fault_of(rt: &HostRuntime, path: &str) -> Option<OpenFault> {
 }
 
 fn fault_of_create(rt: &HostRuntime, path: &str, identity: Identity) -> Option<OpenFault> {
-    made(rt, path, identity).err()
+    make(rt, path, identity).err()
 }
 
 fn log_of(rt: &HostRuntime, path: &str) -> Result<String, Fail> {
@@ -72,7 +72,7 @@ fn a_desk_stays_in_its_file(rt: HostRuntime) -> Result<(), Fail> {
     clear(&rt, path)?;
     let mut conn = given(
         &rt,
-        made(&rt, path, identity(&rt))
+        make(&rt, path, identity(&rt))
             .ok()
             .expect(&rt, "a new desk"),
         0,

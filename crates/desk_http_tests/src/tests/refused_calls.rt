@@ -3,8 +3,8 @@ use super::exchanges::{UNAVAILABLE, add_request, add_response, http_desk, run};
 use super::samples::{Exchange, new_lists};
 use super::settlements::DAYS;
 use desk_core::Store;
-use desk_http::HttpDesk;
 use desk_faulty_store::FaultyStore;
+use desk_http::HttpDesk;
 use std::alloc::Global;
 use std::process::Abort;
 

@@ -150,7 +150,10 @@ fn has_submission<S: Store>(
 }
 
 // How many submissions are held, and the company of the first.
-fn held<S: Store>(rt: &(impl Abort + Alloc<A = Global>), store: &mut S) -> (usize, Option<Id>) {
+fn held_submissions<S: Store>(
+    rt: &(impl Abort + Alloc<A = Global>),
+    store: &mut S,
+) -> (usize, Option<Id>) {
     let rows = store.waiting(rt.alloc()).ok().expect(rt, "rows");
     let first = match rows.first() {
         Some(first) => Some(first.company.id),
@@ -300,7 +303,7 @@ pub(super) fn finds<S: Store>(
         Read::Submission(name, text, is_there) => {
             has_submission(rt, store, name, text) == is_there
         }
-        Read::Held(count, first) => held(rt, store) == (count, maybe_id(rt, first)),
+        Read::Held(count, first) => held_submissions(rt, store) == (count, maybe_id(rt, first)),
         Read::LastSequence(wanted) => store.last_sequence(alloc) == Ok(wanted),
         Read::SentCount(wanted) => store.sent_count(alloc) == Ok(wanted),
         Read::Settled(from, to, text) => {

@@ -13,7 +13,7 @@ fn batch(conn: &mut Connection<MemStore>, sql: &str) -> Result<(), Error> {
     conn.execute_batch(sql)
 }
 
-fn migrated(alloc: Global, conn: &mut Connection<MemStore>) -> Result<(), OpenFault> {
+fn migrate_desk(alloc: Global, conn: &mut Connection<MemStore>) -> Result<(), OpenFault> {
     migrate(alloc, conn)
 }
 
@@ -41,7 +41,7 @@ fn what_was_sent_is_numbered(rt: HostRuntime) -> Result<(), Fail> {
     let alloc = rt.alloc();
     let mut conn = first_desk(alloc, "")?;
     assert_eq!(rt; check(alloc, &mut conn), Err(OpenFault::WrongVersion(1)));
-    assert_eq!(rt; migrated(alloc, &mut conn), Ok(()));
+    assert_eq!(rt; migrate_desk(alloc, &mut conn), Ok(()));
     assert_eq!(rt; check(alloc, &mut conn), Ok(()));
     let found = first_places(alloc, &mut conn)?;
     assert_eq!(rt; found.as_slice(), [1, 2].as_slice());
@@ -52,8 +52,11 @@ fn what_was_sent_is_numbered(rt: HostRuntime) -> Result<(), Fail> {
 fn a_desk_is_migrated_once(rt: HostRuntime) -> Result<(), Fail> {
     let alloc = rt.alloc();
     let mut conn = first_desk(alloc, "")?;
-    assert_eq!(rt; migrated(alloc, &mut conn), Ok(()));
-    assert_eq!(rt; migrated(alloc, &mut conn), Err(OpenFault::WrongVersion(2)));
+    assert_eq!(rt; migrate_desk(alloc, &mut conn), Ok(()));
+    assert_eq!(rt;
+        migrate_desk(alloc, &mut conn),
+        Err(OpenFault::WrongVersion(2))
+    );
     assert_eq!(rt; check(alloc, &mut conn), Ok(()));
     Ok(())
 }
@@ -70,7 +73,7 @@ fn what_is_no_first_version_is_refused(rt: HostRuntime) -> Result<(), Fail> {
     ];
     for (sql, fault) in &refusals {
         let mut conn = first_desk(rt.alloc(), sql)?;
-        assert_eq!(rt; migrated(rt.alloc(), &mut conn), Err(*fault), "{sql}");
+        assert_eq!(rt; migrate_desk(rt.alloc(), &mut conn), Err(*fault), "{sql}");
     }
     Ok(())
 }
@@ -79,10 +82,10 @@ fn what_is_no_first_version_is_refused(rt: HostRuntime) -> Result<(), Fail> {
 fn what_fails_leaves_the_first_version(rt: HostRuntime) -> Result<(), Fail> {
     let alloc = rt.alloc();
     let mut conn = first_desk(alloc, "UPDATE entries SET seq = 1")?;
-    assert_eq!(rt; migrated(alloc, &mut conn), Err(OpenFault::Unavailable));
+    assert_eq!(rt; migrate_desk(alloc, &mut conn), Err(OpenFault::Unavailable));
     assert_eq!(rt; check(alloc, &mut conn), Err(OpenFault::WrongVersion(1)));
     batch(&mut conn, "UPDATE entries SET seq = NULL")?;
-    assert_eq!(rt; migrated(alloc, &mut conn), Ok(()));
+    assert_eq!(rt; migrate_desk(alloc, &mut conn), Ok(()));
     let found = first_places(alloc, &mut conn)?;
     assert!(rt; found.is_empty());
     Ok(())

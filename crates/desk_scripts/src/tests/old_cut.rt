@@ -17,7 +17,7 @@ fn reference(rt: &impl Abort) -> Ref {
     Ref::new(b"OLD").ok().expect(rt, "a reference")
 }
 
-fn settled(rt: &impl Abort) -> RuleDay {
+fn settlement_day(rt: &impl Abort) -> RuleDay {
     RuleDay::read(b"2025-03-03").expect(rt, "a day")
 }
 
@@ -68,7 +68,7 @@ fn put_submission<S: Store>(rt: &(impl Abort + Alloc<A = Global>), store: &mut S
         sec: SecCode::Ppd,
         direction: Direction::Debit,
         description: short_text(rt, b"OLD"),
-        day: settled(rt),
+        day: settlement_day(rt),
         entries,
     };
     let content = SizedSubmission::new(submission).ok().expect(rt, "a size");
@@ -82,7 +82,7 @@ fn sent_row(rt: &impl Abort) -> SentRow {
     SentRow {
         company: company(rt),
         order: 1,
-        settled: settled(rt),
+        settled: settlement_day(rt),
         printed: FilePlace {
             day: Day::read(b"2025-02-28").expect(rt, "a day"),
             modifier: b'A',
@@ -98,7 +98,7 @@ fn sent_entry(rt: &impl Abort, index: u64, sequence: u32) -> SentEntry {
         reference: reference(rt),
         order: 1,
         index,
-        settled: settled(rt),
+        settled: settlement_day(rt),
         sec: SecCode::Ppd,
         debit: true,
         entry: entry(rt),
