@@ -1,0 +1,5 @@
+mod ClosedFiles
+mod InitLemmas
+mod KeptRunLemmas
+mod OpenFaultLemmas
+mod ServedLemmas

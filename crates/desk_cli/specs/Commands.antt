@@ -8,15 +8,15 @@ use Rattle.desk_command_line.specs.declared.command.LineFault.TheVariants.{Help,
 use Rattle.desk_submit.specs.Options.{texts_of}
 use Rattle.desk_commands.specs.FileChecks.{HasChecked, IsFailedCheck}
 use Rattle.desk_command_line.specs.InitOptions.{init_texts_of}
-use Rattle.desk_file_commands.specs.InitRuns.{HasInitialized, IsFailedInit}
+use Rattle.desk_cli.specs.InitRuns.{HasInitialized, IsFailedInit}
 use Rattle.desk_commands.specs.InputRuns.{HasAnswered, IsFailedRun}
 use Rattle.sqlite_wal.specs.Recovery.{Image}
-use Rattle.desk_file_commands.specs.KeptRuns.{HasAnsweredKept, HasBrokenOffKept}
+use Rattle.desk_cli.specs.KeptRuns.{HasAnsweredKept, HasBrokenOffKept}
 use Rattle.desk_commands.specs.ListRuns.{list_answer}
 use Rattle.desk_commands.specs.MessageRuns.{HasAnsweredMessages, HasBrokenOff}
-use Rattle.desk_file_commands.specs.MigrationRuns.{FailsToMigrateFile, HasMigratedFile}
+use Rattle.desk_cli.specs.MigrationRuns.{FailsToMigrateFile, HasMigratedFile}
 use Rattle.desk_commands.specs.Printing.{unavailable}
-use Rattle.desk_file_commands.specs.ServedFiles.{FailsToServeFile, HasServedFile}
+use Rattle.desk_cli.specs.ServedFiles.{FailsToServeFile, HasServedFile}
 use Rattle.io_retries.specs.Prefixes.{AppendsPrefix}
 use Rattle.desk_commands.specs.SubmissionRuns.{first_run_line}
 use Rattle.desk_commands.specs.declared.status.Status.{Status}

@@ -3,11 +3,14 @@ ghost use Rattle.std.specs.Prelude.{◌≡◌, ◌≢◌};
 ghost use Rattle.sqlite_wal.specs.Files.{image_at};
 ghost use Rattle.desk_cli.specs.Commands.{CarriesOut, FailsToCarryOut, PrintsLineFault, PrintsWithCode, no_files};
 
+use crate::init_desk::make_and_close;
+use crate::kept_session::answer_and_close;
+use crate::migrated_file::migrate_and_close;
+use crate::served_file::serve_and_close;
 use desk_command_line::{Command, LineFault};
 use desk_commands::{
     Status, answer_messages, check_path, first_run, print_unavailable, submit_path, write_line,
 };
-use desk_file_commands::{answer_and_close, make_and_close, migrate_and_close, serve_and_close};
 use desk_files::{Start, Wary};
 use io_retries::Tries;
 use std::io::{Read, Write};

@@ -1,14 +1,24 @@
-//! This crate is the program `achdesk`: which command its words ask for, and the exit status that it ends
-//! with.
+//! This crate is the program `achdesk`: which command its words ask for, how a desk that a file keeps is
+//! made, answers messages, is served on a port and is brought from one version to the next, and the exit
+//! status.
 #![tactic(auto)]
 
 mod dispatch;
+mod init_desk;
+mod kept_session;
+mod migrated_file;
+mod new_desk;
+mod open_fault;
 mod program;
+mod served_file;
 
 pub use desk_command_line::{Command, InitOptions, LineFault, ServeOptions, command_of};
 pub use desk_commands::{
     NoMemory, Status, answer_messages, check_file, first_run, submission_answer, submit_list,
 };
-pub use desk_file_commands::{answer_by_file, make_desk, migrate_by_file, serve_by_file};
 pub use dispatch::{print_line_fault, run, run_from};
+pub use init_desk::{make_and_close, make_desk};
+pub use kept_session::{answer_and_close, answer_by_file};
+pub use migrated_file::{migrate_and_close, migrate_by_file};
 pub use program::{run_program, run_words};
+pub use served_file::{serve_and_close, serve_by_file};

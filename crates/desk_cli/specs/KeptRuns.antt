@@ -1,0 +1,34 @@
+-- A session with the desk that a file keeps.
+use Rattle.std.specs.Prelude.{◌≡◌, ◌⊎◌, ℕ, Bool, List, Option}
+use Rattle.sqlite.specs.Files.{HoldsDatabase}
+use Rattle.sqlite_trees.specs.Tree.{Trees}
+use Rattle.sqlite_trees.specs.View.{doubt}
+use Rattle.sqlite_wal.specs.Recovery.{Image}
+use Rattle.desk_records.specs.Layout.{Keeps}
+use Rattle.desk_http.specs.Answering.{DeskHistory, StandsBehind}
+use Rattle.desk_setup.specs.declared.fault.OpenFault.{OpenFault}
+use Rattle.desk_commands.specs.StoreRuns.{BreaksOffFrom, HasAnsweredFrom}
+use Rattle.desk_commands.specs.declared.status.Status.{Status}
+use Rattle.desk_cli.specs.OpenFaults.{FailsToSayFault, SaysFault}
+
+-- the files kept the book of this history
+abbrev pub IsKeptIn : (held : Image) → DeskHistory → Type 0
+IsKeptIn held h = (db : Trees) × HoldsDatabase held db × StandsBehind (Keeps db) h
+
+-- the file was not opened as a desk, and why was printed
+abbrev pub SaysUnopened : (old new : Option (List ℕ)) → Status → Type 0
+SaysUnopened old new status = (fault : OpenFault) × SaysFault fault old new status
+
+abbrev pub BreaksOffUnopened : (old new : Option (List ℕ)) → Type 0
+BreaksOffUnopened old new = (fault : OpenFault) × FailsToSayFault fault old new
+
+-- ---- of the command, whose store is closed as it ends
+
+-- whether the disk was clean is what the store saw
+abbrev pub HasAnsweredKept : (held : Image) → (input old new : Option (List ℕ)) → Status → Type 0
+HasAnsweredKept held input old new status =
+    ((is_clean : Bool) × HasAnsweredFrom (doubt is_clean ≡ 0) (IsKeptIn held) input old new status) ⊎ SaysUnopened old new status
+
+abbrev pub HasBrokenOffKept : (held : Image) → (input old new : Option (List ℕ)) → Type 0
+HasBrokenOffKept held input old new =
+    ((is_clean : Bool) × BreaksOffFrom (doubt is_clean ≡ 0) (IsKeptIn held) input old new) ⊎ BreaksOffUnopened old new

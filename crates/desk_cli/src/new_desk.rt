@@ -1,0 +1,45 @@
+//! A new desk is made in a file, as the options of `init` say.
+ghost use Rattle.std.specs.Prelude.{◌≡◌, IfErr, IfOk};
+ghost use Rattle.sqlite.specs.Files.{file_state};
+ghost use Rattle.sqlite.specs.State.{HasCleanDisk};
+ghost use Rattle.sqlite_wal.specs.Files.{image_at};
+ghost use Rattle.desk_files.specs.Opened.{IsMadeIn};
+ghost use Rattle.desk_command_line.specs.InitOptions.{init_texts_of};
+ghost use Rattle.desk_cli.specs.NewDesks.{FailsAs, IsMade};
+
+use desk_command_line::InitOptions;
+use desk_commands::{OptionFault, identity_of};
+use desk_files::{FileFrom, FileStore, OpenFault, SqlStore, Start};
+use sha2::{Digest, Sha256};
+
+/// A fault says why there is no new desk.
+#[derive(Clone, Copy, Debug, PartialEq, Eq)]
+pub enum InitFault {
+    /// An option is bad, and no file was looked at.
+    Bad(OptionFault),
+    /// The file is a desk already, or cannot be made one.
+    File(OpenFault),
+}
+
+/// Makes a new desk in the file at a path, or tells the first bad option, or that the file is a desk
+/// already.
+pub fn new_desk<S: Start>(
+    rt: &HostRuntime,
+    path: &str,
+    start: S,
+    options: &InitOptions<'_>,
+) -> Result<SqlStore<FileStore<FileFrom<S>>>, InitFault>
+    ensures made { IfOk result (λ s. IsMade (init_texts_of options.now) (λ identity key. HasCleanDisk (file_state s.conn)
+        → IsMadeIn (image_at S.Start) identity key s.conn)) }
+    ensures fault { IfErr result (FailsAs (init_texts_of options.now)) }
+{
+    let identity = match identity_of(options) {
+        Ok(identity) => identity,
+        Err(fault) => return Err(InitFault::Bad(fault)),
+    };
+    let key = Sha256::digest(options.key.as_bytes());
+    match desk_files::create(rt, path, start, identity, key) {
+        Ok(store) => Ok(store),
+        Err(fault) => Err(InitFault::File(fault)),
+    }
+}

@@ -1,0 +1,39 @@
+//! Why a file is not opened as a desk, as it is printed.
+ghost use Rattle.std.specs.Prelude.{◌≡◌, ◌≢◌, IfOk, IfSome, Some, string_bytes};
+ghost use Rattle.desk_cli.specs.OpenFaults.{fault_text, IsFaultAnswer, SaysFault, FailsToSayFault};
+
+use desk_commands::{Status, end_line, print_answer};
+use desk_files::OpenFault;
+use io_retries::Tries;
+use std::alloc::{AllocError, Global};
+use std::io::Write;
+
+/// Prints why a file is not opened as a desk: `NotADesk`, `WrongVersion 9`, `Exists` or `unavailable`.
+pub fn print_open_fault<W: Write>(alloc: Global, writer: &mut W, fault: OpenFault) -> Status
+    ensures answered { result ≢ Status.Failed →
+        SaysFault fault (W.contents writer.old) (W.contents writer.new) result }
+    ensures failed { result ≡ Status.Failed → FailsToSayFault fault (W.contents writer.old) (W.contents writer.new) }
+{
+    print_answer(writer, &fault_answer(alloc, fault), Tries::new())
+}
+
+// The line of a fault, where it has one and there is memory for it.
+fn fault_answer(alloc: Global, fault: OpenFault) -> Option<(bool, Vec<u8>)>
+    ensures { IfSome result (IsFaultAnswer fault) }
+{
+    match fault_text(alloc, fault) {
+        Some(Ok(text)) => end_line(false, text.into_bytes()),
+        Some(Err(_)) | None => None,
+    }
+}
+
+fn fault_text(alloc: Global, fault: OpenFault) -> Option<Result<String, AllocError>>
+    ensures { IfSome result (λ text. IfOk text (λ text. fault_text fault ≡ Some (string_bytes text))) }
+{
+    match fault {
+        OpenFault::NotADesk => Some(String::from_str(alloc, "NotADesk")),
+        OpenFault::WrongVersion(version) => Some(format!(in alloc; "WrongVersion {version}")),
+        OpenFault::Exists => Some(String::from_str(alloc, "Exists")),
+        OpenFault::Unavailable => None,
+    }
+}

@@ -1,5 +1,0 @@
-pub mod ClosedFiles
-pub mod InitLemmas
-pub mod KeptRunLemmas
-pub mod OpenFaultLemmas
-pub mod ServedLemmas

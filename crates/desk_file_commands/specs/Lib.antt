@@ -1,6 +1,0 @@
-pub mod InitRuns
-pub mod KeptRuns
-pub mod MigrationRuns
-pub mod NewDesks
-pub mod OpenFaults
-pub mod ServedFiles
