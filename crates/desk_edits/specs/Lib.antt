@@ -1,2 +1,10 @@
+pub mod CutTexts
 pub mod HolidayEdits
+pub mod IntakeTexts
+pub mod LineEdits
+pub mod LineTexts
+pub mod Numbering
+pub mod PendingBalances
+pub mod PlaceEdits
+pub mod RowEdits
 pub mod Texts

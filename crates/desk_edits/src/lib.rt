@@ -2,13 +2,22 @@
 //! writes.
 //!
 //! Each statement runs inside a transaction, and makes an edit of the tables: `desk_records` says
-//! which. A body joins the statements of one write, for `sql_transactions::commit`.
+//! which. What it depends on is read inside the transaction too: the last number of a table, the sum
+//! before the first of an account's lines, the submission that a reference names. A body joins the
+//! statements of one write, for `sql_transactions::commit`.
 #![tactic(auto)]
 
+mod account_lines;
+mod cell;
+mod cut;
+mod intake;
+mod numbering;
 mod parameters;
 mod registry;
 mod submissions;
 
-pub use parameters::{cause, optional_reference, reason, switch};
+pub use cell::cell_inside;
+pub use cut::CommitCut;
+pub use intake::CommitIntake;
 pub use registry::{PutCompany, PutLimits, SetDay, SetHolidays};
 pub use submissions::AddSubmission;

@@ -14,7 +14,7 @@ use desk_rules::{AccountKind, Direction};
 use sqlite::types::ValueRef;
 
 /// Gives a flag as a parameter: 1 or 0.
-pub fn switch<'a>(is_set: bool) -> ValueRef<'a>
+pub(crate) fn switch<'a>(is_set: bool) -> ValueRef<'a>
     ensures { bound_value (owned result) ≡ flag is_set }
 {
     if is_set {
@@ -45,7 +45,7 @@ pub(crate) fn direction<'a>(direction: Direction) -> ValueRef<'a>
 }
 
 /// Gives the cause of a line as a parameter.
-pub fn cause<'a>(cause: Cause) -> ValueRef<'a>
+pub(crate) fn cause<'a>(cause: Cause) -> ValueRef<'a>
     ensures { bound_value (owned result) ≡ Text (cause_text cause) }
 {
     match cause {
@@ -55,7 +55,7 @@ pub fn cause<'a>(cause: Cause) -> ValueRef<'a>
 }
 
 /// Gives the reason of an item in suspense as a parameter.
-pub fn reason<'a>(reason: SuspenseReason) -> ValueRef<'a>
+pub(crate) fn reason<'a>(reason: SuspenseReason) -> ValueRef<'a>
     ensures { bound_value (owned result) ≡ Text (reason_text reason) }
 {
     match reason {
@@ -77,7 +77,7 @@ pub(crate) fn optional_text<'a, const N: usize>(text: &'a Option<ShortText<N>>) 
 }
 
 /// Gives a reference as a parameter, NULL where there is none.
-pub fn optional_reference<'a>(reference: &'a Option<Ref>) -> ValueRef<'a>
+pub(crate) fn optional_reference<'a>(reference: &'a Option<Ref>) -> ValueRef<'a>
     ensures { bound_value (owned result) ≡ or_null Text reference.now }
 {
     match reference {

@@ -6,7 +6,7 @@ ghost use Rattle.sql_statements.specs.Queries.{Stays};
 ghost use Rattle.desk_migration.specs.FirstVersion.{first_version};
 ghost use Rattle.desk_migration.specs.Versions.{IsOfVersion};
 
-use desk_line_edits::cell_inside;
+use desk_edits::cell_inside;
 use desk_setup::OpenFault;
 use sqlite::{Alter, Connection, Error};
 

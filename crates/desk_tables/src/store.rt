@@ -11,11 +11,11 @@ use ach_fields::{Id, Ref, Trace};
 use bank_days::{Calendar, Day};
 use desk_accounts::{Account, Posting};
 use desk_book::{Caller, HeldSubmission, ReturnsAndChanges, Row};
-use desk_cut_edits::CommitCut;
 use desk_cut_law::cut_follows;
-use desk_edits::{AddSubmission, PutCompany, PutLimits, SetDay, SetHolidays};
+use desk_edits::{
+    AddSubmission, CommitCut, CommitIntake, PutCompany, PutLimits, SetDay, SetHolidays,
+};
 use desk_history::{Identity, ListOf, SentEntry, SuspenseRow, TakenFile};
-use desk_intake_edits::CommitIntake;
 use desk_read_laws::{files_of_tables, numbers_of_tables, registry_of_tables, rows_of_tables};
 use desk_reads::or_unavailable;
 use desk_rules::{Company, EntryState, Limits, Retry, RuleDay, SizedSubmission};

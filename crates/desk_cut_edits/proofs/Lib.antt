@@ -1,5 +1,0 @@
-mod EntryUpdates
-mod FileInserts
-mod KeyTests
-mod NumberUpserts
-mod SubmissionUpdates

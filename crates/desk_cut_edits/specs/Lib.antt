@@ -1,2 +1,0 @@
-pub mod PlaceEdits
-pub mod Texts

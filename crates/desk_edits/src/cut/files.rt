@@ -1,0 +1,37 @@
+//! A cut keeps its files.
+ghost use Rattle.desk_records.specs.Layout.{desk_layout};
+ghost use Rattle.desk_records.specs.TableEdits.{put_file_edit};
+
+use desk_book::FileRow;
+use desk_queries::{date, natural};
+use sql_statements::{blob, execute};
+use sql_transactions::RowBody;
+use sqlite::{Alter, Error, Transaction};
+
+/// `PutFiles` keeps each file of a list. It fails where the day of a file has one of its modifier
+/// already.
+#[derive(Clone, Copy)]
+pub(crate) struct PutFiles;
+
+impl RowBody for PutFiles {
+    type Row = FileRow;
+
+    ghost layout = { desk_layout };
+
+    ghost edit = { λ _ _ f. put_file_edit f };
+
+    fn run_row<S: Alter>(
+        &self,
+        tx: &mut Transaction<'_, S>,
+        _number: u64,
+        file: &FileRow,
+    ) -> Result<(), Error> {
+        let modifier = natural(u64::from(file.modifier))?;
+        execute(
+            tx,
+            "INSERT INTO files VALUES (?1, ?2, ?3)",
+            &[date(file.day), modifier, blob(file.text.as_slice())],
+        )?;
+        Ok(())
+    }
+}

@@ -1,5 +1,0 @@
-mod ChangeInserts
-mod NamedSubmissions
-mod ReturnInserts
-mod SuspenseInserts
-mod TakenInserts

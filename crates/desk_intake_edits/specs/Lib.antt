@@ -1,2 +1,0 @@
-pub mod RowEdits
-pub mod Texts

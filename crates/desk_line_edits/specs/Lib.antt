@@ -1,4 +1,0 @@
-pub mod LineEdits
-pub mod Numbering
-pub mod PendingBalances
-pub mod Texts
