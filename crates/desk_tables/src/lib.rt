@@ -1,8 +1,8 @@
 //! This crate has the store of a desk over SQL tables.
 //!
 //! A `SqlStore` reads by the queries of `desk_queries` and `desk_reads`, and makes each write in one
-//! transaction of the statements of `desk_edits` and the crates beside it. That the tables say what the
-//! book says stands in the laws of `desk_read_laws`, `desk_write_laws` and `desk_cut_law`.
+//! transaction of the statements of `desk_edits`. That the tables say what the book says stands in the
+//! laws of `desk_read_laws`, `desk_write_laws` and `desk_cut_law`.
 #![tactic(auto)]
 
 mod calendar;
