@@ -47,7 +47,7 @@ pub fn make_desk<S: Start, W: Write>(
 }
 
 /// Makes a new desk in the file at a path, as `make_desk` does, and closes the file.
-pub fn make_and_close<S: Start, W: Write>(
+pub(crate) fn make_and_close<S: Start, W: Write>(
     rt: &HostRuntime,
     path: &str,
     start: S,

@@ -66,7 +66,7 @@ fn answer_by_tables<P: Alter + Drop, R: Read + Drop, W: Write>(
 
 /// Answers the messages of one session by the desk in the file at a path, as `answer_by_file` does, and
 /// closes the file.
-pub fn answer_and_close<S: Start, R: Read + Drop, W: Write>(
+pub(crate) fn answer_and_close<S: Start, R: Read + Drop, W: Write>(
     rt: &HostRuntime,
     path: &str,
     start: S,

@@ -17,8 +17,8 @@ pub use desk_commands::{
     NoMemory, Status, answer_messages, check_file, first_run, submission_answer, submit_list,
 };
 pub use dispatch::{print_line_fault, run, run_from};
-pub use init_desk::{make_and_close, make_desk};
-pub use kept_session::{answer_and_close, answer_by_file};
-pub use migrated_file::{migrate_and_close, migrate_by_file};
+pub use init_desk::make_desk;
+pub use kept_session::answer_by_file;
+pub use migrated_file::migrate_by_file;
 pub use program::{run_program, run_words};
-pub use served_file::{serve_and_close, serve_by_file};
+pub use served_file::serve_by_file;

@@ -41,7 +41,7 @@ pub fn migrate_by_file<S: Start, W: Write>(
 }
 
 /// Migrates the file at a path, as `migrate_by_file` does, and closes it.
-pub fn migrate_and_close<S: Start, W: Write>(
+pub(crate) fn migrate_and_close<S: Start, W: Write>(
     rt: &HostRuntime,
     path: &str,
     start: S,

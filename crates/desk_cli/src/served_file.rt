@@ -70,7 +70,7 @@ fn serve_by_tables<P: Alter + Drop, W: Write>(
 }
 
 /// Serves the desk in the file at a path on a port, as `serve_by_file` does, and closes the file.
-pub fn serve_and_close<S: Start, W: Write>(
+pub(crate) fn serve_and_close<S: Start, W: Write>(
     rt: &HostRuntime,
     path: &str,
     start: S,

@@ -1,10 +1,10 @@
 -- The lemmas, by what is written:
 --   days, companies, limits   Companies, Days, Holidays
---   submissions               NumberedRows, SubmissionRows
 --   lines and balances        BalanceLists, BalanceUpserts, JoinedLines, LineSums, PendingSums, PostingInserts
 --   cuts                      EntryUpdates, FileInserts, KeyTests, NumberUpserts, SubmissionUpdates
 --   incoming files            ChangeInserts, NamedSubmissions, ReturnInserts, SuspenseInserts, TakenInserts
--- Conditions, Keys, OtherTables, Numbered and LastNumbers are lemmas that several stand on.
+-- Conditions, Keys, LastNumbers, Numbered, NumberedRows, OtherTables and SubmissionRows are lemmas on which
+-- several of these stand, and the submissions too.
 mod BalanceLists
 mod BalanceUpserts
 mod ChangeInserts
@@ -16,7 +16,7 @@ mod FileInserts
 mod Holidays
 mod JoinedLines
 mod KeyTests
-pub mod Keys
+mod Keys
 mod LastNumbers
 mod LineSums
 mod NamedSubmissions
@@ -27,7 +27,7 @@ pub mod OtherTables
 mod PendingSums
 mod PostingInserts
 mod ReturnInserts
-pub mod SubmissionRows
+mod SubmissionRows
 mod SubmissionUpdates
 mod SuspenseInserts
 mod TakenInserts
