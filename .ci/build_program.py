@@ -1,11 +1,12 @@
 #!/usr/bin/env python3
 """Proves the crates that the desk's program stands on, builds it, and says on standard error how far it is.
 
-Crates that do not stand on each other are proved side by side. The longer the chain of crates above one, the
-more cores it may use, and the others give way to it. The library that is made of a proved crate holds its
-statements alone, which the crates above read in less time than its proofs. What is proved stays in out/ of the
-program's crate, also where a run is broken off: the next run proves what is left, what changed and what stands
-on that.
+Crates that do not stand on each other are proved side by side, each on one core, since a proof that is divided
+among cores takes half as much again of a processor. The longer the chain of crates above one, the sooner it
+begins; where cores are left over it uses them too, and the others give way to it. The library that is made of a
+proved crate holds its statements alone, which the crates above read in less time than its proofs. What is proved
+stays in out/ of the program's crate, also where a run is broken off: the next run proves what is left, what
+changed and what stands on that.
 """
 
 import hashlib
@@ -93,7 +94,8 @@ def commands_of(crate, uses, jobs):
         return [[*words, "--statements", "-o", made_of(crate)]]
     tools, part = ["--toolchain", KIT / "toolchain"], OUT / f"{PROGRAM}.o"
     link = [KIT / "bin/rattle-link", "--target", "x86_64-unknown-linux-gnu", *tools, "-o", made_of(crate), part]
-    return [[*words, *tools, "--backend", "llvm", "-o", part], [*link, KIT / "c/libos_c.a", KIT / "c/liblibc_c.a"]]
+    # The program is a little slower than by clang, which would take two minutes.
+    return [[*words, *tools, "--backend", "rattle", "-o", part], [*link, KIT / "c/libos_c.a", KIT / "c/liblibc_c.a"]]
 
 
 def made_of(crate):
@@ -145,8 +147,7 @@ def prove_all(below, uses, cores):
                 waiting.remove(crate)
                 beside = {*ready, *running.values()}
                 rank = sum(chains[crate] < chains[it] for it in beside)
-                # Rounded up: a crate that ends early leaves no core idle.
-                jobs = max(cores >> rank, -(-cores // len(beside)))
+                jobs = 1 + cores - len(beside) if rank == 0 else 1
                 running[pool.submit(make, crate, below[crate], uses, jobs, rank)] = crate
             for ended in wait(running, return_when=FIRST_COMPLETED).done:
                 crate = running.pop(ended)
