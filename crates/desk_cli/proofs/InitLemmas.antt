@@ -29,7 +29,7 @@ pub file_is_cut : (t : InitTexts) (why : InitFault) (fault : OpenFault) (old new
     → FailsAs t why → FailsToSayFault fault old new → FailsToSayUncreated t old new
 file_is_cut t why fault old new told fails says = file_is_cut_so t fault old new (subst (FailsAs t) told fails) says
 
--- a store that was made for good options, and what was printed of it; or what was printed of none
+-- a desk that was made for good options, and what was printed of it; or what was printed of none
 pub closed_desk : {S : Type 0} (t : InitTexts) (given : Option S) (P Q : Type 0) (is_desk : S → Identity → (key : List ℕ) → Type 0)
     → IfSome given (λ s. IsMade t (is_desk s)) → MatchOption given P (λ s. Q) → (AreGood t × Q) ⊎ P
 closed_desk t None P Q is_desk made is = inr is

@@ -54,7 +54,7 @@ module _ (clean was_clean : Type 0) (kept stood : DeskHistory → Type 0)
   breaks_off_from input old new (inr broken) =
       inr (broken.0, ran_from (λ h. Unit {0}) input broken.1.0 old new (Err broken.0) broken.1.1)
 
--- a store that was opened on the files stands for each history whose book they kept
+-- a connection that was opened on the files sees the book of each history whose book they kept
 pub kept_stands : {D : Type 0} {g : Ghosts D} (held : Image) (c : Held (FileStore D g)) (h : DeskHistory)
     → IsFoundIn held c → IsKeptIn held h → StandsBehind (Sees (file_state c)) h
 kept_stands held c h found kept = record {

@@ -22,9 +22,9 @@ SaysUnopened old new status = (fault : OpenFault) × SaysFault fault old new sta
 abbrev pub BreaksOffUnopened : (old new : Option (List ℕ)) → Type 0
 BreaksOffUnopened old new = (fault : OpenFault) × FailsToSayFault fault old new
 
--- ---- of the command, whose store is closed as it ends
+-- ---- of the command, whose file is closed as it ends
 
--- whether the disk was clean is what the store saw
+-- whether the disk was clean is what the connection saw
 abbrev pub HasAnsweredKept : (held : Image) → (input old new : Option (List ℕ)) → Status → Type 0
 HasAnsweredKept held input old new status =
     ((is_clean : Bool) × HasAnsweredFrom (doubt is_clean ≡ 0) (IsKeptIn held) input old new status) ⊎ SaysUnopened old new status

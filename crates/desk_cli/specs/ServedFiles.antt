@@ -1,4 +1,4 @@
--- What a command prints that serves the desk in a file on a port, and whose store is closed as it ends.
+-- What a command prints that serves the desk in a file on a port, and whose file is closed as it ends.
 use Rattle.std.specs.Prelude.{◌⊎◌, ℕ, List, Option}
 use Rattle.desk_commands.specs.ServedRuns.{FailsToServe, HasServedConnections}
 use Rattle.desk_commands.specs.declared.status.Status.{Status}

@@ -3,15 +3,15 @@ ghost use Rattle.std.specs.Prelude.{◌≡◌, ◌≢◌};
 ghost use Rattle.sqlite_wal.specs.Files.{image_at};
 ghost use Rattle.desk_cli.specs.Commands.{CarriesOut, FailsToCarryOut, PrintsLineFault, PrintsWithCode, no_files};
 
-use crate::init_desk::make_and_close;
-use crate::kept_session::answer_and_close;
-use crate::migrated_file::migrate_and_close;
-use crate::served_file::serve_and_close;
+use crate::init_desk::make_desk;
+use crate::kept_session::answer_by_file;
+use crate::migrated_file::migrate_by_file;
+use crate::served_file::serve_by_file;
 use desk_command_line::{Command, LineFault};
 use desk_commands::{
     Status, answer_messages, check_path, first_run, print_unavailable, submit_path, write_line,
 };
-use desk_files::{Start, Wary};
+use desk_files::{Connection, FileFrom, FileStore, Start, Wary};
 use io_retries::Tries;
 use std::io::{Read, Write};
 
@@ -46,15 +46,33 @@ pub fn run_from<S: Start, R: Read + Drop, W: Write>(
     ensures failed { result ≡ Status.Failed →
         FailsToCarryOut (image_at S.Start) command.now (R.remaining reader) (W.contents writer.old) (W.contents writer.new) }
 {
+    let (status, _opened) = carry_out(rt, start, command, reader, writer);
+    status
+}
+
+// Carries out a command, and gives the connection to the file that it opened, so that all files are closed
+// in one place: each that is closed takes the prover its time, as the type of such a connection is long.
+fn carry_out<S: Start, R: Read + Drop, W: Write>(
+    rt: &HostRuntime,
+    start: S,
+    command: &Command<'_>,
+    reader: R,
+    writer: &mut W,
+) -> (Status, Option<Connection<FileStore<FileFrom<S>>>>)
+    ensures answered { result.0 ≢ Status.Failed →
+        CarriesOut (image_at S.Start) command.now (R.remaining reader) (W.contents writer.old) (W.contents writer.new) result.0 }
+    ensures failed { result.0 ≡ Status.Failed →
+        FailsToCarryOut (image_at S.Start) command.now (R.remaining reader) (W.contents writer.old) (W.contents writer.new) }
+{
     match *command {
-        Command::AnswerSubmission => first_run(rt.alloc(), reader, writer),
-        Command::Check(path) => check_path(rt, path, writer),
-        Command::Submit(path, options) => submit_path(rt, path, &options, writer),
-        Command::AnswerMessages => answer_messages(rt.alloc(), reader, writer),
-        Command::Init(path, options) => make_and_close(rt, path, start, &options, writer),
-        Command::AnswerByFile(path) => answer_and_close(rt, path, start, reader, writer),
-        Command::Serve(path, options) => serve_and_close(rt, path, start, options, writer),
-        Command::Migrate(path) => migrate_and_close(rt, path, start, writer),
+        Command::AnswerSubmission => (first_run(rt.alloc(), reader, writer), None),
+        Command::Check(path) => (check_path(rt, path, writer), None),
+        Command::Submit(path, options) => (submit_path(rt, path, &options, writer), None),
+        Command::AnswerMessages => (answer_messages(rt.alloc(), reader, writer), None),
+        Command::Init(path, options) => make_desk(rt, path, start, &options, writer),
+        Command::AnswerByFile(path) => answer_by_file(rt, path, start, reader, writer),
+        Command::Serve(path, options) => serve_by_file(rt, path, start, options, writer),
+        Command::Migrate(path) => migrate_by_file(rt, path, start, writer),
     }
 }
 

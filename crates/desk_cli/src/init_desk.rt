@@ -6,20 +6,21 @@ ghost use Rattle.sqlite_wal.specs.Files.{image_at};
 ghost use Rattle.desk_files.specs.Opened.{IsMadeIn};
 ghost use Rattle.desk_command_line.specs.InitOptions.{init_texts_of};
 ghost use Rattle.desk_cli.specs.NewDesks.{IsMade};
-ghost use Rattle.desk_cli.specs.InitRuns.{HasInitialized, IsFailedInit, SaysCreated, SaysUncreated, FailsToSayCreated, FailsToSayUncreated};
+ghost use Rattle.desk_cli.specs.InitRuns.{SaysCreated, SaysUncreated, FailsToSayCreated, FailsToSayUncreated};
 
 use crate::new_desk::{InitFault, new_desk};
 use crate::open_fault::print_open_fault;
 use desk_command_line::InitOptions;
 use desk_commands::{Status, print_line};
-use desk_files::{FileFrom, FileStore, SqlStore, Start};
+use desk_files::{Connection, FileFrom, FileStore, Start};
 use std::io::Write;
 
 /// This line is printed of a new desk.
 const CREATED: &[u8; 8] = b"created\n";
 
-/// Makes a new desk in the file at a path, prints `created`, and gives the store, so that its file may
-/// be closed; or prints the first bad option, as `bad odfi`, or `Exists` where the file is a desk already.
+/// Makes a new desk in the file at a path, prints `created`, and gives the connection, so that the file
+/// may be closed; or prints the first bad option, as `bad odfi`, or `Exists` where the file is a desk
+/// already.
 ///
 /// Where the file cannot be opened or has something else in it, or memory runs out, `unavailable` is
 /// printed.
@@ -29,9 +30,9 @@ pub fn make_desk<S: Start, W: Write>(
     start: S,
     options: &InitOptions<'_>,
     writer: &mut W,
-) -> (Status, Option<SqlStore<FileStore<FileFrom<S>>>>)
-    ensures made { IfSome result.1 (λ s. IsMade (init_texts_of options.now) (λ identity key. HasCleanDisk (file_state s.conn)
-        → IsMadeIn (image_at S.Start) identity key s.conn)) }
+) -> (Status, Option<Connection<FileStore<FileFrom<S>>>>)
+    ensures made { IfSome result.1 (λ c. IsMade (init_texts_of options.now) (λ identity key. HasCleanDisk (file_state c)
+        → IsMadeIn (image_at S.Start) identity key c)) }
     ensures answered { result.0 ≢ Status.Failed → MatchOption result.1
         (SaysUncreated (init_texts_of options.now) (W.contents writer.old) (W.contents writer.new) result.0)
         (λ _. SaysCreated (W.contents writer.old) (W.contents writer.new) result.0) }
@@ -40,26 +41,8 @@ pub fn make_desk<S: Start, W: Write>(
         (λ _. FailsToSayCreated (W.contents writer.old) (W.contents writer.new)) }
 {
     match new_desk(rt, path, start, options) {
-        Ok(store) => (print_line(writer, true, CREATED), Some(store)),
+        Ok(conn) => (print_line(writer, true, CREATED), Some(conn)),
         Err(InitFault::Bad(fault)) => (print_line(writer, false, fault.line()), None),
         Err(InitFault::File(fault)) => (print_open_fault(rt.alloc(), writer, fault), None),
     }
-}
-
-/// Makes a new desk in the file at a path, as `make_desk` does, and closes the file.
-pub(crate) fn make_and_close<S: Start, W: Write>(
-    rt: &HostRuntime,
-    path: &str,
-    start: S,
-    options: &InitOptions<'_>,
-    writer: &mut W,
-) -> Status
-    ensures answered { result ≢ Status.Failed →
-        HasInitialized (init_texts_of options.now) (W.contents writer.old) (W.contents writer.new) result }
-    ensures failed { result ≡ Status.Failed →
-        IsFailedInit (init_texts_of options.now) (W.contents writer.old) (W.contents writer.new) }
-{
-    let (status, store) = make_desk(rt, path, start, options, writer);
-    drop(store);
-    status
 }

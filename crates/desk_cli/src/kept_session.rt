@@ -7,17 +7,18 @@ ghost use Rattle.sqlite_wal.specs.Files.{image_at};
 ghost use Rattle.desk_records.specs.Layout.{Sees};
 ghost use Rattle.desk_http.specs.Answering.{StandsBehind};
 ghost use Rattle.desk_commands.specs.StoreRuns.{BreaksOffFrom, HasAnsweredFrom};
-ghost use Rattle.desk_cli.specs.KeptRuns.{HasAnsweredKept, HasBrokenOffKept, IsKeptIn, BreaksOffUnopened, SaysUnopened};
+ghost use Rattle.desk_cli.specs.KeptRuns.{IsKeptIn, BreaksOffUnopened, SaysUnopened};
 
 use crate::open_fault::print_open_fault;
 use desk_commands::{Status, answer_by_store};
-use desk_files::{FileFrom, FileStore, SqlStore, Start};
-use sqlite::Alter;
+use desk_files::{FileFrom, FileStore, Start};
+use desk_tables::SqlStore;
+use sqlite::{Alter, Connection};
 use std::alloc::Global;
 use std::io::{Read, Write};
 
 /// Answers the messages that a reader's bytes spell, in one session, by the desk in the file at a path,
-/// and gives the store back, where there is one, so that its file may be closed.
+/// and gives the connection, where there is one, so that the file may be closed.
 ///
 /// The command ends as `answer_messages` says. Where the file is not opened as a desk, `NotADesk`,
 /// `WrongVersion 9` or `unavailable` is printed, and there is no session.
@@ -30,18 +31,18 @@ pub fn answer_by_file<S: Start, R: Read + Drop, W: Write>(
     start: S,
     reader: R,
     writer: &mut W,
-) -> (Status, Option<SqlStore<FileStore<FileFrom<S>>>>)
+) -> (Status, Option<Connection<FileStore<FileFrom<S>>>>)
     ensures answered { result.0 ≢ Status.Failed → MatchOption result.1
         (SaysUnopened (W.contents writer.old) (W.contents writer.new) result.0)
-        (λ store. HasAnsweredFrom (HasCleanDisk (file_state store.conn)) (IsKeptIn (image_at S.Start)) (R.remaining reader) (W.contents writer.old) (W.contents writer.new) result.0) }
+        (λ c. HasAnsweredFrom (HasCleanDisk (file_state c)) (IsKeptIn (image_at S.Start)) (R.remaining reader) (W.contents writer.old) (W.contents writer.new) result.0) }
     ensures failed { result.0 ≡ Status.Failed → MatchOption result.1
         (BreaksOffUnopened (W.contents writer.old) (W.contents writer.new))
-        (λ store. BreaksOffFrom (HasCleanDisk (file_state store.conn)) (IsKeptIn (image_at S.Start)) (R.remaining reader) (W.contents writer.old) (W.contents writer.new)) }
+        (λ c. BreaksOffFrom (HasCleanDisk (file_state c)) (IsKeptIn (image_at S.Start)) (R.remaining reader) (W.contents writer.old) (W.contents writer.new)) }
 {
     match desk_files::open(rt, path, start) {
-        Ok(store) => {
-            let (status, store) = answer_by_tables(rt.alloc(), store, reader, writer);
-            (status, Some(store))
+        Ok(conn) => {
+            let (status, conn) = answer_by_tables(rt.alloc(), conn, reader, writer);
+            (status, Some(conn))
         }
         Err(fault) => (print_open_fault(rt.alloc(), writer, fault), None),
     }
@@ -51,34 +52,16 @@ pub fn answer_by_file<S: Start, R: Read + Drop, W: Write>(
 // does not compare the store's calls with those of so long a type.
 fn answer_by_tables<P: Alter + Drop, R: Read + Drop, W: Write>(
     alloc: Global,
-    store: SqlStore<P>,
+    conn: Connection<P>,
     reader: R,
     writer: &mut W,
-) -> (Status, SqlStore<P>)
-    ensures before { HasCleanDisk (state P.Store result.1.conn) → HasCleanDisk (state P.Store store.conn) }
+) -> (Status, Connection<P>)
+    ensures before { HasCleanDisk (state P.Store result.1) → HasCleanDisk (state P.Store conn) }
     ensures answered { result.0 ≢ Status.Failed →
-        HasAnsweredFrom (HasCleanDisk (state P.Store result.1.conn)) (StandsBehind (Sees (state P.Store store.conn))) (R.remaining reader) (W.contents writer.old) (W.contents writer.new) result.0 }
+        HasAnsweredFrom (HasCleanDisk (state P.Store result.1)) (StandsBehind (Sees (state P.Store conn))) (R.remaining reader) (W.contents writer.old) (W.contents writer.new) result.0 }
     ensures failed { result.0 ≡ Status.Failed →
-        BreaksOffFrom (HasCleanDisk (state P.Store result.1.conn)) (StandsBehind (Sees (state P.Store store.conn))) (R.remaining reader) (W.contents writer.old) (W.contents writer.new) }
+        BreaksOffFrom (HasCleanDisk (state P.Store result.1)) (StandsBehind (Sees (state P.Store conn))) (R.remaining reader) (W.contents writer.old) (W.contents writer.new) }
 {
-    answer_by_store(alloc, store, reader, writer)
-}
-
-/// Answers the messages of one session by the desk in the file at a path, as `answer_by_file` does, and
-/// closes the file.
-pub(crate) fn answer_and_close<S: Start, R: Read + Drop, W: Write>(
-    rt: &HostRuntime,
-    path: &str,
-    start: S,
-    reader: R,
-    writer: &mut W,
-) -> Status
-    ensures answered { result ≢ Status.Failed →
-        HasAnsweredKept (image_at S.Start) (R.remaining reader) (W.contents writer.old) (W.contents writer.new) result }
-    ensures failed { result ≡ Status.Failed →
-        HasBrokenOffKept (image_at S.Start) (R.remaining reader) (W.contents writer.old) (W.contents writer.new) }
-{
-    let (status, store) = answer_by_file(rt, path, start, reader, writer);
-    drop(store);
-    status
+    let (status, store) = answer_by_store(alloc, SqlStore::new(conn), reader, writer);
+    (status, store.into_connection())
 }

@@ -4,7 +4,7 @@ ghost use Rattle.sqlite.specs.Files.{file_state};
 ghost use Rattle.sqlite.specs.State.{HasCleanDisk};
 ghost use Rattle.sqlite_wal.specs.Files.{image_at};
 ghost use Rattle.desk_files.specs.Opened.{IsMigratedIn};
-ghost use Rattle.desk_cli.specs.MigrationRuns.{SaysMigrated, SaysUnmigrated, FailsToSayMigrated, FailsToSayUnmigrated, HasMigratedFile, FailsToMigrateFile};
+ghost use Rattle.desk_cli.specs.MigrationRuns.{SaysMigrated, SaysUnmigrated, FailsToSayMigrated, FailsToSayUnmigrated};
 
 use crate::open_fault::print_open_fault;
 use desk_commands::{Status, print_line};
@@ -38,21 +38,4 @@ pub fn migrate_by_file<S: Start, W: Write>(
         Ok(conn) => (print_line(writer, true, MIGRATED), Some(conn)),
         Err(fault) => (print_open_fault(rt.alloc(), writer, fault), None),
     }
-}
-
-/// Migrates the file at a path, as `migrate_by_file` does, and closes it.
-pub(crate) fn migrate_and_close<S: Start, W: Write>(
-    rt: &HostRuntime,
-    path: &str,
-    start: S,
-    writer: &mut W,
-) -> Status
-    ensures answered { result ≢ Status.Failed →
-        HasMigratedFile (W.contents writer.old) (W.contents writer.new) result }
-    ensures failed { result ≡ Status.Failed →
-        FailsToMigrateFile (W.contents writer.old) (W.contents writer.new) }
-{
-    let (status, conn) = migrate_by_file(rt, path, start, writer);
-    drop(conn);
-    status
 }

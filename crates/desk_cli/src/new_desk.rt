@@ -9,7 +9,7 @@ ghost use Rattle.desk_cli.specs.NewDesks.{FailsAs, IsMade};
 
 use desk_command_line::InitOptions;
 use desk_commands::{OptionFault, identity_of};
-use desk_files::{FileFrom, FileStore, OpenFault, SqlStore, Start};
+use desk_files::{Connection, FileFrom, FileStore, OpenFault, Start};
 use sha2::{Digest, Sha256};
 
 /// A fault says why there is no new desk.
@@ -28,9 +28,9 @@ pub fn new_desk<S: Start>(
     path: &str,
     start: S,
     options: &InitOptions<'_>,
-) -> Result<SqlStore<FileStore<FileFrom<S>>>, InitFault>
-    ensures made { IfOk result (λ s. IsMade (init_texts_of options.now) (λ identity key. HasCleanDisk (file_state s.conn)
-        → IsMadeIn (image_at S.Start) identity key s.conn)) }
+) -> Result<Connection<FileStore<FileFrom<S>>>, InitFault>
+    ensures made { IfOk result (λ c. IsMade (init_texts_of options.now) (λ identity key. HasCleanDisk (file_state c)
+        → IsMadeIn (image_at S.Start) identity key c)) }
     ensures fault { IfErr result (FailsAs (init_texts_of options.now)) }
 {
     let identity = match identity_of(options) {
@@ -39,7 +39,7 @@ pub fn new_desk<S: Start>(
     };
     let key = Sha256::digest(options.key.as_bytes());
     match desk_files::create(rt, path, start, identity, key) {
-        Ok(store) => Ok(store),
+        Ok(conn) => Ok(conn),
         Err(fault) => Err(InitFault::File(fault)),
     }
 }

@@ -9,7 +9,7 @@ use Rattle.desk_book.specs.Steps.{CutWrite, commit_cut, IsEntryOf}
 use Rattle.desk_store.specs.Changes.{send_in, lapse_in, in_turn, cut_in}
 use Rattle.desk_store.specs.Rows.{Rows, flat_book}
 use Rattle.desk_store.proofs.FlatCuts.{flat_cut}
-use Rattle.sql_transactions.specs.Edits.{each_edit, each_edit_from}
+use Rattle.sql_statements.specs.Edits.{each_edit, each_edit_from}
 use Rattle.desk_records.specs.TableEdits.{send_edit, lapse_edit, place_edit, put_lines_edit, commit_cut_edit}
 use Rattle.desk_records.specs.Tables.{Tables}
 use Rattle.desk_write_laws.proofs.Each.{AreOf, in_book, rows_in_book, each_made}

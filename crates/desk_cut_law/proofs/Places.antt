@@ -5,7 +5,7 @@ use Rattle.std.specs.List.{AllByRecursion, enumerate_from}
 use Rattle.std.proofs.lemmas.List.Elements.{All-from_recursion, All-append}
 use Rattle.std.proofs.lemmas.List.Quantifiers.{all_pairs_push}
 use Rattle.sqlite_keyed.proofs.ListLemmas.{all-flat_map, all_of, all-map, all_weaker}
-use Rattle.sql_transactions.specs.Edits.{each_edit_from}
+use Rattle.sql_statements.specs.Edits.{each_edit_from}
 use Rattle.ach_fields.specs.Trace.{most_sequence}
 use Rattle.desk_history.specs.declared.sent_entry.SentEntry.{SentEntry}
 use Rattle.desk_rules.specs.declared.bodies.submission.Entry.{Entry}

@@ -1,6 +1,6 @@
 -- A cut's files stand among the others.
 use Rattle.std.proofs.Common.{List, [], ◌∷◌, ◌++◌, refl, subst}
-use Rattle.sql_transactions.specs.Edits.{each_edit}
+use Rattle.sql_statements.specs.Edits.{each_edit}
 use Rattle.desk_book.specs.declared.flat_rows.FileRow.{FileRow}
 use Rattle.desk_store.specs.Rows.{Rows}
 use Rattle.desk_records.specs.KeyOrders.{file_cmp}

@@ -1,6 +1,6 @@
 -- What the edit of a cut makes of the book that the tables hold.
 use Rattle.std.specs.Prelude.{◌≡◌, ℕ, ◌+◌, length}
-use Rattle.sql_transactions.specs.Books.{Follows}
+use Rattle.sql_statements.specs.Books.{Follows}
 use Rattle.desk_book.specs.Steps.{CutWrite, commit_cut}
 use Rattle.desk_records.specs.Layout.{desk_layout, IsBookIn}
 use Rattle.desk_records.specs.TableEdits.{commit_cut_edit}

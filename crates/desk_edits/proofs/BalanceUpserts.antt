@@ -21,10 +21,10 @@ use Rattle.sql_statements.proofs.Casts.{row_kept}
 use Rattle.sql_statements.proofs.Conditions.{int_is, and_true, text_is}
 use Rattle.sql_statements.proofs.KeyOrder.{rises_sorted, rises_updated}
 use Rattle.sql_statements.proofs.Upserts.{upserted, put_or_update}
-use Rattle.sql_transactions.proofs.OneRow.{one_of}
-use Rattle.sql_transactions.specs.Layouts.{Holds}
-use Rattle.desk_schema.specs.Schema.{desk_schema}
-use Rattle.desk_schema.specs.Tables.{balances_table}
+use Rattle.sql_statements.proofs.OneRow.{one_of}
+use Rattle.sql_statements.specs.Layouts.{Holds}
+use Rattle.desk_records.specs.Schema.{desk_schema}
+use Rattle.desk_records.specs.TableDefinitions.{balances_table}
 use Rattle.desk_accounts.specs.Posting.{same_account}
 use Rattle.desk_records.specs.Beside.{is_balance_of}
 use Rattle.desk_records.specs.Columns.{account_text}

@@ -21,9 +21,9 @@ use Rattle.sql_statements.proofs.KeyOrder.{rises_updated}
 use Rattle.sql_statements.proofs.Conditions.{text_is, and_true}
 use Rattle.sql_statements.proofs.FreeKeys.{insert_rules}
 use Rattle.sql_statements.proofs.Inserts.{inserted}
-use Rattle.sql_transactions.specs.Layouts.{Holds}
-use Rattle.desk_schema.specs.Schema.{desk_schema}
-use Rattle.desk_schema.specs.Tables.{companies_table}
+use Rattle.sql_statements.specs.Layouts.{Holds}
+use Rattle.desk_records.specs.Schema.{desk_schema}
+use Rattle.desk_records.specs.TableDefinitions.{companies_table}
 use Rattle.desk_history.specs.Operator.{has_id}
 use Rattle.desk_history.specs.History.{with_limits}
 use Rattle.desk_rules.specs.declared.bodies.company.Company.{Company}

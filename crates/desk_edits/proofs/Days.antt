@@ -18,9 +18,9 @@ use Rattle.sql_statements.proofs.FreeKeys.{insert_rules}
 use Rattle.sql_statements.proofs.Inserts.{inserted}
 use Rattle.sql_statements.specs.Statements.{IsUpdate, IsDelete, IsInsert, number_is as is_number}
 use Rattle.sql_statements.specs.StoredRows.{row_of, Stores}
-use Rattle.sql_transactions.specs.Layouts.{Holds}
-use Rattle.desk_schema.specs.Schema.{desk_schema}
-use Rattle.desk_schema.specs.Tables.{desk_table, holidays_table}
+use Rattle.sql_statements.specs.Layouts.{Holds}
+use Rattle.desk_records.specs.Schema.{desk_schema}
+use Rattle.desk_records.specs.TableDefinitions.{desk_table, holidays_table}
 use Rattle.desk_records.specs.Columns.{number}
 use Rattle.desk_records.specs.Layout.{desk_layout}
 use Rattle.desk_records.specs.RecordRows.{desk_row, holiday_row}

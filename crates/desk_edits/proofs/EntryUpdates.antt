@@ -15,10 +15,10 @@ use Rattle.sql_statements.proofs.Casts.{row_kept}
 use Rattle.sql_statements.proofs.Changes.{updated_counted}
 use Rattle.sql_statements.proofs.Conditions.{text_is, and_true}
 use Rattle.sql_statements.proofs.KeyOrder.{rises_updated}
-use Rattle.sql_transactions.proofs.OneRow.{one_of, one_found, updates_agree}
-use Rattle.sql_transactions.specs.Layouts.{Holds}
-use Rattle.desk_schema.specs.Schema.{desk_schema}
-use Rattle.desk_schema.specs.Tables.{entries_table}
+use Rattle.sql_statements.proofs.OneRow.{one_of, one_found, updates_agree}
+use Rattle.sql_statements.specs.Layouts.{Holds}
+use Rattle.desk_records.specs.Schema.{desk_schema}
+use Rattle.desk_records.specs.TableDefinitions.{entries_table}
 use Rattle.desk_history.specs.declared.sent_entry.SentEntry.{SentEntry}
 use Rattle.desk_records.specs.Columns.{number}
 use Rattle.desk_records.specs.CutTables.{is_entry_row, mark_entry}

@@ -7,7 +7,7 @@ use Rattle.std.specs.Ordering.{nat_cmp, ordering_reverse}
 use Rattle.sqlite_keyed.specs.Lists.{insert_sorted}
 use Rattle.sqlite_keyed.proofs.ListLemmas.{all_weaker}
 use Rattle.sqlite_trees.specs.Tree.{IsAscending}
-use Rattle.sql_transactions.specs.Edits.{each_edit_from}
+use Rattle.sql_statements.specs.Edits.{each_edit_from}
 use Rattle.desk_records.specs.KeyOrders.{IsInOrder}
 use Rattle.desk_records.specs.TableEdits.{set_holidays_edit}
 use Rattle.desk_records.specs.Tables.{Tables}

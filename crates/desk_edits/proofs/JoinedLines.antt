@@ -1,9 +1,9 @@
 -- The rows of lines are written, and then the lines are added to the balances: this makes what each line makes in turn.
 use Rattle.std.proofs.Common.{◌≡◌, ℕ, ◌+◌, List, [], ◌∷◌, refl, sym, ap, ◌∙◌}
 use Rattle.sqlite.specs.State.{State}
-use Rattle.sql_transactions.proofs.Edits.{makes_both}
-use Rattle.sql_transactions.specs.Edits.{each_edit_from}
-use Rattle.sql_transactions.specs.Transactions.{Makes}
+use Rattle.sql_statements.proofs.Edits.{makes_both}
+use Rattle.sql_statements.specs.Edits.{each_edit_from}
+use Rattle.sql_statements.specs.Transactions.{Makes}
 use Rattle.desk_accounts.specs.declared.posting.Posting.{Posting}
 use Rattle.desk_records.specs.Layout.{desk_layout}
 use Rattle.desk_records.specs.TableEdits.{put_line_edit}

@@ -11,11 +11,11 @@ use Rattle.sql_statements.proofs.LastRows.{backwards, last_selected}
 use Rattle.sql_statements.specs.SelectTexts.{IsSelectText}
 use Rattle.sql_statements.specs.Statements.{IsSelect, query_within, falling}
 use Rattle.sql_statements.specs.StoredRows.{row_of}
-use Rattle.sql_transactions.proofs.Edits.{makes_told}
-use Rattle.sql_transactions.proofs.QueriesInside.{first_shown}
-use Rattle.sql_transactions.specs.Edits.{only_tells}
-use Rattle.sql_transactions.specs.Transactions.{Makes}
-use Rattle.desk_schema.specs.Schema.{desk_schema}
+use Rattle.sql_statements.proofs.Edits.{makes_told}
+use Rattle.sql_statements.proofs.QueriesInside.{first_shown}
+use Rattle.sql_statements.specs.Edits.{only_tells}
+use Rattle.sql_statements.specs.Transactions.{Makes}
+use Rattle.desk_records.specs.Schema.{desk_schema}
 use Rattle.desk_records.specs.Columns.{number}
 use Rattle.desk_records.specs.Layout.{desk_layout}
 use Rattle.desk_records.specs.TableEdits.{next_number}

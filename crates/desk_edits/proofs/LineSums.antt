@@ -2,8 +2,8 @@
 use Rattle.std.proofs.Common.{◌≡◌, ℕ, ℤ, true, [], ◌∷◌, Option}
 use Rattle.sqlite.specs.State.{State, Shows}
 use Rattle.sqlite_value.specs.declared.value.Value.TheVariants.{Text}
-use Rattle.sql_transactions.proofs.Edits.{makes_told}
-use Rattle.sql_transactions.specs.Transactions.{Makes}
+use Rattle.sql_statements.proofs.Edits.{makes_told}
+use Rattle.sql_statements.specs.Transactions.{Makes}
 use Rattle.desk_accounts.specs.Balance.{fits_i128}
 use Rattle.desk_accounts.specs.declared.account.Account.{Account}
 use Rattle.desk_records.specs.Columns.{number, account_text, decimal_text}

@@ -6,8 +6,8 @@ use Rattle.sqlite.specs.State.{State, Shown, Shows}
 use Rattle.sqlite_keyed.specs.Lists.{insert_sorted}
 use Rattle.sqlite_value.specs.declared.value.Value.TheVariants.{Text}
 use Rattle.sqlite_value.specs.Order.{Row}
-use Rattle.sql_transactions.proofs.Edits.{makes_told, makes_both}
-use Rattle.sql_transactions.specs.Transactions.{Makes}
+use Rattle.sql_statements.proofs.Edits.{makes_told, makes_both}
+use Rattle.sql_statements.specs.Transactions.{Makes}
 use Rattle.desk_records.specs.Layout.{desk_layout}
 use Rattle.desk_records.specs.QueryRows.{order_and_settlement_row}
 use Rattle.desk_records.specs.Selected.{order_of}

@@ -18,10 +18,10 @@ use Rattle.sql_statements.proofs.Casts.{row_kept}
 use Rattle.sql_statements.proofs.Conditions.{int_is, and_true}
 use Rattle.sql_statements.proofs.KeyOrder.{rises_updated}
 use Rattle.sql_statements.proofs.Upserts.{upserted, put_or_update}
-use Rattle.sql_transactions.proofs.OneRow.{one_of}
-use Rattle.sql_transactions.specs.Layouts.{Holds}
-use Rattle.desk_schema.specs.Schema.{desk_schema}
-use Rattle.desk_schema.specs.Tables.{numbers_table}
+use Rattle.sql_statements.proofs.OneRow.{one_of}
+use Rattle.sql_statements.specs.Layouts.{Holds}
+use Rattle.desk_records.specs.Schema.{desk_schema}
+use Rattle.desk_records.specs.TableDefinitions.{numbers_table}
 use Rattle.desk_records.specs.CutTables.{has_sequence, with_number}
 use Rattle.desk_records.specs.KeyOrders.{number_cmp}
 use Rattle.desk_records.specs.Layout.{desk_layout}

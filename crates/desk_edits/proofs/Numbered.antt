@@ -1,9 +1,9 @@
 -- Rows that are numbered on from the last that a table has.
 use Rattle.std.proofs.Common.{◌≡◌, ℕ, List, ap, sym, subst}
 use Rattle.sqlite.specs.State.{State}
-use Rattle.sql_transactions.proofs.Edits.{makes_both}
-use Rattle.sql_transactions.specs.Edits.{Edit, only_tells, each_edit_from}
-use Rattle.sql_transactions.specs.Transactions.{Makes}
+use Rattle.sql_statements.proofs.Edits.{makes_both}
+use Rattle.sql_statements.specs.Edits.{Edit, only_tells, each_edit_from}
+use Rattle.sql_statements.specs.Transactions.{Makes}
 use Rattle.desk_records.specs.Layout.{desk_layout}
 use Rattle.desk_records.specs.TableEdits.{each_edit_on}
 use Rattle.desk_records.specs.Tables.{Tables}

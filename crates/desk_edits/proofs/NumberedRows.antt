@@ -13,7 +13,7 @@ use Rattle.sqlite_trees.specs.Tree.{Trees, rowid}
 use Rattle.sqlite_value.specs.Keys.{first_key, plain}
 use Rattle.sqlite_value.specs.Order.{Row}
 use Rattle.sql_statements.specs.StoredRows.{row_of, Stores}
-use Rattle.desk_schema.specs.Schema.{desk_schema}
+use Rattle.desk_records.specs.Schema.{desk_schema}
 use Rattle.desk_records.specs.Columns.{number}
 use Rattle.desk_records.specs.KeyOrders.{IsInOrder}
 use Rattle.desk_records.specs.Tables.{IsTableOf}

@@ -8,8 +8,8 @@ use Rattle.std.proofs.lemmas.List.Folds.{find_at, find-set, find_past, find-appe
 use Rattle.std.proofs.lemmas.List.Sums.{passes_at_first, fold-append}
 use Rattle.std.proofs.lemmas.Option.{slice_get-get_or, slice_get_past}
 use Rattle.sqlite.specs.State.{State}
-use Rattle.sql_transactions.specs.Layouts.{Holds}
-use Rattle.sql_transactions.specs.Transactions.{Makes}
+use Rattle.sql_statements.specs.Layouts.{Holds}
+use Rattle.sql_statements.specs.Transactions.{Makes}
 use Rattle.desk_accounts.specs.Posting.{same_account}
 use Rattle.desk_accounts.specs.declared.account.Account.{Account}
 use Rattle.desk_accounts.specs.declared.posting.Posting.{Posting}

@@ -10,9 +10,9 @@ use Rattle.sql_statements.specs.Statements.{IsInsert}
 use Rattle.sql_statements.proofs.Casts.{row_kept, are_kept}
 use Rattle.sql_statements.proofs.FreeKeys.{insert_rules}
 use Rattle.sql_statements.proofs.Inserts.{inserted}
-use Rattle.sql_transactions.specs.Layouts.{Holds}
-use Rattle.desk_schema.specs.Schema.{desk_schema}
-use Rattle.desk_schema.specs.Tables.{postings_table}
+use Rattle.sql_statements.specs.Layouts.{Holds}
+use Rattle.desk_records.specs.Schema.{desk_schema}
+use Rattle.desk_records.specs.TableDefinitions.{postings_table}
 use Rattle.desk_records.specs.Layout.{desk_layout}
 use Rattle.desk_records.specs.RecordRows.{posting_row}
 use Rattle.desk_records.specs.Tables.{Tables}

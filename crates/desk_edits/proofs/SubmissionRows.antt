@@ -17,13 +17,13 @@ use Rattle.sql_statements.proofs.FreeKeys.{insert_rules}
 use Rattle.sql_statements.proofs.Inserts.{inserted}
 use Rattle.sql_statements.specs.Statements.{IsInsert}
 use Rattle.sql_statements.specs.StoredRows.{row_of}
-use Rattle.sql_transactions.specs.Layouts.{Holds}
-use Rattle.desk_schema.specs.Schema.{desk_schema}
+use Rattle.sql_statements.specs.Layouts.{Holds}
+use Rattle.desk_records.specs.Schema.{desk_schema}
 use Rattle.desk_records.specs.Layout.{desk_layout}
 use Rattle.desk_records.specs.Tables.{Tables}
 use Rattle.desk_edits.proofs.Conditions.{text_itself, number_itself, equal_numbers, equal_both, taken_first, taken_second}
 use Rattle.desk_edits.proofs.Keys.{find_none, key_free, put_in_order, key_text, key_number}
-use Rattle.desk_schema.specs.Tables.{submissions_table, entries_table, authorizations_table}
+use Rattle.desk_records.specs.TableDefinitions.{submissions_table, entries_table, authorizations_table}
 use Rattle.sqlite.specs.Values.{or_null}
 use Rattle.sqlite.specs.Kind.TheVariants as kind
 use Rattle.sql_statements.proofs.Casts.{is_kept}

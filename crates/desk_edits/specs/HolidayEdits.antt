@@ -2,7 +2,7 @@
 use Rattle.std.specs.Prelude.{⊤, ℕ, []}
 use Rattle.std.specs.Ordering.{nat_cmp}
 use Rattle.sqlite_keyed.specs.Lists.{insert_sorted}
-use Rattle.sql_transactions.specs.Edits.{Edit}
+use Rattle.sql_statements.specs.Edits.{Edit}
 use Rattle.desk_records.specs.Tables.{Tables}
 
 -- DELETE FROM holidays

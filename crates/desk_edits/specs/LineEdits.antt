@@ -2,7 +2,7 @@
 use Rattle.std.specs.Prelude.{◌≡◌, ⊤, ℕ, ℤ, pos, ◌+ℤ◌, List, fold, Option, unwrap_or}
 use Rattle.std.specs.Ordering.{nat_cmp, on}
 use Rattle.sqlite_keyed.specs.Lists.{insert_sorted}
-use Rattle.sql_transactions.specs.Edits.{Edit, only_tells}
+use Rattle.sql_statements.specs.Edits.{Edit, only_tells}
 use Rattle.desk_accounts.specs.declared.account.Account.{Account}
 use Rattle.desk_accounts.specs.declared.posting.Posting.{Posting}
 use Rattle.desk_records.specs.Beside.{balance_of}

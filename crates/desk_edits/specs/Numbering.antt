@@ -1,6 +1,6 @@
 -- The tables whose rows are numbered from 1 on, in the order in which they came.
 use Rattle.std.specs.Prelude.{◌≡◌, ℕ}
-use Rattle.sql_transactions.specs.Edits.{Edit, only_tells}
+use Rattle.sql_statements.specs.Edits.{Edit, only_tells}
 use Rattle.desk_records.specs.TableEdits.{next_number}
 use Rattle.desk_records.specs.Tables.{Tables}
 use Rattle.desk_edits.specs.declared.numbering.NumberedTable.{NumberedTable}

@@ -2,7 +2,7 @@
 use Rattle.std.specs.Prelude.{◌≡◌, true, IsTrue, ℕ, ℤ, Bool, ◌&&◌, ◌==◌, List, find, Option, option_map}
 use Rattle.std.specs.Option.{option_or}
 use Rattle.sqlite.specs.State.{State, Shows}
-use Rattle.sql_transactions.specs.Layouts.{Holds}
+use Rattle.sql_statements.specs.Layouts.{Holds}
 use Rattle.desk_accounts.specs.declared.account.Account.{Account}
 use Rattle.desk_accounts.specs.declared.posting.Posting.{Posting}
 use Rattle.desk_accounts.specs.Posting.{same_account}

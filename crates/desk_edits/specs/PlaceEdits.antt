@@ -1,6 +1,6 @@
 -- What the two statements that give an entry its place make of the tables.
 use Rattle.std.specs.Prelude.{⊤, ℕ}
-use Rattle.sql_transactions.specs.Edits.{Edit}
+use Rattle.sql_statements.specs.Edits.{Edit}
 use Rattle.desk_history.specs.declared.sent_entry.SentEntry.{SentEntry}
 use Rattle.desk_records.specs.CutTables.{mark_entry, with_number}
 use Rattle.desk_records.specs.TableEdits.{IsUnsent}

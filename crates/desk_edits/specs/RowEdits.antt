@@ -2,7 +2,7 @@
 use Rattle.std.specs.Prelude.{◌≡◌, ⊤, ℕ, List, find, Some, None}
 use Rattle.std.specs.Ordering.{nat_cmp, on}
 use Rattle.sqlite_keyed.specs.Lists.{insert_sorted}
-use Rattle.sql_transactions.specs.Edits.{Edit, only_tells}
+use Rattle.sql_statements.specs.Edits.{Edit, only_tells}
 use Rattle.desk_records.specs.TableReads.{order_in, is_return_at}
 use Rattle.desk_records.specs.Tables.{Tables}
 use Rattle.desk_records.specs.declared.records.ChangeRecord.{ChangeRecord}

@@ -8,7 +8,7 @@ ghost use Rattle.desk_records.specs.Ranges.{FitsIfAny};
 ghost use Rattle.desk_queries.specs.Shows.{ReadsFirst};
 
 use desk_records::{FromColumn, read_only_column};
-use sql_transactions::query_first_inside;
+use sql_statements::query_first_inside;
 use sqlite::types::ValueRef;
 use sqlite::{Alter, Error, Transaction};
 

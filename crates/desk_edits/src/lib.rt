@@ -4,7 +4,7 @@
 //! Each statement runs inside a transaction, and makes an edit of the tables: `desk_records` says
 //! which. What it depends on is read inside the transaction too: the last number of a table, the sum
 //! before the first of an account's lines, the submission that a reference names. A body joins the
-//! statements of one write, for `sql_transactions::commit`.
+//! statements of one write, for `sql_statements::commit`.
 #![tactic(auto)]
 
 mod account_lines;

@@ -2,7 +2,7 @@
 ghost use Rattle.std.specs.Prelude.{◌≡◌, OnOk};
 ghost use Rattle.sqlite.specs.Held.{state};
 ghost use Rattle.sqlite.specs.State.{HasCleanDisk, Survives, KeepsCommit};
-ghost use Rattle.sql_transactions.specs.Transactions.{Makes};
+ghost use Rattle.sql_statements.specs.Transactions.{Makes};
 ghost use Rattle.desk_records.specs.Layout.{desk_layout};
 ghost use Rattle.desk_records.specs.TableEdits.{set_day_edit, set_holidays_edit, put_company_edit, put_limits_edit};
 ghost use Rattle.desk_edits.specs.HolidayEdits.{clear_holidays_edit, put_holiday_edit};
@@ -11,8 +11,7 @@ use ach_fields::Id;
 use bank_days::{Calendar, Day};
 use desk_queries::{characters, date, natural};
 use desk_rules::{Company, Limits, RuleDay};
-use sql_statements::{blob, execute};
-use sql_transactions::{RowBody, TransactionBody, run_each};
+use sql_statements::{RowBody, TransactionBody, blob, execute, run_each};
 use sqlite::{Alter, Error, Transaction};
 
 /// `SetDay` sets the desk day.

@@ -2,7 +2,7 @@
 ghost use Rattle.std.specs.Prelude.{◌≡◌, Some, IfOk, IsTrue, OnOk, option_map, option_and_then};
 ghost use Rattle.sqlite.specs.Held.{state};
 ghost use Rattle.sqlite.specs.State.{HasCleanDisk, Survives, KeepsCommit};
-ghost use Rattle.sql_transactions.specs.Transactions.{Makes};
+ghost use Rattle.sql_statements.specs.Transactions.{Makes};
 ghost use Rattle.sqlite.specs.Values.{bound_value, or_null};
 ghost use Rattle.sqlite_value.specs.Value.{owned};
 ghost use Rattle.sqlite_value.specs.declared.value.Value.TheVariants.{Text};
@@ -16,8 +16,7 @@ use ach_fields::{Id, Ref};
 use bank_days::Day;
 use desk_queries::{characters, date, natural};
 use desk_rules::{Entry, Retry, RuleDay, SizedSubmission, Submission};
-use sql_statements::execute;
-use sql_transactions::{RowBody, TransactionBody, run_each};
+use sql_statements::{RowBody, TransactionBody, execute, run_each};
 use sqlite::types::ValueRef;
 use sqlite::{Alter, Error, Transaction};
 

@@ -1,1 +1,12 @@
+mod AddedTables
+mod FirstSchemas
+mod KeptBooks
+mod KeptSchemas
+mod MigrationMade
+mod NewTables
+mod NumberInserts
 mod Openings
+mod OwnNumbers
+mod SecondTables
+mod SentPlaces
+mod VersionFound

@@ -1,4 +1,4 @@
--- A store whose connection is clean was opened on clean files, so what they held is known.
+-- A connection that is clean was opened on clean files, so what they held is known.
 use Rattle.std.proofs.Common.{◌≡◌, ◌≢◌, ◌∙◌, ℕ, zero, suc, List, [], ◌∷◌, Result, Ok, Err, IfOk, inl, refl, sym, ap, subst, arith}
 use Rattle.sqlite_disk.specs.declared.Disk.{Ghosts}
 use Rattle.sqlite_wal.specs.Recovery.{Image}
@@ -12,14 +12,14 @@ use Rattle.sqlite.specs.State.{HasCleanDisk}
 use Rattle.sql_statements.specs.StoredRows.{Stores}
 use Rattle.desk_book.specs.Book.{Book}
 use Rattle.desk_history.specs.declared.identity.Identity.{Identity}
-use Rattle.desk_schema.specs.Tables.{desk_table}
+use Rattle.desk_records.specs.TableDefinitions.{desk_table}
 use Rattle.desk_records.specs.Layout.{Keeps}
 use Rattle.desk_records.specs.declared.records.DeskRecord.{DeskRecord}
 use Rattle.desk_setup.specs.Checked.{IsDesk}
 use Rattle.desk_setup.specs.Setup.{HasNewDesk}
-use Rattle.desk_migration.specs.FirstVersion.{first_version, first_schema, versioned_row, KeepsFirst}
-use Rattle.desk_migration.specs.Migration.{HasMigrated}
-use Rattle.desk_migration.specs.Versions.{IsOfVersion}
+use Rattle.desk_files.specs.FirstVersion.{first_version, first_schema, versioned_row, KeepsFirst}
+use Rattle.desk_files.specs.Migration.{HasMigrated}
+use Rattle.desk_files.specs.Versions.{IsOfVersion}
 use Rattle.desk_files.specs.Opened.{IsFoundIn, IsMadeIn, IsMigratedIn, IsOpenedOn}
 
 -- a number that is no other than 1
@@ -42,9 +42,9 @@ module _ {D : Type 0} {g : Ghosts D} (held : Image) (was : Held (FileStore D g))
     row = subst (λ (trees : Trees). Stores (versioned_row n) (trees desk_table.tree) (row ∷ [])) (sym (ap (λ (d : Database). d.trees) early.opened.0.clean ∙ early.found.holds db is_held)) stored;
   }
 
-  pub migrated_in : (now : Held (FileStore D g)) → HasCleanDisk (file_state was) → HasMigrated (file_state was) (file_state now)
+  migrated_in_so : (now : Held (FileStore D g)) → HasCleanDisk (file_state was) → HasMigrated (file_state was) (file_state now)
       → ((n : ℕ) → IsOfVersion (file_state was).now n → n ≢ first_version → ⊥) → IsMigratedIn held now
-  migrated_in now before desk other =
+  migrated_in_so now before desk other =
       let early = opened_on before in
       let first = λ (db : Trees) (b : Book) (is_held : HoldsDatabase held db) (keeps : KeepsFirst db b). subst (λ (trees : Trees). KeepsFirst trees b) (sym (early.found.holds db is_held)) keeps in
       record {
@@ -56,19 +56,20 @@ module _ {D : Type 0} {g : Ghosts D} (held : Image) (was : Held (FileStore D g))
         keeps = λ db b is_held keeps. desk.keeps b (first db b is_held keeps);
       }
 
-  module _ {S E : Type 0} (conn : S → Held (FileStore D g)) where
-    pub made_in : (identity : Identity) (operator_key : List ℕ) (r : Result S E)
-        → IfOk r (λ s. HasCleanDisk (file_state (conn s)) → HasCleanDisk (file_state was))
-        → IfOk r (λ s. HasCleanDisk (file_state (conn s)) → HasNewDesk identity operator_key (file_state was) (file_state (conn s)))
-        → IfOk r (λ s. HasCleanDisk (file_state (conn s)) → IsMadeIn held identity operator_key (conn s))
-    made_in identity operator_key (Ok s) before desk = λ clean. record { was = was; opened = opened_on (before clean); desk = desk clean }
+  module _ {E : Type 0} where
+    -- what is so of any connection that a call gave
+    abbrev Gives : (r : Result (Held (FileStore D g)) E) → (Held (FileStore D g) → Type 0) → Type 0
+    Gives r is = IfOk r (λ now. HasCleanDisk (file_state now) → is now)
+
+    pub made_in : (identity : Identity) (operator_key : List ℕ) (r : Result (Held (FileStore D g)) E)
+        → Gives r (λ now. HasCleanDisk (file_state was)) → Gives r (λ now. HasNewDesk identity operator_key (file_state was) (file_state now))
+        → Gives r (IsMadeIn held identity operator_key)
+    made_in identity operator_key (Ok now) before desk = λ clean. record { was = was; opened = opened_on (before clean); desk = desk clean }
     made_in identity operator_key (Err fault) before desk = tt
 
-    pub found_in : (r : Result S E)
-        → IfOk r (λ s. HasCleanDisk (file_state (conn s)) → HasCleanDisk (file_state was))
-        → IfOk r (λ s. HasCleanDisk (file_state (conn s)) → IsDesk (file_state was) (file_state (conn s)))
-        → IfOk r (λ s. HasCleanDisk (file_state (conn s)) → IsFoundIn held (conn s))
-    found_in (Ok s) before desk = λ clean.
+    pub found_in : (r : Result (Held (FileStore D g)) E)
+        → Gives r (λ now. HasCleanDisk (file_state was)) → Gives r (λ now. IsDesk (file_state was) (file_state now)) → Gives r (IsFoundIn held)
+    found_in (Ok now) before desk = λ clean.
         let early = opened_on (before clean) in
         record {
           was = was;
@@ -77,3 +78,9 @@ module _ {D : Type 0} {g : Ghosts D} (held : Image) (was : Held (FileStore D g))
           sees = λ db b is_held keeps. (desk clean).sees b (subst (λ (trees : Trees). Keeps trees b) (sym (early.found.holds db is_held)) keeps);
         }
     found_in (Err fault) before desk = tt
+
+    pub migrated_in : (r : Result (Held (FileStore D g)) E)
+        → Gives r (λ now. HasCleanDisk (file_state was)) → Gives r (λ now. HasMigrated (file_state was) (file_state now))
+        → Gives r (λ now. (n : ℕ) → IsOfVersion (file_state was).now n → n ≢ first_version → ⊥) → Gives r (IsMigratedIn held)
+    migrated_in (Ok now) before desk first = λ clean. migrated_in_so now (before clean) (desk clean) (first clean)
+    migrated_in (Err fault) before desk first = tt

@@ -1,1 +1,6 @@
+pub mod FirstVersion
+pub mod Migrated
+pub mod Migration
+pub mod MigrationTexts
 pub mod Opened
+pub mod Versions

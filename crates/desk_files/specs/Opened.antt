@@ -1,4 +1,4 @@
--- What a store is, or a connection, that was opened on files.
+-- What a connection is that was opened on files.
 use Rattle.std.specs.Prelude.{◌≡◌, ℕ, List, [], ◌∷◌}
 use Rattle.sqlite_disk.specs.declared.Disk.{Ghosts}
 use Rattle.sqlite_wal.specs.Recovery.{Image}
@@ -10,13 +10,13 @@ use Rattle.sqlite.specs.Start.{FindsIn}
 use Rattle.sql_statements.specs.StoredRows.{Stores}
 use Rattle.desk_book.specs.Book.{Book}
 use Rattle.desk_history.specs.declared.identity.Identity.{Identity}
-use Rattle.desk_schema.specs.Tables.{desk_table}
+use Rattle.desk_records.specs.TableDefinitions.{desk_table}
 use Rattle.desk_records.specs.Layout.{Keeps, Sees}
 use Rattle.desk_records.specs.declared.records.DeskRecord.{DeskRecord}
 use Rattle.desk_setup.specs.Checked.{IsDesk}
 use Rattle.desk_setup.specs.Setup.{HasNewDesk}
-use Rattle.desk_migration.specs.FirstVersion.{first_version, versioned_row, KeepsFirst}
-use Rattle.desk_migration.specs.Migration.{HasMigrated}
+use Rattle.desk_files.specs.FirstVersion.{first_version, versioned_row, KeepsFirst}
+use Rattle.desk_files.specs.Migration.{HasMigrated}
 
 module _ {D : Type 0} {g : Ghosts D} where
   -- it has just been opened, and what is committed is what the files held

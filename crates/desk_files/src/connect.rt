@@ -5,7 +5,7 @@ ghost use Rattle.sqlite.specs.Start.{FindsIn};
 ghost use Rattle.sqlite.specs.State.{HasCleanDisk};
 ghost use Rattle.sqlite_wal.specs.Files.{image_at};
 
-use desk_tables::OpenFault;
+use desk_setup::OpenFault;
 use sqlite::{Connection, FileFrom, FileStore, Start};
 
 // A new file has a checksum on each page, so that the next open refuses a page that was damaged.

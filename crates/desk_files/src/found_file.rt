@@ -1,17 +1,20 @@
 //! The desk in the file at a path is opened.
 ghost use Rattle.std.specs.Prelude.{◌≢◌, IfOk, IfErr};
 ghost use Rattle.sqlite.specs.Files.{file_state};
+ghost use Rattle.sqlite.specs.Held.{state};
 ghost use Rattle.sqlite.specs.State.{HasCleanDisk};
 ghost use Rattle.sqlite_wal.specs.Files.{image_at};
+ghost use Rattle.desk_setup.specs.Checked.{IsDesk};
 ghost use Rattle.desk_files.specs.Opened.{IsFoundIn};
 
 use crate::connect::connect;
 use crate::presence::check_presence;
-use desk_tables::{OpenFault, SqlStore};
-use sqlite::{FileFrom, FileStore, Start};
+use desk_setup::{OpenFault, check_desk};
+use sqlite::{Alter, Connection, FileFrom, FileStore, Start};
+use std::alloc::Global;
 
-/// Opens the desk in the database file at a path. The store then holds each book that the file and its
-/// log keep, whatever moment a crash left them at.
+/// Opens the desk in the database file at a path. The connection then sees each book that the file and
+/// its log keep, whatever moment a crash left them at.
 ///
 /// Where there is no file, an empty one, or a database with no desk, it is `OpenFault::NotADesk`, and
 /// no file is made; a desk of another version is `OpenFault::WrongVersion`. A file that cannot be opened
@@ -20,11 +23,26 @@ pub fn open<S: Start>(
     rt: &HostRuntime,
     path: &str,
     start: S,
-) -> Result<SqlStore<FileStore<FileFrom<S>>>, OpenFault>
-    ensures found { IfOk result (λ s. HasCleanDisk (file_state s.conn) → IsFoundIn (image_at S.Start) s.conn) }
+) -> Result<Connection<FileStore<FileFrom<S>>>, OpenFault>
+    ensures found { IfOk result (λ c. HasCleanDisk (file_state c) → IsFoundIn (image_at S.Start) c) }
     ensures otherwise { IfErr result (λ fault. fault ≢ OpenFault.Exists) }
 {
     check_presence(rt, path)?;
     let conn = connect(rt, path, start)?;
-    SqlStore::adopt(rt.alloc(), conn)
+    with_desk(rt.alloc(), conn)
+}
+
+// Gives back a connection that has a desk's tables. Which files it is to is left out here, as in the
+// functions beside it, so that the prover does not compare calls with so long a type.
+fn with_desk<P: Alter + Drop>(
+    alloc: Global,
+    conn: Connection<P>,
+) -> Result<Connection<P>, OpenFault>
+    ensures before { IfOk result (λ c. HasCleanDisk (state P.Store c) → HasCleanDisk (state P.Store conn)) }
+    ensures desk { IfOk result (λ c. HasCleanDisk (state P.Store c) → IsDesk (state P.Store conn) (state P.Store c)) }
+    ensures otherwise { IfErr result (λ fault. fault ≢ OpenFault.Exists) }
+{
+    let mut conn = conn;
+    check_desk(alloc, &mut conn)?;
+    Ok(conn)
 }

@@ -1,15 +1,20 @@
 //! The desk of version 1 in the file at a path becomes one of version 2.
-ghost use Rattle.std.specs.Prelude.{◌≢◌, IfOk, IfErr};
+ghost use Rattle.std.specs.Prelude.{◌≢◌, ℕ, IfOk, IfErr};
 ghost use Rattle.sqlite.specs.Files.{file_state};
+ghost use Rattle.sqlite.specs.Held.{state};
 ghost use Rattle.sqlite.specs.State.{HasCleanDisk};
 ghost use Rattle.sqlite_wal.specs.Files.{image_at};
+ghost use Rattle.desk_files.specs.FirstVersion.{first_version};
+ghost use Rattle.desk_files.specs.Migration.{HasMigrated};
 ghost use Rattle.desk_files.specs.Opened.{IsMigratedIn};
+ghost use Rattle.desk_files.specs.Versions.{IsOfVersion};
 
 use crate::connect::connect;
+use crate::migration::migrate;
 use crate::presence::check_presence;
-use desk_migration::migrate;
-use desk_tables::OpenFault;
-use sqlite::{Connection, FileFrom, FileStore, Start};
+use desk_setup::OpenFault;
+use sqlite::{Alter, Connection, FileFrom, FileStore, Start};
+use std::alloc::Global;
 
 /// Makes the desk of version 1 in the database file at a path one of version 2, in one transaction, and
 /// gives the connection. Each book that the file and its log kept is kept, whatever moment a crash left
@@ -28,7 +33,21 @@ pub fn migrate_file<S: Start>(
     ensures otherwise { IfErr result (λ fault. fault ≢ OpenFault.Exists) }
 {
     check_presence(rt, path)?;
-    let mut conn = connect(rt, path, start)?;
-    migrate(rt.alloc(), &mut conn)?;
+    let conn = connect(rt, path, start)?;
+    with_second_version(rt.alloc(), conn)
+}
+
+// Migrates the tables of a connection, and gives it back.
+fn with_second_version<P: Alter + Drop>(
+    alloc: Global,
+    conn: Connection<P>,
+) -> Result<Connection<P>, OpenFault>
+    ensures before { IfOk result (λ c. HasCleanDisk (state P.Store c) → HasCleanDisk (state P.Store conn)) }
+    ensures migrated { IfOk result (λ c. HasCleanDisk (state P.Store c) → HasMigrated (state P.Store conn) (state P.Store c)) }
+    ensures first { IfOk result (λ c. HasCleanDisk (state P.Store c) → (n : ℕ) → IsOfVersion (state P.Store conn).now n → n ≢ first_version → ⊥) }
+    ensures otherwise { IfErr result (λ fault. fault ≢ OpenFault.Exists) }
+{
+    let mut conn = conn;
+    migrate(alloc, &mut conn)?;
     Ok(conn)
 }

@@ -1,17 +1,19 @@
 //! A new desk is made in the file at a path.
 ghost use Rattle.std.specs.Prelude.{◌≡◌, ◌⊎◌, codes, Err, IfOk, IfErr};
 ghost use Rattle.sqlite.specs.Files.{file_state};
+ghost use Rattle.sqlite.specs.Held.{state};
 ghost use Rattle.sqlite.specs.State.{HasCleanDisk};
 ghost use Rattle.sqlite_wal.specs.Files.{image_at};
+ghost use Rattle.desk_setup.specs.Setup.{HasNewDesk};
 ghost use Rattle.desk_files.specs.Opened.{IsMadeIn};
 
 use crate::connect::connect;
 use desk_history::Identity;
-use desk_tables::{OpenFault, SqlStore};
-use sqlite::{FileFrom, FileStore, Start};
+use desk_setup::{OpenFault, make_desk};
+use sqlite::{Alter, Connection, FileFrom, FileStore, Start};
 
 /// Makes a new desk in the database file at a path, with the SHA-256 digest of the operator's key. A
-/// file that is missing is made.
+/// file that is missing is made. The connection sees the desk.
 ///
 /// Over a desk it is `OpenFault::Exists`. A file that has something else in it, or that cannot be
 /// opened, is `OpenFault::Unavailable`. `S` stands for what the files hold, and for what a crash leaves
@@ -22,11 +24,26 @@ pub fn create<S: Start>(
     start: S,
     identity: Identity,
     operator_key: [u8; 32],
-) -> Result<SqlStore<FileStore<FileFrom<S>>>, OpenFault>
-    ensures created { IfOk result (λ s. HasCleanDisk (file_state s.conn) → IsMadeIn (image_at S.Start) identity operator_key s.conn) }
+) -> Result<Connection<FileStore<FileFrom<S>>>, OpenFault>
+    ensures created { IfOk result (λ c. HasCleanDisk (file_state c) → IsMadeIn (image_at S.Start) identity operator_key c) }
     ensures memory { path.now ≡ codes ":memory:" → result ≡ Err OpenFault.Unavailable }
     ensures otherwise { IfErr result (λ fault. (fault ≡ OpenFault.Exists) ⊎ (fault ≡ OpenFault.Unavailable)) }
 {
     let conn = connect(rt, path, start)?;
-    SqlStore::create_on(conn, identity, operator_key)
+    with_new_desk(conn, identity, operator_key)
+}
+
+// Makes a new desk on a connection, and gives it back.
+fn with_new_desk<P: Alter + Drop>(
+    conn: Connection<P>,
+    identity: Identity,
+    operator_key: [u8; 32],
+) -> Result<Connection<P>, OpenFault>
+    ensures before { IfOk result (λ c. HasCleanDisk (state P.Store c) → HasCleanDisk (state P.Store conn)) }
+    ensures desk { IfOk result (λ c. HasCleanDisk (state P.Store c) → HasNewDesk identity operator_key (state P.Store conn) (state P.Store c)) }
+    ensures otherwise { IfErr result (λ fault. (fault ≡ OpenFault.Exists) ⊎ (fault ≡ OpenFault.Unavailable)) }
+{
+    let mut conn = conn;
+    make_desk(&mut conn, identity, operator_key)?;
+    Ok(conn)
 }

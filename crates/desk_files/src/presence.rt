@@ -1,7 +1,7 @@
 //! Is there a file at a path?
 ghost use Rattle.std.specs.Prelude.{◌≢◌, IfErr};
 
-use desk_tables::OpenFault;
+use desk_setup::OpenFault;
 use std::fs;
 use std::io::ErrorKind;
 

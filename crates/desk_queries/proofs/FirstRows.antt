@@ -25,8 +25,8 @@ use Rattle.sqlite_value.specs.Order.{Row}
 use Rattle.sql_statements.proofs.Queries.{commits_nothing, returns_none}
 use Rattle.sql_statements.specs.SelectTexts.{DoesNotReturn, HasNoReturning}
 use Rattle.sql_statements.specs.Statements.{IsSelect, HasNoLets}
-use Rattle.sql_transactions.specs.Findings.{Finds}
-use Rattle.desk_schema.specs.Schema.{desk_schema}
+use Rattle.sql_statements.specs.Findings.{Finds}
+use Rattle.desk_records.specs.Schema.{desk_schema}
 use Rattle.desk_records.specs.Layout.{desk_layout}
 use Rattle.desk_records.specs.Tables.{Tables}
 use Rattle.desk_queries.specs.Shows.{IsInjective, ShowsAll, ReadsWhile}

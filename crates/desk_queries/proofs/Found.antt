@@ -5,7 +5,7 @@ use Rattle.std.specs.Prelude.{⊤}
 use Rattle.sqlite.specs.State.{State}
 use Rattle.sqlite_keyed.proofs.ListLemmas.{slice_get-filter}
 use Rattle.sqlite_value.specs.Order.{Row}
-use Rattle.sql_transactions.specs.Findings.{Finds}
+use Rattle.sql_statements.specs.Findings.{Finds}
 use Rattle.desk_records.specs.Layout.{desk_layout}
 use Rattle.desk_records.specs.Ranges.{FitsIfAny}
 use Rattle.desk_records.specs.Tables.{Tables}

@@ -11,9 +11,9 @@ use Rattle.sql_statements.proofs.Conditions.{text_is}
 use Rattle.sql_statements.proofs.LastRows.{backwards, last_selected}
 use Rattle.sql_statements.proofs.StoredRows.{stores_in}
 use Rattle.sql_statements.specs.Statements.{column_is, columns, falling}
-use Rattle.sql_transactions.specs.Findings.{Finds}
-use Rattle.desk_schema.specs.Schema.{desk_schema}
-use Rattle.desk_schema.specs.Tables.{submissions_table, numbers_table}
+use Rattle.sql_statements.specs.Findings.{Finds}
+use Rattle.desk_records.specs.Schema.{desk_schema}
+use Rattle.desk_records.specs.TableDefinitions.{submissions_table, numbers_table}
 use Rattle.desk_records.specs.Columns.{number}
 use Rattle.desk_records.specs.Layout.{desk_layout}
 use Rattle.desk_records.specs.RecordRows.{submission_row, number_row}

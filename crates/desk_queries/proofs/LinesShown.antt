@@ -7,7 +7,7 @@ use Rattle.std.specs.Prelude.{◌==◌}
 use Rattle.desk_book.specs.Steps.{is_file}
 use Rattle.desk_history.specs.Intake.{has_key}
 use Rattle.sqlite.specs.State.{State}
-use Rattle.sql_transactions.specs.Findings.{Finds}
+use Rattle.sql_statements.specs.Findings.{Finds}
 use Rattle.desk_accounts.proofs.Same.{same_is}
 use Rattle.desk_accounts.specs.Posting.{same_account}
 use Rattle.desk_accounts.specs.declared.account.Account.{Account}

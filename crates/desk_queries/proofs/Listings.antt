@@ -10,7 +10,7 @@ use Rattle.sqlite_value.specs.declared.value.Value.TheVariants.{Text}
 use Rattle.sqlite_value.specs.Order.{Row}
 use Rattle.sql_statements.specs.Statements.{by}
 use Rattle.sql_statements.specs.StoredRows.{row_of}
-use Rattle.desk_schema.specs.Tables.{desk_table, holidays_table, companies_table, submissions_table, entries_table, returns_table, changes_table, postings_table, suspense_table, files_table, taken_table, balances_table, numbers_table, authorizations_table}
+use Rattle.desk_records.specs.TableDefinitions.{desk_table, holidays_table, companies_table, submissions_table, entries_table, returns_table, changes_table, postings_table, suspense_table, files_table, taken_table, balances_table, numbers_table, authorizations_table}
 use Rattle.desk_book.specs.declared.flat_rows.FileRow.{FileRow}
 use Rattle.desk_history.specs.declared.operations.TakenFile.{TakenFile}
 use Rattle.desk_rules.specs.declared.bodies.company.Company.{Company}

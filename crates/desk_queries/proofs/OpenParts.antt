@@ -8,7 +8,7 @@ use Rattle.std.proofs.lemmas.List.Sorted.{IsPermutation-filter_both, IsPermutati
 use Rattle.sqlite_keyed.proofs.ListLemmas.{filter_same, ascending-map}
 use Rattle.sqlite_keyed.proofs.SortLemmas.{sorted_unique}
 use Rattle.sqlite.specs.State.{State}
-use Rattle.sql_transactions.specs.Findings.{Finds}
+use Rattle.sql_statements.specs.Findings.{Finds}
 use Rattle.desk_records.specs.Layout.{desk_layout}
 use Rattle.desk_records.specs.KeyOrders.{submission_cmp, IsInOrder}
 use Rattle.desk_records.specs.Selected.{head_of}

@@ -7,7 +7,7 @@ use Rattle.sqlite_value.specs.Order.{Row}
 use Rattle.sql_statements.proofs.Selects.{selected}
 use Rattle.sql_statements.specs.Statements.{IsSelect, query_from}
 use Rattle.sql_statements.specs.StoredRows.{row_of}
-use Rattle.desk_schema.specs.Schema.{desk_schema}
+use Rattle.desk_records.specs.Schema.{desk_schema}
 use Rattle.desk_queries.proofs.Found.{first_passing}
 use Rattle.desk_queries.proofs.Listings.{Listing}
 use Rattle.desk_queries.specs.Shows.{ShowsAll, ShowsFirst}

@@ -4,7 +4,7 @@ use Rattle.sqlite.specs.Listing.{understood}
 use Rattle.sqlite_sql.specs.Term.{Term, col}
 use Rattle.sqlite_tied.specs.Compute.{everything}
 use Rattle.sql_statements.specs.Statements.{IsSelect, query_from, query_within, column_is, number_is, at_least, at_most, by, falling, columns}
-use Rattle.desk_schema.specs.Schema.{desk_schema}
+use Rattle.desk_records.specs.Schema.{desk_schema}
 use Rattle.desk_queries.specs.Texts.{identity_text, operator_key_text, day_text, company_text, companies_text, holidays_text, submissions_of_text, settled_submissions_text, waiting_submissions_text, retries_text, submission_text, order_text, facts_text, last_order_text, authorization_text, entries_text, entry_text, sent_entry_text, place_text, places_text, last_number_text, returns_text, return_text, return_lines_text, change_lines_text, suspense_text, postings_text, sums_text, sum_text, modifiers_text, file_text, taken_text}
 
 -- the columns at these places, from 1

@@ -23,9 +23,9 @@ use Rattle.sql_statements.proofs.Conditions.{text_is}
 use Rattle.sql_statements.proofs.Selects.{selected}
 use Rattle.sql_statements.proofs.StoredRows.{stores_in}
 use Rattle.sql_statements.specs.Statements.{query_from, column_is, columns, by}
-use Rattle.sql_transactions.specs.Findings.{Finds}
-use Rattle.desk_schema.specs.Schema.{desk_schema}
-use Rattle.desk_schema.specs.Tables.{submissions_table}
+use Rattle.sql_statements.specs.Findings.{Finds}
+use Rattle.desk_records.specs.Schema.{desk_schema}
+use Rattle.desk_records.specs.TableDefinitions.{submissions_table}
 use Rattle.desk_records.specs.Columns.{number, flag}
 use Rattle.desk_records.specs.KeyOrders.{text_cmp, submission_cmp, IsInOrder}
 use Rattle.desk_records.specs.Layout.{desk_layout}

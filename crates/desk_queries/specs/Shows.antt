@@ -3,7 +3,7 @@ use Rattle.std.specs.Prelude.{◌≡◌, ◌⊎◌, ℕ, Bool, true, false, List
 use Rattle.std.specs.List.{AllByRecursion}
 use Rattle.sqlite.specs.State.{State, Shown, Begins, IsUnchanged}
 use Rattle.sqlite_value.specs.Order.{Row}
-use Rattle.sql_transactions.specs.Layouts.{Holds}
+use Rattle.sql_statements.specs.Layouts.{Holds}
 use Rattle.desk_records.specs.Layout.{desk_layout}
 use Rattle.desk_records.specs.Tables.{Tables}
 

@@ -2,7 +2,7 @@
 use Rattle.std.specs.Prelude.{◌≡◌, ◌≤◌, ℕ, true, List, Option, option_map, unwrap_or}
 use Rattle.ach_fields.specs.Routing.{most_dfi, dfi_of}
 use Rattle.ach_fields.specs.Trace.{is_trace}
-use Rattle.sql_transactions.specs.Books.{Agrees}
+use Rattle.sql_statements.specs.Books.{Agrees}
 use Rattle.desk_book.specs.Reads.{last_sequence, sent_count, sent_as, latest_settled}
 use Rattle.desk_history.specs.declared.identity.Identity.{Identity}
 use Rattle.desk_history.specs.declared.sent_entry.SentEntry.{SentEntry}

@@ -1,6 +1,6 @@
 -- What is found in the stored tables of a book is what a read gives of the book.
 use Rattle.std.specs.Prelude.{◌≡◌}
-use Rattle.sql_transactions.specs.Books.{Agrees}
+use Rattle.sql_statements.specs.Books.{Agrees}
 use Rattle.desk_book.specs.Book.{Book}
 use Rattle.desk_records.specs.Layout.{desk_layout, IsBookIn}
 use Rattle.desk_records.specs.Tables.{Tables}

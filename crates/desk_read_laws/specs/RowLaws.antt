@@ -1,6 +1,6 @@
 -- What is found of a company's rows.
 use Rattle.std.specs.Prelude.{◌≡◌, ℕ, ◌+◌, ◌-◌, List, map, filter, Some}
-use Rattle.sql_transactions.specs.Books.{Agrees}
+use Rattle.sql_statements.specs.Books.{Agrees}
 use Rattle.desk_book.specs.declared.row.Row.{Row}
 use Rattle.desk_book.specs.OpenRows.{is_open_row}
 use Rattle.desk_book.specs.Reads.{submission, submission_count, open_rows_of, retries_of, state_of, waiting, items_of}

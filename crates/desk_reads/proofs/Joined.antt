@@ -3,9 +3,9 @@ use Rattle.std.proofs.Common.{◌≡◌, sym, subst, Result, Ok, Err, IfOk, IsTr
 use Rattle.sqlite.specs.State.{State, HasCleanDisk, Survives}
 use Rattle.sqlite.proofs.StateLemmas.{survives_then}
 use Rattle.sql_statements.specs.Queries.{Stays}
-use Rattle.sql_transactions.proofs.Findings.{stays_then}
-use Rattle.sql_transactions.specs.Findings.{Finds}
-use Rattle.sql_transactions.specs.Layouts.{Holds}
+use Rattle.sql_statements.proofs.Findings.{stays_then}
+use Rattle.sql_statements.specs.Findings.{Finds}
+use Rattle.sql_statements.specs.Layouts.{Holds}
 use Rattle.desk_records.specs.Layout.{desk_layout}
 use Rattle.desk_records.specs.Tables.{Tables}
 use Rattle.desk_reads.specs.Answers.{IsSeen, Answers, Learns}

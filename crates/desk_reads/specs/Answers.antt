@@ -2,8 +2,8 @@
 use Rattle.std.specs.Prelude.{IsTrue, Result, IfOk}
 use Rattle.sqlite.specs.State.{State, HasCleanDisk, Survives}
 use Rattle.sql_statements.specs.Queries.{Stays}
-use Rattle.sql_transactions.specs.Findings.{Finds}
-use Rattle.sql_transactions.specs.Layouts.{Holds}
+use Rattle.sql_statements.specs.Findings.{Finds}
+use Rattle.sql_statements.specs.Layouts.{Holds}
 use Rattle.desk_records.specs.Layout.{desk_layout}
 use Rattle.desk_records.specs.Tables.{Tables}
 

@@ -2,10 +2,10 @@
 use Rattle.std.specs.Prelude.{◌≡◌}
 use Rattle.sqlite_trees.specs.Tree.{Trees}
 use Rattle.sqlite.specs.State.{State}
-use Rattle.sql_transactions.specs.Books.{keeps, holds}
-use Rattle.sql_transactions.specs.Layouts.{Layout}
+use Rattle.sql_statements.specs.Books.{keeps, holds}
+use Rattle.sql_statements.specs.Layouts.{Layout}
 use Rattle.desk_book.specs.Book.{Book}
-use Rattle.desk_schema.specs.Schema.{desk_schema}
+use Rattle.desk_records.specs.Schema.{desk_schema}
 use Rattle.desk_store.specs.Rows.{Rows, flat_book}
 use Rattle.desk_records.specs.Beside.{Beside}
 use Rattle.desk_records.specs.Encodes.{Encodes}

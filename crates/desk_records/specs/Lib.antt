@@ -2,6 +2,7 @@ pub mod Beside
 pub mod Columns
 pub mod CutTables
 pub mod Encodes
+pub mod IndexDefinitions
 pub mod KeyOrders
 pub mod Layout
 pub mod QueryRows
@@ -10,7 +11,9 @@ pub mod Reading
 pub mod RecordRows
 pub mod RowParts
 pub mod RowRanges
+pub mod Schema
 pub mod Selected
+pub mod TableDefinitions
 pub mod TableEdits
 pub mod TableReads
 pub mod Tables

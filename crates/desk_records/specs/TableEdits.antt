@@ -4,7 +4,7 @@ use Rattle.std.specs.Int.{IsInRange}
 use Rattle.std.specs.List.{enumerate_from, list_any}
 use Rattle.std.specs.Ordering.{nat_cmp, on}
 use Rattle.sqlite_keyed.specs.Lists.{insert_sorted, update_where}
-use Rattle.sql_transactions.specs.Edits.{Edit, no_edit, then_edit, each_edit, each_edit_from}
+use Rattle.sql_statements.specs.Edits.{Edit, no_edit, then_edit, each_edit, each_edit_from}
 use Rattle.ach_fields.specs.Trace.{most_sequence}
 use Rattle.desk_accounts.specs.declared.account.Account.{Account}
 use Rattle.desk_accounts.specs.declared.posting.Posting.{Posting}

@@ -2,7 +2,7 @@
 use Rattle.std.proofs.Common.{◌≡◌, pos, false, sym, ◌∙◌, subst, IsTrue}
 use Rattle.sqlite.specs.Effect.{Database}
 use Rattle.sqlite.specs.State.{State}
-use Rattle.desk_schema.specs.Schema.{desk_schema}
+use Rattle.desk_records.specs.Schema.{desk_schema}
 use Rattle.desk_records.specs.RecordRows.{version}
 use Rattle.desk_records.specs.Tables.{IsStored}
 use Rattle.desk_setup.specs.Checked.{IsDesk}

@@ -4,7 +4,7 @@ use Rattle.std.specs.List.{AllByRecursion}
 use Rattle.sqlite_schema.specs.declared.schema.Column.{Column}
 use Rattle.sqlite_value.specs.declared.keys.Order.{Order}
 use Rattle.sql_statements.specs.PlainTable.{plain_table_at}
-use Rattle.desk_schema.specs.Schema.{desk_schema}
+use Rattle.desk_records.specs.Schema.{desk_schema}
 use Rattle.desk_setup.specs.Plain.{IsPlainColumn, IsPlainTable, IsPlainSchema}
 
 plain_at : {tree : ℕ} {name : List ℕ} {columns : List Column} {primary : List ℕ} {uniques : List (List ℕ)} {orders : List Order} → AllByRecursion IsPlainColumn columns → IsPlainTable (plain_table_at tree name columns primary uniques orders)

@@ -15,10 +15,10 @@ use Rattle.sql_statements.specs.Statements.{IsInsert}
 use Rattle.sql_statements.specs.StoredRows.{Stores}
 use Rattle.sql_statements.proofs.Casts.{row_kept}
 use Rattle.sql_statements.proofs.Inserts.{inserted}
-use Rattle.sql_transactions.specs.Layouts.{Holds}
+use Rattle.sql_statements.specs.Layouts.{Holds}
 use Rattle.desk_history.specs.declared.identity.Identity.{Identity}
-use Rattle.desk_schema.specs.Schema.{desk_schema}
-use Rattle.desk_schema.specs.Tables.{desk_table}
+use Rattle.desk_records.specs.Schema.{desk_schema}
+use Rattle.desk_records.specs.TableDefinitions.{desk_table}
 use Rattle.desk_records.specs.Layout.{desk_layout}
 use Rattle.desk_records.specs.RecordRows.{desk_row}
 use Rattle.desk_records.specs.Tables.{IsTableOf, IsStored}

@@ -9,7 +9,7 @@ use Rattle.sqlite.specs.Outline.{Outline}
 use Rattle.sqlite.specs.Schema.{Schema}
 use Rattle.sqlite.specs.State.{State, IsNotRun, IsUnchanged, KeepsCommit}
 use Rattle.sqlite.specs.Steps.{Outlines}
-use Rattle.desk_schema.specs.Schema.{desk_schema}
+use Rattle.desk_records.specs.Schema.{desk_schema}
 
 abbrev pub name_text : List ℕ
 name_text = codes "CREATE TABLE desk (id INT)"

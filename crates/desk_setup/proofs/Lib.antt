@@ -1,3 +1,4 @@
+mod Creates
 pub mod DeskChecks
 pub mod DeskPlain
 pub mod DeskRows

@@ -6,11 +6,11 @@ use Rattle.sqlite.specs.Effect.{Database}
 use Rattle.sqlite.specs.State.{State, Shows, IsUnchanged, KeepsCommit, Survives}
 use Rattle.sqlite.proofs.StateLemmas.{survives_weaker}
 use Rattle.sql_statements.specs.Definitions.{IsBlank}
-use Rattle.sql_transactions.specs.Layouts.{Holds}
-use Rattle.sql_transactions.specs.Transactions.{Makes, Commits, Leaves}
+use Rattle.sql_statements.specs.Layouts.{Holds}
+use Rattle.sql_statements.specs.Transactions.{Makes, Commits, Leaves}
 use Rattle.desk_history.specs.declared.identity.Identity.{Identity}
 use Rattle.desk_book.specs.Book.{Book, book_of}
-use Rattle.desk_schema.specs.Schema.{desk_schema, schema_of}
+use Rattle.desk_records.specs.Schema.{desk_schema, schema_of}
 use Rattle.desk_store.specs.Rows.{Rows}
 use Rattle.desk_records.specs.Layout.{desk_layout, IsBookIn, Keeps}
 use Rattle.desk_records.specs.Tables.{Tables, IsStored}

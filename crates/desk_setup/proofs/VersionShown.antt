@@ -8,8 +8,8 @@ use Rattle.sql_statements.specs.SelectTexts.{IsSelectText}
 use Rattle.sql_statements.specs.Statements.{IsSelect, query_from, number_is as is_number, by}
 use Rattle.sql_statements.proofs.Queries.{shown_same}
 use Rattle.sql_statements.proofs.SelectTexts.{select_returns_none}
-use Rattle.sql_transactions.specs.Layouts.{Holds}
-use Rattle.desk_schema.specs.Schema.{desk_schema}
+use Rattle.sql_statements.specs.Layouts.{Holds}
+use Rattle.desk_records.specs.Schema.{desk_schema}
 use Rattle.desk_records.specs.Layout.{desk_layout}
 use Rattle.desk_records.specs.RecordRows.{version}
 use Rattle.desk_records.specs.Tables.{Tables}

@@ -1,9 +1,9 @@
 -- What is known of a connection that has a desk's tables.
 use Rattle.std.specs.Prelude.{◌≡◌, false, pos}
 use Rattle.sqlite.specs.State.{State, IsUnchanged}
-use Rattle.sql_transactions.specs.Layouts.{Holds}
+use Rattle.sql_statements.specs.Layouts.{Holds}
 use Rattle.desk_book.specs.Book.{Book}
-use Rattle.desk_schema.specs.Schema.{desk_schema}
+use Rattle.desk_records.specs.Schema.{desk_schema}
 use Rattle.desk_records.specs.Layout.{desk_layout, Keeps, Sees}
 use Rattle.desk_records.specs.RecordRows.{version}
 use Rattle.desk_records.specs.Tables.{Tables, IsStored}

@@ -4,11 +4,11 @@ use Rattle.sqlite_schema.specs.declared.schema.Schema.{Schema}
 use Rattle.sqlite_schema.specs.Names.{table_named}
 use Rattle.sqlite_trees.specs.Tree.{Trees}
 use Rattle.sqlite.specs.State.{State}
-use Rattle.sql_transactions.specs.Edits.{Edit}
-use Rattle.sql_transactions.specs.Layouts.{Layout, Holds}
+use Rattle.sql_statements.specs.Edits.{Edit}
+use Rattle.sql_statements.specs.Layouts.{Layout, Holds}
 use Rattle.desk_history.specs.declared.identity.Identity.{Identity}
 use Rattle.desk_book.specs.Book.{book_of}
-use Rattle.desk_schema.specs.Schema.{desk_schema, schema_of}
+use Rattle.desk_records.specs.Schema.{desk_schema, schema_of}
 use Rattle.desk_records.specs.Layout.{desk_layout, Keeps, Sees}
 use Rattle.desk_records.specs.Tables.{Tables, IsStored}
 

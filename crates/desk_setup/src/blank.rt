@@ -2,7 +2,7 @@
 ghost use Rattle.std.specs.Prelude.{◌≡◌, ◌≢◌, ◌↔◌, [], IsTrue, OnOk};
 ghost use Rattle.sqlite.specs.Held.{state};
 ghost use Rattle.sqlite.specs.State.{HasCleanDisk, IsUnchanged, KeepsCommit, Survives};
-ghost use Rattle.desk_schema.specs.Schema.{desk_schema, schema_of};
+ghost use Rattle.desk_records.specs.Schema.{desk_schema, schema_of};
 
 use sqlite::{Alter, Error, Transaction};
 use sqlite_schema::schema::Schema;

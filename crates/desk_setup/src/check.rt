@@ -3,8 +3,8 @@ ghost use Rattle.std.specs.Prelude.{◌≡◌, ◌≢◌, ◌⊎◌, ℤ, pos, I
 ghost use Rattle.sqlite.specs.Held.{state};
 ghost use Rattle.sqlite.specs.State.{HasCleanDisk, Survives};
 ghost use Rattle.sql_statements.specs.Queries.{Stays};
-ghost use Rattle.sql_transactions.specs.Layouts.{Holds};
-ghost use Rattle.desk_schema.specs.Schema.{desk_schema};
+ghost use Rattle.sql_statements.specs.Layouts.{Holds};
+ghost use Rattle.desk_records.specs.Schema.{desk_schema};
 ghost use Rattle.desk_records.specs.Layout.{desk_layout};
 ghost use Rattle.desk_records.specs.RecordRows.{version};
 ghost use Rattle.desk_records.specs.Tables.{Tables};

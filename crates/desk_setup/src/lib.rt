@@ -1,9 +1,10 @@
-//! This crate makes the tables of a new desk on a connection, and tells whether a connection has a
-//! desk's tables. What it compares schemas with serves other versions of the tables too.
+//! This crate makes the tables of a new desk on a connection, in their second version, and tells whether
+//! a connection has a desk's tables. What it compares schemas with serves other versions of them too.
 #![tactic(auto)]
 
 mod blank;
 mod check;
+mod create;
 mod fault;
 mod new_desk;
 mod pattern;

@@ -4,19 +4,18 @@ ghost use Rattle.sqlite.specs.Held.{state};
 ghost use Rattle.sqlite.specs.State.{HasCleanDisk, Survives, KeepsCommit, Shows};
 ghost use Rattle.sql_statements.specs.Definitions.{IsBlank};
 ghost use Rattle.sql_statements.specs.Queries.{Stays};
-ghost use Rattle.sql_transactions.specs.Layouts.{Holds};
+ghost use Rattle.sql_statements.specs.Layouts.{Holds};
 ghost use Rattle.desk_book.specs.Book.{book_of};
-ghost use Rattle.desk_schema.specs.Schema.{desk_schema, schema_of};
+ghost use Rattle.desk_records.specs.Schema.{desk_schema, schema_of};
 ghost use Rattle.desk_records.specs.Layout.{desk_layout, Keeps};
 ghost use Rattle.desk_setup.specs.Setup.{new_tables, HasDesk, setup_layout, new_desk_edit, HasNewDesk};
 
 use crate::blank::{check_name, is_blank};
+use crate::create::create_tables;
 use crate::fault::OpenFault;
 use crate::version::VERSION;
 use desk_history::Identity;
-use desk_schema::create_tables;
-use sql_statements::{blob, execute, number};
-use sql_transactions::{TransactionBody, commit};
+use sql_statements::{TransactionBody, blob, commit, execute, number};
 use sqlite::types::ValueRef;
 use sqlite::{Alter, Connection, Error, Transaction};
 

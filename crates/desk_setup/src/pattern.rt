@@ -2,9 +2,9 @@
 ghost use Rattle.std.specs.Prelude.{◌≡◌, IfOk};
 ghost use Rattle.sqlite.specs.Held.{state};
 ghost use Rattle.sqlite.specs.Steps.{over_memory};
-ghost use Rattle.desk_schema.specs.Schema.{desk_schema};
+ghost use Rattle.desk_records.specs.Schema.{desk_schema};
 
-use desk_schema::create_tables;
+use crate::create::create_tables;
 use sqlite::{Connection, Error, MemStore};
 use std::alloc::Global;
 

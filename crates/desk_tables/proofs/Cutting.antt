@@ -3,10 +3,10 @@ use Rattle.std.proofs.Common.{◌≡◌, ℕ, ◌+◌, ◌⊎◌, inl, inr, Resu
 use Rattle.sqlite_trees.specs.Tree.{Trees}
 use Rattle.sqlite.specs.State.{State, HasCleanDisk, Survives}
 use Rattle.sql_statements.specs.Queries.{Stays}
-use Rattle.sql_transactions.specs.Books.{Agrees}
-use Rattle.sql_transactions.specs.Findings.{Finds}
-use Rattle.sql_transactions.specs.Transactions.{Commits, Leaves}
-use Rattle.sql_transactions.proofs.Books.{clean_before, left_read, read_agreed, write_done, write_undone, left_done, left_undone}
+use Rattle.sql_statements.specs.Books.{Agrees}
+use Rattle.sql_statements.specs.Findings.{Finds}
+use Rattle.sql_statements.specs.Transactions.{Commits, Leaves}
+use Rattle.sql_statements.proofs.Books.{clean_before, left_read, read_agreed, write_done, write_undone, left_done, left_undone}
 use Rattle.desk_book.specs.Book.{Book}
 use Rattle.desk_book.specs.Reads.{sent_count}
 use Rattle.desk_book.specs.Steps.{CutWrite, commit_cut}

@@ -4,9 +4,9 @@ use Rattle.std.specs.declared.alloc.Global.{Global}
 use Rattle.sqlite.specs.State.{State, HasCleanDisk, Survives}
 use Rattle.sqlite.specs.declared.error.Error.{Error}
 use Rattle.sql_statements.specs.Queries.{Stays}
-use Rattle.sql_transactions.specs.Books.{Agrees}
-use Rattle.sql_transactions.specs.Findings.{Finds}
-use Rattle.sql_transactions.proofs.Books.{read_agreed, write_undone}
+use Rattle.sql_statements.specs.Books.{Agrees}
+use Rattle.sql_statements.specs.Findings.{Finds}
+use Rattle.sql_statements.proofs.Books.{read_agreed, write_undone}
 use Rattle.desk_book.specs.Book.{Book}
 use Rattle.desk_reads.specs.Answers.{Answers}
 use Rattle.desk_records.specs.Layout.{desk_layout, IsBookIn, Sees}

@@ -2,9 +2,9 @@
 use Rattle.std.proofs.Common.{Result, Ok, Err, OnOk, OnErr}
 use Rattle.sqlite.specs.State.{State, HasCleanDisk, Survives}
 use Rattle.sql_statements.specs.Queries.{Stays}
-use Rattle.sql_transactions.specs.Edits.{Edit}
-use Rattle.sql_transactions.specs.Transactions.{Commits, Leaves}
-use Rattle.sql_transactions.proofs.Books.{write_done, write_undone, left_done, left_undone}
+use Rattle.sql_statements.specs.Edits.{Edit}
+use Rattle.sql_statements.specs.Transactions.{Commits, Leaves}
+use Rattle.sql_statements.proofs.Books.{write_done, write_undone, left_done, left_undone}
 use Rattle.desk_book.specs.Steps.{Step}
 use Rattle.desk_records.specs.Layout.{desk_layout, IsBookIn, Keeps, Sees}
 use Rattle.desk_records.specs.Tables.{Tables}

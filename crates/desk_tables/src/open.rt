@@ -14,6 +14,16 @@ use desk_setup::{OpenFault, check_desk, make_desk};
 use sqlite::{Alter, Connection, MemStore};
 use std::alloc::Global;
 
+impl<S: Alter> SqlStore<S> {
+    /// Keeps the books that the tables of a connection keep, as they are: none where they are no desk's.
+    /// `adopt` looks at them first.
+    pub fn new(conn: Connection<S>) -> SqlStore<S>
+        ensures { result.conn ≡ conn }
+    {
+        SqlStore { conn }
+    }
+}
+
 impl<S: Alter + Drop> SqlStore<S> {
     /// Makes a new desk in a blank database, with the SHA-256 digest of the operator's key: all tables
     /// and the row of the desk, in one transaction.
@@ -32,7 +42,7 @@ impl<S: Alter + Drop> SqlStore<S> {
     {
         let mut conn = conn;
         make_desk(&mut conn, identity, operator_key)?;
-        Ok(SqlStore { conn })
+        Ok(SqlStore::new(conn))
     }
 
     /// Takes over the desk that is in a database: the store holds each book that the tables keep.
@@ -46,7 +56,7 @@ impl<S: Alter + Drop> SqlStore<S> {
     {
         let mut conn = conn;
         check_desk(alloc, &mut conn)?;
-        Ok(SqlStore { conn })
+        Ok(SqlStore::new(conn))
     }
 
     /// Gives the connection back, so that its file may be closed.

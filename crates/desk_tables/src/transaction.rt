@@ -3,10 +3,10 @@ ghost use Rattle.std.specs.Prelude.{◌≡◌, OnOk, OnErr};
 ghost use Rattle.sqlite.specs.Held.{state};
 ghost use Rattle.sqlite.specs.State.{HasCleanDisk, Survives};
 ghost use Rattle.sql_statements.specs.Queries.{Stays};
-ghost use Rattle.sql_transactions.specs.Transactions.{Commits, Leaves};
+ghost use Rattle.sql_statements.specs.Transactions.{Commits, Leaves};
 
 use desk_store::StoreFault;
-use sql_transactions::{TransactionBody, commit};
+use sql_statements::{TransactionBody, commit};
 use sqlite::{Alter, Connection};
 
 /// Makes the edit of a body whole, in one transaction, or leaves the tables as they were.

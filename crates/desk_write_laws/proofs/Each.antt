@@ -1,7 +1,7 @@
 -- One edit after another is one step of the flat rows after another.
 use Rattle.std.proofs.Common.{◌≡◌, ℕ, ◌+◌, List, [], ◌∷◌, ◌++◌, sym, ap, ◌∙◌, append-nil, append_assoc}
 use Rattle.std.specs.Prelude.{fold}
-use Rattle.sql_transactions.specs.Edits.{Edit, each_edit, each_edit_from}
+use Rattle.sql_statements.specs.Edits.{Edit, each_edit, each_edit_from}
 use Rattle.desk_book.specs.Book.{Book}
 use Rattle.desk_store.specs.Rows.{Rows, flat_book}
 use Rattle.desk_records.specs.Beside.{Beside}

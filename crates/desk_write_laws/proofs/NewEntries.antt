@@ -11,7 +11,7 @@ use Rattle.std.proofs.lemmas.Map.Text.{is_eq-slice_cmp}
 use Rattle.std.proofs.lemmas.Slice.Eq.{bytes_eq-Decides}
 use Rattle.sqlite_keyed.specs.Lists.{insert_sorted}
 use Rattle.sqlite_keyed.proofs.ListLemmas.{all-append, all_map, all_weaker, all-map, all-flat_map}
-use Rattle.sql_transactions.specs.Edits.{each_edit_from}
+use Rattle.sql_statements.specs.Edits.{each_edit_from}
 use Rattle.desk_history.specs.declared.sent_entry.SentEntry.{SentEntry}
 use Rattle.desk_rules.specs.declared.bodies.submission.Entry.{Entry}
 use Rattle.desk_rules.specs.declared.bodies.submission.Retry.{Retry}

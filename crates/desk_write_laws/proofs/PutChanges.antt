@@ -2,7 +2,7 @@
 use Rattle.std.proofs.Common.{◌≡◌, ℕ, ◌+◌, List, [], ◌∷◌, ◌++◌, map, find, length, IsSome, Option, Some, None, option_map, unwrap_or, refl, sym, subst, ap, ◌∙◌, length-append}
 use Rattle.std.specs.List.{range_with_len}
 use Rattle.std.proofs.lemmas.List.{map-append}
-use Rattle.sql_transactions.specs.Edits.{Edit}
+use Rattle.sql_statements.specs.Edits.{Edit}
 use Rattle.desk_book.specs.declared.flat_rows.ChangedRow.{ChangedRow}
 use Rattle.desk_store.specs.Rows.{CompanyRow, Rows}
 use Rattle.desk_records.specs.Encodes.{change_record, is_submission_under, order_under, submission_record}

@@ -7,7 +7,7 @@ use Rattle.std.proofs.lemmas.List.{map-append}
 use Rattle.std.proofs.lemmas.List.Elements.{All-from_recursion, recursion_from_All, All-weaker, All-append}
 use Rattle.std.proofs.lemmas.Slice.Eq.{bytes_eq-Decides}
 use Rattle.sqlite_keyed.proofs.ListLemmas.{all_both, all_of, all_map, map-map, map_same, all_weaker}
-use Rattle.sql_transactions.specs.Edits.{Edit}
+use Rattle.sql_statements.specs.Edits.{Edit}
 use Rattle.desk_book.specs.declared.flat_rows.ReturnedRow.{ReturnedRow}
 use Rattle.desk_book.specs.declared.flat_rows.SentRow.{SentRow}
 use Rattle.desk_book.specs.Standing.{is_row_under}

@@ -2,7 +2,7 @@
 use Rattle.std.proofs.Common.{◌≡◌, ℕ, ◌+◌, List, [], ◌∷◌, ◌++◌, map, length, Some, refl, sym, subst, ap, ◌∙◌, length-append, IsPermutation}
 use Rattle.std.specs.List.{enumerate_from, range_with_len}
 use Rattle.sqlite_keyed.proofs.ListLemmas.{map-map}
-use Rattle.sql_transactions.specs.Edits.{Edit}
+use Rattle.sql_statements.specs.Edits.{Edit}
 use Rattle.desk_history.specs.declared.operations.SuspenseRow.{SuspenseRow}
 use Rattle.desk_history.specs.declared.operations.TakenFile.{TakenFile}
 use Rattle.desk_store.specs.Rows.{Rows}

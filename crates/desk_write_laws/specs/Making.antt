@@ -1,6 +1,6 @@
 -- What an edit of the tables makes of the book that they hold.
-use Rattle.sql_transactions.specs.Books.{Follows}
-use Rattle.sql_transactions.specs.Edits.{Edit}
+use Rattle.sql_statements.specs.Books.{Follows}
+use Rattle.sql_statements.specs.Edits.{Edit}
 use Rattle.desk_book.specs.Steps.{Step}
 use Rattle.desk_records.specs.Layout.{desk_layout, IsBookIn}
 use Rattle.desk_records.specs.Tables.{Tables}

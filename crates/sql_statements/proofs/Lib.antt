@@ -1,7 +1,11 @@
+pub mod Books
 pub mod Casts
 pub mod Changes
 pub mod Columns
 pub mod Conditions
+pub mod Edits
+pub mod EmptyText
+pub mod Findings
 pub mod FreeKeys
 pub mod Inserts
 pub mod KeyOrder
@@ -9,7 +13,9 @@ pub mod LastRows
 pub mod NewIndexes
 pub mod NewTables
 pub mod OneList
+pub mod OneRow
 pub mod Queries
+pub mod QueriesInside
 pub mod SelectTexts
 pub mod Selects
 pub mod StoredRows

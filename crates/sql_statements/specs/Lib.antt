@@ -1,6 +1,12 @@
+pub mod Books
 pub mod Definitions
+pub mod Edits
+pub mod Findings
+pub mod Layouts
+pub mod OneRow
 pub mod PlainTable
 pub mod Queries
 pub mod SelectTexts
 pub mod Statements
 pub mod StoredRows
+pub mod Transactions

@@ -2,7 +2,7 @@
 ghost use Rattle.std.specs.Prelude.{◌≡◌, OnOk};
 ghost use Rattle.sqlite.specs.Held.{state};
 ghost use Rattle.sqlite.specs.State.{HasCleanDisk, Survives, KeepsCommit};
-ghost use Rattle.sql_transactions.specs.Transactions.{Makes};
+ghost use Rattle.sql_statements.specs.Transactions.{Makes};
 ghost use Rattle.desk_records.specs.Columns.{account_text as text_of};
 ghost use Rattle.desk_records.specs.Layout.{desk_layout};
 ghost use Rattle.desk_records.specs.TableEdits.{put_lines_edit};
@@ -14,8 +14,7 @@ use crate::numbering::{NumberedTable, next_after};
 use crate::parameters::{cause, optional_reference};
 use desk_accounts::Posting;
 use desk_queries::{characters, date, natural};
-use sql_statements::{execute, number};
-use sql_transactions::{RowBody, run_each};
+use sql_statements::{RowBody, execute, number, run_each};
 use sqlite::{Alter, Error, Transaction};
 
 /// Writes lines of accounts, numbered on from the last one, and adds them to the balances of their

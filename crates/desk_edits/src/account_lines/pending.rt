@@ -5,7 +5,7 @@ ghost use Rattle.std.specs.List.{position_or_len};
 ghost use Rattle.arrayvec.specs.ArrayVec.{array_vec_len};
 ghost use Rattle.sqlite.specs.Held.{state};
 ghost use Rattle.sqlite.specs.State.{HasCleanDisk, Survives, KeepsCommit};
-ghost use Rattle.sql_transactions.specs.Transactions.{Makes};
+ghost use Rattle.sql_statements.specs.Transactions.{Makes};
 ghost use Rattle.desk_records.specs.Layout.{desk_layout};
 ghost use Rattle.desk_edits.specs.LineEdits.{with_line, add_lines_edit};
 ghost use Rattle.desk_edits.specs.PendingBalances.{is_pending_of, AddsLine, MakesBut};

@@ -8,7 +8,7 @@ use crate::cut::entries::PlaceEntries;
 use crate::cut::files::PutFiles;
 use crate::cut::submissions::{LapseSubmissions, SendSubmissions};
 use desk_store::CutRows;
-use sql_transactions::{TransactionBody, run_each};
+use sql_statements::{TransactionBody, run_each};
 use sqlite::{Alter, Error, Transaction};
 
 /// `CommitCut` writes all that a cut writes. It fails where a statement of it does: where a submission

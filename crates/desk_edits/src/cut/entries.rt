@@ -2,7 +2,7 @@
 ghost use Rattle.std.specs.Prelude.{◌≡◌, OnOk};
 ghost use Rattle.sqlite.specs.Held.{state};
 ghost use Rattle.sqlite.specs.State.{HasCleanDisk, Survives, KeepsCommit};
-ghost use Rattle.sql_transactions.specs.Transactions.{Makes};
+ghost use Rattle.sql_statements.specs.Transactions.{Makes};
 ghost use Rattle.desk_records.specs.Layout.{desk_layout};
 ghost use Rattle.desk_records.specs.TableEdits.{place_edit};
 ghost use Rattle.desk_edits.specs.PlaceEdits.{mark_entry_edit, put_number_edit};
@@ -10,8 +10,7 @@ ghost use Rattle.desk_edits.specs.PlaceEdits.{mark_entry_edit, put_number_edit};
 use ach_fields::MOST_SEQUENCE;
 use desk_history::SentEntry;
 use desk_queries::{characters, natural};
-use sql_statements::execute;
-use sql_transactions::{RowBody, execute_one};
+use sql_statements::{RowBody, execute, execute_one};
 use sqlite::{Alter, Error, Transaction};
 
 /// `PlaceEntries` gives each entry of a list its place among all sent entries, and its sequence that

@@ -4,8 +4,7 @@ ghost use Rattle.desk_records.specs.TableEdits.{put_file_edit};
 
 use desk_book::FileRow;
 use desk_queries::{date, natural};
-use sql_statements::{blob, execute};
-use sql_transactions::RowBody;
+use sql_statements::{RowBody, blob, execute};
 use sqlite::{Alter, Error, Transaction};
 
 /// `PutFiles` keeps each file of a list. It fails where the day of a file has one of its modifier

@@ -4,7 +4,7 @@ ghost use Rattle.desk_records.specs.TableEdits.{send_edit, lapse_edit};
 
 use desk_book::{LapsedRow, SentRow};
 use desk_queries::{characters, date, natural};
-use sql_transactions::{RowBody, execute_one};
+use sql_statements::{RowBody, execute_one};
 use sqlite::{Alter, Error, Transaction};
 
 /// `SendSubmissions` marks each submission of a list as sent: it settles on its day, and was printed

@@ -2,7 +2,7 @@
 ghost use Rattle.std.specs.Prelude.{◌≡◌, OnOk};
 ghost use Rattle.sqlite.specs.Held.{state};
 ghost use Rattle.sqlite.specs.State.{HasCleanDisk, Survives, KeepsCommit};
-ghost use Rattle.sql_transactions.specs.Transactions.{Makes};
+ghost use Rattle.sql_statements.specs.Transactions.{Makes};
 ghost use Rattle.desk_records.specs.Layout.{desk_layout};
 ghost use Rattle.desk_records.specs.TableEdits.{put_change_edit, each_edit_on, next_number};
 ghost use Rattle.desk_edits.specs.RowEdits.{insert_change_edit};
@@ -12,8 +12,7 @@ use crate::numbering::{NumberedTable, next_after};
 use desk_book::ChangedRow;
 use desk_queries::{characters, date, natural};
 use desk_records::ChangeRecord;
-use sql_statements::execute;
-use sql_transactions::{RowBody, run_each};
+use sql_statements::{RowBody, execute, run_each};
 use sqlite::{Alter, Error, Transaction};
 
 /// Writes the notifications of change of a file, numbered on from the last of the table. One that

@@ -9,7 +9,7 @@ use crate::intake::returns::put_returns;
 use crate::intake::suspense::put_suspense;
 use crate::intake::taken::put_taken;
 use desk_store::IntakeRows;
-use sql_transactions::TransactionBody;
+use sql_statements::TransactionBody;
 use sqlite::{Alter, Error, Transaction};
 
 /// `CommitIntake` writes an incoming file: its returns and notifications of change, what stands in

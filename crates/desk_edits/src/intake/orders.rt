@@ -2,14 +2,14 @@
 ghost use Rattle.std.specs.Prelude.{◌≡◌, IfOk};
 ghost use Rattle.sqlite.specs.Held.{state};
 ghost use Rattle.sqlite.specs.State.{HasCleanDisk, Survives, KeepsCommit};
-ghost use Rattle.sql_transactions.specs.Transactions.{Makes};
+ghost use Rattle.sql_statements.specs.Transactions.{Makes};
 ghost use Rattle.desk_records.specs.Layout.{desk_layout};
 ghost use Rattle.desk_edits.specs.RowEdits.{find_order};
 
 use ach_fields::{Id, Ref};
 use desk_queries::characters;
 use desk_records::{FromRow, OrderAndSettlement};
-use sql_transactions::query_first_inside;
+use sql_statements::query_first_inside;
 use sqlite::{Alter, Error, Transaction};
 
 /// Gives the number of the submission of a company under a reference, and when it settles, as the

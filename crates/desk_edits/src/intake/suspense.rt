@@ -2,7 +2,7 @@
 ghost use Rattle.std.specs.Prelude.{◌≡◌, OnOk};
 ghost use Rattle.sqlite.specs.Held.{state};
 ghost use Rattle.sqlite.specs.State.{HasCleanDisk, Survives, KeepsCommit};
-ghost use Rattle.sql_transactions.specs.Transactions.{Makes};
+ghost use Rattle.sql_statements.specs.Transactions.{Makes};
 ghost use Rattle.desk_records.specs.Layout.{desk_layout};
 ghost use Rattle.desk_records.specs.TableEdits.{put_suspense_edit, each_edit_on, next_number};
 
@@ -10,8 +10,7 @@ use crate::numbering::{NumberedTable, next_after};
 use crate::parameters::reason;
 use desk_history::SuspenseRow;
 use desk_queries::{characters, date, natural};
-use sql_statements::execute;
-use sql_transactions::{RowBody, run_each};
+use sql_statements::{RowBody, execute, run_each};
 use sqlite::{Alter, Error, Transaction};
 
 /// Writes the items in suspense of a file, numbered on from the last of the table.

@@ -3,7 +3,8 @@ use super::bank::{OPERATOR_DIGEST, identity};
 use super::commands::{ACCEPTED, COMMANDS, give, is_done};
 use super::tables::tables;
 use desk_core::{Desk, Identity};
-use desk_files::{FileFrom, FileStore, OpenFault, SqlStore, Wary, create, open};
+use desk_files::{FileFrom, FileStore, OpenFault, Wary, create, open};
+use desk_tables::SqlStore;
 use sqlite::{Alter, Connection, Error};
 use std::alloc::Global;
 use std::fs;
@@ -19,12 +20,11 @@ pub(super) fn make(
     path: &str,
     identity: Identity,
 ) -> Result<FileConnection, OpenFault> {
-    let store = create(rt, path, Wary, identity, OPERATOR_DIGEST)?;
-    Ok(store.into_connection())
+    create(rt, path, Wary, identity, OPERATOR_DIGEST)
 }
 
 fn found(rt: &HostRuntime, path: &str) -> Result<FileConnection, OpenFault> {
-    Ok(open(rt, path, Wary)?.into_connection())
+    open(rt, path, Wary)
 }
 
 fn batch<S: Alter>(conn: &mut Connection<S>, sql: &str) -> Result<(), Error> {

@@ -10,16 +10,16 @@ use Rattle.desk_cli.proofs.kept_session.answer_by_file.Goals as goal
 pub returns-in-Ok-clause-answered : goal.returns-in-Ok-clause-answered
 returns-in-Ok-clause-answered g c = λ fine.
     let held = image_at g.S.Start in
-    let was = c.in-Ok.store.conn in
-    has_answered_from (HasCleanDisk (file_state c.answer_by_tables-status.result.1.conn)) (HasCleanDisk (file_state c.answer_by_tables-status.result.1.conn)) (IsKeptIn held) (StandsBehind (Sees (file_state was)))
-    (λ clean. clean) (λ clean h kept. kept_stands held was h (c.in-Ok.ensures.found (c.answer_by_tables-status.ensures.before clean)) kept) _ _ _ _ (c.answer_by_tables-status.ensures.answered fine)
+    let now = c.answer_by_tables-status.result.1 in
+    has_answered_from (HasCleanDisk (file_state now)) (HasCleanDisk (file_state now)) (IsKeptIn held) (StandsBehind (Sees (file_state c.in-Ok.conn)))
+    (λ clean. clean) (λ clean h kept. kept_stands held c.in-Ok.conn h (c.in-Ok.ensures.found (c.answer_by_tables-status.ensures.before clean)) kept) _ _ _ _ (c.answer_by_tables-status.ensures.answered fine)
 
 pub returns-in-Ok-clause-failed : goal.returns-in-Ok-clause-failed
 returns-in-Ok-clause-failed g c = λ failed.
     let held = image_at g.S.Start in
-    let was = c.in-Ok.store.conn in
-    breaks_off_from (HasCleanDisk (file_state c.answer_by_tables-status.result.1.conn)) (HasCleanDisk (file_state c.answer_by_tables-status.result.1.conn)) (IsKeptIn held) (StandsBehind (Sees (file_state was)))
-    (λ clean. clean) (λ clean h kept. kept_stands held was h (c.in-Ok.ensures.found (c.answer_by_tables-status.ensures.before clean)) kept) _ _ _ (c.answer_by_tables-status.ensures.failed failed)
+    let now = c.answer_by_tables-status.result.1 in
+    breaks_off_from (HasCleanDisk (file_state now)) (HasCleanDisk (file_state now)) (IsKeptIn held) (StandsBehind (Sees (file_state c.in-Ok.conn)))
+    (λ clean. clean) (λ clean h kept. kept_stands held c.in-Ok.conn h (c.in-Ok.ensures.found (c.answer_by_tables-status.ensures.before clean)) kept) _ _ _ (c.answer_by_tables-status.ensures.failed failed)
 
 pub returns-in-Err-clause-answered : goal.returns-in-Err-clause-answered
 returns-in-Err-clause-answered g c = λ fine. (c.in-Err.fault, c.print_open_fault.ensures.answered fine)

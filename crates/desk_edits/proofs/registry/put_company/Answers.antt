@@ -1,5 +1,5 @@
 use Rattle.sqlite.specs.Held.{state}
-use Rattle.sql_transactions.proofs.Edits.{makes_of}
+use Rattle.sql_statements.proofs.Edits.{makes_of}
 use Rattle.desk_records.specs.Layout.{desk_layout}
 use Rattle.desk_records.specs.TableEdits.{put_company_edit}
 use Rattle.desk_edits.proofs.Companies.{company_put}

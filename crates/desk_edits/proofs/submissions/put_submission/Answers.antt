@@ -1,6 +1,6 @@
 use Rattle.std.proofs.Common.{rules}
 use Rattle.sqlite.specs.Held.{state}
-use Rattle.sql_transactions.proofs.Edits.{makes_of}
+use Rattle.sql_statements.proofs.Edits.{makes_of}
 use Rattle.desk_records.specs.Layout.{desk_layout}
 use Rattle.desk_records.specs.TableEdits.{new_submission_record, put_submission_edit}
 use Rattle.desk_edits.proofs.SubmissionRows.{submission_put}

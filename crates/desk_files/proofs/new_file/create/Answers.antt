@@ -5,4 +5,4 @@ use Rattle.desk_files.proofs.new_file.create.Goals as goal
 pub returns-clause-created : goal.returns-clause-created
 returns-clause-created g c =
     let was = c.in_ok-conn.ensures in
-    made_in (image_at g.S.Start) c.in_ok-conn.conn was.opened was.found (λ s. s.conn) c.args.identity c.args.operator_key c.create_on.result c.create_on.ensures.before c.create_on.ensures.created
+    made_in (image_at g.S.Start) c.in_ok-conn.conn was.opened was.found c.args.identity c.args.operator_key c.with_new_desk.result c.with_new_desk.ensures.before c.with_new_desk.ensures.desk

@@ -1,5 +1,5 @@
 use Rattle.std.proofs.Common.{ap}
-use Rattle.sql_transactions.proofs.Findings.{finds_as}
+use Rattle.sql_statements.proofs.Findings.{finds_as}
 use Rattle.desk_queries.proofs.Found.{one_found}
 use Rattle.desk_queries.proofs.Injective.{key_digest_rows}
 use Rattle.desk_queries.proofs.RegistryShown.{operator_key_shown}

@@ -1,7 +1,7 @@
 use Rattle.std.proofs.Common.{arith}
 use Rattle.sqlite.specs.State.{HasCleanDisk}
 use Rattle.sqlite.specs.Held.{state}
-use Rattle.sql_transactions.proofs.Findings.{finds_then}
+use Rattle.sql_statements.proofs.Findings.{finds_then}
 use Rattle.desk_records.specs.Layout.{desk_layout}
 use Rattle.desk_queries.proofs.Found.{together}
 use Rattle.desk_queries.proofs.OpenParts.{open_found}

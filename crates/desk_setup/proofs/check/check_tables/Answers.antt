@@ -1,6 +1,6 @@
 use Rattle.std.proofs.Common.{rules, ◌≡◌, pos, sym, ap, ◌∙◌, subst}
 use Rattle.sqlite.specs.Held.{state}
-use Rattle.desk_schema.specs.Schema.{desk_schema}
+use Rattle.desk_records.specs.Schema.{desk_schema}
 use Rattle.desk_records.specs.RecordRows.{version}
 use Rattle.desk_setup.specs.Plain.{IsPlainSchema}
 use Rattle.desk_setup.proofs.DeskPlain.{desk_is_plain}

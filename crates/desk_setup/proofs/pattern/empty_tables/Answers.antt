@@ -2,7 +2,7 @@ use Rattle.std.proofs.Common.{rules, ◌≡◌, [], ap, ◌∙◌}
 use Rattle.sqlite.specs.Held.{state}
 use Rattle.sqlite.specs.Steps.{over_memory}
 use Rattle.sql_statements.specs.Definitions.{IsBlank}
-use Rattle.desk_schema.specs.Schema.{desk_schema, schema_of}
+use Rattle.desk_records.specs.Schema.{desk_schema, schema_of}
 use Rattle.desk_setup.proofs.Memory.{memory_is_clean}
 use Rattle.desk_setup.proofs.pattern.empty_tables.Goals as goal
 

@@ -1,7 +1,7 @@
 use Rattle.std.proofs.Common.{◌≡◌, rules}
 use Rattle.std.specs.Fmt.{signed_decimal}
 use Rattle.sqlite.specs.Held.{state}
-use Rattle.sql_transactions.proofs.Edits.{makes_of}
+use Rattle.sql_statements.proofs.Edits.{makes_of}
 use Rattle.desk_records.specs.Layout.{desk_layout}
 use Rattle.desk_records.specs.declared.records.BalanceRecord.{BalanceRecord}
 use Rattle.desk_edits.specs.LineEdits.{put_balance_edit}

@@ -1,7 +1,7 @@
 use Rattle.std.proofs.Common.{◌≡◌, rules, to_z, of_z}
 use Rattle.std.specs.Int.{w64}
 use Rattle.sqlite.specs.Held.{state}
-use Rattle.sql_transactions.proofs.Edits.{makes_of}
+use Rattle.sql_statements.proofs.Edits.{makes_of}
 use Rattle.desk_records.specs.Layout.{desk_layout}
 use Rattle.desk_edits.specs.LineEdits.{put_posting_edit}
 use Rattle.desk_edits.proofs.PostingInserts.{posting_put}

@@ -1,7 +1,7 @@
 use Rattle.std.proofs.Common.{arith, sym, subst, ap, ◌∙◌}
 use Rattle.sqlite.specs.Held.{state}
-use Rattle.sql_transactions.proofs.Edits.{makes_both}
-use Rattle.sql_transactions.specs.Edits.{each_edit_from}
+use Rattle.sql_statements.proofs.Edits.{makes_both}
+use Rattle.sql_statements.specs.Edits.{each_edit_from}
 use Rattle.desk_records.specs.Layout.{desk_layout}
 use Rattle.desk_records.specs.TableEdits.{set_holidays_edit}
 use Rattle.desk_edits.specs.HolidayEdits.{clear_holidays_edit, put_holiday_edit}

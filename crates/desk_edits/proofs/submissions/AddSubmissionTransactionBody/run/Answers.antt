@@ -1,7 +1,7 @@
 use Rattle.std.proofs.Common.{arith, option_and_then}
 use Rattle.sqlite.specs.Held.{state}
-use Rattle.sql_transactions.proofs.Edits.{makes_then}
-use Rattle.sql_transactions.specs.Edits.{then_edit, each_edit_from}
+use Rattle.sql_statements.proofs.Edits.{makes_then}
+use Rattle.sql_statements.specs.Edits.{then_edit, each_edit_from}
 use Rattle.desk_records.specs.Layout.{desk_layout}
 use Rattle.desk_records.specs.TableEdits.{put_submission_edit, put_entry_edit, put_authorization_edit}
 use Rattle.desk_edits.proofs.submissions.AddSubmissionTransactionBody.run.Goals as goal

@@ -1,8 +1,8 @@
 use Rattle.std.proofs.Common.{IfOk, subst}
 use Rattle.sqlite.specs.Held.{state}
-use Rattle.sql_transactions.proofs.Books.{clean_before}
-use Rattle.sql_transactions.specs.Findings.{Finds}
-use Rattle.sql_transactions.specs.Transactions.{Leaves}
+use Rattle.sql_statements.proofs.Books.{clean_before}
+use Rattle.sql_statements.specs.Findings.{Finds}
+use Rattle.sql_statements.specs.Transactions.{Leaves}
 use Rattle.desk_records.specs.Layout.{desk_layout}
 use Rattle.desk_records.specs.TableEdits.{commit_cut_edit}
 use Rattle.desk_records.specs.TableReads.{IsLastNumber}

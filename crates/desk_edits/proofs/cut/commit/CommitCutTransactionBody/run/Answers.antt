@@ -1,9 +1,9 @@
 use Rattle.std.proofs.Common.{arith, subst}
 use Rattle.sqlite.specs.Held.{state}
 use Rattle.sqlite.specs.State.{HasCleanDisk}
-use Rattle.sql_transactions.proofs.Edits.{makes_then, unnumbered}
-use Rattle.sql_transactions.specs.Edits.{then_edit, each_edit, each_edit_from}
-use Rattle.sql_transactions.specs.Transactions.{Makes}
+use Rattle.sql_statements.proofs.Edits.{makes_then, unnumbered}
+use Rattle.sql_statements.specs.Edits.{then_edit, each_edit, each_edit_from}
+use Rattle.sql_statements.specs.Transactions.{Makes}
 use Rattle.desk_records.specs.Layout.{desk_layout}
 use Rattle.desk_records.specs.TableEdits.{send_edit, lapse_edit, place_edit, put_lines_edit, put_file_edit}
 use Rattle.desk_edits.proofs.cut.commit.CommitCutTransactionBody.run.Goals as goal

@@ -2,7 +2,7 @@ use Rattle.std.proofs.Common.{refl, arith}
 use Rattle.std.specs.Int.{IsInRange}
 use Rattle.ach_fields.specs.Trace.{most_sequence}
 use Rattle.sqlite.specs.Held.{state}
-use Rattle.sql_transactions.proofs.Edits.{makes_both}
+use Rattle.sql_statements.proofs.Edits.{makes_both}
 use Rattle.desk_records.specs.Layout.{desk_layout}
 use Rattle.desk_records.specs.TableEdits.{place_edit}
 use Rattle.desk_edits.specs.PlaceEdits.{mark_entry_edit, put_number_edit}

@@ -1,7 +1,7 @@
 use Rattle.std.proofs.Common.{arith}
 use Rattle.sqlite.specs.Held.{state}
-use Rattle.sql_transactions.proofs.Edits.{makes_then}
-use Rattle.sql_transactions.specs.Edits.{then_edit}
+use Rattle.sql_statements.proofs.Edits.{makes_then}
+use Rattle.sql_statements.specs.Edits.{then_edit}
 use Rattle.desk_records.specs.Layout.{desk_layout}
 use Rattle.desk_records.specs.TableEdits.{put_return_edit, put_change_edit, put_suspense_edit, put_lines_edit, put_taken_edit, each_edit_on, next_number}
 use Rattle.desk_edits.proofs.intake.commit.CommitIntakeTransactionBody.run.Goals as goal

@@ -1,5 +1,0 @@
-pub mod FirstVersion
-pub mod Migrated
-pub mod Migration
-pub mod Texts
-pub mod Versions

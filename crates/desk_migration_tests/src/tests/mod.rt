@@ -1,2 +1,0 @@
-mod first_version;
-mod migrations;

@@ -1,0 +1,47 @@
+//! The body of a transaction is made and committed.
+ghost use Rattle.std.specs.Prelude.{◌≡◌, false, IsTrue, OnOk, OnErr, Err};
+ghost use Rattle.sqlite.specs.Held.{state};
+ghost use Rattle.sqlite.specs.State.{HasCleanDisk, Survives, KeepsCommit};
+ghost use Rattle.sql_statements.specs.Queries.{Stays};
+ghost use Rattle.sql_statements.specs.Edits.{Edit};
+ghost use Rattle.sql_statements.specs.Layouts.{Layout};
+ghost use Rattle.sql_statements.specs.Transactions.{Makes, Commits, Leaves};
+
+use crate::transaction::live::check_live;
+use sqlite::{Alter, Connection, Error, Transaction};
+
+/// A `TransactionBody` has the statements of one transaction, which make an edit of the tables.
+pub trait TransactionBody {
+    /// Says how the tables stand in the database.
+    ghost layout: { Layout };
+
+    /// Says what becomes of the tables.
+    ghost edit: { Self → Edit layout.Tables };
+
+    /// Runs the statements. After an error the transaction has to be rolled back.
+    fn run<S: Alter>(&self, tx: &mut Transaction<'_, S>) -> Result<(), Error>
+        ensures same_reference { tx.new.conn.ghost_name ≡ tx.old.conn.ghost_name }
+        ensures makes { HasCleanDisk (state S.Store tx.new.conn.now) → OnOk result (Makes layout (edit self.now) (state S.Store tx.old.conn.now) (state S.Store tx.new.conn.now)) }
+        ensures keeps { HasCleanDisk (state S.Store tx.new.conn.now) → KeepsCommit (state S.Store tx.old.conn.now) (state S.Store tx.new.conn.now) }
+        ensures survives { Survives (state S.Store tx.old.conn.now) (state S.Store tx.new.conn.now) (λ _. ⊥) };
+}
+
+/// Makes the edit of a body whole, in one transaction, or leaves the tables as they were: where the
+/// body or the commit ends with an error, everything is rolled back. A crash leaves the tables before
+/// the edit or after it. A connection that is inside a transaction is refused with
+/// `Error::InvalidQuery`, and its transaction goes on.
+pub fn commit<S: Alter, B: TransactionBody>(conn: &mut Connection<S>, body: &B) -> Result<(), Error>
+    ensures done { HasCleanDisk (state S.Store conn.new) → OnOk result (Commits B.TransactionBody.layout (B.TransactionBody.edit body.now) (state S.Store conn.old) (state S.Store conn.new)) }
+    ensures undone { HasCleanDisk (state S.Store conn.new) → OnErr result (Stays (state S.Store conn.old) (state S.Store conn.new)) }
+    ensures survives { Survives (state S.Store conn.old) (state S.Store conn.new) (Leaves B.TransactionBody.layout (B.TransactionBody.edit body.now) (state S.Store conn.old)) }
+    ensures refused { IsTrue conn.old.in_transaction → (result ≡ Err Error.InvalidQuery) × (conn.new ≡ conn.old) }
+    ensures ended { conn.old.in_transaction ≡ false → conn.new.in_transaction ≡ false }
+{
+    if !conn.is_autocommit() {
+        return Err(Error::InvalidQuery);
+    }
+    let mut tx = conn.transaction();
+    check_live(&mut tx)?;
+    body.run(&mut tx)?;
+    tx.commit()
+}

@@ -1,6 +1,0 @@
-pub mod Books
-pub mod Edits
-pub mod Findings
-pub mod Layouts
-pub mod OneRow
-pub mod Transactions
