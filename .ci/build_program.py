@@ -94,7 +94,7 @@ def commands_of(crate, uses, jobs):
         return [[*words, "--statements", "-o", made_of(crate)]]
     tools, part = ["--toolchain", KIT / "toolchain"], OUT / f"{PROGRAM}.o"
     link = [KIT / "bin/rattle-link", "--target", "x86_64-unknown-linux-gnu", *tools, "-o", made_of(crate), part]
-    # The program is a little slower than by clang, which would take two minutes.
+    # The program is up to a fifth slower than by clang, which took two minutes at the end, on one core.
     return [[*words, *tools, "--backend", "rattle", "-o", part], [*link, KIT / "c/libos_c.a", KIT / "c/liblibc_c.a"]]
 
 
