@@ -1,9 +1,11 @@
-//! The tests of `ach_files`: worked files from outside, files with one thing wrong, and files at the
-//! limits.
+//! The tests of `ach_fields`, `ach_records` and `ach_files`: fields and records of files that banks
+//! exchange, worked files from outside, files with one thing wrong, and files at the limits.
 //!
-//! They have a crate of their own so that the reader and the printer are not proved once more beside
-//! them. Nothing but tests stands here.
+//! They have a crate of their own so that none of these is proved once more beside them. Nothing but
+//! tests stands here.
 #![tactic(auto)]
 
 #[cfg(test)]
-mod tests;
+mod files;
+#[cfg(test)]
+mod records;

@@ -14,6 +14,3 @@ pub use acceptance::put_acceptance;
 pub use drafts::{company_draft, day_draft, limits_draft, retry_draft, submission_draft};
 pub use read::read_object;
 pub use refusals::{fault_text, refusal_text};
-
-#[cfg(test)]
-mod tests;

@@ -11,6 +11,3 @@ mod room;
 pub use members::{put_decimal, put_flag, put_key, put_number, put_signed, put_text};
 pub use quoted::put_quoted;
 pub use room::{put, put_comma};
-
-#[cfg(test)]
-mod tests;

@@ -12,8 +12,8 @@ fn a_submission_and_a_file_that_is_not_there(rt: HostRuntime) {
         PAY_1.as_bytes(),
         &mut output,
     );
-    assert_eq!(rt; status, Status::Done);
-    assert_eq!(rt; output.as_slice(), PAY_1_LINE.as_bytes());
+    assert!(rt; status == Status::Done);
+    assert!(rt; output.as_slice() == PAY_1_LINE.as_bytes());
 
     let mut output = Vec::new(rt.alloc());
     let nobody: &[u8] = b"";
@@ -23,8 +23,8 @@ fn a_submission_and_a_file_that_is_not_there(rt: HostRuntime) {
         nobody,
         &mut output,
     );
-    assert_eq!(rt; status, Status::Failed);
-    assert_eq!(rt; output.as_slice(), b"unavailable\n".as_slice());
+    assert!(rt; status == Status::Failed);
+    assert!(rt; output.as_slice() == b"unavailable\n".as_slice());
 }
 
 #[test]
@@ -88,7 +88,7 @@ fn words_and_their_exit_status(rt: HostRuntime) {
     ];
     for (words, code, start) in rows {
         let mut output = Vec::new(rt.alloc());
-        assert_eq!(rt; run_words(&rt, words, PAY_1.as_bytes(), &mut output), code);
+        assert!(rt; run_words(&rt, words, PAY_1.as_bytes(), &mut output) == code);
         assert!(rt; output.as_slice().starts_with(start));
     }
 }
@@ -102,12 +102,12 @@ fn help_and_usage(rt: HostRuntime) -> Result<(), Fail> {
     ];
     for (fault, code, line) in &rows {
         let mut output = Vec::new(rt.alloc());
-        assert_eq!(rt; print_line_fault(&mut output, fault), *code);
-        assert_eq!(rt; output.as_slice(), line.as_bytes());
+        assert!(rt; print_line_fault(&mut output, fault) == *code);
+        assert!(rt; output.as_slice() == line.as_bytes());
     }
     let mut output = Vec::new(rt.alloc());
     let text = String::from_str(rt.alloc(), "error: wrong words\n")?;
-    assert_eq!(rt; print_line_fault(&mut output, &LineFault::Usage(text)), 2);
-    assert_eq!(rt; output.as_slice(), b"error: wrong words\n".as_slice());
+    assert!(rt; print_line_fault(&mut output, &LineFault::Usage(text)) == 2);
+    assert!(rt; output.as_slice() == b"error: wrong words\n".as_slice());
     Ok(())
 }

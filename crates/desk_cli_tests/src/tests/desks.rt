@@ -52,7 +52,7 @@ fn what_is_no_desk_stays_as_it_is(rt: HostRuntime) -> Result<(), Fail> {
     fs::write(&rt, path, text)?;
     assert!(rt; says(&rt, path, SAMPLE_BANK, Status::Failed, "unavailable\n"));
     let kept = fs::read(&rt, path)?;
-    assert_eq!(rt; kept.as_slice(), text);
+    assert!(rt; kept.as_slice() == text);
     clear(&rt, path)?;
     assert!(rt;
         says(
@@ -125,8 +125,8 @@ fn the_words_of_a_new_desk(rt: HostRuntime) -> Result<(), Fail> {
         "--key=operator-key",
     ];
     let mut printed = Vec::new(rt.alloc());
-    assert_eq!(rt; run_words(&rt, &words, NOBODY, &mut printed), 0);
-    assert_eq!(rt; run_words(&rt, &words, NOBODY, &mut printed), 1);
-    assert_eq!(rt; printed.as_slice(), b"created\nExists\n".as_slice());
+    assert!(rt; run_words(&rt, &words, NOBODY, &mut printed) == 0);
+    assert!(rt; run_words(&rt, &words, NOBODY, &mut printed) == 1);
+    assert!(rt; printed.as_slice() == b"created\nExists\n".as_slice());
     clear(&rt, path)
 }

@@ -206,14 +206,14 @@ fn reads_and_writes_share_the_tries(rt: HostRuntime) {
             } else {
                 (Status::Failed, "")
             };
-            assert_eq!(rt; status, wanted, "{reads} {writes}");
-            assert_eq!(rt; text.as_slice(), printed.as_bytes(), "{reads} {writes}");
+            assert!(rt; status == wanted, "{reads} {writes}");
+            assert!(rt; text.as_slice() == printed.as_bytes(), "{reads} {writes}");
         }
     }
     for run in RUNS {
         let (status, text) = run_interrupted(&rt, run, 1_001, 0);
-        assert_eq!(rt; status, Status::Failed);
-        assert_eq!(rt; text.as_slice(), b"unavailable\n".as_slice());
+        assert!(rt; status == Status::Failed);
+        assert!(rt; text.as_slice() == b"unavailable\n".as_slice());
     }
 }
 
@@ -237,8 +237,8 @@ fn no_other_failure_is_tried_again(rt: HostRuntime) {
                 };
                 let mut output = Vec::new(rt.alloc());
                 let status = run.over(&rt, reader, &mut output);
-                assert_eq!(rt; status, Status::Failed, "{left}");
-                assert_eq!(rt; output.as_slice(), b"unavailable\n".as_slice(), "{left}");
+                assert!(rt; status == Status::Failed, "{left}");
+                assert!(rt; output.as_slice() == b"unavailable\n".as_slice(), "{left}");
             }
         }
         for room in [0, 1, 52] {
@@ -249,10 +249,9 @@ fn no_other_failure_is_tried_again(rt: HostRuntime) {
                 room,
             };
             let status = first_run(rt.alloc(), PAY_1.as_bytes(), &mut writer);
-            assert_eq!(rt; status, Status::Failed, "{room}");
-            assert_eq!(rt;
-                Some(writer.text.as_slice()),
-                PAY_1_LINE.as_bytes().get(..room),
+            assert!(rt; status == Status::Failed, "{room}");
+            assert!(rt;
+                Some(writer.text.as_slice()) == PAY_1_LINE.as_bytes().get(..room),
                 "{room}"
             );
         }
@@ -275,10 +274,9 @@ fn a_writer_takes_a_prefix(rt: HostRuntime) {
         } else {
             Status::Done
         };
-        assert_eq!(rt; status, wanted, "{room}");
-        assert_eq!(rt;
-            Some(writer.text.as_slice()),
-            PAY_1_LINE.as_bytes().get(..taken),
+        assert!(rt; status == wanted, "{room}");
+        assert!(rt;
+            Some(writer.text.as_slice()) == PAY_1_LINE.as_bytes().get(..taken),
             "{room}"
         );
     }
@@ -306,8 +304,8 @@ fn a_flush_that_fails_is_a_failed_write(rt: HostRuntime) -> Result<(), Fail> {
         } else {
             (Status::Failed, "")
         };
-        assert_eq!(rt; status, wanted, "{failures}");
-        assert_eq!(rt; writer.text.as_slice(), line.as_bytes(), "{failures}");
+        assert!(rt; status == wanted, "{failures}");
+        assert!(rt; writer.text.as_slice() == line.as_bytes(), "{failures}");
 
         let mut writer = BufferedWriter {
             text: Vec::new(rt.alloc()),
@@ -317,7 +315,7 @@ fn a_flush_that_fails_is_a_failed_write(rt: HostRuntime) -> Result<(), Fail> {
         };
         let text = String::from_str(rt.alloc(), "error: wrong words\n")?;
         let code = print_line_fault(&mut writer, &LineFault::Usage(text));
-        assert_eq!(rt; code, if is_out { 2 } else { 3 }, "{failures}");
+        assert!(rt; code == if is_out { 2 } else { 3 }, "{failures}");
     }
     Ok(())
 }
@@ -330,8 +328,8 @@ fn no_more_is_read_than_decides(rt: HostRuntime) {
         left: 4_194_305,
         most: usize::MAX,
     };
-    assert_eq!(rt; first_run(rt.alloc(), body, &mut output), Status::Refused);
-    assert_eq!(rt; output.as_slice(), b"{\"error\":\"TooLarge\"}\n".as_slice());
+    assert!(rt; first_run(rt.alloc(), body, &mut output) == Status::Refused);
+    assert!(rt; output.as_slice() == b"{\"error\":\"TooLarge\"}\n".as_slice());
 
     let mut output = Vec::new(rt.alloc());
     let file = LongReader {
@@ -339,8 +337,8 @@ fn no_more_is_read_than_decides(rt: HostRuntime) {
         left: 4_194_305,
         most: 65_536,
     };
-    assert_eq!(rt; check_file(rt.alloc(), file, &mut output), Status::Refused);
-    assert_eq!(rt; output.as_slice(), b"TooLarge at record 6\n".as_slice());
+    assert!(rt; check_file(rt.alloc(), file, &mut output) == Status::Refused);
+    assert!(rt; output.as_slice() == b"TooLarge at record 6\n".as_slice());
 
     let mut output = Vec::new(rt.alloc());
     let list = LongReader {
@@ -348,9 +346,6 @@ fn no_more_is_read_than_decides(rt: HostRuntime) {
         left: 4_194_305,
         most: usize::MAX,
     };
-    assert_eq!(rt;
-        submit_list(rt.alloc(), &OPTIONS, list, &mut output),
-        Status::Refused
-    );
-    assert_eq!(rt; output.as_slice(), b"too large\n".as_slice());
+    assert!(rt; submit_list(rt.alloc(), &OPTIONS, list, &mut output) == Status::Refused);
+    assert!(rt; output.as_slice() == b"too large\n".as_slice());
 }

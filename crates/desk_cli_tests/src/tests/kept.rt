@@ -40,7 +40,7 @@ fn a_submission_is_taken_once_over_sessions(rt: HostRuntime) -> Result<(), Fail>
     clear(&rt, path)?;
     let mut printed = Vec::new(rt.alloc());
     let made = run(&rt, &Command::Init(path, SAMPLE_BANK), NOBODY, &mut printed);
-    assert_eq!(rt; made, Status::Done);
+    assert!(rt; made == Status::Done);
     assert!(rt;
         answers(
             &rt,

@@ -88,7 +88,7 @@ pub(super) fn run<S: Store>(
     let mut reader = input;
     let mut out = Vec::new(rt.alloc());
     let ended = session(rt.alloc(), desk, &mut reader, &mut out);
-    assert_eq!(rt; ended, Ok(Ended::Closed));
+    assert!(rt; ended == Ok(Ended::Closed));
     out
 }
 
@@ -105,7 +105,7 @@ pub(super) fn follow<S: Store>(
         add_response(rt, &mut wanted, asks, status, answer);
     }
     let out = run(rt, desk, &input);
-    assert_eq!(rt; out.as_slice(), wanted.as_slice());
+    assert!(rt; out.as_slice() == wanted.as_slice());
 }
 
 /// Does so over lists and over tables, each the store of a new desk of the sample bank.

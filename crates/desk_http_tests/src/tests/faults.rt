@@ -125,22 +125,22 @@ fn a_fault_of_the_head_ends_the_session(rt: HostRuntime) {
         &rt,
         b"POST /ops/day HTTP/1.1\r\nX-Desk-Key: operator-key\r\n\r\nGET /nowhere HTTP/1.1\r\n\r\n",
     );
-    assert_eq!(rt;
-        out.as_slice(),
-        b"HTTP/1.1 411 Length Required\r\nContent-Type: application/json\r\nContent-Length: 26\r\nConnection: close\r\n\r\n{\"error\":\"LengthRequired\"}".as_slice()
+    assert!(rt;
+        out.as_slice()
+            == b"HTTP/1.1 411 Length Required\r\nContent-Type: application/json\r\nContent-Length: 26\r\nConnection: close\r\n\r\n{\"error\":\"LengthRequired\"}".as_slice()
     );
     let out = answer_to(
         &rt,
         b"POST /ops/returns HTTP/1.1\r\nContent-Length: 4194305\r\n\r\n",
     );
-    assert_eq!(rt;
-        out.as_slice(),
-        b"HTTP/1.1 413 Payload Too Large\r\nContent-Type: application/json\r\nContent-Length: 20\r\nConnection: close\r\n\r\n{\"error\":\"TooLarge\"}".as_slice()
+    assert!(rt;
+        out.as_slice()
+            == b"HTTP/1.1 413 Payload Too Large\r\nContent-Type: application/json\r\nContent-Length: 20\r\nConnection: close\r\n\r\n{\"error\":\"TooLarge\"}".as_slice()
     );
     let out = answer_to(&rt, b"GET /nowhere HTTP/1.1\r\nContent-Length: +0\r\n\r\n");
-    assert_eq!(rt;
-        out.as_slice(),
-        b"HTTP/1.1 400 Bad Request\r\nContent-Type: application/json\r\nContent-Length: 19\r\nConnection: close\r\n\r\n{\"error\":\"BadHead\"}".as_slice()
+    assert!(rt;
+        out.as_slice()
+            == b"HTTP/1.1 400 Bad Request\r\nContent-Type: application/json\r\nContent-Length: 19\r\nConnection: close\r\n\r\n{\"error\":\"BadHead\"}".as_slice()
     );
 }
 
@@ -150,9 +150,9 @@ fn a_message_without_a_key_is_denied(rt: HostRuntime) {
         &rt,
         b"GET /ops/suspense HTTP/1.1\r\nConnection: Close\r\n\r\n",
     );
-    assert_eq!(rt;
-        out.as_slice(),
-        b"HTTP/1.1 403 Forbidden\r\nContent-Type: application/json\r\nContent-Length: 18\r\nConnection: close\r\n\r\n{\"error\":\"Denied\"}".as_slice()
+    assert!(rt;
+        out.as_slice()
+            == b"HTTP/1.1 403 Forbidden\r\nContent-Type: application/json\r\nContent-Length: 18\r\nConnection: close\r\n\r\n{\"error\":\"Denied\"}".as_slice()
     );
 }
 
@@ -162,9 +162,9 @@ fn the_first_key_counts_and_its_name_has_no_case(rt: HostRuntime) {
         &rt,
         b"GET /ops/suspense?all HTTP/1.0\r\nx-desk-KEY:  operator-key \r\nX-Desk-Key: other-key\r\n\r\n",
     );
-    assert_eq!(rt;
-        out.as_slice(),
-        b"HTTP/1.1 200 OK\r\nContent-Type: application/json\r\nContent-Length: 12\r\nConnection: close\r\n\r\n{\"items\":[]}".as_slice()
+    assert!(rt;
+        out.as_slice()
+            == b"HTTP/1.1 200 OK\r\nContent-Type: application/json\r\nContent-Length: 12\r\nConnection: close\r\n\r\n{\"items\":[]}".as_slice()
     );
 }
 

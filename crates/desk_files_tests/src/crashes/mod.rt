@@ -1,0 +1,12 @@
+mod damage;
+mod exchanges;
+mod faults;
+mod full;
+mod images;
+mod limits;
+mod paths;
+mod scripts;
+mod tasks;
+mod tears;
+mod trials;
+mod visits;
