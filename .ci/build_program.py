@@ -164,7 +164,8 @@ def main():
         say("it is proved and built first, and that needs the Rattle toolchain: its command rattle is not on the PATH")
         return 1
     LIBRARIES.mkdir(parents=True, exist_ok=True)
-    say(f"{len(below)} crates are proved and the program is built first, on {cores} cores; this takes some minutes")
+    say(f"{len(below)} crates are proved and the program is built first, on {cores} cores; on four this takes half an hour")
+    say(f"rt try in crates/{PROGRAM} answers in three minutes, with nothing proved")
     if not prove_all(below, uses, cores):
         return 1
     say(f"{PROGRAM} begins")
