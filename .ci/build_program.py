@@ -37,8 +37,8 @@ def uses_of_crates():
     return {it.partition(":")[0].split()[0]: it.partition(":")[2].split() for it in lines if ":" in it}
 
 
-def crates_below(uses):
-    """Returns the crates of this repository that the program stands on, itself last, each with those below it."""
+def crates_below(uses, *tops):
+    """Returns the crates of this repository that these stand on, themselves last, each with those below it."""
     found = {}
 
     def visit(name):
@@ -50,7 +50,8 @@ def crates_below(uses):
         found[name] = below
         return below
 
-    visit(PROGRAM)
+    for it in tops:
+        visit(it)
     return found
 
 
@@ -82,14 +83,19 @@ def sum_of(crate, below, uses):
     return total.hexdigest()
 
 
-def commands_of(crate, uses, jobs):
-    """Returns the commands that prove a crate and make its library, or the program."""
+def sources_of(crate, uses):
+    """Returns the words that tell rattle a crate's root, the libraries that it uses and the logic."""
     root = "src/main.rt" if crate == PROGRAM else "src/lib.rt"
-    words = [KIT / "bin/rattle", "build", "--crate-name", crate, root, "--links", f"{crate}=", "--jobs", jobs]
+    words = ["--crate-name", crate, root, "--links", f"{crate}="]
     for it in ("std", *uses[crate]):
         words += ["--extern", f"{it}={LIBRARIES if it in uses else KIT / 'rlibs'}/{it}.rlib"]
     words += ["-L", f"dependency={LIBRARIES}", "-L", f"dependency={KIT}/rlibs"]
-    words += ["--antt-project", KIT / "rattle/logic/antt-project.json", "--logic-built", KIT / "logic_built"]
+    return [*words, "--antt-project", KIT / "rattle/logic/antt-project.json", "--logic-built", KIT / "logic_built"]
+
+
+def commands_of(crate, uses, jobs):
+    """Returns the commands that prove a crate and make its library, or the program."""
+    words = [KIT / "bin/rattle", "build", *sources_of(crate, uses), "--jobs", jobs]
     if crate != PROGRAM:
         return [[*words, "--statements", "-o", made_of(crate)]]
     tools, part = ["--toolchain", KIT / "toolchain"], OUT / f"{PROGRAM}.o"
@@ -159,7 +165,7 @@ def prove_all(below, uses, cores):
 
 def main():
     start, cores, uses = time.monotonic(), len(os.sched_getaffinity(0)), uses_of_crates()
-    below = crates_below(uses)
+    below = crates_below(uses, PROGRAM)
     if not (KIT / "KIT-ID").is_file():
         say("it is proved and built first, and that needs the Rattle toolchain: its command rattle is not on the PATH")
         return 1
