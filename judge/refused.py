@@ -1,4 +1,4 @@
-"""Tries wrong bodies: `python3 judge/refused.py [--jobs N] [CRATE ..]`.
+"""Tries wrong bodies: `python3 judge/refused.py [--jobs N] [--why] [CRATE ..]`.
 
 Each edit in `crates/CRATE/must-fail/` and `judge/edits/CRATE/` makes a crate wrong, and the prover has to refuse
 it. The gate tries the former alone; this tries all of them, or those of the crates that are named, N at a time (by
@@ -6,8 +6,9 @@ default as many as there are cores). A crate is proved once, and each of its edi
 work. What is proved stays in out/, so that the next run begins from there.
 
 An edit has lines `file: PATH`, `old: TEXT` and `new: TEXT`; each old text stands in its file exactly once. A line
-is printed for each edit that is not refused as it must be, and a count at the end. The status is 0 where all are
-refused, 1 where one is not, and 2 where a crate itself is not proved.
+is printed for each edit that is not refused as it must be, and a count at the end; with --why, also one for each that
+is refused, with the function that is no longer proved and the goal that is left of its contract. The status is 0 where
+all are refused, 1 where one is not, and 2 where a crate itself is not proved.
 """
 
 import argparse
@@ -87,12 +88,22 @@ def seed_of(crate, uses, below):
     return kept
 
 
-def fault_of(crate, edit, uses, seed):
-    """Returns why an edit is not refused as it must be, or None."""
+def refusal_of(lines):
+    """Returns the first function that is not proved, and what is left to prove of it."""
+    for line in lines:
+        at = re.match(r"fn (\S+): (?:no proof|not proved)(.*)", line)
+        if at:
+            goal = re.search(r"did not prove `([^`]*)`", at[2])
+            return f"{at[1]}: {goal[1] if goal else 'a goal that its proof file answers'}"
+    return next((it for it in lines if ": error" in it), lines[-1])
+
+
+def tried_edit(crate, edit, uses, seed):
+    """Returns why an edit is not refused as it must be, or None, and by what it is refused."""
     try:
         texts = edited(edit, crate)
     except (OSError, ValueError) as why:
-        return f"BAD EDIT: {why}"
+        return f"BAD EDIT: {why}", ""
     with tempfile.TemporaryDirectory(prefix="kept-") as room:
         shutil.copytree(seed, f"{room}/kept")
         status, lines = check(crate, uses, texts, f"{room}/kept")
@@ -100,14 +111,14 @@ def fault_of(crate, edit, uses, seed):
     told = [it for it in lines if re.match(r"(note: )?\S+:\d+:\d+:", it)]
     told = [it for it in told if ": error" in it or it.startswith("note: ")] or told
     if unread:
-        return f"BAD EDIT: the prover cannot read it: {unread[:160]}"
+        return f"BAD EDIT: the prover cannot read it: {unread[:160]}", ""
     if status == 0:
-        return "NOT REFUSED: the crate is still proved"
+        return "NOT REFUSED: the crate is still proved", ""
     if status != 1 or not lines[-1].startswith("logic=not-proved"):
-        return f"BAD EDIT: it did not reach the prover: {' '.join(lines[:3])[:240]}"
+        return f"BAD EDIT: it did not reach the prover: {' '.join(lines[:3])[:240]}", ""
     if told and all(OF_NAMES.match(it) for it in told):
-        return f"BAD EDIT: a proof file names what it took away: {told[0][:160]}"
-    return None
+        return f"BAD EDIT: a proof file names what it took away: {told[0][:160]}", ""
+    return None, refusal_of(lines)
 
 
 def is_unread(line, texts):
@@ -119,7 +130,7 @@ def is_unread(line, texts):
 
 
 def tried(crates, uses, below, jobs):
-    """Tries the edits of these crates, and gives for each its crate, its name and its fault, as they end."""
+    """Tries the edits of these crates, and gives for each its crate, its name, its fault and its refusal, as they end."""
     with ThreadPoolExecutor(jobs) as pool:
         seeds = {pool.submit(seed_of, it, uses, below[it]): it for it in crates}
         running = {}
@@ -127,16 +138,17 @@ def tried(crates, uses, below, jobs):
             crate, seed = seeds[ended], ended.result()
             for edit in edits_of(crate):
                 if seed is None:
-                    yield crate, edit.stem, "NOT TRIED"
+                    yield crate, edit.stem, "NOT TRIED", ""
                 else:
-                    running[pool.submit(fault_of, crate, edit, uses, seed)] = crate, edit.stem
+                    running[pool.submit(tried_edit, crate, edit, uses, seed)] = crate, edit.stem
         for ended in as_completed(running):
-            yield *running[ended], ended.result()
+            yield *running[ended], *ended.result()
 
 
 def main():
     parser = argparse.ArgumentParser(description=__doc__, formatter_class=argparse.RawDescriptionHelpFormatter)
     parser.add_argument("--jobs", type=int, default=len(os.sched_getaffinity(0)))
+    parser.add_argument("--why", action="store_true")
     parser.add_argument("crates", nargs="*", metavar="CRATE")
     given, uses, start = parser.parse_args(), proofs.uses_of_crates(), time.monotonic()
     crates = [it for it in given.crates or uses if edits_of(it)]
@@ -151,10 +163,10 @@ def main():
     # A crate whose proof takes long begins first.
     crates.sort(key=lambda it: -proofs.work_of(it, below[it], uses))
     count, faults, is_proved = 0, 0, True
-    for crate, name, fault in tried(crates, uses, below, given.jobs):
+    for crate, name, fault, refusal in tried(crates, uses, below, given.jobs):
         count, faults, is_proved = count + 1, faults + (fault is not None), is_proved and fault != "NOT TRIED"
-        if fault:
-            print(f"{crate}/{name}: {fault}", flush=True)
+        if fault or given.why:
+            print(f"{crate}/{name}: {fault or refusal}", flush=True)
     print(f"{count} tried, {count - faults} refused, {faults} not, in {time.monotonic() - start:.0f} seconds")
     return 2 if not is_proved else 1 if faults else 0
 
