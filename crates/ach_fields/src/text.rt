@@ -8,7 +8,7 @@ use crate::characters::are_printable;
 
 /// Gives the text in a field, without the blanks at its end.
 ///
-/// It is `NotText` where a character is no blank to `~`.
+/// Fails with `NotText` where a character is no blank to `~`.
 pub fn take_text(field: &[u8]) -> Result<&[u8], FieldFault>
     ensures { MatchResult result (λ text. text_in field.now ≡ Ok text.now) (λ f. text_in field.now ≡ Err f) }
 {
@@ -31,8 +31,8 @@ pub fn without_blanks_after(text: &[u8]) -> &[u8]
 
 /// Writes a text into a field, with blanks after it.
 ///
-/// It is `TooLong` where the field has too few bytes, else `NotText` where a character is no blank to
-/// `~`; the field then stays as it was.
+/// Fails with `TooLong` where the field has too few bytes, else with `NotText` where a character is
+/// no blank to `~`; the field then stays as it was.
 pub fn put_text(text: &[u8], field: &mut [u8]) -> Result<(), FieldFault>
     ensures { Puts (text_field (length field.old) text.now) result field.old field.new }
 {

@@ -41,7 +41,7 @@ impl Model for Trace {
 impl Trace {
     /// Gives the trace of a bank's number and a sequence.
     ///
-    /// It is `TooLong` where the bank has more than eight digits or the sequence more than seven.
+    /// Fails with `TooLong` where the bank has more than eight digits or the sequence more than seven.
     pub fn new(dfi: u32, sequence: u32) -> Result<Trace, FieldFault>
         ensures { result ≡ trace_of dfi sequence }
     {

@@ -6,27 +6,27 @@ use ach_fields::Cents;
 /// end.
 #[derive(Clone, Copy, Debug, PartialEq, Eq)]
 pub enum ReturnOrChange {
-    /// It is an addenda 99, with its information.
+    /// An addenda 99, with its information.
     Return([u8; 44]),
-    /// It is an addenda 98, with the corrected data.
+    /// An addenda 98, with the corrected data.
     Change([u8; 29]),
 }
 
 /// `ItemFacts` are what an item of a file says: a returned or changed entry with its addenda.
 #[derive(Clone, Copy, Debug, PartialEq, Eq)]
 pub struct ItemFacts {
-    /// It is the SEC code of its batch.
+    /// The SEC code of its batch.
     pub sec_code: [u8; 3],
-    /// It is the transaction code, of two digits.
+    /// The transaction code, of two digits.
     pub transaction_code: u8,
-    /// It is the amount in cents, zero for a change.
+    /// The amount in cents, zero for a change.
     pub cents: Cents,
-    /// It is the return code or change code.
+    /// The return code or change code.
     pub code: [u8; 3],
-    /// It is the trace number of the entry that is returned or changed.
+    /// The trace number of the entry that is returned or changed.
     pub original_trace: [u8; 15],
-    /// It is the receiving DFI of that entry.
+    /// The receiving DFI of that entry.
     pub original_dfi: [u8; 8],
-    /// It is the addenda itself.
+    /// The addenda itself.
     pub return_or_change: ReturnOrChange,
 }

@@ -11,30 +11,30 @@ use std::alloc::AllocError;
 pub enum Addenda<'a> {
     /// Nothing stands there.
     Absent,
-    /// It is the payment information of an addenda 05, whose digits are those of the entry's trace.
+    /// The payment information of an addenda 05, whose digits are those of the entry's trace.
     Payment(&'a [u8]),
-    /// It is an addenda 98.
+    /// An addenda 98.
     Change(Change98Text<'a>),
-    /// It is an addenda 99.
+    /// An addenda 99.
     Return(Return99Text<'a>),
 }
 
 /// An `OutgoingEntry` is an entry and its addenda. The addenda indicator follows from the addenda.
 #[derive(Clone, Copy)]
 pub struct OutgoingEntry<'a> {
-    /// It is the transaction code, of two digits.
+    /// The transaction code, of two digits.
     pub transaction: u8,
-    /// It is the receiving DFI, of eight digits.
+    /// The receiving DFI, of eight digits.
     pub dfi: u32,
-    /// It is the ninth digit of the receiver's routing number.
+    /// The ninth digit of the receiver's routing number.
     pub check_digit: u8,
-    /// It has at most 17 characters.
+    /// The account number, at most 17 characters.
     pub account: &'a [u8],
-    /// It is the amount in cents, of at most ten digits.
+    /// The amount in cents, of at most ten digits.
     pub cents: Cents,
-    /// It has at most 15 characters.
+    /// The receiver's identification, at most 15 characters.
     pub identification: &'a [u8],
-    /// It has at most 22 characters.
+    /// The receiver's name, at most 22 characters.
     pub name: &'a [u8],
     pub trace: Trace,
     pub addenda: Addenda<'a>,

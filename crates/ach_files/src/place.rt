@@ -24,11 +24,11 @@ pub enum Position {
 /// A `Step` is what a byte does.
 #[derive(Clone, Copy)]
 pub enum Step {
-    /// It is one of a record, of which so many bytes came before it.
+    /// The byte belongs to a record, of which so many bytes came before it.
     Put(usize),
-    /// It leads there.
+    /// The byte leads to this place.
     Go(Position),
-    /// It may not stand here.
+    /// The byte may not stand at its place.
     Stray,
 }
 

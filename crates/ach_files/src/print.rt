@@ -1,4 +1,4 @@
-//! A file is printed here.
+//! The text of an outgoing file.
 ghost use Rattle.std.specs.Prelude.{◌≡◌, None, MatchResult};
 ghost use Rattle.ach_files.specs.Outgoing.{outgoing_text, print_fault, TellsPrint};
 

@@ -24,7 +24,7 @@ pub struct OpenBatch {
 pub struct PendingEntry {
     pub transaction_code: u8,
     pub dfi: u64,
-    /// It is the amount in cents.
+    /// The amount in cents.
     pub cents: Cents,
     pub is_debit: bool,
 }

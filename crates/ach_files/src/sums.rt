@@ -1,4 +1,4 @@
-//! Entries are counted and summed up here.
+//! The counts and sums of entries.
 ghost use Rattle.std.specs.Prelude.{◌≡◌, ◌≤◌, ◌<◌, ◌^◌};
 ghost use Rattle.ach_fields.specs.Cents.{most_cents};
 ghost use Rattle.ach_files.specs.Totals.{low_digits};
@@ -13,11 +13,11 @@ use ach_fields::Cents;
 pub struct Sums {
     /// There are so many records 6 and 7.
     pub count: u64,
-    /// It is the sum of the receiving DFIs.
+    /// The sum of the receiving DFIs.
     pub hash: u64,
-    /// It is the sum of the debits, in cents.
+    /// The sum of the debits, in cents.
     pub debits: u64,
-    /// It is the sum of the credits, in cents.
+    /// The sum of the credits, in cents.
     pub credits: u64,
 }
 

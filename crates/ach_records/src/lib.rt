@@ -2,7 +2,7 @@
 //! viewed by their fields and printed from values.
 //!
 //! The layouts are the tables in `specs/Layout.antt`: each field has a name, a width and a class there.
-//! Nothing here takes memory.
+//! No function takes memory.
 #![tactic(auto)]
 
 mod fault;

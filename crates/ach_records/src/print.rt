@@ -1,4 +1,4 @@
-//! Records are printed here.
+//! Records as they are printed.
 ghost use Rattle.std.specs.Prelude.{◌≡◌, if◌then◌else◌};
 ghost use Rattle.ach_records.specs.Print.{Prints, row_text, file_header_row, batch_header_row, entry_row, addenda05_row, change98_row, return99_row, batch_control_row, file_control_row, filler_row};
 
@@ -8,127 +8,127 @@ use ach_fields::{Cents, FieldFault, Routing, Trace, Ymd};
 /// A `FileHeaderText` is what a file header says.
 #[derive(Clone, Copy)]
 pub struct FileHeaderText<'a> {
-    /// It is the immediate destination.
+    /// The immediate destination.
     pub destination: Routing,
-    /// It is the immediate origin.
+    /// The immediate origin.
     pub origin: Routing,
-    /// It is the day of creation.
+    /// The day of creation.
     pub date: Ymd,
-    /// It is the time of creation as a number HHMM, or blank.
+    /// The time of creation as a number HHMM, or blank.
     pub time: Option<u16>,
-    /// It is one character that tells the files of a day apart.
+    /// One character that tells the files of a day apart.
     pub modifier: &'a [u8],
-    /// It has at most 23 characters.
+    /// The name of the immediate destination, at most 23 characters.
     pub destination_name: &'a [u8],
-    /// It has at most 23 characters.
+    /// The name of the immediate origin, at most 23 characters.
     pub origin_name: &'a [u8],
 }
 
 /// A `BatchHeaderText` is what a batch header says.
 #[derive(Clone, Copy)]
 pub struct BatchHeaderText<'a> {
-    /// It is 200 for credits and debits, 220 for credits, 225 for debits.
+    /// 200 for credits and debits, 220 for credits, 225 for debits.
     pub service_class: u16,
-    /// It has at most 16 characters.
+    /// The name of the company, at most 16 characters.
     pub company_name: &'a [u8],
-    /// It is the company identification, at most 10 characters.
+    /// The company identification, at most 10 characters.
     pub company: &'a [u8],
-    /// It is the standard entry class code, at most 3 characters.
+    /// The standard entry class code, at most 3 characters.
     pub sec: &'a [u8],
-    /// It is the entry description, at most 10 characters.
+    /// The entry description, at most 10 characters.
     pub description: &'a [u8],
-    /// It is the effective entry date.
+    /// The effective entry date.
     pub effective: Ymd,
-    /// It is the settlement date as a day of the year, or blank.
+    /// The settlement date as a day of the year, or blank.
     pub settlement: Option<u16>,
-    /// It is the originating DFI, of eight digits.
+    /// The originating DFI, of eight digits.
     pub odfi: u32,
-    /// It is the batch number, of at most seven digits.
+    /// The batch number, of at most seven digits.
     pub number: u32,
 }
 
 /// An `EntryText` is what an entry says.
 #[derive(Clone, Copy)]
 pub struct EntryText<'a> {
-    /// It is the transaction code, of two digits.
+    /// The transaction code, of two digits.
     pub transaction: u8,
-    /// It is the receiving DFI, of eight digits.
+    /// The receiving DFI, of eight digits.
     pub dfi: u32,
-    /// It is the ninth digit of the receiver's routing number.
+    /// The ninth digit of the receiver's routing number.
     pub check_digit: u8,
-    /// It is the account number, at most 17 characters.
+    /// The account number, at most 17 characters.
     pub account: &'a [u8],
-    /// It is the amount in cents, of at most ten digits.
+    /// The amount in cents, of at most ten digits.
     pub cents: Cents,
-    /// It is the receiver's identification, at most 15 characters.
+    /// The receiver's identification, at most 15 characters.
     pub identification: &'a [u8],
-    /// It is the receiver's name, at most 22 characters.
+    /// The receiver's name, at most 22 characters.
     pub name: &'a [u8],
     /// Does a record 7 follow?
     pub has_addenda: bool,
-    /// It is the trace of the entry.
+    /// The trace of the entry.
     pub trace: Trace,
 }
 
 /// An `Addenda05Text` is what an addenda 05 says.
 #[derive(Clone, Copy)]
 pub struct Addenda05Text<'a> {
-    /// It is the payment information, at most 80 characters.
+    /// The payment information, at most 80 characters.
     pub information: &'a [u8],
-    /// It is the trace of the entry, whose sequence is printed.
+    /// The trace of the entry, whose sequence is printed.
     pub trace: Trace,
 }
 
 /// A `Change98Text` is what a notification of change says.
 #[derive(Clone, Copy)]
 pub struct Change98Text<'a> {
-    /// It is the change code, at most 3 characters.
+    /// The change code, at most 3 characters.
     pub code: &'a [u8],
-    /// It is the trace of the original entry, at most 15 characters.
+    /// The trace of the original entry, at most 15 characters.
     pub original_trace: &'a [u8],
-    /// It is the receiving DFI of the original entry, at most 8 characters.
+    /// The receiving DFI of the original entry, at most 8 characters.
     pub original_dfi: &'a [u8],
-    /// It is the corrected data, at most 29 characters.
+    /// The corrected data, at most 29 characters.
     pub corrected: &'a [u8],
-    /// It is the trace of the notification.
+    /// The trace of the notification.
     pub trace: Trace,
 }
 
 /// A `Return99Text` is what a return says.
 #[derive(Clone, Copy)]
 pub struct Return99Text<'a> {
-    /// It is the return code, at most 3 characters.
+    /// The return code, at most 3 characters.
     pub code: &'a [u8],
-    /// It is the trace of the original entry, at most 15 characters.
+    /// The trace of the original entry, at most 15 characters.
     pub original_trace: &'a [u8],
-    /// It is the date of death, at most 6 characters.
+    /// The date of death, at most 6 characters.
     pub date_of_death: &'a [u8],
-    /// It is the receiving DFI of the original entry, at most 8 characters.
+    /// The receiving DFI of the original entry, at most 8 characters.
     pub original_dfi: &'a [u8],
-    /// It is the addenda information, at most 44 characters.
+    /// The addenda information, at most 44 characters.
     pub information: &'a [u8],
-    /// It is the trace of the return.
+    /// The trace of the return.
     pub trace: Trace,
 }
 
 /// A `BatchControlText` is what a batch control says.
 #[derive(Clone, Copy)]
 pub struct BatchControlText<'a> {
-    /// It is as in the header of the batch.
+    /// The service class code of the batch's header.
     pub service_class: u16,
     /// It says how many records 6 and 7 the batch has, of at most six digits.
     pub count: u64,
-    /// It is the low ten digits of the sum of the receiving DFIs.
+    /// The low ten digits of the sum of the receiving DFIs.
     pub hash: u64,
-    /// It is the sum of the debits, in cents.
+    /// The sum of the debits, in cents.
     pub debits: Cents,
-    /// It is the sum of the credits, in cents.
+    /// The sum of the credits, in cents.
     pub credits: Cents,
-    /// It is as in the header of the batch.
+    /// The company identification of the batch's header.
     pub company: &'a [u8],
-    /// It is as in the header of the batch.
+    /// The originating DFI of the batch's header.
     pub odfi: u32,
-    /// It is as in the header of the batch.
+    /// The batch number of the batch's header.
     pub number: u32,
 }
 
@@ -141,11 +141,11 @@ pub struct FileControlText {
     pub blocks: u64,
     /// It says how many records 6 and 7, of at most eight digits.
     pub count: u64,
-    /// It is the low ten digits of the sum of the hashes of the batches.
+    /// The low ten digits of the sum of the hashes of the batches.
     pub hash: u64,
-    /// It is the sum of the debits, in cents.
+    /// The sum of the debits, in cents.
     pub debits: Cents,
-    /// It is the sum of the credits, in cents.
+    /// The sum of the credits, in cents.
     pub credits: Cents,
 }
 

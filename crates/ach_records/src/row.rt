@@ -9,19 +9,19 @@ use ach_fields::{FieldFault, Routing, Trace, Ymd, put_number, put_text};
 /// A `Field` is to be printed.
 #[derive(Clone, Copy)]
 pub enum Field<'a> {
-    /// It is a text as it stands.
+    /// A text as it stands.
     Constant(&'a [u8]),
-    /// It is a number in so many digits, with zeros before it.
+    /// A number in so many digits, with zeros before it.
     Number(usize, u64),
-    /// It is such a number, or blanks.
+    /// Such a number, or blanks.
     Optional(usize, Option<u16>),
-    /// It is a text of so many bytes, with blanks after it.
+    /// A text of so many bytes, with blanks after it.
     Words(usize, &'a [u8]),
-    /// It is a routing number, with a blank before it.
+    /// A routing number, with a blank before it.
     Routing(Routing),
-    /// It is a date.
+    /// A date.
     Date(Ymd),
-    /// It is a trace.
+    /// A trace.
     Trace(Trace),
 }
 

@@ -1,4 +1,4 @@
-//! The laws of days, of banking days and of holiday lists stand here.
+//! The laws of days, of banking days and of holiday lists.
 ghost use Rattle.bank_days.specs.Laws.{DaysAndDates, DaysAndTexts, NthBankingDays, RolledDays, HolidayLists};
 
 /// Each number names one date of the calendar, and each date from 1970 on has one number.

@@ -1,4 +1,4 @@
-//! The rows of a holiday list are read here.
+//! The rows of a holiday list.
 ghost use Rattle.std.specs.Prelude.{◌≡◌, ◌≤◌, ◌+◌, Some, None, length, IfOk, IfErr, IfSome, OnOk};
 ghost use Rattle.csv.specs.Records.{fields_of};
 ghost use Rattle.bank_days.specs.Day.{last_read_day};

@@ -34,7 +34,7 @@ fn share(posting: &Posting, account: &Account, day: Day) -> i64
 /// Gives the balance of an account on a day, in cents, from the sums of its lines by value day: the
 /// sum of the rows of a day on or before it.
 ///
-/// It is `None` where the sum of the first rows, however many, leaves an `i128`.
+/// Gives `None` where the sum of the first rows, however many, leaves an `i128`.
 pub fn balance_of_days(rows: &[(Day, i128)], day: Day) -> Option<i128>
     ensures { MatchOption result (SumLeaves day rows.now) (IsDaysBalance day rows.now) }
 {

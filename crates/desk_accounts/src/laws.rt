@@ -1,4 +1,4 @@
-//! The laws of postings and of balances stand here.
+//! The laws of postings and of balances.
 ghost use Rattle.desk_accounts.specs.Laws.{PairsCancel, BalancesByDay};
 
 /// What is posted in pairs sums to zero on each day: all lines together, and the balances of all

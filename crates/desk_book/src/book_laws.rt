@@ -1,4 +1,4 @@
-//! The laws of the book stand here.
+//! The laws of the book.
 ghost use Rattle.desk_book.specs.BookLaws.{TellsReplies, StepsOfMessages};
 ghost use Rattle.desk_book.specs.OperatorLaws.{StepsOfOperator, TellsOperator};
 

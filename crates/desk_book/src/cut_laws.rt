@@ -1,4 +1,4 @@
-//! The laws of a cut and the book stand here.
+//! The laws of a cut and the book.
 ghost use Rattle.desk_book.specs.CutLaws.{TellsCut, EntriesOfCuts};
 
 use crate::book_laws::steps_of_messages;

@@ -1,4 +1,4 @@
-//! The law of incoming files stands here.
+//! The law of incoming files.
 ghost use Rattle.desk_book.specs.IntakeLaws.{TellsIntake};
 
 use crate::row_laws::{row_steps, verdicts_on_rows};

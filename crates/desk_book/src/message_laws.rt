@@ -1,4 +1,4 @@
-//! The laws of all messages stand here.
+//! The laws of all messages.
 ghost use Rattle.desk_book.specs.OnMessages.{BookTells};
 ghost use Rattle.desk_book.specs.Repeating.{TwiceActsOnce};
 ghost use Rattle.desk_book.specs.Writes.{ReadsLeave};

@@ -1,4 +1,4 @@
-//! The laws of a company's rows stand here.
+//! The laws of a company's rows.
 ghost use Rattle.desk_book.specs.RowLaws.{RowSteps, RowsOfPart, VerdictsOnRows};
 
 /// A submission or a retry is judged by the company's rows as by all that happened before: each refusal

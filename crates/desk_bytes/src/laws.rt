@@ -1,4 +1,4 @@
-//! The laws of all histories over bytes stand here.
+//! The laws of all histories over bytes.
 ghost use Rattle.desk_bytes.specs.Laws.{OneMeaning, CallsAreHistory, SamePart, OwnText, TwoWorlds, CallsAlone, ServedAlone};
 
 /// What a message comes to means one thing, and no other.

@@ -1,4 +1,4 @@
-//! The laws of all desks stand here.
+//! The laws of all desks.
 ghost use Rattle.desk_core.specs.Alike.{TwoDesks, DeskAlone};
 ghost use Rattle.desk_core.specs.Running.{CrashesLeave};
 

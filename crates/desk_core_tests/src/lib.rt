@@ -1,8 +1,8 @@
 //! The tests of what the desk is made of: worked cases of days, of the numbers of a cut, of postings and
 //! of the rules, plans of cuts and of incoming files, and the stores in memory.
 //!
-//! They have a crate of their own so that none of these is proved once more beside them. Nothing but
-//! tests stands here.
+//! They have a crate of their own so that none of these is proved once more beside them. The crate has
+//! nothing but tests.
 #![tactic(auto)]
 
 #[cfg(test)]

@@ -1,4 +1,4 @@
-//! The sequences of a cut are planned here.
+//! The sequences of a cut.
 ghost use Rattle.std.specs.Prelude.{◌≡◌, ◌<◌, All, IfOk, IfErr, map};
 ghost use Rattle.std.specs.List.{list_all};
 ghost use Rattle.desk_plan.specs.Batch.{IsBatch};

@@ -1,4 +1,4 @@
-//! A cut is planned here.
+//! The plan of a cut.
 ghost use Rattle.std.specs.Prelude.{◌≡◌, ◌≤◌, ◌+◌, All, IfOk, IfErr, OnOk, length, nat_le, sum, true, if◌then◌else◌, Some, None};
 ghost use Rattle.desk_plan.specs.Modifiers.{most_files};
 ghost use Rattle.desk_plan.specs.Runs.{in_runs};

@@ -1,4 +1,4 @@
-//! A file that a cut makes gets its text here.
+//! The texts of the files that a cut makes.
 ghost use Rattle.std.specs.Prelude.{◌≡◌, ◌≤◌, ◌<◌, ◌+◌, ◌++◌, ◌∷◌, [], ℕ, true, List, IsTrue, All, IfOk, OnOk, length, map};
 ghost use Rattle.std.specs.List.{enumerate_from, list_all};
 ghost use Rattle.ach_fields.specs.Characters.{is_printable};

@@ -5,7 +5,7 @@
 //!
 //! A connection to files is long to prove, so that few functions pass one on: all else speaks of the bytes
 //! of files, and of what was found and left. They have a crate of their own so that the files are not
-//! proved once more beside them. Nothing but tests stands here.
+//! proved once more beside them. The crate has nothing but tests.
 #![tactic(auto)]
 
 #[cfg(test)]

@@ -1,4 +1,4 @@
-//! The laws of what is accepted stand here.
+//! The laws of what is accepted.
 ghost use Rattle.desk_history.specs.AcceptedLaws.{AcceptedInOrder};
 
 /// What a company handed in and the desk accepted is numbered from 1 in the order in which it came, each

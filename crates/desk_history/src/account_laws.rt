@@ -1,4 +1,4 @@
-//! The laws of postings and accounts stand here.
+//! The laws of postings and accounts.
 ghost use Rattle.desk_history.specs.PostingLaws.{AccountsCancel};
 
 /// Each line of a company or of suspense has its opposite on the operator's account right after it,

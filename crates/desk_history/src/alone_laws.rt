@@ -1,4 +1,4 @@
-//! The law of a desk that serves one company alone stands here.
+//! The law of a desk that serves one company alone.
 ghost use Rattle.desk_history.specs.Alone.{ServedAlone};
 
 /// Each company is served as by a desk that serves no one else. Told the messages that gave the

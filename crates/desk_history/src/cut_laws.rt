@@ -1,4 +1,4 @@
-//! The laws of cuts and of traces stand here.
+//! The laws of cuts and of traces.
 ghost use Rattle.desk_history.specs.SentLaws.{AcceptedCuts, TracesName, TracesOfCuts};
 
 /// A cut that was accepted had a desk day, took only sequences that were free, and had modifiers for

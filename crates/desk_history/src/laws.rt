@@ -1,4 +1,4 @@
-//! The laws of all histories stand here.
+//! The laws of all histories.
 ghost use Rattle.desk_history.specs.Calls.{OneMessage};
 ghost use Rattle.desk_history.specs.Laws.{TwoWorlds};
 ghost use Rattle.desk_history.specs.PartCompany.{CompanyOfPart, DigestOfPart};

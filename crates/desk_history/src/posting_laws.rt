@@ -1,4 +1,4 @@
-//! The law of a company's postings stands here.
+//! The law of a company's postings.
 ghost use Rattle.desk_history.specs.PostingLaws.{CompanyLines};
 
 /// What is posted to a company's account is what its statement lists, line by line.

@@ -1,4 +1,4 @@
-//! The laws of what a desk sent stand here.
+//! The laws of what a desk sent.
 ghost use Rattle.desk_history.specs.Possible.{PossibleParts};
 ghost use Rattle.desk_history.specs.SentLaws.{SentAreAccepted};
 

@@ -2,5 +2,5 @@
 //! the definitions give.
 //!
 //! They have a crate of their own so that the crates above `desk_history` need not wait for them. They
-//! stand in `proofs/`, and nothing but worked cases stands here.
+//! stand in `proofs/`, and the crate has nothing else.
 #![tactic(auto)]

@@ -1,4 +1,4 @@
-//! An incoming file is planned here.
+//! The plan of an incoming file.
 ghost use Rattle.std.specs.Prelude.{◌≡◌, IfOk};
 ghost use Rattle.desk_book.specs.OnIntake.{intake_write};
 ghost use Rattle.desk_intake.specs.Plans.{intake_facts_of, write_of_items, plan_write};

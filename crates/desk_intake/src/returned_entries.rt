@@ -1,4 +1,4 @@
-//! The entries that came back by the items of a file so far are noted here.
+//! The entries that came back by the items of a file so far.
 ghost use Rattle.std.specs.Prelude.{◌≡◌, ◌≤◌, ◌-◌, ◌∷◌, [], ◌++◌, List, OnOk, length, replicate};
 ghost use Rattle.std.specs.List.{list_any};
 ghost use Rattle.desk_history.specs.declared.sent_entry.SentEntry.{SentEntry};

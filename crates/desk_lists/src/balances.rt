@@ -1,4 +1,4 @@
-//! The lines of an account in memory are summed here.
+//! The sums of an account's lines in memory.
 ghost use Rattle.std.specs.Prelude.{◌≡◌, ◌+ℤ◌, pos, map, unwrap_or, IfOk, IfSome, OnOk};
 ghost use Rattle.std.specs.List.Sorted.{IsStrictlyIncreasing};
 ghost use Rattle.desk_accounts.specs.Balance.{day_sums};

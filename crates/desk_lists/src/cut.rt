@@ -1,4 +1,4 @@
-//! A cut is written here.
+//! What a cut writes into the lists.
 ghost use Rattle.std.specs.Prelude.{◌≡◌, ◌+◌, ◌≤◌, ◌++◌, map, vec_len, vec_capacity, IfOk, OnOk, OnErr};
 ghost use Rattle.desk_store.specs.Changes.{in_turn, send_in, lapse_in, cut_in};
 ghost use Rattle.desk_lists.specs.Keyed.{sent_keyed, lapsed_keyed};

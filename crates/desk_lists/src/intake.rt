@@ -1,4 +1,4 @@
-//! An incoming file is written here.
+//! What an incoming file writes into the lists.
 ghost use Rattle.std.specs.Prelude.{◌≡◌, ◌==◌, if◌then◌else◌, map, OnOk, OnErr};
 ghost use Rattle.std.specs.List.{enumerate_from};
 ghost use Rattle.desk_store.specs.Changes.{return_in, intake_in};

@@ -1,4 +1,4 @@
-//! The lists in memory stand here.
+//! The store that keeps lists in memory.
 ghost use Rattle.std.specs.Prelude.{[]};
 ghost use Rattle.desk_book.specs.Book.{book_of};
 ghost use Rattle.desk_lists.specs.Kept.{IsHeld};

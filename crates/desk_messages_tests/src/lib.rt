@@ -2,8 +2,8 @@
 //! with their statuses; lists of entries as companies write them, each with the message or the fault that
 //! it must make; and worked sessions, bytes of readers with the bytes that a session must write for them.
 //!
-//! They have a crate of their own so that none of these is proved once more beside them. Nothing but
-//! tests stands here.
+//! They have a crate of their own so that none of these is proved once more beside them. The crate has
+//! nothing but tests.
 #![tactic(auto)]
 
 #[cfg(test)]

@@ -1,4 +1,4 @@
-//! The modifiers of a day's files stand here.
+//! The modifiers of a day's files.
 ghost use Rattle.std.specs.Prelude.{◌≡◌};
 ghost use Rattle.desk_plan.specs.Modifiers.{modifier_of};
 

@@ -1,4 +1,4 @@
-//! The batches of a cut are divided into files here.
+//! The division of the batches of a cut into files.
 ghost use Rattle.std.specs.Prelude.{◌≡◌, All, IfOk, List, length, map, sum};
 ghost use Rattle.desk_plan.specs.declared.batch.Batch.{Batch};
 ghost use Rattle.desk_plan.specs.Files.{Divides, IsSize, division};

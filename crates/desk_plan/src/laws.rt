@@ -1,4 +1,4 @@
-//! The laws of the division into files, of sequences and of modifiers stand here.
+//! The laws of the division into files, of sequences and of modifiers.
 ghost use Rattle.desk_plan.specs.Laws.{OneDivision, FewerFiles, SentByCut, ByRanges, NeverTwice, LatestInRows, YoungestAfter, DayModifiers, AcceptedAlone};
 
 /// The batches of submissions have one division into files, and no other; its sizes give it back.

@@ -1,4 +1,4 @@
-//! The entries of a cut are given their sequences here.
+//! The sequences of the entries of a cut.
 ghost use Rattle.std.specs.Prelude.{◌≡◌, All, true, false, IfOk, OnOk, IsErrOf};
 ghost use Rattle.desk_plan.specs.Batch.{IsEntryCount};
 ghost use Rattle.desk_plan.specs.Sequences.{IsRange, range_after, ranges, are_apart};

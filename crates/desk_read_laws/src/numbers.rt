@@ -1,4 +1,4 @@
-//! The laws of reads of sent entries stand here.
+//! The laws of reads of sent entries.
 ghost use Rattle.desk_read_laws.specs.NumberLaws.{NumberLaws};
 
 /// The number of the last place says how many entries were sent, and which sequence the last has. The

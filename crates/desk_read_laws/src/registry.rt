@@ -1,4 +1,4 @@
-//! The laws of reads of what stands in one row, or in whole tables, stand here.
+//! The laws of reads of what stands in one row, or in whole tables.
 ghost use Rattle.desk_read_laws.specs.RegistryLaws.{RegistryLaws, FileLaws};
 
 /// The desk, its holidays and its companies stand in the tables as in the book.

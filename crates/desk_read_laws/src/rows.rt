@@ -1,4 +1,4 @@
-//! The laws of reads of a company's rows stand here.
+//! The laws of reads of a company's rows.
 ghost use Rattle.desk_read_laws.specs.RowLaws.{RowLaws};
 
 /// The rows that are assembled of the tables are those of the book.

@@ -1,3 +1,3 @@
-//! A refusal says why something is refused; each has its name, its number and its HTTP status here.
+//! A refusal says why something is refused. Each has a name, a number and an HTTP status.
 pub(crate) mod names;
 pub(crate) mod refusal;

@@ -1,4 +1,4 @@
-//! The law of what an incoming file writes stands here.
+//! The law of what an incoming file writes.
 ghost use Rattle.desk_book.specs.Steps.{IntakeWrite, commit_intake};
 ghost use Rattle.desk_records.specs.TableEdits.{commit_intake_edit};
 ghost use Rattle.desk_write_laws.specs.Making.{Makes};

@@ -1,4 +1,4 @@
-//! The laws of what the operator writes stand here.
+//! The laws of what the operator writes.
 ghost use Rattle.std.specs.Prelude.{ℕ, List};
 ghost use Rattle.desk_book.specs.Steps.{put_company, put_limits, set_day, set_holidays};
 ghost use Rattle.desk_records.specs.TableEdits.{put_company_edit, put_limits_edit, set_day_edit, set_holidays_edit};

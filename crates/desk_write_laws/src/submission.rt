@@ -1,4 +1,4 @@
-//! The law of what a company writes stands here.
+//! The law of what a company writes.
 ghost use Rattle.std.specs.Prelude.{List, Option, ℕ};
 ghost use Rattle.desk_book.specs.Steps.{add_submission};
 ghost use Rattle.desk_records.specs.TableEdits.{add_submission_edit};

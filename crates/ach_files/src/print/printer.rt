@@ -47,7 +47,7 @@ fn fault_of(measures: &Measures) -> Option<PrintFault>
 impl Printer {
     /// Begins a file with its header.
     ///
-    /// It is `BadField` where a field of the header has no text.
+    /// Fails with `BadField` where a field of the header has no text.
     pub fn new(alloc: Global, header: &FileHeaderText) -> Result<Printer, PrintFault>
         ensures ok { IfOk result (λ p. HasPrinted p header.now []) }
         ensures err { IfErr result (λ f. TellsPrint f (header_fault header.now)) }
@@ -66,9 +66,9 @@ impl Printer {
 
     /// Prints a batch after those before.
     ///
-    /// It is `BadField` where a field has no text, then `TotalTooLarge` where the debits or the credits
-    /// exceed 999,999,999,999 cents, then `TooManyRecords` where it has more than 999,999 entries and
-    /// addenda. The printer then stays as it was, also where memory ran out.
+    /// Fails with `BadField` where a field has no text, then with `TotalTooLarge` where the debits or the
+    /// credits exceed 999,999,999,999 cents, then with `TooManyRecords` where the batch has more than
+    /// 999,999 entries and addenda. The printer then stays as it was, also where memory ran out.
     pub fn put(&mut self, batch: &OutgoingBatch) -> Result<(), PrintFault>
         ensures ok { (header : FileHeaderText) (before : List OutgoingBatch) → HasPrinted self.old header before → OnOk result (HasPrinted self.new header (before ++ batch.now ∷ [])) }
         ensures fits { OnOk result (batch_fault batch.now ≡ None) }
@@ -92,7 +92,7 @@ impl Printer {
     /// Ends the file with its control and the fewest records of nines that make the number of records a
     /// multiple of ten.
     ///
-    /// It is refused as `print_file` refuses the same file: `TotalTooLarge` comes before `TooManyRecords`.
+    /// Fails as `print_file` does for the same file: `TotalTooLarge` comes before `TooManyRecords`.
     pub fn finish(self) -> Result<Vec<u8>, PrintFault>
         ensures ok { (o : Outgoing) → HasPrinted self o.header o.batches.now → IfOk result (λ text. (print_fault o ≡ None) × (text.items ≡ outgoing_text o)) }
         ensures err { (o : Outgoing) → HasPrinted self o.header o.batches.now → IfErr result (λ f. TellsPrint f (print_fault o)) }

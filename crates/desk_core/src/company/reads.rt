@@ -1,4 +1,4 @@
-//! A company reads its returns, changes, submissions, statement, rates and exposure here.
+//! What a company reads: its returns, changes, submissions, statement, rates and exposure.
 ghost use Rattle.desk_history.specs.Request as request;
 ghost use Rattle.desk_store.specs.Words.{LeavesRead};
 ghost use Rattle.desk_core.specs.Answering.{Answers};

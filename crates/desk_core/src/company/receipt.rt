@@ -1,4 +1,4 @@
-//! A submission gets its receipt here.
+//! The receipt of a submission.
 ghost use Rattle.std.specs.Prelude.{◌≡◌};
 ghost use Rattle.desk_history.specs.Reports.{receipt};
 

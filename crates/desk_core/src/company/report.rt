@@ -1,4 +1,4 @@
-//! A company is told of its submission here.
+//! What a company is told of its submission.
 ghost use Rattle.std.specs.Prelude.{◌≡◌, map, zip, IfOk, option_map};
 ghost use Rattle.std.specs.List.{enumerate_from};
 ghost use Rattle.desk_history.specs.Reports.{retried_entry, reported_entry};

@@ -1,4 +1,4 @@
-//! An incoming file is read from its bytes here.
+//! An incoming file, read from its bytes.
 ghost use Rattle.std.specs.Prelude.{◌≡◌, ◌≢◌, IfOk, Result};
 ghost use Rattle.ach_files.specs.Facts.{FileFacts};
 ghost use Rattle.ach_files.specs.declared.fault.Fault.{Fault};

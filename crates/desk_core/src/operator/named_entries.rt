@@ -1,4 +1,4 @@
-//! The items of an incoming file name entries here.
+//! The entries that the items of an incoming file name.
 ghost use Rattle.std.specs.Prelude.{◌≡◌, map, option_map};
 ghost use Rattle.desk_history.specs.Resolve.{named_entry};
 ghost use Rattle.desk_store.specs.Words.{Reads, LeavesRead};

@@ -1,4 +1,4 @@
-//! The operator reads files, its account and suspense here.
+//! What the operator reads: files, the settlement account and suspense.
 ghost use Rattle.std.specs.Prelude.{◌≡◌, map, IfOk};
 ghost use Rattle.desk_accounts.specs.Balance.{days_balance};
 ghost use Rattle.desk_history.specs.Postings.{day_sum};

@@ -1,4 +1,4 @@
-//! The operator sets days, holidays, companies and limits here.
+//! What the operator sets: days, holidays, companies and limits.
 ghost use Rattle.std.specs.Prelude.{◌≡◌, Some};
 ghost use Rattle.bank_days.specs.HolidayList.{holidays_in};
 ghost use Rattle.desk_history.specs.Message.{SetDay, SetHolidays, PutCompany, PutLimits};

@@ -1,4 +1,4 @@
-//! A store refuses one call here.
+//! A store that refuses one call.
 use super::calls::LIMITS;
 use super::reads::Read;
 use super::samples::new_store;

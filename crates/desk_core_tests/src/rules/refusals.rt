@@ -1,4 +1,4 @@
-//! The names of refusals are tried here.
+//! The names of refusals.
 use super::code;
 use desk_rules::{Field, Refusal, RefusalName};
 

@@ -1,4 +1,4 @@
-//! Retries of returned debits are tried here.
+//! Retries of returned debits.
 use super::{calendar, code};
 use crate::samples::{day, rule_day};
 use desk_rules::Refusal::{NotRetryable, NotReturned, RetriesSpent, RetryTooLate};

@@ -1,4 +1,4 @@
-//! Codes of returns, their deadlines, and the return rates are tried here.
+//! Codes of returns, their deadlines, and the return rates.
 use super::{calendar, code};
 use crate::samples::{cents, day, rule_day};
 use desk_rules::TimeClass::{SixtyDays, TwoBankingDays, Unlimited};

@@ -48,11 +48,11 @@ impl DraftText {
 /// An `Optional` is a field that may be left out.
 #[derive(Clone, Copy, Debug, PartialEq, Eq, Drop)]
 pub enum Optional<T> {
-    /// It is left out.
+    /// The body leaves the field out.
     Absent,
-    /// It is there, and of another kind than it should be.
+    /// The body has the field, of another kind than it should be.
     Wrong,
-    /// It is there.
+    /// The body has the field, of the kind that it should be.
     Given(T),
 }
 

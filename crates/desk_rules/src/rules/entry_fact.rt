@@ -23,7 +23,7 @@ pub enum EntryState {
         /// Was the return taken after its deadline?
         late: bool,
     },
-    /// It is a retry that would have settled too late, and was not sent.
+    /// A retry that would have settled too late, and was not sent.
     Lapsed,
 }
 

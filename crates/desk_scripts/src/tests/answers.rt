@@ -1,4 +1,4 @@
-//! Answers are put in words here.
+//! The words in which a script writes an answer.
 use bank_days::Day;
 use desk_core::{
     Answer, CallRefusal, ChangeRow, CutSummary, DayRates, Exposure, Intake, ListOf, Outcome,

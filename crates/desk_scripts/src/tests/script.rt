@@ -1,4 +1,4 @@
-//! Scripts of calls and answers are run here.
+//! Scripts of calls, each with the answer that it must have, and how they are run.
 use super::answers::words_of;
 use super::calls::call_of;
 use super::old_cut::put_old_cut;

@@ -1,4 +1,4 @@
-//! A query without a table gives the rows that are read here.
+//! A query without a table gives the rows that these tests read.
 use desk_records::{FromColumn, FromRow, read_only_column};
 use sqlite::{Connection, Row};
 use std::alloc::{AllocError, Global};
