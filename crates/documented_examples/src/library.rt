@@ -1,4 +1,4 @@
-//! The library in use, as the README shows it.
+//! The library in use, as docs/USING.md shows it.
 use ach_fields::{FieldFault, Id, Routing, ShortText};
 use desk_core::{Answer, Call, Desk, Identity, Outcome, StoreFault};
 use desk_json::{company_draft, day_draft, read_object, submission_draft};

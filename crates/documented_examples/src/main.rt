@@ -1,5 +1,5 @@
-//! The examples of the README and of docs/BODIES.md, each made anew: what is put in is answered by the
-//! library, and what the page prints beneath it has to be that answer.
+//! The examples of the README, of docs/USING.md and of docs/BODIES.md, each made anew: what is put in is
+//! answered by the library, and what the page prints beneath it has to be that answer.
 //!
 //! The pages lie in data/, as they lie at the top of the repository. For each page a line is printed that
 //! says how many examples agree, and one before it for each that does not. Then command lines of the program
@@ -17,7 +17,7 @@ mod runs;
 
 use std::{fs, io};
 
-const PAGES: [&str; 2] = ["README.md", "docs/BODIES.md"];
+const PAGES: [&str; 3] = ["README.md", "docs/USING.md", "docs/BODIES.md"];
 
 fn main(rt: HostRuntime) -> io::Result<()> {
     for name in PAGES {
