@@ -17,7 +17,7 @@ import tempfile
 import threading
 from pathlib import Path
 
-from running import (HOST, MILL, MILL_KEY, OPERATOR_KEY, SECONDS, Checks, Serving, answer, body_of, connect, free_port, make_desk, message,
+from helpers.running import (HOST, MILL, MILL_KEY, OPERATOR_KEY, SECONDS, Checks, Serving, answer, body_of, connect, free_port, make_desk, message,
                      program_of, read_answer, run, status_of)
 
 MAX_BODY = 4_194_304

@@ -11,8 +11,8 @@ import os
 import sys
 import tempfile
 
-from files import FILLER, batch_control, blanks, control_file, digits, entry, file_control, put
-from grammar import DIGIT_FIELDS, MOST_BYTES, WIDTH, kind
+from helpers.files import FILLER, batch_control, blanks, control_file, digits, entry, file_control, put
+from helpers.grammar import DIGIT_FIELDS, MOST_BYTES, WIDTH, kind
 from judge import JOBS, compared
 
 MONEY, NOTHING = ("26", "12104288", 2500), ("21", "09100001", 0)

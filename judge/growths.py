@@ -5,7 +5,7 @@ and one over tables in memory.
 `python3 judge/growths.py` proves and builds judge/growths/main.rt.txt beside a copy of the crates, which
 takes long where they were not proved before; `python3 judge/growths.py PROGRAM` takes it as it is built.
 
-Every answer must be the one that stands in judge/answered_days.py, or the constant text with status 503; that at most once in a
+Every answer must be the one that stands in judge/helpers/answered_days.py, or the constant text with status 503; that at most once in a
 run, and then the same message again must be answered as it stands there, and so must all others: what was
 refused memory changed nothing.
 """
@@ -18,7 +18,7 @@ import sys
 import tempfile
 from pathlib import Path
 
-from answered_days import DAYS, KEYS
+from helpers.answered_days import DAYS, KEYS
 
 TOP = Path(__file__).resolve().parent.parent
 HERE = TOP / "judge" / "growths"

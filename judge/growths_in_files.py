@@ -3,7 +3,7 @@
 `python3 judge/growths_in_files.py [PROGRAM] [STEP]`. PROGRAM is ./achdesk and STEP 1 where they are left out: each call
 is refused in turn; with a STEP of 20 each twentieth.
 
-Each run begins with the same new desk and gets the messages of judge/answered_days.py. It must answer them as they stand there up
+Each run begins with the same new desk and gets the messages of judge/helpers/answered_days.py. It must answer them as they stand there up
 to some message, and may answer that one by the constant text with status 503, or end before the first. A second session,
 which is refused nothing, gets that message and all after it, and must answer each as it stands there. Then stock SQLite
 must find the rows of a desk that was refused nothing: what was answered 503 changed nothing. The last line says how many
@@ -19,8 +19,8 @@ import sys
 import tempfile
 from pathlib import Path
 
-from answered_days import DAYS, KEYS
-from running import TOP, answer, make_desk, message, program_of, rows_of, run
+from helpers.answered_days import DAYS, KEYS
+from helpers.running import TOP, answer, make_desk, message, program_of, rows_of, run
 
 UNAVAILABLE = answer(503, '{"error":"Unavailable"}', closes=True)
 STATUSES = (0, 1, 3)  # all is answered, a 503 closed the session, no session began or the file was not closed

@@ -13,8 +13,8 @@ import subprocess
 import sys
 import tempfile
 
-from grammar import answer
-from mutations import spoiled
+from helpers.grammar import answer
+from helpers.mutations import spoiled
 
 JOBS = 4
 SECONDS = 30

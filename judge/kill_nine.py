@@ -22,8 +22,8 @@ import threading
 import time
 from pathlib import Path
 
-from returned import file_of_returns
-from running import MILL, Serving, body_of, connect, make_desk, message, program_of, read_answer, run, status_of
+from helpers.returned import file_of_returns
+from helpers.running import MILL, Serving, body_of, connect, make_desk, message, program_of, read_answer, run, status_of
 
 COMPANIES = {"BAKE01": "bakery-key", "MILL01": "mill-street-key", "SHOP01": "corner-shop-key"}
 FIRST_DAY = datetime.date(2025, 1, 8)

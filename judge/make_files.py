@@ -8,8 +8,8 @@ import os
 import random
 import sys
 
-from grammar import answer
-from mutations import spoiled
+from helpers.grammar import answer
+from helpers.mutations import spoiled
 
 
 def main():

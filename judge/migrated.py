@@ -14,7 +14,7 @@ import sys
 import tempfile
 from pathlib import Path
 
-from running import MILL_KEY, TOP, Checks, free_port, make_desk, message, program_of, run
+from helpers.running import MILL_KEY, TOP, Checks, free_port, make_desk, message, program_of, run
 
 LATER = ("numbers", "authorizations")
 COMPANY = ["returns", "changes", "statement", "rates", "exposure", "submissions/PAY-1", "submissions/PAY-2", "submissions/PAY-3"]

@@ -14,10 +14,10 @@ import re
 import sys
 from pathlib import Path
 
-import openapi_faults
-from desk_messages import LARGEST_SESSION, Exchange, compact, differences, keyed, request, response
-from openapi_bounds import bounds
-from openapi_page import Page
+from helpers import openapi_faults
+from helpers.desk_messages import LARGEST_SESSION, Exchange, compact, differences, keyed, request, response
+from helpers.openapi_bounds import bounds
+from helpers.openapi_page import Page
 
 try:
     import openapi_spec_validator

@@ -16,8 +16,8 @@ import tempfile
 import time
 from pathlib import Path
 
-from returned import file_of_returns
-from running import MILL, Serving, connect, make_desk, message, program_of, read_answer, status_of
+from helpers.returned import file_of_returns
+from helpers.running import MILL, Serving, connect, make_desk, message, program_of, read_answer, status_of
 
 COMPANIES = [f"C{number}" for number in range(10)]
 SIZE = 100  # entries of a submission

@@ -2,7 +2,7 @@
 
 import sys
 
-from grammar import MOST_BYTES, answer, check
+from helpers.grammar import MOST_BYTES, answer, check
 
 NINES = "9" * 94
 
@@ -90,7 +90,7 @@ def prefixes():
 
 def hashes():
     """Entries to two banks, and a hash that is cut to its low ten digits."""
-    from files import control_file
+    from helpers.files import control_file
 
     two = control_file([[("21", "09100001", 0), ("21", "02100002", 0)]])
     assert b"0011200003" in two, "the hash of two banks"

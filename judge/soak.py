@@ -21,8 +21,8 @@ import tempfile
 import time
 from pathlib import Path
 
-from returned import file_of_returns
-from running import MILL, MILL_KEY, OPERATOR_KEY, Checks, Serving, connect, make_desk, message, program_of, read_answer, rows_of, run
+from helpers.returned import file_of_returns
+from helpers.running import MILL, MILL_KEY, OPERATOR_KEY, Checks, Serving, connect, make_desk, message, program_of, read_answer, rows_of, run
 
 SESSION = 1_000
 KEYS = {"MILL01": MILL_KEY, "BAKE01": "bakery-key"}

@@ -3,7 +3,7 @@
 import copy
 import json
 
-from desk_messages import Exchange, compact, keyed, response
+from helpers.desk_messages import Exchange, compact, keyed, response
 
 TEXTS = ["", " ", "x", "~", " x", "x ", "x y", "é", "a\tb", "\x7f", "A-Z_.", "mill01", "MILL01", "RETRY PYMT", "REVERSAL"]
 WORDS = ["PPD", "CCD", "WEB", "credit", "debit", "Debit", "checking", "savings", "true", "091000019", "09100001", "0910000190"]

@@ -1,6 +1,6 @@
 """Messages that are answered by a fault, whatever operation they are for: a list of them for each fault."""
 
-from desk_messages import keyed, request
+from helpers.desk_messages import keyed, request
 
 # The connection ends after these.
 CLOSING = {"badHead", "lengthRequired", "tooLarge"}

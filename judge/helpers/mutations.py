@@ -4,8 +4,8 @@ A mutation takes a random generator and a `File` and changes it; one that finds 
 leaves the file as it is. `spoiled` gives the bytes of a file after some of them.
 """
 
-from files import FILLER, WIDTH, digits, dfi, good_file, line_ends, noise, put, sums
-from grammar import ADDENDA, DIGIT_FIELDS, MOST_BYTES, kind
+from helpers.files import FILLER, WIDTH, digits, dfi, good_file, line_ends, noise, put, sums
+from helpers.grammar import ADDENDA, DIGIT_FIELDS, MOST_BYTES, kind
 
 ODD_BYTES = [0x0A, 0x0D, 0x00, 0x1F, 0x7F, 0x80, 0xFF, 0x09, 0x1A]
 KEY_BYTES = list(b"0123456789 ~A")

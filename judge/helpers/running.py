@@ -12,7 +12,7 @@ import tempfile
 import time
 from pathlib import Path
 
-TOP = Path(__file__).resolve().parent.parent
+TOP = Path(__file__).resolve().parents[2]
 HOST = "127.0.0.1"
 SECONDS = 30  # so long an answer, or the end of a program, is waited for
 

@@ -8,7 +8,7 @@ from pathlib import Path
 
 import yaml
 
-from desk_messages import Exchange, compact, keyed, response
+from helpers.desk_messages import Exchange, compact, keyed, response
 
 METHODS = ("get", "put", "post", "delete", "options", "head", "patch", "trace")
 MODIFIERS = "ABCDEFGHIJKLMNOPQRSTUVWXYZ0123456789"
