@@ -43,7 +43,7 @@ fn push(
 ) -> Result<(), AllocError>
     ensures { OnOk result (judged.new.items ≡ judged.old.items ++ record { item = item.now; outcome = outcome } ∷ []) }
 {
-    // The checker follows a move of `Met` only where its parts' types are seen.
+    // The checker follows a move of a `MatchedItem` only where the types of its parts are seen.
     if let Ok(met) = &outcome {
         let _reaction = met.reaction;
         let _info = met.entry.entry.info;
