@@ -77,6 +77,16 @@ fn words_and_their_exit_status(rt: HostRuntime) {
             2,
             b"error: ",
         ),
+        (
+            &["serve", "no such desk", "8080", "--patience", "0"],
+            2,
+            b"error: ",
+        ),
+        (
+            &["serve", "no such desk", "8080", "--patience=3601"],
+            2,
+            b"error: ",
+        ),
         (&["serve", "no such desk", "8080"], 1, b"NotADesk\n"),
         (
             &["migrate", "--help"],
