@@ -15,7 +15,7 @@ use Rattle.clap.proofs.WalkLemmas.{first_value-rows}
 use Rattle.desk_submit.specs.Options.{OptionTexts}
 use Rattle.desk_command_line.specs.InitOptions.{InitTexts}
 use Rattle.desk_command_line.specs.Arguments.{check_app, init_app, init_rules, migrate_app, program_app, serve_app, serve_rules, stdio_app, submit_app, submit_rules}
-use Rattle.desk_command_line.specs.CommandLine.{Check, Gives, GivesAt, HasConnections, HasNumber, HasPort, Init, IsFaultAmong, IsFaultOf, Migrate, NamedCommand, Parses, Serve, Submit, app_named, has_no_kind, init_texts_in, is_between, is_check, is_init, is_migrate, is_serve, is_stdio, is_submit, kinds_at, named_check, named_command, named_init, named_migrate, named_serve, named_stdio, named_submit, number_in, number_of, options_in, server, session_with, text_in}
+use Rattle.desk_command_line.specs.CommandLine.{Check, Gives, GivesAt, HasConnections, HasNumber, HasPatience, HasPort, Init, IsFaultAmong, IsFaultOf, Migrate, NamedCommand, Parses, Serve, Submit, app_named, has_no_kind, init_texts_in, is_between, is_check, is_init, is_migrate, is_serve, is_stdio, is_submit, kinds_at, named_check, named_command, named_init, named_migrate, named_serve, named_stdio, named_submit, number_in, number_of, options_in, server, session_with, text_in}
 use Rattle.desk_command_line.specs.declared.command.Command.{Command}
 use Rattle.desk_command_line.specs.declared.command.LineFault.{LineFault}
 use Rattle.desk_command_line.specs.declared.command.LineFault.TheVariants.{Help, Usage, NoMemory}
@@ -120,18 +120,22 @@ number_between : (low high : ℕ) (id : Text) (rows : List Row) → HasNumber lo
 number_between low high id rows h =
     subst (λ (o : Option Text). is_between low high (number_of (unwrap_or o [])) ≡ true) (sym h.1) (lies_between low high (number_of h.0) h.2.2 h.2.3)
 
-is_server : (path : Text) (port connections : ℕ) → is_between 1 65535 port ≡ true → is_between 1 1000000 connections ≡ true → server path port connections ≡ Some (Serve path port connections)
-is_server path port connections a b = rw (a, b) refl
+is_server : (path : Text) (port connections patience : ℕ) → is_between 1 65535 port ≡ true → is_between 1 1000000 connections ≡ true → is_between 1 3600 patience ≡ true
+    → server path port connections patience ≡ Some (Serve path port connections patience)
+is_server path port connections patience a b c = rw (a, b, c) refl
 
-pub serve_given : (words : List Text) (m : ArgMatches) (path : Text) (port connections : ℕ) → Parses serve_app words (Ok m)
-    → HasPort (rows_of (found_of m)) → HasConnections (rows_of (found_of m)) → path ≡ text_in (codes "DB") (rows_of (found_of m))
+pub serve_given : (words : List Text) (m : ArgMatches) (path : Text) (port connections patience : ℕ) → Parses serve_app words (Ok m)
+    → HasPort (rows_of (found_of m)) → HasConnections (rows_of (found_of m)) → HasPatience (rows_of (found_of m)) → path ≡ text_in (codes "DB") (rows_of (found_of m))
     → port ≡ number_in (codes "PORT") (rows_of (found_of m)) → connections ≡ number_in (codes "N") (rows_of (found_of m))
-    → named_serve words ≡ Some (Serve path port connections)
+    → patience ≡ number_in (codes "SECONDS") (rows_of (found_of m)) → named_serve words ≡ Some (Serve path port connections patience)
 unfolding named_serve
-serve_given words m path port connections h has_port has_connections e f g =
+serve_given words m path port connections patience h has_port has_connections has_patience e f g i =
     let rows = rows_of (found_of m) in
-    let is = is_server (text_in (codes "DB") rows) (number_in (codes "PORT") rows) (number_in (codes "N") rows) (number_between 1 65535 (codes "PORT") rows has_port) (number_between 1 1000000 (codes "N") rows has_connections) in
-    rw (h.0, ← h.1, e, f, g) is
+    let is =
+    is_server (text_in (codes "DB") rows) (number_in (codes "PORT") rows) (number_in (codes "N") rows) (number_in (codes "SECONDS") rows)
+    (number_between 1 65535 (codes "PORT") rows has_port) (number_between 1 1000000 (codes "N") rows has_connections)
+    (number_between 1 3600 (codes "SECONDS") rows has_patience) in
+    rw (h.0, ← h.1, e, f, g, i) is
 
 help_for_memory : (k : ErrorKind) → k ≡ kind.OutOfMemory → k ≡ kind.DisplayHelp → ⊥
 help_for_memory k memory help = cc

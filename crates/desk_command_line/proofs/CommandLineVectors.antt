@@ -107,16 +107,16 @@ init_of_a_path : named_command (codes "init" ∷ codes "desk.db" ∷ bank_option
 unfolding clap_on_literals named_init init_rules bank_options bank
 init_of_a_path = refl
 
--- a server takes a thousand connections where the words say no other number
-serve_by_default : named_command (codes "serve" ∷ codes "desk.db" ∷ codes "8080" ∷ []) ≡ Some (Serve (codes "desk.db") 8080 1000)
+-- a server takes a thousand connections and waits for 30 seconds where the words say no other number
+serve_by_default : named_command (codes "serve" ∷ codes "desk.db" ∷ codes "8080" ∷ []) ≡ Some (Serve (codes "desk.db") 8080 1000 30)
 unfolding clap_on_literals named_serve serve_rules
 serve_by_default = refl
 
-serve_so_many : named_command (codes "serve" ∷ codes "desk.db" ∷ codes "65535" ∷ codes "--connections" ∷ codes "1000000" ∷ []) ≡ Some (Serve (codes "desk.db") 65535 1000000)
+serve_so_many : named_command (codes "serve" ∷ codes "desk.db" ∷ codes "65535" ∷ codes "--connections" ∷ codes "1000000" ∷ []) ≡ Some (Serve (codes "desk.db") 65535 1000000 30)
 unfolding clap_on_literals named_serve serve_rules
 serve_so_many = refl
 
-serve_one : named_command (codes "serve" ∷ codes "--connections=1" ∷ codes "desk.db" ∷ codes "1" ∷ []) ≡ Some (Serve (codes "desk.db") 1 1)
+serve_one : named_command (codes "serve" ∷ codes "--connections=1" ∷ codes "desk.db" ∷ codes "1" ∷ []) ≡ Some (Serve (codes "desk.db") 1 1 30)
 unfolding clap_on_literals named_serve serve_rules
 serve_one = refl
 
@@ -147,6 +147,18 @@ no_connections = refl
 too_many_connections : kinds_at (codes "serve" ∷ codes "desk.db" ∷ codes "8080" ∷ codes "--connections" ∷ codes "1000001" ∷ []) ≡ kind.ValueValidation ∷ []
 unfolding clap_on_literals kinds_at serve_rules
 too_many_connections = refl
+
+serve_patiently : named_command (codes "serve" ∷ codes "desk.db" ∷ codes "8080" ∷ codes "--patience" ∷ codes "3600" ∷ []) ≡ Some (Serve (codes "desk.db") 8080 1000 3600)
+unfolding clap_on_literals named_serve serve_rules
+serve_patiently = refl
+
+no_patience : kinds_at (codes "serve" ∷ codes "desk.db" ∷ codes "8080" ∷ codes "--patience" ∷ codes "0" ∷ []) ≡ kind.ValueValidation ∷ []
+unfolding clap_on_literals kinds_at serve_rules
+no_patience = refl
+
+too_much_patience : kinds_at (codes "serve" ∷ codes "desk.db" ∷ codes "8080" ∷ codes "--patience" ∷ codes "3601" ∷ []) ≡ kind.ValueValidation ∷ []
+unfolding clap_on_literals kinds_at serve_rules
+too_much_patience = refl
 
 migrate_of_a_path : named_command (codes "migrate" ∷ codes "desk.db" ∷ []) ≡ Some (Migrate (codes "desk.db"))
 unfolding clap_on_literals named_migrate serve_rules

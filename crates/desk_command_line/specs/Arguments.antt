@@ -34,6 +34,14 @@ connections_rule = record (argument (codes "N")) {
   defaults = codes "1000" ∷ [];
 }
 
+-- a number of seconds: 1 to 3,600, and 30 where it is left out
+abbrev pub patience_rule : Rule
+patience_rule = record (argument (codes "SECONDS")) {
+  long = Some (codes "patience");
+  parser = Some (number_between 1 3600);
+  defaults = codes "30" ∷ [];
+}
+
 -- a command with these arguments
 abbrev pub app_with : (name : Text) → List Rule → App
 app_with name rules = record { top = record (new_shape name) { rules = rules }; subs = [] }
@@ -70,7 +78,7 @@ init_rules =
 
 -- the arguments of `serve`
 unfoldable pub serve_rules : List Rule
-serve_rules = required_argument (codes "DB") ∷ port_rule ∷ connections_rule ∷ []
+serve_rules = required_argument (codes "DB") ∷ port_rule ∷ connections_rule ∷ patience_rule ∷ []
 
 -- the commands
 abbrev pub check_app : App

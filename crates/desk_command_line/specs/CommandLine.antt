@@ -70,12 +70,15 @@ number_in id rows = number_of (unwrap_or (one_of id rows) [])
 abbrev pub HasNumber : (low high : ℕ) → (id : Text) → List Row → Type 0
 HasNumber low high id rows = (text : Text) × (one_of id rows ≡ Some text) × IsUnsignedIn low high text
 
--- the arguments of `serve` have a port, and a number of connections
+-- the arguments of `serve` have a port, a number of connections, and a number of seconds
 abbrev pub HasPort : List Row → Type 0
 HasPort rows = HasNumber 1 65535 (codes "PORT") rows
 
 abbrev pub HasConnections : List Row → Type 0
 HasConnections rows = HasNumber 1 1000000 (codes "N") rows
+
+abbrev pub HasPatience : List Row → Type 0
+HasPatience rows = HasNumber 1 3600 (codes "SECONDS") rows
 
 -- the options of a message
 abbrev pub options_in : List Row → OptionTexts
@@ -107,7 +110,7 @@ pub data NamedCommand : Type 0 where
   AnswerMessages : NamedCommand
   AnswerByFile : (path : Text) → NamedCommand
   Init : (path : Text) → InitTexts → NamedCommand
-  Serve : (path : Text) → (port connections : ℕ) → NamedCommand
+  Serve : (path : Text) → (port connections patience : ℕ) → NamedCommand
   Migrate : (path : Text) → NamedCommand
 
 -- the command that words after `check` name
@@ -149,13 +152,15 @@ named_init words = if has_no_kind (fault_of init_app words) then Some (init_of (
 abbrev pub is_between : (low high n : ℕ) → Bool
 is_between low high n = nat_le low n && nat_le n high
 
--- a server, where its port is 1 to 65,535 and its connections are 1 to 1,000,000
-abbrev pub server : (path : Text) (port connections : ℕ) → Option NamedCommand
-server path port connections = if is_between 1 65535 port && is_between 1 1000000 connections then Some (Serve path port connections) else None
+-- a server, where its port is 1 to 65,535, its connections are 1 to 1,000,000, and its patience is 1 to 3,600
+abbrev pub server : (path : Text) (port connections patience : ℕ) → Option NamedCommand
+server path port connections patience =
+    if is_between 1 65535 port && is_between 1 1000000 connections && is_between 1 3600 patience
+    then Some (Serve path port connections patience) else None
 
 -- the command of these matches of `serve`
 abbrev pub serve_of : List Row → Option NamedCommand
-serve_of rows = server (text_in (codes "DB") rows) (number_in (codes "PORT") rows) (number_in (codes "N") rows)
+serve_of rows = server (text_in (codes "DB") rows) (number_in (codes "PORT") rows) (number_in (codes "N") rows) (number_in (codes "SECONDS") rows)
 
 -- the command that words after `serve` name
 unfoldable pub named_serve : (words : List Text) → Option NamedCommand
@@ -190,7 +195,7 @@ command_value (command.Submit list options) = Submit list.now (texts_of options)
 command_value command.AnswerMessages = AnswerMessages
 command_value (command.AnswerByFile path) = AnswerByFile path.now
 command_value (command.Init path options) = Init path.now (init_texts_of options)
-command_value (command.Serve path options) = Serve path.now options.port options.connections
+command_value (command.Serve path options) = Serve path.now options.port options.connections options.patience
 command_value (command.Migrate path) = Migrate path.now
 
 -- the fault is help where `clap`'s error is that, and usage where it is another

@@ -1,7 +1,7 @@
 //! What the arguments of a command were given.
 ghost use Rattle.std.specs.Prelude.{◌≡◌, codes};
 ghost use Rattle.clap.specs.Words.{found_of, rows_of};
-ghost use Rattle.desk_command_line.specs.CommandLine.{HasConnections, HasPort, number_in, text_in};
+ghost use Rattle.desk_command_line.specs.CommandLine.{HasConnections, HasPatience, HasPort, number_in, text_in};
 
 use clap::ArgMatches;
 
@@ -26,4 +26,12 @@ pub fn connections_of(matches: &ArgMatches<'_>) -> u32
     ensures { result ≡ number_in (codes "N") (rows_of (found_of matches.now)) }
 {
     matches.get_one::<u32>("N").unwrap()
+}
+
+/// Gives how many seconds a server is to wait for a client.
+pub fn patience_of(matches: &ArgMatches<'_>) -> u16
+    requires { HasPatience (rows_of (found_of matches.now)) }
+    ensures { result ≡ number_in (codes "SECONDS") (rows_of (found_of matches.now)) }
+{
+    matches.get_one::<u16>("SECONDS").unwrap()
 }

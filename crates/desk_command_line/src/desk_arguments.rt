@@ -2,10 +2,10 @@
 ghost use Rattle.std.specs.Prelude.{◌≡◌, map, IfOk};
 ghost use Rattle.clap.specs.Words.{app_of, found_of, rows_of};
 ghost use Rattle.desk_command_line.specs.Arguments.{init_app, migrate_app, serve_app};
-ghost use Rattle.desk_command_line.specs.CommandLine.{HasConnections, HasPort, Parses};
+ghost use Rattle.desk_command_line.specs.CommandLine.{HasConnections, HasPatience, HasPort, Parses};
 
 use crate::arguments::{add_argument, add_options, new_command};
-use crate::serve_arguments::{connections_option, port_argument};
+use crate::serve_arguments::{connections_option, patience_option, port_argument};
 use clap::{ArgMatches, Command as ClapCommand, Error};
 use std::alloc::{AllocError, Global};
 
@@ -62,11 +62,13 @@ fn init_command<'a>(alloc: Global) -> Result<ClapCommand<'a>, AllocError>
     add_options(alloc, command, &INIT_OPTIONS)
 }
 
-/// Parses the words of `serve DB PORT` with its option. Matches have both numbers, each in its range.
+/// Parses the words of `serve DB PORT` with its options. Matches have all three numbers, each in its
+/// range.
 pub fn serve_matches<'a>(alloc: Global, words: &'a [&'a str]) -> Result<ArgMatches<'a>, Error>
     ensures parses { Parses serve_app (map (λ w. w.now) words.now) result }
     ensures port { IfOk result (λ m. HasPort (rows_of (found_of m))) }
     ensures connections { IfOk result (λ m. HasConnections (rows_of (found_of m))) }
+    ensures patience { IfOk result (λ m. HasPatience (rows_of (found_of m))) }
 {
     let command = serve_command(alloc)?;
     command.try_get_matches_from(words)
@@ -79,6 +81,7 @@ fn serve_command<'a>(alloc: Global) -> Result<ClapCommand<'a>, AllocError>
     let command = add_argument(alloc, command, "DB", HELP_DESK)?;
     let command = command.arg(port_argument(alloc))?;
     let command = command.arg(connections_option(alloc))?;
+    let command = command.arg(patience_option(alloc))?;
     Ok(command)
 }
 

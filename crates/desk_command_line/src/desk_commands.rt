@@ -3,9 +3,9 @@ ghost use Rattle.std.specs.Prelude.{◌≡◌, codes, map, option_map};
 ghost use Rattle.clap.specs.Words.{fault_of, found_of, rows_of};
 ghost use Rattle.desk_command_line.specs.InitOptions.{init_texts_of};
 ghost use Rattle.desk_command_line.specs.Arguments.{init_app, migrate_app, serve_app, stdio_app};
-ghost use Rattle.desk_command_line.specs.CommandLine.{Gives, HasConnections, HasPort, command_value, init_texts_in, named_init, named_migrate, named_serve, named_stdio, number_in, session_with};
+ghost use Rattle.desk_command_line.specs.CommandLine.{Gives, HasConnections, HasPatience, HasPort, command_value, init_texts_in, named_init, named_migrate, named_serve, named_stdio, number_in, session_with};
 
-use crate::argument_values::{argument_text, connections_of, port_of};
+use crate::argument_values::{argument_text, connections_of, patience_of, port_of};
 use crate::arguments::stdio_matches;
 use crate::command::{Command, LineFault, line_fault};
 use crate::desk_arguments::{init_matches, migrate_matches, serve_matches};
@@ -59,7 +59,7 @@ fn init_options<'a>(matches: &ArgMatches<'a>) -> InitOptions<'a>
     }
 }
 
-/// Reads the words of `serve DB PORT` with its option.
+/// Reads the words of `serve DB PORT` with its options.
 pub fn serve_command<'a>(alloc: Global, words: &'a [&'a str]) -> Result<Command<'a>, LineFault>
     ensures { Gives (named_serve (map (λ w. w.now) words.now)) (fault_of serve_app (map (λ w. w.now) words.now)) result }
 {
@@ -75,12 +75,15 @@ pub fn serve_command<'a>(alloc: Global, words: &'a [&'a str]) -> Result<Command<
 fn serve_options(matches: &ArgMatches<'_>) -> ServeOptions
     requires port { HasPort (rows_of (found_of matches.now)) }
     requires connections { HasConnections (rows_of (found_of matches.now)) }
+    requires patience { HasPatience (rows_of (found_of matches.now)) }
     ensures port { result.port ≡ number_in (codes "PORT") (rows_of (found_of matches.now)) }
     ensures connections { result.connections ≡ number_in (codes "N") (rows_of (found_of matches.now)) }
+    ensures patience { result.patience ≡ number_in (codes "SECONDS") (rows_of (found_of matches.now)) }
 {
     ServeOptions {
         port: port_of(matches),
         connections: connections_of(matches),
+        patience: patience_of(matches),
     }
 }
 

@@ -19,12 +19,13 @@ use io_retries::{Tries, write_all_with_retries};
 use std::alloc::Global;
 use std::io::{Read, Write};
 use std::net::{Ipv4Addr, OpenListener, OpenStream, TcpListener};
+use std::time::Duration;
 
 /// Serves the desk of a store on a port of 127.0.0.1, one connection after another, each a session of its
 /// own, and gives the store back.
 ///
 /// Once it listens it prints `listening on 127.0.0.1:8080`. It is done after as many connections as the
-/// options say. Where the port cannot be had, or a connection cannot be accepted, `unavailable` is printed.
+/// options say, and waits no longer for a client than they say. Where the port cannot be had, or a connection cannot be accepted, `unavailable` is printed.
 ///
 /// By the clause `served` the store stands for each history for which it stood, with the messages that
 /// were answered since, each by its text, where it is clean in the end.
@@ -55,7 +56,7 @@ pub fn serve_by_store<S: Store + Drop, W: Write>(
         rt.alloc(),
         &mut desk,
         &listener,
-        options.connections,
+        options,
         line.as_slice(),
         writer,
     );
@@ -67,7 +68,7 @@ fn serve_and_tell<D: Answers, L: OpenListener, W: Write>(
     alloc: Global,
     desk: &mut D,
     listener: &L,
-    connections: u32,
+    options: ServeOptions,
     line: &[u8],
     writer: &mut W,
 ) -> Status
@@ -84,7 +85,9 @@ where
     let Ok(()) = write_all_with_retries(writer, line, &mut tries) else {
         return Status::Failed;
     };
-    match serve(alloc, desk, listener, u64::from(connections)) {
+    let connections = u64::from(options.connections);
+    let patience = Duration::from_secs(u64::from(options.patience));
+    match serve(alloc, desk, listener, connections, patience) {
         Ok(()) => Status::Done,
         Err(_) => print_unavailable(writer, tries),
     }

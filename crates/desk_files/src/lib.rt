@@ -11,6 +11,7 @@ mod migrated_file;
 mod migration;
 mod new_file;
 mod presence;
+mod private_file;
 
 pub use desk_setup::OpenFault;
 pub use found_file::open;

@@ -8,12 +8,14 @@ ghost use Rattle.desk_setup.specs.Setup.{HasNewDesk};
 ghost use Rattle.desk_files.specs.Opened.{IsMadeIn};
 
 use crate::connect::connect;
+use crate::private_file::make_private;
 use desk_history::Identity;
 use desk_setup::{OpenFault, make_desk};
 use sqlite::{Alter, Connection, FileFrom, FileStore, Start};
 
 /// Makes a new desk in the database file at a path, with the SHA-256 digest of the operator's key. A
-/// file that is missing is made. The connection sees the desk.
+/// file that is missing is made, and its log beside it, and only their owner reads them. The connection
+/// sees the desk.
 ///
 /// Over a desk it is `OpenFault::Exists`. A file that has something else in it, or that cannot be
 /// opened, is `OpenFault::Unavailable`. `S` stands for what the files hold, and for what a crash leaves
@@ -29,6 +31,7 @@ pub fn create<S: Start>(
     ensures memory { path.now ≡ codes ":memory:" → result ≡ Err OpenFault.Unavailable }
     ensures otherwise { IfErr result (λ fault. (fault ≡ OpenFault.Exists) ⊎ (fault ≡ OpenFault.Unavailable)) }
 {
+    make_private(rt, path)?;
     let conn = connect(rt, path, start)?;
     with_new_desk(conn, identity, operator_key)
 }

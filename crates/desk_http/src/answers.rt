@@ -23,26 +23,8 @@ use std::alloc::Global;
 /// leaves what stood before the message or after it, and where it was answered and wrote, what stood
 /// after it.
 ///
-/// The routes are built for this message alone: who answers many keeps them, as `HttpDesk` does, or
-/// calls `answer_by`.
+/// The routes are its caller's, as those of an `HttpDesk`: none is built for a message.
 pub fn answer<S: Store>(
-    alloc: Global,
-    desk: &mut Desk<S>,
-    message: &Message<'_>,
-) -> Result<Vec<u8>, Unavailable>
-    ensures before { S.is_clean desk.new → S.is_clean desk.old }
-    ensures goes { S.is_clean desk.new → GoesBytes (S.holds desk.old) (message_value message.now) result (S.holds desk.new) }
-    ensures replies { S.is_clean desk.new → RepliesBytes (S.holds desk.old) (message_value message.now) result }
-    ensures left { S.is_clean desk.new → LeavesBytes S.keeps (S.holds desk.old) (S.may_leave desk.old) (message_value message.now) result (S.may_leave desk.new) }
-{
-    match Routes::new(alloc) {
-        Ok(routes) => answer_by(alloc, desk, &routes, message),
-        Err(_) => Err(Unavailable),
-    }
-}
-
-/// Answers a message as `answer` does, by routes that were built before.
-pub fn answer_by<S: Store>(
     alloc: Global,
     desk: &mut Desk<S>,
     routes: &Routes,

@@ -2,7 +2,7 @@
 ghost use Rattle.std.specs.Prelude.{◌≡◌};
 ghost use Rattle.desk_http.specs.Answering.{DeskHistory, StandsBehind, IsAnswered};
 
-use crate::answers::answer_by;
+use crate::answers::answer;
 use desk_core::{Desk, Store};
 use desk_message::Message;
 use desk_routes::Routes;
@@ -44,6 +44,6 @@ impl<S: Store> Answers for HttpDesk<S> {
 
     fn answer(&mut self, alloc: Global, message: &Message<'_>) -> Result<Vec<u8>, Unavailable> {
         desk_bytes::one_meaning();
-        answer_by(alloc, &mut self.desk, &self.routes, message)
+        answer(alloc, &mut self.desk, &self.routes, message)
     }
 }

@@ -12,5 +12,5 @@ mod made_calls;
 mod print;
 mod verdict;
 
-pub use answers::{answer, answer_by};
+pub use answers::answer;
 pub use http_desk::HttpDesk;

@@ -32,7 +32,7 @@ pub(crate) fn carry_out<S: Store>(
         return Err(Unavailable);
     };
     match desk.apply(alloc, call) {
-        Ok(answer) => match print_answer(alloc, body, out, kind, closes, &answer) {
+        Ok(answer) => match print_answer(alloc, body, out, kind, closes, answer) {
             Ok(bytes) => Ok(bytes),
             Err(_) => Err(Unavailable),
         },

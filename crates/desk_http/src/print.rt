@@ -1,5 +1,5 @@
 //! The bytes of answers.
-ghost use Rattle.std.specs.Prelude.{◌≡◌, ◌≤◌, [], false, IfOk, OnErr, Err, vec_capacity};
+ghost use Rattle.std.specs.Prelude.{◌≡◌, ◌≤◌, [], true, false, IfOk, IsOk, OnErr, Err, vec_capacity};
 ghost use Rattle.desk_bodies.specs.Answers.{answer_body, is_command, FitsRoom};
 ghost use Rattle.desk_bodies.specs.Statuses.{status_of, content_of};
 ghost use Rattle.desk_response.specs.Response.{response_text};
@@ -9,41 +9,83 @@ use desk_bodies::{
     BODY_ROOM, CallKind, MessageFault, content_of, is_command, message_fault_text, status_of,
     write_answer,
 };
-use desk_core::Answer;
-use desk_response::{Content, ROOM, Response, print_response, put_response};
+use desk_core::{Answer, Outcome};
+use desk_response::{Content, ROOM, Response, print_response, put_response, wrap_response};
 use desk_session::Unavailable;
+use http::StatusCode;
 use std::alloc::{AllocError, Global};
 
 /// Gives the bytes of the answer to a call of this kind. What a command did is printed into the room
 /// that was taken before it: only a read's answer or a refusal takes memory.
 pub(crate) fn print_answer(
     alloc: Global,
-    mut body: Vec<u8>,
-    mut out: Vec<u8>,
+    body: Vec<u8>,
+    out: Vec<u8>,
     kind: CallKind,
     closes: bool,
-    answer: &Answer,
+    answer: Answer,
 ) -> Result<Vec<u8>, AllocError>
     requires body { body.items ≡ [] }
     requires body_room { BODY_ROOM ≤ vec_capacity body }
     requires out { out.items ≡ [] }
     requires out_room { ROOM ≤ vec_capacity out }
+    ensures text { IfOk result (λ bytes. FitsRoom answer
+        → bytes.items ≡ response_text (status_of kind answer) (content_of answer) closes (answer_body answer)) }
+    ensures memory { OnErr result (is_command answer ≡ false) }
+{
+    let status = status_of(kind, &answer);
+    let content = content_of(&answer);
+    if is_command(&answer) {
+        print_command(alloc, body, out, status, content, closes, &answer)
+    } else {
+        let body = read_body(alloc, body, answer)?;
+        wrap_response(alloc, body, status, content, closes)
+    }
+}
+
+// What a command did, in the room that was taken before it.
+fn print_command(
+    alloc: Global,
+    mut body: Vec<u8>,
+    mut out: Vec<u8>,
+    status: StatusCode,
+    content: Content,
+    closes: bool,
+    answer: &Answer,
+) -> Result<Vec<u8>, AllocError>
+    requires command { is_command answer.now ≡ true }
+    requires body { body.items ≡ [] }
+    requires body_room { BODY_ROOM ≤ vec_capacity body }
+    requires out { out.items ≡ [] }
+    requires out_room { ROOM ≤ vec_capacity out }
     ensures text { IfOk result (λ bytes. FitsRoom answer.now
-        → bytes.items ≡ response_text (status_of kind answer.now) (content_of answer.now) closes (answer_body answer.now)) }
-    ensures memory { OnErr result (is_command answer.now ≡ false) }
+        → bytes.items ≡ response_text status content closes (answer_body answer.now)) }
+    ensures memory { IsOk result }
 {
     write_answer(alloc, &mut body, answer)?;
     let response = Response {
-        status: status_of(kind, answer),
-        content: content_of(answer),
+        status,
+        content,
         closes,
         body: &body,
     };
-    if is_command(answer) {
-        put_response(&mut out, &response);
-        Ok(out)
-    } else {
-        print_response(alloc, &response)
+    put_response(&mut out, &response);
+    Ok(out)
+}
+
+// The body of what was looked up or refused. The text of a file is its own body, and no copy is made of
+// it; of other answers what they were written from is let go, before their head is.
+fn read_body(alloc: Global, mut body: Vec<u8>, answer: Answer) -> Result<Vec<u8>, AllocError>
+    requires body { body.items ≡ [] }
+    requires room { BODY_ROOM ≤ vec_capacity body }
+    ensures { IfOk result (λ bytes. FitsRoom answer → bytes.items ≡ answer_body answer) }
+{
+    match answer {
+        Answer::Done(Outcome::File(Some(text))) => Ok(text.into_vec()),
+        answer => {
+            write_answer(alloc, &mut body, &answer)?;
+            Ok(body)
+        }
     }
 }
 

@@ -112,8 +112,8 @@ body_arrives bytes come fields spans h size before after result at says is few r
     by_result (Ok None) t = (cut_in_body bytes read.taken fields spans h size at says t.0, t.1)
     by_result (Err Fault) t = inr (cut_in_body bytes read.taken fields spans h size at says t)
     by_result (Err NoRoom) t =
-        let limit = body_limit h.method (fields_of h) size says in
-        (wants_body bytes read.taken fields spans h size at says t.0, simp length-append (omega (arith, few, t.1, limit)))
+        let none = ap length t.1 in
+        (wants_body bytes read.taken fields spans h size at says t.0, simp length-append (omega (arith, few, none)))
 
 -- what ends inside a message is little
 pub cut_is_little : (s : List ℕ) → IsCut s → IsLittle s

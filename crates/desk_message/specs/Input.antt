@@ -1,7 +1,7 @@
 -- What reading from a reader does.
 use Rattle.std.specs.Prelude.{◌≡◌, ℕ, ◌+◌, ◌<◌, ◌≤◌, ◌==◌, ◌||◌, Bool, true, false, List, [], ◌++◌, length, drop, Option, Some, None, Result, Ok, Err, Vec}
 use Rattle.std.specs.declared.alloc.Global.{Global}
-use Rattle.std.specs.Io.KnownBytes.{Appends, Consumes, IsAtEnd}
+use Rattle.std.specs.Io.KnownBytes.{Consumes, IsAtEnd}
 use Rattle.httparse.specs.Grammar.{RequestHead, HasNoRequest}
 use Rattle.httparse.specs.declared.spans.HeaderSpan.{HeaderSpan}
 use Rattle.httparse.specs.declared.spans.RequestSpans.{RequestSpans}
@@ -22,10 +22,6 @@ pub record Grows (count : ℕ) (before after : Option (List ℕ)) (old new : Lis
   pub takes : Consumes before after taken
   pub grown : new ≡ old ++ taken
   pub size : length taken ≡ count
-
--- the reader gave at most so many bytes
-abbrev pub TakesAtMost : ℕ → Option (List ℕ) → Option (List ℕ) → Type 0
-TakesAtMost most before after = (taken : List ℕ) × Consumes before after taken × (length taken ≤ most)
 
 -- a byte of a line end
 abbrev pub is_line_end_byte : ℕ → Bool
@@ -65,6 +61,18 @@ pub record ReadsHead {E : Type 0} (result : Result Start E) (fields : List Heade
   pub grown : new ≡ old ++ taken
   pub tells : TellsStart result fields after new
 
+-- The room was filled by all that the reader gave; or the input ended, or a read failed, after less.
+abbrev pub TellsRoom : {E : Type 0} → Result Bool E → List ℕ → List ℕ → Option (List ℕ) → Type 0
+TellsRoom (Ok true) taken room after = room ≡ taken
+TellsRoom (Ok false) taken room after = (length taken < length room) × IsAtEnd after
+TellsRoom (Err fault) taken room after = length taken < length room
+
+-- a room was filled by what the reader gave
+pub record FillsRoom {E : Type 0} (result : Result Bool E) (before after : Option (List ℕ)) (room : List ℕ) : Type 0 where
+  pub taken : List ℕ
+  pub takes : Consumes before after taken
+  pub tells : TellsRoom result taken room after
+
 -- A body of this size from what had come and what was taken: it is whole, up to what had come after it; or
 -- the input ended inside it; or a read failed inside it; or there was no room for it.
 abbrev pub TellsBody : Result (Option (Vec ℕ Global)) Stop → List ℕ → List ℕ → ℕ → Option (List ℕ) → Type 0
@@ -72,7 +80,7 @@ TellsBody (Ok (Some body)) come taken size after =
     (length body.items ≡ size) × (come ++ taken ≡ body.items ++ drop size come)
 TellsBody (Ok None) come taken size after = (length (come ++ taken) < size) × IsAtEnd after
 TellsBody (Err Fault) come taken size after = length (come ++ taken) < size
-TellsBody (Err NoRoom) come taken size after = (0 < size) × (length taken ≤ size)
+TellsBody (Err NoRoom) come taken size after = (0 < size) × (taken ≡ [])
 
 -- a body of this size is read, of which some bytes had come
 pub record ReadsBody (result : Result (Option (Vec ℕ Global)) Stop) (before after : Option (List ℕ)) (come : List ℕ) (size : ℕ) : Type 0 where

@@ -1,12 +1,11 @@
 //! Reading messages from any reader.
-ghost use Rattle.std.specs.Prelude.{◌≡◌, ◌<◌, ◌≤◌, [], length, IfOk, IfErr};
-ghost use Rattle.std.specs.Io.KnownBytes.{Consumes, IsAtEnd};
+ghost use Rattle.std.specs.Prelude.{◌≡◌, ◌≤◌, length, min, take, IfOk};
 ghost use Rattle.std.specs.List.{list_all};
 ghost use Rattle.httparse.specs.Grammar.{RequestHead};
 ghost use Rattle.httparse.specs.Spans.{IsRequestAt, IsRequestWithin};
 ghost use Rattle.desk_message.specs.Start.{IsStart};
 ghost use Rattle.desk_message.specs.Heads.{head_framing};
-ghost use Rattle.desk_message.specs.Input.{is_line_end_byte, Grows, TakesAtMost, IsOpen, ReadsOn, ReadsHead, ReadsBody, Arrives};
+ghost use Rattle.desk_message.specs.Input.{is_line_end_byte, IsOpen, FillsRoom, ReadsOn, ReadsHead, ReadsBody, Arrives};
 
 use crate::framing::{Framing, framing_of};
 use crate::head::{MAX_FIELDS, Start, request_at, start_of};
@@ -17,9 +16,6 @@ use io_retries::{Tries, read_with_retries};
 use std::alloc::{AllocError, Global};
 use std::io;
 use std::io::Read;
-
-/// The most bytes of one read of a body.
-const PIECE: usize = 16_384;
 
 /// Why a body was not read.
 #[derive(Clone, Copy, PartialEq, Eq, Debug)]
@@ -37,16 +33,6 @@ impl From<AllocError> for Stop {
 
     fn from(_error: AllocError) -> Stop {
         Stop::NoRoom
-    }
-}
-
-impl From<io::Error> for Stop {
-    ghost use Rattle.desk_message.specs.declared.reading.Stop.TheVariants.{Fault};
-
-    ghost from_gives = { λ _ stop. stop ≡ Fault };
-
-    fn from(_error: io::Error) -> Stop {
-        Stop::Fault
     }
 }
 
@@ -125,29 +111,36 @@ fn read_head<R: Read>(
     }
 }
 
-/// Reads once by way of the piece, at most so many bytes to the end of the body, and tells how many came.
-fn read_piece<R: Read>(
-    reader: &mut R,
-    tries: &mut Tries,
-    piece: &mut [u8],
-    body: &mut Vec<u8>,
-    most: usize,
-) -> Result<usize, Stop>
-    requires some { 0 < most }
-    requires room { 0 < length piece.old }
-    ensures ok { IfOk result (λ n. Grows n (R.remaining reader.old) (R.remaining reader.new) body.old.items body.new.items) }
-    ensures most { IfOk result (λ n. n ≤ most) }
-    ensures end { IfOk result (λ n. n ≡ 0 → IsAtEnd (R.remaining reader.new)) }
-    ensures fault { IfErr result (λ stop. stop ≡ Stop.Fault → Consumes (R.remaining reader.old) (R.remaining reader.new) []) }
-    ensures takes { TakesAtMost most (R.remaining reader.old) (R.remaining reader.new) }
+/// Reads until the room is full, and tells whether it is; if not, the input has ended.
+///
+/// A read that fails is the last one: what came before it is lost with the body.
+fn read_whole<R: Read>(reader: &mut R, tries: &mut Tries, room: &mut [u8]) -> io::Result<bool>
+    ensures { FillsRoom result (R.remaining reader.old) (R.remaining reader.new) room.new }
 {
-    let wanted = most.min(piece.len());
-    let count = read_with_retries(reader, &mut piece[..wanted], tries)?;
-    body.extend_from_slice(&piece[..count])?;
-    Ok(count)
+    let mut filled = 0;
+    while filled < room.len() {
+        let count = read_with_retries(reader, &mut room[filled..], tries)?;
+        if count == 0 {
+            return Ok(false);
+        }
+        filled += count;
+    }
+    Ok(true)
+}
+
+/// Gives room for a body of this size, with what came of it at the start.
+fn room_for(alloc: Global, come: &[u8], size: usize) -> Result<Vec<u8>, AllocError>
+    ensures size { IfOk result (λ room. length room.items ≡ size) }
+    ensures start { IfOk result (λ room. take (min size (length come.now)) room.items ≡ take size come.now) }
+{
+    let mut room = Vec::with_capacity(alloc, size)?;
+    room.extend_from_slice(&come[..size.min(come.len())])?;
+    room.resize(size, 0)?;
+    Ok(room)
 }
 
 /// Reads the body of a head, of which some bytes came with the head; none where the input ends inside it.
+/// The rest of it is read into its place.
 fn read_body<R: Read>(
     alloc: Global,
     reader: &mut R,
@@ -160,21 +153,13 @@ fn read_body<R: Read>(
     if size == 0 {
         return Ok(Some(Vec::new(alloc)));
     }
-    let mut body = Vec::with_capacity(alloc, size)?;
-    body.extend_from_slice(&come[..size.min(come.len())])?;
-    if body.len() == size {
-        return Ok(Some(body));
+    let mut body = room_for(alloc, come, size)?;
+    let start = size.min(come.len());
+    match read_whole(reader, tries, &mut body[start..]) {
+        Ok(true) => Ok(Some(body)),
+        Ok(false) => Ok(None),
+        Err(_) => Err(Stop::Fault),
     }
-    let mut piece = [0; PIECE];
-    while body.len() < size {
-        let most = size - body.len();
-        match read_piece(reader, tries, &mut piece, &mut body, most) {
-            Ok(0) => return Ok(None),
-            Ok(_) => {}
-            Err(stop) => return Err(stop),
-        }
-    }
-    Ok(Some(body))
 }
 
 /// What the head at the start of the bytes says of its body.

@@ -38,6 +38,10 @@ header_lines content closes size =
 abbrev pub response_text : ℕ → Content → Bool → List ℕ → List ℕ
 response_text status content closes body = status_line status ++ header_lines content closes (length body) ++ body
 
+-- all of a response but its body, of which this is the size
+abbrev pub head_text : ℕ → Content → Bool → ℕ → List ℕ
+head_text status content closes size = status_line status ++ header_lines content closes size
+
 -- the bytes of a response of the program
 abbrev pub text_of : Response → List ℕ
 text_of r = response_text r.status r.content r.closes r.body.now

@@ -1,7 +1,7 @@
 //! Printing responses, with growth and without.
 ghost use Rattle.std.specs.Prelude.{◌≡◌, ◌+◌, ◌≤◌, ◌++◌, [], length, codes, decimal, unwrap_or, IfOk, vec_capacity};
 ghost use Rattle.http.specs.StatusCode.{reason_phrase};
-ghost use Rattle.desk_response.specs.Response.{text_of, connection, content_type, header_lines, line, status_line};
+ghost use Rattle.desk_response.specs.Response.{text_of, connection, content_type, head_text, header_lines, line, status_line};
 
 use crate::response::{Content, Response};
 use http::StatusCode;
@@ -102,13 +102,36 @@ fn put_headers(out: &mut Vec<u8>, content: Content, closes: bool, size: usize)
     put_line(out, b"", b"");
 }
 
+/// Appends the head of a response, for which there is room.
+pub(crate) fn put_head(
+    out: &mut Vec<u8>,
+    status: StatusCode,
+    content: Content,
+    closes: bool,
+    size: usize,
+)
+    requires { length out.old.items + HEAD_ROOM ≤ vec_capacity out.old }
+    ensures items { out.new.items ≡ out.old.items ++ head_text status content closes size }
+    ensures size { length out.new.items ≤ length out.old.items + HEAD_ROOM }
+    ensures capacity { vec_capacity out.old ≤ vec_capacity out.new }
+{
+    put_status(out, status);
+    put_headers(out, content, closes, size);
+}
+
 /// Appends a response for which there is room, so that no memory is taken.
 pub fn put_response(out: &mut Vec<u8>, response: &Response<'_>)
     requires { length out.old.items + HEAD_ROOM + length response.now.body.now ≤ vec_capacity out.old }
     ensures { out.new.items ≡ out.old.items ++ text_of response.now }
 {
-    put_status(out, response.status);
-    put_headers(out, response.content, response.closes, response.body.len());
+    let size = response.body.len();
+    put_head(
+        out,
+        response.status,
+        response.content,
+        response.closes,
+        size,
+    );
     put(out, response.body);
 }
 

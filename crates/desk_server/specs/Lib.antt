@@ -1,1 +1,2 @@
+pub mod Lingering
 pub mod Serving

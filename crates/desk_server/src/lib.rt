@@ -2,5 +2,7 @@
 #![tactic(auto)]
 
 mod connections;
+mod lingering;
 
 pub use connections::{ServeFault, serve};
+pub use lingering::{MAX_DROPPED, drop_rest};

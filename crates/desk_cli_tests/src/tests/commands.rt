@@ -30,7 +30,7 @@ fn a_submission_and_a_file_that_is_not_there(rt: HostRuntime) {
 #[test]
 fn words_and_their_exit_status(rt: HostRuntime) {
     // The words, the exit status, and what the first line begins with.
-    let rows: [(&[&str], u8, &[u8]); 24] = [
+    let rows: [(&[&str], u8, &[u8]); 26] = [
         (&[], 0, PAY_1_LINE.as_bytes()),
         (&["check", "no such file"], 3, b"unavailable\n"),
         (&["--help"], 0, b"The ACH desk of an originating bank."),
@@ -74,6 +74,16 @@ fn words_and_their_exit_status(rt: HostRuntime) {
         ),
         (
             &["serve", "no such desk", "8080", "--connections=1000001"],
+            2,
+            b"error: ",
+        ),
+        (
+            &["serve", "no such desk", "8080", "--patience", "0"],
+            2,
+            b"error: ",
+        ),
+        (
+            &["serve", "no such desk", "8080", "--patience=3601"],
             2,
             b"error: ",
         ),

@@ -1,6 +1,7 @@
 //! Desks in files: they are made once, and what an option or a file has wrong is told.
 use desk_cli::{Command, InitOptions, Status, run, run_words};
 use std::fs;
+use std::os::unix::fs::MetadataExt;
 use std::test::Fail;
 
 /// The sample bank, and the key of its operator.
@@ -40,6 +41,11 @@ fn a_desk_is_made_once(rt: HostRuntime) -> Result<(), Fail> {
     let path = "made.db";
     clear(&rt, path)?;
     assert!(rt; says(&rt, path, SAMPLE_BANK, Status::Done, "created\n"));
+    // Nobody but their owner reads the desk's files.
+    let log = format!(in rt.alloc(); "{path}-wal")?;
+    for file in [path, log.as_str()] {
+        assert!(rt; fs::metadata(&rt, file)?.mode() & 0o777 == 0o600);
+    }
     assert!(rt; says(&rt, path, SAMPLE_BANK, Status::Refused, "Exists\n"));
     clear(&rt, path)
 }

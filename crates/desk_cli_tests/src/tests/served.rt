@@ -14,6 +14,7 @@ fn says(rt: &HostRuntime, path: &str, port: u16, status: Status, line: &str) -> 
     let options = ServeOptions {
         port,
         connections: 1,
+        patience: 1,
     };
     let mut printed = Vec::new(rt.alloc());
     let ended = run(rt, &Command::Serve(path, options), NOBODY, &mut printed);

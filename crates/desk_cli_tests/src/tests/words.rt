@@ -16,8 +16,12 @@ const NOTHING: SubmitOptions<'static> = SubmitOptions {
     day: "",
 };
 
-fn serve_options(port: u16, connections: u32) -> ServeOptions {
-    ServeOptions { port, connections }
+fn serve_options(port: u16, connections: u32, patience: u16) -> ServeOptions {
+    ServeOptions {
+        port,
+        connections,
+        patience,
+    }
 }
 
 // Do the words name this command?
@@ -99,15 +103,22 @@ fn commands_of_a_desk(rt: HostRuntime) {
         (&["migrate", "desk.db"], Command::Migrate("desk.db")),
         (
             &["serve", "desk.db", "1"],
-            Command::Serve("desk.db", serve_options(1, 1000)),
+            Command::Serve("desk.db", serve_options(1, 1000, 30)),
         ),
         (
-            &["serve", "desk.db", "65535", "--connections", "1"],
-            Command::Serve("desk.db", serve_options(65_535, 1)),
+            &[
+                "serve",
+                "desk.db",
+                "65535",
+                "--connections",
+                "1",
+                "--patience=3600",
+            ],
+            Command::Serve("desk.db", serve_options(65_535, 1, 3_600)),
         ),
         (
             &["serve", "--connections=1000000", "desk.db", "8080"],
-            Command::Serve("desk.db", serve_options(8080, 1_000_000)),
+            Command::Serve("desk.db", serve_options(8080, 1_000_000, 30)),
         ),
         (
             &[

@@ -12,5 +12,8 @@ returns c =
     let port =
     with_more _ _ _ _ path
     (c.in_ok-command-3.ensures.shape c.port_argument.ensures.local ∙ ap (λ (r : Rule). with_rule (app_of c.in_ok-command-2.command) r) c.port_argument.ensures.rule) in
+    let connections =
     with_more _ _ _ _ port
-    (c.in_ok-command-4.ensures.shape c.connections_option.ensures.local ∙ ap (λ (r : Rule). with_rule (app_of c.in_ok-command-3.command) r) c.connections_option.ensures.rule)
+    (c.in_ok-command-4.ensures.shape c.connections_option.ensures.local ∙ ap (λ (r : Rule). with_rule (app_of c.in_ok-command-3.command) r) c.connections_option.ensures.rule) in
+    with_more _ _ _ _ connections
+    (c.in_ok-command-5.ensures.shape c.patience_option.ensures.local ∙ ap (λ (r : Rule). with_rule (app_of c.in_ok-command-4.command) r) c.patience_option.ensures.rule)

@@ -1,5 +1,5 @@
 use Rattle.desk_command_line.proofs.CommandLineLemmas.{parses_as, serve_simple, serve_free}
-use Rattle.desk_command_line.proofs.ServeLemmas.{has_connections, has_port}
+use Rattle.desk_command_line.proofs.ServeLemmas.{has_connections, has_patience, has_port}
 use Rattle.desk_command_line.specs.Arguments.{serve_app}
 use Rattle.desk_command_line.proofs.desk_arguments.serve_matches.Goals as goal
 
@@ -13,3 +13,6 @@ returns-clause-port c = has_port _ c.try_get_matches_from.result c.in_ok-command
 
 pub returns-clause-connections : goal.returns-clause-connections
 returns-clause-connections c = has_connections _ c.try_get_matches_from.result c.in_ok-command.ensures c.try_get_matches_from.ensures.parsed
+
+pub returns-clause-patience : goal.returns-clause-patience
+returns-clause-patience c = has_patience _ c.try_get_matches_from.result c.in_ok-command.ensures c.try_get_matches_from.ensures.parsed

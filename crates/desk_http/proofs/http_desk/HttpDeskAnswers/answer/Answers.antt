@@ -4,5 +4,5 @@ use Rattle.desk_http.proofs.http_desk.HttpDeskAnswers.answer.Goals as goal
 
 pub returns-clause-answers : goal.returns-clause-answers
 returns-clause-answers g c = λ clean.
-    step c.one_meaning.ensures (g.S.Store.holds c.args.self.now.desk) (g.S.Store.holds c.answer_by.new.desk)
-    (message_value c.args.message.now) c.answer_by.result (c.answer_by.ensures.goes clean)
+    step c.one_meaning.ensures (g.S.Store.holds c.args.self.now.desk) (g.S.Store.holds c.answer.new.desk)
+    (message_value c.args.message.now) c.answer.result (c.answer.ensures.goes clean)

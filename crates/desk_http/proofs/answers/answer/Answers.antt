@@ -5,7 +5,7 @@ use Rattle.desk_bytes.specs.Verdict.{Verdict}
 use Rattle.desk_bytes.specs.Texts.{fault_text}
 use Rattle.desk_http.specs.MadeCalls.{GoesCall}
 use Rattle.desk_http.proofs.Messages.{IsRead, faulted, made, made_left, replied}
-use Rattle.desk_http.proofs.answers.answer_by.Goals as goal
+use Rattle.desk_http.proofs.answers.answer.Goals as goal
 
 pub returns-in-Ok-Ok-clause-goes : goal.returns-in-Ok-Ok-clause-goes
 returns-in-Ok-Ok-clause-goes g c = λ clean.
