@@ -4,7 +4,8 @@ use Rattle.std.specs.Io.KnownBytes.{Appends}
 use Rattle.desk_command_line.specs.declared.command.Command.{Command}
 use Rattle.desk_command_line.specs.declared.command.Command.TheVariants.{AnswerByFile, AnswerMessages, AnswerSubmission, Check, Init, Migrate, Serve, Submit}
 use Rattle.desk_command_line.specs.declared.command.LineFault.{LineFault}
-use Rattle.desk_command_line.specs.declared.command.LineFault.TheVariants.{Help, Usage, NoMemory}
+use Rattle.desk_command_line.specs.declared.command.LineFault.TheVariants.{Help, Version, Usage, NoMemory}
+use Rattle.desk_command_line.specs.declared.TheConstants.{VERSION_LINE}
 use Rattle.desk_submit.specs.Options.{texts_of}
 use Rattle.desk_commands.specs.FileChecks.{HasChecked, IsFailedCheck}
 use Rattle.desk_command_line.specs.InitOptions.{init_texts_of}
@@ -52,8 +53,10 @@ abbrev pub PrintsWithCode : (old new : Option (List ℕ)) → (text : List ℕ) 
 PrintsWithCode old new text code given =
     (Appends old new text × (given ≡ code)) ⊎ (AppendsPrefix old new text × (given ≡ 3))
 
--- the text of help with 0, of usage with 2, or `unavailable` with 3, as far as the writer takes it
+-- the text of help with 0, the line of the version with 0, the text of usage with 2, or `unavailable` with 3, as far as
+-- the writer takes it
 abbrev pub PrintsLineFault : LineFault → (old new : Option (List ℕ)) → (given : ℕ) → Type 0
 PrintsLineFault (Help text) old new given = PrintsWithCode old new (string_bytes text) 0 given
+PrintsLineFault Version old new given = PrintsWithCode old new VERSION_LINE.now 0 given
 PrintsLineFault (Usage text) old new given = PrintsWithCode old new (string_bytes text) 2 given
 PrintsLineFault NoMemory old new given = AppendsPrefix old new unavailable × (given ≡ 3)

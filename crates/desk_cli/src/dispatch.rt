@@ -7,7 +7,7 @@ use crate::init_desk::make_desk;
 use crate::kept_session::answer_by_file;
 use crate::migrated_file::migrate_by_file;
 use crate::served_file::serve_by_file;
-use desk_command_line::{Command, LineFault};
+use desk_command_line::{Command, LineFault, VERSION_LINE};
 use desk_commands::{
     Status, answer_messages, check_path, first_run, print_unavailable, submit_path, write_line,
 };
@@ -76,13 +76,14 @@ fn carry_out<S: Start, R: Read + Drop, W: Write>(
     }
 }
 
-/// Prints why words name no command, and gives the exit status: 0 for help, 2 for wrong words, and 3
-/// where a write fails or the program is out of memory.
+/// Prints why words name no command, and gives the exit status: 0 for help and the version, 2 for wrong
+/// words, and 3 where a write fails or the program is out of memory.
 pub fn print_line_fault<W: Write>(writer: &mut W, fault: &LineFault) -> u8
     ensures { PrintsLineFault fault.now (W.contents writer.old) (W.contents writer.new) result }
 {
     match fault {
         LineFault::Help(text) => print_with_code(writer, text.as_bytes(), 0),
+        LineFault::Version => print_with_code(writer, VERSION_LINE.as_bytes(), 0),
         LineFault::Usage(text) => print_with_code(writer, text.as_bytes(), 2),
         LineFault::NoMemory => print_unavailable(writer, Tries::new()).code(),
     }

@@ -12,7 +12,9 @@ mod open_fault;
 mod program;
 mod served_file;
 
-pub use desk_command_line::{Command, InitOptions, LineFault, ServeOptions, command_of};
+pub use desk_command_line::{
+    Command, InitOptions, LineFault, ServeOptions, VERSION_LINE, command_of,
+};
 pub use desk_commands::{
     NoMemory, Status, answer_messages, check_file, first_run, submission_answer, submit_list,
 };

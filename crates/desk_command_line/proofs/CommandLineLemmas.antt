@@ -15,10 +15,10 @@ use Rattle.clap.proofs.WalkLemmas.{first_value-rows}
 use Rattle.desk_submit.specs.Options.{OptionTexts}
 use Rattle.desk_command_line.specs.InitOptions.{InitTexts}
 use Rattle.desk_command_line.specs.Arguments.{check_app, init_app, init_rules, migrate_app, program_app, serve_app, serve_rules, stdio_app, submit_app, submit_rules}
-use Rattle.desk_command_line.specs.CommandLine.{Check, Gives, GivesAt, HasConnections, HasNumber, HasPatience, HasPort, Init, IsFaultAmong, IsFaultOf, Migrate, NamedCommand, Parses, Serve, Submit, app_named, has_no_kind, init_texts_in, is_between, is_check, is_init, is_migrate, is_serve, is_stdio, is_submit, kinds_at, named_check, named_command, named_init, named_migrate, named_serve, named_stdio, named_submit, number_in, number_of, options_in, server, session_with, text_in}
+use Rattle.desk_command_line.specs.CommandLine.{Check, Gives, GivesBy, HasConnections, HasNumber, HasPatience, HasPort, Init, IsFaultAmong, IsFaultOf, Migrate, NamedCommand, Parses, Serve, Submit, app_named, has_no_kind, init_texts_in, is_between, is_check, is_init, is_migrate, is_serve, is_stdio, is_submit, kinds_at, named_check, named_command, named_init, named_migrate, named_serve, named_stdio, named_submit, number_in, number_of, options_in, server, session_with, text_in}
 use Rattle.desk_command_line.specs.declared.command.Command.{Command}
 use Rattle.desk_command_line.specs.declared.command.LineFault.{LineFault}
-use Rattle.desk_command_line.specs.declared.command.LineFault.TheVariants.{Help, Usage, NoMemory}
+use Rattle.desk_command_line.specs.declared.command.LineFault.TheVariants.{Help, Version, Usage, NoMemory}
 
 pub check_free : is_simple_and_free check_app ≡ true
 unfolding clap_on_literals
@@ -140,8 +140,11 @@ serve_given words m path port connections patience h has_port has_connections ha
 help_for_memory : (k : ErrorKind) → k ≡ kind.OutOfMemory → k ≡ kind.DisplayHelp → ⊥
 help_for_memory k memory help = cc
 
-other_than_one : (k : ErrorKind) (kinds : Kinds) → IsAmong k kinds → k ≢ kind.DisplayHelp → kinds ≡ kind.DisplayHelp ∷ [] → ⊥
-other_than_one k kinds one apart only =
+version_for_memory : (k : ErrorKind) → k ≡ kind.OutOfMemory → k ≡ kind.DisplayVersion → ⊥
+version_for_memory k memory version = cc
+
+other_than_one : (k other : ErrorKind) (kinds : Kinds) → IsAmong k kinds → k ≢ other → kinds ≡ other ∷ [] → ⊥
+other_than_one k other kinds one apart only =
     elim (subst (IsAmong k) only one) [
       | inl is ↦ apart is
       | inr none ↦ none
@@ -151,17 +154,23 @@ other_than_one k kinds one apart only =
 pub among : (kinds : Kinds) (e : Error) (fault : LineFault) → HasKind kinds e → IsFaultOf (kind_of e) fault → IsFaultAmong kinds fault
 among kinds e (Help text) (inl memory) is = absurd (help_for_memory (kind_of e) memory is)
 among kinds e (Help text) (inr one) is = subst (λ k. IsAmong k kinds) is one
-among kinds e (Usage text) (inl memory) is = absurd (is.1 memory)
-among kinds e (Usage text) (inr one) is = λ only. other_than_one (kind_of e) kinds one is.0 only
+among kinds e Version (inl memory) is = absurd (version_for_memory (kind_of e) memory is)
+among kinds e Version (inr one) is = subst (λ k. IsAmong k kinds) is one
+among kinds e (Usage text) (inl memory) is = absurd (is.2 memory)
+among kinds e (Usage text) (inr one) is = (
+  λ only. other_than_one (kind_of e) kind.DisplayHelp kinds one is.0 only,
+  λ only. other_than_one (kind_of e) kind.DisplayVersion kinds one is.1 only,
+)
 among kinds e NoMemory has is = tt
 
 -- and where there is no error
-pub among_none : (kinds : Kinds) → kinds ≡ [] → kinds ≢ kind.DisplayHelp ∷ []
-among_none kinds none only = cc
+pub among_none : (kinds : Kinds) → kinds ≡ [] → (kinds ≢ kind.DisplayHelp ∷ []) × (kinds ≢ kind.DisplayVersion ∷ [])
+among_none kinds none = (λ only. let no : ⊥ = cc in no, λ only. let no : ⊥ = cc in no)
 
 memory_fault : (k : ErrorKind) (fault : LineFault) → k ≡ kind.OutOfMemory → IsFaultOf k fault → fault ≡ NoMemory
 memory_fault k (Help text) memory is = absurd (help_for_memory k memory is)
-memory_fault k (Usage text) memory is = absurd (is.1 memory)
+memory_fault k Version memory is = absurd (version_for_memory k memory is)
+memory_fault k (Usage text) memory is = absurd (is.2 memory)
 memory_fault k NoMemory memory is = refl
 
 some_kind : (kinds : Kinds) (k : ErrorKind) → IsAmong k kinds → has_no_kind kinds ≡ false
@@ -253,7 +262,7 @@ is_word-no word x name same apart =
 
 -- words whose first one names these rules and may name a command
 gives_at : (x : Text) (xs : List Text) (app : App) (named : Option NamedCommand) (r : Result Command LineFault) → app_named x ≡ app
-    → named_command (x ∷ xs) ≡ named → Gives named (fault_of app (x ∷ xs)) r → GivesAt (x ∷ xs) r
+    → named_command (x ∷ xs) ≡ named → Gives named (fault_of app (x ∷ xs)) r → GivesBy (x ∷ xs) r
 gives_at x xs app named r rules is g = (
   subst (λ (o : Option NamedCommand). Gives o (kinds_at (x ∷ xs)) r) (sym is)
       (subst (λ (k : Kinds). Gives named k r) (sym (kinds_at-named x xs ∙ ap (λ (a : App). fault_of a (x ∷ xs)) rules)) g),
@@ -262,7 +271,7 @@ gives_at x xs app named r rules is g = (
 
 -- words after `check`
 pub gives_check : (words : List (Bor Text)) (name : Bor Text) (r : Result Command LineFault) → Some name ≡ slice_get words 0
-    → name.now ≡ codes "check" → Gives (named_check (texts_of words)) (fault_of check_app (texts_of words)) r → GivesAt (texts_of words) r
+    → name.now ≡ codes "check" → Gives (named_check (texts_of words)) (fault_of check_app (texts_of words)) r → GivesBy (texts_of words) r
 gives_check [] name r a is g = absurd (let no : ⊥ = cc in no)
 gives_check (x ∷ xs) name r a is g =
     let check : is_check x.now ≡ true = is_word-yes (codes "check") x.now name.now (first_now x name xs a) is in
@@ -271,7 +280,7 @@ gives_check (x ∷ xs) name r a is g =
 -- words after `submit`
 pub gives_submit : (words : List (Bor Text)) (name : Bor Text) (r : Result Command LineFault) → Some name ≡ slice_get words 0
     → ¬ (name.now ≡ codes "check") → name.now ≡ codes "submit"
-    → Gives (named_submit (texts_of words)) (fault_of submit_app (texts_of words)) r → GivesAt (texts_of words) r
+    → Gives (named_submit (texts_of words)) (fault_of submit_app (texts_of words)) r → GivesBy (texts_of words) r
 gives_submit [] name r a apart is g = absurd (let no : ⊥ = cc in no)
 gives_submit (x ∷ xs) name r a apart is g =
     let same : name.now ≡ x.now = first_now x name xs a in
@@ -282,7 +291,7 @@ gives_submit (x ∷ xs) name r a apart is g =
 -- words after `stdio`
 pub gives_stdio : (words : List (Bor Text)) (name : Bor Text) (r : Result Command LineFault) → Some name ≡ slice_get words 0
     → ¬ (name.now ≡ codes "check") → ¬ (name.now ≡ codes "submit") → name.now ≡ codes "stdio"
-    → Gives (named_stdio (texts_of words)) (fault_of stdio_app (texts_of words)) r → GivesAt (texts_of words) r
+    → Gives (named_stdio (texts_of words)) (fault_of stdio_app (texts_of words)) r → GivesBy (texts_of words) r
 gives_stdio [] name r a not_check not_submit is g = absurd (let no : ⊥ = cc in no)
 gives_stdio (x ∷ xs) name r a not_check not_submit is g =
     let same : name.now ≡ x.now = first_now x name xs a in
@@ -294,7 +303,7 @@ gives_stdio (x ∷ xs) name r a not_check not_submit is g =
 -- words after `init`
 pub gives_init : (words : List (Bor Text)) (name : Bor Text) (r : Result Command LineFault) → Some name ≡ slice_get words 0
     → ¬ (name.now ≡ codes "check") → ¬ (name.now ≡ codes "submit") → ¬ (name.now ≡ codes "stdio") → name.now ≡ codes "init"
-    → Gives (named_init (texts_of words)) (fault_of init_app (texts_of words)) r → GivesAt (texts_of words) r
+    → Gives (named_init (texts_of words)) (fault_of init_app (texts_of words)) r → GivesBy (texts_of words) r
 gives_init [] name r a not_check not_submit not_stdio is g = absurd (let no : ⊥ = cc in no)
 gives_init (x ∷ xs) name r a not_check not_submit not_stdio is g =
     let same : name.now ≡ x.now = first_now x name xs a in
@@ -308,7 +317,7 @@ gives_init (x ∷ xs) name r a not_check not_submit not_stdio is g =
 -- words after `serve`
 pub gives_serve : (words : List (Bor Text)) (name : Bor Text) (r : Result Command LineFault) → Some name ≡ slice_get words 0
     → ¬ (name.now ≡ codes "check") → ¬ (name.now ≡ codes "submit") → ¬ (name.now ≡ codes "stdio") → ¬ (name.now ≡ codes "init") → name.now ≡ codes "serve"
-    → Gives (named_serve (texts_of words)) (fault_of serve_app (texts_of words)) r → GivesAt (texts_of words) r
+    → Gives (named_serve (texts_of words)) (fault_of serve_app (texts_of words)) r → GivesBy (texts_of words) r
 gives_serve [] name r a not_check not_submit not_stdio not_init is g = absurd (let no : ⊥ = cc in no)
 gives_serve (x ∷ xs) name r a not_check not_submit not_stdio not_init is g =
     let same : name.now ≡ x.now = first_now x name xs a in
@@ -323,7 +332,7 @@ gives_serve (x ∷ xs) name r a not_check not_submit not_stdio not_init is g =
 -- words after `migrate`
 pub gives_migrate : (words : List (Bor Text)) (name : Bor Text) (r : Result Command LineFault) → Some name ≡ slice_get words 0
     → ¬ (name.now ≡ codes "check") → ¬ (name.now ≡ codes "submit") → ¬ (name.now ≡ codes "stdio") → ¬ (name.now ≡ codes "init") → ¬ (name.now ≡ codes "serve") → name.now ≡ codes "migrate"
-    → Gives (named_migrate (texts_of words)) (fault_of migrate_app (texts_of words)) r → GivesAt (texts_of words) r
+    → Gives (named_migrate (texts_of words)) (fault_of migrate_app (texts_of words)) r → GivesBy (texts_of words) r
 gives_migrate [] name r a not_check not_submit not_stdio not_init not_serve is g = absurd (let no : ⊥ = cc in no)
 gives_migrate (x ∷ xs) name r a not_check not_submit not_stdio not_init not_serve is g =
     let same : name.now ≡ x.now = first_now x name xs a in
@@ -339,7 +348,7 @@ gives_migrate (x ∷ xs) name r a not_check not_submit not_stdio not_init not_se
 -- words after one that names no command
 pub gives_none : (words : List (Bor Text)) (name : Bor Text) (fault : LineFault) → Some name ≡ slice_get words 0
     → ¬ (name.now ≡ codes "check") → ¬ (name.now ≡ codes "submit") → ¬ (name.now ≡ codes "stdio") → ¬ (name.now ≡ codes "init") → ¬ (name.now ≡ codes "serve") → ¬ (name.now ≡ codes "migrate")
-    → IsFaultAmong (fault_of program_app (texts_of words)) fault → GivesAt (texts_of words) (Err fault)
+    → IsFaultAmong (fault_of program_app (texts_of words)) fault → GivesBy (texts_of words) (Err fault)
 gives_none [] name fault a not_check not_submit not_stdio not_init not_serve not_migrate is = absurd (let no : ⊥ = cc in no)
 gives_none (x ∷ xs) name fault a not_check not_submit not_stdio not_init not_serve not_migrate is =
     let same : name.now ≡ x.now = first_now x name xs a in

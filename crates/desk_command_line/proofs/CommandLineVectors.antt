@@ -4,7 +4,7 @@ use Rattle.clap.specs.Words.{Text}
 use Rattle.clap.specs.declared.error.kind.ErrorKind.TheVariants as kind
 use Rattle.clap.proofs.OnLiterals.{clap_on_literals}
 use Rattle.desk_command_line.specs.Arguments.{init_rules, serve_rules, submit_rules}
-use Rattle.desk_command_line.specs.CommandLine.{AnswerByFile, AnswerMessages, AnswerSubmission, Check, Init, Migrate, NamedCommand, Serve, Submit, kinds_at, named_check, named_command, named_init, named_migrate, named_serve, named_stdio, named_submit}
+use Rattle.desk_command_line.specs.CommandLine.{AnswerByFile, AnswerMessages, AnswerSubmission, Check, Init, Migrate, NamedCommand, Serve, Submit, kinds_at, named_check, named_command, named_init, named_migrate, named_serve, named_stdio, named_submit, spelled_out}
 
 no_words : named_command [] ≡ Some AnswerSubmission
 no_words = refl
@@ -28,6 +28,19 @@ help_of_the_program = refl
 short_help : kinds_at (codes "-h" ∷ []) ≡ kind.DisplayHelp ∷ []
 unfolding clap_on_literals kinds_at
 short_help = refl
+
+version : kinds_at (codes "--version" ∷ []) ≡ kind.DisplayVersion ∷ []
+unfolding clap_on_literals kinds_at
+version = refl
+
+short_version : kinds_at (codes "-V" ∷ []) ≡ kind.DisplayVersion ∷ []
+unfolding clap_on_literals kinds_at
+short_version = refl
+
+-- the version is the program's: a command has none
+version_of_a_command : kinds_at (codes "check" ∷ codes "--version" ∷ []) ≡ kind.UnknownArgument ∷ []
+unfolding clap_on_literals kinds_at
+version_of_a_command = refl
 
 help_of_a_command : kinds_at (codes "check" ∷ codes "a" ∷ codes "--help" ∷ []) ≡ kind.DisplayHelp ∷ []
 unfolding clap_on_literals kinds_at
@@ -87,6 +100,27 @@ no_such_command = refl
 help_as_a_word : kinds_at (codes "help" ∷ []) ≡ kind.DisplayHelp ∷ kind.InvalidSubcommand ∷ []
 unfolding clap_on_literals kinds_at
 help_as_a_word = refl
+
+help_before_a_command : spelled_out (codes "help" ∷ codes "serve" ∷ []) ≡ codes "serve" ∷ codes "--help" ∷ []
+help_before_a_command = refl
+
+help_after_a_command : kinds_at (codes "serve" ∷ codes "--help" ∷ []) ≡ kind.DisplayHelp ∷ []
+unfolding clap_on_literals kinds_at serve_rules
+help_after_a_command = refl
+
+help_of_no_command : kinds_at (spelled_out (codes "help" ∷ codes "bogus" ∷ [])) ≡ kind.UnknownArgument ∷ kind.InvalidSubcommand ∷ []
+unfolding clap_on_literals kinds_at
+help_of_no_command = refl
+
+-- other words are read as they stand
+help_of_help : spelled_out (codes "help" ∷ codes "help" ∷ []) ≡ codes "help" ∷ codes "help" ∷ []
+help_of_help = refl
+
+help_of_two_words : spelled_out (codes "help" ∷ codes "check" ∷ codes "a" ∷ []) ≡ codes "help" ∷ codes "check" ∷ codes "a" ∷ []
+help_of_two_words = refl
+
+check_of_help : spelled_out (codes "check" ∷ codes "help" ∷ []) ≡ codes "check" ∷ codes "help" ∷ []
+check_of_help = refl
 
 -- the words of a new desk
 bank_options : List Text

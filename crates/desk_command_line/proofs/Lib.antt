@@ -1,5 +1,6 @@
 pub mod CommandLineLemmas
 pub mod CommandLineVectors
+pub mod HelpLemmas
 pub mod NumberLemmas
 pub mod ServeLemmas
 pub mod Adding

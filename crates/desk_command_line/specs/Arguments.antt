@@ -99,11 +99,11 @@ serve_app = app_with (codes "achdesk serve") serve_rules
 abbrev pub migrate_app : App
 migrate_app = app_with (codes "achdesk migrate") (required_argument (codes "DB") ∷ [])
 
--- the program, whose words have to name a command
+-- the program, which has a version, and whose words have to name a command
 abbrev pub program_top : App
 program_top =
     let program = new_app (codes "achdesk") in
-    record program { top = record program.top { no_binary_name = true; subcommand_required = true } }
+    record program { top = record program.top { has_version = true; no_binary_name = true; subcommand_required = true } }
 
 -- the program with the name of a command more
 abbrev pub with_command : App → (name : Text) → App

@@ -1,5 +1,6 @@
 -- The command that words name, by `clap`'s rules for the command's arguments, or why they name none.
-use Rattle.std.specs.Prelude.{◌≡◌, ◌≢◌, ◌⊎◌, ◌&&◌, ℕ, nat_le, Bool, true, false, if◌then◌else◌, List, [], ◌∷◌, Option, Some, None, codes, unwrap_or, Result, Ok, Err, OnErr}
+use Rattle.std.specs.Prelude.{◌≡◌, ◌≢◌, ◌⊎◌, ◌&&◌, ℕ, nat_le, not, Bool, true, false, if◌then◌else◌, List, [], ◌∷◌, Option, Some, None, codes, unwrap_or, Result, Ok, Err, OnErr}
+use Rattle.std.specs.Option.{option_map_or}
 use Rattle.std.specs.Str.{bytes_eq}
 use Rattle.std.specs.Str.Parse.{digits_value, without_leading_plus}
 use Rattle.clap.specs.Words.{App, IsUnsignedIn, Row, Text, fault_of, first_of, found_of, matches_of, one_of, rows_of}
@@ -14,7 +15,7 @@ use Rattle.desk_command_line.specs.InitOptions.{InitTexts, init_texts_of}
 use Rattle.desk_command_line.specs.declared.command.Command.{Command}
 use Rattle.desk_command_line.specs.declared.command.Command.TheVariants as command
 use Rattle.desk_command_line.specs.declared.command.LineFault.{LineFault}
-use Rattle.desk_command_line.specs.declared.command.LineFault.TheVariants.{Help, Usage, NoMemory}
+use Rattle.desk_command_line.specs.declared.command.LineFault.TheVariants.{Help, Version, Usage, NoMemory}
 
 -- the words that name a command
 abbrev pub is_check : (name : Text) → Bool
@@ -34,6 +35,10 @@ is_serve name = bytes_eq name (codes "serve")
 
 abbrev pub is_migrate : (name : Text) → Bool
 is_migrate name = bytes_eq name (codes "migrate")
+
+-- the word that asks for help
+abbrev pub is_help : (word : Text) → Bool
+is_help word = bytes_eq word (codes "help")
 
 -- the rules for words of which this is the first
 abbrev pub app_named : (name : Text) → App
@@ -198,17 +203,19 @@ command_value (command.Init path options) = Init path.now (init_texts_of options
 command_value (command.Serve path options) = Serve path.now options.port options.connections options.patience
 command_value (command.Migrate path) = Migrate path.now
 
--- the fault is help where `clap`'s error is that, and usage where it is another
+-- the fault is help or the version where `clap`'s error is that, and usage where it is another
 abbrev pub IsFaultOf : ErrorKind → LineFault → Type 0
 IsFaultOf k (Help text) = k ≡ kind.DisplayHelp
-IsFaultOf k (Usage text) = (k ≢ kind.DisplayHelp) × (k ≢ kind.OutOfMemory)
+IsFaultOf k Version = k ≡ kind.DisplayVersion
+IsFaultOf k (Usage text) = (k ≢ kind.DisplayHelp) × (k ≢ kind.DisplayVersion) × (k ≢ kind.OutOfMemory)
 IsFaultOf k NoMemory = Unit {0}
 
--- The fault is help only where `clap` may give help, and usage only where it may give another error. So where words
--- have one kind, the fault is help exactly where that kind is.
+-- The fault is help, or the version, only where `clap` may give that, and usage only where it may give another error.
+-- So where words have one kind, the fault is help, or the version, exactly where that kind is.
 abbrev pub IsFaultAmong : Kinds → LineFault → Type 0
 IsFaultAmong kinds (Help text) = IsAmong kind.DisplayHelp kinds
-IsFaultAmong kinds (Usage text) = kinds ≢ kind.DisplayHelp ∷ []
+IsFaultAmong kinds Version = IsAmong kind.DisplayVersion kinds
+IsFaultAmong kinds (Usage text) = (kinds ≢ kind.DisplayHelp ∷ []) × (kinds ≢ kind.DisplayVersion ∷ [])
 IsFaultAmong kinds NoMemory = Unit {0}
 
 -- The words name the command that is given. Or they name none, or memory ran out, and the fault is among these kinds.
@@ -217,5 +224,22 @@ Gives wanted kinds (Ok c) = wanted ≡ Some (command_value c)
 Gives wanted kinds (Err fault) = ((fault ≡ NoMemory) ⊎ (wanted ≡ None)) × IsFaultAmong kinds fault
 
 -- what the words give; where there are none, a command
+abbrev pub GivesBy : (words : List Text) → Result Command LineFault → Type 0
+GivesBy words given = Gives (named_command words) (kinds_at words) given × OnErr given (words ≢ [])
+
+-- the words name no command
+abbrev pub NamesNone : (words : List Text) → Type 0
+NamesNone words = named_command words ≡ None
+
+-- the command whose help the words ask for by `help COMMAND`; `help help` asks for none
+abbrev pub help_topic : (words : List Text) → Option Text
+help_topic (first ∷ topic ∷ []) = if is_help first && not (is_help topic) then Some topic else None
+help_topic _ = None
+
+-- `help COMMAND` is read as `COMMAND --help`
+abbrev pub spelled_out : (words : List Text) → List Text
+spelled_out words = option_map_or (λ topic. topic ∷ codes "--help" ∷ []) (help_topic words) words
+
+-- what the program's words give
 abbrev pub GivesAt : (words : List Text) → Result Command LineFault → Type 0
-GivesAt words given = Gives (named_command words) (kinds_at words) given × OnErr given (words ≢ [])
+GivesAt words given = GivesBy (spelled_out words) given

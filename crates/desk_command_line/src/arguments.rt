@@ -23,21 +23,33 @@ pub const ABOUT_STDIO: &str =
 const HELP_LIST: &str =
     "The path of the list, CSV with the header routing,account,kind,prenote,cents,id,name,info";
 
-const HELP_COMPANY: &str = "The company's identification";
+const HELP_COMPANY: &str = "The company's identification: 1 to 10 of A-Z and 0-9";
 
-const HELP_REFERENCE: &str = "The company's own reference for the submission";
+const HELP_KEY: &str = "The company's key: 8 to 64 characters, no blanks";
 
-const HELP_DESCRIPTION: &str = "What the receivers are told that it is for";
+const HELP_REFERENCE: &str =
+    "The company's own reference for the submission: 1 to 20 of A-Z, a-z, 0-9, '-', '_' and '.'";
 
-const HELP_DAY: &str = "The day on which it is to settle, as 2025-01-10";
+const HELP_DIRECTION: &str = "credit, which pays the receivers, or debit, which collects from them";
+
+const HELP_DESCRIPTION: &str = "What the receivers are told that it is for: 1 to 10 characters";
+
+const HELP_DAY: &str = "The day on which it is to settle, as 2025-01-10: 2000-01-01 to 2099-12-31";
+
+/// The help says this below the options of a command that have to be there.
+pub const HELP_REQUIRED: &str = "Every option has to be given: none has a default.";
+
+/// The help says this of the argument of `stdio`.
+const HELP_DESK_OR_NONE: &str =
+    "The path of the desk's file [default: none, which is a new desk of a sample bank in memory]";
 
 /// The options of `submit`, as `add_options` takes them.
 const SUBMIT_OPTIONS: [(&str, &str, &str); 7] = [
     ("COMPANY", "company", HELP_COMPANY),
-    ("KEY", "key", "The company's key"),
+    ("KEY", "key", HELP_KEY),
     ("REF", "ref", HELP_REFERENCE),
     ("SEC", "sec", "The entry class: PPD or CCD"),
-    ("DIRECTION", "direction", "credit or debit"),
+    ("DIRECTION", "direction", HELP_DIRECTION),
     ("TEXT", "description", HELP_DESCRIPTION),
     ("DAY", "day", HELP_DAY),
 ];
@@ -79,7 +91,7 @@ fn stdio_command<'a>(alloc: Global) -> Result<ClapCommand<'a>, AllocError>
     let command = new_command(alloc, "achdesk stdio", ABOUT_STDIO)?;
     let path = Arg::new(alloc, "DB")
         .action(ArgAction::Set)
-        .help("The path of the desk's file");
+        .help(HELP_DESK_OR_NONE);
     let command = command.arg(path)?;
     Ok(command)
 }
@@ -89,7 +101,7 @@ fn submit_command<'a>(alloc: Global) -> Result<ClapCommand<'a>, AllocError>
 {
     let command = new_command(alloc, "achdesk submit", ABOUT_SUBMIT)?;
     let command = add_argument(alloc, command, "FILE", HELP_LIST)?;
-    add_options(alloc, command, &SUBMIT_OPTIONS)
+    add_options(alloc, command.after_help(HELP_REQUIRED), &SUBMIT_OPTIONS)
 }
 
 /// Gives a command with its name and what the help says of it. It has no arguments yet.

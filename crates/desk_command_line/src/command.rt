@@ -3,11 +3,12 @@ ghost use Rattle.std.specs.Prelude.{◌≡◌, map};
 ghost use Rattle.clap.specs.Words.{fault_of, found_of, kind_of, rows_of};
 ghost use Rattle.desk_submit.specs.Options.{texts_of};
 ghost use Rattle.desk_command_line.specs.Arguments.{check_app, program_app, submit_app};
-ghost use Rattle.desk_command_line.specs.CommandLine.{Gives, GivesAt, IsFaultAmong, IsFaultOf, named_check, named_submit, options_in};
+ghost use Rattle.desk_command_line.specs.CommandLine.{Gives, GivesAt, GivesBy, IsFaultAmong, IsFaultOf, NamesNone, named_check, named_submit, options_in};
 
 use crate::argument_values::argument_text;
 use crate::arguments::{check_matches, submit_matches};
 use crate::desk_commands::{init_command, migrate_command, serve_command, stdio_command};
+use crate::help_words::help_topic;
 use crate::init_options::InitOptions;
 use crate::program_arguments::program_matches;
 use crate::serve_options::ServeOptions;
@@ -44,6 +45,8 @@ pub enum Command<'a> {
 pub enum LineFault {
     /// The words ask for help, which is this text.
     Help(String),
+    /// The words ask for the version.
+    Version,
     /// The words are no command's, as this text says.
     Usage(String),
     /// The program is out of memory.
@@ -52,10 +55,31 @@ pub enum LineFault {
 
 /// Reads the words after the program's name as a command.
 ///
-/// No words ask for the answer to a submission. Else the first word names a command, and the words
-/// after it are read by the rules that `clap` has for that command's arguments.
+/// No words ask for the answer to a submission. `help COMMAND` is read as `COMMAND --help`. Else the
+/// first word names a command, and the words after it are read by the rules that `clap` has for that
+/// command's arguments.
 pub fn command_of<'a>(alloc: Global, words: &'a [&'a str]) -> Result<Command<'a>, LineFault>
     ensures { GivesAt (map (λ w. w.now) words.now) result }
+{
+    match help_topic(words) {
+        Some(name) => Err(help_fault(alloc, &[name, "--help"])),
+        None => command_by_name(alloc, words),
+    }
+}
+
+// What is told of words that name no command.
+fn help_fault(alloc: Global, words: &[&str]) -> LineFault
+    requires { NamesNone (map (λ w. w.now) words.now) }
+    ensures { GivesBy (map (λ w. w.now) words.now) (Err result) }
+{
+    match command_by_name(alloc, words) {
+        Ok(_) => LineFault::Usage(String::new(alloc)),
+        Err(fault) => fault,
+    }
+}
+
+fn command_by_name<'a>(alloc: Global, words: &'a [&'a str]) -> Result<Command<'a>, LineFault>
+    ensures { GivesBy (map (λ w. w.now) words.now) result }
 {
     let Some(name) = words.first() else {
         return Ok(Command::AnswerSubmission);
@@ -118,6 +142,7 @@ pub fn line_fault(alloc: Global, error: &Error) -> LineFault
     };
     match error.kind() {
         ErrorKind::DisplayHelp => LineFault::Help(text),
+        ErrorKind::DisplayVersion => LineFault::Version,
         _ => LineFault::Usage(text),
     }
 }

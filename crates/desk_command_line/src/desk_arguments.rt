@@ -4,7 +4,7 @@ ghost use Rattle.clap.specs.Words.{app_of, found_of, rows_of};
 ghost use Rattle.desk_command_line.specs.Arguments.{init_app, migrate_app, serve_app};
 ghost use Rattle.desk_command_line.specs.CommandLine.{HasConnections, HasPatience, HasPort, Parses};
 
-use crate::arguments::{add_argument, add_options, new_command};
+use crate::arguments::{HELP_REQUIRED, add_argument, add_options, new_command};
 use crate::serve_arguments::{connections_option, patience_option, port_argument};
 use clap::{ArgMatches, Command as ClapCommand, Error};
 use std::alloc::{AllocError, Global};
@@ -23,15 +23,15 @@ pub const ABOUT_MIGRATE: &str = "Brings a desk's file of version 1 to version 2"
 const HELP_DESK: &str = "The path of the desk's file";
 
 /// The help says this of the arguments of `init`.
-const HELP_ODFI: &str = "The bank's routing number";
+const HELP_ODFI: &str = "The bank's routing number: nine digits";
 
-const HELP_ODFI_NAME: &str = "The bank's name";
+const HELP_ODFI_NAME: &str = "The bank's name: 1 to 23 characters";
 
-const HELP_DESTINATION: &str = "The routing number of the operator to which files go";
+const HELP_DESTINATION: &str = "The ACH operator's routing number: nine digits";
 
-const HELP_DESTINATION_NAME: &str = "That operator's name";
+const HELP_DESTINATION_NAME: &str = "The ACH operator's name: 1 to 23 characters";
 
-const HELP_OPERATOR_KEY: &str = "The key of who operates the desk";
+const HELP_OPERATOR_KEY: &str = "The desk operator's key: 8 to 64 characters, no blanks";
 
 /// The options of `init`, as `add_options` takes them.
 const INIT_OPTIONS: [(&str, &str, &str); 5] = [
@@ -59,7 +59,7 @@ fn init_command<'a>(alloc: Global) -> Result<ClapCommand<'a>, AllocError>
 {
     let command = new_command(alloc, "achdesk init", ABOUT_INIT)?;
     let command = add_argument(alloc, command, "DB", "The path of the new desk's file")?;
-    add_options(alloc, command, &INIT_OPTIONS)
+    add_options(alloc, command.after_help(HELP_REQUIRED), &INIT_OPTIONS)
 }
 
 /// Parses the words of `serve DB PORT` with its options. Matches have all three numbers, each in its

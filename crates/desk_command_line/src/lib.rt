@@ -7,11 +7,14 @@ mod arguments;
 mod command;
 mod desk_arguments;
 mod desk_commands;
+mod help_words;
 mod init_options;
 mod program_arguments;
 mod serve_arguments;
 mod serve_options;
+mod version;
 
 pub use command::{Command, LineFault, command_of};
 pub use init_options::InitOptions;
 pub use serve_options::ServeOptions;
+pub use version::VERSION_LINE;

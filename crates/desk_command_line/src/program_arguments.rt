@@ -5,12 +5,16 @@ ghost use Rattle.desk_command_line.specs.Arguments.{program_app, with_command};
 
 use crate::arguments::{ABOUT_CHECK, ABOUT_STDIO, ABOUT_SUBMIT};
 use crate::desk_arguments::{ABOUT_INIT, ABOUT_MIGRATE, ABOUT_SERVE};
+use crate::version::VERSION_LINE;
 use clap::{ArgMatches, Command as ClapCommand, Error};
 use std::alloc::{AllocError, Global};
 
 /// The help says this of the program.
 const ABOUT_PROGRAM: &str =
-    "The ACH desk of an originating bank. With no command it answers the submission on standard input.";
+    "The ACH desk of an originating bank.\n\nWithout words it reads a submission in JSON from standard input, and answers it.";
+
+/// The help and the usage say this of the words.
+const USAGE_PROGRAM: &str = "achdesk < SUBMISSION\n       achdesk <COMMAND>";
 
 /// The names of the commands, in the help's order, and what it says of them.
 const COMMANDS: [(&str, &str); 6] = [
@@ -36,6 +40,8 @@ fn program_command<'a>(alloc: Global) -> Result<ClapCommand<'a>, AllocError>
 {
     let program = ClapCommand::new(alloc, "achdesk")
         .about(ABOUT_PROGRAM)
+        .version(VERSION_LINE)
+        .override_usage(USAGE_PROGRAM)
         .no_binary_name(true)
         .subcommand_required(true);
     add_commands(alloc, program, &COMMANDS)

@@ -1,7 +1,9 @@
 //! Commands that are carried out, and words that name none.
 use super::{PAY_1, PAY_1_LINE};
-use desk_cli::{Command, LineFault, Status, print_line_fault, run, run_words};
+use desk_cli::{Command, LineFault, Status, VERSION_LINE, print_line_fault, run, run_words};
 use std::test::Fail;
+
+const NOBODY: &[u8] = b"";
 
 #[test]
 fn a_submission_and_a_file_that_is_not_there(rt: HostRuntime) {
@@ -16,11 +18,10 @@ fn a_submission_and_a_file_that_is_not_there(rt: HostRuntime) {
     assert!(rt; output.as_slice() == PAY_1_LINE.as_bytes());
 
     let mut output = Vec::new(rt.alloc());
-    let nobody: &[u8] = b"";
     let status = run(
         &rt,
         &Command::Check("out/no such folder/no such file"),
-        nobody,
+        NOBODY,
         &mut output,
     );
     assert!(rt; status == Status::Failed);
@@ -30,10 +31,24 @@ fn a_submission_and_a_file_that_is_not_there(rt: HostRuntime) {
 #[test]
 fn words_and_their_exit_status(rt: HostRuntime) {
     // The words, the exit status, and what the first line begins with.
-    let rows: [(&[&str], u8, &[u8]); 26] = [
+    let rows: [(&[&str], u8, &[u8]); 32] = [
         (&[], 0, PAY_1_LINE.as_bytes()),
         (&["check", "no such file"], 3, b"unavailable\n"),
-        (&["--help"], 0, b"The ACH desk of an originating bank."),
+        (
+            &["--help"],
+            0,
+            b"The ACH desk of an originating bank.\n\nWithout words it reads a submission in JSON from standard input",
+        ),
+        (&["--version"], 0, b"achdesk "),
+        (&["-V"], 0, b"achdesk "),
+        (&["check", "--version"], 2, b"error: "),
+        (&["help"], 0, b"The ACH desk of an originating bank."),
+        (&["help", "help"], 0, b"Print this message"),
+        (
+            &["help", "bogus"],
+            2,
+            b"error: unrecognized subcommand 'bogus'",
+        ),
         (&["check", "--help"], 0, b"Checks an incoming ACH file"),
         (&["check"], 2, b"error: "),
         (
@@ -101,6 +116,25 @@ fn words_and_their_exit_status(rt: HostRuntime) {
         assert!(rt; run_words(&rt, words, PAY_1.as_bytes(), &mut output) == code);
         assert!(rt; output.as_slice().starts_with(start));
     }
+}
+
+#[test]
+fn help_before_and_after_a_command(rt: HostRuntime) {
+    for command in ["check", "submit", "stdio", "init", "serve", "migrate"] {
+        let mut before = Vec::new(rt.alloc());
+        let mut after = Vec::new(rt.alloc());
+        assert!(rt; run_words(&rt, &["help", command], NOBODY, &mut before) == 0);
+        assert!(rt; run_words(&rt, &[command, "--help"], NOBODY, &mut after) == 0);
+        assert!(rt; before.as_slice() == after.as_slice(), "{command}");
+    }
+}
+
+#[test]
+fn the_version_is_one_line(rt: HostRuntime) {
+    let mut output = Vec::new(rt.alloc());
+    assert!(rt; print_line_fault(&mut output, &LineFault::Version) == 0);
+    assert!(rt; output.as_slice() == VERSION_LINE.as_bytes());
+    assert!(rt; VERSION_LINE.lines().count() == 1);
 }
 
 #[test]

@@ -147,14 +147,14 @@ fn help(rt: HostRuntime) {
         (&["--help"], "submit"),
         (&["submit", "--help"], "Usage: achdesk submit "),
         (&["submit", "a", "-h"], "--description <TEXT>"),
-        (&["help", "submit"], "submit"),
+        (&["help", "submit"], "Usage: achdesk submit "),
         (&["submit", "a", "--help"], "--direction <DIRECTION>"),
         (&["--help"], "check"),
         (&["-h"], "check"),
         (&["check", "--help"], "Usage: achdesk check <FILE>"),
         (&["check", "a", "-h"], "FILE"),
         (&["help"], "check"),
-        (&["help", "check"], "check"),
+        (&["help", "check"], "Usage: achdesk check <FILE>"),
         (&["--help"], "stdio"),
         (&["stdio", "--help"], "Usage: achdesk stdio"),
         (&["--help"], "init"),
@@ -168,7 +168,7 @@ fn help(rt: HostRuntime) {
         match command_of(rt.alloc(), words) {
             Err(LineFault::Help(text)) => assert!(rt; text.as_str().contains(part), "{text}"),
             Err(LineFault::Usage(_text)) => assert!(rt; false, "{part}"),
-            Err(LineFault::NoMemory) | Ok(_) => assert!(rt; false, "{part}"),
+            Err(LineFault::Version | LineFault::NoMemory) | Ok(_) => assert!(rt; false, "{part}"),
         }
     }
 }
@@ -204,7 +204,7 @@ fn usage(rt: HostRuntime) {
         match command_of(rt.alloc(), words) {
             Err(LineFault::Usage(text)) => assert!(rt; text.as_str().contains(part), "{text}"),
             Err(LineFault::Help(_text)) => assert!(rt; false),
-            Err(LineFault::NoMemory) | Ok(_) => assert!(rt; false),
+            Err(LineFault::Version | LineFault::NoMemory) | Ok(_) => assert!(rt; false),
         }
     }
 }
