@@ -10,7 +10,9 @@ use std::process::Abort;
 use std::time::Duration;
 
 // So long a client is waited for.
-const PATIENCE: Duration = Duration::from_millis(100);
+fn patience() -> Duration {
+    Duration::from_millis(100)
+}
 
 const ASKED: &[u8] =
     b"GET /c/MILL01/exposure HTTP/1.1\r\nX-Desk-Key: mill-street-key\r\nConnection: close\r\n\r\n";
@@ -30,7 +32,7 @@ fn a_connection_is_answered(rt: HostRuntime) {
         .ok()
         .expect(&rt, "a connection");
     client.write_all(ASKED).ok().expect(&rt, "a message sent");
-    assert!(rt; serve(rt.alloc(), &mut desk, &listener, 1, PATIENCE) == Ok(()));
+    assert!(rt; serve(rt.alloc(), &mut desk, &listener, 1, patience()) == Ok(()));
     let mut out = Vec::new(rt.alloc());
     client.read_to_end(&mut out).ok().expect(&rt, "an answer");
     assert!(rt; out.as_slice() == NO_DAY);
@@ -56,7 +58,7 @@ fn a_client_that_goes_away_ends_its_own_connection(rt: HostRuntime) {
         .ok()
         .expect(&rt, "a connection");
     second.write_all(ASKED).ok().expect(&rt, "a message sent");
-    assert!(rt; serve(rt.alloc(), &mut desk, &listener, 2, PATIENCE) == Ok(()));
+    assert!(rt; serve(rt.alloc(), &mut desk, &listener, 2, patience()) == Ok(()));
     let mut out = Vec::new(rt.alloc());
     second.read_to_end(&mut out).ok().expect(&rt, "an answer");
     assert!(rt; out.as_slice() == NO_DAY);
@@ -82,7 +84,7 @@ fn a_silent_client_ends_its_own_connection(rt: HostRuntime) {
         .ok()
         .expect(&rt, "a connection");
     next.write_all(ASKED).ok().expect(&rt, "a message sent");
-    assert!(rt; serve(rt.alloc(), &mut desk, &listener, 2, PATIENCE) == Ok(()));
+    assert!(rt; serve(rt.alloc(), &mut desk, &listener, 2, patience()) == Ok(()));
     let mut out = Vec::new(rt.alloc());
     next.read_to_end(&mut out).ok().expect(&rt, "an answer");
     assert!(rt; out.as_slice() == NO_DAY);
@@ -116,7 +118,7 @@ fn a_client_that_sends_before_it_reads_gets_its_answer(rt: HostRuntime) {
         .shutdown(Shutdown::Write)
         .ok()
         .expect(&rt, "the end sent");
-    assert!(rt; serve(rt.alloc(), &mut desk, &listener, 1, PATIENCE) == Ok(()));
+    assert!(rt; serve(rt.alloc(), &mut desk, &listener, 1, patience()) == Ok(()));
     let mut out = Vec::new(rt.alloc());
     client.read_to_end(&mut out).ok().expect(&rt, "an answer");
     assert!(rt; out.as_slice() == LENGTH_REQUIRED);
@@ -163,6 +165,7 @@ impl OpenStream for Bare {
 }
 
 // Its connections are bare.
+#[derive(Drop)]
 struct BareListener {
     listener: TcpListener,
     waits_at_most: bool,
@@ -185,7 +188,10 @@ impl OpenListener for BareListener {
 }
 
 // What a client gets that sends a message over a bare connection, which is counted.
-fn answer_over(rt: &HostRuntime, waits_at_most: bool) -> Vec<u8> {
+fn answer_over(
+    rt: &(impl Abort + Alloc<A = Global> + Net<Listener = TcpListener, Stream = TcpStream>),
+    waits_at_most: bool,
+) -> Vec<u8> {
     let mut desk = http_desk(rt, new_lists(rt));
     let listener = TcpListener::bind(rt, "127.0.0.1:0")
         .ok()
@@ -202,7 +208,7 @@ fn answer_over(rt: &HostRuntime, waits_at_most: bool) -> Vec<u8> {
         listener,
         waits_at_most,
     };
-    assert!(rt; serve(rt.alloc(), &mut desk, &listener, 1, PATIENCE) == Ok(()));
+    assert!(rt; serve(rt.alloc(), &mut desk, &listener, 1, patience()) == Ok(()));
     let mut out = Vec::new(rt.alloc());
     client.read_to_end(&mut out).ok().expect(rt, "an answer");
     out
@@ -233,5 +239,7 @@ fn what_cannot_be_accepted_ends_the_service(rt: HostRuntime) {
         .ok()
         .expect(&rt, "a connection");
     drop(client);
-    assert!(rt; serve(rt.alloc(), &mut desk, &listener, 2, PATIENCE) == Err(ServeFault::Accept(1)));
+    assert!(rt;
+        serve(rt.alloc(), &mut desk, &listener, 2, patience()) == Err(ServeFault::Accept(1))
+    );
 }
