@@ -3,7 +3,7 @@
 
 PROGRAM is ./achdesk where it is left out, and LISTED the program of judge/listed/main.rt.txt, a desk over lists. Where that
 is left out, or `-`, it is proved and built beside a copy of the crates, which takes long where they were not proved before.
-With a PART above 1 the numbers below are divided by it, for a first try.
+With a PART of 2 to 100 the numbers below are divided by it, for a first try.
 
 `achdesk serve` over a file gets what a large bank has: a list of 400 holidays, and one of 401; on each of ten banking
 days 1,001 submissions of one company that wait for the cut, 10,010 in all; on the first two days beside them 100
