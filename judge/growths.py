@@ -12,16 +12,16 @@ refused memory changed nothing.
 
 import concurrent.futures
 import os
-import shutil
 import subprocess
 import sys
 import tempfile
 from pathlib import Path
 
 from helpers.answered_days import DAYS, KEYS
+from helpers.running import TOP, built
 
-TOP = Path(__file__).resolve().parent.parent
 HERE = TOP / "judge" / "growths"
+USES = "ach_fields desk_core desk_lists desk_tables desk_session desk_routes desk_http sha2"
 
 # what each status of the program says
 TOLD = {100: "before the desk was made", 1: "were answered 503 once", 0: "were not needed"}
@@ -33,19 +33,6 @@ def exchange(caller, asks, body, status, answer):
     message = f"{asks} HTTP/1.1\r\nX-Desk-Key: {KEYS[caller]}\r\nContent-Length: {len(body)}\r\n\r\n{body}"
     wanted = f"HTTP/1.1 {status}\r\nContent-Type: {kind}\r\nContent-Length: {len(answer)}\r\nConnection: keep-alive\r\n\r\n{answer}"
     return f"{len(message):08}{len(wanted):08}{message}{wanted}"
-
-
-def build(work):
-    """Proves and builds the program beside a copy of the crates."""
-    for part in ("crates.txt", "HANDLES"):
-        shutil.copy(TOP / part, work)
-    shutil.copytree(TOP / "crates", work / "crates")
-    (work / "crates" / "growths" / "src").mkdir(parents=True)
-    shutil.copy(HERE / "main.rt.txt", work / "crates" / "growths" / "src" / "main.rt")
-    with open(work / "crates.txt", "a") as crates:
-        crates.write("growths: ach_fields desk_core desk_lists desk_tables desk_session desk_routes desk_http sha2\n")
-    subprocess.run(["rt", "run"], cwd=work / "crates" / "growths", input=b"", check=True)
-    return work / "crates" / "growths" / "out" / "growths"
 
 
 def judge(program, work, over, given):
@@ -71,7 +58,7 @@ def judge(program, work, over, given):
 def main():
     with tempfile.TemporaryDirectory() as folder:
         work = Path(folder)
-        program = Path(sys.argv[1]).resolve() if len(sys.argv) > 1 else build(work)
+        program = Path(sys.argv[1]).resolve() if len(sys.argv) > 1 else built(work, "growths", HERE / "main.rt.txt", USES)
         subprocess.run(["gcc", "-O2", "-shared", "-fPIC", "-o", work / "refuse.so", HERE / "refuse.c", "-ldl"], check=True)
         judge(program, work, "lists", [])
         judge(program, work, "tables in memory", ["tables"])

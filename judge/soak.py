@@ -22,7 +22,7 @@ import time
 from pathlib import Path
 
 from helpers.returned import file_of_returns
-from helpers.running import MILL, MILL_KEY, OPERATOR_KEY, Checks, Serving, connect, make_desk, message, program_of, read_answer, rows_of, run
+from helpers.running import MILL, MILL_KEY, OPERATOR_KEY, Checks, Serving, connect, make_desk, message, plain, program_of, read_answer, rows_of, run
 
 SESSION = 1_000
 KEYS = {"MILL01": MILL_KEY, "BAKE01": "bakery-key"}
@@ -113,12 +113,6 @@ class Messages:
         if kind == 13:
             return message("POST /ops/companies", MILL)
         return message(f"GET /c/{company}/{chance.choice(['returns', 'changes', 'statement', 'rates', 'exposure', f'submissions/REF-{chance.randint(1, 900)}'])}", key=key)
-
-
-def plain(text):
-    """An answer without its `Connection`."""
-    head, end, body = text.partition(b"\r\n\r\n")
-    return b"\r\n".join(line for line in head.split(b"\r\n") if not line.startswith(b"Connection: ")) + end + body
 
 
 def answers_of(said):

@@ -1,4 +1,4 @@
-"""Files of returns, as an ACH operator sends them back: one mixed batch of one entry class."""
+"""Files of returns and changes, as an ACH operator sends them back: one mixed batch of one entry class."""
 
 OPERATOR = "09100001"
 BANK = "12104288"
@@ -14,11 +14,12 @@ def code_of_return(debit, savings):
 
 
 def records_of(number, item):
-    """The two records of an item: the entry as it came back, and its addenda."""
+    """The two records of an item: the entry as it came back, and its addenda. An item with a text is a change."""
     trace = f"{OPERATOR}{number:07}"
     code = code_of_return(item["debit"], item["savings"])
     entry = (f"6{code}{BANK}2{wide(item['account'], 17)}{item['cents']:010}{wide(item['ident'], 15)}{wide(item['name'], 22)}  1{trace}")
-    return [entry, f"799{item['code']}{item['trace']}{' ' * 6}{item['dfi']}{' ' * 44}{trace}"]
+    kind, text = ("98", item["text"]) if "text" in item else ("99", "")
+    return [entry, f"7{kind}{item['code']}{item['trace']}{' ' * 6}{item['dfi']}{wide(text, 29)}{' ' * 15}{trace}"]
 
 
 def file_of_returns(number, sec, items):

@@ -39,6 +39,19 @@ def run(program, *words, given=b"", seconds=SECONDS):
     return done.stdout + done.stderr, done.returncode
 
 
+def built(work, name, source, uses):
+    """A program of one file that is proved and built beside a copy of the crates, in a folder."""
+    for part in ("crates.txt", "HANDLES"):
+        shutil.copy(TOP / part, work)
+    shutil.copytree(TOP / "crates", work / "crates")
+    (work / "crates" / name / "src").mkdir(parents=True)
+    shutil.copy(source, work / "crates" / name / "src" / "main.rt")
+    with open(work / "crates.txt", "a") as crates:
+        crates.write(f"{name}: {uses}\n")
+    subprocess.run(["rt", "run"], cwd=work / "crates" / name, input=b"", stdout=subprocess.DEVNULL, check=True)
+    return work / "crates" / name / "out" / name
+
+
 def make_desk(program, path):
     """A new desk of the sample bank in a file."""
     said = run(program, "init", path, *IDENTITY)
@@ -166,6 +179,12 @@ def rows_of(path):
         rows["integrity_check"] = db.execute("PRAGMA integrity_check").fetchall()
         db.close()
         return rows
+
+
+def plain(text):
+    """An answer without its `Connection`."""
+    head, end, body = text.partition(b"\r\n\r\n")
+    return b"\r\n".join(line for line in head.split(b"\r\n") if not line.startswith(b"Connection: ")) + end + body
 
 
 def body_of(text):
