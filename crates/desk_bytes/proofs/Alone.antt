@@ -1,11 +1,11 @@
 -- A desk that serves one company alone, over bytes.
 use Rattle.std.proofs.Common.{◌≡◌, ℕ, ◌<◌, ◌≤◌, ◌^◌, List, [], ◌∷◌, ◌++◌, length, map, Bool, true, false, ◌&&◌, refl, sym, ap, ◌∙◌, subst, arith}
-use Rattle.std.specs.Prelude.{count_by, Option, Some, None, Ok, bytes_eq}
+use Rattle.std.specs.Prelude.{All, count_by, Option, Some, None, Ok, bytes_eq}
 use Rattle.std.proofs.lemmas.Bool.{and_parts}
 use Rattle.std.proofs.lemmas.Slice.Eq.{bytes_eq-Decides}
 use Rattle.desk_history.specs.declared.identity.Identity.{Identity}
 use Rattle.desk_history.specs.Alone as core_alone
-use Rattle.desk_history.specs.Alone.{is_answer, file_for, with_message}
+use Rattle.desk_history.specs.Alone.{is_answer, file_for, with_message, IsAcceptedOrOf}
 use Rattle.desk_history.specs.History as core_history
 use Rattle.desk_history.specs.History.{events_for, is_new, sent_entries}
 use Rattle.desk_history.specs.Message as core
@@ -27,10 +27,11 @@ use Rattle.desk_bytes.specs.Part.{Event, Given, core_events, is_post, post_if, o
 use Rattle.desk_bytes.specs.Reply.{reply_to}
 use Rattle.desk_bytes.specs.Alone as bytes_alone
 use Rattle.desk_bytes.specs.Alone.{with_files, with_origin, alone}
-use Rattle.desk_bytes.specs.Laws.{CallsAlone, ServedAlone}
+use Rattle.desk_bytes.specs.Laws.{AreAcceptedOrOwn, CallsAlone, ServedAlone}
 use Rattle.desk_bytes.proofs.Asking.{no_command}
 use Rattle.desk_bytes.proofs.Calls.{calls_are_history, calls_of-more, calls_of-none, right_pair, none_pair}
-use Rattle.desk_bytes.proofs.Parts.{call_events, keys_of, pair_events_are, same_part}
+use Rattle.desk_bytes.proofs.PartAlone.{origin_part, origin_accepted}
+use Rattle.desk_bytes.proofs.Parts.{call_events, core_events-append, keys_of, pair_events_are, same_part}
 use Rattle.desk_bytes.proofs.Worlds.{text_of_part}
 
 -- ---- its calls
@@ -176,17 +177,43 @@ module _ (digests : DigestOfPart) (served : core_alone.ServedAlone) where
       (λ e more some. origin_reads digests identity key c H A (part_alone identity key H c is.2 few' low') x x.origin x.means (core_events (part identity H c)) e more some is.0)
       (alone_history identity key H c is.2 few' low')
 
+  -- the events of its calls
+  calls_alike : (identity : Identity) (key : List ℕ) (H : List Pair) (c : List ℕ) → IsHistory identity key H
+      → length (sent_entries identity.odfi (calls_of identity H)) ≤ 9_999_999 → count_by is_answer (core_history.part identity.odfi (calls_of identity H) c) < 10 ^ 21
+      → core_events (part identity (alone identity key c H) c) ≡ core_events (part identity H c)
+  calls_alike identity key H c is few low =
+      same_part digests identity key (alone identity key c H) c (alone_history identity key H c is few low)
+      ∙ part_alone identity key H c is few low
+      ∙ sym (same_part digests identity key H c is)
+
+  -- what gave the company events gives it the same, whole
+  whole_part : (identity : Identity) (key : List ℕ) (H : List Pair) (c : List ℕ) → IsHistory identity key H
+      → length (sent_entries identity.odfi (calls_of identity H)) ≤ 9_999_999 → count_by is_answer (core_history.part identity.odfi (calls_of identity H) c) < 10 ^ 21
+      → (part identity (alone identity key c H) c ≡ part identity H c) × AreAcceptedOrOwn identity c (alone identity key c H)
+  whole_part identity key [] c is few low = (refl, tt)
+  whole_part identity key (x ∷ H) c is few low =
+      let G = calls_of identity H in
+      let few' = fewer identity x x.means G 9_999_999 (subst (λ (K : List core.Pair). length (sent_entries identity.odfi K) ≤ 9_999_999) (calls_of-more identity x H) few) in
+      let low' = lower identity c x x.means G (10 ^ 21) (subst (λ (K : List core.Pair). count_by is_answer (core_history.part identity.odfi K c) < 10 ^ 21) (calls_of-more identity x H) low) in
+      let es = pair_events identity c G x (core_events (part identity H c)) in
+      let before = whole_part identity key H c is.2 few' low' in
+      let all = subst (λ (K : List core.Pair). All (λ p. IsAcceptedOrOf c p) K) (sym (calls_alone digests identity key (x ∷ H) c is)) (served identity (calls_of identity (x ∷ H)) c (calls_are_history identity (x ∷ H)) few low).accepted in (
+        origin_part identity key c x.origin x.means G (is_success x.answer) es (part identity H c) (alone identity key c H) refl is.0 before.0
+            (calls_alike identity key (x ∷ H) c is few low ∙ core_events-append es (part identity H c)),
+        origin_accepted identity key c x.origin x.means G (is_success x.answer) es H (alone identity key c H) refl is.0 before.0 all before.1,
+      )
+
   pub served_alone : ServedAlone
   served_alone identity key H c is few low =
       let low' = subst (λ (P : List events.Event). count_by is_answer P < 10 ^ 21) (same_part digests identity key H c is) low in
-      let history = alone_history identity key H c is few low' in
-      let one = part_alone identity key H c is few low' in
+      let whole = whole_part identity key H c is few low' in
       record {
-        history = history;
+        history = alone_history identity key H c is few low';
         calls = calls_alone digests identity key H c is;
-        same_part = same_part digests identity key (alone identity key c H) c history ∙ one ∙ sym (same_part digests identity key H c is);
+        accepted = whole.1;
+        same_part = whole.0;
         same_answers = λ v means meant here there to.
             text_of_part digests identity key (alone identity key c H) c v means here.read to
-            ∙ ap (reply_to (messages.closes v) (addressee_of v)) one
+            ∙ ap (reply_to (messages.closes v) (addressee_of v)) (part_alone identity key H c is few low')
             ∙ sym (text_of_part digests identity key H c v meant there.read to);
       }

@@ -3,11 +3,12 @@
 --   calls_are_history           Calls
 --   same_part                   Success, Asking, Parts
 --   own_text, two_worlds        Worlds
---   calls_alone, served_alone   Alone
+--   calls_alone, served_alone   PartAlone, Alone
 pub mod Meanings
 pub mod Calls
 pub mod Success
 pub mod Asking
 pub mod Parts
 pub mod Worlds
+pub mod PartAlone
 pub mod Alone

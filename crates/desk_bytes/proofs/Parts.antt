@@ -73,7 +73,7 @@ core_events-append (Posted route body ∷ P) Q =
     ap (λ (l : List events.Event). events_of_post route body ++ l) (core_events-append P Q) ∙ sym (append_assoc (events_of_post route body) (core_events P) (core_events Q))
 core_events-append (Given e ∷ P) Q = ap (λ (l : List events.Event). e ∷ l) (core_events-append P Q)
 
-core_events-given : (es : List events.Event) → core_events (map Given es) ≡ es
+pub core_events-given : (es : List events.Event) → core_events (map Given es) ≡ es
 core_events-given [] = refl
 core_events-given (e ∷ es) = ap (λ (l : List events.Event). e ∷ l) (core_events-given es)
 
@@ -117,7 +117,7 @@ post_events company_routes.Exposure r false = refl
 
 -- ---- what the operator called
 
-abbrev IsCommand : Message → Type 0
+abbrev pub IsCommand : Message → Type 0
 IsCommand (Of k r) = ⊥
 IsCommand m = ⊤
 
@@ -144,7 +144,7 @@ route_command operator_routes.FileText r m is = file_command (day_of (piece_of 3
 route_command operator_routes.TakeFile r (Of k q) is = absurd is
 route_command operator_routes.TakeFile r m is = tt
 
-is_command : (b : Bool) (route : OperatorRoute) (r : RequestValue) (m : Message)
+pub is_command : (b : Bool) (route : OperatorRoute) (r : RequestValue) (m : Message)
     → Means (if b then operator_call route r else Err Denied) (Some m) → IsCommand m
 is_command false route r m is = cc
 is_command true route r m is = route_command route r m is
@@ -162,7 +162,7 @@ command_events identity c G ok (FileText d modifier) P command = refl
 command_events identity c G ok Settlement P command = refl
 command_events identity c G ok Suspense P command = refl
 
-none_of_file : (odfi : List ℕ) (es : List SentEntry) (c : List ℕ) (ok : Bool) (d modifier : ℕ) (P : List events.Event) → events_for odfi es true c ok (FileText d modifier) P ≡ []
+pub none_of_file : (odfi : List ℕ) (es : List SentEntry) (c : List ℕ) (ok : Bool) (d modifier : ℕ) (P : List events.Event) → events_for odfi es true c ok (FileText d modifier) P ≡ []
 none_of_file odfi es c true d modifier P = refl
 none_of_file odfi es c false d modifier P = refl
 

@@ -133,7 +133,7 @@ answer_accepts kinds.Other sure content closes body (answers.Done d) = succeeds_
 answer_accepts kinds.Creates sure content closes body (answers.Refused why) = fails (refusal_status why) (refused why) content closes body
 answer_accepts kinds.Other sure content closes body (answers.Refused why) = fails (refusal_status why) (refused why) content closes body
 
-accepts : (closes : Bool) (m : Message) (a : Answer) → IsSure (kind_of m) → is_success (call_text closes m a) ≡ is_accepted a
+pub accepts : (closes : Bool) (m : Message) (a : Answer) → IsSure (kind_of m) → is_success (call_text closes m a) ≡ is_accepted a
 unfolding call_text
 accepts closes m a sure = answer_accepts (kind_of m) sure (content_of a) closes (answer_body a) a
 

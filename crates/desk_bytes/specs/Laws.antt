@@ -1,5 +1,5 @@
 -- Laws of all histories over bytes.
-use Rattle.std.specs.Prelude.{◌≡◌, ◌<◌, ◌≤◌, ◌^◌, ℕ, List, length, count_by, Option}
+use Rattle.std.specs.Prelude.{◌≡◌, ◌<◌, ◌≤◌, ◌^◌, ◌⊎◌, ⊤, ℕ, true, List, [], ◌∷◌, length, count_by, Option}
 use Rattle.desk_history.specs.declared.identity.Identity.{Identity}
 use Rattle.desk_history.specs.Alone as core_alone
 use Rattle.desk_history.specs.Alone.{is_answer}
@@ -8,9 +8,11 @@ use Rattle.desk_history.specs.History.{sent_entries}
 use Rattle.desk_history.specs.Message.{Message}
 use Rattle.desk_history.specs.Operator as operator
 use Rattle.desk_message.specs.Message.{MessageValue}
+use Rattle.desk_routes.specs.declared.route.CompanyRoute.{CompanyRoute}
 use Rattle.desk_bytes.specs.Verdict.{Verdict, verdict_on, Means}
-use Rattle.desk_bytes.specs.History.{from_message, Pair, calls_of, text, IsHistory, book_behind}
-use Rattle.desk_bytes.specs.Part.{core_events, part}
+use Rattle.desk_bytes.specs.Texts.{is_success}
+use Rattle.desk_bytes.specs.History.{Origin, from_message, Pair, calls_of, text, IsHistory, book_behind}
+use Rattle.desk_bytes.specs.Part.{Posted, core_events, origin_events, part}
 use Rattle.desk_bytes.specs.Reply.{reply, IsToCompany}
 use Rattle.desk_bytes.specs.Alone.{alone}
 
@@ -53,10 +55,21 @@ abbrev pub CallsAlone : Type 0
 CallsAlone = (identity : Identity) (key : List ℕ) (H : List Pair) (c : List ℕ) → IsHistory identity key H
     → calls_of identity (alone identity key c H) ≡ core_alone.alone identity c (calls_of identity H)
 
+-- the company posted this under its key, after this history
+abbrev pub IsOwn : Identity → (company : List ℕ) → List Pair → Origin → Type 0
+IsOwn identity c H origin =
+    (route : CompanyRoute) × (body : List ℕ) × (origin_events c origin (core_events (part identity H c)) ≡ Posted route body ∷ [])
+
+-- each was accepted, or is the company's own
+abbrev pub AreAcceptedOrOwn : Identity → (company : List ℕ) → List Pair → Type 0
+AreAcceptedOrOwn identity c [] = ⊤
+AreAcceptedOrOwn identity c (x ∷ H) = ((is_success x.answer ≡ true) ⊎ IsOwn identity c H x.origin) × AreAcceptedOrOwn identity c H
+
 pub record IsServedAlone (identity : Identity) (key : List ℕ) (H : List Pair) (c : List ℕ) : Type 0 where
   pub history : IsHistory identity key (alone identity key c H)
   pub calls : calls_of identity (alone identity key c H) ≡ core_alone.alone identity c (calls_of identity H)
-  pub same_part : core_events (part identity (alone identity key c H) c) ≡ core_events (part identity H c)
+  pub accepted : AreAcceptedOrOwn identity c (alone identity key c H)
+  pub same_part : part identity (alone identity key c H) c ≡ part identity H c
   pub same_answers : (v : MessageValue) (means meant : Option Message)
       → IsMeant identity key (alone identity key c H) v means → IsMeant identity key H v meant → IsToCompany c v
       → text identity key (alone identity key c H) (from_message v) means ≡ text identity key H (from_message v) meant

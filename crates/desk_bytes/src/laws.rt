@@ -43,8 +43,10 @@ pub fn calls_alone()
     desk_history::digest_of_part();
 }
 
-/// A company gets the same bytes from a desk that serves no one else. So it is where the whole desk sent at
-/// most 9,999,999 entries and the company had fewer than 10^21 returns and changes.
+/// A desk that serves no one else has the same part of the company, what it posted that made no call among
+/// it, and gives it the same bytes; all that it was told was accepted, or is the company's own. So it is
+/// where the whole desk sent at most 9,999,999 entries and the company had fewer than 10^21 returns and
+/// changes.
 pub fn served_alone()
     ensures { ServedAlone }
 {
