@@ -67,6 +67,31 @@ def validator(page, schema):
     return Draft202012Validator({**schema, "components": page.tree["components"]}, format_checker=FormatChecker())
 
 
+def closed(schema):
+    """The schema with no members but those that it names."""
+    if isinstance(schema, list):
+        return [closed(it) for it in schema]
+    if not isinstance(schema, dict):
+        return schema
+    more = {"additionalProperties": False} if "properties" in schema else {}
+    return {**{key: closed(it) for key, it in schema.items()}, **more}
+
+
+def validator_of_today(page, schema):
+    """Takes an answer that has no members but those of the page, which itself forbids no later ones."""
+    components = {"schemas": closed(page.tree["components"]["schemas"])}
+    return Draft202012Validator({**closed(schema), "components": components}, format_checker=FormatChecker())
+
+
+def with_later_members(value):
+    """A value of which each object has one member more."""
+    if isinstance(value, list):
+        return [with_later_members(it) for it in value]
+    if not isinstance(value, dict):
+        return value
+    return {**{key: with_later_members(it) for key, it in value.items()}, "later": [1]}
+
+
 def faults_of_page(page):
     errors = openapi_spec_validator.OpenAPIV31SpecValidator(page.tree).iter_errors()
     return [f"{'/'.join(map(str, it.path))}: {it.message}" for it in errors]
@@ -88,8 +113,17 @@ def misfits(page):
     for place, kind in page.kinds():
         for name, it in kind["examples"].items():
             value = page.at(it).get("value")
-            if not place.endswith(", body") and not validator(page, kind["schema"]).is_valid(value):
+            if not place.endswith(", body") and not validator_of_today(page, kind["schema"]).is_valid(value):
                 yield f"{place}: {name} does not fit its schema"
+
+
+def closed_answers(page):
+    """The examples of answers whose schema would refuse them in a later version, with members more."""
+    for place, kind in page.kinds():
+        for name, it in kind["examples"].items():
+            value = with_later_members(page.at(it).get("value"))
+            if not place.endswith(", body") and not validator(page, kind["schema"]).is_valid(value):
+                yield f"{place}: {name} with members more does not fit its schema"
 
 
 # ---- the page beside the other pages
@@ -260,6 +294,7 @@ def judge_page(page, report):
     else:
         report.tell(f"page: OpenAPI {page.tree['openapi']}, {len(page.operations)} operations", faults_of_page(page))
         report.tell("schemas: each example fits, but for bodies with a bad field", list(misfits(page)))
+        report.tell("schemas: an answer with members more fits", list(closed_answers(page)))
     report.tell("routes: those of crates/desk_routes", differing_routes(page))
 
 

@@ -75,10 +75,11 @@ def connect(port):
 class Serving:
     """`achdesk serve` over a file, on a port of its own."""
 
-    def __init__(self, program, path, connections=None, port=None):
+    def __init__(self, program, path, connections=None, port=None, patience=None):
         self.port = port or free_port()
-        limit = [] if connections is None else ["--connections", str(connections)]
-        self.process = subprocess.Popen([program, "serve", str(path), str(self.port), *limit], bufsize=0,
+        limits = [] if connections is None else ["--connections", str(connections)]
+        limits += [] if patience is None else ["--patience", str(patience)]
+        self.process = subprocess.Popen([program, "serve", str(path), str(self.port), *limits], bufsize=0,
                                         stdin=subprocess.DEVNULL, stdout=subprocess.PIPE, stderr=subprocess.PIPE)
         self.line = b""
 
