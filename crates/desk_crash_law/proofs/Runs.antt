@@ -13,6 +13,7 @@ use Rattle.desk_session.specs.declared.answers.Unavailable.{Unavailable}
 use Rattle.desk_bytes.specs.Verdict.{verdict_on, Means}
 use Rattle.desk_bytes.specs.History.{from_message, text, IsHistory}
 use Rattle.desk_bytes.specs.Laws.{OneMeaning, CallsAreHistory}
+use Rattle.desk_bytes.proofs.Answered.{right_answer}
 use Rattle.desk_http.specs.Answering.{IsAsked, answered_pair, DeskHistory, StandsBehind, IsAnswered, GoesOn, LeavesOn, writes}
 use Rattle.desk_crash_law.specs.Crashes.{answer_in, Takes, TakesAll, IsSettled, AnswersSurvive, StandsAfterCrash, StandsAfterLives}
 use Rattle.desk_crash_law.specs.Runs.{book_after, IsAfter, IsPending, IsOneMore, MayBeFound}
@@ -124,7 +125,7 @@ abbrev IsTold : DeskHistory → Type 0
 IsTold h = IsHistory h.identity h.key h.pairs
 
 answered_told : (h : DeskHistory) (v : MessageValue) (answer : List ℕ) (more : DeskHistory) → IsAnswered h v answer more → IsTold h → IsTold more
-answered_told h v answer more a is = subst IsTold (sym a.more) (a.read, (λ _. a.said), is)
+answered_told h v answer more a is = subst IsTold (sym a.more) (a.read, right_answer h.identity h.key h.pairs (from_message v) a.means answer a.said, is)
 
 step_told : (before : DeskHistory) (v : MessageValue) (answer : Option (List ℕ)) (after : DeskHistory) → StepsWith IsAnswered before v answer after → IsTold before → IsTold after
 step_told before v None after same is = subst IsTold (sym same) is

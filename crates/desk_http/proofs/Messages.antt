@@ -20,6 +20,7 @@ use Rattle.desk_bytes.specs.Verdict.{Verdict, verdict_on, Means}
 use Rattle.desk_bytes.specs.Texts.{call_text, fault_text}
 use Rattle.desk_bytes.specs.History.{from_message, Pair, calls_of, text, book_behind}
 use Rattle.desk_bytes.specs.Laws.{OneMeaning, OwnText, CallsAreHistory}
+use Rattle.desk_bytes.proofs.Answered.{right_answer}
 use Rattle.desk_bytes.proofs.Calls.{right_pair, none_pair}
 use Rattle.desk_http.specs.MadeCalls as made_calls
 use Rattle.desk_http.specs.MadeCalls.{GoesCall, LeavesCall}
@@ -57,7 +58,7 @@ faulted_as holds new identity key H v fault None (Ok bytes) asked none is held p
     let same = printed ∙ fault_is identity key H v fault is in (
       same,
       record {
-        history = (asked.read, λ _. same, asked.stands.history);
+        history = (asked.read, right_answer identity key H (from_message v) None bytes.items same, asked.stands.history);
         book = subst (λ (K : List core.Pair). new (book_of identity key K)) (sym (none_pair identity (from_message v) bytes.items H)) held;
       },
     )
@@ -105,7 +106,7 @@ made_as are holds mid new call identity key H v (Some m) (Ok bytes) asked read h
     let same = on.0 ∙ text_is identity key H v m in (
       same,
       record {
-        history = (asked.read, λ _. same, asked.stands.history);
+        history = (asked.read, right_answer identity key H (from_message v) (Some m) bytes.items same, asked.stands.history);
         book = subst (λ (K : List core.Pair). new (book_of identity key K)) (sym (pair_is identity key H v m bytes.items same)) on.1;
       },
     )
