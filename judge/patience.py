@@ -22,7 +22,7 @@ import threading
 import time
 from pathlib import Path
 
-from running import (HOST, MILL, MILL_KEY, Checks, Serving, answer, connect, make_desk, message, program_of, read_answer, rows_of,
+from helpers.running import (HOST, MILL, MILL_KEY, Checks, Serving, answer, connect, make_desk, message, program_of, read_answer, rows_of,
                      status_of)
 
 PATIENCE = 1

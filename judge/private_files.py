@@ -12,7 +12,7 @@ import sys
 import tempfile
 from pathlib import Path
 
-from running import IDENTITY, MILL, Checks, message, program_of
+from helpers.running import IDENTITY, MILL, Checks, message, program_of
 
 MASKS = (0o000, 0o022, 0o077, 0o277, 0o777)
 DAY = message("POST /ops/day", '{"day":"2025-01-08"}')

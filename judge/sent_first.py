@@ -21,7 +21,7 @@ import urllib.error
 import urllib.request
 from pathlib import Path
 
-from running import HOST, OPERATOR_KEY, Checks, Serving, answer, connect, make_desk, message, program_of, status_of
+from helpers.running import HOST, OPERATOR_KEY, Checks, Serving, answer, connect, make_desk, message, program_of, status_of
 
 SIZE = 5 << 20
 PIECE = 1 << 16

@@ -28,6 +28,7 @@ use Rattle.desk_bytes.specs.Reply.{reply_to}
 use Rattle.desk_bytes.specs.Alone as bytes_alone
 use Rattle.desk_bytes.specs.Alone.{with_files, with_origin, alone}
 use Rattle.desk_bytes.specs.Laws.{AreAcceptedOrOwn, CallsAlone, ServedAlone}
+use Rattle.desk_bytes.proofs.Answered.{right_text}
 use Rattle.desk_bytes.proofs.Asking.{no_command}
 use Rattle.desk_bytes.proofs.Calls.{calls_are_history, calls_of-more, calls_of-none, right_pair, none_pair}
 use Rattle.desk_bytes.proofs.PartAlone.{origin_part, origin_accepted}
@@ -118,27 +119,29 @@ module _ (digests : DigestOfPart) (identity : Identity) (key c : List ℕ) (H A 
 module _ (identity : Identity) (key c : List ℕ) where
   files_history : (es : List events.Event) (A : List Pair) → IsHistory identity key A → IsHistory identity key (with_files identity key c es A)
   files_history [] A is = is
-  files_history (e ∷ es) A is = (tt, λ _. refl, files_history es A is)
+  files_history (e ∷ es) A is =
+      let before = with_files identity key c es A in
+      (tt, right_text identity key from_facts (Some (TakeFile (Ok (file_for identity c (calls_of identity before) e)))) before, files_history es A is)
 
   call_history : (origin : Origin) (m : Message) (es : List events.Event) (A : List Pair) → IsReadAs identity key (calls_of identity A) origin (Some m) → IsHistory identity key A
       → IsHistory identity key (bytes_alone.with_call identity key c origin m es A)
   call_history origin m [] A read is = is
   call_history origin (TakeFile file) (e ∷ es) A read is = files_history (e ∷ es) A is
-  call_history origin (Of k r) (e ∷ es) A read is = (read, λ _. refl, is)
-  call_history origin (SetDay text) (e ∷ es) A read is = (read, λ _. refl, is)
-  call_history origin (SetHolidays days) (e ∷ es) A read is = (read, λ _. refl, is)
-  call_history origin (PutCompany d) (e ∷ es) A read is = (read, λ _. refl, is)
-  call_history origin (PutLimits d) (e ∷ es) A read is = (read, λ _. refl, is)
-  call_history origin Cut (e ∷ es) A read is = (read, λ _. refl, is)
-  call_history origin (FileText d modifier) (e ∷ es) A read is = (read, λ _. refl, is)
-  call_history origin Settlement (e ∷ es) A read is = (read, λ _. refl, is)
-  call_history origin Suspense (e ∷ es) A read is = (read, λ _. refl, is)
+  call_history origin (Of k r) (e ∷ es) A read is = (read, right_text identity key origin (Some (Of k r)) A, is)
+  call_history origin (SetDay text) (e ∷ es) A read is = (read, right_text identity key origin (Some (SetDay text)) A, is)
+  call_history origin (SetHolidays days) (e ∷ es) A read is = (read, right_text identity key origin (Some (SetHolidays days)) A, is)
+  call_history origin (PutCompany d) (e ∷ es) A read is = (read, right_text identity key origin (Some (PutCompany d)) A, is)
+  call_history origin (PutLimits d) (e ∷ es) A read is = (read, right_text identity key origin (Some (PutLimits d)) A, is)
+  call_history origin Cut (e ∷ es) A read is = (read, right_text identity key origin (Some Cut) A, is)
+  call_history origin (FileText d modifier) (e ∷ es) A read is = (read, right_text identity key origin (Some (FileText d modifier)) A, is)
+  call_history origin Settlement (e ∷ es) A read is = (read, right_text identity key origin (Some Settlement) A, is)
+  call_history origin Suspense (e ∷ es) A read is = (read, right_text identity key origin (Some Suspense) A, is)
 
   origin_history : (origin : Origin) (means : Option Message) (es : List Event) (A : List Pair)
       → ((e : Event) (more : List Event) → es ≡ e ∷ more → IsReadAs identity key (calls_of identity A) origin means) → IsHistory identity key A
       → IsHistory identity key (with_origin identity key c origin means es A)
   origin_history origin None [] A read is = is
-  origin_history origin None (e ∷ es) A read is = (read e es refl, λ _. refl, is)
+  origin_history origin None (e ∷ es) A read is = (read e es refl, right_text identity key origin None A, is)
   origin_history origin (Some m) [] A read is = is
   origin_history origin (Some m) (e ∷ es) A read is = call_history origin m (core_events (e ∷ es)) A (read e es refl) is
 

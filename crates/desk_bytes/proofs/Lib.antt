@@ -1,5 +1,6 @@
 -- The lemmas, by the law that they serve:
 --   one_meaning                 Meanings
+--   none_unavailable            Success, Answered
 --   calls_are_history           Calls
 --   same_part                   Success, Asking, Parts
 --   own_text, two_worlds        Worlds
@@ -7,6 +8,7 @@
 pub mod Meanings
 pub mod Calls
 pub mod Success
+pub mod Answered
 pub mod Asking
 pub mod Parts
 pub mod Worlds

@@ -306,7 +306,7 @@ module _ (digests : DigestOfPart) where
       → core_events (pair_events identity c (calls_of identity H) x (core_events (part identity H c))) ≡ call_events identity c (calls_of identity H) x x.means
   pair_events_are identity key x H c is same =
       ap (λ (Q : List events.Event). core_events (pair_events identity c (calls_of identity H) x Q)) same
-      ∙ pair_same identity key c (calls_of identity H) (keys_of identity key H) x is.0 (is_text identity key H x.origin x.means x.answer is.1)
+      ∙ pair_same identity key c (calls_of identity H) (keys_of identity key H) x is.0 (is_text identity key H x.origin x.means x.answer is.1.said)
 
   pub same_part : SamePart
   same_part identity key [] c is = ap (λ (K : List core.Pair). core_history.part identity.odfi K c) (sym (calls_of-none identity))

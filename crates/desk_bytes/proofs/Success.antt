@@ -29,7 +29,7 @@ abbrev spelled : (digits : List ℕ) → (status : ℕ) → Content → (closes 
 spelled digits status content closes body =
     codes "HTTP/1.1 " ++ digits ++ line (codes " ") (unwrap_or (reason_phrase status) []) ++ header_lines content closes (length body) ++ body
 
-response_spelled : (status : ℕ) (digits : List ℕ) (content : Content) (closes : Bool) (body : List ℕ) → decimal status ≡ digits
+pub response_spelled : (status : ℕ) (digits : List ℕ) (content : Content) (closes : Bool) (body : List ℕ) → decimal status ≡ digits
     → response_text status content closes body ≡ spelled digits status content closes body
 unfolding status_line
 response_spelled status digits content closes body is = ap (λ (s : List ℕ). spelled s status content closes body) is
@@ -79,7 +79,7 @@ module _ (content : Content) (closes : Bool) (body : List ℕ) where
 
 -- ---- a refusal is no success
 
-abbrev IsRefused : ℕ → Type 0
+abbrev pub IsRefused : ℕ → Type 0
 IsRefused status = (status ≡ 409) ⊎ (status ≡ 422)
 
 name_refused : (n : RefusalName) → IsRefused (refusal_names.status_of n)
@@ -107,7 +107,7 @@ name_refused names.TracesSpent = inl refl
 name_refused names.ModifiersSpent = inl refl
 name_refused names.FileKeyReused = inl refl
 
-refused : (why : CallRefusal) → IsRefused (refusal_status why)
+pub refused : (why : CallRefusal) → IsRefused (refusal_status why)
 refused (Rule why) = name_refused (name_of why)
 refused (BadFile fault) = inr refl
 refused (BadCalendar fault) = inr refl

@@ -12,7 +12,7 @@ use Rattle.desk_book.specs.Book.{Book, book_of}
 use Rattle.desk_message.specs.Message as messages
 use Rattle.desk_message.specs.Message.{MessageValue}
 use Rattle.desk_bytes.specs.Verdict.{verdict_on, Means}
-use Rattle.desk_bytes.specs.Texts.{call_text, fault_text, is_success}
+use Rattle.desk_bytes.specs.Texts.{call_text, fault_text, is_success, is_unavailable}
 
 -- what a pair came from: a message, or the facts of a file alone, of which no bytes were made
 pub data Origin : Type 0 where
@@ -78,13 +78,19 @@ IsReadAs identity key G (from_message v) means = Means (verdict_on (book_of iden
 IsReadAs identity key G from_facts None = ⊥
 IsReadAs identity key G from_facts (Some m) = IsFile m
 
--- Each answer with status 200 or 201 is the text after the pairs before it. Others change nothing, and are
--- not bound.
+-- None has the status 503, of a command or of a read: what was answered so stands in no history. One with
+-- status 200 or 201 is the text. Others change nothing, and are not bound.
+pub record IsAnswer (text answer : List ℕ) : Type 0 where
+  pub answered : is_unavailable answer ≡ false
+  pub said : is_success answer ≡ true → answer ≡ text
+
+-- Each answer is one after the pairs before it. A command of which a crash kept what it wrote stands there too,
+-- with its text.
 abbrev pub IsHistory : Identity → (key : List ℕ) → List Pair → Type 0
 IsHistory identity key [] = ⊤
 IsHistory identity key (x ∷ H) =
     IsReadAs identity key (calls_of identity H) x.origin x.means
-    × (is_success x.answer ≡ true → x.answer ≡ text identity key H x.origin x.means)
+    × IsAnswer (text identity key H x.origin x.means) x.answer
     × IsHistory identity key H
 
 -- A history, and the book that a store holds is its book.

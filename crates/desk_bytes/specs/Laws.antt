@@ -1,5 +1,5 @@
 -- Laws of all histories over bytes.
-use Rattle.std.specs.Prelude.{◌≡◌, ◌<◌, ◌≤◌, ◌^◌, ◌⊎◌, ⊤, ℕ, true, List, [], ◌∷◌, length, count_by, Option}
+use Rattle.std.specs.Prelude.{◌≡◌, ◌≢◌, ◌<◌, ◌≤◌, ◌^◌, ◌⊎◌, ⊤, ℕ, true, false, List, [], ◌∷◌, length, count_by, Option}
 use Rattle.desk_history.specs.declared.identity.Identity.{Identity}
 use Rattle.desk_history.specs.Alone as core_alone
 use Rattle.desk_history.specs.Alone.{is_answer}
@@ -8,9 +8,10 @@ use Rattle.desk_history.specs.History.{sent_entries}
 use Rattle.desk_history.specs.Message.{Message}
 use Rattle.desk_history.specs.Operator as operator
 use Rattle.desk_message.specs.Message.{MessageValue}
+use Rattle.desk_response.specs.Response.{unavailable_text}
 use Rattle.desk_routes.specs.declared.route.CompanyRoute.{CompanyRoute}
 use Rattle.desk_bytes.specs.Verdict.{Verdict, verdict_on, Means}
-use Rattle.desk_bytes.specs.Texts.{is_success}
+use Rattle.desk_bytes.specs.Texts.{is_success, is_unavailable}
 use Rattle.desk_bytes.specs.History.{Origin, from_message, Pair, calls_of, text, IsHistory, book_behind}
 use Rattle.desk_bytes.specs.Part.{Posted, core_events, origin_events, part}
 use Rattle.desk_bytes.specs.Reply.{reply, IsToCompany}
@@ -20,6 +21,18 @@ use Rattle.desk_bytes.specs.Alone.{alone}
 pub record OneMeaning : Type 0 where
   pub some : (v : Verdict) → (means : Option Message) × Means v means
   pub only : (v : Verdict) (means meant : Option Message) → Means v means → Means v meant → means ≡ meant
+
+-- none was answered 503
+abbrev pub AllAnswered : List Pair → Type 0
+AllAnswered [] = ⊤
+AllAnswered (x ∷ H) = (x.answer ≢ unavailable_text) × AllAnswered H
+
+-- 503 is no answer: it is no text of the definitions, and no pair of a history has it
+pub record NoneUnavailable : Type 0 where
+  pub told : is_unavailable unavailable_text ≡ true
+  pub texts : (identity : Identity) (key : List ℕ) (H : List Pair) (origin : Origin) (means : Option Message)
+      → is_unavailable (text identity key H origin means) ≡ false
+  pub pairs : (identity : Identity) (key : List ℕ) (H : List Pair) → IsHistory identity key H → AllAnswered H
 
 -- the calls of a history over bytes are a history
 abbrev pub CallsAreHistory : Type 0

@@ -18,6 +18,10 @@ unfoldable pub fault_text : (closes : Bool) → Verdict → List ℕ
 fault_text closes (Err fault) = response_text (fault_status fault) Json closes (message_fault_body fault)
 fault_text closes (Ok call) = []
 
+-- its status is 503: the desk could not act
+unfoldable pub is_unavailable : List ℕ → Bool
+is_unavailable bytes = bytes_eq (take 12 bytes) (codes "HTTP/1.1 503")
+
 -- its status is 200 or 201: no other that a desk gives begins so
 unfoldable pub is_success : List ℕ → Bool
 is_success bytes = bytes_eq (take 11 bytes) (codes "HTTP/1.1 20")

@@ -1,5 +1,5 @@
 //! The laws of all histories over bytes.
-ghost use Rattle.desk_bytes.specs.Laws.{OneMeaning, CallsAreHistory, SamePart, OwnText, TwoWorlds, CallsAlone, ServedAlone};
+ghost use Rattle.desk_bytes.specs.Laws.{OneMeaning, NoneUnavailable, CallsAreHistory, SamePart, OwnText, TwoWorlds, CallsAlone, ServedAlone};
 
 /// What a message comes to means one thing, and no other.
 pub fn one_meaning()
@@ -7,6 +7,11 @@ pub fn one_meaning()
 {
     desk_history::one_message();
 }
+
+/// No text of the definitions has the status 503, and no message of a history was answered so.
+pub fn none_unavailable()
+    ensures { NoneUnavailable }
+{}
 
 /// The calls of a history over bytes are a history of calls, whatever was answered.
 pub fn calls_are_history()
