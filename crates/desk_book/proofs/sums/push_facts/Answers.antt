@@ -3,8 +3,8 @@ use Rattle.std.proofs.lemmas.Slice.Zip.{either_empty_from_Zip}
 use Rattle.desk_rules.specs.LimitChecks.{is_debit}
 use Rattle.desk_rules.specs.declared.bodies.submission.Submission.{Submission}
 use Rattle.desk_history.specs.Facts.{entry_fact}
-use Rattle.desk_core.proofs.Zips.{zip_ended, made_all}
-use Rattle.desk_core.proofs.company.facts.push_facts.Goals as goal
+use Rattle.desk_book.proofs.Zips.{zip_ended, made_all}
+use Rattle.desk_book.proofs.sums.push_facts.Goals as goal
 
 pub returns : goal.returns
 returns c =

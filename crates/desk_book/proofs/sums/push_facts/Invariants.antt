@@ -1,6 +1,6 @@
 use Rattle.std.proofs.Common.{◌≡◌, ◌++◌, map, zip}
 use Rattle.desk_history.specs.Facts.{entry_fact}
-use Rattle.desk_core.proofs.company.facts.push_facts.Given as goal
+use Rattle.desk_book.proofs.sums.push_facts.Given as goal
 
 -- the facts so far, and those of the entries that are left
 abbrev pub invariant-loop-entry : goal.invariant-loop-entry
