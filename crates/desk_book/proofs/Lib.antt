@@ -9,6 +9,7 @@ pub mod CutRowsOnBook
 pub mod CutSends
 pub mod CutSteps
 pub mod CutWrites
+pub mod Growing
 pub mod IntakeAnswers
 pub mod IntakeItems
 pub mod IntakeOutcomes
@@ -33,3 +34,4 @@ pub mod Turns
 pub mod Unreturned
 pub mod EqualParts
 pub mod Finds
+pub mod Zips

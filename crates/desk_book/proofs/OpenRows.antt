@@ -1,6 +1,6 @@
 -- The rows that still count have the exposures of all rows.
 use Rattle.std.proofs.Common.{◌≡◌, ℕ, ◌+◌, ◌<◌, ◌≤◌, List, [], ◌∷◌, ◌++◌, map, Bool, false, cond, refl, sym, ap, ◌∙◌, inl, inr, arith}
-use Rattle.std.specs.Prelude.{◌&&◌, filter, sum_by, zip, nat_le, nat_lt, not}
+use Rattle.std.specs.Prelude.{◌&&◌, filter, sum_by, zip, nat_le, not}
 use Rattle.std.specs.List.{list_any}
 use Rattle.std.proofs.lemmas.Bool.{cases_Bool, and_right, or_parts, leb-false, lt-leb}
 use Rattle.std.proofs.lemmas.List.Elements.{filter-append}
@@ -14,10 +14,6 @@ use Rattle.desk_rules.specs.declared.rules.entry_fact.EntryState.{EntryState}
 use Rattle.desk_rules.specs.declared.rules.entry_fact.EntryState.TheVariants.{Held, Sent, Returned, Lapsed}
 use Rattle.desk_rules.specs.declared.bodies.submission.Entry.{Entry}
 use Rattle.desk_rules.specs.Exposure.{is_open_credit, is_open_debit, credit_exposure, debit_exposure}
-use Rattle.desk_rules.specs.declared.refusals.refusal.Refusal.TheVariants.{DateRange, EntryLimit, CreditLimit, DebitLimit}
-use Rattle.desk_rules.specs.FirstRefusal.{first_refusal}
-use Rattle.desk_rules.specs.LimitChecks.{is_debit, is_date_in_range}
-use Rattle.desk_rules.specs.Size.{total_of}
 use Rattle.desk_history.specs.Facts.{entry_fact}
 use Rattle.desk_book.specs.declared.row.Row.{Row}
 use Rattle.desk_book.specs.Standing.{row_facts, facts_in}
@@ -83,19 +79,8 @@ module _ (since day : ℕ) (holidays : List ℕ) (is : IsPast since day holidays
 
 pub open_rows_suffice : OpenRowsSuffice
 open_rows_suffice rows since day holidays is =
-    let credit = same_credit since day holidays is rows in
-    let debit = same_debit since day holidays is rows in
-    record {
-      credit = credit;
-      debit = debit;
-      verdict = λ s limits i. first_refusal (
-          (not (is_date_in_range s.day day), DateRange)
-          ∷ (list_any (λ e. nat_lt limits.entry e.cents) s.entries, EntryLimit)
-          ∷ (not (is_debit s.direction) && nat_lt limits.credit (credit i + total_of s.entries), CreditLimit)
-          ∷ (is_debit s.direction && nat_lt limits.debit (debit i + total_of s.entries), DebitLimit)
-          ∷ []
-          );
-    }
+    ap (λ (n : ℕ). (n, debit_exposure (facts_in (open_rows since rows)) day holidays)) (same_credit since day holidays is rows)
+    ∙ ap (λ (n : ℕ). (credit_exposure (facts_in rows) day, n)) (same_debit since day holidays is rows)
 
 -- what settled up to a day whose second banking day is before the desk day is past
 pub past_before : NthBankingDays → (holidays : List ℕ) (before day since : ℕ) → AreHolidays holidays → before ≤ last_rule_day → nth_after holidays before 2 < day

@@ -14,5 +14,7 @@ pub mod Repeating
 pub mod RowLaws
 pub mod Standing
 pub mod Steps
+pub mod SumLaws
+pub mod Sums
 pub mod Requests
 pub mod Writes

@@ -16,6 +16,8 @@ mod open_rows;
 mod returns_and_changes;
 mod row;
 mod row_laws;
+mod sum_laws;
+mod sums;
 
 pub use book_laws::{steps_of_messages, steps_of_operator, tells_operator, tells_replies};
 pub use caller::Caller;
@@ -28,3 +30,5 @@ pub use open_rows::{first_open_day, open_rows_suffice};
 pub use returns_and_changes::ReturnsAndChanges;
 pub use row::{Row, state_numbered};
 pub use row_laws::{row_steps, rows_of_part, verdicts_on_rows};
+pub use sum_laws::{exposures_grow, rates_stay};
+pub use sums::{exposures_among, rates_among};

@@ -1,4 +1,4 @@
-//! The limits of a company are judged by its open rows.
+//! The exposures of a company are told from its open rows.
 ghost use Rattle.std.specs.Prelude.{◌≤◌, ◌<◌, IsTrue, IfSome};
 ghost use Rattle.bank_days.specs.Calendar.{nth_after};
 ghost use Rattle.desk_rules.specs.Deadlines.{last_rule_day};
@@ -7,9 +7,8 @@ ghost use Rattle.desk_book.specs.OpenRows.{IsPast, OpenRowsSuffice};
 use bank_days::{Calendar, Day};
 use desk_rules::RuleDay;
 
-/// The exposures of a company's open rows are those of all its rows, and so is the verdict of its
-/// limits, where what settled before the first day that counts has its second banking day before the
-/// desk day.
+/// The exposures of a company's open rows are those of all its rows, where what settled before the
+/// first day that counts has its second banking day before the desk day.
 pub fn open_rows_suffice()
     ensures { OpenRowsSuffice }
 {}

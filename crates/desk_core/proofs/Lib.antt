@@ -2,11 +2,9 @@ pub mod Applied
 pub mod Adding
 pub mod Alike
 pub mod Asked
-pub mod Exposed
 pub mod FileReading
 pub mod OwnLines
 pub mod Planned
 pub mod Running
 pub mod Sized
 pub mod Traceless
-pub mod Zips

@@ -1,5 +1,4 @@
 //! A company hands in its submissions here, and reads what it may.
-pub(crate) mod facts;
 pub(crate) mod limits;
 pub(crate) mod reads;
 pub(crate) mod receipt;

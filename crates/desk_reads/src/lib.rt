@@ -5,7 +5,10 @@
 #![tactic(auto)]
 
 mod balances;
+mod calendar;
 mod each;
+mod exposures;
+mod facts;
 mod fault;
 mod files;
 mod held;
@@ -13,11 +16,14 @@ mod items;
 mod key;
 mod latest;
 mod open_row;
+mod rates;
 mod rows;
 mod sent;
 mod state;
 
 pub use balances::balances_of;
+pub use calendar::calendar;
+pub use exposures::exposures;
 pub use fault::or_unavailable;
 pub use files::{file, files_on};
 pub use held::waiting;
@@ -25,6 +31,7 @@ pub use items::items_of;
 pub use key::key_of;
 pub use latest::latest_settled;
 pub use open_row::open_rows;
+pub use rates::rates_of;
 pub use rows::{entries_of, retries_of, submission};
 pub use sent::sent_as;
 pub use state::state_of;

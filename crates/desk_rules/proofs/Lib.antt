@@ -1,3 +1,4 @@
 pub mod EntriesLemmas
 pub mod RefusalLemmas
 pub mod SameLemmas
+pub mod RatedFacts

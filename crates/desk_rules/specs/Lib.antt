@@ -8,6 +8,7 @@ pub mod Laws
 pub mod LimitChecks
 pub mod Operator
 pub mod OrNoMemory
+pub mod RatedFacts
 pub mod RefusalNames
 pub mod Retry
 pub mod RetryRule

@@ -1,5 +1,6 @@
 //! The laws of the rules say what their definitions mean.
 ghost use Rattle.desk_rules.specs.Laws.{CountedDeadlines, FirstRefusals, SameContents};
+ghost use Rattle.desk_rules.specs.RatedFacts.{RatedFactsSuffice};
 
 /// A deadline is counted in banking days from the settlement, or from the sixtieth day after it.
 pub fn counted_deadlines()
@@ -18,4 +19,10 @@ pub fn first_refusals()
 /// they name the same entry, for the same day and with the same authorization.
 pub fn same_contents()
     ensures { SameContents }
+{}
+
+/// Return rates read what lies in their window: they are those of the live debits that settled in
+/// it, or whose return was taken in it.
+pub fn rated_facts_suffice()
+    ensures { RatedFactsSuffice }
 {}

@@ -4,6 +4,7 @@ ghost use Rattle.desk_accounts.specs.Balance.{lines_of, day_sums};
 ghost use Rattle.desk_book.specs.Book.{Book};
 ghost use Rattle.desk_book.specs.Reads.{key_of, company, submission, submission_count, open_rows_of, retries_of, state_of, waiting, last_sequence, sent_count, latest_settled, sent_as, items_of};
 ghost use Rattle.desk_book.specs.Steps.{set_day, set_holidays, put_company, put_limits, add_submission, commit_cut, commit_intake};
+ghost use Rattle.desk_book.specs.Sums.{exposures_of, rates_of};
 ghost use Rattle.desk_store.specs.Written.{cut_rows, intake_rows};
 ghost use Rattle.desk_store.specs.declared.store.StoreFault.TheVariants.{Unavailable};
 ghost use Rattle.desk_store.specs.Words.{Reads, ReadsList, Writes, LeavesRead, LeavesWrite};
@@ -13,10 +14,10 @@ use bank_days::{Calendar, Day};
 use desk_accounts::{Account, Posting};
 use desk_book::{
     Caller, ChangedRow, FileRow, HeldSubmission, LapsedRow, ReturnedRow, ReturnsAndChanges, Row,
-    SentRow,
+    SentRow, exposures_among, first_open_day, rates_among,
 };
 use desk_history::{ChangeRow, Identity, ListOf, ReturnRow, SentEntry, SuspenseRow, TakenFile};
-use desk_rules::{Company, EntryState, Limits, Retry, RuleDay, SizedSubmission};
+use desk_rules::{Company, EntryState, Limits, Rates, Retry, RuleDay, SizedSubmission};
 use std::alloc::{AllocError, AllocFailed, Global};
 
 /// A `StoreFault` says why a store does not answer.
@@ -175,6 +176,39 @@ pub trait Store {
         ensures before { is_clean self.new → is_clean self.old }
         ensures read { is_clean self.new → ReadsList (holds self.old) result (λ b. b.rows company) (holds self.new) }
         ensures left { is_clean self.new → LeavesRead (may_leave self.old) (may_leave self.new) };
+
+    /// Reads a company's credit exposure and its debit exposure on a day. Where a store has nothing
+    /// better, it reads the holidays and the rows that still count: the open ones, and all where
+    /// there is no day before which none is open.
+    fn exposures(
+        &mut self,
+        alloc: Global,
+        company: Id,
+        today: Day,
+    ) -> Result<(u128, u128), StoreFault>
+        ensures before { is_clean self.new → is_clean self.old }
+        ensures read { is_clean self.new → Reads (holds self.old) result (exposures_of company today) (holds self.new) }
+        ensures left { is_clean self.new → LeavesRead (may_leave self.old) (may_leave self.new) }
+    {
+        desk_book::open_rows_suffice();
+        let calendar = self.calendar(alloc)?;
+        let rows = match first_open_day(&calendar, today) {
+            Some(since) => self.open_rows(alloc, company, since)?,
+            None => self.entries_of(alloc, company)?,
+        };
+        Ok(exposures_among(alloc, &rows, today, &calendar)?)
+    }
+
+    /// Reads a company's return rates on a day. Where a store has nothing better, it reads all the
+    /// company's rows.
+    fn rates(&mut self, alloc: Global, company: Id, today: Day) -> Result<Rates, StoreFault>
+        ensures before { is_clean self.new → is_clean self.old }
+        ensures read { is_clean self.new → Reads (holds self.old) result (rates_of company today) (holds self.new) }
+        ensures left { is_clean self.new → LeavesRead (may_leave self.old) (may_leave self.new) }
+    {
+        let rows = self.entries_of(alloc, company)?;
+        Ok(rates_among(alloc, &rows, today)?)
+    }
 
     /// Reads the held submissions of all companies, by identification and then by order number.
     fn waiting(&mut self, alloc: Global) -> Result<Vec<HeldSubmission>, StoreFault>

@@ -4,8 +4,6 @@ ghost use Rattle.desk_store.specs.Words.{LeavesRead};
 ghost use Rattle.desk_core.specs.Answering.{Answers};
 ghost use Rattle.desk_book.specs.OnBook.{reply_on};
 
-use crate::company::facts::facts_of;
-use crate::company::limits::exposures;
 use crate::company::report::report_or_none;
 use crate::company::statement::statement;
 use crate::guards::{company_limits, desk_day};
@@ -13,7 +11,6 @@ use crate::refuse::refuse;
 use ach_fields::{Id, Ref};
 use desk_accounts::Account;
 use desk_history::{Answer, DayRates, Exposure, Outcome};
-use desk_rules::rates;
 use desk_store::{Store, StoreFault};
 use std::alloc::Global;
 
@@ -109,9 +106,7 @@ pub(crate) fn rates_of<S: Store>(
         Ok(day) => day,
         Err(why) => return Ok(refuse(why)),
     };
-    let rows = store.entries_of(alloc, company)?;
-    let facts = facts_of(alloc, &rows)?;
-    let rates = rates(&facts, day);
+    let rates = store.rates(alloc, company, day)?;
     Ok(Answer::Done(Outcome::Rates(DayRates { day, rates })))
 }
 
@@ -133,8 +128,7 @@ pub(crate) fn exposure_of<S: Store>(
         Ok(day) => day,
         Err(why) => return Ok(refuse(why)),
     };
-    let calendar = store.calendar(alloc)?;
-    let (credit, debit) = exposures(store, alloc, company, &calendar, day)?;
+    let (credit, debit) = store.exposures(alloc, company, day)?;
     Ok(Answer::Done(Outcome::Exposure(Exposure {
         credit,
         debit,

@@ -52,8 +52,7 @@ fn new_submission<S: Store>(
         Ok(content) => content,
         Err(why) => return Ok(refused_verdict(why)),
     };
-    let calendar = store.calendar(alloc)?;
-    let judged = within_limits(store, alloc, company, &calendar, limits, today, content)?;
+    let judged = within_limits(store, alloc, company, limits, today, content)?;
     let order = next_order(store, alloc, company)?;
     Ok(fresh_verdict(order, None, judged))
 }

@@ -36,8 +36,7 @@ fn new_retry<S: Store>(
     ensures read { S.is_clean store.new → Reads (S.holds store.old) result (λ b. fresh_verdict (length (b.rows company) + 1) (Some retry.now) (retry_content_among (b.rows company) b.holidays limits.now today retry.now)) (S.holds store.new) }
     ensures left { S.is_clean store.new → LeavesRead (S.may_leave store.old) (S.may_leave store.new) }
 {
-    let calendar = store.calendar(alloc)?;
-    let content = retry_content(store, alloc, company, &calendar, limits, today, retry)?;
+    let content = retry_content(store, alloc, company, limits, today, retry)?;
     let order = next_order(store, alloc, company)?;
     Ok(fresh_verdict(order, Some(*retry), content))
 }

@@ -7,7 +7,7 @@ ghost use Rattle.desk_store.specs.Words.{Reads, LeavesRead};
 use crate::company::limits::within_limits;
 use crate::retry::attempts::{content_of, entry_named, first_of_attempts};
 use ach_fields::Id;
-use bank_days::{Calendar, Day};
+use bank_days::Day;
 use desk_book::Row;
 use desk_rules::{Entry, Limits, Refusal, Retry, SizedSubmission};
 use desk_store::{Store, StoreFault};
@@ -18,7 +18,6 @@ fn retry_content_of<S: Store>(
     store: &mut S,
     alloc: Global,
     company: Id,
-    calendar: &Calendar,
     limits: &Limits,
     today: Day,
     retry: &Retry,
@@ -26,16 +25,17 @@ fn retry_content_of<S: Store>(
     entry: Entry,
 ) -> Result<Result<SizedSubmission, Refusal>, StoreFault>
     ensures before { S.is_clean store.new → S.is_clean store.old }
-    ensures read { S.is_clean store.new → Reads (S.holds store.old) result (λ b. retry_content (facts_in (b.rows company)) calendar.now limits.now today retry.now row.now.content entry (attempts_at (b.rows company) row.now retry.now.index)) (S.holds store.new) }
+    ensures read { S.is_clean store.new → Reads (S.holds store.old) result (λ b. retry_content (facts_in (b.rows company)) b.holidays limits.now today retry.now row.now.content entry (attempts_at (b.rows company) row.now retry.now.index)) (S.holds store.new) }
     ensures left { S.is_clean store.new → LeavesRead (S.may_leave store.old) (S.may_leave store.new) }
 {
     let original = row.content.submission();
     let retries = store.retries_of(alloc, company, original.reference, retry.index)?;
-    if let Err(why) = first_of_attempts(alloc, &retries, row, retry, today, calendar)? {
+    let calendar = store.calendar(alloc)?;
+    if let Err(why) = first_of_attempts(alloc, &retries, row, retry, today, &calendar)? {
         return Ok(Err(why));
     }
     let content = content_of(alloc, retry, original, entry)?;
-    within_limits(store, alloc, company, calendar, limits, today, content)
+    within_limits(store, alloc, company, limits, today, content)
 }
 
 /// Is it this retry?
@@ -53,13 +53,12 @@ pub(crate) fn retry_content<S: Store>(
     store: &mut S,
     alloc: Global,
     company: Id,
-    calendar: &Calendar,
     limits: &Limits,
     today: Day,
     retry: &Retry,
 ) -> Result<Result<SizedSubmission, Refusal>, StoreFault>
     ensures before { S.is_clean store.new → S.is_clean store.old }
-    ensures read { S.is_clean store.new → Reads (S.holds store.old) result (λ b. retry_content_among (b.rows company) calendar.now limits.now today retry.now) (S.holds store.new) }
+    ensures read { S.is_clean store.new → Reads (S.holds store.old) result (λ b. retry_content_among (b.rows company) b.holidays limits.now today retry.now) (S.holds store.new) }
     ensures left { S.is_clean store.new → LeavesRead (S.may_leave store.old) (S.may_leave store.new) }
 {
     let Some(row) = store.submission(alloc, company, retry.of)? else {
@@ -68,7 +67,5 @@ pub(crate) fn retry_content<S: Store>(
     let Some(entry) = entry_named(&row, retry.index) else {
         return Ok(Err(Refusal::NoEntry));
     };
-    retry_content_of(
-        store, alloc, company, calendar, limits, today, retry, &row, entry,
-    )
+    retry_content_of(store, alloc, company, limits, today, retry, &row, entry)
 }

@@ -1,9 +1,11 @@
 //! A submission is judged here by the desk day and the company's limits: the desk's own rules.
-ghost use Rattle.std.specs.Prelude.{◌≡◌, ◌≤◌, ◌*◌, length, nat_lt};
+ghost use Rattle.std.specs.Prelude.{◌≡◌, ◌≤◌, ◌*◌, ◌+◌, ℕ, List, length, nat_lt};
 ghost use Rattle.std.specs.List.{list_any};
 ghost use Rattle.ach_fields.specs.Cents.{most_cents};
+ghost use Rattle.desk_rules.specs.Exposure.{credit_exposure, debit_exposure};
 ghost use Rattle.desk_rules.specs.LimitChecks.{is_date_in_range, limits_verdict};
 ghost use Rattle.desk_rules.specs.Size.{total_of};
+ghost use Rattle.desk_rules.specs.declared.rules.entry_fact.EntryFact.{EntryFact};
 
 use crate::{
     Direction, Entry, EntryFact, Limits, Refusal, Submission, credit_exposure, debit_exposure,
@@ -30,6 +32,25 @@ pub fn check_submission(
 ) -> Result<(), Refusal>
     ensures { result ≡ limits_verdict submission.now day limits.now facts.now calendar.now }
 {
+    let credit = credit_exposure(facts, day, calendar);
+    check_limits(
+        submission,
+        day,
+        limits,
+        (credit, debit_exposure(facts, day, calendar)),
+    )
+}
+
+/// Refuses a submission as `check_submission` does, by the credit exposure and the debit exposure of
+/// all the company's entries in place of their facts.
+pub fn check_limits(
+    submission: &Submission,
+    day: Day,
+    limits: &Limits,
+    exposed: (u128, u128),
+) -> Result<(), Refusal>
+    ensures { (facts : List EntryFact) (holidays : List ℕ) → exposed ≡ (credit_exposure facts day, debit_exposure facts day holidays) → result ≡ limits_verdict submission.now day limits.now facts holidays }
+{
     if !is_date_in_range(submission.day.day(), day) {
         return Err(Refusal::DateRange);
     }
@@ -40,17 +61,25 @@ pub fn check_submission(
     let total = whole_total(entries);
     match submission.direction {
         Direction::Credit => {
-            if credit_exposure(facts, day, calendar) + total > u128::from(limits.credit) {
+            if is_over(exposed.0, total, limits.credit) {
                 return Err(Refusal::CreditLimit);
             }
         }
         Direction::Debit => {
-            if debit_exposure(facts, day, calendar) + total > u128::from(limits.debit) {
+            if is_over(exposed.1, total, limits.debit) {
                 return Err(Refusal::DebitLimit);
             }
         }
     }
     Ok(())
+}
+
+// Are what is exposed and a total together more than a limit?
+fn is_over(exposed: u128, total: u128, limit: u64) -> bool
+    ensures { result ≡ nat_lt limit (exposed + total) }
+{
+    let limit = u128::from(limit);
+    exposed > limit || total > limit - exposed
 }
 
 // Is a day 1 to 60 days after the desk day?

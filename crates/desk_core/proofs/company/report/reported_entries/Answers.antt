@@ -2,7 +2,7 @@ use Rattle.std.proofs.Common.{ap, ◌+◌}
 use Rattle.std.specs.List.{enumerate_from}
 use Rattle.std.proofs.lemmas.Slice.Zip.{either_empty_from_Zip}
 use Rattle.desk_history.specs.Reports.{reported_entry}
-use Rattle.desk_core.proofs.Zips.{zip_ended, made_all}
+use Rattle.desk_book.proofs.Zips.{zip_ended, made_all}
 use Rattle.desk_core.proofs.company.report.reported_entries.Goals as goal
 
 pub returns : goal.returns

@@ -10,14 +10,12 @@ pub returns-clause-read : goal.returns-clause-read
 returns-clause-read g c clean b holds =
     let parts = sized_parts c.args.content c.in-Ok.content (sym c.new.ensures ∙ c.in-Ok.is) in
     let judged_clean = c.in_ok-order.ensures.before clean in
-    let calendar = c.in_ok-calendar.ensures.read (c.in_ok-judged.ensures.before judged_clean) b holds in
-    let judged = c.in_ok-judged.ensures.read judged_clean b calendar.1 in
+    let judged = c.in_ok-judged.ensures.read judged_clean b holds in
     let order = c.in_ok-order.ensures.read clean b judged.1 in
     let facts = facts_in (b.rows c.args.company) in
     let limits = c.args.limits.now in
     let content : c.in_ok-judged.judged ≡ new_content facts b.holidays limits c.args.today c.args.content =
     judged.0
-    ∙ ap (λ (days : List ℕ). within_limits facts days limits c.args.today c.in-Ok.content) calendar.0
     ∙ ap (λ (s : Submission). within_limits facts b.holidays limits c.args.today s) parts.1
     ∙ rw (parts.0) refl
     in (

@@ -1,0 +1,1 @@
+use Rattle.desk_reads.proofs.rates.distinct.Goals as goal
