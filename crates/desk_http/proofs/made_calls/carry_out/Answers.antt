@@ -7,7 +7,7 @@ returns-in-Ok-print_answer-clause-goes g c = λ clean.
     c.args.call c.args.closes c.kind_of_call-kind.result c.in-Ok-apply.answer c.in-Ok-print_answer.bytes
     c.kind_of_call-kind.ensures (c.in-Ok-apply.ensures.goes clean) c.in-Ok-print_answer.ensures.text
 
-pub returns-in-Ok-apply-clause-goes : goal.returns-in-Ok-apply-clause-goes
-returns-in-Ok-apply-clause-goes g c = λ clean.
+pub returns-in-Err-print_answer-clause-goes : goal.returns-in-Err-print_answer-clause-goes
+returns-in-Err-print_answer-clause-goes g c = λ clean.
     unprinted c.book_tells.ensures c.reads_leave.ensures (g.S.Store.holds c.args.desk.now) (g.S.Store.holds c.apply.new.self)
     c.args.call c.args.closes c.in-Ok-apply.answer _ (c.in-Ok-apply.ensures.goes clean) c.in-Err-print_answer.ensures.memory
