@@ -3,7 +3,7 @@ pub mod Adding
 pub mod Alike
 pub mod Asked
 pub mod FileReading
-pub mod OwnLines
+pub mod Statements
 pub mod Planned
 pub mod Running
 pub mod Sized
