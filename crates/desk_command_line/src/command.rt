@@ -78,6 +78,7 @@ fn help_fault(alloc: Global, words: &[&str]) -> LineFault
     }
 }
 
+// Reads words as they stand.
 fn command_by_name<'a>(alloc: Global, words: &'a [&'a str]) -> Result<Command<'a>, LineFault>
     ensures { GivesBy (map (λ w. w.now) words.now) result }
 {
