@@ -1,6 +1,7 @@
 -- The statements of a migration make its edit, and what that says of the connection.
 use Rattle.std.proofs.Common.{◌≡◌, Option, None, Some, ℕ, [], Ok, true, IsTrue, refl, sym, ◌∙◌, subst, arith}
 use Rattle.sqlite.specs.Effect.{Database}
+use Rattle.sqlite_trees.specs.Tree.{Trees}
 use Rattle.sqlite.specs.State.{State, HasCleanDisk, Survives, Shows, Executes}
 use Rattle.sqlite.proofs.StateLemmas.{survives_then}
 use Rattle.sql_statements.specs.Queries.{Stays}
@@ -9,7 +10,7 @@ use Rattle.sql_statements.specs.Transactions.{Makes, Commits, Leaves}
 use Rattle.desk_book.specs.Book.{Book}
 use Rattle.desk_records.specs.Schema.{desk_schema}
 use Rattle.desk_records.specs.TableDefinitions.{numbers_text, authorizations_text}
-use Rattle.desk_records.specs.Layout.{desk_layout, Keeps}
+use Rattle.desk_records.specs.Layout.{desk_layout, Keeps, Sees}
 use Rattle.desk_records.specs.Tables.{Tables, IsStored}
 use Rattle.desk_files.specs.FirstVersion.{first_schema, first_layout, IsFirstStored, KeepsFirst}
 use Rattle.desk_files.specs.Migrated.{migrated}
@@ -68,16 +69,20 @@ module _ (old mid new : State) (settled : IsTrue old.is_open → old.now ≡ old
   pub has_migrated : HasCleanDisk mid → Commits migration_layout migration_edit mid new → HasMigrated old new
   has_migrated clean done =
       let first = λ (b : Book) (k : KeepsFirst old.committed.trees b). (done.holds (First (Some k.0)) (kept_first clean done.was_open b k)).0 in
+      let sees : (b : Book) → KeepsFirst old.committed.trees b → Sees new b = λ b k _. (migrated k.0, first b k, book_kept k.0 b k.2) in
+      let keeps : (b : Book) → KeepsFirst old.committed.trees b → (trees : Trees) → new.may_leave trees → Keeps trees b =
+          λ b k trees left. (migrated k.0, subst (λ d. IsStored d (migrated k.0)) (sym (done.left trees left)) (first b k).1, book_kept k.0 b k.2) in
       record {
         was_open = (stays clean done.was_open).0;
         is_open = done.is_open;
         was_first = schema;
         is_second = (done.holds (First None) (began clean done.was_open None tt)).0.0;
         tables = λ t h. (done.holds (First (Some t)) (began clean done.was_open (Some t) h)).0.1;
-        sees = λ b k _. (migrated k.0, first b k, book_kept k.0 b k.2);
+        sees = sees;
         committed = done.committed;
         left = done.left;
-        keeps = λ b k trees left. (migrated k.0, subst (λ d. IsStored d (migrated k.0)) (sym (done.left trees left)) (first b k).1, book_kept k.0 b k.2);
+        keeps = keeps;
+        stands = λ identity key H stood. record { history = stood.history; sees = sees _ stood.book; keeps = keeps _ stood.book };
       }
 
   -- once the commit has begun a crash may leave version 2's tables

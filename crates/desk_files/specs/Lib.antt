@@ -3,4 +3,5 @@ pub mod Migrated
 pub mod Migration
 pub mod MigrationTexts
 pub mod Opened
+pub mod StruckHistory
 pub mod Versions

@@ -1,5 +1,5 @@
 -- The transaction of a migration, and what is then said of the connection.
-use Rattle.std.specs.Prelude.{◌≡◌, ⊤, ℕ, [], ◌∷◌, fold, pos, Option, None, Some, option_map, IsTrue}
+use Rattle.std.specs.Prelude.{◌≡◌, ⊤, ℕ, List, [], ◌∷◌, fold, pos, Option, None, Some, option_map, IsTrue}
 use Rattle.sqlite_schema.specs.declared.schema.Schema.{Schema}
 use Rattle.sqlite_trees.specs.Tree.{Trees}
 use Rattle.sqlite_value.specs.Order.{Row}
@@ -8,12 +8,15 @@ use Rattle.sqlite_value.specs.declared.value.Value.TheVariants.{Int}
 use Rattle.sqlite.specs.State.{State}
 use Rattle.sql_statements.specs.Edits.{Edit}
 use Rattle.sql_statements.specs.Layouts.{Layout}
+use Rattle.desk_history.specs.declared.identity.Identity.{Identity}
+use Rattle.desk_history.specs.Message.{Pair}
 use Rattle.desk_book.specs.Book.{Book}
 use Rattle.desk_records.specs.Schema.{desk_schema}
 use Rattle.desk_records.specs.Layout.{Keeps, Sees}
 use Rattle.desk_records.specs.Tables.{Tables, IsStored}
 use Rattle.desk_files.specs.FirstVersion.{first_schema, IsFirstStored, KeepsFirst}
 use Rattle.desk_files.specs.Migrated.{migrated, places_of, with_own_number}
+use Rattle.desk_files.specs.StruckHistory.{FirstStandsFor, StandsStruck}
 
 -- ---- sent entries are numbered
 
@@ -82,7 +85,7 @@ migration_edit = record { after = migrated_version; Tells = IsFirst }
 -- ---- what is then said of the connection
 
 -- The schema was version 1's, and is version 2's. Each book that they kept is seen, is committed, and is all that a
--- crash may leave.
+-- crash may leave. What stood for a history stands for it with the key `authorized` struck from the bodies of its retries.
 pub record HasMigrated (old new : State) : Type 0 where
   pub was_open : IsTrue old.is_open
   pub is_open : IsTrue new.is_open
@@ -93,3 +96,4 @@ pub record HasMigrated (old new : State) : Type 0 where
   pub committed : new.committed ≡ new.now
   pub left : (trees : Trees) → new.may_leave trees → trees ≡ new.now.trees
   pub keeps : (b : Book) → KeepsFirst old.committed.trees b → (trees : Trees) → new.may_leave trees → Keeps trees b
+  pub stands : (identity : Identity) (key : List ℕ) (H : List Pair) → FirstStandsFor old.committed.trees identity key H → StandsStruck new identity key H

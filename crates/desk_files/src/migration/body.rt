@@ -47,6 +47,9 @@ impl TransactionBody for Migration {
 /// Makes a desk's tables of version 1 those of version 2, in one transaction: every book that they kept
 /// is kept. A crash leaves the tables of version 1 or those of version 2, whole.
 ///
+/// A desk of version 1 did not read the key `authorized` of a retry. The history that its tables stood
+/// for is the one that they then stand for, with that key struck from the bodies of its retries.
+///
 /// Another version is `OpenFault::WrongVersion`, and other tables, or none, `OpenFault::NotADesk`. A
 /// connection that is inside a transaction is `OpenFault::Unavailable`. After an error the tables are as
 /// they were.
