@@ -1,7 +1,8 @@
 -- The outcome of a call of the desk.
-use Rattle.std.specs.Prelude.{◌≡◌, ◌⊎◌, ℕ, List, ◌∷◌, Result, Ok, Err}
+use Rattle.std.specs.Prelude.{◌≡◌, ◌⊎◌, ⊤, ℕ, List, ◌∷◌, Result, Ok, Err}
 use Rattle.desk_history.specs.declared.answer.Answer.{Answer}
 use Rattle.desk_history.specs.declared.call.Call.{Call}
+use Rattle.desk_history.specs.declared.call.Call.TheVariants as calls
 use Rattle.desk_history.specs.declared.identity.Identity.{Identity}
 use Rattle.desk_book.specs.Book.{Book, book_of}
 use Rattle.desk_history.specs.Calls.{IsMessageOf}
@@ -23,6 +24,19 @@ AnswersCall old call result new = (m : Message) → IsMessageOf call m → Answe
 
 abbrev pub LeavesMessage : {Kept : Type 0} → (keeps : Kept → Book → Type 0) → (holds : Book → Type 0) → (old : Kept → Type 0) → Call → Result Answer StoreFault → (new : Kept → Type 0) → Type 0
 LeavesMessage keeps holds old call result new = (m : Message) → IsMessageOf call m → LeavesCall keeps holds old result (λ b. writes_on b m) (λ b. after_on b m) new
+
+-- a call that asks for what is known, and no more
+abbrev pub IsReadCall : Call → Type 0
+IsReadCall (calls.FileText day modifier) = ⊤
+IsReadCall calls.Settlement = ⊤
+IsReadCall calls.SuspenseItems = ⊤
+IsReadCall (calls.LookUp c reference) = ⊤
+IsReadCall (calls.ReturnsOf c) = ⊤
+IsReadCall (calls.ChangesOf c) = ⊤
+IsReadCall (calls.StatementOf c) = ⊤
+IsReadCall (calls.RatesOf c) = ⊤
+IsReadCall (calls.ExposureOf c) = ⊤
+IsReadCall call = ⊥
 
 -- the store holds a book
 abbrev pub HasBook : (holds : Book → Type 0) → Type 0

@@ -1,7 +1,7 @@
 ghost use Rattle.std.specs.Prelude.{◌≡◌};
 ghost use Rattle.desk_store.specs.Words.{LeavesRead};
 ghost use Rattle.desk_core.specs.Answering.{Allows};
-ghost use Rattle.desk_core.specs.Applying.{AnswersCall, LeavesMessage, HasBook, Goes, Replies, LeavesBook};
+ghost use Rattle.desk_core.specs.Applying.{AnswersCall, IsReadCall, LeavesMessage, HasBook, Goes, Replies, LeavesBook};
 
 use crate::allow::allow;
 use crate::respond::respond;
@@ -50,7 +50,8 @@ impl<S: Store> Desk<S> {
     /// write, so that what was written is answered.
     ///
     /// By the clauses `answers`, `leaves` and `book` it is so of whatever book the store holds, and by
-    /// the others of the history that the book stands for.
+    /// the others of the history that the book stands for. By `read` a call that only asks, answered or
+    /// not, changes nothing that a crash may leave.
     pub fn apply(&mut self, alloc: Global, call: Call) -> Result<Answer, StoreFault>
         ensures before { S.is_clean self.new → S.is_clean self.old }
         ensures answers { S.is_clean self.new → AnswersCall (S.holds self.old) call result (S.holds self.new) }
@@ -59,6 +60,7 @@ impl<S: Store> Desk<S> {
         ensures goes { S.is_clean self.new → Goes (S.holds self.old) call result (S.holds self.new) }
         ensures replies { S.is_clean self.new → Replies (S.holds self.old) call result }
         ensures left { S.is_clean self.new → LeavesBook S.keeps (S.holds self.old) (S.may_leave self.old) call result (S.may_leave self.new) }
+        ensures read { S.is_clean self.new → IsReadCall call → LeavesRead (S.may_leave self.old) (S.may_leave self.new) }
     {
         desk_history::one_message();
         desk_book::book_tells();

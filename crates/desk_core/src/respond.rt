@@ -1,5 +1,6 @@
 //! A call is answered by the book.
-ghost use Rattle.desk_core.specs.Applying.{AnswersCall, LeavesMessage};
+ghost use Rattle.desk_store.specs.Words.{LeavesRead};
+ghost use Rattle.desk_core.specs.Applying.{AnswersCall, IsReadCall, LeavesMessage};
 
 use crate::company::reads::{changes_of, exposure_of, look_up, rates_of, returns_of, statement_of};
 use crate::company::submission::submit;
@@ -21,6 +22,7 @@ pub(crate) fn respond<S: Store>(
     ensures before { S.is_clean store.new → S.is_clean store.old }
     ensures answers { S.is_clean store.new → AnswersCall (S.holds store.old) call result (S.holds store.new) }
     ensures left { S.is_clean store.new → LeavesMessage S.keeps (S.holds store.old) (S.may_leave store.old) call result (S.may_leave store.new) }
+    ensures read { S.is_clean store.new → IsReadCall call → LeavesRead (S.may_leave store.old) (S.may_leave store.new) }
 {
     match call {
         Call::PutCompany(draft) => put_company(store, alloc, &draft),

@@ -1,6 +1,6 @@
 -- What a desk stands for after messages, and what a crash may leave then.
 use Rattle.std.proofs.Common.{◌≡◌, ◌∙◌, refl, sym, ap, subst, ℕ, List, [], ◌∷◌, inl, inr}
-use Rattle.std.specs.Prelude.{◌⊎◌, Option, Some, None, Result, Ok, Err, Vec}
+use Rattle.std.specs.Prelude.{◌⊎◌, IsFalse, Option, Some, None, Result, Ok, Err, Vec}
 use Rattle.std.specs.declared.alloc.Global.{Global}
 use Rattle.desk_history.specs.Message.{Message}
 use Rattle.desk_book.specs.Book.{Book}
@@ -14,7 +14,7 @@ use Rattle.desk_bytes.specs.Verdict.{verdict_on, Means}
 use Rattle.desk_bytes.specs.History.{from_message, text, IsHistory}
 use Rattle.desk_bytes.specs.Laws.{OneMeaning, CallsAreHistory}
 use Rattle.desk_bytes.proofs.Answered.{right_answer}
-use Rattle.desk_http.specs.Answering.{IsAsked, answered_pair, DeskHistory, StandsBehind, IsAnswered, GoesOn, LeavesOn, writes}
+use Rattle.desk_http.specs.Answering.{IsAsked, answered_pair, DeskHistory, StandsBehind, IsAnswered, GoesOn, LeavesOn, reads, writes}
 use Rattle.desk_crash_law.specs.Crashes.{answer_in, Takes, TakesAll, IsSettled, AnswersSurvive, StandsAfterCrash, StandsAfterLives}
 use Rattle.desk_crash_law.specs.Runs.{book_after, IsAfter, IsPending, IsOneMore, MayBeFound}
 use Rattle.desk_crash_law.proofs.Books.{answered_book, quiet_book, same_more}
@@ -54,7 +54,7 @@ module _ {Kept : Type 0} (keeps : Kept → Book → Type 0) where
     -- and of one that was not
     unanswered_left : (h before : DeskHistory) (xs : List Exchange) (v : MessageValue) (means : Option Message) (old : Kept → Type 0) (k : Kept)
         → Means (verdict_on (book_after before) v) means → IsAfter h xs before → (old k → KeepsOne before (IsPending h xs) k)
-        → old k ⊎ keeps k (book_after (with_answer before v (text before.identity before.key before.pairs (from_message v) means) means))
+        → old k ⊎ (IsFalse (reads means) × keeps k (book_after (with_answer before v (text before.identity before.key before.pairs (from_message v) means) means)))
         → KeepsOne before (IsPending h (record { message = v; answer = None } ∷ xs)) k
     unanswered_left h before xs v means old k read is kept (inl same) =
         still before before (IsPending h xs) (IsPending h (record { message = v; answer = None } ∷ xs)) k refl (λ w pending. inr (pending, before, is, tt)) (kept same)
@@ -62,8 +62,8 @@ module _ {Kept : Type 0} (keeps : Kept → Book → Type 0) where
         let said = text before.identity before.key before.pairs (from_message v) means in
         inr (
           with_answer before v said means,
-          (v, said, inl (refl, refl), record { means = means; read = read; said = refl; more = refl }),
-          made,
+          (v, said, inl (refl, refl, before, is, (means, read, made.0)), record { means = means; read = read; said = refl; more = refl }),
+          made.1,
         )
 
 -- ---- a run

@@ -7,7 +7,7 @@ use Rattle.desk_message.specs.Message.{MessageValue}
 use Rattle.desk_session.specs.Exchanges.{Exchange, StepsWith}
 use Rattle.desk_bytes.specs.History.{from_message, book_behind}
 use Rattle.desk_bytes.specs.Verdict.{verdict_on, Means}
-use Rattle.desk_http.specs.Answering.{DeskHistory, IsAnswered, writes}
+use Rattle.desk_http.specs.Answering.{DeskHistory, IsAnswered, reads, writes}
 
 abbrev pub book_after : DeskHistory → Book
 book_after h = book_behind h.identity h.key h.pairs
@@ -26,11 +26,15 @@ abbrev pub WritesNothing : DeskHistory → MessageValue → (answer : Option (Li
 WritesNothing h v None = ⊤
 WritesNothing h v (Some answer) = (means : Option Message) × Means (verdict_on (book_after h) v) means × IsFalse (writes (book_after h) means)
 
--- a message is pending: it was not answered, and none that was answered since wrote
+-- what comes after this history asks for more than what is known
+abbrev pub IsNoRead : DeskHistory → MessageValue → Type 0
+IsNoRead h v = (means : Option Message) × Means (verdict_on (book_after h) v) means × IsFalse (reads means)
+
+-- a message is pending: it is no read and was not answered, and none that was answered since wrote
 abbrev pub IsPending : DeskHistory → List Exchange → MessageValue → Type 0
 IsPending h [] v = ⊥
 IsPending h (x ∷ xs) v =
-    ((x.message ≡ v) × (x.answer ≡ None))
+    ((x.message ≡ v) × (x.answer ≡ None) × (before : DeskHistory) × IsAfter h xs before × IsNoRead before v)
     ⊎ (IsPending h xs v × (before : DeskHistory) × IsAfter h xs before × WritesNothing before x.message x.answer)
 
 -- ---- what may be found after a crash

@@ -1,22 +1,26 @@
 -- A call that was made, and its bytes.
 use Rattle.std.proofs.Common.{◌≡◌, ◌⊎◌, inl, inr, ℕ, List, Bool, true, false, refl, sym, ap, ◌∙◌, subst}
-use Rattle.std.specs.Prelude.{Ok, Err, Vec}
+use Rattle.std.specs.Prelude.{IsFalse, Ok, Err, Vec}
 use Rattle.std.specs.declared.alloc.Global.{Global}
 use Rattle.desk_history.specs.declared.answer.Answer.{Answer}
 use Rattle.desk_history.specs.declared.answer.Answer.TheVariants as answers
 use Rattle.desk_history.specs.declared.answer.Outcome.TheVariants as outcomes
 use Rattle.desk_history.specs.declared.call.Call.{Call}
-use Rattle.desk_history.specs.Message.{Message}
+use Rattle.desk_history.specs.declared.call.Call.TheVariants as calls
+use Rattle.desk_history.specs.Calls.{IsMessageOf}
+use Rattle.desk_history.specs.Message.{Message, TakeFile}
 use Rattle.desk_history.specs.Operator.{answer_to}
 use Rattle.desk_book.specs.Book.{Book, book_of}
 use Rattle.desk_book.specs.OnMessages.{answer_on, BookTells}
-use Rattle.desk_book.specs.Writes.{is_quiet, writes_on, ReadsLeave}
+use Rattle.desk_book.specs.Writes.{is_quiet, is_read, writes_on, ReadsLeave}
+use Rattle.desk_store.specs.declared.store.StoreFault.{StoreFault}
+use Rattle.desk_store.specs.Words.{LeavesRead}
 use Rattle.desk_response.specs.Response.{response_text}
 use Rattle.desk_bodies.specs.declared.statuses.CallKind.{CallKind}
 use Rattle.desk_bodies.specs.Answers.{answer_body, is_command, FitsRoom}
 use Rattle.desk_bodies.specs.Statuses.{kind_of, kind_of_call, status_of, content_of, OneKind}
 use Rattle.desk_core.specs.Answering.{IsLeft}
-use Rattle.desk_core.specs.Applying.{Goes, LeavesBook, book_after}
+use Rattle.desk_core.specs.Applying.{Goes, IsReadCall, LeavesBook, book_after}
 use Rattle.desk_session.specs.declared.answers.Unavailable.{Unavailable}
 use Rattle.desk_bytes.specs.Texts.{call_text}
 use Rattle.desk_http.specs.MadeCalls.{GoesCall, LeavesCall}
@@ -74,10 +78,41 @@ pub printed_left : {Kept : Type 0} (keeps : Kept → Book → Type 0) (holds : B
     → LeavesBook keeps holds old call (Ok a) new → LeavesCall keeps holds old call (Ok bytes) new
 printed_left keeps holds old new call a bytes left identity key G m k asked more = left identity key G m k asked more
 
-either : (wrote : Bool) (made before : Type 0) → IsLeft wrote made before → before ⊎ made
-either wrote made before left = elim left [ inl after ↦ inr after.1 | inr same ↦ inl same.1 ]
+-- what wrote is no read
+either : (wrote asks : Bool) (made before : Type 0) → (asks ≡ true → wrote ≡ false) → IsLeft wrote made before → before ⊎ (IsFalse asks × made)
+either wrote true made before reads left = elim left [ inl after ↦ (let no : true ≡ false = sym after.0 ∙ reads refl in cc) | inr same ↦ inl same.1 ]
+either wrote false made before reads left = elim left [ inl after ↦ inr (refl, after.1) | inr same ↦ inl same.1 ]
 
-pub unprinted_left : {Kept : Type 0} (keeps : Kept → Book → Type 0) (holds : Book → Type 0) (old new : Kept → Type 0) (call : Call) (a : Answer) (fault : Unavailable)
+pub unprinted_left : ReadsLeave → {Kept : Type 0} (keeps : Kept → Book → Type 0) (holds : Book → Type 0) (old new : Kept → Type 0) (call : Call) (a : Answer) (fault : Unavailable)
     → LeavesBook keeps holds old call (Ok a) new → LeavesCall keeps holds old call (Err fault) new
-unprinted_left keeps holds old new call a fault left identity key G m k asked more =
-    either (writes_on (book_of identity key G) m) (keeps k (book_after identity key G m)) (old k) (left identity key G m k asked more)
+unprinted_left leave keeps holds old new call a fault left identity key G m k asked more =
+    either (writes_on (book_of identity key G) m) (is_read m) (keeps k (book_after identity key G m)) (old k) (leave.reads (book_of identity key G) m) (left identity key G m k asked more)
+
+-- ---- a call that could not be made
+
+read_call : (call : Call) (m : Message) → IsMessageOf call m → is_read m ≡ true → IsReadCall call
+read_call (calls.PutCompany d) m is reads = let no : false ≡ true = sym (ap is_read is) ∙ reads in cc
+read_call (calls.PutLimits d) m is reads = let no : false ≡ true = sym (ap is_read is) ∙ reads in cc
+read_call (calls.SetDay text) m is reads = let no : false ≡ true = sym (ap is_read is) ∙ reads in cc
+read_call (calls.SetHolidays bytes) m is reads = let no : false ≡ true = sym (ap is_read is) ∙ reads in cc
+read_call calls.Cut m is reads = let no : false ≡ true = sym (ap is_read is) ∙ reads in cc
+read_call (calls.TakeFile bytes) (TakeFile file) is reads = cc
+read_call (calls.TakeFile bytes) m is reads = is
+read_call (calls.Submit c d) m is reads = let no : false ≡ true = sym (ap is_read is) ∙ reads in cc
+read_call (calls.Retry c d) m is reads = let no : false ≡ true = sym (ap is_read is) ∙ reads in cc
+read_call (calls.FileText day modifier) m is reads = tt
+read_call calls.Settlement m is reads = tt
+read_call calls.SuspenseItems m is reads = tt
+read_call (calls.LookUp c reference) m is reads = tt
+read_call (calls.ReturnsOf c) m is reads = tt
+read_call (calls.ChangesOf c) m is reads = tt
+read_call (calls.StatementOf c) m is reads = tt
+read_call (calls.RatesOf c) m is reads = tt
+read_call (calls.ExposureOf c) m is reads = tt
+
+pub unmade_left : {Kept : Type 0} (keeps : Kept → Book → Type 0) (holds : Book → Type 0) (old new : Kept → Type 0) (call : Call) (why : StoreFault) (fault : Unavailable)
+    → LeavesBook keeps holds old call (Err why) new → (IsReadCall call → LeavesRead old new) → LeavesCall keeps holds old call (Err fault) new
+unmade_left keeps holds old new call why fault left reads identity key G m k asked more = by (is_read m) refl where
+  by : (asks : Bool) → is_read m ≡ asks → old k ⊎ (IsFalse (is_read m) × keeps k (book_after identity key G m))
+  by true is = inl (reads (read_call call m asked.message is) k more)
+  by false is = elim (left identity key G m k asked more) [ inl same ↦ inl same | inr made ↦ inr (is, made) ]

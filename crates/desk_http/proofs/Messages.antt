@@ -1,6 +1,6 @@
 -- The bytes of the answer to a message.
 use Rattle.std.proofs.Common.{◌≡◌, inl, inr, ℕ, List, ◌∷◌, refl, sym, ap, ◌∙◌, subst}
-use Rattle.std.specs.Prelude.{◌⊎◌, Option, Some, None, IfOk, Ok, Err, Result, Vec}
+use Rattle.std.specs.Prelude.{◌⊎◌, IsFalse, Option, Some, None, IfOk, Ok, Err, Result, Vec}
 use Rattle.std.specs.declared.alloc.Global.{Global}
 use Rattle.desk_history.specs.declared.call.Call.{Call}
 use Rattle.desk_history.specs.declared.identity.Identity.{Identity}
@@ -8,7 +8,7 @@ use Rattle.desk_history.specs.Message as core
 use Rattle.desk_history.specs.Message.{Message}
 use Rattle.desk_history.specs.Operator.{answer_to, next_pair}
 use Rattle.desk_book.specs.Book.{Book, book_of}
-use Rattle.desk_book.specs.Writes.{writes_on}
+use Rattle.desk_book.specs.Writes.{is_read, writes_on}
 use Rattle.desk_store.specs.Words.{LeavesRead}
 use Rattle.desk_core.specs.Answering.{IsLeft}
 use Rattle.desk_core.specs.Applying as calls
@@ -130,7 +130,7 @@ as_message : {Kept : Type 0} (keeps : Kept → Book → Type 0) (mid : Kept → 
 as_message keeps mid identity key H v m k (Ok bytes) on =
     subst (λ (K : List core.Pair). IsLeft (writes_on (book_behind identity key H) m) (keeps k (book_of identity key K)) (mid k)) (sym (right_pair identity key (from_message v) m H)) on
 as_message keeps mid identity key H v m k (Err fault) on =
-    subst (λ (K : List core.Pair). mid k ⊎ keeps k (book_of identity key K)) (sym (right_pair identity key (from_message v) m H)) on
+    subst (λ (K : List core.Pair). mid k ⊎ (IsFalse (is_read m) × keeps k (book_of identity key K))) (sym (right_pair identity key (from_message v) m H)) on
 
 made_left_as : CallsAreHistory → {Kept : Type 0} (keeps : Kept → Book → Type 0) (holds : Book → Type 0) (mid old new : Kept → Type 0) (call : Call) (identity : Identity) (key : List ℕ) (H : List Pair) (v : MessageValue) (means : Option Message) (k : Kept) (result : Result (Vec ℕ Global) Unavailable)
     → Means (Ok call) means → holds (book_behind identity key H) → LeavesRead old mid → LeavesCall keeps holds mid call result new → new k

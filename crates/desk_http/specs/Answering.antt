@@ -1,10 +1,10 @@
 -- The answer to a message in bytes: what it is, what the desk then stands for, what a crash leaves.
-use Rattle.std.specs.Prelude.{◌≡◌, ◌⊎◌, ⊤, ℕ, Bool, false, List, ◌∷◌, Option, Some, None, Result, Ok, Err, Vec}
+use Rattle.std.specs.Prelude.{◌≡◌, ◌⊎◌, ⊤, ℕ, Bool, true, false, IsFalse, List, ◌∷◌, Option, Some, None, Result, Ok, Err, Vec}
 use Rattle.std.specs.declared.alloc.Global.{Global}
 use Rattle.desk_history.specs.declared.identity.Identity.{Identity}
 use Rattle.desk_history.specs.Message.{Message}
 use Rattle.desk_book.specs.Book.{Book}
-use Rattle.desk_book.specs.Writes.{writes_on}
+use Rattle.desk_book.specs.Writes.{is_read, writes_on}
 use Rattle.desk_core.specs.Answering.{IsLeft}
 use Rattle.desk_message.specs.Message.{MessageValue}
 use Rattle.desk_session.specs.declared.answers.Unavailable.{Unavailable}
@@ -54,13 +54,20 @@ abbrev pub writes : Book → Option Message → Bool
 writes b None = false
 writes b (Some m) = writes_on b m
 
+-- nor does one that asks for what is known, and no more
+abbrev pub reads : Option Message → Bool
+reads None = true
+reads (Some m) = is_read m
+
 abbrev pub LeavesOn : {Kept : Type 0} → (keeps : Kept → Book → Type 0) → (old : Kept → Type 0) → Identity → (key : List ℕ) → List Pair → MessageValue → Option Message → Result (Vec ℕ Global) Unavailable → Kept → Type 0
 LeavesOn keeps old identity key H v means (Ok bytes) k =
     IsLeft (writes (book_behind identity key H) means) (keeps k (book_behind identity key (history_with identity key H v means))) (old k)
-LeavesOn keeps old identity key H v means (Err fault) k = old k ⊎ keeps k (book_behind identity key (history_with identity key H v means))
+LeavesOn keeps old identity key H v means (Err fault) k =
+    old k ⊎ (IsFalse (reads means) × keeps k (book_behind identity key (history_with identity key H v means)))
 
 -- A crash after the message leaves what keeps the book of the history with it, where it wrote, and what it
--- could leave before, where it wrote nothing; where the desk could not act, either.
+-- could leave before, where it wrote nothing; where the desk could not act, either, but a read changes nothing
+-- that a crash may leave.
 abbrev pub LeavesBytes : {Kept : Type 0} → (keeps : Kept → Book → Type 0) → (holds : Book → Type 0) → (old : Kept → Type 0) → MessageValue → Result (Vec ℕ Global) Unavailable → (new : Kept → Type 0) → Type 0
 LeavesBytes {Kept} keeps holds old v result new =
     (identity : Identity) (key : List ℕ) (H : List Pair) (means : Option Message) (k : Kept)

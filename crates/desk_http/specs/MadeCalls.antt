@@ -1,12 +1,12 @@
 -- The bytes that answer a call of the desk.
-use Rattle.std.specs.Prelude.{◌≡◌, ◌⊎◌, ℕ, Bool, List, Result, Ok, Err, Vec}
+use Rattle.std.specs.Prelude.{◌≡◌, ◌⊎◌, ℕ, Bool, IsFalse, List, Result, Ok, Err, Vec}
 use Rattle.std.specs.declared.alloc.Global.{Global}
 use Rattle.desk_history.specs.declared.call.Call.{Call}
 use Rattle.desk_history.specs.declared.identity.Identity.{Identity}
 use Rattle.desk_history.specs.Message.{Message, Pair}
 use Rattle.desk_history.specs.Operator.{answer_to}
 use Rattle.desk_book.specs.Book.{Book, book_of}
-use Rattle.desk_book.specs.Writes.{writes_on}
+use Rattle.desk_book.specs.Writes.{is_read, writes_on}
 use Rattle.desk_core.specs.Answering.{IsLeft}
 use Rattle.desk_core.specs.Applying.{IsAsked, book_after}
 use Rattle.desk_session.specs.declared.answers.Unavailable.{Unavailable}
@@ -25,7 +25,7 @@ GoesCall old call closes result new =
 -- what a crash leaves of it, as of a call of the desk
 abbrev pub LeavesCallOn : {Kept : Type 0} → (keeps : Kept → Book → Type 0) → (old : Kept → Type 0) → Identity → (key : List ℕ) → List Pair → Message → Result (Vec ℕ Global) Unavailable → Kept → Type 0
 LeavesCallOn keeps old identity key G m (Ok bytes) k = IsLeft (writes_on (book_of identity key G) m) (keeps k (book_after identity key G m)) (old k)
-LeavesCallOn keeps old identity key G m (Err fault) k = old k ⊎ keeps k (book_after identity key G m)
+LeavesCallOn keeps old identity key G m (Err fault) k = old k ⊎ (IsFalse (is_read m) × keeps k (book_after identity key G m))
 
 abbrev pub LeavesCall : {Kept : Type 0} → (keeps : Kept → Book → Type 0) → (holds : Book → Type 0) → (old : Kept → Type 0) → Call → Result (Vec ℕ Global) Unavailable → (new : Kept → Type 0) → Type 0
 LeavesCall {Kept} keeps holds old call result new =

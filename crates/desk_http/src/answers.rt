@@ -21,7 +21,7 @@ use std::alloc::Global;
 /// the store holds, and the store then holds the book of the history with this message. By `replies`
 /// what a company gets is made of its own part of the history and its message alone. By `left` a crash
 /// leaves what stood before the message or after it, and where it was answered and wrote, what stood
-/// after it.
+/// after it; a read, answered or not, changes nothing that a crash may leave.
 ///
 /// The routes are built for this message alone: who answers many keeps them, as `HttpDesk` does, or
 /// calls `answer_by`.
