@@ -4,7 +4,7 @@ pub mod Alike
 pub mod Asked
 pub mod Exposed
 pub mod FileReading
-pub mod OwnLines
+pub mod Statements
 pub mod Planned
 pub mod Running
 pub mod Sized

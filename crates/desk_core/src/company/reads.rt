@@ -70,7 +70,6 @@ pub(crate) fn look_up<S: Store>(
 }
 
 /// Answers with a company's statement on the desk day.
-#[tactic(auto, using(crate::proofs::OwnLines::own_balance))]
 pub(crate) fn statement_of<S: Store>(
     store: &mut S,
     alloc: Global,
@@ -80,6 +79,7 @@ pub(crate) fn statement_of<S: Store>(
     ensures answers { S.is_clean store.new → Answers (S.holds store.old) result (λ b. reply_on b company request.Statement) (λ b. b) (S.holds store.new) }
     ensures left { S.is_clean store.new → LeavesRead (S.may_leave store.old) (S.may_leave store.new) }
 {
+    desk_accounts::balances_by_day();
     if let Err(why) = company_limits(store, alloc, company)? {
         return Ok(refuse(why));
     }
@@ -87,8 +87,9 @@ pub(crate) fn statement_of<S: Store>(
         Ok(day) => day,
         Err(why) => return Ok(refuse(why)),
     };
+    let sums = store.balances_of(alloc, Account::Company(company))?;
     let postings = store.postings_of(alloc, Account::Company(company))?;
-    let statement = statement(alloc, company, day, &postings)?;
+    let statement = statement(alloc, day, &sums, &postings)?;
     Ok(Answer::Done(Outcome::Statement(statement)))
 }
 

@@ -1,12 +1,10 @@
 //! A company's statement lists the lines of its account.
 ghost use Rattle.std.specs.Prelude.{◌≡◌, map, IfOk, IfSome};
-ghost use Rattle.desk_accounts.specs.declared.account.Account.TheVariants as accounts;
-ghost use Rattle.desk_accounts.specs.Balance.{balance};
+ghost use Rattle.desk_accounts.specs.Balance.{days_balance};
 ghost use Rattle.desk_book.specs.OnBook.{line_of};
 
-use ach_fields::Id;
 use bank_days::Day;
-use desk_accounts::{Account, Posting, balance};
+use desk_accounts::{Posting, balance_of_days};
 use desk_history::{ListOf, Statement, StatementLine};
 use desk_store::StoreFault;
 use std::alloc::Global;
@@ -35,18 +33,22 @@ fn lines(alloc: Global, postings: &[Posting]) -> Result<Vec<StatementLine>, Stor
     Ok(lines)
 }
 
-/// Gives a company's statement on a day.
+/// Gives a company's statement on a day, from the sums of its lines by value day and the lines.
 pub(crate) fn statement(
     alloc: Global,
-    company: Id,
     day: Day,
+    sums: &[(Day, i128)],
     postings: &[Posting],
 ) -> Result<Statement, StoreFault>
-    ensures { IfOk result (λ s. s ≡ record { balance = balance (accounts.Company company) day postings.now; day = day; lines = map line_of postings.now }) }
+    ensures { IfOk result (λ s. s ≡ record { balance = days_balance day sums.now; day = day; lines = map line_of postings.now }) }
 {
+    let Some(balance) = balance_of_days(sums, day) else {
+        return Err(StoreFault::Unavailable);
+    };
+    let lines = ListOf::new(lines(alloc, postings)?);
     Ok(Statement {
-        balance: balance(postings, Account::Company(company), day),
+        balance,
         day,
-        lines: ListOf::new(lines(alloc, postings)?),
+        lines,
     })
 }
