@@ -6,6 +6,7 @@ pub mod Exposed
 pub mod FileReading
 pub mod Statements
 pub mod Planned
+pub mod ReadCalls
 pub mod Running
 pub mod Sized
 pub mod Traceless
