@@ -5,6 +5,7 @@ pub mod Asked
 pub mod FileReading
 pub mod Statements
 pub mod Planned
+pub mod ReadCalls
 pub mod Running
 pub mod Sized
 pub mod Traceless

@@ -1,15 +1,16 @@
 -- What a desk holds after calls, and what a crash may leave then.
-use Rattle.std.proofs.Common.{◌≡◌, ◌∙◌, refl, sym, ap, subst, ℕ, suc, List, [], ◌∷◌, Bool, false, inl, inr, arith}
-use Rattle.std.specs.Prelude.{Any, Result, Ok, Err}
+use Rattle.std.proofs.Common.{◌≡◌, ◌∙◌, refl, sym, ap, subst, ℕ, suc, List, [], ◌∷◌, Bool, true, false, inl, inr, arith}
+use Rattle.std.specs.Prelude.{◌⊎◌, if◌then◌else◌, Any, Result, Ok, Err}
 use Rattle.desk_history.specs.declared.answer.Answer.{Answer}
 use Rattle.desk_history.specs.declared.identity.Identity.{Identity}
 use Rattle.desk_history.specs.Message.{Message, Pair}
 use Rattle.desk_history.specs.Operator.{next_pair, IsHistory}
 use Rattle.desk_book.specs.Book.{Book, book_of}
 use Rattle.desk_book.specs.OnMessages.{after_on, BookTells}
-use Rattle.desk_book.specs.Writes.{writes_on, ReadsLeave}
+use Rattle.desk_book.specs.Writes.{is_read, writes_on, ReadsLeave}
 use Rattle.desk_store.specs.declared.store.StoreFault.{StoreFault}
 use Rattle.desk_core.specs.Applying.{IsAsked, book_after, GoesOn, LeavesOn}
+use Rattle.desk_core.proofs.ReadCalls.{read_call}
 use Rattle.desk_core.specs.Running.{with_result, history_with, pending_with, pending, KeepsOneMore, CrashesLeave}
 
 any_weaker : {X : Type 0} (P Q : X → Type 0) (xs : List X) → ((x : X) → P x → Q x) → Any P xs → Any Q xs
@@ -38,21 +39,29 @@ module _ (tells : BookTells) (leave : ReadsLeave) {S Kept : Type 0} (holds : S �
     | inr more ↦ inr (any_weaker _ _ messages (λ other. subst (keeps k) (same_after identity key H m other is none)) more)
   ]
 
-  -- one call more
-  next : (identity : Identity) (key : List ℕ) (H : List Pair) (messages : List Message) (m : Message) (result : Result Answer StoreFault) (before end : S) (k : Kept)
-      → IsHistory identity H → ((k : Kept) → may_leave before k → KeepsOneMore keeps identity key H messages k) → LeavesOn keeps (may_leave before) identity key H m result k
-      → KeepsOneMore keeps identity key (with_result identity H m result) (pending_with m result (writes_on (book_of identity key H) m) messages) k
-  next identity key H messages m (Ok a) before end k is left leaves = elim leaves [
-    | inl wrote ↦ inl wrote.1
-    | inr none ↦ subst (λ (wrote : Bool). KeepsOneMore keeps identity key (next_pair identity H m ∷ H) (pending_with m (Ok a) wrote messages) k) (sym none.0) (one_more identity key H messages m k is none.0 (left k none.1))
-  ]
-  next identity key H messages m (Err fault) before end k is left leaves = elim leaves [
-    | inl old ↦ elim (left k old) [
+  -- a call that was not answered
+  unanswered : (identity : Identity) (key : List ℕ) (H : List Pair) (messages : List Message) (m : Message) (asks : Bool) (k : Kept)
+      → (asks ≡ true → KeepsOneMore keeps identity key H messages k) → KeepsOneMore keeps identity key H messages k ⊎ keeps k (book_after identity key H m)
+      → KeepsOneMore keeps identity key H (if asks then messages else m ∷ messages) k
+  unanswered identity key H messages m true k same left = same refl
+  unanswered identity key H messages m false k same left = elim left [
+    | inl old ↦ elim old [
       | inl now ↦ inl now
       | inr more ↦ inr (any_later _ m messages more)
     ]
     | inr made ↦ inr (0, m, omega arith, refl, made)
   ]
+
+  -- one call more
+  next : (identity : Identity) (key : List ℕ) (H : List Pair) (messages : List Message) (m : Message) (result : Result Answer StoreFault) (before end : S) (k : Kept)
+      → (is_read m ≡ true → may_leave before k) → IsHistory identity H → ((k : Kept) → may_leave before k → KeepsOneMore keeps identity key H messages k) → LeavesOn keeps (may_leave before) identity key H m result k
+      → KeepsOneMore keeps identity key (with_result identity H m result) (pending_with m result (writes_on (book_of identity key H) m) messages) k
+  next identity key H messages m (Ok a) before end k read is left leaves = elim leaves [
+    | inl wrote ↦ inl wrote.1
+    | inr none ↦ subst (λ (wrote : Bool). KeepsOneMore keeps identity key (next_pair identity H m ∷ H) (pending_with m (Ok a) wrote messages) k) (sym none.0) (one_more identity key H messages m k is none.0 (left k none.1))
+  ]
+  next identity key H messages m (Err fault) before end k read is left leaves =
+      unanswered identity key H messages m (is_read m) k (λ reads. left k (read reads)) (elim leaves [ inl old ↦ inl (left k old) | inr made ↦ inr made ])
 
   history_more : (identity : Identity) (H : List Pair) (m : Message) (result : Result Answer StoreFault) → IsHistory identity H → IsHistory identity (with_result identity H m result)
   history_more identity H m (Ok a) is = ((λ _. refl), is)
@@ -75,5 +84,5 @@ module _ (tells : BookTells) (leave : ReadsLeave) {S Kept : Type 0} (holds : S �
       record {
         history = history_more identity G x.message x.result run.history;
         book = book_more identity key G x.message x.result (holds end) (takes.2.goes identity key G x.message asked);
-        left = λ k left. next identity key G (pending identity key H xs) x.message x.result takes.0 end k run.history run.left (takes.2.left identity key G x.message k asked left);
+        left = λ k left. next identity key G (pending identity key H xs) x.message x.result takes.0 end k (λ reads. takes.2.read (read_call x.call x.message takes.2.message reads) k left) run.history run.left (takes.2.left identity key G x.message k asked left);
       }

@@ -1,5 +1,5 @@
 -- Calls that are made of a desk one after another: what it holds then, and what a crash may leave.
-use Rattle.std.specs.Prelude.{◌≡◌, ◌⊎◌, ℕ, Bool, true, false, List, [], ◌∷◌, Any, Result, Ok, Err}
+use Rattle.std.specs.Prelude.{◌≡◌, ◌⊎◌, ℕ, Bool, true, false, if◌then◌else◌, List, [], ◌∷◌, Any, Result, Ok, Err}
 use Rattle.desk_history.specs.declared.answer.Answer.{Answer}
 use Rattle.desk_history.specs.declared.call.Call.{Call}
 use Rattle.desk_history.specs.declared.identity.Identity.{Identity}
@@ -7,9 +7,10 @@ use Rattle.desk_history.specs.Calls.{IsMessageOf}
 use Rattle.desk_history.specs.Message.{Message, Pair}
 use Rattle.desk_history.specs.Operator.{next_pair, IsHistory}
 use Rattle.desk_book.specs.Book.{Book, book_of}
-use Rattle.desk_book.specs.Writes.{writes_on}
+use Rattle.desk_book.specs.Writes.{is_read, writes_on}
 use Rattle.desk_store.specs.declared.store.StoreFault.{StoreFault}
-use Rattle.desk_core.specs.Applying.{Goes, LeavesBook, book_after}
+use Rattle.desk_store.specs.Words.{LeavesRead}
+use Rattle.desk_core.specs.Applying.{Goes, IsReadCall, LeavesBook, book_after}
 
 -- a call with its message, and what it came to
 pub record MadeCall : Type 0 where
@@ -22,6 +23,7 @@ pub record Takes {S Kept : Type 0} (holds : S → Book → Type 0) (keeps : Kept
   pub message : IsMessageOf x.call x.message
   pub goes : Goes (holds before) x.call x.result (holds after)
   pub left : LeavesBook keeps (holds before) (may_leave before) x.call x.result (may_leave after)
+  pub read : IsReadCall x.call → LeavesRead (may_leave before) (may_leave after)
 
 -- and calls do so one after another, of which the newest stands first
 abbrev pub TakeOn : {S Kept : Type 0} → (holds : S → Book → Type 0) → (keeps : Kept → Book → Type 0) → (may_leave : S → Kept → Type 0) → (start : S) → List MadeCall → (end : S) → Type 0
@@ -42,9 +44,9 @@ history_with identity H (x ∷ xs) = with_result identity (history_with identity
 abbrev pub pending_with : Message → Result Answer StoreFault → (wrote : Bool) → List Message → List Message
 pending_with m (Ok a) true before = []
 pending_with m (Ok a) false before = before
-pending_with m (Err fault) wrote before = m ∷ before
+pending_with m (Err fault) wrote before = if is_read m then before else m ∷ before
 
--- the messages of the calls that were not answered since the last answer to one that wrote
+-- the messages of the calls, reads apart, that were not answered since the last answer to one that wrote
 abbrev pub pending : Identity → (key : List ℕ) → List Pair → List MadeCall → List Message
 pending identity key H [] = []
 pending identity key H (x ∷ xs) =

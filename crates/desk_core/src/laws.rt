@@ -24,7 +24,7 @@ pub fn desk_alone<S: Store, T: Store>()
 
 /// After calls that were made one after another, some of them answered and some not, the store holds
 /// the book of the history with those that were answered. A crash then leaves that book, or the book
-/// with one call more: one that was not answered, and after which no call that wrote was.
+/// with one call more: one that is no read and was not answered, and after which no call that wrote was.
 pub fn crashes_leave<S: Store>()
     ensures { CrashesLeave S.holds S.keeps S.may_leave }
 {

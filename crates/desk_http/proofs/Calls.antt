@@ -6,9 +6,7 @@ use Rattle.desk_history.specs.declared.answer.Answer.{Answer}
 use Rattle.desk_history.specs.declared.answer.Answer.TheVariants as answers
 use Rattle.desk_history.specs.declared.answer.Outcome.TheVariants as outcomes
 use Rattle.desk_history.specs.declared.call.Call.{Call}
-use Rattle.desk_history.specs.declared.call.Call.TheVariants as calls
-use Rattle.desk_history.specs.Calls.{IsMessageOf}
-use Rattle.desk_history.specs.Message.{Message, TakeFile}
+use Rattle.desk_history.specs.Message.{Message}
 use Rattle.desk_history.specs.Operator.{answer_to}
 use Rattle.desk_book.specs.Book.{Book, book_of}
 use Rattle.desk_book.specs.OnMessages.{answer_on, BookTells}
@@ -24,6 +22,7 @@ use Rattle.desk_core.specs.Applying.{Goes, IsReadCall, LeavesBook, book_after}
 use Rattle.desk_session.specs.declared.answers.Unavailable.{Unavailable}
 use Rattle.desk_bytes.specs.Texts.{call_text}
 use Rattle.desk_http.specs.MadeCalls.{GoesCall, LeavesCall}
+use Rattle.desk_core.proofs.ReadCalls.{read_call}
 use Rattle.desk_http.proofs.Short.{short_on}
 
 -- the bytes of an answer to a call of this kind
@@ -89,26 +88,6 @@ unprinted_left leave keeps holds old new call a fault left identity key G m k as
     either (writes_on (book_of identity key G) m) (is_read m) (keeps k (book_after identity key G m)) (old k) (leave.reads (book_of identity key G) m) (left identity key G m k asked more)
 
 -- ---- a call that could not be made
-
-read_call : (call : Call) (m : Message) → IsMessageOf call m → is_read m ≡ true → IsReadCall call
-read_call (calls.PutCompany d) m is reads = let no : false ≡ true = sym (ap is_read is) ∙ reads in cc
-read_call (calls.PutLimits d) m is reads = let no : false ≡ true = sym (ap is_read is) ∙ reads in cc
-read_call (calls.SetDay text) m is reads = let no : false ≡ true = sym (ap is_read is) ∙ reads in cc
-read_call (calls.SetHolidays bytes) m is reads = let no : false ≡ true = sym (ap is_read is) ∙ reads in cc
-read_call calls.Cut m is reads = let no : false ≡ true = sym (ap is_read is) ∙ reads in cc
-read_call (calls.TakeFile bytes) (TakeFile file) is reads = cc
-read_call (calls.TakeFile bytes) m is reads = is
-read_call (calls.Submit c d) m is reads = let no : false ≡ true = sym (ap is_read is) ∙ reads in cc
-read_call (calls.Retry c d) m is reads = let no : false ≡ true = sym (ap is_read is) ∙ reads in cc
-read_call (calls.FileText day modifier) m is reads = tt
-read_call calls.Settlement m is reads = tt
-read_call calls.SuspenseItems m is reads = tt
-read_call (calls.LookUp c reference) m is reads = tt
-read_call (calls.ReturnsOf c) m is reads = tt
-read_call (calls.ChangesOf c) m is reads = tt
-read_call (calls.StatementOf c) m is reads = tt
-read_call (calls.RatesOf c) m is reads = tt
-read_call (calls.ExposureOf c) m is reads = tt
 
 pub unmade_left : {Kept : Type 0} (keeps : Kept → Book → Type 0) (holds : Book → Type 0) (old new : Kept → Type 0) (call : Call) (why : StoreFault) (fault : Unavailable)
     → LeavesBook keeps holds old call (Err why) new → (IsReadCall call → LeavesRead old new) → LeavesCall keeps holds old call (Err fault) new
