@@ -204,12 +204,12 @@ impl<S: Store> Store for Remembering<S> {
     }
 
     fn set_day(&mut self, alloc: Global, day: RuleDay) -> Result<(), StoreFault> {
-        self.known.forget();
+        self.known.forget(); // what is known is of a day that is over
         self.store.set_day(alloc, day)
     }
 
     fn set_holidays(&mut self, alloc: Global, holidays: Calendar) -> Result<(), StoreFault> {
-        self.known.forget();
+        self.known.forget(); // banking days are others
         self.store.set_holidays(alloc, holidays)
     }
 
@@ -240,12 +240,12 @@ impl<S: Store> Store for Remembering<S> {
     }
 
     fn commit_cut(&mut self, alloc: Global, cut: &CutRows<'_>) -> Result<(), StoreFault> {
-        self.known.forget();
+        self.known.forget(); // what was held settles or lapses
         self.store.commit_cut(alloc, cut)
     }
 
     fn commit_intake(&mut self, alloc: Global, intake: &IntakeRows<'_>) -> Result<(), StoreFault> {
-        self.known.forget();
+        self.known.forget(); // what was sent comes back
         self.store.commit_intake(alloc, intake)
     }
 }
