@@ -10,7 +10,7 @@ ghost use Rattle.desk_commands.specs.StoreRuns.{BreaksOffFrom, HasAnsweredFrom};
 ghost use Rattle.desk_cli.specs.KeptRuns.{IsKeptIn, BreaksOffUnopened, SaysUnopened};
 
 use crate::open_fault::print_open_fault;
-use desk_commands::{Status, answer_by_store};
+use desk_commands::{Status, answer_remembering};
 use desk_files::{FileFrom, FileStore, Start};
 use desk_tables::SqlStore;
 use sqlite::{Alter, Connection};
@@ -62,6 +62,6 @@ fn answer_by_tables<P: Alter + Drop, R: Read + Drop, W: Write>(
     ensures failed { result.0 ≡ Status.Failed →
         BreaksOffFrom (HasCleanDisk (state P.Store result.1)) (StandsBehind (Sees (state P.Store conn))) (R.remaining reader) (W.contents writer.old) (W.contents writer.new) }
 {
-    let (status, store) = answer_by_store(alloc, SqlStore::new(conn), reader, writer);
+    let (status, store) = answer_remembering(alloc, SqlStore::new(conn), reader, writer);
     (status, store.into_connection())
 }

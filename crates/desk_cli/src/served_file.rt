@@ -12,7 +12,7 @@ ghost use Rattle.desk_cli.specs.KeptRuns.{BreaksOffUnopened, IsKeptIn, SaysUnope
 
 use crate::open_fault::print_open_fault;
 use desk_command_line::ServeOptions;
-use desk_commands::{Status, serve_by_store};
+use desk_commands::{Status, serve_remembering};
 use desk_files::{FileFrom, FileStore, Start};
 use desk_tables::SqlStore;
 use sqlite::{Alter, Connection};
@@ -66,6 +66,6 @@ fn serve_by_tables<P: Alter + Drop, W: Write>(
     ensures failed { result.0 ≡ Status.Failed →
         FailsToServe options.port (W.contents writer.old) (W.contents writer.new) }
 {
-    let (status, store) = serve_by_store(rt, SqlStore::new(conn), options, writer);
+    let (status, store) = serve_remembering(rt, SqlStore::new(conn), options, writer);
     (status, store.into_connection())
 }

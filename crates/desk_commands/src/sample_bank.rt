@@ -1,11 +1,11 @@
 //! The sample bank, whose new desk answers the messages of a session.
 ghost use Rattle.std.specs.Prelude.{◌≡◌};
-ghost use Rattle.desk_lists.specs.Kept.{IsHeld};
 ghost use Rattle.desk_commands.specs.MessageRuns.{new_book, sample_identity};
 
 use ach_fields::{Routing, ShortText};
-use desk_core::{Desk, Identity};
+use desk_core::{Desk, Identity, Store};
 use desk_lists::ListStore;
+use desk_remembering_store::Remembering;
 use sha2::{Digest, Sha256};
 use std::alloc::Global;
 
@@ -13,11 +13,12 @@ use std::alloc::Global;
 const OPERATOR_KEY: &[u8; 12] = b"operator-key";
 
 /// Makes a new desk of the sample bank, which keeps its books in memory.
-pub fn sample_desk(alloc: Global) -> Desk<ListStore>
-    ensures { IsHeld result new_book }
+pub fn sample_desk(alloc: Global) -> Desk<Remembering<ListStore>>
+    ensures { ⟦<Remembering<ListStore> as Store>⟧.holds result new_book }
 {
     let key = Sha256::digest(OPERATOR_KEY);
-    Desk::new(ListStore::new(alloc, sample_identity(), key))
+    let store = ListStore::new(alloc, sample_identity(), key);
+    Desk::new(Remembering::new(alloc, store))
 }
 
 // The bank and the operator to which its files go.

@@ -14,6 +14,8 @@ use Rattle.desk_records.specs.Layout.{Keeps, Sees}
 use Rattle.desk_setup.specs.Checked.{IsDesk}
 use Rattle.desk_setup.specs.Setup.{HasNewDesk}
 use Rattle.desk_tables.specs.declared.store.SqlStore.{SqlStore}
+use Rattle.desk_remembering_store.specs.Remembered.{HoldsKnown, KnowsNothing}
+use Rattle.desk_remembering_store.specs.declared.remembering.Remembering.{Remembering}
 use Rattle.desk_session.specs.Exchanges.{Exchange}
 use Rattle.desk_http.specs.Answering.{DeskHistory}
 use Rattle.desk_files.specs.Opened.{IsFoundIn, IsMadeIn}
@@ -24,18 +26,24 @@ use Rattle.desk_crash_law.specs.Runs.{MayBeFound}
 abbrev pub new_history : Identity → (key : List ℕ) → DeskHistory
 new_history identity key = record { identity = identity; key = key; pairs = [] }
 
+-- a store over tables that remembers, as the program's desks have it
+abbrev pub DeskStore : Type 0 → Type 0
+DeskStore T = Remembering (SqlStore T)
+
 module _ {T : Type 0} (g : Ghosts T) where
-  abbrev pub holds : SqlStore T → Book → Type 0
-  holds s b = Sees (state g s.conn) b
+  abbrev pub holds : DeskStore T → Book → Type 0
+  holds s b = HoldsKnown (Sees (state g s.store.conn)) s.known b
 
-  abbrev pub may_leave : SqlStore T → Trees → Type 0
-  may_leave s k = (state g s.conn).may_leave k
+  abbrev pub may_leave : DeskStore T → Trees → Type 0
+  may_leave s k = (state g s.store.conn).may_leave k
 
-  -- a new desk stands for the empty history, and a desk that was adopted holds what its tables keep
+  -- Where nothing is remembered yet, a new desk stands for the empty history, and a desk that was adopted holds what its
+  -- tables keep.
   pub record Tables : Type 0 where
-    pub made : (identity : Identity) (key : List ℕ) (was : Held T) (s : SqlStore T) → HasNewDesk identity key (state g was) (state g s.conn)
+    pub made : (identity : Identity) (key : List ℕ) (was : Held T) (s : DeskStore T) → HasNewDesk identity key (state g was) (state g s.store.conn) → KnowsNothing s.known
         → IsSettled holds Keeps may_leave (new_history identity key) s
-    pub adopted : (was : Held T) (s : SqlStore T) → IsDesk (state g was) (state g s.conn) → IsReopened holds Keeps may_leave (state g was).committed.trees s
+    pub adopted : (was : Held T) (s : DeskStore T) → IsDesk (state g was) (state g s.store.conn) → KnowsNothing s.known
+        → IsReopened holds Keeps may_leave (state g was).committed.trees s
 
 -- ---- files
 
@@ -45,22 +53,22 @@ pub record IsKeptSound {D : Type 0} {g : disk.Ghosts D} (c : Held (FileStore D g
   pub databases : AreDatabases (files.recovers c.store)
 
 -- what a crash may leave in the two files
-abbrev pub may_hold : {D : Type 0} {g : disk.Ghosts D} → SqlStore (FileStore D g) → Image → Type 0
-may_hold s held = (files.state s.conn.store).may_leave held
+abbrev pub may_hold : {D : Type 0} {g : disk.Ghosts D} → DeskStore (FileStore D g) → Image → Type 0
+may_hold s held = (files.state s.store.conn.store).may_leave held
 
 module _ {D : Type 0} (g : disk.Ghosts D) where
   -- a desk in new files stands for the empty history, and one in files that hold a database holds what that keeps
   pub record InFiles : Type 0 where
-    pub made : (held : Image) (identity : Identity) (key : List ℕ) (s : SqlStore (FileStore D g)) → IsMadeIn held identity key s.conn
+    pub made : (held : Image) (identity : Identity) (key : List ℕ) (s : DeskStore (FileStore D g)) → IsMadeIn held identity key s.store.conn → KnowsNothing s.known
         → IsSettled (holds over_files) Keeps (may_leave over_files) (new_history identity key) s
-    pub found : (held : Image) (k : Trees) (s : SqlStore (FileStore D g)) → IsFoundIn held s.conn → HoldsDatabase held k
+    pub found : (held : Image) (k : Trees) (s : DeskStore (FileStore D g)) → IsFoundIn held s.store.conn → KnowsNothing s.known → HoldsDatabase held k
         → IsReopened (holds over_files) Keeps (may_leave over_files) k s
 
-  -- Whatever a crash leaves in the two files, the desk that is opened on them stands for the history of what was answered, or
-  -- for that with one pending message more.
+  -- Whatever a crash leaves in the two files, the desk that is opened on them, which remembers nothing yet, stands for the
+  -- history of what was answered, or for that with one pending message more.
   abbrev pub FilesSurvive : Type 0
   FilesSurvive =
-      (h : DeskHistory) (start end now : SqlStore (FileStore D g)) (xs : List Exchange) (held : Image)
+      (h : DeskHistory) (start end now : DeskStore (FileStore D g)) (xs : List Exchange) (held : Image)
       → IsSettled (holds over_files) Keeps (may_leave over_files) h start → TakesAll (holds over_files) Keeps (may_leave over_files) start xs end
-      → IsKeptSound end.conn → may_hold end held → IsFoundIn held now.conn
+      → IsKeptSound end.store.conn → may_hold end held → IsFoundIn held now.store.conn → KnowsNothing now.known
       → ∥ ((found : DeskHistory) × MayBeFound h xs found × IsSettled (holds over_files) Keeps (may_leave over_files) found now) ∥₁

@@ -2,12 +2,13 @@
 ghost use Rattle.desk_crash_law.specs.Openings.{Tables, InFiles, FilesSurvive};
 
 use crate::laws::stands_after_crash;
+use desk_remembering_store::Remembering;
 use desk_tables::SqlStore;
 use sqlite::{Alter, FileStore};
 use sqlite_disk::Disk;
 
 /// A store over tables that was made stands for the empty history, and one that was adopted holds each
-/// book that its tables keep, as the laws of crashes presume.
+/// book that its tables keep, as the laws of crashes presume, where it remembers nothing yet.
 pub fn desks_in_tables<S: Alter>()
     ensures { Tables S.Store }
 {}
@@ -25,5 +26,5 @@ pub fn files_survive<D: Disk + Drop>()
     ensures { FilesSurvive D.Disk }
 {
     desks_in_tables::<FileStore<D>>();
-    stands_after_crash::<SqlStore<FileStore<D>>>();
+    stands_after_crash::<Remembering<SqlStore<FileStore<D>>>>();
 }

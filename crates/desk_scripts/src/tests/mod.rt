@@ -1,5 +1,5 @@
 //! Worked scripts are calls with their answers, over tables and over lists in memory, and with each
-//! call of the store refused in turn.
+//! call of the store refused in turn; and over the same where they remember.
 mod answers;
 mod calls;
 mod companies;
@@ -12,3 +12,4 @@ mod old_cut;
 mod rates;
 mod script;
 mod sequences;
+mod sums;

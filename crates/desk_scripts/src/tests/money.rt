@@ -141,7 +141,7 @@ fn a_retry(rt: HostRuntime) {
     );
 }
 
-// A retry that would settle more than 180 days after its original lapses.
+// A retry that would settle more than 180 days after its original lapses, and exposes nothing any more.
 #[test]
 fn a_retry_lapses(rt: HostRuntime) {
     holds(
@@ -162,7 +162,15 @@ fn a_retry_lapses(rt: HostRuntime) {
                 "RT order 2 entries 1 cents 2500",
             ),
             ("desk day 2025-07-09", "2025-07-09"),
+            (
+                "MILL01 exposure",
+                "credit 0 of 999999999999999, debit 2500 of 999999999999999",
+            ),
             ("desk cut", "2025-07-09 sent 0 in [], lapsed 1"),
+            (
+                "MILL01 exposure",
+                "credit 0 of 999999999999999, debit 0 of 999999999999999",
+            ),
             ("MILL01 look RT", "RT order 2 2025-07-09; 1 2500 lapsed"),
         ],
     );

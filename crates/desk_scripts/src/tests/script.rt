@@ -6,6 +6,7 @@ use ach_fields::{Routing, ShortText};
 use desk_core::{Desk, Identity, Store};
 use desk_faulty_store::FaultyStore;
 use desk_lists::ListStore;
+use desk_remembering_store::Remembering;
 use desk_tables::SqlStore;
 use sqlite::MemStore;
 use std::alloc::Global;
@@ -110,8 +111,13 @@ fn follow_once<S: Store + Drop>(
     assert!(rt; !follow(rt, &mut Desk::new(store), script));
 }
 
-/// Runs a script over tables and over lists, and with each call of the store refused in turn, until
-/// none is; the store has sent entries with these sequences before.
+// A store that remembers.
+fn remembering<S: Store>(rt: &(impl Abort + Alloc<A = Global>), store: S) -> Remembering<S> {
+    Remembering::new(rt.alloc(), store)
+}
+
+/// Runs a script over tables and over lists, over the same where they remember, and with each call of
+/// the store refused in turn, until none is; the store has sent entries with these sequences before.
 pub(super) fn holds_after(
     rt: &(impl Abort + Alloc<A = Global>),
     sequences: &[u32],
@@ -119,8 +125,30 @@ pub(super) fn holds_after(
 ) {
     follow_once(rt, after(rt, new_tables(rt), sequences), script);
     follow_once(rt, after(rt, new_lists(rt), sequences), script);
+    follow_once(
+        rt,
+        remembering(rt, after(rt, new_tables(rt), sequences)),
+        script,
+    );
+    follow_once(
+        rt,
+        remembering(rt, after(rt, new_lists(rt), sequences)),
+        script,
+    );
     for call in 1..MOST_CALLS {
         let store = FaultyStore::new(after(rt, new_lists(rt), sequences), call);
+        if !follow(rt, &mut Desk::new(store), script) {
+            return;
+        }
+    }
+    assert!(rt; false, "the script makes more calls of the store");
+}
+
+/// Runs a script over a store that remembers, with each call of the one that it stands around refused
+/// in turn, until none is.
+pub(super) fn holds_remembering(rt: &(impl Abort + Alloc<A = Global>), script: &[(&str, &str)]) {
+    for call in 1..MOST_CALLS {
+        let store = remembering(rt, FaultyStore::new(new_lists(rt), call));
         if !follow(rt, &mut Desk::new(store), script) {
             return;
         }

@@ -1,0 +1,2 @@
+pub mod CompanyKeys
+pub mod Remembered
