@@ -19,4 +19,5 @@ pub mod QueriesInside
 pub mod SelectTexts
 pub mod Selects
 pub mod StoredRows
+pub mod Sums
 pub mod Upserts

@@ -50,6 +50,20 @@ limited_map (Some n) f xs = taken n xs
     taken (suc n) [] = refl
     taken (suc n) (x ∷ xs) = ap (λ l. f x ∷ l) (taken n xs)
 
+-- the rows that a text shows are an answer of its query
+pub shown_answer : (schema : Schema) (sql : List ℕ) (q : Query) (params : Row) → IsSelect schema sql q → (old new : State) → old.now.schema ≡ schema → (rows : List Row) → Shown sql params old new rows → IsAnswer q (overlay old.now.trees []) params rows
+shown_answer schema sql q params is old new has rows seen =
+    let reads = reads_as sql params old new schema has (command_of (understood schema sql)) refl is.plain is.unlisted rows seen in
+    answer (command_of (understood schema sql)) is.selects is.body is.alone reads
+  where
+    some_is : {A : Type 0} (a b : A) → Some a ≡ Some b → a ≡ b
+    some_is a b e = cc
+
+    answer : (c : Command) → is_select c ≡ true → plain_query c ≡ Some q → HasNoLets c → Reads c old.now params rows → IsAnswer q (overlay old.now.trees []) params rows
+    answer (Select s names) picks body none got =
+        subst (λ b. IsAnswer b (overlay old.now.trees []) params rows) (some_is _ _ body) ((subst (λ l. Rattle.sqlite_sql.specs.Program.IsProgramAnswer l s.body old.now.trees params rows) none got.answer) Null)
+    answer _ picks body none got = absurd (true≢false (sym picks))
+
 module _ {X : Type 0} (many : ℤ) (encode : X → Row) (tree : ℕ) (tests shown : List Term) (order : List (Term × Key)) (params : Row) (p : X → Bool) (show : X → Row) (sort : X → Row)
     (tested : (i : ℤ) (x : X) → list_all (holds (params ∷ row_of encode (i, x) ∷ [])) tests ≡ p x)
     (shows : (i : ℤ) (x : X) → eval_all shown (params ∷ row_of encode (i, x) ∷ []) ≡ show x)
@@ -83,20 +97,7 @@ module _ {X : Type 0} (many : ℤ) (encode : X → Row) (tree : ℕ) (tests show
   pub selected_within : (schema : Schema) (sql : List ℕ) → IsSelect schema sql q → (old new : State) → old.now.schema ≡ schema → (xs : List X) → Stores encode (old.now.trees tree) xs
       → IsAscending (λ a b. key_cmp 0 (map (λ k. k.1) order) (sort a) (sort b) ≡ Less) xs → (rows : List Row) → Shown sql params old new rows → rows ≡ map show (limited (as_count (Int many)) (filter p xs))
   selected_within schema sql is old new has xs h up rows seen =
-      let reads = reads_as sql params old new schema has (command_of (understood schema sql)) refl is.plain is.unlisted rows seen in
-      answer (command_of (understood schema sql)) is.selects is.body is.alone reads
-    where
-      whole : (body : Query) → body ≡ q → IsAnswer body (overlay old.now.trees []) params rows → rows ≡ map show (limited (as_count (Int many)) (filter p xs))
-      whole body same a =
-          answered (overlay old.now.trees []) xs rows (subst (λ l. Stores encode l xs) (sym (overlay_none old.now.trees tree)) h) up (subst (λ b. IsAnswer b (overlay old.now.trees []) params rows) same a)
-
-      some_is : {A : Type 0} (a b : A) → Some a ≡ Some b → a ≡ b
-      some_is a b e = cc
-
-      answer : (c : Command) → is_select c ≡ true → plain_query c ≡ Some q → HasNoLets c → Reads c old.now params rows → rows ≡ map show (limited (as_count (Int many)) (filter p xs))
-      answer (Select s names) picks body none got =
-          whole s.body (some_is _ _ body) ((subst (λ l. Rattle.sqlite_sql.specs.Program.IsProgramAnswer l s.body old.now.trees params rows) none got.answer) Null)
-      answer _ picks body none got = absurd (true≢false (sym picks))
+      answered (overlay old.now.trees []) xs rows (subst (λ l. Stores encode l xs) (sym (overlay_none old.now.trees tree)) h) up (shown_answer schema sql q params is old new has rows seen)
 
 module _ {X : Type 0} (encode : X → Row) (tree : ℕ) (tests shown : List Term) (order : List (Term × Key)) (params : Row) (p : X → Bool) (show : X → Row) (sort : X → Row)
     (tested : (i : ℤ) (x : X) → list_all (holds (params ∷ row_of encode (i, x) ∷ [])) tests ≡ p x)
