@@ -37,6 +37,7 @@ INDEXES = {
     "entries_seq": ("entries", "seq"),
     "submissions_open": ("submissions", "company settled lapsed ord"),
     "submissions_retries": ("submissions", "company of_ref"),
+    "returns_company": ("returns", "company day"),
     "changes_company": ("changes", "company no"),
     "postings_account": ("postings", "account no"),
 }

@@ -34,7 +34,7 @@ use Rattle.desk_edits.proofs.OtherTables.{numbers_changed}
 use Rattle.desk_edits.specs.CutTexts.{upsert_number}
 use Rattle.desk_edits.proofs.KeyTests.{not_before}
 
-upsert_number_is : IsUpsert desk_schema upsert_number 12 31 numbers_table (1 ∷ []) (col 1 1 ∷ col 0 1 ∷ [])
+upsert_number_is : IsUpsert desk_schema upsert_number 12 32 numbers_table (1 ∷ []) (col 1 1 ∷ col 0 1 ∷ [])
 unfolding understood everything
 upsert_number_is = record { update = _; is = refl; body = refl; alone = refl; plain = (refl, refl) }
 
@@ -65,11 +65,11 @@ module _ (n : NumberRecord) where
       → Holds desk_layout new.now (record t { numbers = with_number n.sequence n.place t.numbers })
   number_put old new count ran t h =
       let s = numbers_table in
-      let done = upserted number_row desk_schema 12 31 s.name s.columns s.primary s.uniques s.orders upsert_number (1 ∷ []) (col 1 1 ∷ col 0 1 ∷ []) upsert_number_is refl (λ olds news. refl)
+      let done = upserted number_row desk_schema 12 32 s.name s.columns s.primary s.uniques s.orders upsert_number (1 ∷ []) (col 1 1 ∷ col 0 1 ∷ []) upsert_number_is refl (λ olds news. refl)
       n refl (row_kept s Null (number_row n) refl refl) (λ i y. row_kept s (Int i) (number_row y) refl refl) is_it set meets (λ i j k y. and_true _ ∙ int_is i j) (λ i j k y. refl)
       old new count h.0 t.numbers h.1.numbers.stored (one_of _ is_it one_number t.numbers h.1.numbers.rise) ran in
       (done.0.schema_is, numbers_changed old.now.trees new.now.trees t h.1 done.0.others _ (sorted (list_any is_it t.numbers) refl done.1))
     where
-      sorted : (b : Bool) → list_any is_it t.numbers ≡ b → Stores number_row (new.now.trees 31) (put_or_update is_it set n t.numbers) → IsTableOf new.now.trees numbers_table number_row number_cmp (with_number n.sequence n.place t.numbers)
+      sorted : (b : Bool) → list_any is_it t.numbers ≡ b → Stores number_row (new.now.trees 32) (put_or_update is_it set n t.numbers) → IsTableOf new.now.trees numbers_table number_row number_cmp (with_number n.sequence n.place t.numbers)
       sorted true e stores = rw e (record { stored = rw e at stores; rise = rises_updated number_cmp is_it set keeps_order t.numbers h.1.numbers.rise })
       sorted false e stores = rw e (put_in_order number_row number_cmp number_total is_it new.now.trees numbers_table n t.numbers (λ y. conditions.equal_numbers y.sequence n.sequence) e h.1.numbers.rise (rw e at stores))

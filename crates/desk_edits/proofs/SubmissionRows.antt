@@ -159,7 +159,7 @@ pub authorization_put : (x : AuthorizationRecord) (old new : State) (count : ℕ
     → Holds desk_layout new.now (record t { authorizations = insert_sorted authorization_cmp x t.authorizations }) × (find (is_authorization_of x.company x.order) t.authorizations ≡ None)
 authorization_put x old new count ran t h =
     let s = authorizations_table in
-    let done = inserted authorization_row desk_schema 13 34 s.name s.columns s.primary s.uniques s.orders insert_authorization insert_authorization_is refl (λ olds news. refl) x refl (row_kept s Null (authorization_row x) refl refl) old new count h.0 t.authorizations h.1.authorizations.stored ran in
+    let done = inserted authorization_row desk_schema 13 35 s.name s.columns s.primary s.uniques s.orders insert_authorization insert_authorization_is refl (λ olds news. refl) x refl (row_kept s Null (authorization_row x) refl refl) old new count h.0 t.authorizations h.1.authorizations.stored ran in
     let rules = insert_rules desk_schema insert_authorization 13 s insert_authorization_is (authorization_row x) old new count h.0 done.0.schema_is ran in
     let free = key_free authorization_row desk_schema s (1 ∷ 2 ∷ []) (is_authorization_of x.company x.order) (same_authorization x.company x.order) (λ db row any. taken_first _ _ any) new.now.trees x t.authorizations (and_from _ _ (text_itself x.company) (number_itself x.order)) done.1 rules.1.1.1.1.1.1.1.1.1.1.1.1.1.0 in (
       (

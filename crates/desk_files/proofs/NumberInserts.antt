@@ -51,7 +51,7 @@ number_put : (place : ℕ) (old new : State) (count : ℕ) → Executes insert_n
 number_put place old new count ran t h =
     let s = numbers_table in
     let n : NumberRecord = record { sequence = place; place = place } in
-    let done = inserted number_row desk_schema 12 31 s.name s.columns s.primary s.uniques s.orders insert_number insert_number_is refl (λ olds news. refl) n refl (row_kept s Null (number_row n) refl refl) old new count h.0 t.numbers h.1.numbers.stored ran in
+    let done = inserted number_row desk_schema 12 32 s.name s.columns s.primary s.uniques s.orders insert_number insert_number_is refl (λ olds news. refl) n refl (row_kept s Null (number_row n) refl refl) old new count h.0 t.numbers h.1.numbers.stored ran in
     let rules = (insert_rules desk_schema insert_number 12 s insert_number_is (number_row n) old new count h.0 done.0.schema_is ran).1.1.1.1.1.1.1.1.1.1.1.1.0 in
     (done.0.schema_is, numbers_changed old.now.trees new.now.trees t h.1 done.0.others _ (numbered_in_order (λ y. y.sequence) (λ y. number y.place ∷ []) s (λ db row any. taken_first _ _ any) new.now.trees n t.numbers h.1.numbers.rise done.1 rules))
 

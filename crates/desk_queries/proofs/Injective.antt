@@ -23,7 +23,7 @@ use Rattle.desk_rules.specs.declared.bodies.submission.Entry.{Entry}
 use Rattle.desk_rules.specs.declared.bodies.submission.SecCode.{SecCode}
 use Rattle.desk_rules.specs.declared.bodies.submission.SecCode.TheVariants as secs
 use Rattle.desk_records.specs.Columns.{number, flag, direction_text, cause_text, reason_text}
-use Rattle.desk_records.specs.QueryRows.{submission_head_row, submission_facts_row, order_and_settlement_row, numbered_entry_row, placed_entry_row, entry_return_row, return_line_row, change_line_row, posting_line_row, suspense_line_row}
+use Rattle.desk_records.specs.QueryRows.{submission_head_row, submission_facts_row, order_and_settlement_row, entry_amount_row, numbered_entry_row, placed_entry_row, entry_return_row, return_line_row, change_line_row, posting_line_row, suspense_line_row}
 use Rattle.desk_records.specs.RecordRows.{company_row, identity_row, taken_row, number_row, entry_columns}
 use Rattle.desk_records.specs.declared.row.items.EntryReturn.{EntryReturn}
 use Rattle.desk_records.specs.declared.row.lines.PostingLine.{PostingLine}
@@ -213,6 +213,9 @@ entry_back e i = record e { kind = kind_back e.kind i; prenote = flag_back e.pre
 
 pub numbered_entry_rows : IsInjective numbered_entry_row
 numbered_entry_rows = read_back numbered_entry_row (λ r. record { index = number_in (column r 0); entry = entry_in r 1 }) (λ e i. record e { entry = entry_back e.entry i })
+
+pub entry_amount_rows : IsInjective entry_amount_row
+entry_amount_rows = read_back entry_amount_row (λ r. record { index = number_in (column r 0); prenote = flag_in (column r 1); cents = number_in (column r 2) }) (λ a i. record a { prenote = flag_back a.prenote i })
 
 pub placed_entry_rows : IsInjective placed_entry_row
 placed_entry_rows =

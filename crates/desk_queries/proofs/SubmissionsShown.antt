@@ -18,9 +18,9 @@ use Rattle.desk_records.specs.TableReads.{is_of, is_under, is_retry_of, tries, h
 use Rattle.desk_queries.proofs.Conditions.{one, two, number_is, number_if_any_least}
 use Rattle.desk_queries.proofs.Listings.{submissions, authorizations}
 use Rattle.desk_queries.proofs.Selects.{all_selected, first_selected}
-use Rattle.desk_queries.proofs.Texts.{places, submissions_of_is, settled_submissions_is, retries_is, submission_is, order_is, facts_is, authorization_is}
+use Rattle.desk_queries.proofs.Texts.{places, submissions_of_is, settled_submissions_is, retries_is, numbered_submission_is, submission_is, order_is, facts_is, authorization_is}
 use Rattle.desk_queries.specs.Shows.{ShowsAll, ShowsFirst}
-use Rattle.desk_queries.specs.Texts.{submissions_of_text, settled_submissions_text, retries_text, submission_text, order_text, facts_text, authorization_text}
+use Rattle.desk_queries.specs.Texts.{submissions_of_text, settled_submissions_text, retries_text, numbered_submission_text, submission_text, order_text, facts_text, authorization_text}
 use Rattle.desk_queries.specs.Waiting.{is_settled_of}
 
 pub submissions_of_shown : (c : List ℕ) → ShowsAll submissions_of_text (Text c ∷ []) submission_head_row (heads_in (is_of c))
@@ -42,6 +42,11 @@ pub retries_shown : (c of : List ℕ) (index : ℕ) → ShowsAll retries_text (T
 retries_shown c of index =
     all_selected submissions retries_text (column_is 1 0 ∷ column_is 8 1 ∷ column_is 9 2 ∷ []) (columns 11) (Text c ∷ Text of ∷ number index ∷ []) (is_retry_of c of index) head_of submission_head_row
     retries_is (λ i s. let a = text_is s.company c in let b = retries_it of index s.retried in λ j. a j && b j) (λ i s. refl)
+
+pub numbered_submission_shown : (c : List ℕ) (order : ℕ) → ShowsAll numbered_submission_text (Text c ∷ number order ∷ []) submission_head_row (heads_in (is_row c order))
+numbered_submission_shown c order =
+    all_selected submissions numbered_submission_text (column_is 1 0 ∷ column_is 2 1 ∷ []) (columns 11) (Text c ∷ number order ∷ []) (is_row c order) head_of submission_head_row
+    numbered_submission_is (λ i s. two (text_is s.company c) (number_is s.order order)) (λ i s. refl)
 
 pub submission_shown : (c r : List ℕ) → ShowsFirst submission_text (Text c ∷ Text r ∷ []) submission_head_row (head_under c r)
 submission_shown c r =

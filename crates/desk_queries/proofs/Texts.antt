@@ -3,9 +3,9 @@ use Rattle.std.proofs.Common.{[], ◌∷◌, pos, ℕ, List, map, refl}
 use Rattle.sqlite.specs.Listing.{understood}
 use Rattle.sqlite_sql.specs.Term.{Term, col}
 use Rattle.sqlite_tied.specs.Compute.{everything}
-use Rattle.sql_statements.specs.Statements.{IsSelect, query_from, query_within, column_is, number_is, at_least, at_most, by, falling, columns}
+use Rattle.sql_statements.specs.Statements.{IsSelect, query_from, query_within, sum_query, column_is, number_is, at_least, at_most, by, falling, columns}
 use Rattle.desk_records.specs.Schema.{desk_schema}
-use Rattle.desk_queries.specs.Texts.{identity_text, operator_key_text, day_text, company_text, companies_text, holidays_text, submissions_of_text, settled_submissions_text, waiting_submissions_text, retries_text, submission_text, order_text, facts_text, last_order_text, authorization_text, entries_text, entry_text, sent_entry_text, place_text, places_text, last_number_text, returns_text, return_text, return_lines_text, change_lines_text, suspense_text, postings_text, sums_text, sum_text, modifiers_text, file_text, taken_text}
+use Rattle.desk_queries.specs.Texts.{identity_text, operator_key_text, day_text, company_text, companies_text, holidays_text, submissions_of_text, settled_submissions_text, waiting_submissions_text, retries_text, numbered_submission_text, submission_text, order_text, facts_text, last_order_text, authorization_text, entries_text, amounts_text, cents_text, entry_text, sent_entry_text, place_text, places_text, last_number_text, returns_text, return_text, returned_orders_text, return_lines_text, change_lines_text, suspense_text, postings_text, sums_text, sum_text, modifiers_text, file_text, taken_text}
 
 -- the columns at these places, from 1
 abbrev pub places : List ℕ → List Term
@@ -51,6 +51,10 @@ pub retries_is : IsSelect desk_schema retries_text (query_from 6 (column_is 1 0 
 unfolding understood everything
 retries_is = record { selects = refl; body = refl; alone = refl; unlisted = refl; plain = (refl, refl) }
 
+pub numbered_submission_is : IsSelect desk_schema numbered_submission_text (query_from 6 (column_is 1 0 ∷ column_is 2 1 ∷ []) (columns 11) (by 1 ∷ by 2 ∷ []))
+unfolding understood everything
+numbered_submission_is = record { selects = refl; body = refl; alone = refl; unlisted = refl; plain = (refl, refl) }
+
 pub submission_is : IsSelect desk_schema submission_text (query_from 6 (column_is 1 0 ∷ column_is 3 1 ∷ []) (columns 11) (by 1 ∷ by 2 ∷ []))
 unfolding understood everything
 submission_is = record { selects = refl; body = refl; alone = refl; unlisted = refl; plain = (refl, refl) }
@@ -67,13 +71,21 @@ pub last_order_is : IsSelect desk_schema last_order_text (query_within (pos 1) 6
 unfolding understood everything
 last_order_is = record { selects = refl; body = refl; alone = refl; unlisted = refl; plain = (refl, refl) }
 
-pub authorization_is : IsSelect desk_schema authorization_text (query_from 34 (column_is 1 0 ∷ column_is 2 1 ∷ []) (places (3 ∷ [])) (by 1 ∷ by 2 ∷ []))
+pub authorization_is : IsSelect desk_schema authorization_text (query_from 35 (column_is 1 0 ∷ column_is 2 1 ∷ []) (places (3 ∷ [])) (by 1 ∷ by 2 ∷ []))
 unfolding understood everything
 authorization_is = record { selects = refl; body = refl; alone = refl; unlisted = refl; plain = (refl, refl) }
 
 pub entries_is : IsSelect desk_schema entries_text (query_from 9 (column_is 1 0 ∷ column_is 2 1 ∷ []) (places (3 ∷ 4 ∷ 5 ∷ 6 ∷ 7 ∷ 8 ∷ 9 ∷ 10 ∷ 11 ∷ [])) (by 1 ∷ by 2 ∷ by 3 ∷ []))
 unfolding understood everything
 entries_is = record { selects = refl; body = refl; alone = refl; unlisted = refl; plain = (refl, refl) }
+
+pub amounts_is : IsSelect desk_schema amounts_text (query_from 9 (column_is 1 0 ∷ column_is 2 1 ∷ []) (places (3 ∷ 7 ∷ 8 ∷ [])) (by 1 ∷ by 2 ∷ by 3 ∷ []))
+unfolding understood everything
+amounts_is = record { selects = refl; body = refl; alone = refl; unlisted = refl; plain = (refl, refl) }
+
+pub cents_is : IsSelect desk_schema cents_text (sum_query 9 (column_is 1 0 ∷ column_is 2 1 ∷ []) 8)
+unfolding understood everything
+cents_is = record { selects = refl; body = refl; alone = refl; unlisted = refl; plain = (refl, refl) }
 
 pub entry_is : IsSelect desk_schema entry_text (query_from 9 (column_is 1 0 ∷ column_is 2 1 ∷ column_is 3 2 ∷ []) (places (3 ∷ 4 ∷ 5 ∷ 6 ∷ 7 ∷ 8 ∷ 9 ∷ 10 ∷ 11 ∷ [])) (by 1 ∷ by 2 ∷ by 3 ∷ []))
 unfolding understood everything
@@ -83,15 +95,15 @@ pub sent_entry_is : IsSelect desk_schema sent_entry_text (query_from 9 (column_i
 unfolding understood everything
 sent_entry_is = record { selects = refl; body = refl; alone = refl; unlisted = refl; plain = (refl, refl) }
 
-pub place_is : IsSelect desk_schema place_text (query_from 31 (column_is 1 0 ∷ []) (places (2 ∷ [])) (by 1 ∷ []))
+pub place_is : IsSelect desk_schema place_text (query_from 32 (column_is 1 0 ∷ []) (places (2 ∷ [])) (by 1 ∷ []))
 unfolding understood everything
 place_is = record { selects = refl; body = refl; alone = refl; unlisted = refl; plain = (refl, refl) }
 
-pub places_is : IsSelect desk_schema places_text (query_from 31 (at_least 1 0 ∷ at_most 1 1 ∷ []) (places (2 ∷ [])) (by 1 ∷ []))
+pub places_is : IsSelect desk_schema places_text (query_from 32 (at_least 1 0 ∷ at_most 1 1 ∷ []) (places (2 ∷ [])) (by 1 ∷ []))
 unfolding understood everything
 places_is = record { selects = refl; body = refl; alone = refl; unlisted = refl; plain = (refl, refl) }
 
-pub last_number_is : IsSelect desk_schema last_number_text (query_within (pos 1) 31 [] (columns 2) (falling 2 ∷ []))
+pub last_number_is : IsSelect desk_schema last_number_text (query_within (pos 1) 32 [] (columns 2) (falling 2 ∷ []))
 unfolding understood everything
 last_number_is = record { selects = refl; body = refl; alone = refl; unlisted = refl; plain = (refl, refl) }
 
@@ -102,6 +114,10 @@ returns_is = record { selects = refl; body = refl; alone = refl; unlisted = refl
 pub return_is : IsSelect desk_schema return_text (query_from 11 (column_is 2 0 ∷ column_is 3 1 ∷ column_is 4 2 ∷ []) (places (4 ∷ 5 ∷ 6 ∷ 7 ∷ [])) (by 1 ∷ []))
 unfolding understood everything
 return_is = record { selects = refl; body = refl; alone = refl; unlisted = refl; plain = (refl, refl) }
+
+pub returned_orders_is : IsSelect desk_schema returned_orders_text (query_from 11 (column_is 2 0 ∷ at_least 6 1 ∷ []) (places (3 ∷ [])) (by 1 ∷ []))
+unfolding understood everything
+returned_orders_is = record { selects = refl; body = refl; alone = refl; unlisted = refl; plain = (refl, refl) }
 
 pub return_lines_is : IsSelect desk_schema return_lines_text (query_from 11 (column_is 2 0 ∷ []) (places (3 ∷ 4 ∷ 5 ∷ 6 ∷ 7 ∷ 8 ∷ [])) (by 1 ∷ []))
 unfolding understood everything

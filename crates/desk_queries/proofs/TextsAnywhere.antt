@@ -3,7 +3,7 @@ use Rattle.std.proofs.Common.{refl}
 use Rattle.sqlite_resolve.specs.Compile.{first}
 use Rattle.sqlite_tied.specs.Compute.{everything}
 use Rattle.sql_statements.specs.SelectTexts.{IsSelectText}
-use Rattle.desk_queries.specs.Texts.{identity_text, operator_key_text, day_text, company_text, companies_text, holidays_text, submissions_of_text, settled_submissions_text, waiting_submissions_text, retries_text, submission_text, order_text, facts_text, last_order_text, authorization_text, entries_text, entry_text, sent_entry_text, place_text, places_text, last_number_text, returns_text, return_text, return_lines_text, change_lines_text, suspense_text, postings_text, sums_text, sum_text, modifiers_text, file_text, taken_text}
+use Rattle.desk_queries.specs.Texts.{identity_text, operator_key_text, day_text, company_text, companies_text, holidays_text, submissions_of_text, settled_submissions_text, waiting_submissions_text, retries_text, numbered_submission_text, submission_text, order_text, facts_text, last_order_text, authorization_text, entries_text, amounts_text, cents_text, entry_text, sent_entry_text, place_text, places_text, last_number_text, returns_text, return_text, returned_orders_text, return_lines_text, change_lines_text, suspense_text, postings_text, sums_text, sum_text, modifiers_text, file_text, taken_text}
 
 pub identity_selects : IsSelectText identity_text
 unfolding first everything
@@ -45,6 +45,10 @@ pub retries_selects : IsSelectText retries_text
 unfolding first everything
 retries_selects = refl
 
+pub numbered_submission_selects : IsSelectText numbered_submission_text
+unfolding first everything
+numbered_submission_selects = refl
+
 pub submission_selects : IsSelectText submission_text
 unfolding first everything
 submission_selects = refl
@@ -68,6 +72,14 @@ authorization_selects = refl
 pub entries_selects : IsSelectText entries_text
 unfolding first everything
 entries_selects = refl
+
+pub amounts_selects : IsSelectText amounts_text
+unfolding first everything
+amounts_selects = refl
+
+pub cents_selects : IsSelectText cents_text
+unfolding first everything
+cents_selects = refl
 
 pub entry_selects : IsSelectText entry_text
 unfolding first everything
@@ -96,6 +108,10 @@ returns_selects = refl
 pub return_selects : IsSelectText return_text
 unfolding first everything
 return_selects = refl
+
+pub returned_orders_selects : IsSelectText returned_orders_text
+unfolding first everything
+returned_orders_selects = refl
 
 pub return_lines_selects : IsSelectText return_lines_text
 unfolding first everything

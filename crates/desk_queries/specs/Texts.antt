@@ -35,6 +35,9 @@ waiting_submissions_text = codes "SELECT company, ord, ref, sec, direction, desc
 abbrev pub retries_text : List ℕ
 retries_text = codes "SELECT company, ord, ref, sec, direction, description, asked, of_ref, of_index, lapsed, settled FROM submissions WHERE company = ?1 AND of_ref = ?2 AND of_index = ?3 ORDER BY company, ord"
 
+abbrev pub numbered_submission_text : List ℕ
+numbered_submission_text = codes "SELECT company, ord, ref, sec, direction, description, asked, of_ref, of_index, lapsed, settled FROM submissions WHERE company = ?1 AND ord = ?2 ORDER BY company, ord"
+
 abbrev pub submission_text : List ℕ
 submission_text = codes "SELECT company, ord, ref, sec, direction, description, asked, of_ref, of_index, lapsed, settled FROM submissions WHERE company = ?1 AND ref = ?2 ORDER BY company, ord"
 
@@ -54,6 +57,12 @@ authorization_text = codes "SELECT day FROM authorizations WHERE company = ?1 AN
 
 abbrev pub entries_text : List ℕ
 entries_text = codes "SELECT idx, routing, account, savings, prenote, cents, ident, name, info FROM entries WHERE company = ?1 AND ord = ?2 ORDER BY company, ord, idx"
+
+abbrev pub amounts_text : List ℕ
+amounts_text = codes "SELECT idx, prenote, cents FROM entries WHERE company = ?1 AND ord = ?2 ORDER BY company, ord, idx"
+
+abbrev pub cents_text : List ℕ
+cents_text = codes "SELECT coalesce(sum(cents), 0) FROM entries WHERE company = ?1 AND ord = ?2"
 
 abbrev pub entry_text : List ℕ
 entry_text = codes "SELECT idx, routing, account, savings, prenote, cents, ident, name, info FROM entries WHERE company = ?1 AND ord = ?2 AND idx = ?3 ORDER BY company, ord, idx"
@@ -77,6 +86,9 @@ returns_text = codes "SELECT idx, code, day, late FROM returns WHERE company = ?
 
 abbrev pub return_text : List ℕ
 return_text = codes "SELECT idx, code, day, late FROM returns WHERE company = ?1 AND ord = ?2 AND idx = ?3 ORDER BY no"
+
+abbrev pub returned_orders_text : List ℕ
+returned_orders_text = codes "SELECT ord FROM returns WHERE company = ?1 AND day >= ?2 ORDER BY no"
 
 abbrev pub return_lines_text : List ℕ
 return_lines_text = codes "SELECT ord, idx, code, day, late, info FROM returns WHERE company = ?1 ORDER BY no"

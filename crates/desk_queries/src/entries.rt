@@ -5,12 +5,12 @@ ghost use Rattle.sqlite.specs.State.{HasCleanDisk, Survives};
 ghost use Rattle.sql_statements.specs.Queries.{Stays};
 ghost use Rattle.sql_statements.specs.Findings.{Finds};
 ghost use Rattle.desk_records.specs.Layout.{desk_layout};
-ghost use Rattle.desk_records.specs.TableReads.{entries_in, entry_at, entry_at_place, place_in, places_between, IsLastNumber};
+ghost use Rattle.desk_records.specs.TableReads.{entries_in, amounts_in, cents_in, entry_at, entry_at_place, place_in, places_between, IsLastNumber};
 
 use crate::parameter::{characters, natural};
 use crate::rows::{all_of, cell_of, column_of, first_of};
 use ach_fields::Id;
-use desk_records::{NumberRecord, NumberedEntry, PlacedEntry};
+use desk_records::{EntryAmount, NumberRecord, NumberedEntry, PlacedEntry};
 use sqlite::{Alter, Connection, Error};
 use std::alloc::Global;
 
@@ -31,6 +31,45 @@ pub fn entries_of<S: Alter>(
         "SELECT idx, routing, account, savings, prenote, cents, ident, name, info FROM entries WHERE company = ?1 AND ord = ?2 ORDER BY company, ord, idx",
         &[characters(company.bytes()), natural(order)?],
     )
+}
+
+/// Gives what the entries of the submission with a number in its company count for.
+pub fn amounts_of<S: Alter>(
+    conn: &mut Connection<S>,
+    alloc: Global,
+    company: Id,
+    order: u64,
+) -> Result<Vec<EntryAmount>, Error>
+    ensures answer { HasCleanDisk (state S.Store conn.new) → IfOk result (λ found. Finds desk_layout (λ t. found.items ≡ amounts_in company order t) (state S.Store conn.old)) }
+    ensures stays { HasCleanDisk (state S.Store conn.new) → Stays (state S.Store conn.old) (state S.Store conn.new) }
+    ensures survives { Survives (state S.Store conn.old) (state S.Store conn.new) (λ _. ⊥) }
+{
+    all_of(
+        conn,
+        alloc,
+        "SELECT idx, prenote, cents FROM entries WHERE company = ?1 AND ord = ?2 ORDER BY company, ord, idx",
+        &[characters(company.bytes()), natural(order)?],
+    )
+}
+
+/// Gives the sum of their cents. `Error::InvalidQuery` says that it is past 2^63 - 1.
+pub fn cents_of<S: Alter>(
+    conn: &mut Connection<S>,
+    company: Id,
+    order: u64,
+) -> Result<u64, Error>
+    ensures answer { HasCleanDisk (state S.Store conn.new) → IfOk result (λ found. Finds desk_layout (λ t. found ≡ cents_in company order t) (state S.Store conn.old)) }
+    ensures stays { HasCleanDisk (state S.Store conn.new) → Stays (state S.Store conn.old) (state S.Store conn.new) }
+    ensures survives { Survives (state S.Store conn.old) (state S.Store conn.new) (λ _. ⊥) }
+{
+    match cell_of(
+        conn,
+        "SELECT coalesce(sum(cents), 0) FROM entries WHERE company = ?1 AND ord = ?2",
+        &[characters(company.bytes()), natural(order)?],
+    )? {
+        Some(cents) => Ok(cents),
+        None => Err(Error::InvalidQuery),
+    }
 }
 
 /// Finds the entry with a number in the submission with a number in its company.

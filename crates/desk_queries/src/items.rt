@@ -5,10 +5,10 @@ ghost use Rattle.sqlite.specs.State.{HasCleanDisk, Survives};
 ghost use Rattle.sql_statements.specs.Queries.{Stays};
 ghost use Rattle.sql_statements.specs.Findings.{Finds};
 ghost use Rattle.desk_records.specs.Layout.{desk_layout};
-ghost use Rattle.desk_records.specs.TableReads.{returns_in, return_at, return_lines_in, change_lines_in, suspense_in};
+ghost use Rattle.desk_records.specs.TableReads.{returns_in, return_at, orders_returned, return_lines_in, change_lines_in, suspense_in};
 
 use crate::parameter::{characters, natural};
-use crate::rows::{all_of, first_of};
+use crate::rows::{all_of, column_of, first_of};
 use ach_fields::Id;
 use desk_history::SuspenseRow;
 use desk_records::{ChangeLine, EntryReturn, ReturnLine};
@@ -53,6 +53,26 @@ pub fn entry_return<S: Alter>(
             natural(order)?,
             natural(index)?,
         ],
+    )
+}
+
+/// Gives the number of the submission of each return of a company that was taken on the day with a
+/// number or later, in the order in which they came.
+pub fn orders_returned<S: Alter>(
+    conn: &mut Connection<S>,
+    alloc: Global,
+    company: Id,
+    since: u64,
+) -> Result<Vec<u64>, Error>
+    ensures answer { HasCleanDisk (state S.Store conn.new) → IfOk result (λ found. Finds desk_layout (λ t. found.items ≡ orders_returned company since t) (state S.Store conn.old)) }
+    ensures stays { HasCleanDisk (state S.Store conn.new) → Stays (state S.Store conn.old) (state S.Store conn.new) }
+    ensures survives { Survives (state S.Store conn.old) (state S.Store conn.new) (λ _. ⊥) }
+{
+    column_of(
+        conn,
+        alloc,
+        "SELECT ord FROM returns WHERE company = ?1 AND day >= ?2 ORDER BY no",
+        &[characters(company.bytes()), natural(since)?],
     )
 }
 

@@ -36,6 +36,13 @@ pub fn date<'a>(day: Day) -> ValueRef<'a>
     ValueRef::Int(day.number())
 }
 
+/// Gives the number of a day.
+pub fn number_of(day: Day) -> u64
+    ensures { result ≡ day }
+{
+    day.number().unsigned_abs()
+}
+
 /// Gives the text of an account.
 pub(crate) fn account_text(alloc: Global, account: &Account) -> Result<Vec<u8>, Error>
     ensures { IfOk result (λ text. text.items ≡ account_text account.now) }

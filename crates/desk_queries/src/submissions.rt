@@ -4,11 +4,12 @@ ghost use Rattle.sqlite.specs.Held.{state};
 ghost use Rattle.sqlite.specs.State.{HasCleanDisk, Survives};
 ghost use Rattle.sql_statements.specs.Queries.{Stays};
 ghost use Rattle.sql_statements.specs.Findings.{Finds};
+ghost use Rattle.desk_records.specs.CutTables.{is_row};
 ghost use Rattle.desk_records.specs.Layout.{desk_layout};
 ghost use Rattle.desk_records.specs.TableReads.{is_of, is_open_of, is_waiting_of, is_retry_of, heads_in, head_under, order_in, facts_in, last_order, authorized_in};
 ghost use Rattle.desk_queries.specs.Waiting.{by_head_order, is_settled_of};
 
-use crate::parameter::{characters, date, natural};
+use crate::parameter::{characters, natural, number_of};
 use crate::rows::{all_of, cell_of, first_of};
 use crate::waiting::first_that_wait;
 use ach_fields::{Id, Ref};
@@ -47,7 +48,7 @@ pub fn open_submissions<S: Alter>(
     ensures survives { Survives (state S.Store conn.old) (state S.Store conn.new) (λ _. ⊥) }
 {
     let waiting = waiting_submissions(conn, alloc, company)?;
-    let settled = settled_submissions(conn, alloc, company, since)?;
+    let settled = settled_submissions(conn, alloc, company, number_of(since))?;
     in_order(waiting, &settled)
 }
 
@@ -64,12 +65,12 @@ fn in_order(
     Ok(these)
 }
 
-// Those of a company that settle on a day or later.
-fn settled_submissions<S: Alter>(
+/// Gives those of a company that settle on the day with a number or later.
+pub fn settled_submissions<S: Alter>(
     conn: &mut Connection<S>,
     alloc: Global,
     company: Id,
-    since: Day,
+    since: u64,
 ) -> Result<Vec<SubmissionHead>, Error>
     ensures answer { HasCleanDisk (state S.Store conn.new) → IfOk result (λ found. Finds desk_layout (λ t. found.items ≡ heads_in (is_settled_of company since) t) (state S.Store conn.old)) }
     ensures stays { HasCleanDisk (state S.Store conn.new) → Stays (state S.Store conn.old) (state S.Store conn.new) }
@@ -79,7 +80,7 @@ fn settled_submissions<S: Alter>(
         conn,
         alloc,
         "SELECT company, ord, ref, sec, direction, description, asked, of_ref, of_index, lapsed, settled FROM submissions WHERE company = ?1 AND settled >= ?2 ORDER BY company, ord",
-        &[characters(company.bytes()), date(since)],
+        &[characters(company.bytes()), natural(since)?],
     )
 }
 
@@ -123,6 +124,25 @@ pub fn retries<S: Alter>(
             characters(of.bytes()),
             natural(index)?,
         ],
+    )
+}
+
+/// Gives the submission or retry with a number in its company, and none where there is none.
+pub fn numbered_submission<S: Alter>(
+    conn: &mut Connection<S>,
+    alloc: Global,
+    company: Id,
+    order: u64,
+) -> Result<Vec<SubmissionHead>, Error>
+    ensures answer { HasCleanDisk (state S.Store conn.new) → IfOk result (λ found. Finds desk_layout (λ t. found.items ≡ heads_in (is_row company order) t) (state S.Store conn.old)) }
+    ensures stays { HasCleanDisk (state S.Store conn.new) → Stays (state S.Store conn.old) (state S.Store conn.new) }
+    ensures survives { Survives (state S.Store conn.old) (state S.Store conn.new) (λ _. ⊥) }
+{
+    all_of(
+        conn,
+        alloc,
+        "SELECT company, ord, ref, sec, direction, description, asked, of_ref, of_index, lapsed, settled FROM submissions WHERE company = ?1 AND ord = ?2 ORDER BY company, ord",
+        &[characters(company.bytes()), natural(order)?],
     )
 }
 

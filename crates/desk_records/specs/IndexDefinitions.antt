@@ -22,6 +22,12 @@ submissions_retries_text = codes "CREATE INDEX submissions_retries ON submission
 abbrev pub submissions_retries_index : Index
 submissions_retries_index = plain_index (codes "submissions_retries") 6 (1 ∷ 8 ∷ [])
 
+abbrev pub returns_company_text : List ℕ
+returns_company_text = codes "CREATE INDEX returns_company ON returns (company, day)"
+
+abbrev pub returns_company_index : Index
+returns_company_index = plain_index (codes "returns_company") 11 (2 ∷ 6 ∷ [])
+
 abbrev pub changes_company_text : List ℕ
 changes_company_text = codes "CREATE INDEX changes_company ON changes (company, no)"
 

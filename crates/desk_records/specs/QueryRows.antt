@@ -9,6 +9,7 @@ use Rattle.desk_rules.specs.Fields.{sec_text}
 use Rattle.desk_rules.specs.ReturnCodes.{code_text}
 use Rattle.desk_records.specs.Columns.{number, flag, decimal_text, direction_text, cause_text, reason_text}
 use Rattle.desk_records.specs.RecordRows.{entry_columns, retried_columns}
+use Rattle.desk_records.specs.declared.row.entries.EntryAmount.{EntryAmount}
 use Rattle.desk_records.specs.declared.row.entries.NumberedEntry.{NumberedEntry}
 use Rattle.desk_records.specs.declared.row.entries.PlacedEntry.{PlacedEntry}
 use Rattle.desk_records.specs.declared.row.items.ChangeLine.{ChangeLine}
@@ -38,6 +39,10 @@ order_and_settlement_row s = number s.order ∷ or_null number s.settled ∷ []
 -- idx, then the entry's own
 abbrev pub numbered_entry_row : NumberedEntry → Row
 numbered_entry_row e = number e.index ∷ entry_columns e.entry
+
+-- idx, prenote, cents
+abbrev pub entry_amount_row : EntryAmount → Row
+entry_amount_row a = number a.index ∷ flag a.prenote ∷ number a.cents ∷ []
 
 -- company, ord, idx, then the entry's own
 abbrev pub placed_entry_row : PlacedEntry → Row

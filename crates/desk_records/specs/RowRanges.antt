@@ -18,6 +18,7 @@ use Rattle.desk_rules.specs.Fields.{entry_cents_of, most_entry_cents}
 use Rattle.desk_rules.specs.ReturnCodes.{IsCode}
 use Rattle.desk_records.specs.Ranges.{FitsIfAny, IsStoredDay, IsText, IsRecordText}
 use Rattle.desk_records.specs.declared.records.NumberRecord.{NumberRecord}
+use Rattle.desk_records.specs.declared.row.entries.EntryAmount.{EntryAmount}
 use Rattle.desk_records.specs.declared.row.entries.NumberedEntry.{NumberedEntry}
 use Rattle.desk_records.specs.declared.row.entries.PlacedEntry.{PlacedEntry}
 use Rattle.desk_records.specs.declared.row.items.ChangeLine.{ChangeLine}
@@ -70,6 +71,9 @@ EntryFits e =
 
 abbrev pub NumberedEntryFits : NumberedEntry → Type 0
 NumberedEntryFits e = IsEntryNumber e.index × EntryFits e.entry
+
+abbrev pub EntryAmountFits : EntryAmount → Type 0
+EntryAmountFits a = IsEntryNumber a.index × IsInRange 0 most_entry_cents a.cents
 
 abbrev pub PlacedEntryFits : PlacedEntry → Type 0
 PlacedEntryFits e = IsTrue (is_id e.company) × (1 ≤ e.order) × IsEntryNumber e.index × EntryFits e.entry

@@ -4,7 +4,7 @@ use Rattle.sqlite.specs.Change.{created, indexed}
 use Rattle.sqlite.specs.Schema.{Schema}
 use Rattle.sqlite.specs.Table.{Table}
 use Rattle.sqlite_schema.specs.declared.schema.Index.{Index}
-use Rattle.desk_records.specs.IndexDefinitions.{entries_seq_index, submissions_open_index, submissions_retries_index, changes_company_index, postings_account_index}
+use Rattle.desk_records.specs.IndexDefinitions.{entries_seq_index, submissions_open_index, submissions_retries_index, returns_company_index, changes_company_index, postings_account_index}
 use Rattle.desk_records.specs.TableDefinitions.{desk_table, holidays_table, companies_table, submissions_table, entries_table, returns_table, changes_table, postings_table, suspense_table, files_table, taken_table, balances_table, numbers_table, authorizations_table}
 
 -- what a statement makes
@@ -40,9 +40,9 @@ file_definitions = NewTable files_table ∷ NewTable taken_table ∷ NewTable ba
 abbrev pub submission_index_definitions : List Definition
 submission_index_definitions = NewIndex entries_table entries_seq_index ∷ NewIndex submissions_table submissions_open_index ∷ NewIndex submissions_table submissions_retries_index ∷ []
 
--- the indexes of changes and of postings
+-- the indexes of returns, of changes and of postings
 abbrev pub line_index_definitions : List Definition
-line_index_definitions = NewIndex changes_table changes_company_index ∷ NewIndex postings_table postings_account_index ∷ []
+line_index_definitions = NewIndex returns_table returns_company_index ∷ NewIndex changes_table changes_company_index ∷ NewIndex postings_table postings_account_index ∷ []
 
 -- what the second version adds
 abbrev pub number_definitions : List Definition

@@ -6,6 +6,7 @@ use Rattle.desk_records.specs.declared.records.ChangeRecord.{ChangeRecord}
 use Rattle.desk_records.specs.declared.records.EntryRecord.{EntryRecord}
 use Rattle.desk_records.specs.declared.records.ReturnRecord.{ReturnRecord}
 use Rattle.desk_records.specs.declared.records.SubmissionRecord.{SubmissionRecord}
+use Rattle.desk_records.specs.declared.row.entries.EntryAmount.{EntryAmount}
 use Rattle.desk_records.specs.declared.row.entries.NumberedEntry.{NumberedEntry}
 use Rattle.desk_records.specs.declared.row.entries.PlacedEntry.{PlacedEntry}
 use Rattle.desk_records.specs.declared.row.items.ChangeLine.{ChangeLine}
@@ -38,6 +39,9 @@ order_of s = record { order = s.order; settled = s.settled }
 
 abbrev pub numbered_of : EntryRecord → NumberedEntry
 numbered_of e = record { index = e.index; entry = e.entry }
+
+abbrev pub amount_of : EntryRecord → EntryAmount
+amount_of e = record { index = e.index; prenote = e.entry.prenote; cents = e.entry.cents }
 
 abbrev pub placed_of : EntryRecord → PlacedEntry
 placed_of e = record { company = e.company; order = e.order; index = e.index; entry = e.entry }

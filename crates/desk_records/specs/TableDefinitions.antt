@@ -190,7 +190,7 @@ abbrev pub numbers_text : List ℕ
 numbers_text = codes "CREATE TABLE numbers (sequence INT NOT NULL, nth INT NOT NULL, PRIMARY KEY (sequence), UNIQUE (nth)) STRICT"
 
 abbrev pub numbers_table : Table
-numbers_table = plain_table_at 31 (codes "numbers")
+numbers_table = plain_table_at 32 (codes "numbers")
     (plain_column (codes "sequence") Integer true
     ∷ plain_column (codes "nth") Integer true ∷ [])
     (1 ∷ []) ((1 ∷ []) ∷ (2 ∷ []) ∷ []) (plain ∷ plain ∷ [])
@@ -200,7 +200,7 @@ abbrev pub authorizations_text : List ℕ
 authorizations_text = codes "CREATE TABLE authorizations (company TEXT NOT NULL, ord INT NOT NULL, day INT NOT NULL, PRIMARY KEY (company, ord)) STRICT"
 
 abbrev pub authorizations_table : Table
-authorizations_table = plain_table_at 34 (codes "authorizations")
+authorizations_table = plain_table_at 35 (codes "authorizations")
     (plain_column (codes "company") Text true
     ∷ plain_column (codes "ord") Integer true
     ∷ plain_column (codes "day") Integer true ∷ [])

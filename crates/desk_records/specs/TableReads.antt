@@ -1,5 +1,5 @@
 -- What the queries of a desk find in its tables.
-use Rattle.std.specs.Prelude.{◌≡◌, ℕ, ℤ, Bool, false, ◌&&◌, ◌||◌, ◌==◌, nat_le, not, is_none, List, map, filter, find, reverse, length, slice_get, IsPermutation, Option, Some, None, option_map, unwrap_or, bytes_eq}
+use Rattle.std.specs.Prelude.{◌≡◌, ℕ, ℤ, Bool, false, ◌&&◌, ◌||◌, ◌==◌, nat_le, not, is_none, List, map, filter, find, reverse, length, sum_by, slice_get, IsPermutation, Option, Some, None, option_map, unwrap_or, bytes_eq}
 use Rattle.std.specs.Ordering.{nat_cmp, on}
 use Rattle.desk_accounts.specs.declared.account.Account.{Account}
 use Rattle.desk_accounts.specs.declared.posting.Posting.{Posting}
@@ -18,7 +18,7 @@ use Rattle.desk_records.specs.Beside.{is_balance_of}
 use Rattle.desk_records.specs.CutTables.{is_row, is_entry_row}
 use Rattle.desk_records.specs.KeyOrders.{IsInOrder}
 use Rattle.desk_records.specs.RowParts.{row_of_parts}
-use Rattle.desk_records.specs.Selected.{head_of, facts_of, order_of, numbered_of, placed_of, return_of, return_line_of, change_line_of, day_sum_of}
+use Rattle.desk_records.specs.Selected.{head_of, facts_of, order_of, amount_of, numbered_of, placed_of, return_of, return_line_of, change_line_of, day_sum_of}
 use Rattle.desk_records.specs.Tables.{Tables}
 use Rattle.desk_records.specs.declared.records.AuthorizationRecord.{AuthorizationRecord}
 use Rattle.desk_records.specs.declared.records.BalanceRecord.{BalanceRecord}
@@ -28,6 +28,7 @@ use Rattle.desk_records.specs.declared.records.NumberRecord.{NumberRecord}
 use Rattle.desk_records.specs.declared.records.PostingRecord.{PostingRecord}
 use Rattle.desk_records.specs.declared.records.ReturnRecord.{ReturnRecord}
 use Rattle.desk_records.specs.declared.records.SubmissionRecord.{SubmissionRecord}
+use Rattle.desk_records.specs.declared.row.entries.EntryAmount.{EntryAmount}
 use Rattle.desk_records.specs.declared.row.entries.NumberedEntry.{NumberedEntry}
 use Rattle.desk_records.specs.declared.row.entries.PlacedEntry.{PlacedEntry}
 use Rattle.desk_records.specs.declared.row.items.ChangeLine.{ChangeLine}
@@ -106,6 +107,14 @@ is_entry_of c order e = bytes_eq e.company c && e.order == order
 abbrev pub entries_in : (company : List ℕ) → (order : ℕ) → Tables → List NumberedEntry
 entries_in c order t = map numbered_of (filter (is_entry_of c order) t.entries)
 
+-- SELECT idx, prenote, cents FROM entries WHERE company = ? AND ord = ? ORDER BY company, ord, idx
+abbrev pub amounts_in : (company : List ℕ) → (order : ℕ) → Tables → List EntryAmount
+amounts_in c order t = map amount_of (filter (is_entry_of c order) t.entries)
+
+-- SELECT coalesce(sum(cents), 0) FROM entries WHERE company = ? AND ord = ?
+abbrev pub cents_in : (company : List ℕ) → (order : ℕ) → Tables → ℕ
+cents_in c order t = sum_by (λ e. e.entry.cents) (filter (is_entry_of c order) t.entries)
+
 -- SELECT idx, .. FROM entries WHERE company = ? AND ord = ? AND idx = ? ORDER BY company, ord, idx
 abbrev pub entry_at : (company : List ℕ) → (order : ℕ) → (index : ℕ) → Tables → Option NumberedEntry
 entry_at c order index t = option_map numbered_of (find (is_entry_row c order index) t.entries)
@@ -123,6 +132,13 @@ is_return_at c order index r = bytes_eq r.company c && r.order == order && r.ind
 
 abbrev pub return_at : (company : List ℕ) → (order : ℕ) → (index : ℕ) → Tables → Option EntryReturn
 return_at c order index t = option_map return_of (find (is_return_at c order index) t.returns)
+
+-- SELECT ord FROM returns WHERE company = ? AND day >= ? ORDER BY no
+abbrev pub is_return_since : (company : List ℕ) → (day : ℕ) → ReturnRecord → Bool
+is_return_since c day r = bytes_eq r.company c && nat_le day r.day
+
+abbrev pub orders_returned : (company : List ℕ) → (since : ℕ) → Tables → List ℕ
+orders_returned c since t = map (λ r. r.order) (filter (is_return_since c since) t.returns)
 
 abbrev pub is_authorization_of : (company : List ℕ) → (order : ℕ) → AuthorizationRecord → Bool
 is_authorization_of c order a = bytes_eq a.company c && a.order == order

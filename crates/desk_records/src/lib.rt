@@ -16,7 +16,7 @@ pub use records::{
     AuthorizationRecord, BalanceRecord, ChangeRecord, DeskRecord, EntryRecord, NumberRecord,
     PostingRecord, ReturnRecord, SubmissionRecord, SuspenseRecord,
 };
-pub use row::entries::{NumberedEntry, PlacedEntry};
+pub use row::entries::{EntryAmount, NumberedEntry, PlacedEntry};
 pub use row::items::{ChangeLine, EntryReturn, ReturnLine};
 pub use row::lines::PostingLine;
 pub use row::submissions::{OrderAndSettlement, SubmissionFacts, SubmissionHead};

@@ -3,7 +3,7 @@ use Rattle.std.proofs.Common.{[], ◌∷◌, ◌++◌, refl}
 use Rattle.sqlite_tied.specs.Compute.{everything}
 use Rattle.sqlite.specs.Listing.{understood}
 use Rattle.sql_statements.specs.Definitions.{IsCreate, IsCreateIndex}
-use Rattle.desk_records.specs.IndexDefinitions.{entries_seq_text, entries_seq_index, submissions_open_text, submissions_open_index, submissions_retries_text, submissions_retries_index, changes_company_text, changes_company_index, postings_account_text, postings_account_index}
+use Rattle.desk_records.specs.IndexDefinitions.{entries_seq_text, entries_seq_index, submissions_open_text, submissions_open_index, submissions_retries_text, submissions_retries_index, returns_company_text, returns_company_index, changes_company_text, changes_company_index, postings_account_text, postings_account_index}
 use Rattle.desk_records.specs.Schema.{Definition, NewTable, NewIndex, schema_of, registry_definitions, submission_definitions, posting_definitions, file_definitions, submission_index_definitions, line_index_definitions, number_definitions}
 use Rattle.desk_records.specs.TableDefinitions.{desk_text, desk_table, holidays_text, holidays_table, companies_text, companies_table, submissions_text, submissions_table, entries_text, entries_table, returns_text, returns_table, changes_text, changes_table, postings_text, postings_table, suspense_text, suspense_table, files_text, files_table, taken_text, taken_table, balances_text, balances_table, numbers_text, numbers_table, authorizations_text, authorizations_table}
 
@@ -67,11 +67,15 @@ pub creates_submissions_retries : IsCreateIndex (schema_of (registry_definitions
 unfolding understood everything
 creates_submissions_retries = record { is = refl; whole = refl; plain = (refl, refl); listed = refl; defines = refl }
 
-pub creates_changes_company : IsCreateIndex (schema_of (registry_definitions ++ submission_definitions ++ posting_definitions ++ file_definitions ++ submission_index_definitions)) changes_company_text 6 changes_table changes_company_index
+pub creates_returns_company : IsCreateIndex (schema_of (registry_definitions ++ submission_definitions ++ posting_definitions ++ file_definitions ++ submission_index_definitions)) returns_company_text 5 returns_table returns_company_index
+unfolding understood everything
+creates_returns_company = record { is = refl; whole = refl; plain = (refl, refl); listed = refl; defines = refl }
+
+pub creates_changes_company : IsCreateIndex (schema_of (registry_definitions ++ submission_definitions ++ posting_definitions ++ file_definitions ++ submission_index_definitions ++ (NewIndex returns_table returns_company_index ∷ []))) changes_company_text 6 changes_table changes_company_index
 unfolding understood everything
 creates_changes_company = record { is = refl; whole = refl; plain = (refl, refl); listed = refl; defines = refl }
 
-pub creates_postings_account : IsCreateIndex (schema_of (registry_definitions ++ submission_definitions ++ posting_definitions ++ file_definitions ++ submission_index_definitions ++ (NewIndex changes_table changes_company_index ∷ []))) postings_account_text 7 postings_table postings_account_index
+pub creates_postings_account : IsCreateIndex (schema_of (registry_definitions ++ submission_definitions ++ posting_definitions ++ file_definitions ++ submission_index_definitions ++ (NewIndex returns_table returns_company_index ∷ NewIndex changes_table changes_company_index ∷ []))) postings_account_text 7 postings_table postings_account_index
 unfolding understood everything
 creates_postings_account = record { is = refl; whole = refl; plain = (refl, refl); listed = refl; defines = refl }
 

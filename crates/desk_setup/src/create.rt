@@ -115,13 +115,17 @@ fn create_submission_indexes<S: Alter>(tx: &mut Transaction<'_, S>) -> Result<()
     Ok(())
 }
 
-// Makes the indexes of changes and of postings.
+// Makes the indexes of returns, of changes and of postings.
 fn create_line_indexes<S: Alter>(tx: &mut Transaction<'_, S>) -> Result<(), Error>
     ensures same_reference { tx.new.conn.ghost_name ≡ tx.old.conn.ghost_name }
     ensures makes { HasCleanDisk (state S.Store tx.new.conn.now) → OnOk result (IsBlank (schema_of (registry_definitions ++ submission_definitions ++ posting_definitions ++ file_definitions ++ submission_index_definitions)) (state S.Store tx.old.conn.now).now → IsBlank (schema_of (registry_definitions ++ submission_definitions ++ posting_definitions ++ file_definitions ++ submission_index_definitions ++ line_index_definitions)) (state S.Store tx.new.conn.now).now) }
     ensures keeps { HasCleanDisk (state S.Store tx.new.conn.now) → KeepsCommit (state S.Store tx.old.conn.now) (state S.Store tx.new.conn.now) }
     ensures survives { Survives (state S.Store tx.old.conn.now) (state S.Store tx.new.conn.now) (λ _. ⊥) }
 {
+    create_index(
+        tx,
+        "CREATE INDEX returns_company ON returns (company, day)",
+    )?;
     create_index(tx, "CREATE INDEX changes_company ON changes (company, no)")?;
     create_index(
         tx,

@@ -19,6 +19,7 @@ CREATE TABLE balances (account TEXT NOT NULL, value_day INT NOT NULL, cents TEXT
 pub(super) const INDEXES: &str = "CREATE INDEX entries_seq ON entries (seq);
 CREATE INDEX submissions_open ON submissions (company, settled, lapsed, ord);
 CREATE INDEX submissions_retries ON submissions (company, of_ref);
+CREATE INDEX returns_company ON returns (company, day);
 CREATE INDEX changes_company ON changes (company, no);
 CREATE INDEX postings_account ON postings (account, no)";
 

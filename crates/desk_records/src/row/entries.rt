@@ -2,10 +2,10 @@
 ghost use Rattle.std.specs.Prelude.{◌≡◌, ◌≤◌, ◌+◌, ◌↔◌, [], ◌∷◌, Some, IsTrue};
 ghost use Rattle.sqlite_value.specs.Order.{column};
 ghost use Rattle.desk_rules.specs.Fields.{entry_cents_of};
-ghost use Rattle.desk_records.specs.QueryRows.{numbered_entry_row, placed_entry_row};
+ghost use Rattle.desk_records.specs.QueryRows.{entry_amount_row, numbered_entry_row, placed_entry_row};
 ghost use Rattle.desk_records.specs.RecordRows.{entry_columns};
 ghost use Rattle.desk_records.specs.Reading.{Reads};
-ghost use Rattle.desk_records.specs.RowRanges.{EntryFits, NumberedEntryFits, PlacedEntryFits};
+ghost use Rattle.desk_records.specs.RowRanges.{EntryAmountFits, EntryFits, NumberedEntryFits, PlacedEntryFits};
 
 use super::FromRow;
 use crate::column::{read_column, read_number, read_ordinal, read_text_or_empty};
@@ -19,6 +19,15 @@ pub struct NumberedEntry {
     /// Its number in the submission, from 1.
     pub index: u64,
     pub entry: Entry,
+}
+
+/// An `EntryAmount` is what an entry of a submission counts for, without its names and texts.
+#[derive(Clone, Copy, Debug, PartialEq, Eq, Drop)]
+pub struct EntryAmount {
+    /// Its number in the submission, from 1.
+    pub index: u64,
+    pub prenote: bool,
+    pub cents: EntryCents,
 }
 
 /// A `PlacedEntry` is an entry with the submission that it is of.
@@ -44,6 +53,26 @@ impl FromRow for NumberedEntry {
         let index = read_number(row, 0, 1, MOST_ENTRIES as u64)?;
         let entry = read_entry(row, 1)?;
         Some(NumberedEntry { index, entry })
+    }
+}
+
+impl FromRow for EntryAmount {
+    ghost stored_row = { entry_amount_row };
+
+    ghost fits = { EntryAmountFits };
+
+    fn from_row(row: &Row) -> Option<EntryAmount> {
+        if row.column_count() != 3 {
+            return None;
+        }
+        let index = read_number(row, 0, 1, MOST_ENTRIES as u64)?;
+        let prenote = read_column(row, 1)?;
+        let cents = read_column(row, 2)?;
+        Some(EntryAmount {
+            index,
+            prenote,
+            cents,
+        })
     }
 }
 
