@@ -10,18 +10,25 @@ use Rattle.desk_history.specs.declared.sent_entry.SentEntry.{SentEntry}
 use Rattle.desk_rules.specs.LimitChecks.{is_debit}
 use Rattle.desk_rules.specs.declared.bodies.company.Company.{Company}
 use Rattle.desk_rules.specs.declared.bodies.submission.Retry.{Retry}
+use Rattle.desk_rules.specs.declared.rules.entry_fact.EntryFact.{EntryFact}
 use Rattle.desk_rules.specs.declared.rules.entry_fact.EntryState.{EntryState}
+use Rattle.desk_rules.specs.declared.rules.rate.Rates.{Rates}
+use Rattle.desk_rules.specs.ReturnRates.{rates}
+use Rattle.desk_book.specs.Standing as standing
+use Rattle.desk_book.specs.Sums.{exposures_on}
 use Rattle.desk_rules.specs.declared.rules.entry_fact.EntryState.TheVariants as states
 use Rattle.desk_book.specs.declared.caller.Caller.{Caller}
 use Rattle.desk_book.specs.declared.caller.Caller.TheVariants as callers
 use Rattle.desk_book.specs.declared.held_submission.HeldSubmission.{HeldSubmission}
 use Rattle.desk_book.specs.declared.row.Row.{Row}
 use Rattle.desk_records.specs.Encodes.{unless_lapsed}
-use Rattle.desk_records.specs.RowParts.{state_with}
-use Rattle.desk_records.specs.TableReads.{company_in, sums_in, head_under, entry_at, return_at, order_in, facts_in, rows_in, is_waiting_of, place_in, entry_at_place, places_between}
+use Rattle.desk_records.specs.RowParts.{state_with, state_among}
+use Rattle.desk_records.specs.TableReads.{company_in, sums_in, head_under, entry_at, return_at, order_in, facts_in, rows_in, is_of, is_waiting_of, place_in, entry_at_place, places_between}
 use Rattle.desk_records.specs.Tables.{Tables}
+use Rattle.desk_records.specs.declared.row.entries.EntryAmount.{EntryAmount}
 use Rattle.desk_records.specs.declared.row.entries.PlacedEntry.{PlacedEntry}
 use Rattle.desk_records.specs.declared.row.items.ChangeLine.{ChangeLine}
+use Rattle.desk_records.specs.declared.row.items.EntryReturn.{EntryReturn}
 use Rattle.desk_records.specs.declared.row.items.ReturnLine.{ReturnLine}
 use Rattle.desk_records.specs.declared.row.submissions.SubmissionFacts.{SubmissionFacts}
 use Rattle.desk_records.specs.declared.row.submissions.SubmissionHead.{SubmissionHead}
@@ -40,6 +47,20 @@ state_in head index t =
 
 abbrev pub state_under_in : (company : List ℕ) → (reference : List ℕ) → (index : ℕ) → Tables → Option EntryState
 state_under_in company reference index t = option_map (λ head. state_in head index t) (head_under company reference t)
+
+-- ---- what a company's entries come to
+
+-- what the rules read of an entry
+abbrev pub fact_among : SubmissionHead → List EntryReturn → EntryAmount → EntryFact
+fact_among head returns a = record { debit = is_debit head.direction; prenote = a.prenote; cents = a.cents; state = state_among head returns a.index }
+
+-- the exposures of all of a company's entries
+abbrev pub exposures_in : (company : List ℕ) → (day : ℕ) → (holidays : List ℕ) → Tables → ℕ × ℕ
+exposures_in c day holidays t = exposures_on (rows_in (is_of c) t) day holidays
+
+-- their return rates
+abbrev pub rates_in : (company : List ℕ) → (day : ℕ) → Tables → Rates
+rates_in c day t = rates (standing.facts_in (rows_in (is_of c) t)) day
 
 -- the day on which the original of a retry settled
 abbrev pub original_in : (company : List ℕ) → Option Retry → Tables → Option ℕ

@@ -1,13 +1,14 @@
 //! Rows of a book are assembled of the parts that queries find.
 ghost use Rattle.std.specs.Prelude.{◌≡◌, ◌==◌, ◌∷◌, map, find, option_map, IfOk};
 ghost use Rattle.desk_records.specs.Encodes.{unless_lapsed};
+ghost use Rattle.desk_read_laws.specs.Composed.{fact_among};
 ghost use Rattle.desk_records.specs.RowParts.{state_with, state_among, content_of, retry_with, row_of_parts};
 
 use bank_days::Day;
 use desk_book::Row;
 use desk_history::ListOf;
-use desk_records::{EntryReturn, NumberedEntry, SubmissionHead};
-use desk_rules::{Entries, EntryState, Retry, SizedSubmission, Submission};
+use desk_records::{EntryAmount, EntryReturn, NumberedEntry, SubmissionHead};
+use desk_rules::{Entries, EntryFact, EntryState, Retry, SizedSubmission, Submission};
 use desk_store::StoreFault;
 use std::alloc::{AllocError, Global};
 
@@ -102,6 +103,29 @@ fn content_from(
         Ok(content) => Ok(content),
         Err(_) => Err(StoreFault::Unavailable),
     }
+}
+
+/// Gives what the rules read of the entries of a submission, by what they count for and by its returns
+/// in the order in which they came.
+pub fn facts_from(
+    alloc: Global,
+    head: &SubmissionHead,
+    amounts: &[EntryAmount],
+    returns: &[EntryReturn],
+) -> Result<Vec<EntryFact>, AllocError>
+    ensures { IfOk result (λ facts. facts.items ≡ map (fact_among head.now returns.now) amounts.now) }
+{
+    let debit = head.direction.is_debit();
+    let mut facts = Vec::new(alloc);
+    for amount in amounts {
+        facts.push(EntryFact {
+            debit,
+            prenote: amount.prenote,
+            cents: amount.cents.as_cents(),
+            state: state_among(head, returns, amount.index),
+        })?;
+    }
+    Ok(facts)
 }
 
 // What a retry asked.

@@ -1,5 +1,10 @@
+pub mod Days
 pub mod HeldRows
 pub mod Joined
 pub mod ListReads
+pub mod Measures
+pub mod OpenHeads
+pub mod RatedHeads
+pub mod RowFacts
 pub mod TracesOfBank
 pub mod WholeRows

@@ -1,5 +1,6 @@
 //! A read does the same for each item of a list.
-ghost use Rattle.std.specs.Prelude.{◌≡◌, map};
+ghost use Rattle.std.specs.Prelude.{◌≡◌, map, IfOk};
+ghost use Rattle.std.specs.List.{flat_map};
 ghost use Rattle.sqlite.specs.Held.{state};
 ghost use Rattle.desk_records.specs.Tables.{Tables};
 ghost use Rattle.desk_reads.specs.Answers.{Learns};
@@ -45,6 +46,17 @@ pub(crate) fn read_each<S: Alter, R: ItemRead>(
     let mut all = Vec::new(alloc);
     for item in items {
         all.push(read.read_item(conn, alloc, item)?)?;
+    }
+    Ok(all)
+}
+
+/// Gives lists one after another, in one.
+pub(crate) fn joined<T: Drop>(alloc: Global, lists: Vec<Vec<T>>) -> Result<Vec<T>, StoreFault>
+    ensures { IfOk result (λ all. all.items ≡ flat_map (λ list. list.items) lists.items) }
+{
+    let mut all = Vec::new(alloc);
+    for mut list in lists {
+        all.append(&mut list)?;
     }
     Ok(all)
 }

@@ -1,13 +1,12 @@
 //! Submissions that wait for a cut.
-ghost use Rattle.std.specs.Prelude.{◌≡◌, List, map, IfOk};
-ghost use Rattle.std.specs.List.{flat_map};
+ghost use Rattle.std.specs.Prelude.{◌≡◌, List, map};
 ghost use Rattle.sqlite.specs.Held.{state};
 ghost use Rattle.desk_book.specs.declared.held_submission.HeldSubmission.{HeldSubmission};
 ghost use Rattle.desk_read_laws.specs.Composed.{original_in, held_in, waiting_in};
 ghost use Rattle.desk_records.specs.TableReads.{whole_row, rows_in, is_waiting_of};
 ghost use Rattle.desk_reads.specs.Answers.{Answers, Learns};
 
-use crate::each::{ItemRead, read_each};
+use crate::each::{ItemRead, joined, read_each};
 use crate::fault::or_unavailable;
 use crate::rows::row;
 use ach_fields::Id;
@@ -95,17 +94,6 @@ impl ItemRead for HeldByCompany {
         let found = read_each(conn, alloc, &held, &heads)?;
         Ok(found)
     }
-}
-
-// Lists one after another, in one.
-fn joined(alloc: Global, lists: Vec<Vec<HeldSubmission>>) -> Result<Vec<HeldSubmission>, StoreFault>
-    ensures { IfOk result (λ all. all.items ≡ flat_map (λ list. list.items) lists.items) }
-{
-    let mut all = Vec::new(alloc);
-    for mut list in lists {
-        all.append(&mut list)?;
-    }
-    Ok(all)
 }
 
 /// Reads the held submissions of all companies, by identification and then by order number.

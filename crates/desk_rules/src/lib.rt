@@ -31,7 +31,7 @@ pub use refusals::refusal::{Field, Refusal, RuleFault};
 pub use rules::attempt::Attempt;
 pub use rules::deadlines::{deadline, is_late};
 pub use rules::entry_fact::{EntryFact, EntryState};
-pub use rules::exposure::{credit_exposure, debit_exposure, is_open_credit};
+pub use rules::exposure::{credit_exposure, debit_exposure, is_open_credit, is_open_debit};
 pub use rules::limit_checks::{check_limits, check_submission};
 pub use rules::rate::{Level, Rate, Rates};
 pub use rules::retry_rule::{is_too_late, may_retry};

@@ -1,4 +1,3 @@
 pub mod Cutting
-pub mod Days
 pub mod Reading
 pub mod Writing

@@ -5,7 +5,6 @@
 //! laws of `desk_read_laws`, `desk_write_laws` and `desk_cut_law`.
 #![tactic(auto)]
 
-mod calendar;
 mod last_number;
 mod open;
 mod store;

@@ -4,7 +4,6 @@ ghost use Rattle.sqlite.specs.State.{HasCleanDisk};
 ghost use Rattle.sqlite_trees.specs.Tree.{Trees};
 ghost use Rattle.desk_records.specs.Layout.{Keeps, Sees};
 
-use crate::calendar::calendar_of;
 use crate::last_number::{place_after, place_of, sequence_of};
 use crate::transaction::write;
 use ach_fields::{Id, Ref, Trace};
@@ -18,7 +17,7 @@ use desk_edits::{
 use desk_history::{Identity, ListOf, SentEntry, SuspenseRow, TakenFile};
 use desk_read_laws::{files_of_tables, numbers_of_tables, registry_of_tables, rows_of_tables};
 use desk_reads::or_unavailable;
-use desk_rules::{Company, EntryState, Limits, Retry, RuleDay, SizedSubmission};
+use desk_rules::{Company, EntryState, Limits, Rates, Retry, RuleDay, SizedSubmission};
 use desk_store::{CutRows, IntakeRows, Store, StoreFault};
 use desk_write_laws::{
     company_follows, day_follows, holidays_follow, intake_follows, limits_follow,
@@ -65,8 +64,7 @@ impl<S: Alter> Store for SqlStore<S> {
 
     fn calendar(&mut self, alloc: Global) -> Result<Calendar, StoreFault> {
         registry_of_tables();
-        let days = or_unavailable(desk_queries::holidays(&mut self.conn, alloc))?;
-        calendar_of(alloc, &days)
+        desk_reads::calendar(&mut self.conn, alloc)
     }
 
     fn company(&mut self, _alloc: Global, id: Id) -> Result<Option<Company>, StoreFault> {
@@ -124,6 +122,21 @@ impl<S: Alter> Store for SqlStore<S> {
     fn entries_of(&mut self, alloc: Global, company: Id) -> Result<Vec<Row>, StoreFault> {
         rows_of_tables();
         desk_reads::entries_of(&mut self.conn, alloc, company)
+    }
+
+    fn exposures(
+        &mut self,
+        alloc: Global,
+        company: Id,
+        today: Day,
+    ) -> Result<(u128, u128), StoreFault> {
+        rows_of_tables();
+        desk_reads::exposures(&mut self.conn, alloc, company, today)
+    }
+
+    fn rates(&mut self, alloc: Global, company: Id, today: Day) -> Result<Rates, StoreFault> {
+        rows_of_tables();
+        desk_reads::rates_of(&mut self.conn, alloc, company, today)
     }
 
     fn waiting(&mut self, alloc: Global) -> Result<Vec<HeldSubmission>, StoreFault> {

@@ -51,8 +51,8 @@ pub fn debit_exposure(facts: &[EntryFact], day: Day, calendar: &Calendar) -> u12
     exposed
 }
 
-// Is a debit held, or can it still come back in the two banking days?
-fn is_open_debit(state: EntryState, day: Day, calendar: &Calendar) -> bool
+/// Is a debit held, or can it still come back in the two banking days?
+pub fn is_open_debit(state: EntryState, day: Day, calendar: &Calendar) -> bool
     ensures { result ≡ is_open_debit state day calendar.now }
 {
     match state {

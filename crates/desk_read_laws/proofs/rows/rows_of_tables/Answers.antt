@@ -6,7 +6,10 @@ use Rattle.std.specs.Prelude.{filter}
 use Rattle.desk_book.specs.Reads.{open_rows_of}
 use Rattle.desk_read_laws.proofs.CompanyRows.{entries_found, submission_found, retries_found, open_found, count_found}
 use Rattle.desk_read_laws.proofs.ReadsAs.{reads_as}
-use Rattle.desk_read_laws.specs.Composed.{state_under_in, waiting_in}
+use Rattle.desk_book.specs.Standing.{facts_in}
+use Rattle.desk_book.specs.Sums.{exposures_on, exposures_of, rates_of}
+use Rattle.desk_rules.specs.ReturnRates.{rates}
+use Rattle.desk_read_laws.specs.Composed.{exposures_in, rates_in, state_under_in, waiting_in}
 use Rattle.desk_read_laws.proofs.EntryStates.{state_found}
 use Rattle.desk_read_laws.proofs.ItemLines.{returns_found, changes_found, all_there}
 use Rattle.desk_read_laws.proofs.WaitingRows.{waiting_found}
@@ -22,6 +25,9 @@ returns c = record {
   open_rows = λ company since rows trees t b stored is told.
       ap (filter (is_open_row since)) told ∙ open_found t is.rows is.encodes stored.submissions.rise company since ∙ sym (ap (open_rows_of company since) is.book);
   state_of = λ company reference index. reads_as (state_under_in company reference (index - 1 + 1)) (state_of company reference index) (λ trees t r stored e beside. state_found t r e stored.submissions.rise company reference index);
+  exposures = λ company day. reads_as (λ t. exposures_in company day t.holidays t) (exposures_of company day)
+      (λ trees t r stored e beside. let found = entries_found t r e stored.submissions.rise company in λ i. exposures_on (found i) day (e.holidays i));
+  rates = λ company day. reads_as (rates_in company day) (rates_of company day) (λ trees t r stored e beside. ap (λ rows. rates (facts_in rows) day) (entries_found t r e stored.submissions.rise company));
   waiting = reads_as waiting_in waiting (λ trees t r stored e beside. waiting_found t r e stored.submissions.rise);
   items_of = λ company returns changes trees t b stored is told.
       let back : returns ≡ (flat_book is.rows).returns company = all_there returns ((flat_book is.rows).returns company) (told.0 ∙ returns_found t is.rows is.encodes stored.submissions.rise company) in

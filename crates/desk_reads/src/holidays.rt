@@ -1,11 +1,16 @@
 //! The holidays of the table are a calendar.
 ghost use Rattle.std.specs.Prelude.{◌≡◌, nat_le, IfOk};
 ghost use Rattle.std.specs.List.{list_all};
+ghost use Rattle.sqlite.specs.Held.{state};
 ghost use Rattle.desk_rules.specs.Deadlines.{last_rule_day};
+ghost use Rattle.desk_reads.specs.Answers.{Answers};
 
+use crate::fault::or_unavailable;
 use bank_days::{Calendar, Day};
+use desk_queries::holidays;
 use desk_rules::RuleDay;
 use desk_store::StoreFault;
+use sqlite::{Alter, Connection};
 use std::alloc::Global;
 
 // May a rule be given the day, as every holiday?
@@ -21,9 +26,8 @@ fn are_rule_days(days: &[Day]) -> bool
     days.iter().all(|day| is_rule_day(*day))
 }
 
-/// Makes the calendar of these days. Days that none has, out of their order or too late, are
-/// `Unavailable`.
-pub(crate) fn calendar_of(alloc: Global, days: &[Day]) -> Result<Calendar, StoreFault>
+// The calendar of these days. Days that none has, out of their order or too late, are `Unavailable`.
+fn calendar_of(alloc: Global, days: &[Day]) -> Result<Calendar, StoreFault>
     ensures { IfOk result (λ calendar. calendar ≡ days.now) }
 {
     if !are_rule_days(days) {
@@ -33,4 +37,15 @@ pub(crate) fn calendar_of(alloc: Global, days: &[Day]) -> Result<Calendar, Store
         Ok(calendar) => Ok(calendar),
         Err(_) => Err(StoreFault::Unavailable),
     }
+}
+
+/// Reads the holidays of the operator's calendar.
+pub fn calendar<S: Alter>(
+    conn: &mut Connection<S>,
+    alloc: Global,
+) -> Result<Calendar, StoreFault>
+    ensures { Answers (λ found t. found ≡ t.holidays) result (state S.Store conn.old) (state S.Store conn.new) }
+{
+    let days = or_unavailable(holidays(conn, alloc))?;
+    calendar_of(alloc, &days)
 }
