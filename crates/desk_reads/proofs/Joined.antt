@@ -1,5 +1,5 @@
 -- Reads one after another.
-use Rattle.std.proofs.Common.{◌≡◌, sym, subst, Result, Ok, Err, IfOk, IsTrue, refl, arith}
+use Rattle.std.proofs.Common.{◌≡◌, sym, subst, Result, Ok, Err, IfOk, IsTrue, inl, refl, arith}
 use Rattle.sqlite.specs.State.{State, HasCleanDisk, Survives}
 use Rattle.sqlite.proofs.StateLemmas.{survives_then}
 use Rattle.sql_statements.specs.Queries.{Stays}
@@ -104,3 +104,11 @@ asked {A} {E} {Tells} {r} {old} {new} a = record { answer = λ clean. go r (a.an
     go : (r : Result A E) → IfOk r (λ x. Finds desk_layout (Tells x) old) → IfOk r (λ x. (t : Tables) → IsSeen old t → Tells x t)
     go (Ok x) found = λ t seen. found.told t (seen found.was_open)
     go (Err e) found = tt
+
+-- nothing was asked
+pub unasked : {A E : Type 0} {Tells : A → Tables → Type 0} {x : A} {s : State} → ((t : Tables) → Tells x t) → Learns {A = A} {E = E} Tells (Ok x) s s
+unasked so = record {
+  answer = λ clean t seen. so t;
+  stays = λ clean is_open. (is_open, refl);
+  survives = record { clean = omega arith; shield = λ h. h; counts = omega arith; limit = refl; closes = λ clean is_open. inl is_open; crash = λ clean db may. inl may };
+}

@@ -1,8 +1,8 @@
 -- Sums over parts of lists.
-use Rattle.std.proofs.Common.{◌≡◌, ◌⊎◌, inl, inr, ◌≢◌, ◌<◌, ℕ, zero, suc, ◌+◌, ◌==◌, Bool, true, false, not, ◌&&◌, cond, List, [], ◌∷◌, ◌++◌, map, filter, sum_by, refl, sym, ap, ◌∙◌, arith, eq-eqb, ne_eqb, subst, true≢false, Less}
-use Rattle.std.proofs.lemmas.List.Kept.{Contains-cons_cases}
+use Rattle.std.proofs.Common.{◌≡◌, ◌⊎◌, inl, inr, ◌≢◌, ◌<◌, ℕ, zero, suc, ◌+◌, ◌==◌, Bool, true, false, not, ◌&&◌, cond, List, [], ◌∷◌, ◌++◌, map, filter, sum_by, refl, sym, ap, ◌∙◌, arith, eq-eqb, ne_eqb, length, get_or, subst, true≢false, Less}
 use Rattle.std.proofs.lemmas.List.Sums.{sum_by-cons}
-use Rattle.std.specs.List.{flat_map, AllByRecursion, IsStrictlySortedBy}
+use Rattle.std.specs.List.{flat_map, AllByRecursion}
+use Rattle.std.specs.List.Sorted.{IsStrictlySortedBy}
 use Rattle.std.specs.Ordering.{nat_cmp}
 use Rattle.std.specs.Prelude.{Contains}
 use borrow.Author.Tests.{eqb-true}
@@ -52,20 +52,24 @@ module _ {X : Type 0} (f : X → ℕ) where
     where
       go : (b : Bool) → sum_by f (filter (λ x. not (p x)) xs) ≡ sum_by (λ x. cond (p x) 0 (f x)) xs
           → sum_by f (cond (not b) (x ∷ filter (λ x. not (p x)) xs) (filter (λ x. not (p x)) xs)) ≡ cond b 0 (f x) + sum_by (λ x. cond (p x) 0 (f x)) xs
-      go true more = more
+      go true more = omega (arith, more)
       go false more = sum_by-cons f x (filter (λ x. not (p x)) xs) ∙ ap (λ n. f x + n) more
 
 -- ---- by distinct keys
 
-at_one : (b : Bool) (v n : ℕ) → cond b v 0 + n ≡ cond b (v + n) n
-at_one true v n = refl
-at_one false v n = refl
+-- a place in a list is its head or one behind it
+cons_cases : (x z : ℕ) (xs : List ℕ) (k : ℕ) → k < length (x ∷ xs) → get_or (x ∷ xs) k z ≡ z → (x ≡ z) ⊎ Contains xs z
+cons_cases x z xs zero within at = inl at
+cons_cases x z xs (suc k) within at = inr (k, omega arith, at)
 
 none_at : (k v : ℕ) (os : List ℕ) → AllByRecursion (λ o. nat_cmp k o ≡ Less) os → sum_by (λ o. cond (k == o) v 0) os ≡ 0
 none_at k v [] above = refl
 none_at k v (o ∷ os) above =
     let apart : k ≢ o = λ same. absurd (less_apart k o above.0 same) in
-    sum_by-cons (λ o. cond (k == o) v 0) o os ∙ ap (λ b. cond b v 0 + sum_by (λ o. cond (k == o) v 0) os) (ne_eqb k o apart) ∙ none_at k v os above.1
+    let whole = sum_by-cons (λ o. cond (k == o) v 0) o os in
+    let first : cond (k == o) v 0 ≡ 0 = ap (λ b. cond b v 0) (ne_eqb k o apart) in
+    let rest = none_at k v os above.1 in
+    omega arith
   where
     less_apart : (k o : ℕ) → nat_cmp k o ≡ Less → k ≡ o → ⊥
     less_apart k o less same = grind arith
@@ -73,22 +77,22 @@ none_at k v (o ∷ os) above =
 once : (k v : ℕ) (os : List ℕ) → IsStrictlySortedBy nat_cmp os → Contains os k → sum_by (λ o. cond (k == o) v 0) os ≡ v
 unfolding IsStrictlySortedBy
 once k v [] rise has = absurd (omega (arith, has.1))
-once k v (o ∷ os) rise has = sum_by-cons (λ o. cond (k == o) v 0) o os ∙ go (k == o) refl (Contains-cons_cases o k os has.0 has.1 has.2) (λ c. once k v os rise.1 c)
+once k v (o ∷ os) rise has = sum_by-cons (λ o. cond (k == o) v 0) o os ∙ go (k == o) refl (cons_cases o k os has.0 has.1 has.2) (λ c. once k v os rise.1 c)
   where
     go : (b : Bool) → (k == o) ≡ b → (o ≡ k) ⊎ Contains os k → (Contains os k → sum_by (λ o. cond (k == o) v 0) os ≡ v) → cond b v 0 + sum_by (λ o. cond (k == o) v 0) os ≡ v
     go true is at more = let none = none_at k v os (subst (λ n. AllByRecursion (λ y. nat_cmp n y ≡ Less) os) (sym (eqb-true k o is)) rise.0) in omega arith
     go false is (inl same) more = absurd (true≢false (sym (eq-eqb k o (sym same)) ∙ is))
-    go false is (inr c) more = more c
+    go false is (inr c) more = let rest = more c in omega arith
 
 none_each : {X : Type 0} (xs : List X) → sum_by (λ _. 0) xs ≡ 0
 none_each [] = refl
-none_each (x ∷ xs) = sum_by-cons (λ _. 0) x xs ∙ none_each xs
+none_each (x ∷ xs) = let whole = sum_by-cons (λ _. 0) x xs in let rest = none_each xs in omega arith
 
 once_or_none : (k v : ℕ) (os : List ℕ) → IsStrictlySortedBy nat_cmp os → Contains os k ⊎ (v ≡ 0) → sum_by (λ o. cond (k == o) v 0) os ≡ v
 once_or_none k v os rise (inl has) = once k v os rise has
-once_or_none k v os rise (inr none) = subst (λ n. sum_by (λ o. cond (k == o) n 0) os ≡ n) (sym none) (summed_same (λ o. cond (k == o) 0 0) (λ _. 0) (λ o. zero_both (k == o)) os ∙ none_each os)
+once_or_none k v os rise (inr none) = subst (λ (n : ℕ). sum_by (λ o. cond (k == o) n 0) os ≡ n) (sym none) (summed_same (λ (o : ℕ). cond (k == o) 0 0) (λ (_ : ℕ). 0) (λ o. zero_both (k == o)) os ∙ none_each os)
   where
-    zero_both : (b : Bool) → cond b 0 0 ≡ 0
+    zero_both : (b : Bool) → ◌≡◌ {A = ℕ} (cond b 0 0) 0
     zero_both true = refl
     zero_both false = refl
 
@@ -113,7 +117,7 @@ by_key key f os rise (x ∷ xs) all =
   where
     each : (b : Bool) (l : List _) → sum_by f (cond b (x ∷ l) l) ≡ cond b (f x) 0 + sum_by f l
     each true l = sum_by-cons f x l
-    each false l = refl
+    each false l = omega arith
 
 -- what holds of each that passes
 pub passing_all : {X : Type 0} (p : X → Bool) (P : X → Type 0) → ((x : X) → p x ≡ true → P x) → (xs : List X) → AllByRecursion P (filter p xs)

@@ -5,7 +5,6 @@ use Rattle.std.proofs.lemmas.List.Elements.{filter-append}
 use Rattle.std.proofs.lemmas.List.Sums.{sum_by-append}
 use Rattle.bank_days.specs.Calendar.{nth_after}
 use Rattle.desk_rules.specs.Exposure.{is_open_credit, is_open_debit, credit_exposure, debit_exposure}
-use Rattle.desk_rules.specs.LimitChecks.{is_debit}
 use Rattle.desk_rules.specs.declared.rules.entry_fact.EntryFact.{EntryFact}
 use Rattle.desk_book.specs.declared.row.Row.{Row}
 use Rattle.desk_book.specs.OpenRows.{IsPast}
@@ -13,13 +12,13 @@ use Rattle.desk_book.specs.Standing.{row_facts, facts_in}
 use Rattle.desk_records.specs.Encodes.{unless_lapsed}
 use Rattle.desk_records.specs.RowParts.{state_with}
 use Rattle.desk_records.specs.Selected.{head_of}
-use Rattle.desk_records.specs.TableReads.{is_of, is_open_of, is_since, is_waiting, cents_in, heads_in, whole_row}
+use Rattle.desk_records.specs.TableReads.{is_of, is_open_of, is_since, is_waiting, heads_in, whole_row}
 use Rattle.desk_records.specs.Tables.{Tables}
 use Rattle.desk_records.specs.declared.records.SubmissionRecord.{SubmissionRecord}
 use Rattle.desk_records.specs.declared.row.submissions.SubmissionHead.{SubmissionHead}
 use Rattle.desk_read_laws.specs.Composed.{exposures_in}
 use Rattle.desk_reads.proofs.Measures.{Adds, over_each, summed_map, narrowed}
-use Rattle.desk_reads.proofs.RowFacts.{state_alone, credit_whole, debit_none}
+use Rattle.desk_reads.proofs.RowFacts.{credit_none, debit_none}
 use Rattle.desk_reads.specs.Counted.{row_exposures, heads_exposures}
 
 cents_add : (p : EntryFact → Bool) → Adds (λ (facts : List EntryFact). sum_by (λ f. f.cents) (filter p facts))
@@ -73,11 +72,7 @@ module _ (t : Tables) (day : ℕ) (holidays : List ℕ) where
     closed_debit false (Some on) h = not_yet day (nth_after holidays on 2) (past.past on (below since on h))
 
     no_credit : (s : SubmissionRecord) → (is_since since s.settled || is_waiting s) ≡ false → credit_of (head_of s) ≡ 0
-    no_credit s h = credit_whole t (head_of s) day ∙ ap (λ b. cond (not (is_debit s.direction) && b) (cents_in s.company s.order t) 0) (closed_credit s.lapsed s.settled h) ∙ and_none (not (is_debit s.direction)) (cents_in s.company s.order t)
-      where
-        and_none : (b : Bool) (n : ℕ) → cond (b && false) n 0 ≡ 0
-        and_none true n = refl
-        and_none false n = refl
+    no_credit s h = credit_none t (head_of s) day (closed_credit s.lapsed s.settled h)
 
     no_debit : (s : SubmissionRecord) → (is_since since s.settled || is_waiting s) ≡ false → debit_of (head_of s) ≡ 0
     no_debit s h = debit_none t (head_of s) day holidays (closed_debit s.lapsed s.settled h)

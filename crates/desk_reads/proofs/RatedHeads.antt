@@ -4,7 +4,8 @@ use Rattle.std.proofs.lemmas.Bool.{and_parts}
 use Rattle.std.proofs.lemmas.List.Sums.{sum_by-cons, sum_by-append}
 use Rattle.std.proofs.lemmas.Slice.Eq.{bytes_eq-Decides}
 use Rattle.sqlite_keyed.proofs.ListLemmas.{filter-map}
-use Rattle.std.specs.List.{flat_map, AllByRecursion, IsStrictlySortedBy}
+use Rattle.std.specs.List.{flat_map, AllByRecursion}
+use Rattle.std.specs.List.Sorted.{IsStrictlySortedBy}
 use Rattle.std.specs.Ordering.{nat_cmp}
 use Rattle.std.specs.Prelude.{Contains, count_by}
 use borrow.Author.Tests.{eqb-true}
@@ -38,8 +39,8 @@ counts_add p = record { none = refl; both = λ xs ys. sum_by-append (λ x. cond 
 
 -- ---- a return that is found was taken for a submission
 
-one_more : {x z : ℕ} {xs : List ℕ} → Contains xs z → Contains (x ∷ xs) z
-one_more has = (suc has.0, omega (arith, has.1), has.2)
+one_more : (x z : ℕ) (xs : List ℕ) → Contains xs z → Contains (x ∷ xs) z
+one_more x z xs has = (suc has.0, omega (arith, has.1), has.2)
 
 front : (x z : ℕ) (xs : List ℕ) → x ≡ z → Contains (x ∷ xs) z
 front x z xs same = (0, omega arith, same)
@@ -54,7 +55,7 @@ module _ (c : List ℕ) (order since : ℕ) where
       rest = map (λ r. r.order) (filter (is_return_since c since) rs)
 
       more : (b : Bool) → Contains rest order → Contains (map (λ r. r.order) (cond b (r ∷ filter (is_return_since c since) rs) (filter (is_return_since c since) rs))) order
-      more true has = one_more has
+      more true has = one_more r.order order rest has
       more false has = has
 
       found : (b3 : Bool) → nat_le since r.day ≡ b3 → (r.order == order) ≡ true → (h : Bool) → p (return_of r) ≡ h
@@ -77,7 +78,7 @@ module _ (c : List ℕ) (order since : ℕ) where
 
 module _ (q : EntryState → Bool) (since : ℕ) where
   -- what counts settled since then, or came back since then
-  pub IsWithin : Type 0
+  abbrev pub IsWithin : Type 0
   IsWithin = (lapsed : Bool) (settled : Option ℕ) (back : Option EntryReturn) → q (unless_lapsed lapsed (state_with settled back)) ≡ true
       → (is_since since settled ≡ true) ⊎ ((b : EntryReturn) × (back ≡ Some b) × (nat_le since b.day ≡ true))
 
@@ -96,13 +97,14 @@ module _ (q : EntryState → Bool) (since : ℕ) where
     no_debit true facts same = refl
     no_debit false [] same = refl
     no_debit false (f ∷ fs) same =
-        no_debit false fs same.1
-        ∙ ap (λ b. cond ((b && not f.prenote) && q f.state) 1 0 + count_by counts fs) (sym same.0)
-        ∙ sym (sum_by-cons (λ f. cond (counts f) 1 0) f fs)
+        let whole : count_by counts (f ∷ fs) ≡ cond (counts f) 1 0 + count_by counts fs = sum_by-cons (λ (x : EntryFact). cond (counts x) 1 0) f fs in
+        let first : ◌≡◌ {A = ℕ} (cond (counts f) 1 0) 0 = ap (λ (b : Bool). cond ((b && not f.prenote) && q f.state) 1 0) same.0 in
+        let rest : 0 ≡ count_by counts fs = no_debit false fs same.1 in
+        omega arith
 
-    own_debit : (head : SubmissionHead) (as : List EntryAmount) → AllByRecursion (λ (f : EntryFact). f.debit ≡ is_debit head.direction) (map (fact_among head (returns_in head.company head.order t)) as)
+    own_debit : (head : SubmissionHead) (ns : List EntryAmount) → AllByRecursion (λ (f : EntryFact). f.debit ≡ is_debit head.direction) (map (fact_among head (returns_in head.company head.order t)) ns)
     own_debit head [] = tt
-    own_debit head (a ∷ as) = (refl, own_debit head as)
+    own_debit head (a ∷ ns) = (refl, own_debit head ns)
 
     debits_are : (s : SubmissionRecord) → debits_of (head_of s) ≡ count_of s
     debits_are s =
@@ -110,35 +112,38 @@ module _ (q : EntryState → Bool) (since : ℕ) where
         (subst (AllByRecursion (λ (f : EntryFact). f.debit ≡ is_debit s.direction)) (facts_are t (head_of s)) (own_debit (head_of s) (amounts_in s.company s.order t)))
 
     -- a submission that did not settle since then counts only where it came back since then
-    came_back : (s : SubmissionRecord) → is_of c s ≡ true → is_since since s.settled ≡ false → (as : List EntryAmount)
-        → Contains os s.order ⊎ (count_by counts (map (fact_among (head_of s) (returns_in s.company s.order t)) as) ≡ 0)
+    came_back : (s : SubmissionRecord) → is_of c s ≡ true → is_since since s.settled ≡ false → (ns : List EntryAmount)
+        → Contains os s.order ⊎ (count_by counts (map (fact_among (head_of s) (returns_in s.company s.order t)) ns) ≡ 0)
     came_back s own old [] = inr refl
-    came_back s own old (a ∷ as) = go (q (state_among (head_of s) (returns_in s.company s.order t) a.index)) refl (came_back s own old as)
+    came_back s own old (a ∷ ns) = go (q (state_among (head_of s) (returns_in s.company s.order t) a.index)) refl (came_back s own old ns)
       where
         fact : EntryFact
         fact = fact_among (head_of s) (returns_in s.company s.order t) a
 
         rest : List EntryFact
-        rest = map (fact_among (head_of s) (returns_in s.company s.order t)) as
+        rest = map (fact_among (head_of s) (returns_in s.company s.order t)) ns
 
-        counted : (b : Bool) → q fact.state ≡ b → b ≡ true → Contains os s.order
-        counted b is yes' = elim (within s.lapsed s.settled (find (λ r. r.index == a.index) (returns_in s.company s.order t)) (is ∙ yes')) [
+        counted : q fact.state ≡ true → Contains os s.order
+        counted is = elim (within s.lapsed s.settled (find (λ r. r.index == a.index) (returns_in s.company s.order t)) is) [
           | inl since_then ↦ absurd (true≢false (sym since_then ∙ old))
           | inr back ↦ all s.order (subst (λ (d : List ℕ). Contains (map (λ r. r.order) (filter (is_return_since d since) t.returns)) s.order) ((bytes_eq-Decides s.company c).0 own)
           (taken_since s.company s.order since (λ r. r.index == a.index) t.returns back.0 back.1 back.2))
         ]
 
-        none : (b : Bool) → q fact.state ≡ b → b ≡ false → count_by counts rest ≡ 0 → count_by counts (fact ∷ rest) ≡ 0
-        none b is no' zero' = sum_by-cons (λ f. cond (counts f) 1 0) fact rest ∙ ap (λ x. cond (is_live_debit fact && x) 1 0 + count_by counts rest) (is ∙ no') ∙ (let z = zero' in and_no (is_live_debit fact) z)
-          where
-            and_no : (b : Bool) → count_by counts rest ≡ 0 → cond (b && false) 1 0 + count_by counts rest ≡ 0
-            and_no true z = z
-            and_no false z = z
+        and_no : (b : Bool) → ◌≡◌ {A = ℕ} (cond (b && false) 1 0) 0
+        and_no true = refl
+        and_no false = refl
+
+        none : q fact.state ≡ false → count_by counts rest ≡ 0 → count_by counts (fact ∷ rest) ≡ 0
+        none is more =
+            let whole : count_by counts (fact ∷ rest) ≡ cond (counts fact) 1 0 + count_by counts rest = sum_by-cons (λ (x : EntryFact). cond (counts x) 1 0) fact rest in
+            let first : ◌≡◌ {A = ℕ} (cond (counts fact) 1 0) 0 = ap (λ (x : Bool). cond (is_live_debit fact && x) 1 0) is ∙ and_no (is_live_debit fact) in
+            omega arith
 
         go : (b : Bool) → q fact.state ≡ b → Contains os s.order ⊎ (count_by counts rest ≡ 0) → Contains os s.order ⊎ (count_by counts (fact ∷ rest) ≡ 0)
-        go true is more = inl (counted true is refl)
+        go true is more = inl (counted is)
         go false is (inl has) = inl has
-        go false is (inr zero') = inr (none false is refl zero')
+        go false is (inr more) = inr (none is more)
 
     abbrev late_of : SubmissionRecord → ℕ
     late_of s = cond (is_since since s.settled) 0 (debits_of (head_of s))
@@ -148,7 +153,7 @@ module _ (q : EntryState → Bool) (since : ℕ) where
       where
         none : Contains os s.order ⊎ (count_by counts (map (fact_among (head_of s) (returns_in s.company s.order t)) (amounts_in s.company s.order t)) ≡ 0) → Contains os s.order ⊎ (debits_of (head_of s) ≡ 0)
         none (inl has) = inl has
-        none (inr zero') = inr (debits_are s ∙ ap (count_by counts) (sym (facts_are t (head_of s))) ∙ zero')
+        none (inr none_counts) = inr (debits_are s ∙ ap (count_by counts) (sym (facts_are t (head_of s))) ∙ none_counts)
 
         go : (b : Bool) → is_since since s.settled ≡ b → Contains os s.order ⊎ (cond b 0 (debits_of (head_of s)) ≡ 0)
         go true is = inr refl
@@ -187,29 +192,27 @@ module _ (q : EntryState → Bool) (since : ℕ) where
     pub counted : (settled returned : List EntryFact) → settled ≡ flat_map (λ head. debit_facts (whole_row t head)) (heads_in (is_settled_of c since) t) → returned ≡ flat_map (earlier_facts c since t) os
         → count_by counts (settled ++ returned) ≡ count_by counts (facts_in (rows_in (is_of c) t))
     counted settled returned a b =
-        (λ i. count_by counts (a i ++ b i))
-        ∙ (counts_add counts).both _ _
-        ∙ (let first = settled_sum in let second = returned_sum in λ i. first i + second i)
+        (counts_add counts).both settled returned
+        ∙ (let first = ap (count_by counts) a ∙ settled_sum in let second = ap (count_by counts) b ∙ returned_sum in λ i. first i + second i)
         ∙ apart (λ s. debits_of (head_of s)) (λ s. is_since since s.settled) own
         ∙ summed_same (λ s. debits_of (head_of s)) count_of debits_are own
         ∙ sym all_sum
 
 settled_within : (day : ℕ) → IsWithin (λ s. has_settled s day) (day - 59)
-settled_within day true settled back counts = absurd (true≢false (sym counts))
-settled_within day false None back counts = absurd (true≢false (sym counts))
-settled_within day false (Some on) None counts = inl (and_parts _ _ counts).0
-settled_within day false (Some on) (Some b) counts = inl (and_parts _ _ counts).0
+settled_within day true settled back holds = absurd (true≢false (sym holds))
+settled_within day false None back holds = absurd (true≢false (sym holds))
+settled_within day false (Some on) None holds = inl (and_parts _ _ holds).0
+settled_within day false (Some on) (Some b) holds = inl (and_parts _ _ holds).0
 
 returned_within : (level : Level) (day : ℕ) → IsWithin (λ s. was_returned level s day) (day - 59)
-returned_within level day true settled back counts = absurd (true≢false (sym counts))
-returned_within level day false None back counts = absurd (true≢false (sym counts))
-returned_within level day false (Some on) None counts = absurd (true≢false (sym counts))
-returned_within level day false (Some on) (Some b) counts = inr (b, refl, (and_parts _ _ (and_parts _ _ counts).0).0)
+returned_within level day true settled back holds = absurd (true≢false (sym holds))
+returned_within level day false None back holds = absurd (true≢false (sym holds))
+returned_within level day false (Some on) None holds = absurd (true≢false (sym holds))
+returned_within level day false (Some on) (Some b) holds = inr (b, refl, (and_parts _ _ (and_parts _ _ holds).0).0)
 
--- the rates of these facts are those of all
-pub rates_are : (t : Tables) (c : List ℕ) (day : ℕ) (settled returned : List EntryFact) → settled ≡ flat_map (λ head. debit_facts (whole_row t head)) (heads_in (is_settled_of c (day - 59)) t) → AreReturned c (day - 59) t returned
+rates_within : (t : Tables) (c : List ℕ) (day : ℕ) (settled returned : List EntryFact) → settled ≡ flat_map (λ head. debit_facts (whole_row t head)) (heads_in (is_settled_of c (day - 59)) t) → AreReturned c (day - 59) t returned
     → rates (settled ++ returned) day ≡ rates_in c day t
-rates_are t c day settled returned a b =
+rates_within t c day settled returned a b =
     let of : (q : EntryState → Bool) → IsWithin q (day - 59) → count_by (λ f. is_live_debit f && q f.state) (settled ++ returned) ≡ count_by (λ f. is_live_debit f && q f.state) (facts_in (rows_in (is_of c) t)) =
     λ q within. counted q (day - 59) t c within b.orders b.rise b.all settled returned a b.are in
     let d = of (λ s. has_settled s day) (settled_within day) in
@@ -221,3 +224,9 @@ rates_are t c day settled returned a b =
       administrative = record { n = v i; d = d i; over = exceeds Administrative (v i) (d i) };
       overall = record { n = w i; d = d i; over = exceeds Overall (w i) (d i) };
     }
+
+-- the rates of these facts are those of all
+pub rates_are : (t : Tables) (c : List ℕ) (day since : ℕ) → since ≡ day - 59 → (settled returned : List EntryFact) → settled ≡ flat_map (λ head. debit_facts (whole_row t head)) (heads_in (is_settled_of c since) t) → AreReturned c since t returned
+    → rates (settled ++ returned) day ≡ rates_in c day t
+rates_are t c day since is settled returned a b =
+    rates_within t c day settled returned (subst (λ (n : ℕ). settled ≡ flat_map (λ head. debit_facts (whole_row t head)) (heads_in (is_settled_of c n) t)) is a) (subst (λ (n : ℕ). AreReturned c n t returned) is b)

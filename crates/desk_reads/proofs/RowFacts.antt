@@ -1,5 +1,5 @@
 -- What the rules read of a submission's entries, and what these come to.
-use Rattle.std.proofs.Common.{◌≡◌, ℕ, ◌+◌, Bool, true, false, not, ◌&&◌, cond, List, [], ◌∷◌, map, filter, sum_by, zip, find, Option, None, Some, refl, sym, ap, ◌∙◌}
+use Rattle.std.proofs.Common.{◌≡◌, ℕ, ◌+◌, ◌==◌, Bool, true, false, not, ◌&&◌, cond, List, [], ◌∷◌, map, filter, sum_by, zip, find, Option, None, Some, refl, sym, ap, ◌∙◌}
 use Rattle.std.proofs.lemmas.List.Sums.{sum_by-cons}
 use Rattle.bank_days.specs.Calendar.{nth_after}
 use Rattle.desk_rules.specs.Exposure.{is_open_credit, is_open_debit, credit_exposure, debit_exposure}
@@ -18,10 +18,7 @@ use Rattle.desk_records.specs.declared.row.entries.EntryAmount.{EntryAmount}
 use Rattle.desk_records.specs.declared.row.items.EntryReturn.{EntryReturn}
 use Rattle.desk_records.specs.declared.row.submissions.SubmissionHead.{SubmissionHead}
 use Rattle.desk_read_laws.specs.Composed.{fact_among}
-
--- the state of an entry that did not come back
-abbrev pub state_alone : SubmissionHead → EntryState
-state_alone head = unless_lapsed head.lapsed (state_with head.settled None)
+use Rattle.desk_reads.specs.Counted.{IsWhole, state_alone}
 
 credit_alike : (lapsed : Bool) (settled : Option ℕ) (back : Option EntryReturn) (day : ℕ) → is_open_credit (unless_lapsed lapsed (state_with settled back)) day ≡ is_open_credit (unless_lapsed lapsed (state_with settled None)) day
 credit_alike true settled back day = refl
@@ -78,20 +75,51 @@ module _ (t : Tables) (head : SubmissionHead) where
   pub credit_whole : (day : ℕ) → credit_exposure (row_facts (whole_row t head)) day ≡ cond (not (is_debit head.direction) && is_open_credit (state_alone head) day) (cents_in head.company head.order t) 0
   credit_whole day =
       cents_where (λ f. not f.debit && is_open_credit f.state day) (not (is_debit head.direction) && is_open_credit (state_alone head) day)
-      (λ a. ap (λ b. not (is_debit head.direction) && b) (credit_alike head.lapsed head.settled (find (λ r. Rattle.std.proofs.Common.eqb r.index a.index) returned) day))
-
-  -- and debits where none came back
-  pub debit_whole : (day : ℕ) (holidays : List ℕ) → ((index : ℕ) → is_open_debit (state_among head returned index) day holidays ≡ is_open_debit (state_alone head) day holidays)
-      → debit_exposure (row_facts (whole_row t head)) day holidays ≡ cond (is_debit head.direction && is_open_debit (state_alone head) day holidays) (cents_in head.company head.order t) 0
-  debit_whole day holidays alike =
-      cents_where (λ f. f.debit && is_open_debit f.state day holidays) (is_debit head.direction && is_open_debit (state_alone head) day holidays)
-      (λ a. ap (λ b. is_debit head.direction && b) (alike a.index))
+      (λ a. ap (λ b. not (is_debit head.direction) && b) (credit_alike head.lapsed head.settled (find (λ r. r.index == a.index) returned) day))
 
   and_false : (b : Bool) → (b && false) ≡ false
   and_false true = refl
   and_false false = refl
 
+  -- and debits where none came back
+  debit_whole : (day : ℕ) (holidays : List ℕ) → IsWhole t head
+      → debit_exposure (row_facts (whole_row t head)) day holidays ≡ cond (is_debit head.direction && is_open_debit (state_alone head) day holidays) (cents_in head.company head.order t) 0
+  debit_whole day holidays whole =
+      cents_where (λ f. f.debit && is_open_debit f.state day holidays) (is_debit head.direction && is_open_debit (state_alone head) day holidays)
+      (λ a. ap (λ state. is_debit head.direction && is_open_debit state day holidays) (whole a.index))
+
   pub debit_none : (day : ℕ) (holidays : List ℕ) → is_open_debit (state_alone head) day holidays ≡ false → debit_exposure (row_facts (whole_row t head)) day holidays ≡ 0
   debit_none day holidays closed =
       cents_where (λ f. f.debit && is_open_debit f.state day holidays) false
-      (λ a. ap (λ b. is_debit head.direction && b) (debit_closed head.lapsed head.settled (find (λ r. Rattle.std.proofs.Common.eqb r.index a.index) returned) day holidays closed) ∙ and_false (is_debit head.direction))
+      (λ a. ap (λ b. is_debit head.direction && b) (debit_closed head.lapsed head.settled (find (λ r. r.index == a.index) returned) day holidays closed) ∙ and_false (is_debit head.direction))
+
+  pub credit_none : (day : ℕ) → is_open_credit (state_alone head) day ≡ false → credit_exposure (row_facts (whole_row t head)) day ≡ 0
+  credit_none day closed =
+      credit_whole day ∙ ap (λ b. cond (not (is_debit head.direction) && b) (cents_in head.company head.order t) 0) closed ∙ ap (λ b. cond b (cents_in head.company head.order t) 0) (and_false (not (is_debit head.direction)))
+
+  -- of the other direction
+  pub no_credit : (day : ℕ) → is_debit head.direction ≡ true → credit_exposure (row_facts (whole_row t head)) day ≡ 0
+  no_credit day debit = credit_whole day ∙ ap (λ b. cond (not b && is_open_credit (state_alone head) day) (cents_in head.company head.order t) 0) debit
+
+  pub no_debit : (day : ℕ) (holidays : List ℕ) → is_debit head.direction ≡ false → debit_exposure (row_facts (whole_row t head)) day holidays ≡ 0
+  no_debit day holidays credit = cents_where (λ f. f.debit && is_open_debit f.state day holidays) false (λ a. ap (λ b. b && is_open_debit (state_among head returned a.index) day holidays) credit)
+
+  -- ---- what is read of an open submission
+
+  pub credit_open : (day cents : ℕ) → cents ≡ cents_in head.company head.order t → is_debit head.direction ≡ false → is_open_credit (state_alone head) day ≡ true → cents ≡ credit_exposure (row_facts (whole_row t head)) day
+  credit_open day cents are credit counts =
+      are ∙ sym (credit_whole day ∙ (λ i. cond (not (credit i) && counts i) (cents_in head.company head.order t) 0))
+
+  pub debit_open : (day : ℕ) (holidays : List ℕ) (cents : ℕ) → cents ≡ cents_in head.company head.order t → IsWhole t head → is_debit head.direction ≡ true → is_open_debit (state_alone head) day holidays ≡ true
+      → cents ≡ debit_exposure (row_facts (whole_row t head)) day holidays
+  debit_open day holidays cents are whole debit counts =
+      are ∙ sym (debit_whole day holidays whole ∙ (λ i. cond (debit i && counts i) (cents_in head.company head.order t) 0))
+
+  -- ---- where none came back
+
+  pub held_whole : head.settled ≡ None → IsWhole t head
+  held_whole held index =
+      ap (λ s. unless_lapsed head.lapsed (state_with s (find (λ r. r.index == index) returned))) held ∙ sym (ap (λ (s : Option ℕ). unless_lapsed head.lapsed (state_with s None)) held)
+
+  pub none_whole : returned ≡ [] → IsWhole t head
+  none_whole none index = ap (λ (rs : List EntryReturn). unless_lapsed head.lapsed (state_with head.settled (find (λ r. r.index == index) rs))) none

@@ -1,21 +1,33 @@
 -- Which entries exposures and return rates are made of.
-use Rattle.std.specs.Prelude.{◌≡◌, ℕ, not, if◌then◌else◌, List, [], map, filter, Contains}
-use Rattle.std.specs.List.{flat_map, IsStrictlySortedBy}
+use Rattle.std.specs.Prelude.{◌≡◌, ℕ, not, if◌then◌else◌, List, [], map, filter, None, Contains}
+use Rattle.std.specs.List.{flat_map}
+use Rattle.std.specs.List.Sorted.{IsStrictlySortedBy}
 use Rattle.std.specs.Ordering.{nat_cmp}
 use Rattle.desk_rules.specs.declared.rules.entry_fact.EntryFact.{EntryFact}
+use Rattle.desk_rules.specs.declared.rules.entry_fact.EntryState.{EntryState}
 use Rattle.desk_rules.specs.Exposure.{credit_exposure, debit_exposure}
 use Rattle.desk_rules.specs.LimitChecks.{is_debit}
 use Rattle.desk_book.specs.declared.row.Row.{Row}
 use Rattle.desk_book.specs.Standing.{row_facts}
 use Rattle.desk_book.specs.Sums.{exposures_on}
 use Rattle.desk_records.specs.CutTables.{is_row}
-use Rattle.desk_records.specs.TableReads.{heads_in, is_since, orders_returned, whole_row}
+use Rattle.desk_records.specs.Encodes.{unless_lapsed}
+use Rattle.desk_records.specs.RowParts.{state_with, state_among}
+use Rattle.desk_records.specs.TableReads.{heads_in, is_since, orders_returned, returns_in, whole_row}
 use Rattle.desk_records.specs.Tables.{Tables}
 use Rattle.desk_records.specs.declared.row.submissions.SubmissionHead.{SubmissionHead}
 
 -- the exposures of the entries of one row
 abbrev pub row_exposures : (day : ℕ) → (holidays : List ℕ) → Row → ℕ × ℕ
 row_exposures day holidays row = (credit_exposure (row_facts row) day, debit_exposure (row_facts row) day holidays)
+
+-- the state of an entry that did not come back
+abbrev pub state_alone : SubmissionHead → EntryState
+state_alone head = unless_lapsed head.lapsed (state_with head.settled None)
+
+-- each entry has that state
+abbrev pub IsWhole : Tables → SubmissionHead → Type 0
+IsWhole t head = (index : ℕ) → state_among head (returns_in head.company head.order t) index ≡ state_alone head
 
 -- those of the entries of submissions
 abbrev pub heads_exposures : Tables → List SubmissionHead → (day : ℕ) → (holidays : List ℕ) → ℕ × ℕ

@@ -5,16 +5,16 @@
 #![tactic(auto)]
 
 mod balances;
-mod calendar;
 mod each;
-mod exposures;
 mod facts;
 mod fault;
 mod files;
 mod held;
+mod holidays;
 mod items;
 mod key;
 mod latest;
+mod open_cents;
 mod open_row;
 mod rates;
 mod rows;
@@ -22,14 +22,14 @@ mod sent;
 mod state;
 
 pub use balances::balances_of;
-pub use calendar::calendar;
-pub use exposures::exposures;
 pub use fault::or_unavailable;
 pub use files::{file, files_on};
 pub use held::waiting;
+pub use holidays::calendar;
 pub use items::items_of;
 pub use key::key_of;
 pub use latest::latest_settled;
+pub use open_cents::exposures;
 pub use open_row::open_rows;
 pub use rates::rates_of;
 pub use rows::{entries_of, retries_of, submission};

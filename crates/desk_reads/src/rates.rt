@@ -1,7 +1,8 @@
 //! Return rates, of what lies in their window.
 ghost use Rattle.std.specs.Prelude.{◌≡◌, ℕ, List, Contains};
 ghost use Rattle.std.specs.Ordering.{nat_cmp};
-ghost use Rattle.std.specs.List.{flat_map, IsStrictlySortedBy};
+ghost use Rattle.std.specs.List.{flat_map};
+ghost use Rattle.std.specs.List.Sorted.{IsStrictlySortedBy};
 ghost use Rattle.sqlite.specs.Held.{state};
 ghost use Rattle.desk_read_laws.specs.Composed.{rates_in};
 ghost use Rattle.desk_records.specs.TableReads.{heads_in, is_since, whole_row};
@@ -63,7 +64,8 @@ impl ItemRead for EarlierFacts {
         let mut heads = or_unavailable(numbered_submission(conn, alloc, self.company, *order))?;
         let since = self.since;
         heads.retain(|head| !is_since(head, since));
-        facts_of_debits(conn, alloc, &heads)
+        let found = facts_of_debits(conn, alloc, &heads)?;
+        Ok(found)
     }
 }
 

@@ -1,18 +1,18 @@
 //! What a company's entries may still cost the bank, by the sums of the cents of what is open.
-ghost use Rattle.std.specs.Prelude.{◌≡◌, ℕ, true, false, [], sum_by};
+ghost use Rattle.std.specs.Prelude.{◌≡◌, ℕ, true, false, sum_by};
 ghost use Rattle.sqlite.specs.Held.{state};
 ghost use Rattle.desk_book.specs.Standing.{row_facts};
-ghost use Rattle.desk_rules.specs.Exposure.{credit_exposure, debit_exposure};
+ghost use Rattle.desk_rules.specs.Exposure.{credit_exposure, debit_exposure, is_open_debit};
 ghost use Rattle.desk_rules.specs.LimitChecks.{is_debit};
 ghost use Rattle.desk_read_laws.specs.Composed.{exposures_in};
-ghost use Rattle.desk_records.specs.TableReads.{returns_in, whole_row};
+ghost use Rattle.desk_records.specs.TableReads.{whole_row};
 ghost use Rattle.desk_reads.specs.Answers.{Answers, Learns};
-ghost use Rattle.desk_reads.specs.Counted.{heads_exposures, row_exposures};
+ghost use Rattle.desk_reads.specs.Counted.{IsWhole, heads_exposures, row_exposures, state_alone};
 
-use crate::calendar::calendar;
 use crate::each::{ItemRead, read_each};
 use crate::facts::facts;
 use crate::fault::or_unavailable;
+use crate::holidays::calendar;
 use ach_fields::Id;
 use bank_days::{Calendar, Day};
 use desk_book::first_open_day;
@@ -32,23 +32,66 @@ fn credit_of<S: Alter>(
 ) -> Result<u64, StoreFault>
     ensures { Learns (λ found t. is_debit head.now.direction ≡ false → found ≡ credit_exposure (row_facts (whole_row t head.now)) today) result (state S.Store conn.old) (state S.Store conn.new) }
 {
-    if !is_open_credit(entry_state(head, None), today) {
-        return Ok(0);
+    if is_open_credit(entry_state(head, None), today) {
+        let cents = or_unavailable(cents_of(conn, head.company, head.order))?;
+        Ok(cents)
+    } else {
+        Ok(0)
     }
-    let cents = or_unavailable(cents_of(conn, head.company, head.order))?;
-    Ok(cents)
 }
 
-// Did no entry of a submission come back?
+// Did no entry of a submission come back? Of one that is held nothing is asked.
 fn is_whole<S: Alter>(
     conn: &mut Connection<S>,
     alloc: Global,
     head: &SubmissionHead,
 ) -> Result<bool, StoreFault>
-    ensures { Learns (λ found t. found ≡ true → returns_in head.now.company head.now.order t ≡ []) result (state S.Store conn.old) (state S.Store conn.new) }
+    ensures { Learns (λ found t. found ≡ true → IsWhole t head.now) result (state S.Store conn.old) (state S.Store conn.new) }
 {
-    let returns = or_unavailable(returns(conn, alloc, head.company, head.order))?;
-    Ok(returns.is_empty())
+    match head.settled {
+        None => Ok(true),
+        Some(_) => {
+            let back = or_unavailable(returns(conn, alloc, head.company, head.order))?;
+            Ok(back.is_empty())
+        }
+    }
+}
+
+// The cents of the debits of a submission that did not come back.
+fn standing_debits<S: Alter>(
+    conn: &mut Connection<S>,
+    alloc: Global,
+    head: &SubmissionHead,
+    today: Day,
+    calendar: &Calendar,
+) -> Result<u64, StoreFault>
+    ensures { Learns (λ found t. found ≡ debit_exposure (row_facts (whole_row t head.now)) today calendar.now) result (state S.Store conn.old) (state S.Store conn.new) }
+{
+    let found = facts(conn, alloc, head)?;
+    match u64::try_from(debit_exposure(&found, today, calendar)) {
+        Ok(cents) => Ok(cents),
+        Err(_) => Err(StoreFault::Unavailable),
+    }
+}
+
+// The debit exposure of a submission of debits that is open.
+fn open_debit_of<S: Alter>(
+    conn: &mut Connection<S>,
+    alloc: Global,
+    head: &SubmissionHead,
+    today: Day,
+    calendar: &Calendar,
+) -> Result<u64, StoreFault>
+    ensures { Learns (λ found t. is_debit head.now.direction ≡ true → is_open_debit (state_alone head.now) today calendar.now ≡ true → found ≡ debit_exposure (row_facts (whole_row t head.now)) today calendar.now) result (state S.Store conn.old) (state S.Store conn.new) }
+{
+    let whole = is_whole(conn, alloc, head)?;
+    if whole {
+        let cents = or_unavailable(cents_of(conn, head.company, head.order))?;
+        Ok(cents)
+    } else {
+        let cents = standing_debits(conn, alloc, head, today, calendar)?;
+        Ok(cents)
+    }
 }
 
 // The debit exposure of a submission of debits.
@@ -61,28 +104,22 @@ fn debit_of<S: Alter>(
 ) -> Result<u64, StoreFault>
     ensures { Learns (λ found t. is_debit head.now.direction ≡ true → found ≡ debit_exposure (row_facts (whole_row t head.now)) today calendar.now) result (state S.Store conn.old) (state S.Store conn.new) }
 {
-    if !is_open_debit(entry_state(head, None), today, calendar) {
-        return Ok(0);
-    }
-    if head.settled.is_none() || is_whole(conn, alloc, head)? {
-        let cents = or_unavailable(cents_of(conn, head.company, head.order))?;
-        return Ok(cents);
-    }
-    let found = facts(conn, alloc, head)?;
-    match u64::try_from(debit_exposure(&found, today, calendar)) {
-        Ok(cents) => Ok(cents),
-        Err(_) => Err(StoreFault::Unavailable),
+    if is_open_debit(entry_state(head, None), today, calendar) {
+        let cents = open_debit_of(conn, alloc, head, today, calendar)?;
+        Ok(cents)
+    } else {
+        Ok(0)
     }
 }
 
 // The exposures of each submission of a list.
 #[derive(Clone, Copy)]
-struct Exposures<'c> {
+struct OpenCents<'c> {
     today: Day,
     calendar: &'c Calendar,
 }
 
-impl ItemRead for Exposures<'_> {
+impl ItemRead for OpenCents<'_> {
     type Item = SubmissionHead;
 
     type Found = (u64, u64);
@@ -91,7 +128,7 @@ impl ItemRead for Exposures<'_> {
 
     ghost shown = { λ sums. sums };
 
-    ghost value = { λ read t head. row_exposures read.today read.calendar (whole_row t head) };
+    ghost value = { λ read t head. row_exposures read.today read.calendar.now (whole_row t head) };
 
     fn read_item<S: Alter>(
         &self,
@@ -112,16 +149,26 @@ impl ItemRead for Exposures<'_> {
     }
 }
 
-// The sums of the first and of the second numbers.
-fn sums_of(pairs: &[(u64, u64)]) -> (u128, u128)
-    ensures { result ≡ (sum_by (λ pair. pair.0) pairs.now, sum_by (λ pair. pair.1) pairs.now) }
+// The sum of the first numbers.
+fn credits_of(pairs: &[(u64, u64)]) -> u128
+    ensures { result ≡ sum_by (λ pair. pair.0) pairs.now }
 {
-    let (mut credit, mut debit) = (0, 0);
+    let mut cents = 0;
     for pair in pairs {
-        credit += u128::from(pair.0);
-        debit += u128::from(pair.1);
+        cents += u128::from(pair.0);
     }
-    (credit, debit)
+    cents
+}
+
+// The sum of the second numbers.
+fn debits_of(pairs: &[(u64, u64)]) -> u128
+    ensures { result ≡ sum_by (λ pair. pair.1) pairs.now }
+{
+    let mut cents = 0;
+    for pair in pairs {
+        cents += u128::from(pair.1);
+    }
+    cents
 }
 
 // The submissions of a company whose entries have all its exposures: those that are open, and all where
@@ -136,8 +183,14 @@ fn exposed_submissions<S: Alter>(
     ensures { Answers (λ found t. heads_exposures t found.items today calendar.now ≡ exposures_in company today calendar.now t) result (state S.Store conn.old) (state S.Store conn.new) }
 {
     match first_open_day(calendar, today) {
-        Some(since) => or_unavailable(open_submissions(conn, alloc, company, since)),
-        None => or_unavailable(submissions_of(conn, alloc, company)),
+        Some(since) => {
+            let heads = or_unavailable(open_submissions(conn, alloc, company, since))?;
+            Ok(heads)
+        }
+        None => {
+            let heads = or_unavailable(submissions_of(conn, alloc, company))?;
+            Ok(heads)
+        }
     }
 }
 
@@ -153,10 +206,10 @@ pub fn exposures<S: Alter>(
 {
     let calendar = calendar(conn, alloc)?;
     let heads = exposed_submissions(conn, alloc, company, today, &calendar)?;
-    let read = Exposures {
+    let read = OpenCents {
         today,
         calendar: &calendar,
     };
     let pairs = read_each(conn, alloc, &read, &heads)?;
-    Ok(sums_of(&pairs))
+    Ok((credits_of(&pairs), debits_of(&pairs)))
 }

@@ -1,6 +1,6 @@
 use Rattle.desk_reads.proofs.Days.{holidays_are}
 use Rattle.desk_reads.proofs.Joined.{query, answered}
-use Rattle.desk_reads.proofs.calendar.calendar.Goals as goal
+use Rattle.desk_reads.proofs.holidays.calendar.Goals as goal
 
 pub returns : goal.returns
 returns g c =
