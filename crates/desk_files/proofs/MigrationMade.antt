@@ -71,7 +71,7 @@ module _ (old mid new : State) (settled : IsTrue old.is_open → old.now ≡ old
       let first = λ (b : Book) (k : KeepsFirst old.committed.trees b). (done.holds (First (Some k.0)) (kept_first clean done.was_open b k)).0 in
       let sees : (b : Book) → KeepsFirst old.committed.trees b → Sees new b = λ b k _. (migrated k.0, first b k, book_kept k.0 b k.2) in
       let keeps : (b : Book) → KeepsFirst old.committed.trees b → (trees : Trees) → new.may_leave trees → Keeps trees b =
-          λ b k trees left. (migrated k.0, subst (λ d. IsStored d (migrated k.0)) (sym (done.left trees left)) (first b k).1, book_kept k.0 b k.2) in
+      λ b k trees left. (migrated k.0, subst (λ d. IsStored d (migrated k.0)) (sym (done.left trees left)) (first b k).1, book_kept k.0 b k.2) in
       record {
         was_open = (stays clean done.was_open).0;
         is_open = done.is_open;

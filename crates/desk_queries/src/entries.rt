@@ -53,11 +53,7 @@ pub fn amounts_of<S: Alter>(
 }
 
 /// Gives the sum of their cents. `Error::InvalidQuery` says that it is past 2^63 - 1.
-pub fn cents_of<S: Alter>(
-    conn: &mut Connection<S>,
-    company: Id,
-    order: u64,
-) -> Result<u64, Error>
+pub fn cents_of<S: Alter>(conn: &mut Connection<S>, company: Id, order: u64) -> Result<u64, Error>
     ensures answer { HasCleanDisk (state S.Store conn.new) → IfOk result (λ found. Finds desk_layout (λ t. found ≡ cents_in company order t) (state S.Store conn.old)) }
     ensures stays { HasCleanDisk (state S.Store conn.new) → Stays (state S.Store conn.old) (state S.Store conn.new) }
     ensures survives { Survives (state S.Store conn.old) (state S.Store conn.new) (λ _. ⊥) }

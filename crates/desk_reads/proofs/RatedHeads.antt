@@ -127,7 +127,7 @@ module _ (q : EntryState → Bool) (since : ℕ) where
         counted is = elim (within s.lapsed s.settled (find (λ r. r.index == a.index) (returns_in s.company s.order t)) is) [
           | inl since_then ↦ absurd (true≢false (sym since_then ∙ old))
           | inr back ↦ all s.order (subst (λ (d : List ℕ). Contains (map (λ r. r.order) (filter (is_return_since d since) t.returns)) s.order) ((bytes_eq-Decides s.company c).0 own)
-          (taken_since s.company s.order since (λ r. r.index == a.index) t.returns back.0 back.1 back.2))
+              (taken_since s.company s.order since (λ r. r.index == a.index) t.returns back.0 back.1 back.2))
         ]
 
         and_no : (b : Bool) → ◌≡◌ {A = ℕ} (cond (b && false) 1 0) 0

@@ -40,10 +40,7 @@ fn calendar_of(alloc: Global, days: &[Day]) -> Result<Calendar, StoreFault>
 }
 
 /// Reads the holidays of the operator's calendar.
-pub fn calendar<S: Alter>(
-    conn: &mut Connection<S>,
-    alloc: Global,
-) -> Result<Calendar, StoreFault>
+pub fn calendar<S: Alter>(conn: &mut Connection<S>, alloc: Global) -> Result<Calendar, StoreFault>
     ensures { Answers (λ found t. found ≡ t.holidays) result (state S.Store conn.old) (state S.Store conn.new) }
 {
     let days = or_unavailable(holidays(conn, alloc))?;

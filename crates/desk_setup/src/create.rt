@@ -122,10 +122,7 @@ fn create_line_indexes<S: Alter>(tx: &mut Transaction<'_, S>) -> Result<(), Erro
     ensures keeps { HasCleanDisk (state S.Store tx.new.conn.now) → KeepsCommit (state S.Store tx.old.conn.now) (state S.Store tx.new.conn.now) }
     ensures survives { Survives (state S.Store tx.old.conn.now) (state S.Store tx.new.conn.now) (λ _. ⊥) }
 {
-    create_index(
-        tx,
-        "CREATE INDEX returns_company ON returns (company, day)",
-    )?;
+    create_index(tx, "CREATE INDEX returns_company ON returns (company, day)")?;
     create_index(tx, "CREATE INDEX changes_company ON changes (company, no)")?;
     create_index(
         tx,
