@@ -17,6 +17,9 @@ use std::alloc::{AllocError, Global};
 use std::io;
 use std::io::Read;
 
+/// A room is filled with so many zeros at a time, which takes less time than one after another.
+const ZEROS: [u8; 16_384] = [0; 16_384];
+
 /// Why a body was not read.
 #[derive(Clone, Copy, PartialEq, Eq, Debug)]
 pub(crate) enum Stop {
@@ -135,7 +138,10 @@ fn room_for(alloc: Global, come: &[u8], size: usize) -> Result<Vec<u8>, AllocErr
 {
     let mut room = Vec::with_capacity(alloc, size)?;
     room.extend_from_slice(&come[..size.min(come.len())])?;
-    room.resize(size, 0)?;
+    while room.len() < size {
+        let missing = size - room.len();
+        room.extend_from_slice(&ZEROS[..missing.min(ZEROS.len())])?;
+    }
     Ok(room)
 }
 
