@@ -26,7 +26,7 @@ from helpers.running import (HOST, MILL, MILL_KEY, Checks, Serving, answer, conn
                      status_of)
 
 PATIENCE = 1
-LATE = 1.5  # so many seconds more a busy machine may take
+LATE = 2.5  # so many seconds more a busy machine may take
 ENTRY = '{"routing":"091000019","account":"123456789","kind":"checking","cents":150000,"id":"E1","name":"ANN LEE"}'
 GET = message("GET /ops/settlement")
 SETTLED = answer(200, '{"balance":"0","day":"2025-01-08","days":[]}')
