@@ -1,12 +1,11 @@
 -- What is not open adds nothing to exposures, which are the sums of those of each submission.
-use Rattle.std.proofs.Common.{◌≡◌, ◌<◌, ◌≤◌, ℕ, ◌+◌, Bool, true, false, not, ◌&&◌, ◌||◌, is_none, nat_le, cond, List, [], ◌∷◌, ◌++◌, map, filter, sum_by, Option, None, Some, refl, sym, ap, ◌∙◌, arith, true≢false}
+use Rattle.std.proofs.Common.{◌≡◌, ◌<◌, ℕ, Bool, true, false, not, ◌&&◌, ◌||◌, is_none, nat_le, List, map, filter, sum_by, Option, None, Some, refl, sym, ap, ◌∙◌, arith, true≢false}
 use Rattle.std.proofs.lemmas.Bool.Decides.{nat_tests}
 use Rattle.std.proofs.lemmas.List.Elements.{filter-append}
 use Rattle.std.proofs.lemmas.List.Sums.{sum_by-append}
 use Rattle.bank_days.specs.Calendar.{nth_after}
 use Rattle.desk_rules.specs.Exposure.{is_open_credit, is_open_debit, credit_exposure, debit_exposure}
 use Rattle.desk_rules.specs.declared.rules.entry_fact.EntryFact.{EntryFact}
-use Rattle.desk_book.specs.declared.row.Row.{Row}
 use Rattle.desk_book.specs.OpenRows.{IsPast}
 use Rattle.desk_book.specs.Standing.{row_facts, facts_in}
 use Rattle.desk_records.specs.Encodes.{unless_lapsed}

@@ -1,5 +1,5 @@
 -- The facts that return rates are made of are those of what settled in the window and of what came back in it.
-use Rattle.std.proofs.Common.{◌≡◌, ◌⊎◌, inl, inr, ◌≤◌, ℕ, zero, suc, ◌+◌, ◌-◌, ◌==◌, Bool, true, false, not, ◌&&◌, nat_le, cond, List, [], ◌∷◌, ◌++◌, map, filter, find, sum_by, Option, None, Some, refl, sym, ap, ◌∙◌, arith, true≢false, bytes_eq, subst}
+use Rattle.std.proofs.Common.{◌≡◌, ◌⊎◌, inl, inr, ℕ, suc, ◌+◌, ◌-◌, ◌==◌, Bool, true, false, not, ◌&&◌, nat_le, cond, List, [], ◌∷◌, ◌++◌, map, filter, find, sum_by, Option, None, Some, refl, sym, ap, ◌∙◌, arith, true≢false, bytes_eq, subst}
 use Rattle.std.proofs.lemmas.Bool.{and_parts}
 use Rattle.std.proofs.lemmas.List.Sums.{sum_by-cons, sum_by-append}
 use Rattle.std.proofs.lemmas.Slice.Eq.{bytes_eq-Decides}
@@ -10,7 +10,7 @@ use Rattle.std.specs.Ordering.{nat_cmp}
 use Rattle.std.specs.Prelude.{Contains, count_by}
 use borrow.Author.Tests.{eqb-true}
 use Rattle.desk_rules.specs.LimitChecks.{is_debit}
-use Rattle.desk_rules.specs.ReturnRates.{is_in_window, is_of_level, is_live_debit, has_settled, was_returned, settled_count, returned_count, exceeds, rates}
+use Rattle.desk_rules.specs.ReturnRates.{is_live_debit, has_settled, was_returned, exceeds, rates}
 use Rattle.desk_rules.specs.declared.rules.entry_fact.EntryFact.{EntryFact}
 use Rattle.desk_rules.specs.declared.rules.entry_fact.EntryState.{EntryState}
 use Rattle.desk_rules.specs.declared.rules.rate.Level.{Level}

@@ -1,11 +1,9 @@
 -- What the rules read of a submission's entries, and what these come to.
 use Rattle.std.proofs.Common.{◌≡◌, ℕ, ◌+◌, ◌==◌, Bool, true, false, not, ◌&&◌, cond, List, [], ◌∷◌, map, filter, sum_by, zip, find, Option, None, Some, refl, sym, ap, ◌∙◌}
 use Rattle.std.proofs.lemmas.List.Sums.{sum_by-cons}
-use Rattle.bank_days.specs.Calendar.{nth_after}
 use Rattle.desk_rules.specs.Exposure.{is_open_credit, is_open_debit, credit_exposure, debit_exposure}
 use Rattle.desk_rules.specs.LimitChecks.{is_debit}
 use Rattle.desk_rules.specs.declared.rules.entry_fact.EntryFact.{EntryFact}
-use Rattle.desk_rules.specs.declared.rules.entry_fact.EntryState.{EntryState}
 use Rattle.desk_history.specs.Facts.{entry_fact}
 use Rattle.desk_book.specs.Standing.{row_facts}
 use Rattle.desk_records.specs.Encodes.{unless_lapsed}

@@ -27,6 +27,16 @@ answers {A} Tells r s old new told answer stays survives = record { answer = λ 
     go (Ok x) is found = subst (λ r. IfOk r (λ found. Finds desk_layout (Tells found) old)) is found
     go (Err fault) is found = tt
 
+-- what is made of what one query found
+pub made_of : {A C : Type 0} (First : A → Tables → Type 0) (Tells : C → Tables → Type 0) (r : Result A Error) (x : A) (s : Result C StoreFault) (old new : State) → r ≡ Ok x
+    → IfOk s (λ y. (t : Tables) → First x t → Tells y t) → (HasCleanDisk new → IfOk r (λ found. Finds desk_layout (First found) old)) → (HasCleanDisk new → Stays old new) → Survives old new (λ _. ⊥) → Answers Tells s old new
+made_of {A} {C} First Tells r x s old new is so answer stays survives =
+    record { answer = λ clean. go s so (subst (λ r. IfOk r (λ found. Finds desk_layout (First found) old)) is (answer clean)); stays = stays; survives = survives }
+  where
+    go : (s : Result C StoreFault) → IfOk s (λ y. (t : Tables) → First x t → Tells y t) → Finds desk_layout (First x) old → IfOk s (λ y. Finds desk_layout (Tells y) old)
+    go (Ok y) so found = record { was_open = found.was_open; told = λ t h. so t (found.told t h) }
+    go (Err fault) so found = tt
+
 pub reads : {A : Type 0} (Tells : A → Tables → Type 0) (read : Book → A) → Says Tells read → (r : Result A StoreFault) {old new : State} → Answers Tells r old new → HasCleanDisk new → Reads (Sees old) r read (Sees new)
 reads Tells read says (Ok x) {old} {new} a clean = λ b h. read_agreed desk_layout IsBookIn (Tells x) (λ b. x ≡ read b) (says x) old new (a.answer clean) (a.stays clean) b h
 reads Tells read says (Err fault) {old} {new} a clean = λ b h. write_undone desk_layout IsBookIn old new (a.stays clean) b h
