@@ -4,5 +4,6 @@ pub mod InputLemmas
 pub mod MessageRunLemmas
 pub mod PrefixLemmas
 pub mod PrintingLemmas
+pub mod RememberedRuns
 pub mod ServedLemmas
 pub mod VerdictLemmas
