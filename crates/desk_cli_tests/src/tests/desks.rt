@@ -36,16 +36,21 @@ fn says(
     ended == status && printed.as_slice() == line.as_bytes()
 }
 
+// Does nobody but its owner read the file?
+fn is_private(rt: &HostRuntime, path: &str) -> Result<bool, Fail> {
+    let found = fs::metadata(rt, path)?;
+    Ok(found.mode() & 0o777 == 0o600)
+}
+
 #[test]
 fn a_desk_is_made_once(rt: HostRuntime) -> Result<(), Fail> {
     let path = "made.db";
     clear(&rt, path)?;
     assert!(rt; says(&rt, path, SAMPLE_BANK, Status::Done, "created\n"));
-    // Nobody but their owner reads the desk's files.
-    let log = format!(in rt.alloc(); "{path}-wal")?;
-    for file in [path, log.as_str()] {
-        assert!(rt; fs::metadata(&rt, file)?.mode() & 0o777 == 0o600);
-    }
+    let is_file_private = is_private(&rt, path)?;
+    assert!(rt; is_file_private);
+    let is_log_private = is_private(&rt, "made.db-wal")?;
+    assert!(rt; is_log_private);
     assert!(rt; says(&rt, path, SAMPLE_BANK, Status::Refused, "Exists\n"));
     clear(&rt, path)
 }
