@@ -14,8 +14,8 @@ submission and of each file. The desk is started again over its file, and gets a
 
 No answer may be 503. Each has to have the status and, files aside, the body that is computed here from the rules; and
 each has to be that of the desk over lists to the same messages, to the byte, `Connection` aside. At the end stock SQLite
-has to find the file whole. The desk's file, its log and the messages take some 300 MB of disk; a PART of 20 took a minute
-on a busy machine. The last line counts the checks; the status is 1 where one failed.
+has to find the file whole. The desk's file, its log and the messages take some 300 MB of disk; where LISTED was
+built, all took a minute. The last line counts the checks; the status is 1 where one failed.
 """
 
 import calendar

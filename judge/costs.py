@@ -13,7 +13,7 @@ nothing open. At the end all of it is cut, and the first submission after that i
 each round asks for the rates of both on a new day.
 
 It prints a table with a line for each figure: what it is without and with what is open or old, and whether that is within
-its bound. The status is 1 where one is not. Two rounds with a PART of 20 took a minute on a busy machine.
+its bound. The status is 1 where one is not. Three rounds took a little over a minute.
 """
 
 import datetime
