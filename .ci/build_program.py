@@ -171,7 +171,7 @@ def main():
         return 1
     LIBRARIES.mkdir(parents=True, exist_ok=True)
     say(f"{len(below)} crates are proved and the program is built first, on {cores} cores; on four this takes half an hour")
-    say(f"rt try in crates/{PROGRAM} answers in three minutes, with nothing proved")
+    say("./try answers in three minutes, with nothing proved, where no desk's file is needed")
     if not prove_all(below, uses, cores):
         return 1
     say(f"{PROGRAM} begins")
