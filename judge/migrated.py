@@ -7,16 +7,14 @@ file, `migrate` must make it one of version 2, and then every GET must be answer
 is sent again and what is new. The last line counts the checks; the status is 1 where one failed.
 """
 
-import shutil
-import sqlite3
 import subprocess
 import sys
 import tempfile
 from pathlib import Path
 
+from helpers.first_version import write_version_1
 from helpers.running import MILL_KEY, TOP, Checks, free_port, make_desk, message, program_of, run
 
-LATER = ("numbers", "authorizations")
 COMPANY = ["returns", "changes", "statement", "rates", "exposure", "submissions/PAY-1", "submissions/PAY-2", "submissions/PAY-3"]
 OPERATOR = ["settlement", "suspense", "files/2025-01-08/A", "files/2025-01-09/A", "files/2025-01-09/B"]
 
@@ -32,24 +30,6 @@ def asked_after():
     again = [(TOP / "examples" / "bank_day" / name).read_bytes() for name in ("11_returns_file.http", "07_collection.http")]
     retry = message("POST /c/MILL01/retries", '{"ref":"RT-1","of":"PAY-2","index":1,"day":"2025-01-15"}', MILL_KEY)
     return b"".join([*reads, *again, retry, message("POST /ops/cut", ""), *reads])
-
-
-def write_version_1(source, path):
-    """The rows of a desk's file in tables of version 1."""
-    with tempfile.TemporaryDirectory() as folder:
-        copy = Path(folder) / "copy.db"
-        for end in ("", "-wal"):
-            shutil.copyfile(f"{source}{end}", f"{copy}{end}")
-        old, new = sqlite3.connect(copy), sqlite3.connect(path, isolation_level=None)
-        schema = [row for row in old.execute("SELECT type, name, sql FROM sqlite_master WHERE sql IS NOT NULL") if row[1] not in LATER]
-        for _, _, statement in schema:
-            new.execute(statement)
-        for kind, name, _ in schema:
-            for row in old.execute(f"SELECT * FROM {name}") if kind == "table" else ():
-                new.execute(f"INSERT INTO {name} VALUES ({', '.join('?' * len(row))})", row)
-        new.execute("UPDATE desk SET version = 1")
-        new.close()
-        old.close()
 
 
 def main():

@@ -41,6 +41,8 @@ JUDGES = (
     Judge("patience"),
     Judge("sent_first"),
     Judge("private_files"),
+    Judge("pages"),
+    Judge("benches", takes_program=False),
     Judge("big_day", (), is_asked=True),
     Judge("costs", (), is_asked=True),
     Judge("opening", (), is_asked=True),

@@ -25,7 +25,7 @@ impl From<AllocError> for NoMemory {
 /// Tells whether a submission's body is accepted as the first order of a desk with no limits, and
 /// gives the line that says so, without its end.
 ///
-/// It is refused as the first of these: no JSON object (`BadJson`), its first bad field, more than
+/// The body is refused as the first of these: no JSON object (`BadJson`), its first bad field, more than
 /// 1,000 entries, a total of more than 999,999,999,999 cents.
 pub fn submission_answer(alloc: Global, body: &[u8]) -> Result<(bool, Vec<u8>), NoMemory>
     ensures { IfOk result (IsAnswer (submission_answer body.now)) }

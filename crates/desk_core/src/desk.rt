@@ -45,7 +45,7 @@ impl<S: Store> Desk<S> {
     /// Answers a call, with the one write that it makes. A refusal by a rule is an answer too, and
     /// writes nothing; nor does what was accepted before and is sent again.
     ///
-    /// It is `Unavailable` where the desk is out of memory or the store could not act: the store
+    /// The error `Unavailable` says that the desk is out of memory or the store could not act: the store
     /// holds the book that it held, and the call may be made again. The answer is made before the
     /// write, so that what was written is answered.
     ///
@@ -68,7 +68,7 @@ impl<S: Store> Desk<S> {
     }
 
     /// Is this the digest of the caller's key? The operator has one, and each registered company.
-    /// It is `Unavailable` where the store could not act.
+    /// The error is `Unavailable`, where the store could not act.
     pub fn allow(
         &mut self,
         alloc: Global,

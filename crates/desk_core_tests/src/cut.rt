@@ -221,7 +221,7 @@ fn posts_both_totals(rt: &impl Abort, plan: &CutPlan) {
     assert!(rt; bakery.account == Account::Company(id));
 }
 
-// It has done so much, and its first file is this.
+// The plan says so much of what it has done, and its first file is this.
 fn ends_in(rt: &impl Abort, plan: &CutPlan, entries: u64, lapsed: u64, text: &[u8]) {
     assert!(rt; plan.done.entries == entries);
     assert!(rt; plan.done.lapsed == lapsed);

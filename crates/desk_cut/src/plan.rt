@@ -42,8 +42,8 @@ pub struct CutPlan {
 /// Gives the first and the last sequence of each batch that a cut on a day would send, in order, by
 /// the sequence of the last entry that was sent.
 ///
-/// It is `DaysSpent` where a submission would settle after 2100-01-31, then `TracesSpent` where two
-/// batches would have a sequence in common.
+/// The error is `DaysSpent` where a submission would settle after 2100-01-31, then `TracesSpent` where
+/// two batches would have a sequence in common.
 pub fn ranges_of_cut(
     alloc: Global,
     day: RuleDay,

@@ -14,8 +14,8 @@ use std::alloc::Global;
 /// Answers a message, with the one call of the desk that it makes: gives the bytes of the answer, from
 /// its status line to the end of its body.
 ///
-/// It is `Unavailable` where memory is refused or the store could not act. The store then holds the
-/// book that it held, and the message may come again.
+/// The error `Unavailable` says that memory is refused or the store could not act. The store then holds
+/// the book that it held, and the message may come again.
 ///
 /// By the clause `goes` the bytes are those of the definitions, for every history over bytes whose book
 /// the store holds, and the store then holds the book of the history with this message. By `replies`

@@ -1,6 +1,6 @@
 //! This crate plans an incoming file: the resolution of each item, and what the file writes.
 //!
-//! It is told from what the items' traces name alone, and nothing is read or written here. An item
+//! The plan is made of what the items' traces name alone; nothing is read or written. An item
 //! returns its entry, tells of a change, or stands in suspense with its money. What it means stands
 //! in `desk_book`; the contract of `plan_intake` is that the plan is that.
 #![tactic(auto)]

@@ -28,8 +28,8 @@ pub enum ServeFault {
 /// A client that sends all that it has before it reads gets its answer: where a session ends, what the
 /// client still sends is read and dropped, at most 16 MiB, before the connection is closed.
 ///
-/// It is `Accept` with the number of connections that were served where one can't be accepted. What
-/// was answered until then stands.
+/// Where a connection can't be accepted it fails with `Accept`, which has the number of those that were
+/// served. What was answered until then stands.
 pub fn serve<D: Answers, L: OpenListener>(
     alloc: Global,
     desk: &mut D,

@@ -14,7 +14,7 @@ const MOST_PLACES: usize = 20_000;
 /// What is done to a file at a place.
 #[derive(Clone, Copy)]
 enum Damage {
-    /// It is cut there.
+    /// The file ends at the place.
     Cut,
     /// The byte there is changed.
     Change,

@@ -22,7 +22,7 @@ pub(super) enum Task<'a> {
     Migrate,
     /// The statements are run.
     Run(&'static str),
-    /// It is looked whether there is a desk.
+    /// A check tells whether there is a desk.
     Check,
     /// All tables of the desk are told.
     Read,
