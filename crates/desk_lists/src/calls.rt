@@ -144,17 +144,17 @@ impl Store for ListStore {
     ) -> Result<Vec<HeldSubmission>, StoreFault> {
         let kept = self.submissions.as_slice();
         self.places.cover_held(alloc, kept)?;
-        let index = self.places.held();
-        let references = &self.places.references;
-        Ok(company_waiting(alloc, &company, kept, index, references)?)
+        let places = &self.places;
+        let index = places.held();
+        Ok(company_waiting(alloc, &company, kept, index, &places.references)?)
     }
 
     fn waiting(&mut self, alloc: Global) -> Result<Vec<HeldSubmission>, StoreFault> {
         let kept = self.submissions.as_slice();
         self.places.cover_held(alloc, kept)?;
-        let index = self.places.held();
-        let references = &self.places.references;
-        Ok(all_waiting(alloc, &self.companies, kept, index, references)?)
+        let places = &self.places;
+        let index = places.held();
+        Ok(all_waiting(alloc, &self.companies, kept, index, &places.references)?)
     }
 
     fn last_sequence(&mut self, _alloc: Global) -> Result<u32, StoreFault> {

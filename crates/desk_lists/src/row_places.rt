@@ -115,10 +115,11 @@ impl RowPlaces {
     {
         self.references.cover(alloc, kept, &KeyKind::Reference)?;
         match self.since {
-            None => self.companies.cover(alloc, kept, &KeyKind::Company),
+            None => self.companies.cover(alloc, kept, &KeyKind::Company)?,
             // What no cut has decided may be open since any day.
-            Some(since) => self.recent.cover(alloc, kept, &KeyKind::OpenSince(since)),
+            Some(since) => self.recent.cover(alloc, kept, &KeyKind::OpenSince(since))?,
         }
+        Ok(())
     }
 
     /// Gives the index that finds these rows by their company.
