@@ -1,5 +1,5 @@
 -- Sums with one more submission.
-use Rattle.std.specs.Prelude.{ℕ, ◌+◌, if◌then◌else◌}
+use Rattle.std.specs.Prelude.{◌+◌, if◌then◌else◌}
 use Rattle.desk_rules.specs.declared.bodies.submission.Submission.{Submission}
 use Rattle.desk_rules.specs.LimitChecks.{is_debit}
 use Rattle.desk_rules.specs.Size.{total_of}
