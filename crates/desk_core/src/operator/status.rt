@@ -1,25 +1,35 @@
 //! The operator reads how the desk stands.
-ghost use Rattle.std.specs.Prelude.{◌≡◌, take, IfOk, Ok};
+ghost use Rattle.std.specs.Prelude.{◌≡◌, take, IfOk};
 ghost use Rattle.desk_plan.specs.Modifiers.{modifiers};
 ghost use Rattle.desk_history.specs.Status.{modifiers_on};
-ghost use Rattle.desk_book.specs.OnStatus.{status_answer};
-ghost use Rattle.desk_store.specs.Words.{ReadsList, LeavesRead};
+ghost use Rattle.desk_book.specs.OnStatus.{company_status, status_answer};
+ghost use Rattle.desk_book.specs.Reads.{waiting_of};
+ghost use Rattle.desk_store.specs.Words.{Reads, ReadsList, LeavesRead};
 ghost use Rattle.desk_core.specs.Answering.{Answers};
 ghost use Rattle.desk_core.specs.Status.{statuses};
 
 use bank_days::{Calendar, Day};
-use desk_cut::{CutFault, company_status};
+use desk_cut::company_status;
 use desk_history::{Answer, CompanyStatus, DeskStatus, ListOf, Outcome};
 use desk_plan::modifier;
 use desk_rules::{Company, RuleDay};
 use desk_store::{Store, StoreFault};
 use std::alloc::Global;
 
-// What could not be summed is answered as what a store could not read.
-fn or_unavailable(found: Result<CompanyStatus, CutFault>) -> Result<CompanyStatus, StoreFault>
-    ensures { IfOk result (λ status. found ≡ Ok status) }
+// What a company has waiting. What could not be summed is answered as what a store could not read.
+fn status_of<S: Store>(
+    store: &mut S,
+    alloc: Global,
+    day: &Option<RuleDay>,
+    holidays: &Calendar,
+    company: &Company,
+) -> Result<CompanyStatus, StoreFault>
+    ensures before { S.is_clean store.new → S.is_clean store.old }
+    ensures read { S.is_clean store.new → Reads (S.holds store.old) result (λ b. company_status day.now holidays.now company.now (waiting_of company.now b)) (S.holds store.new) }
+    ensures left { S.is_clean store.new → LeavesRead (S.may_leave store.old) (S.may_leave store.new) }
 {
-    match found {
+    let waiting = store.waiting_of(alloc, *company)?;
+    match company_status(alloc, *day, holidays, company, &waiting) {
         Ok(status) => Ok(status),
         Err(_) => Err(StoreFault::Unavailable),
     }
@@ -29,19 +39,18 @@ fn or_unavailable(found: Result<CompanyStatus, CutFault>) -> Result<CompanyStatu
 fn statuses_of<S: Store>(
     store: &mut S,
     alloc: Global,
-    day: Option<RuleDay>,
+    day: &Option<RuleDay>,
     holidays: &Calendar,
     companies: &[Company],
 ) -> Result<Vec<CompanyStatus>, StoreFault>
     ensures before { S.is_clean store.new → S.is_clean store.old }
-    ensures read { S.is_clean store.new → ReadsList (S.holds store.old) result (statuses day holidays.now companies.now) (S.holds store.new) }
+    ensures read { S.is_clean store.new → ReadsList (S.holds store.old) result (statuses day.now holidays.now companies.now) (S.holds store.new) }
     ensures left { S.is_clean store.new → LeavesRead (S.may_leave store.old) (S.may_leave store.new) }
 {
     let mut found = Vec::new(alloc);
     for company in companies {
-        let waiting = store.waiting_of(alloc, *company)?;
-        let status = company_status(alloc, day, holidays, company, &waiting);
-        found.push(or_unavailable(status)?)?;
+        let status = status_of(store, alloc, day, holidays, company)?;
+        found.push(status)?;
     }
     Ok(found)
 }
@@ -67,10 +76,10 @@ fn first_modifiers(alloc: Global, made: u64) -> Result<Vec<u8>, StoreFault>
 fn files_of<S: Store>(
     store: &mut S,
     alloc: Global,
-    day: Option<RuleDay>,
+    day: &Option<RuleDay>,
 ) -> Result<Vec<u8>, StoreFault>
     ensures before { S.is_clean store.new → S.is_clean store.old }
-    ensures read { S.is_clean store.new → ReadsList (S.holds store.old) result (λ b. modifiers_on day b.files_on) (S.holds store.new) }
+    ensures read { S.is_clean store.new → ReadsList (S.holds store.old) result (λ b. modifiers_on day.now b.files_on) (S.holds store.new) }
     ensures left { S.is_clean store.new → LeavesRead (S.may_leave store.old) (S.may_leave store.new) }
 {
     match day {
@@ -82,8 +91,8 @@ fn files_of<S: Store>(
     }
 }
 
-fn day_of(day: Option<RuleDay>) -> Option<Day>
-    ensures { result ≡ day }
+fn day_of(day: &Option<RuleDay>) -> Option<Day>
+    ensures { result ≡ day.now }
 {
     match day {
         Some(day) => Some(day.day()),
@@ -100,13 +109,13 @@ pub(crate) fn status<S: Store>(store: &mut S, alloc: Global) -> Result<Answer, S
     let day = store.day(alloc)?;
     let holidays = store.calendar(alloc)?;
     let companies = store.companies(alloc)?;
-    let statuses = statuses_of(store, alloc, day, &holidays, &companies)?;
-    let files = files_of(store, alloc, day)?;
+    let statuses = statuses_of(store, alloc, &day, &holidays, &companies)?;
+    let files = files_of(store, alloc, &day)?;
     let sent = store.sent_count(alloc)?;
     let suspense = store.suspense(alloc)?;
     Ok(Answer::Done(Outcome::Status(DeskStatus {
         companies: ListOf::new(statuses),
-        day: day_of(day),
+        day: day_of(&day),
         files: ListOf::new(files),
         holidays: holidays.holidays().len() as u64,
         sent,
