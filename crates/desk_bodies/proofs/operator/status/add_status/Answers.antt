@@ -12,7 +12,7 @@ returns c = rw (
   c.in_ok-reserve-2.ensures.items,
   c.in_ok-add_list.ensures,
   c.as_slice-2.ensures,
-  c.put_desk_day.ensures,
+  c.put_desk_day.ensures.items,
   c.in_ok-reserve.ensures.items,
   c.in_ok-add_companies.ensures,
   c.as_slice.ensures,
