@@ -16,8 +16,14 @@ use Rattle.desk_history.specs.declared.reports.ReturnRow.{ReturnRow}
 use Rattle.desk_history.specs.declared.reports.Statement.{Statement}
 use Rattle.desk_history.specs.declared.reports.StatementLine.{StatementLine}
 use Rattle.desk_history.specs.declared.reports.SubmissionReport.{SubmissionReport}
+use Rattle.desk_history.specs.declared.status.CompanyStatus.{CompanyStatus}
+use Rattle.desk_history.specs.declared.status.DeskStatus.{DeskStatus}
+use Rattle.desk_history.specs.declared.status.DueDay.{DueDay}
+use Rattle.desk_history.specs.declared.status.Tallies.{Tallies}
+use Rattle.desk_history.specs.declared.status.Tally.{Tally}
 use Rattle.desk_bodies.specs.Company.{return_members, return_body, change_members, change_body, line_members, line_body, statement_members, statement_body, rate_members, rate_body, rates_members, rates_body, exposure_members, exposure_body, report_members, report_body}
 use Rattle.desk_bodies.specs.Operator.{day_members, day_body, holidays_members, holidays_body, company_members, company_body, cut_members, cut_body, intake_members, intake_body, day_sum_members, day_sum_body, settlement_members, settlement_body, suspense_members, suspense_row_body}
+use Rattle.desk_bodies.specs.Status.{tally_members, tally_body, tallies_members, tallies_body, due_members, due_body, company_status_members, company_status_body, status_members, status_body}
 
 -- ---- what a company is told
 
@@ -86,3 +92,23 @@ settlement_text s = compact_text-object_of (settlement_members s)
 pub suspense_row_text : (row : SuspenseRow) → compact_text (suspense_row_body row) ≡ 123 ∷ last_members_text false (suspense_members row)
 unfolding suspense_row_body
 suspense_row_text row = compact_text-object_of (suspense_members row)
+
+pub tally_text : (t : Tally) → compact_text (tally_body t) ≡ 123 ∷ last_members_text false (tally_members t)
+unfolding tally_body
+tally_text t = compact_text-object_of (tally_members t)
+
+pub tallies_text : (t : Tallies) → compact_text (tallies_body t) ≡ 123 ∷ last_members_text false (tallies_members t)
+unfolding tallies_body
+tallies_text t = compact_text-object_of (tallies_members t)
+
+pub due_text : (d : DueDay) → compact_text (due_body d) ≡ 123 ∷ last_members_text false (due_members d)
+unfolding due_body
+due_text d = compact_text-object_of (due_members d)
+
+pub company_status_text : (s : CompanyStatus) → compact_text (company_status_body s) ≡ 123 ∷ last_members_text false (company_status_members s)
+unfolding company_status_body
+company_status_text s = compact_text-object_of (company_status_members s)
+
+pub status_text : (s : DeskStatus) → compact_text (status_body s) ≡ 123 ∷ last_members_text false (status_members s)
+unfolding status_body
+status_text s = compact_text-object_of (status_members s)

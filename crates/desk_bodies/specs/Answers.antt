@@ -11,6 +11,7 @@ use Rattle.desk_bodies.specs.Company.{report_body, returns_body, changes_body, s
 use Rattle.desk_bodies.specs.Faults.{message_fault_body}
 use Rattle.desk_bodies.specs.Operator.{day_body, holidays_body, company_body, cut_body, intake_body, settlement_body, suspense_body}
 use Rattle.desk_bodies.specs.Refusals.{call_refusal_body}
+use Rattle.desk_bodies.specs.Status.{status_body}
 
 -- the bytes of the body of what a call did or found: compact JSON, but the text of a file
 abbrev pub outcome_body : Outcome → List ℕ
@@ -31,6 +32,7 @@ outcome_body (outcomes.File None) = message_fault_body NoFile
 outcome_body (outcomes.File (Some text)) = text
 outcome_body (outcomes.Settlement settlement) = compact_text (settlement_body settlement)
 outcome_body (outcomes.Suspense rows) = compact_text (suspense_body rows)
+outcome_body (outcomes.Status status) = compact_text (status_body status)
 
 -- the bytes of the body of an answer
 abbrev pub answer_body : Answer → List ℕ

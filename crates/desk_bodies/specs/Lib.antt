@@ -2,5 +2,6 @@ pub mod Company
 pub mod Operator
 pub mod Faults
 pub mod Refusals
+pub mod Status
 pub mod Answers
 pub mod Statuses

@@ -8,7 +8,8 @@ use crate::company::{
 };
 use crate::faults::{MessageFault, message_fault_text};
 use crate::operator::{
-    add_settlement, add_suspense, put_company, put_cut, put_day, put_holidays, put_intake,
+    add_settlement, add_status, add_suspense, put_company, put_cut, put_day, put_holidays,
+    put_intake,
 };
 use crate::refusal::call_refusal_text;
 use desk_history::{Answer, ListOf, Outcome, Receipt, SubmissionReport};
@@ -117,6 +118,7 @@ fn add_outcome(alloc: Global, text: &mut Vec<u8>, outcome: &Outcome) -> Result<(
         Outcome::File(file) => add_file(alloc, text, file),
         Outcome::Settlement(settlement) => add_settlement(text, settlement),
         Outcome::Suspense(rows) => add_suspense(text, rows.as_slice()),
+        Outcome::Status(status) => add_status(text, status),
         _ => Ok(()),
     }
 }

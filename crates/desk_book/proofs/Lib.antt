@@ -29,6 +29,7 @@ pub mod RetriesOnRows
 pub mod ReturnedRows
 pub mod RowSteps
 pub mod Standings
+pub mod StatusAnswers
 pub mod Steps
 pub mod Turns
 pub mod Unreturned

@@ -7,7 +7,7 @@ use Rattle.desk_history.specs.declared.answer.Answer.{Answer}
 use Rattle.desk_history.specs.declared.answer.Answer.TheVariants as answers
 use Rattle.desk_history.specs.declared.answer.Outcome.{Outcome}
 use Rattle.desk_history.specs.declared.answer.Outcome.TheVariants as done
-use Rattle.desk_history.specs.Message.{Message, Of, SetDay, SetHolidays, PutCompany, PutLimits, Cut, TakeFile, FileText, Settlement, Suspense, is_accepted}
+use Rattle.desk_history.specs.Message.{Message, Of, SetDay, SetHolidays, PutCompany, PutLimits, Cut, TakeFile, FileText, Settlement, Suspense, Status, is_accepted}
 use Rattle.desk_history.specs.Operator.{set_holidays, cut_answer}
 use Rattle.desk_history.specs.Reply.{answer_of}
 use Rattle.desk_history.specs.Request as request
@@ -58,6 +58,7 @@ unwritten b (TakeFile file) none = none_taken (taking b file) b none
 unwritten b (FileText d modifier) none = refl
 unwritten b Settlement none = refl
 unwritten b Suspense none = refl
+unwritten b Status none = refl
 
 -- ---- who writes nothing
 
@@ -68,6 +69,7 @@ reads b (Of c r) is = refl
 reads b (FileText d modifier) is = refl
 reads b Settlement is = refl
 reads b Suspense is = refl
+reads b Status is = refl
 reads b m is = cc
 
 -- no row is added where the answer tells no receipt
@@ -102,6 +104,7 @@ quiet b (TakeFile file) silent = by (taking b file) silent where
 quiet b (FileText d modifier) silent = refl
 quiet b Settlement silent = refl
 quiet b Suspense silent = refl
+quiet b Status silent = refl
 
 -- a refusal tells it
 refused_quiet : (a : Answer) → is_accepted a ≡ false → is_quiet a ≡ true

@@ -19,7 +19,7 @@ use Rattle.desk_history.specs.Part.{Event, DaySet, Registered, Limited, is_regis
 use Rattle.desk_book.specs.Book.{Book, rows, book_of}
 use Rattle.desk_history.specs.History as history
 use Rattle.desk_history.specs.History.{message_day, with_company, with_registration, with_new_limits, companies, company_event, limits_event, request_event, events_for, part}
-use Rattle.desk_history.specs.Message.{Message, Of, SetDay, SetHolidays, PutCompany, PutLimits, TakeFile, FileText, Settlement, Suspense, Pair, is_accepted}
+use Rattle.desk_history.specs.Message.{Message, Of, SetDay, SetHolidays, PutCompany, PutLimits, TakeFile, FileText, Settlement, Suspense, Status, Pair, is_accepted}
 use Rattle.desk_history.specs.Operator.{answer_to, next_pair, IsHistory}
 use Rattle.desk_history.specs.Request as request
 use Rattle.desk_history.specs.Request.{Request}
@@ -184,5 +184,6 @@ module _ (same_standing : SameStanding) (steps : RowSteps) where
     refused = λ identity key H m refused not. refused_by identity key H m (answer_to identity H m) refused not;
     settlement = λ identity key H. settlement_read identity key H (answer_to identity H Settlement);
     suspense = λ identity key H. nothing_new identity key H Suspense (answer_to identity H Suspense) tt refl refl refl (λ c. refl);
+    status = λ identity key H. nothing_new identity key H Status (answer_to identity H Status) tt refl refl refl (λ c. refl);
     file_text = λ identity key H d modifier. nothing_new identity key H (FileText d modifier) (answer_to identity H (FileText d modifier)) tt refl refl refl (λ c. refl);
   }

@@ -7,12 +7,14 @@ pub mod OnCut
 pub mod OnIntake
 pub mod OnMessages
 pub mod OnOperator
+pub mod OnStatus
 pub mod OpenRows
 pub mod OperatorLaws
 pub mod Reads
 pub mod Repeating
 pub mod RowLaws
 pub mod Standing
+pub mod StatusLaws
 pub mod Steps
 pub mod SumLaws
 pub mod Sums

@@ -3,13 +3,14 @@ use Rattle.std.specs.Prelude.{◌≡◌, ℕ, List, ◌∷◌}
 use Rattle.desk_history.specs.declared.answer.Answer.{Answer}
 use Rattle.desk_history.specs.declared.identity.Identity.{Identity}
 use Rattle.desk_book.specs.Book.{Book, book_of}
-use Rattle.desk_history.specs.Message.{Message, Of, SetDay, SetHolidays, PutCompany, PutLimits, Cut, TakeFile, FileText, Settlement, Suspense, Pair}
+use Rattle.desk_history.specs.Message.{Message, Of, SetDay, SetHolidays, PutCompany, PutLimits, Cut, TakeFile, FileText, Settlement, Suspense, Status, Pair}
 use Rattle.desk_history.specs.Operator.{answer_to, next_pair, IsHistory}
 use Rattle.desk_book.specs.OnBook.{reply_on}
 use Rattle.desk_book.specs.Requests.{added_row, with_added_row}
 use Rattle.desk_book.specs.OnOperator.{day_answer, day_after, holidays_answer, holidays_after, company_answer, company_after, limits_answer, limits_after, file_answer, settlement_answer, suspense_answer}
 use Rattle.desk_book.specs.OnCut.{cut_answer_on, cut_after}
 use Rattle.desk_book.specs.OnIntake.{file_answer_on, file_after}
+use Rattle.desk_book.specs.OnStatus.{status_answer}
 
 abbrev pub answer_on : Book → Message → Answer
 answer_on b (Of c r) = reply_on b c r
@@ -22,6 +23,7 @@ answer_on b (TakeFile file) = file_answer_on file b
 answer_on b (FileText d modifier) = file_answer d modifier b
 answer_on b Settlement = settlement_answer b
 answer_on b Suspense = suspense_answer b
+answer_on b Status = status_answer b
 
 abbrev pub after_on : Book → Message → Book
 after_on b (Of c r) = with_added_row c (added_row b c r) b
@@ -34,6 +36,7 @@ after_on b (TakeFile file) = file_after file b
 after_on b (FileText d modifier) = b
 after_on b Settlement = b
 after_on b Suspense = b
+after_on b Status = b
 
 -- the book tells each answer, and the book after each message
 pub record BookTells : Type 0 where

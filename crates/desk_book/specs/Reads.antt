@@ -49,9 +49,13 @@ state_of c reference index b = option_map (λ row. state_at row index) (row_unde
 abbrev pub held_submission : Company → List Row → Row → HeldSubmission
 held_submission k rows row = record { company = k; row = row; original_settled = original_of_row rows row.retry }
 
+-- those of a company, by order number
+abbrev pub waiting_of : Company → Book → List HeldSubmission
+waiting_of k b = map (held_submission k (b.rows k.id)) (filter is_held (b.rows k.id))
+
 -- the held submissions, by company and then by order number
 abbrev pub waiting : Book → List HeldSubmission
-waiting b = flat_map (λ k. map (held_submission k (b.rows k.id)) (filter is_held (b.rows k.id))) b.companies
+waiting b = flat_map (λ k. waiting_of k b) b.companies
 
 abbrev pub last_sequence : Book → ℕ
 last_sequence b = plan_sequences.last_sequence (map sending.sent_sequence b.sent)

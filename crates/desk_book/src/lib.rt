@@ -16,6 +16,7 @@ mod open_rows;
 mod returns_and_changes;
 mod row;
 mod row_laws;
+mod status_laws;
 mod sum_laws;
 mod sums;
 
@@ -30,5 +31,6 @@ pub use open_rows::{first_open_day, open_rows_suffice};
 pub use returns_and_changes::ReturnsAndChanges;
 pub use row::{Row, state_numbered};
 pub use row_laws::{row_steps, rows_of_part, verdicts_on_rows};
+pub use status_laws::tells_status;
 pub use sum_laws::{exposures_grow, rates_stay};
 pub use sums::{exposures_among, rates_among};

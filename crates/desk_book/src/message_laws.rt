@@ -14,6 +14,7 @@ pub fn book_tells()
     crate::book_laws::steps_of_operator();
     crate::cut_laws::tells_cut();
     crate::intake_laws::tells_intake();
+    crate::status_laws::tells_status();
 }
 
 /// What writes nothing leaves the book as it was. Reads write nothing, nor does what is refused or

@@ -30,6 +30,7 @@ abbrev pub IsReadCall : Call → Type 0
 IsReadCall (calls.FileText day modifier) = ⊤
 IsReadCall calls.Settlement = ⊤
 IsReadCall calls.SuspenseItems = ⊤
+IsReadCall calls.Status = ⊤
 IsReadCall (calls.LookUp c reference) = ⊤
 IsReadCall (calls.ReturnsOf c) = ⊤
 IsReadCall (calls.ChangesOf c) = ⊤

@@ -6,3 +6,4 @@ pub(crate) mod intake;
 pub(crate) mod named_entries;
 pub(crate) mod reads;
 pub(crate) mod settings;
+pub(crate) mod status;

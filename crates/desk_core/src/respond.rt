@@ -8,6 +8,7 @@ use crate::operator::cut::cut;
 use crate::operator::intake::take_file;
 use crate::operator::reads::{file_text, settlement, suspense_items};
 use crate::operator::settings::{put_company, put_limits, set_day, set_holidays};
+use crate::operator::status::status;
 use crate::retry::call::retry;
 use desk_history::{Answer, Call};
 use desk_store::{Store, StoreFault};
@@ -34,6 +35,7 @@ pub(crate) fn respond<S: Store>(
         Call::FileText(day, modifier) => file_text(store, alloc, day, modifier),
         Call::Settlement => settlement(store, alloc),
         Call::SuspenseItems => suspense_items(store, alloc),
+        Call::Status => status(store, alloc),
         Call::Submit(company, draft) => submit(store, alloc, company, &draft),
         Call::Retry(company, draft) => retry(store, alloc, company, &draft),
         Call::LookUp(company, reference) => look_up(store, alloc, company, reference),

@@ -2,4 +2,5 @@ pub mod Plain
 pub mod Planned
 pub mod Prints
 pub mod Sendings
+pub mod Sums
 pub mod Totals

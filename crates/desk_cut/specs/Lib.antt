@@ -4,3 +4,4 @@ pub mod Plain
 pub mod Plan
 pub mod Sendable
 pub mod Sent
+pub mod Sums

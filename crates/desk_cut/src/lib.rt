@@ -1,6 +1,8 @@
 //! This crate plans a cut: what is sent and what lapses of the submissions that wait, the batches
 //! and files with their sequences and texts, and all that is written of them.
 //!
+//! `company_status` says what a company has waiting, and what a cut would send of it.
+//!
 //! Nothing here reads or writes a store. `ranges_of_cut` says which sequences the batches would
 //! take, so that the caller can look up when these were used last, and `plan_cut` plans the cut or
 //! refuses it.
@@ -15,6 +17,8 @@ mod numbers;
 mod plan;
 mod postings;
 mod printing;
+mod status;
 
 pub use fault::CutFault;
 pub use plan::{CutPlan, plan_cut, ranges_of_cut};
+pub use status::company_status;

@@ -91,6 +91,11 @@ impl Store for FaultyStore {
         self.store.company(alloc, id)
     }
 
+    fn companies(&mut self, alloc: Global) -> Result<Vec<Company>, StoreFault> {
+        self.count_call()?;
+        self.store.companies(alloc)
+    }
+
     fn submission(
         &mut self,
         alloc: Global,
@@ -141,6 +146,15 @@ impl Store for FaultyStore {
     fn entries_of(&mut self, alloc: Global, company: Id) -> Result<Vec<Row>, StoreFault> {
         self.count_call()?;
         self.store.entries_of(alloc, company)
+    }
+
+    fn waiting_of(
+        &mut self,
+        alloc: Global,
+        company: Company,
+    ) -> Result<Vec<HeldSubmission>, StoreFault> {
+        self.count_call()?;
+        self.store.waiting_of(alloc, company)
     }
 
     fn waiting(&mut self, alloc: Global) -> Result<Vec<HeldSubmission>, StoreFault> {

@@ -25,4 +25,5 @@ pub mod Retries
 pub mod Sendings
 pub mod SentLaws
 pub mod State
+pub mod Status
 pub mod Words

@@ -22,6 +22,7 @@ pub data Message : Type 0 where
   FileText : (day modifier : ℕ) → Message
   Settlement : Message
   Suspense : Message
+  Status : Message
 
 -- a message and its answer: a history is a list of these, the newest first
 pub record Pair : Type 0 where

@@ -19,13 +19,14 @@ use Rattle.desk_history.specs.declared.identity.Identity.{Identity}
 use Rattle.desk_history.specs.declared.operations.CutSummary.{CutSummary}
 use Rattle.desk_history.specs.declared.operations.Intake.{Intake}
 use Rattle.desk_history.specs.Words.{some_or, holds_or}
-use Rattle.desk_history.specs.Message.{Message, Of, SetDay, SetHolidays, PutCompany, PutLimits, Cut, TakeFile, FileText, Settlement, Suspense, Pair, is_accepted}
+use Rattle.desk_history.specs.Message.{Message, Of, SetDay, SetHolidays, PutCompany, PutLimits, Cut, TakeFile, FileText, Settlement, Suspense, Status, Pair, is_accepted}
 use Rattle.desk_history.specs.Reply.{answer_of, reply}
 use Rattle.desk_history.specs.History.{day, holidays, companies, part}
 use Rattle.desk_history.specs.Files.{text_of, file_at}
 use Rattle.desk_history.specs.Cutting.{cut}
 use Rattle.desk_history.specs.Intake.{take_file, suspense}
 use Rattle.desk_history.specs.Postings.{postings, settlement}
+use Rattle.desk_history.specs.Status.{status}
 
 abbrev pub has_id : List ℕ → Company → Bool
 has_id id k = bytes_eq k.id id
@@ -84,6 +85,7 @@ answer_to identity H (TakeFile file) = intake_answer (take_file identity.odfi H 
 answer_to identity H (FileText d modifier) = answers.Done (done.File (option_map (text_of identity) (file_at identity.odfi H d modifier)))
 answer_to identity H Settlement = answer_of (settlement_outcome identity.odfi H)
 answer_to identity H Suspense = answers.Done (done.Suspense (suspense identity.odfi H))
+answer_to identity H Status = answers.Done (done.Status (status identity.odfi H))
 
 -- Each answer that accepts is the one after the pairs before it. Refusals change nothing, and are not bound.
 abbrev pub IsHistory : Identity → List Pair → Type 0

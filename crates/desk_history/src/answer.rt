@@ -1,6 +1,6 @@
 use crate::{
-    ChangeRow, CutSummary, DayRates, Exposure, Intake, ListOf, Receipt, ReturnRow, Settlement,
-    Statement, SubmissionReport, SuspenseRow,
+    ChangeRow, CutSummary, DayRates, DeskStatus, Exposure, Intake, ListOf, Receipt, ReturnRow,
+    Settlement, Statement, SubmissionReport, SuspenseRow,
 };
 use ach_fields::Id;
 use ach_files::Fault;
@@ -33,6 +33,7 @@ pub enum Outcome {
     Settlement(Settlement),
     /// The items in suspense, in the order in which they came.
     Suspense(ListOf<SuspenseRow>),
+    Status(DeskStatus),
 }
 
 /// A `CallRefusal` says why a call is refused.

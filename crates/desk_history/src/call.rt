@@ -25,6 +25,8 @@ pub enum Call {
     Settlement,
     /// Reads the items that stand in suspense.
     SuspenseItems,
+    /// Reads how the desk stands.
+    Status,
     /// Hands in a submission.
     Submit(Id, Draft),
     /// Asks to try a returned debit again (Nacha's reinitiation).

@@ -20,6 +20,7 @@ mod posting_laws;
 mod reports;
 mod sent_entry;
 mod sent_laws;
+mod status;
 
 pub use accepted_laws::accepted_in_order;
 pub use account_laws::accounts_cancel;
@@ -40,3 +41,4 @@ pub use reports::{
 };
 pub use sent_entry::{FilePlace, SentEntry};
 pub use sent_laws::{possible_parts, sent_are_accepted};
+pub use status::{CompanyStatus, DeskStatus, DueDay, Tallies, Tally};

@@ -1,5 +1,5 @@
 -- What the reads of the lists in memory find.
-use Rattle.std.specs.Prelude.{◌≡◌, ℕ, Bool, ◌==◌, nat_lt, if◌then◌else◌, List, [], ◌∷◌, map, filter, bytes_eq, max, Option, Some, None, ℤ, ◌+ℤ◌}
+use Rattle.std.specs.Prelude.{◌≡◌, ℕ, Bool, ◌==◌, nat_lt, if◌then◌else◌, List, [], ◌∷◌, map, filter, bytes_eq, max, Option, Some, None, is_none, ℤ, ◌+ℤ◌}
 use Rattle.desk_rules.specs.declared.bodies.company.Company.{Company}
 use Rattle.desk_book.specs.declared.row.Row.{Row}
 use Rattle.desk_history.specs.declared.sent_entry.SentEntry.{SentEntry}
@@ -17,6 +17,7 @@ use Rattle.desk_lists.specs.declared.entries.RowFilter.TheVariants as filters
 use Rattle.desk_lists.specs.declared.place_index.KeyKind.{KeyKind}
 use Rattle.desk_lists.specs.declared.place_index.KeyKind.TheVariants as kinds
 use Rattle.desk_lists.specs.declared.place_index.PlaceIndex.{PlaceIndex}
+use Rattle.desk_lists.specs.declared.row_places.RowPlaces.{RowPlaces}
 
 -- a company's rows
 abbrev pub rows_for : List KeptSubmission → List ℕ → List Row
@@ -43,6 +44,10 @@ pub record FindWaiting (rows : List CompanyRow) (index references : PlaceIndex) 
   pub has : (x : CompanyRow) → x.row.settled ≡ None → key_in kind x ≡ Some (whole x.company)
   pub held : FindsAll kind rows index
   pub originals : FindsAll kinds.Reference rows references
+
+-- the index that finds them: of the rows that may be open since a day, once there is one, else of all rows
+abbrev pub held_index : RowPlaces → PlaceIndex
+held_index x = if is_none x.since then x.companies else x.recent
 
 -- the later of two days, where there are any
 abbrev pub later_of : Option ℕ → (day : Option ℕ) → Option ℕ

@@ -9,7 +9,7 @@ use crate::place_index::KeyKind;
 use crate::reads::{company_among, copy_of, rows_of};
 use crate::row_key::RowKey;
 use crate::sent::last_of;
-use crate::waiting::all_waiting;
+use crate::waiting::{all_waiting, company_waiting};
 use crate::writes::{held_row, limit_company, place_of};
 use ach_fields::{Id, Ref, Trace};
 use bank_days::{Calendar, Day};
@@ -61,6 +61,10 @@ impl Store for ListStore {
 
     fn company(&mut self, _alloc: Global, id: Id) -> Result<Option<Company>, StoreFault> {
         Ok(company_among(&self.companies, id))
+    }
+
+    fn companies(&mut self, alloc: Global) -> Result<Vec<Company>, StoreFault> {
+        Ok(copy_of(alloc, &self.companies)?)
     }
 
     fn submission(
@@ -133,23 +137,24 @@ impl Store for ListStore {
         Ok(rows_of(alloc, &self.submissions, company)?)
     }
 
+    fn waiting_of(
+        &mut self,
+        alloc: Global,
+        company: Company,
+    ) -> Result<Vec<HeldSubmission>, StoreFault> {
+        let kept = self.submissions.as_slice();
+        self.places.cover_held(alloc, kept)?;
+        let places = &self.places;
+        let index = places.held();
+        Ok(company_waiting(alloc, &company, kept, index, &places.references)?)
+    }
+
     fn waiting(&mut self, alloc: Global) -> Result<Vec<HeldSubmission>, StoreFault> {
         let kept = self.submissions.as_slice();
-        self.places
-            .references
-            .cover(alloc, kept, &KeyKind::Reference)?;
-        let Some(since) = self.places.since else {
-            self.places.companies.cover(alloc, kept, &KeyKind::Company)?;
-            let index = &self.places.companies;
-            let references = &self.places.references;
-            return Ok(all_waiting(alloc, &self.companies, kept, index, references)?);
-        };
-        // What no cut has decided may be open since any day.
-        let kind = KeyKind::OpenSince(since);
-        self.places.recent.cover(alloc, kept, &kind)?;
-        let index = &self.places.recent;
-        let references = &self.places.references;
-        Ok(all_waiting(alloc, &self.companies, kept, index, references)?)
+        self.places.cover_held(alloc, kept)?;
+        let places = &self.places;
+        let index = places.held();
+        Ok(all_waiting(alloc, &self.companies, kept, index, &places.references)?)
     }
 
     fn last_sequence(&mut self, _alloc: Global) -> Result<u32, StoreFault> {

@@ -1,6 +1,7 @@
 //! The rows of a company in memory are found without going through all rows.
 ghost use Rattle.std.specs.Prelude.{◌≡◌, true, List, [], Some, map, OnOk};
 ghost use Rattle.desk_lists.specs.Kept.{row_in};
+ghost use Rattle.desk_lists.specs.Finds.{FindWaiting, held_index};
 ghost use Rattle.desk_lists.specs.Placed.{ArePlaced, FindsAll};
 ghost use Rattle.desk_lists.specs.declared.place_index.KeyKind.TheVariants as kinds;
 ghost use Rattle.desk_store.specs.Rows.{CompanyRow};
@@ -101,5 +102,33 @@ impl RowPlaces {
     {
         self.begin(since);
         self.recent.cover(alloc, kept, &KeyKind::OpenSince(since))
+    }
+
+    /// Covers the rows of the companies that a cut may still decide, and all by their references.
+    pub(crate) fn cover_held(
+        &mut self,
+        alloc: Global,
+        kept: &[KeptSubmission],
+    ) -> Result<(), StoreFault>
+        ensures right { ArePlaced (map row_in kept.now) self.old → ArePlaced (map row_in kept.now) self.new }
+        ensures whole { OnOk result (ArePlaced (map row_in kept.now) self.old → FindWaiting (map row_in kept.now) (held_index self.new) self.new.references) }
+    {
+        self.references.cover(alloc, kept, &KeyKind::Reference)?;
+        match self.since {
+            None => self.companies.cover(alloc, kept, &KeyKind::Company)?,
+            // What no cut has decided may be open since any day.
+            Some(since) => self.recent.cover(alloc, kept, &KeyKind::OpenSince(since))?,
+        }
+        Ok(())
+    }
+
+    /// Gives the index that finds these rows by their company.
+    pub(crate) fn held(&self) -> &PlaceIndex
+        ensures { result.now ≡ held_index self.now }
+    {
+        match self.since {
+            None => &self.companies,
+            Some(_) => &self.recent,
+        }
     }
 }

@@ -103,6 +103,22 @@ fn push_waiting(
     Ok(())
 }
 
+/// Gives the held submissions of a company, which one index finds, and another their originals.
+pub(crate) fn company_waiting(
+    alloc: Global,
+    company: &Company,
+    kept: &[KeptSubmission],
+    index: &PlaceIndex,
+    references: &PlaceIndex,
+) -> Result<Vec<HeldSubmission>, AllocError>
+    ensures { IfOk result (λ found. FindWaiting (map row_in kept.now) index.now references.now → found.items ≡ waiting_for company.now (rows_for kept.now company.now.id)) }
+{
+    let mut found = Vec::new(alloc);
+    let places = index.of(RowKey::whole(company.id));
+    push_waiting(alloc, &mut found, kept, references, places, company)?;
+    Ok(found)
+}
+
 /// Gives the held submissions of all companies, which one index finds, and another their originals.
 pub(crate) fn all_waiting(
     alloc: Global,

@@ -70,9 +70,13 @@ original_in company (Some retry) t = option_and_then (λ original. original.sett
 abbrev pub held_in : Company → Tables → Row → HeldSubmission
 held_in k t row = record { company = k; row = row; original_settled = original_in k.id row.retry t }
 
+-- the held submissions of a company, by order number
+abbrev pub waiting_of_in : Company → Tables → List HeldSubmission
+waiting_of_in k t = map (held_in k t) (rows_in (is_waiting_of k.id) t)
+
 -- the held submissions, by company and then by order number
 abbrev pub waiting_in : Tables → List HeldSubmission
-waiting_in t = flat_map (λ k. map (held_in k t) (rows_in (is_waiting_of k.id) t)) t.companies
+waiting_in t = flat_map (λ k. waiting_of_in k t) t.companies
 
 abbrev pub return_row_of : ReturnLine → SubmissionFacts → ReturnRow
 return_row_of line facts = record {

@@ -14,6 +14,7 @@ pub record RegistryLaws : Type 0 where
   pub holidays : ReadsAs (λ t. t.holidays) (λ b. b.holidays)
   pub key_of : (caller : Caller) → ReadsAs (key_in caller) (key_of caller)
   pub company : (id : List ℕ) → ReadsAs (company_in id) (company id)
+  pub companies : ReadsAs (λ t. t.companies) (λ b. b.companies)
 
 pub record FileLaws : Type 0 where
   pub postings : (account : Account) → ReadsAs (lines_in account) (λ b. lines_of account b.postings)

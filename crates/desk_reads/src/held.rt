@@ -1,9 +1,9 @@
 //! Submissions that wait for a cut.
-ghost use Rattle.std.specs.Prelude.{◌≡◌, List, map};
+ghost use Rattle.std.specs.Prelude.{◌≡◌, List};
 ghost use Rattle.sqlite.specs.Held.{state};
 ghost use Rattle.desk_book.specs.declared.held_submission.HeldSubmission.{HeldSubmission};
-ghost use Rattle.desk_read_laws.specs.Composed.{original_in, held_in, waiting_in};
-ghost use Rattle.desk_records.specs.TableReads.{whole_row, rows_in, is_waiting_of};
+ghost use Rattle.desk_read_laws.specs.Composed.{original_in, held_in, waiting_of_in, waiting_in};
+ghost use Rattle.desk_records.specs.TableReads.{whole_row};
 ghost use Rattle.desk_reads.specs.Answers.{Answers, Learns};
 
 use crate::each::{ItemRead, joined, read_each};
@@ -68,6 +68,20 @@ impl ItemRead for HeldSubmissions {
     }
 }
 
+/// Reads the held submissions of a company, by order number.
+pub fn waiting_of<S: Alter>(
+    conn: &mut Connection<S>,
+    alloc: Global,
+    company: &Company,
+) -> Result<Vec<HeldSubmission>, StoreFault>
+    ensures { Answers (λ found t. found.items ≡ waiting_of_in company.now t) result (state S.Store conn.old) (state S.Store conn.new) }
+{
+    let heads = or_unavailable(waiting_submissions(conn, alloc, company.id))?;
+    let held = HeldSubmissions { company: *company };
+    let found = read_each(conn, alloc, &held, &heads)?;
+    Ok(found)
+}
+
 // The held submissions of each company of a list.
 #[derive(Clone, Copy)]
 struct HeldByCompany;
@@ -81,7 +95,7 @@ impl ItemRead for HeldByCompany {
 
     ghost shown = { λ found. found.items };
 
-    ghost value = { λ _ t company. map (held_in company t) (rows_in (is_waiting_of company.id) t) };
+    ghost value = { λ _ t company. waiting_of_in company t };
 
     fn read_item<S: Alter>(
         &self,
@@ -89,10 +103,7 @@ impl ItemRead for HeldByCompany {
         alloc: Global,
         company: &Company,
     ) -> Result<Vec<HeldSubmission>, StoreFault> {
-        let heads = or_unavailable(waiting_submissions(conn, alloc, company.id))?;
-        let held = HeldSubmissions { company: *company };
-        let found = read_each(conn, alloc, &held, &heads)?;
-        Ok(found)
+        waiting_of(conn, alloc, company)
     }
 }
 

@@ -24,7 +24,7 @@ mod state;
 pub use balances::balances_of;
 pub use fault::or_unavailable;
 pub use files::{file, files_on};
-pub use held::waiting;
+pub use held::{waiting, waiting_of};
 pub use holidays::calendar;
 pub use items::items_of;
 pub use key::key_of;

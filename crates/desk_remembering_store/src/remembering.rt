@@ -72,6 +72,10 @@ impl<S: Store> Store for Remembering<S> {
         self.store.company(alloc, id)
     }
 
+    fn companies(&mut self, alloc: Global) -> Result<Vec<Company>, StoreFault> {
+        self.store.companies(alloc)
+    }
+
     fn submission(
         &mut self,
         alloc: Global,
@@ -139,6 +143,14 @@ impl<S: Store> Store for Remembering<S> {
 
     fn entries_of(&mut self, alloc: Global, company: Id) -> Result<Vec<Row>, StoreFault> {
         self.store.entries_of(alloc, company)
+    }
+
+    fn waiting_of(
+        &mut self,
+        alloc: Global,
+        company: Company,
+    ) -> Result<Vec<HeldSubmission>, StoreFault> {
+        self.store.waiting_of(alloc, company)
     }
 
     fn waiting(&mut self, alloc: Global) -> Result<Vec<HeldSubmission>, StoreFault> {

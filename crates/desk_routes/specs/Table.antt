@@ -52,6 +52,7 @@ table =
     ∷ row Post (of_operator (text (codes "limits") ∷ [])) (Operator operator.PutLimits)
     ∷ row Post (of_operator (text (codes "returns") ∷ [])) (Operator operator.TakeFile)
     ∷ row Get (of_operator (text (codes "settlement") ∷ [])) (Operator operator.Settlement)
+    ∷ row Get (of_operator (text (codes "status") ∷ [])) (Operator operator.Status)
     ∷ row Get (of_operator (text (codes "suspense") ∷ [])) (Operator operator.Suspense)
     ∷ []
 

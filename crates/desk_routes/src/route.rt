@@ -36,6 +36,8 @@ pub enum OperatorRoute {
     /// The text of a file: its day is the path's third piece, its modifier the fourth.
     FileText,
     Settlement,
+    /// How the desk stands.
+    Status,
     Suspense,
 }
 

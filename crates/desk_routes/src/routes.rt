@@ -33,7 +33,7 @@ macro_rules! routes {
 }
 
 /// The routes of the desk.
-const ROUTES: [(Method, &str, Route); 17] = routes! {
+const ROUTES: [(Method, &str, Route); 18] = routes! {
     Get "/c/{company}/changes" => Company(CompanyRoute::Changes);
     Get "/c/{company}/exposure" => Company(CompanyRoute::Exposure);
     Get "/c/{company}/rates" => Company(CompanyRoute::Rates);
@@ -50,6 +50,7 @@ const ROUTES: [(Method, &str, Route); 17] = routes! {
     Post "/ops/limits" => Operator(OperatorRoute::PutLimits);
     Post "/ops/returns" => Operator(OperatorRoute::TakeFile);
     Get "/ops/settlement" => Operator(OperatorRoute::Settlement);
+    Get "/ops/status" => Operator(OperatorRoute::Status);
     Get "/ops/suspense" => Operator(OperatorRoute::Suspense);
 };
 

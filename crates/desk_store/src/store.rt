@@ -2,7 +2,7 @@
 ghost use Rattle.std.specs.Prelude.{◌≡◌, Option};
 ghost use Rattle.desk_accounts.specs.Balance.{lines_of, day_sums};
 ghost use Rattle.desk_book.specs.Book.{Book};
-ghost use Rattle.desk_book.specs.Reads.{key_of, company, submission, submission_count, open_rows_of, retries_of, state_of, waiting, last_sequence, sent_count, latest_settled, sent_as, items_of};
+ghost use Rattle.desk_book.specs.Reads.{key_of, company, submission, submission_count, open_rows_of, retries_of, state_of, waiting_of, waiting, last_sequence, sent_count, latest_settled, sent_as, items_of};
 ghost use Rattle.desk_book.specs.Steps.{set_day, set_holidays, put_company, put_limits, add_submission, commit_cut, commit_intake};
 ghost use Rattle.desk_book.specs.Sums.{exposures_of, rates_of};
 ghost use Rattle.desk_store.specs.Written.{cut_rows, intake_rows};
@@ -121,6 +121,12 @@ pub trait Store {
         ensures read { is_clean self.new → Reads (holds self.old) result (company id) (holds self.new) }
         ensures left { is_clean self.new → LeavesRead (may_leave self.old) (may_leave self.new) };
 
+    /// Reads all registered companies, with their present limits, by identification.
+    fn companies(&mut self, alloc: Global) -> Result<Vec<Company>, StoreFault>
+        ensures before { is_clean self.new → is_clean self.old }
+        ensures read { is_clean self.new → ReadsList (holds self.old) result (λ b. b.companies) (holds self.new) }
+        ensures left { is_clean self.new → LeavesRead (may_leave self.old) (may_leave self.new) };
+
     /// Reads a company's submission or retry with its entries, by its reference.
     fn submission(
         &mut self,
@@ -209,6 +215,16 @@ pub trait Store {
         let rows = self.entries_of(alloc, company)?;
         Ok(rates_among(alloc, &rows, today)?)
     }
+
+    /// Reads the held submissions of a company, by order number.
+    fn waiting_of(
+        &mut self,
+        alloc: Global,
+        company: Company,
+    ) -> Result<Vec<HeldSubmission>, StoreFault>
+        ensures before { is_clean self.new → is_clean self.old }
+        ensures read { is_clean self.new → ReadsList (holds self.old) result (waiting_of company) (holds self.new) }
+        ensures left { is_clean self.new → LeavesRead (may_leave self.old) (may_leave self.new) };
 
     /// Reads the held submissions of all companies, by identification and then by order number.
     fn waiting(&mut self, alloc: Global) -> Result<Vec<HeldSubmission>, StoreFault>

@@ -72,6 +72,11 @@ impl<S: Alter> Store for SqlStore<S> {
         or_unavailable(desk_queries::company(&mut self.conn, id))
     }
 
+    fn companies(&mut self, alloc: Global) -> Result<Vec<Company>, StoreFault> {
+        registry_of_tables();
+        or_unavailable(desk_queries::companies(&mut self.conn, alloc))
+    }
+
     fn submission(
         &mut self,
         alloc: Global,
@@ -137,6 +142,15 @@ impl<S: Alter> Store for SqlStore<S> {
     fn rates(&mut self, alloc: Global, company: Id, today: Day) -> Result<Rates, StoreFault> {
         rows_of_tables();
         desk_reads::rates_of(&mut self.conn, alloc, company, today)
+    }
+
+    fn waiting_of(
+        &mut self,
+        alloc: Global,
+        company: Company,
+    ) -> Result<Vec<HeldSubmission>, StoreFault> {
+        rows_of_tables();
+        desk_reads::waiting_of(&mut self.conn, alloc, &company)
     }
 
     fn waiting(&mut self, alloc: Global) -> Result<Vec<HeldSubmission>, StoreFault> {

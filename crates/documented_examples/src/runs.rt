@@ -20,6 +20,7 @@ const DAYS: &[&str] = &[
     "13_returns",
     "14_statement",
     "15_settlement",
+    "16_status",
 ];
 
 /// These of them are sent once more.

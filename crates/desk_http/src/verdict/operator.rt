@@ -59,6 +59,7 @@ fn route_call(
         OperatorRoute::TakeFile => Ok(Ok(Call::TakeFile(copy_of(alloc, request.body)?))),
         OperatorRoute::FileText => Ok(file_call(path_of(request.target))),
         OperatorRoute::Settlement => Ok(Ok(Call::Settlement)),
+        OperatorRoute::Status => Ok(Ok(Call::Status)),
         OperatorRoute::Suspense => Ok(Ok(Call::SuspenseItems)),
     }
 }

@@ -36,7 +36,7 @@ fn piece(path: &[u8], slashes: usize) -> &[u8] {
 #[test]
 fn finds_each_route(rt: HostRuntime) {
     let routes = routes(&rt);
-    let cases: [(&[u8], &[u8], Route); 17] = [
+    let cases: [(&[u8], &[u8], Route); 18] = [
         (
             b"POST",
             b"/c/MILL01/submissions",
@@ -85,6 +85,7 @@ fn finds_each_route(rt: HostRuntime) {
             b"/ops/settlement",
             Operator(OperatorRoute::Settlement),
         ),
+        (b"GET", b"/ops/status", Operator(OperatorRoute::Status)),
         (b"GET", b"/ops/suspense", Operator(OperatorRoute::Suspense)),
     ];
     for (method, path, route) in cases {

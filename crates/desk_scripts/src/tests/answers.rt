@@ -1,8 +1,9 @@
 //! The words in which a script writes an answer.
 use bank_days::Day;
 use desk_core::{
-    Answer, CallRefusal, ChangeRow, CutSummary, DayRates, Exposure, Intake, ListOf, Outcome,
-    Receipt, ReturnRow, Settlement, Statement, SubmissionReport, SuspenseRow,
+    Answer, CallRefusal, ChangeRow, CompanyStatus, CutSummary, DayRates, DeskStatus, Exposure,
+    Intake, ListOf, Outcome, Receipt, ReturnRow, Settlement, Statement, SubmissionReport,
+    SuspenseRow, Tallies, Tally,
 };
 use desk_rules::{EntryState, Rate};
 use std::alloc::Global;
@@ -174,6 +175,53 @@ fn suspense(rt: &impl Abort, out: &mut String, rows: &ListOf<SuspenseRow>) {
     }
 }
 
+// How many submissions, and their cents.
+fn tally(rt: &impl Abort, out: &mut String, tally: Tally) {
+    write!(out, " {}/{}", tally.submissions, tally.cents)
+        .ok()
+        .expect(rt, "memory");
+}
+
+// Of credits, then of debits.
+fn tallies(rt: &impl Abort, out: &mut String, sums: Tallies) {
+    tally(rt, out, sums.credits);
+    tally(rt, out, sums.debits);
+}
+
+fn company_status(rt: &impl Abort, out: &mut String, s: &CompanyStatus) {
+    put(rt, out, "; ");
+    put_bytes(rt, out, s.id.bytes());
+    put(rt, out, " held");
+    tallies(rt, out, s.held);
+    write!(out, " lapsing {}", s.lapsing)
+        .ok()
+        .expect(rt, "memory");
+    for due in s.due.as_slice() {
+        put(rt, out, ", ");
+        put_day(rt, out, due.day);
+        tallies(rt, out, due.sums);
+    }
+}
+
+fn status(rt: &impl Abort, out: &mut String, s: &DeskStatus) {
+    match s.day {
+        Some(day) => put_day(rt, out, day),
+        None => put(rt, out, "no day"),
+    }
+    put(rt, out, ", files [");
+    put_bytes(rt, out, s.files.as_slice());
+    write!(
+        out,
+        "], suspense {}, holidays {}, sent {}",
+        s.suspense, s.holidays, s.sent
+    )
+    .ok()
+    .expect(rt, "memory");
+    for company in s.companies.as_slice() {
+        company_status(rt, out, company);
+    }
+}
+
 fn holidays(rt: &impl Abort, out: &mut String, count: u64) {
     write!(out, "holidays {count}").ok().expect(rt, "memory");
 }
@@ -201,6 +249,7 @@ fn operator_done(rt: &impl Abort, out: &mut String, done: &Outcome) {
         Outcome::File(Some(text)) => put_bytes(rt, out, text.as_slice()),
         Outcome::Settlement(made) => settlement(rt, out, made),
         Outcome::Suspense(rows) => suspense(rt, out, rows),
+        Outcome::Status(made) => status(rt, out, made),
         _ => put(rt, out, "none"),
     }
 }

@@ -188,6 +188,7 @@ fn operator_call(rt: &(impl Abort + Alloc<A = Global>), line: &str) -> Call {
         "cut" => Call::Cut,
         "file" => file(rt, line),
         "settlement" => Call::Settlement,
+        "status" => Call::Status,
         _ => Call::SuspenseItems,
     }
 }

@@ -12,4 +12,5 @@ mod old_cut;
 mod rates;
 mod script;
 mod sequences;
+mod status;
 mod sums;

@@ -13,4 +13,5 @@ returns c = record {
   holidays = reads_as (λ t. t.holidays) (λ b. b.holidays) (λ trees t r stored e beside. e.holidays);
   key_of = λ caller. reads_as (key_in caller) (key_of caller) (λ trees t r stored e beside. key_found t r e caller);
   company = λ id. reads_as (company_in id) (company id) (λ trees t r stored e beside. company_found t r e id);
+  companies = reads_as (λ t. t.companies) (λ b. b.companies) (λ trees t r stored e beside. e.companies);
 }

@@ -1,4 +1,4 @@
-use Rattle.desk_book.specs.Reads.{submission, submission_count, retries_of, state_of, waiting, items_of}
+use Rattle.desk_book.specs.Reads.{submission, submission_count, retries_of, state_of, waiting_of, waiting, items_of}
 use Rattle.desk_book.specs.OpenRows.{is_open_row}
 use Rattle.desk_records.specs.TableReads.{rows_in, row_under_in, is_of, is_retry_of, last_order}
 use Rattle.std.proofs.Common.{◌≡◌, ◌+◌, ◌-◌, ap, sym, ◌∙◌}
@@ -9,10 +9,10 @@ use Rattle.desk_read_laws.proofs.ReadsAs.{reads_as}
 use Rattle.desk_book.specs.Standing.{facts_in}
 use Rattle.desk_book.specs.Sums.{exposures_on, exposures_of, rates_of}
 use Rattle.desk_rules.specs.ReturnRates.{rates}
-use Rattle.desk_read_laws.specs.Composed.{exposures_in, rates_in, state_under_in, waiting_in}
+use Rattle.desk_read_laws.specs.Composed.{exposures_in, rates_in, state_under_in, waiting_of_in, waiting_in}
 use Rattle.desk_read_laws.proofs.EntryStates.{state_found}
 use Rattle.desk_read_laws.proofs.ItemLines.{returns_found, changes_found, all_there}
-use Rattle.desk_read_laws.proofs.WaitingRows.{waiting_found}
+use Rattle.desk_read_laws.proofs.WaitingRows.{waiting_of_found, waiting_found}
 use Rattle.desk_store.specs.Rows.{flat_book}
 use Rattle.desk_read_laws.proofs.rows.rows_of_tables.Goals as goal
 
@@ -28,6 +28,7 @@ returns c = record {
   exposures = λ company day. reads_as (λ t. exposures_in company day t.holidays t) (exposures_of company day)
       (λ trees t r stored e beside. let found = entries_found t r e stored.submissions.rise company in λ i. exposures_on (found i) day (e.holidays i));
   rates = λ company day. reads_as (rates_in company day) (rates_of company day) (λ trees t r stored e beside. ap (λ rows. rates (facts_in rows) day) (entries_found t r e stored.submissions.rise company));
+  waiting_of = λ company. reads_as (waiting_of_in company) (waiting_of company) (λ trees t r stored e beside. waiting_of_found t r e stored.submissions.rise company);
   waiting = reads_as waiting_in waiting (λ trees t r stored e beside. waiting_found t r e stored.submissions.rise);
   items_of = λ company returns changes trees t b stored is told.
       let back : returns ≡ (flat_book is.rows).returns company = all_there returns ((flat_book is.rows).returns company) (told.0 ∙ returns_found t is.rows is.encodes stored.submissions.rise company) in

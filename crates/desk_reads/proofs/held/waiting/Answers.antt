@@ -1,9 +1,8 @@
-use Rattle.std.proofs.Common.{◌∙◌, ap, List, map}
+use Rattle.std.proofs.Common.{◌∙◌, ap, List}
 use Rattle.std.specs.List.{flat_map}
 use Rattle.desk_book.specs.declared.held_submission.HeldSubmission.{HeldSubmission}
 use Rattle.desk_rules.specs.declared.bodies.company.Company.{Company}
-use Rattle.desk_read_laws.specs.Composed.{held_in}
-use Rattle.desk_records.specs.TableReads.{rows_in, is_waiting_of}
+use Rattle.desk_read_laws.specs.Composed.{waiting_of_in}
 use Rattle.desk_records.specs.Tables.{Tables}
 use Rattle.desk_reads.proofs.Joined.{query, learnt, both, answered}
 use Rattle.desk_reads.proofs.ListReads.{flat_map_same}
@@ -11,7 +10,7 @@ use Rattle.desk_reads.proofs.held.waiting.Goals as goal
 
 -- those of one company
 abbrev held : Tables → Company → List HeldSubmission
-held t k = map (held_in k t) (rows_in (is_waiting_of k.id) t)
+held t k = waiting_of_in k t
 
 pub returns : goal.returns
 returns g c =

@@ -1,0 +1,56 @@
+//! The operator is told how the desk stands.
+use crate::ListOf;
+use ach_fields::{Id, ShortText};
+use bank_days::Day;
+
+/// A `Tally` says how many submissions there are, and what they come to.
+#[derive(Clone, Copy, Debug, PartialEq, Eq, Drop)]
+pub struct Tally {
+    /// The sum of their entries in cents.
+    pub cents: u128,
+    pub submissions: u64,
+}
+
+/// `Tallies` are those of submissions by direction. A retry is a submission of one entry.
+#[derive(Clone, Copy, Debug, PartialEq, Eq, Drop)]
+pub struct Tallies {
+    pub credits: Tally,
+    pub debits: Tally,
+}
+
+/// A `DueDay` is what a cut of the desk day would send that settles on a day.
+#[derive(Clone, Copy, Debug, PartialEq, Eq, Drop)]
+pub struct DueDay {
+    pub day: Day,
+    pub sums: Tallies,
+}
+
+/// A `CompanyStatus` says what a company has waiting. It has no account and no name of a receiver.
+#[derive(Drop)]
+pub struct CompanyStatus {
+    /// What a cut of the desk day would send, by the day on which it would settle, ascending.
+    pub due: ListOf<DueDay>,
+    /// What no cut has decided.
+    pub held: Tallies,
+    pub id: Id,
+    /// The number of retries that a cut of the desk day would let lapse.
+    pub lapsing: u64,
+    pub name: ShortText<16>,
+}
+
+/// A `DeskStatus` says how the desk stands.
+#[derive(Drop)]
+pub struct DeskStatus {
+    /// All registered companies, in the byte order of their identifications.
+    pub companies: ListOf<CompanyStatus>,
+    /// The desk day; none before the first.
+    pub day: Option<Day>,
+    /// The modifiers of the day's files, in the order in which they were made.
+    pub files: ListOf<u8>,
+    /// The number of holidays.
+    pub holidays: u64,
+    /// The number of entries that were ever sent.
+    pub sent: u64,
+    /// The number of items that stand in suspense.
+    pub suspense: u64,
+}
