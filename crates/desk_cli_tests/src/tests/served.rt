@@ -100,9 +100,7 @@ fn a_desk_is_reached_on_loopback_alone(rt: HostRuntime) -> Result<(), Fail> {
     let line = format!(in rt.alloc(); "listening on 127.0.0.1:{port}\n")?;
     assert!(rt; caller.printed.as_slice() == line.as_bytes());
     assert!(rt; !caller.is_reached_elsewhere);
-    let Some(mut client) = caller.client else {
-        return Err(Fail);
-    };
+    let mut client = caller.client.expect(&rt, "a connection");
     let mut answer = Vec::new(rt.alloc());
     client.read_to_end(&mut answer)?;
     assert!(rt; answer.as_slice() == NOT_FOUND);
