@@ -29,7 +29,7 @@ pub fn answer_messages<R: Read + Drop, W: Write>(alloc: Global, reader: R, write
     };
     let mut reader = reader;
     let mut desk = HttpDesk::new(sample_desk(alloc), routes);
-    status_of_session(session(alloc, &mut desk, &mut reader, writer))
+    status_of_session(session(alloc, &mut desk, &mut reader, writer, &mut Tries::new()))
 }
 
 /// Gives how a session ends the command.

@@ -1,7 +1,7 @@
 //! The desk of a store is served on a port.
 ghost use Rattle.std.specs.Prelude.{◌≡◌, ◌≢◌, ◌++◌, true, IfSome};
 ghost use Rattle.io_retries.specs.Prefixes.{AppendsPrefix};
-ghost use Rattle.desk_server.specs.Serving.{HasServed};
+ghost use Rattle.desk_server.specs.Serving.{HasServed, IsUnasked};
 ghost use Rattle.desk_http.specs.Answering.{IsAnswered, StandsBehind};
 ghost use Rattle.desk_commands.specs.BodyAnswers.{IsAnswer};
 ghost use Rattle.desk_commands.specs.Printing.{unavailable, PrintsAnswer};
@@ -13,7 +13,7 @@ use desk_command_line::ServeOptions;
 use desk_core::{Desk, Store};
 use desk_http::HttpDesk;
 use desk_routes::Routes;
-use desk_server::serve;
+use desk_server::{CountedListener, serve};
 use desk_session::Answers;
 use io_retries::{Tries, write_all_with_retries};
 use std::alloc::Global;
@@ -55,7 +55,7 @@ pub fn serve_by_store<S: Store + Drop, W: Write>(
     let status = serve_and_tell(
         rt.alloc(),
         &mut desk,
-        &listener,
+        CountedListener::new(listener),
         options,
         line.as_slice(),
         writer,
@@ -64,16 +64,17 @@ pub fn serve_by_store<S: Store + Drop, W: Write>(
 }
 
 // Prints the line that tells where the desk listens, and serves its connections.
-fn serve_and_tell<D: Answers, L: OpenListener, W: Write>(
+fn serve_and_tell<D: Answers, L: OpenListener + Drop, W: Write>(
     alloc: Global,
     desk: &mut D,
-    listener: &L,
+    listener: CountedListener<L>,
     options: ServeOptions,
     line: &[u8],
     writer: &mut W,
 ) -> Status
 where
     L::Stream: Read + Write + OpenStream,
+    requires unasked { IsUnasked listener }
     ensures before { D.is_clean desk.new → D.is_clean desk.old }
     ensures served { HasServed D.step (D.is_clean desk.new) (D.stands_for desk.old) (D.stands_for desk.new) }
     ensures answered { result ≢ Status.Failed →
@@ -87,7 +88,8 @@ where
     };
     let connections = u64::from(options.connections);
     let patience = Duration::from_secs(u64::from(options.patience));
-    match serve(alloc, desk, listener, connections, patience) {
+    let mut listener = listener;
+    match serve(alloc, desk, &mut listener, connections, patience) {
         Ok(()) => Status::Done,
         Err(_) => print_unavailable(writer, tries),
     }

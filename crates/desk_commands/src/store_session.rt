@@ -36,6 +36,7 @@ pub fn answer_by_store<S: Store + Drop, R: Read + Drop, W: Write>(
     };
     let mut reader = reader;
     let mut desk = HttpDesk::new(Desk::new(store), routes);
-    let status = status_of_session(session(alloc, &mut desk, &mut reader, writer));
+    let mut tries = Tries::new();
+    let status = status_of_session(session(alloc, &mut desk, &mut reader, writer, &mut tries));
     (status, desk.into_desk().into_store())
 }

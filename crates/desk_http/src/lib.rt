@@ -3,7 +3,8 @@
 //! What a message comes to, which bytes answer it and what a company's bytes are made of is said in
 //! `desk_bytes`. Here the desk does it: it looks at the key, makes the one call of the route, and
 //! prints the answer. Room for the answer to a command is taken before the command, so that what was
-//! written is answered.
+//! written is answered. The public names of a session, and the laws of `desk_bytes` on what a company
+//! is answered, are this crate's too.
 #![tactic(auto)]
 
 mod answers;
@@ -13,4 +14,8 @@ mod print;
 mod verdict;
 
 pub use answers::answer;
+pub use desk_bytes::{served_alone, two_worlds};
+pub use desk_message::Message;
+pub use desk_response::UNAVAILABLE;
+pub use desk_session::{Ended, SessionFault, Tries, Unavailable, session};
 pub use http_desk::HttpDesk;

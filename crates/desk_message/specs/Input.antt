@@ -5,6 +5,8 @@ use Rattle.std.specs.Io.KnownBytes.{Consumes, IsAtEnd}
 use Rattle.httparse.specs.Grammar.{RequestHead, HasNoRequest}
 use Rattle.httparse.specs.declared.spans.HeaderSpan.{HeaderSpan}
 use Rattle.httparse.specs.declared.spans.RequestSpans.{RequestSpans}
+use Rattle.io_retries.specs.declared.tries.Failure.TheVariants.{Read}
+use Rattle.io_retries.specs.declared.tries.Tries.{Tries}
 use Rattle.desk_message.specs.Start.{IsStart, IsHeadAt}
 use Rattle.desk_message.specs.Heads.{request_of}
 use Rattle.desk_message.specs.Message.{asked}
@@ -114,3 +116,12 @@ pub record Arrives (arrival : Arrival) (fields : List HeaderSpan) (before after 
   pub takes : Consumes before after taken
   pub is : IsArrival arrival fields (old ++ taken) new after
   pub few : length new ≤ 16384
+
+-- a read that failed has left its mark, and is told; where none failed there is no mark of it
+abbrev pub StopMarks : Result (Option (Vec ℕ Global)) Stop → (old new : Tries) → Type 0
+StopMarks (Err Fault) old new = new.failed ≡ Some Read
+StopMarks result old new = new.failed ≡ old.failed
+
+abbrev pub ArrivalMarks : Arrival → (old new : Tries) → Type 0
+ArrivalMarks arrivals.Fault old new = new.failed ≡ Some Read
+ArrivalMarks arrival old new = new.failed ≡ old.failed

@@ -3,16 +3,17 @@ ghost use Rattle.std.specs.Prelude.{◌≡◌, ◌≤◌, length, min, take, IfO
 ghost use Rattle.std.specs.List.{list_all};
 ghost use Rattle.httparse.specs.Grammar.{RequestHead};
 ghost use Rattle.httparse.specs.Spans.{IsRequestAt, IsRequestWithin};
+ghost use Rattle.io_retries.specs.Marks.{Marks};
 ghost use Rattle.desk_message.specs.Start.{IsStart};
 ghost use Rattle.desk_message.specs.Heads.{head_framing};
-ghost use Rattle.desk_message.specs.Input.{is_line_end_byte, IsOpen, FillsRoom, ReadsOn, ReadsHead, ReadsBody, Arrives};
+ghost use Rattle.desk_message.specs.Input.{is_line_end_byte, IsOpen, FillsRoom, ReadsOn, ReadsHead, ReadsBody, Arrives, ArrivalMarks, StopMarks};
 
 use crate::framing::{Framing, framing_of};
 use crate::head::{MAX_FIELDS, Start, request_at, start_of};
 use crate::message::EMPTY_FIELD;
 use crate::unread::{MAX_HEAD, Unread};
 use httparse::spans::{HeaderSpan, RequestSpans};
-use io_retries::{Tries, read_with_retries};
+use io_retries::{Failure, Tries, read_with_retries};
 use std::alloc::{AllocError, Global};
 use std::io;
 use std::io::Read;
@@ -76,7 +77,8 @@ fn is_blank(bytes: &[u8]) -> bool
 /// came, and a reader that gives one byte a time has it looked for once for each of its lines.
 fn read_on<R: Read>(reader: &mut R, tries: &mut Tries, unread: &mut Unread) -> io::Result<bool>
     requires { IsOpen unread.old }
-    ensures { ReadsOn result (R.remaining reader.old) (R.remaining reader.new) unread.old unread.new }
+    ensures read { ReadsOn result (R.remaining reader.old) (R.remaining reader.new) unread.old unread.new }
+    ensures mark { Marks result Failure.Read tries.old tries.new }
 {
     let mut blank = is_blank(unread.bytes());
     loop {
@@ -101,7 +103,8 @@ fn read_head<R: Read>(
     fields: &mut [HeaderSpan],
 ) -> io::Result<Start>
     requires { length fields.old ≡ MAX_FIELDS }
-    ensures { ReadsHead result fields.new (R.remaining reader.old) (R.remaining reader.new) unread.old unread.new }
+    ensures read { ReadsHead result fields.new (R.remaining reader.old) (R.remaining reader.new) unread.old unread.new }
+    ensures mark { Marks result Failure.Read tries.old tries.new }
 {
     loop {
         let start = start_of(unread.bytes(), fields);
@@ -118,7 +121,8 @@ fn read_head<R: Read>(
 ///
 /// A read that fails is the last one: what came before it is lost with the body.
 fn read_whole<R: Read>(reader: &mut R, tries: &mut Tries, room: &mut [u8]) -> io::Result<bool>
-    ensures { FillsRoom result (R.remaining reader.old) (R.remaining reader.new) room.new }
+    ensures filled { FillsRoom result (R.remaining reader.old) (R.remaining reader.new) room.new }
+    ensures mark { Marks result Failure.Read tries.old tries.new }
 {
     let mut filled = 0;
     while filled < room.len() {
@@ -154,7 +158,8 @@ fn read_body<R: Read>(
     come: &[u8],
     size: usize,
 ) -> Result<Option<Vec<u8>>, Stop>
-    ensures { ReadsBody result (R.remaining reader.old) (R.remaining reader.new) come.now size }
+    ensures read { ReadsBody result (R.remaining reader.old) (R.remaining reader.new) come.now size }
+    ensures mark { StopMarks result tries.old tries.new }
 {
     if size == 0 {
         return Ok(Some(Vec::new(alloc)));
@@ -191,7 +196,8 @@ fn read_rest<R: Read>(
     requires start { IsStart bytes.now fields.now (Start.Head head) }
     requires fits { length fields.now ≡ MAX_FIELDS }
     requires few { length bytes.now ≤ MAX_HEAD }
-    ensures { Arrives result fields.now (R.remaining reader.old) (R.remaining reader.new) bytes.now bytes.now }
+    ensures arrived { Arrives result fields.now (R.remaining reader.old) (R.remaining reader.new) bytes.now bytes.now }
+    ensures mark { ArrivalMarks result tries.old tries.new }
 {
     match head_framing(bytes, fields, &head) {
         Framing::BadLength => Arrival::BadHead,
@@ -219,7 +225,8 @@ pub fn read_message<R: Read>(
     fields: &mut [HeaderSpan],
 ) -> Arrival
     requires { length fields.old ≡ MAX_FIELDS }
-    ensures { Arrives result fields.new (R.remaining reader.old) (R.remaining reader.new) unread.old unread.new }
+    ensures arrived { Arrives result fields.new (R.remaining reader.old) (R.remaining reader.new) unread.old unread.new }
+    ensures mark { ArrivalMarks result tries.old tries.new }
 {
     match read_head(reader, tries, unread, fields) {
         Ok(Start::Unfinished) => {

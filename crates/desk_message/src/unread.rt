@@ -1,9 +1,10 @@
 //! Bytes that came and belong to no message yet.
 ghost use Rattle.std.specs.Prelude.{◌≡◌, ◌+◌, ◌<◌, ◌≤◌, ℕ, List, [], length, take, drop, slice_range, IfOk, OnErr};
 ghost use Rattle.std.specs.Io.KnownBytes.{Consumes, IsAtEnd};
+ghost use Rattle.io_retries.specs.Marks.{Marks};
 ghost use Rattle.desk_message.specs.Input.{Grows};
 
-use io_retries::{Tries, read_with_retries};
+use io_retries::{Failure, Tries, read_with_retries};
 use std::io;
 use std::io::Read;
 use std::marker::Model;
@@ -76,6 +77,7 @@ impl Unread {
         ensures ok { IfOk result (λ n. Grows n (R.remaining reader.old) (R.remaining reader.new) self.old self.new) }
         ensures end { IfOk result (λ n. n ≡ 0 → IsAtEnd (R.remaining reader.new)) }
         ensures err { OnErr result ((self.new ≡ self.old) × Consumes (R.remaining reader.old) (R.remaining reader.new) []) }
+        ensures mark { Marks result Failure.Read tries.old tries.new }
     {
         self.end = move_to_start(&mut self.bytes, self.start, self.end);
         self.start = 0;

@@ -1,7 +1,7 @@
 //! Serving the connections of a listener.
-ghost use Rattle.std.specs.Prelude.{◌<◌, IfErr};
-ghost use Rattle.desk_server.specs.Serving.{HasServed, served_before};
+ghost use Rattle.desk_server.specs.Serving.{HasServed, HasCounted, IsUnasked};
 
+use crate::counted::CountedListener;
 use crate::lingering::drop_rest;
 use desk_response::UNAVAILABLE;
 use desk_session::{Answers, session};
@@ -29,22 +29,24 @@ pub enum ServeFault {
 /// client still sends is read and dropped, at most 16 MiB, before the connection is closed.
 ///
 /// Where a connection can't be accepted it fails with `Accept`, which has the number of those that were
-/// served. What was answered until then stands.
+/// served. What was answered until then stands. By the clause `counted` the listener gave as many
+/// connections as were to be served, and no other; or as many as `Accept` says, and then failed.
 pub fn serve<D: Answers, L: OpenListener>(
     alloc: Global,
     desk: &mut D,
-    listener: &L,
+    listener: &mut CountedListener<L>,
     connections: u64,
     patience: Duration,
 ) -> Result<(), ServeFault>
 where
     L::Stream: Read + Write + OpenStream,
+    requires unasked { IsUnasked listener.old }
     ensures before { D.is_clean desk.new → D.is_clean desk.old }
     ensures served { HasServed D.step (D.is_clean desk.new) (D.stands_for desk.old) (D.stands_for desk.new) }
-    ensures fault { IfErr result (λ fault. served_before fault < connections) }
+    ensures counted { HasCounted result connections listener.new }
 {
     for served in 0..connections {
-        let Ok((stream, _)) = listener.accept() else {
+        let Ok(stream) = listener.accept() else {
             return Err(ServeFault::Accept(served));
         };
         serve_connection(alloc, desk, stream, patience);
@@ -89,7 +91,7 @@ fn answer<D: Answers, S: Read + Write + OpenStream + Drop>(
 {
     let mut reader = reader;
     let mut writer = writer;
-    if session(alloc, desk, &mut reader, &mut writer).is_ok() {
+    if session(alloc, desk, &mut reader, &mut writer, &mut Tries::new()).is_ok() {
         linger(reader);
     }
 }

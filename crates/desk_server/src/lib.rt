@@ -2,7 +2,9 @@
 #![tactic(auto)]
 
 mod connections;
+mod counted;
 mod lingering;
 
 pub use connections::{ServeFault, serve};
+pub use counted::CountedListener;
 pub use lingering::{MAX_DROPPED, drop_rest};

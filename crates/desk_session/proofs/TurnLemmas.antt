@@ -1,13 +1,15 @@
 -- One turn of a session after those before it.
-use Rattle.std.proofs.Common.{◌≡◌, ℕ, ◌+◌, ◌≤◌, List, [], ◌∷◌, ◌++◌, length, Bool, true, false, not, Option, Some, None, Result, Ok, Err, refl, sym, subst, append-nil, length-append, arith}
+use Rattle.std.proofs.Common.{◌≡◌, ℕ, ◌+◌, ◌≤◌, List, [], ◌∷◌, ◌++◌, length, Bool, true, false, not, Option, Some, None, Result, Ok, Err, refl, sym, ◌∙◌, subst, append-nil, length-append, arith}
 use Rattle.std.specs.Io.KnownBytes.{Appends, Consumes}
 use Rattle.std.proofs.lemmas.List.Elements.{All-append, All-cons, All-nil}
 use Rattle.std.proofs.KnownBytes.{Consumes-nil, Appends-nil, Consumes-trans, Appends-trans}
+use Rattle.io_retries.specs.declared.tries.Tries.{Tries}
 use Rattle.desk_message.specs.Input.{IsLittle}
 use Rattle.desk_message.specs.Message.{MessageValue}
 use Rattle.desk_message.specs.Stream.{Reads, Spells, WantsBody, is_last_after}
 use Rattle.desk_message.proofs.StreamLemmas.{Spells-append}
 use Rattle.desk_response.specs.Response.{unavailable_text}
+use Rattle.desk_session.specs.Causes.{HasCause}
 use Rattle.desk_session.specs.Exchanges.{Exchange, response_of, responses_of, messages_of, ends_after, GoesOn, StepsWith, Follows}
 use Rattle.desk_session.specs.Session.{SessionRan, EndsAs, Writes}
 use Rattle.desk_session.specs.Turns.{Sends, Replied, SoFar, Turned, turn_of}
@@ -173,3 +175,11 @@ gave_up step clean stood stands before between after old held new n unread more 
 gave_up step clean stood stands before between after old held new n unread more Write p takes wants little sends =
     ends_before step clean stood stands before between after old held new n unread more (Err Write) unavailable_text sends.0 p takes
     sends.3 (sends.0, sends.1, sends.2, refl) (refl, wants) little
+
+-- the cause of a turn's fault is that of the reply
+pub turn_cause : (told : Result Bool SessionFault) (is_last : Bool) (old mid new : Tries) → mid.failed ≡ old.failed → HasCause told mid new
+    → HasCause (turn_of told is_last) old new
+turn_cause (Ok true) is_last old mid new kept cause = cause ∙ kept
+turn_cause (Ok false) true old mid new kept cause = cause ∙ kept
+turn_cause (Ok false) false old mid new kept cause = cause ∙ kept
+turn_cause (Err fault) is_last old mid new kept cause = cause

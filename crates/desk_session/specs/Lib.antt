@@ -1,3 +1,4 @@
+pub mod Causes
 pub mod Exchanges
 pub mod Session
 pub mod Turns

@@ -6,4 +6,5 @@ mod replying;
 mod sessions;
 
 pub use answers::{Answers, Unavailable};
+pub use io_retries::Tries;
 pub use sessions::{Ended, SessionFault, session};

@@ -5,6 +5,7 @@ ghost use Rattle.httparse.specs.Spans.{IsRequestAt, IsRequestWithin};
 ghost use Rattle.desk_message.specs.Heads.{request_of};
 ghost use Rattle.desk_message.specs.Message.{asked, message_value};
 ghost use Rattle.desk_response.specs.Response.{unavailable_text};
+ghost use Rattle.desk_session.specs.Causes.{HasCause};
 ghost use Rattle.desk_session.specs.Turns.{Replied, Sends};
 
 use crate::answers::Answers;
@@ -18,7 +19,8 @@ use std::io::Write;
 
 /// Writes all the bytes.
 fn send<W: Write>(writer: &mut W, tries: &mut Tries, bytes: &[u8]) -> Result<(), SessionFault>
-    ensures { Sends result (W.contents writer.old) (W.contents writer.new) bytes.now }
+    ensures sends { Sends result (W.contents writer.old) (W.contents writer.new) bytes.now }
+    ensures cause { HasCause result tries.old tries.new }
 {
     match write_all_with_retries(writer, bytes, tries) {
         Ok(()) => Ok(()),
@@ -31,7 +33,8 @@ pub(crate) fn send_unavailable<W: Write>(
     writer: &mut W,
     tries: &mut Tries,
 ) -> Result<(), SessionFault>
-    ensures { Sends result (W.contents writer.old) (W.contents writer.new) unavailable_text }
+    ensures sends { Sends result (W.contents writer.old) (W.contents writer.new) unavailable_text }
+    ensures cause { HasCause result tries.old tries.new }
 {
     send(writer, tries, UNAVAILABLE)
 }
@@ -47,6 +50,7 @@ pub(crate) fn reply<D: Answers, W: Write>(
     ensures before { D.is_clean desk.new → D.is_clean desk.old }
     ensures replied { Replied D.step (D.is_clean desk.new) (D.stands_for desk.old) (D.stands_for desk.new)
         (message_value message.now) (W.contents writer.old) (W.contents writer.new) result }
+    ensures cause { HasCause result tries.old tries.new }
 {
     match desk.answer(alloc, message) {
         Ok(bytes) => match send(writer, tries, &bytes) {
@@ -78,6 +82,7 @@ pub(crate) fn reply_to_request<D: Answers, W: Write>(
     ensures replied { (h : RequestHead) → IsRequestAt bytes.now fields.now head.now h
         → Replied D.step (D.is_clean desk.new) (D.stands_for desk.old) (D.stands_for desk.new)
         (asked (request_of h body.now is_last)) (W.contents writer.old) (W.contents writer.new) result }
+    ensures cause { HasCause result tries.old tries.new }
 {
     let mut room = [EMPTY_FIELD; MAX_FIELDS];
     let request = request_at(bytes, fields, head, &mut room, is_last);

@@ -1,6 +1,8 @@
 //! Sessions.
 ghost use Rattle.std.specs.Prelude.{◌≡◌, ◌<◌, ℕ, List, Option, length};
 ghost use Rattle.desk_message.specs.Stream.{is_last_after};
+ghost use Rattle.io_retries.specs.Marks.{IsUnused};
+ghost use Rattle.desk_session.specs.Causes.{HasCause};
 ghost use Rattle.desk_session.specs.Session.{SessionRan};
 ghost use Rattle.desk_session.specs.Turns.{SoFar, Turned, turn_of};
 
@@ -67,6 +69,7 @@ fn turn<D: Answers, R: Read, W: Write>(
         before (R.remaining reader.old) old (W.contents writer.old) count unread.old
         → Turned D.step (D.is_clean desk.new) (D.stands_for start) (D.stands_for desk.new)
         before (R.remaining reader.new) old (W.contents writer.new) count unread.new result }
+    ensures cause { HasCause result tries.old tries.new }
 {
     match read_message(alloc, reader, tries, unread, fields) {
         Arrival::Fault => Err(SessionFault::Read),
@@ -105,17 +108,22 @@ fn turn<D: Answers, R: Read, W: Write>(
 /// there is no room, is answered by the constant text with status 503, and the session ends. An interrupted
 /// read or write is tried again, at most 1,000 times in the session. No more is kept than one head, one
 /// body, and one answer.
+///
+/// The tries are those of a new run. By the clause `cause` a session tells `Read` and `Write` only where a
+/// call of the reader or of the writer failed, as these tries are marked then.
 pub fn session<D: Answers, R: Read, W: Write>(
     alloc: Global,
     desk: &mut D,
     reader: &mut R,
     writer: &mut W,
+    tries: &mut Tries,
 ) -> Result<Ended, SessionFault>
+    requires unused { IsUnused tries.old }
     ensures before { D.is_clean desk.new → D.is_clean desk.old }
     ensures ran { SessionRan D.step (D.is_clean desk.new) (D.stands_for desk.old) (D.stands_for desk.new)
         (R.remaining reader.old) (R.remaining reader.new) (W.contents writer.old) (W.contents writer.new) result }
+    ensures cause { HasCause result tries.old tries.new }
 {
-    let mut tries = Tries::new();
     let mut unread = Unread::new();
     let mut fields = [EMPTY_HEADER_SPAN; MAX_FIELDS];
     for count in 0..MAX_MESSAGES {
@@ -125,7 +133,7 @@ pub fn session<D: Answers, R: Read, W: Write>(
             desk,
             reader,
             writer,
-            &mut tries,
+            tries,
             &mut unread,
             &mut fields,
             is_last,

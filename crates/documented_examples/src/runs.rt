@@ -31,6 +31,9 @@ const AGAIN: &[&str] = &[
     "14_statement",
 ];
 
+/// A message that breaks off.
+const PART: &[u8] = b"GET / HTTP/1.1\r\n";
+
 /// These words ask for a message of a list of entries.
 const MESSAGE: &[&str] = &[
     "submit",
@@ -73,7 +76,9 @@ const NOTHING: &[u8] = b"";
 /// Shows all command lines, each with what it prints and its exit status.
 pub(crate) fn show_all(rt: &HostRuntime) -> io::Result<()> {
     remove_desk(rt);
-    let shown = show_commands(rt).and_then(|()| show_desk(rt));
+    let shown = show_commands(rt)
+        .and_then(|()| show_session(rt))
+        .and_then(|()| show_desk(rt));
     remove_desk(rt);
     shown
 }
@@ -96,6 +101,18 @@ fn show_commands(rt: &HostRuntime) -> io::Result<()> {
     show(rt, &["check", "runs/returns.ach"], NOTHING)?;
     show(rt, &["check", "runs/spoiled.ach"], NOTHING)?;
     show(rt, MESSAGE, NOTHING)
+}
+
+// Shows whether a new desk in memory answers the messages of some days as their page has it. After them one
+// breaks off.
+fn show_session(rt: &HostRuntime) -> io::Result<()> {
+    let mut messages = messages_of(rt, DAYS)?;
+    messages.extend_from_slice(PART)?;
+    let mut printed = Vec::new(rt.alloc());
+    let status = run_words(rt, &["stdio"], messages.as_slice(), &mut printed);
+    let wanted = fs::read(rt, "examples/bank_day/answers.txt")?;
+    let agrees = printed == wanted;
+    println!(rt; "a bank's days are answered as their page has it: {agrees}\nstatus {status}")
 }
 
 // Shows a desk in a file: it is made once, answers the messages of some days, and after that what is sent

@@ -7,5 +7,5 @@ mod tries;
 mod writing;
 
 pub use reading::{RetryingReader, read_with_retries};
-pub use tries::{MOST_TRIES, Tries};
+pub use tries::{Failure, MOST_TRIES, Tries};
 pub use writing::{flush_with_retries, write_all_with_retries, write_with_retries};

@@ -3,9 +3,10 @@ ghost use Rattle.std.specs.Prelude.{◌≡◌, ◌≢◌, ◌≤◌, IfErr, Matc
 ghost use Rattle.std.specs.Io.{WritesAtMost};
 ghost use Rattle.std.specs.Io.KnownBytes.{Appends, Keeps, WriteAppends};
 ghost use Rattle.std.specs.IoError.{error_kind};
+ghost use Rattle.io_retries.specs.Marks.{Marks};
 ghost use Rattle.io_retries.specs.Prefixes.{AppendsPrefix};
 
-use crate::tries::Tries;
+use crate::tries::{Failure, Tries};
 use std::io;
 use std::io::{ErrorKind, Write};
 
@@ -18,12 +19,13 @@ pub fn write_with_retries<W: Write>(
     ensures bound { WritesAtMost result bytes.now }
     ensures bytes { WriteAppends (W.contents writer.old) (W.contents writer.new) result bytes.now }
     ensures tries { tries.new.left ≤ tries.old.left }
+    ensures mark { Marks result Failure.Write tries.old tries.new }
     ensures failed { IfErr result (λ e. error_kind e ≢ ErrorKind.Interrupted) }
 {
     loop {
         match writer.write(bytes) {
             Ok(count) => return Ok(count),
-            Err(error) => tries.spend(error)?,
+            Err(error) => tries.spend(Failure::Write, error)?,
         }
     }
 }
@@ -32,12 +34,13 @@ pub fn write_with_retries<W: Write>(
 pub fn flush_with_retries<W: Write>(writer: &mut W, tries: &mut Tries) -> io::Result<()>
     ensures bytes { Keeps (W.contents writer.old) (W.contents writer.new) }
     ensures tries { tries.new.left ≤ tries.old.left }
+    ensures mark { Marks result Failure.Write tries.old tries.new }
     ensures failed { IfErr result (λ e. error_kind e ≢ ErrorKind.Interrupted) }
 {
     loop {
         match writer.flush() {
             Ok(()) => return Ok(()),
-            Err(error) => tries.spend(error)?,
+            Err(error) => tries.spend(Failure::Write, error)?,
         }
     }
 }
@@ -53,11 +56,13 @@ pub fn write_all_with_retries<W: Write>(
         (λ _. Appends (W.contents writer.old) (W.contents writer.new) bytes.now)
         (λ _. AppendsPrefix (W.contents writer.old) (W.contents writer.new) bytes.now) }
     ensures tries { tries.new.left ≤ tries.old.left }
+    ensures mark { Marks result Failure.Write tries.old tries.new }
 {
     let mut rest = bytes;
     while !rest.is_empty() {
         let count = write_with_retries(writer, rest, tries)?;
         if count == 0 {
+            tries.fail(Failure::Write);
             return Err(io::Error::from(ErrorKind::WriteZero));
         }
         rest = &rest[count..];

@@ -6,7 +6,7 @@ use desk_core::Desk;
 use desk_files::migrate;
 use desk_http::HttpDesk;
 use desk_routes::Routes;
-use desk_session::{Answers, Ended, session};
+use desk_session::{Answers, Ended, Tries, session};
 use desk_setup::{OpenFault, check_desk, make_desk};
 use desk_tables::SqlStore;
 use sqlite::{Alter, Connection};
@@ -53,7 +53,7 @@ fn read<S: Alter>(conn: &mut Connection<S>, told: &mut Vec<u8>) -> Result<(), Op
 
 fn answer_all<D: Answers>(alloc: Global, desk: &mut D, input: &[u8], told: &mut Vec<u8>) -> bool {
     let mut reader = input;
-    session(alloc, desk, &mut reader, told) == Ok(Ended::Closed)
+    session(alloc, desk, &mut reader, told, &mut Tries::new()) == Ok(Ended::Closed)
 }
 
 fn answer<S: Alter + Drop>(

@@ -1,7 +1,9 @@
 //! Connections to a desk.
 use super::exchanges::{UNAVAILABLE, follow, http_desk};
 use super::samples::{MILL, new_lists};
-use desk_server::{ServeFault, serve};
+use desk_core::Store;
+use desk_http::HttpDesk;
+use desk_server::{CountedListener, ServeFault, serve};
 use std::alloc::Global;
 use std::io;
 use std::io::{Read, Write};
@@ -12,6 +14,20 @@ use std::time::Duration;
 // So long a client is waited for.
 fn patience() -> Duration {
     Duration::from_millis(100)
+}
+
+// How a service of so many connections ends.
+fn serve_all<S: Store, L: OpenListener + Drop>(
+    rt: &impl Alloc<A = Global>,
+    desk: &mut HttpDesk<S>,
+    listener: L,
+    connections: u64,
+) -> Result<(), ServeFault>
+where
+    L::Stream: Read + Write + OpenStream,
+{
+    let mut listener = CountedListener::new(listener);
+    serve(rt.alloc(), desk, &mut listener, connections, patience())
 }
 
 const ASKED: &[u8] =
@@ -32,7 +48,7 @@ fn a_connection_is_answered(rt: HostRuntime) {
         .ok()
         .expect(&rt, "a connection");
     client.write_all(ASKED).ok().expect(&rt, "a message sent");
-    assert!(rt; serve(rt.alloc(), &mut desk, &listener, 1, patience()) == Ok(()));
+    assert!(rt; serve_all(&rt, &mut desk, listener, 1) == Ok(()));
     let mut out = Vec::new(rt.alloc());
     client.read_to_end(&mut out).ok().expect(&rt, "an answer");
     assert!(rt; out.as_slice() == NO_DAY);
@@ -58,7 +74,7 @@ fn a_client_that_goes_away_ends_its_own_connection(rt: HostRuntime) {
         .ok()
         .expect(&rt, "a connection");
     second.write_all(ASKED).ok().expect(&rt, "a message sent");
-    assert!(rt; serve(rt.alloc(), &mut desk, &listener, 2, patience()) == Ok(()));
+    assert!(rt; serve_all(&rt, &mut desk, listener, 2) == Ok(()));
     let mut out = Vec::new(rt.alloc());
     second.read_to_end(&mut out).ok().expect(&rt, "an answer");
     assert!(rt; out.as_slice() == NO_DAY);
@@ -84,7 +100,7 @@ fn a_silent_client_ends_its_own_connection(rt: HostRuntime) {
         .ok()
         .expect(&rt, "a connection");
     next.write_all(ASKED).ok().expect(&rt, "a message sent");
-    assert!(rt; serve(rt.alloc(), &mut desk, &listener, 2, patience()) == Ok(()));
+    assert!(rt; serve_all(&rt, &mut desk, listener, 2) == Ok(()));
     let mut out = Vec::new(rt.alloc());
     next.read_to_end(&mut out).ok().expect(&rt, "an answer");
     assert!(rt; out.as_slice() == NO_DAY);
@@ -118,7 +134,7 @@ fn a_client_that_sends_before_it_reads_gets_its_answer(rt: HostRuntime) {
         .shutdown(Shutdown::Write)
         .ok()
         .expect(&rt, "the end sent");
-    assert!(rt; serve(rt.alloc(), &mut desk, &listener, 1, patience()) == Ok(()));
+    assert!(rt; serve_all(&rt, &mut desk, listener, 1) == Ok(()));
     let mut out = Vec::new(rt.alloc());
     client.read_to_end(&mut out).ok().expect(&rt, "an answer");
     assert!(rt; out.as_slice() == LENGTH_REQUIRED);
@@ -208,7 +224,7 @@ fn answer_over(
         listener,
         waits_at_most,
     };
-    assert!(rt; serve(rt.alloc(), &mut desk, &listener, 1, patience()) == Ok(()));
+    assert!(rt; serve_all(rt, &mut desk, listener, 1) == Ok(()));
     let mut out = Vec::new(rt.alloc());
     client.read_to_end(&mut out).ok().expect(rt, "an answer");
     out
@@ -239,7 +255,5 @@ fn what_cannot_be_accepted_ends_the_service(rt: HostRuntime) {
         .ok()
         .expect(&rt, "a connection");
     drop(client);
-    assert!(rt;
-        serve(rt.alloc(), &mut desk, &listener, 2, patience()) == Err(ServeFault::Accept(1))
-    );
+    assert!(rt; serve_all(&rt, &mut desk, listener, 2) == Err(ServeFault::Accept(1)));
 }

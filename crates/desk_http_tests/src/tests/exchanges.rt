@@ -3,7 +3,7 @@ use super::samples::{Exchange, new_lists, new_tables};
 use desk_core::{Desk, Store};
 use desk_http::HttpDesk;
 use desk_routes::Routes;
-use desk_session::{Ended, session};
+use desk_session::{Ended, Tries, session};
 use itoa::Buffer;
 use std::alloc::Global;
 use std::process::Abort;
@@ -87,7 +87,7 @@ pub(super) fn run<S: Store>(
 ) -> Vec<u8> {
     let mut reader = input;
     let mut out = Vec::new(rt.alloc());
-    let ended = session(rt.alloc(), desk, &mut reader, &mut out);
+    let ended = session(rt.alloc(), desk, &mut reader, &mut out, &mut Tries::new());
     assert!(rt; ended == Ok(Ended::Closed));
     out
 }

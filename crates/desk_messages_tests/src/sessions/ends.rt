@@ -6,6 +6,7 @@ use crate::sessions::texts::{
 };
 use crate::sessions::writers::Sink;
 use desk_session::{Ended, SessionFault, session};
+use io_retries::Tries;
 use std::alloc::Global;
 use std::process::Abort;
 
@@ -69,6 +70,7 @@ fn run_for_one(
         &mut desk,
         &mut Pieces::new(bytes, 9),
         &mut writer,
+        &mut Tries::new(),
     );
     let Sink { taken, .. } = writer;
     (ended, taken)

@@ -4,6 +4,7 @@ use crate::sessions::readers::Pieces;
 use crate::sessions::writers::Sink;
 use desk_routes::Routes;
 use desk_session::{Ended, SessionFault, session};
+use io_retries::Tries;
 use std::alloc::Global;
 use std::io::{Read, Write};
 use std::process::Abort;
@@ -91,7 +92,7 @@ pub fn run<R: Read, W: Write>(
     writer: &mut W,
 ) -> Result<Ended, SessionFault> {
     let mut front = front(rt);
-    session(rt.alloc(), &mut front, reader, writer)
+    session(rt.alloc(), &mut front, reader, writer, &mut Tries::new())
 }
 
 /// How a session over the bytes ends, and what it wrote, where a read gives at most so many.

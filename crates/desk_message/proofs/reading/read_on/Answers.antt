@@ -1,4 +1,4 @@
-use Rattle.std.proofs.Common.{◌≡◌, ◌⊎◌, inl, inr, ◌++◌, true, false, length, sym, ap, ◌∙◌, arith, append_assoc}
+use Rattle.std.proofs.Common.{◌≡◌, ◌⊎◌, inl, inr, ◌++◌, Bool, true, false, length, sym, ap, ◌∙◌, arith, append_assoc}
 use Rattle.std.specs.Prelude.{◌==◌}
 use Rattle.std.specs.List.{list_all, list_any}
 use Rattle.std.proofs.KnownBytes.{Consumes-trans}
@@ -7,9 +7,13 @@ use Rattle.desk_message.proofs.BlankLemmas.{piece_is, still_blank, still_no_head
 use Rattle.desk_message.proofs.reading.read_on.Goals as goal
 use Rattle.desk_message.proofs.reading.read_on.Goals.{then-blank, else-blank, then-not-blank, else-not-blank}
 
+not_both : (b : Bool) → b ≡ true → b ≡ false → ⊥
+not_both true is off = absurd (cc)
+not_both false is off = absurd (cc)
+
 pub loop-unread-preserved : goal.loop-unread-preserved
 loop-unread-preserved g c =
-    let (taken, takes, grown, inside, blank) = c.loop-unread.invariant in
+    let (taken, takes, grown, inside, blank, unmarked) = c.loop-unread.invariant in
     let more = c.in_ok-fill.ensures.ok in
     let known = c.loop-unread.unread in
     let all = c.fill.new.self in
@@ -20,9 +24,9 @@ loop-unread-preserved g c =
     let now : c.if-blank.blank ≡ list_all is_line_end_byte all = elim c.if-blank.branch [
       | then-blank w ↦
           still_blank known more.taken all c.loop-unread.blank c.if-blank.blank more.grown blank
-          (λ on. w.blank-is ∙ w.is_blank-blank-then-blank.ensures ∙ ap (list_all is_line_end_byte) piece) (λ off. absurd (cc))
+          (λ on. w.blank-is ∙ w.is_blank-blank-then-blank.ensures ∙ ap (list_all is_line_end_byte) piece) (λ off. absurd (not_both _ w.if-blank.true off))
       | else-blank w ↦
-          still_blank known more.taken all c.loop-unread.blank c.if-blank.blank more.grown blank (λ on. absurd (cc)) (λ off. w.blank-is ∙ off)
+          still_blank known more.taken all c.loop-unread.blank c.if-blank.blank more.grown blank (λ on. absurd (not_both _ on w.if-blank.false)) (λ off. w.blank-is ∙ off)
     ] in
     let none : (list_all is_line_end_byte all ≡ true) ⊎ (list_any (λ b. b == 10) more.taken ≡ false) = elim c.if-not-blank.branch [
       | then-not-blank w ↦
@@ -34,4 +38,5 @@ loop-unread-preserved g c =
       more.grown ∙ ap (λ l. l ++ more.taken) grown ∙ append_assoc _ taken more.taken,
       (omega (arith, few, size), still_no_head known more.taken all inside.1 more.grown none),
       now,
+      c.in_ok-fill.ensures.mark ∙ unmarked,
     )

@@ -6,7 +6,7 @@ abbrev pub invariant-loop-rest : goal.invariant-loop-rest
 invariant-loop-rest g l =
     (sent : List ℕ) × (l.initial.rest ≡ sent ++ l.rest)
     × Appends (g.W.Write.contents l.initial.writer) (g.W.Write.contents l.writer) sent
-    × (l.tries.left ≤ l.initial.tries.left)
+    × (l.tries.left ≤ l.initial.tries.left) × (l.tries.failed ≡ l.initial.tries.failed)
 
 abbrev pub decreases-loop-rest : goal.decreases-loop-rest
 decreases-loop-rest g l = length l.rest
