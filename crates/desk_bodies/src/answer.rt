@@ -22,16 +22,17 @@ pub const BODY_ROOM: usize = 640;
 /// Appends the body of an answer. The caller has taken room for 640 more bytes, which is enough for what
 /// a command did: only the answer to a read, or a refusal, takes memory.
 ///
-/// Of a cut at most 36 files are told. No cut makes more on a day.
-pub fn write_answer(alloc: Global, text: &mut Vec<u8>, answer: &Answer) -> Result<(), AllocError>
+/// The rows of an answer are let go as they are written. Of a cut at most 36 files are told. No cut makes
+/// more on a day.
+pub fn write_answer(alloc: Global, text: &mut Vec<u8>, answer: Answer) -> Result<(), AllocError>
     requires { vec_len text.old + BODY_ROOM ≤ vec_capacity text.old }
-    ensures body { OnOk result (FitsRoom answer.now → text.new.items ≡ text.old.items ++ answer_body answer.now) }
-    ensures memory { OnErr result (is_command answer.now ≡ false) }
-    ensures len { is_command answer.now ≡ true → vec_len text.new ≤ vec_len text.old + BODY_ROOM }
+    ensures body { OnOk result (FitsRoom answer → text.new.items ≡ text.old.items ++ answer_body answer) }
+    ensures memory { OnErr result (is_command answer ≡ false) }
+    ensures len { is_command answer ≡ true → vec_len text.new ≤ vec_len text.old + BODY_ROOM }
 {
     match answer {
         Answer::Done(outcome) => write_outcome(alloc, text, outcome),
-        Answer::Refused(why) => add_body(text, call_refusal_text(alloc, *why)?),
+        Answer::Refused(why) => add_body(text, call_refusal_text(alloc, why)?),
     }
 }
 
@@ -59,14 +60,14 @@ fn is_of_command(outcome: &Outcome) -> bool
     }
 }
 
-fn write_outcome(alloc: Global, text: &mut Vec<u8>, outcome: &Outcome) -> Result<(), AllocError>
+fn write_outcome(alloc: Global, text: &mut Vec<u8>, outcome: Outcome) -> Result<(), AllocError>
     requires { vec_len text.old + BODY_ROOM ≤ vec_capacity text.old }
-    ensures body { OnOk result (IsShort outcome.now → text.new.items ≡ text.old.items ++ outcome_body outcome.now) }
-    ensures memory { OnErr result (is_of_command outcome.now ≡ false) }
-    ensures len { is_of_command outcome.now ≡ true → vec_len text.new ≤ vec_len text.old + BODY_ROOM }
+    ensures body { OnOk result (IsShort outcome → text.new.items ≡ text.old.items ++ outcome_body outcome) }
+    ensures memory { OnErr result (is_of_command outcome ≡ false) }
+    ensures len { is_of_command outcome ≡ true → vec_len text.new ≤ vec_len text.old + BODY_ROOM }
 {
-    if is_of_command(outcome) {
-        put_outcome(text, outcome);
+    if is_of_command(&outcome) {
+        put_outcome(text, &outcome);
         Ok(())
     } else {
         add_outcome(alloc, text, outcome)
@@ -105,19 +106,19 @@ fn put_receipt(text: &mut Vec<u8>, receipt: &Receipt)
 }
 
 // What was looked up, with growth.
-fn add_outcome(alloc: Global, text: &mut Vec<u8>, outcome: &Outcome) -> Result<(), AllocError>
-    ensures { OnOk result (is_of_command outcome.now ≡ false → text.new.items ≡ text.old.items ++ outcome_body outcome.now) }
+fn add_outcome(alloc: Global, text: &mut Vec<u8>, outcome: Outcome) -> Result<(), AllocError>
+    ensures { OnOk result (is_of_command outcome ≡ false → text.new.items ≡ text.old.items ++ outcome_body outcome) }
 {
     match outcome {
         Outcome::Found(report) => add_found(alloc, text, report),
-        Outcome::Returns(rows) => add_returns(text, rows.as_slice()),
-        Outcome::Changes(rows) => add_changes(text, rows.as_slice()),
+        Outcome::Returns(rows) => add_returns(text, rows),
+        Outcome::Changes(rows) => add_changes(text, rows),
         Outcome::Statement(statement) => add_statement(text, statement),
-        Outcome::Rates(rates) => add_rates(text, rates),
-        Outcome::Exposure(exposure) => add_exposure(text, exposure),
-        Outcome::File(file) => add_file(alloc, text, file),
+        Outcome::Rates(rates) => add_rates(text, &rates),
+        Outcome::Exposure(exposure) => add_exposure(text, &exposure),
+        Outcome::File(file) => add_file(alloc, text, &file),
         Outcome::Settlement(settlement) => add_settlement(text, settlement),
-        Outcome::Suspense(rows) => add_suspense(text, rows.as_slice()),
+        Outcome::Suspense(rows) => add_suspense(text, rows),
         Outcome::Status(status) => add_status(text, status),
         _ => Ok(()),
     }
@@ -126,9 +127,9 @@ fn add_outcome(alloc: Global, text: &mut Vec<u8>, outcome: &Outcome) -> Result<(
 fn add_found(
     alloc: Global,
     text: &mut Vec<u8>,
-    report: &Option<SubmissionReport>,
+    report: Option<SubmissionReport>,
 ) -> Result<(), AllocError>
-    ensures { OnOk result (text.new.items ≡ text.old.items ++ outcome_body (outcomes.Found report.now)) }
+    ensures { OnOk result (text.new.items ≡ text.old.items ++ outcome_body (outcomes.Found report)) }
 {
     match report {
         Some(report) => add_report(text, report),

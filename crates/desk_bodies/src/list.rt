@@ -5,7 +5,9 @@ ghost use Rattle.serde_json.specs.View.{items_of};
 ghost use Rattle.serde_json.specs.Written.{comma_if, compact_text, items_text};
 ghost use Rattle.desk_members.specs.Members.{member_text, object_of};
 
+use desk_history::ListOf;
 use desk_members::{put, put_comma, put_key};
+use emptying_lists::EmptyingList;
 use std::alloc::AllocError;
 
 /// The room that is taken for an object of a list, or for the members around a list.
@@ -26,30 +28,32 @@ pub(crate) trait Row {
         ensures { text.new.items ≡ text.old.items ++ compact_text (body self.now) };
 }
 
-/// Appends a member whose value is a list.
+/// Appends a member whose value is a list. The objects are let go as they are written, so that the text
+/// comes into their place.
 #[tactic(auto, unfolding(desk_members::specs::Members::member_text))]
-pub(crate) fn add_list<R: Row>(
+pub(crate) fn add_list<R: Row + Drop>(
     text: &mut Vec<u8>,
     later: bool,
     key: &[u8],
-    rows: &[R],
+    rows: ListOf<R>,
 ) -> Result<(), AllocError>
     requires { length key.now ≤ 32 }
-    ensures { OnOk result (text.new.items ≡ text.old.items ++ member_text later key.now (array (items_of (map R.body rows.now)))) }
+    ensures { OnOk result (text.new.items ≡ text.old.items ++ member_text later key.now (array (items_of (map R.body rows)))) }
 {
     text.reserve(ROW_ROOM)?;
     put_key(text, later, key);
     put(text, b"[");
-    add_rows(text, rows)
+    add_rows(text, EmptyingList::new(rows.into_vec()))
 }
 
 // With the closing bracket.
-fn add_rows<R: Row>(text: &mut Vec<u8>, rows: &[R]) -> Result<(), AllocError>
-    ensures { OnOk result (text.new.items ≡ text.old.items ++ items_text false (items_of (map R.body rows.now))) }
+fn add_rows<R: Row + Drop>(text: &mut Vec<u8>, rows: EmptyingList<R>) -> Result<(), AllocError>
+    ensures { OnOk result (text.new.items ≡ text.old.items ++ items_text false (items_of (map R.body rows))) }
 {
+    let mut left = rows;
     let mut later = false;
-    for row in rows {
-        add_row(text, later, row)?;
+    while let Some(row) = left.take_first() {
+        add_row(text, later, &row)?;
         later = true;
     }
     text.push(b']')?;
@@ -66,13 +70,13 @@ fn add_row<R: Row>(text: &mut Vec<u8>, later: bool, row: &R) -> Result<(), Alloc
 }
 
 /// Appends an object that has a list as its only member.
-pub(crate) fn add_list_alone<R: Row>(
+pub(crate) fn add_list_alone<R: Row + Drop>(
     text: &mut Vec<u8>,
     key: &[u8],
-    rows: &[R],
+    rows: ListOf<R>,
 ) -> Result<(), AllocError>
     requires { length key.now ≤ 32 }
-    ensures { OnOk result (text.new.items ≡ text.old.items ++ compact_text (object_of ((key.now, array (items_of (map R.body rows.now))) ∷ []))) }
+    ensures { OnOk result (text.new.items ≡ text.old.items ++ compact_text (object_of ((key.now, array (items_of (map R.body rows))) ∷ []))) }
 {
     text.push(b'{')?;
     add_list(text, false, key, rows)?;

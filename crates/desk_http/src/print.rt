@@ -36,7 +36,7 @@ pub(crate) fn print_answer(
     let status = status_of(kind, &answer);
     let content = content_of(&answer);
     if is_command(&answer) {
-        print_command(alloc, body, out, status, content, closes, &answer)
+        print_command(alloc, body, out, status, content, closes, answer)
     } else {
         let body = read_body(alloc, body, answer)?;
         wrap_response(alloc, body, status, content, closes)
@@ -51,15 +51,15 @@ fn print_command(
     status: StatusCode,
     content: Content,
     closes: bool,
-    answer: &Answer,
+    answer: Answer,
 ) -> Result<Vec<u8>, AllocError>
-    requires command { is_command answer.now ≡ true }
+    requires command { is_command answer ≡ true }
     requires body { body.items ≡ [] }
     requires body_room { BODY_ROOM ≤ vec_capacity body }
     requires out { out.items ≡ [] }
     requires out_room { ROOM ≤ vec_capacity out }
-    ensures text { IfOk result (λ bytes. FitsRoom answer.now
-        → bytes.items ≡ response_text status content closes (answer_body answer.now)) }
+    ensures text { IfOk result (λ bytes. FitsRoom answer
+        → bytes.items ≡ response_text status content closes (answer_body answer)) }
     ensures memory { IsOk result }
 {
     write_answer(alloc, &mut body, answer)?;
@@ -74,7 +74,7 @@ fn print_command(
 }
 
 // The body of what was looked up or refused. The text of a file is its own body, and no copy is made of
-// it; of other answers what they were written from is let go, before their head is.
+// it; the rows of other answers are let go as they are written.
 fn read_body(alloc: Global, mut body: Vec<u8>, answer: Answer) -> Result<Vec<u8>, AllocError>
     requires body { body.items ≡ [] }
     requires room { BODY_ROOM ≤ vec_capacity body }
@@ -83,7 +83,7 @@ fn read_body(alloc: Global, mut body: Vec<u8>, answer: Answer) -> Result<Vec<u8>
     match answer {
         Answer::Done(Outcome::File(Some(text))) => Ok(text.into_vec()),
         answer => {
-            write_answer(alloc, &mut body, &answer)?;
+            write_answer(alloc, &mut body, answer)?;
             Ok(body)
         }
     }

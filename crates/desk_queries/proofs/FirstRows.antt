@@ -29,7 +29,7 @@ use Rattle.sql_statements.specs.Findings.{Finds}
 use Rattle.desk_records.specs.Schema.{desk_schema}
 use Rattle.desk_records.specs.Layout.{desk_layout}
 use Rattle.desk_records.specs.Tables.{Tables}
-use Rattle.desk_queries.specs.Shows.{IsInjective, ShowsAll, ReadsWhile}
+use Rattle.desk_queries.specs.Shows.{IsInjective, ShowsAll, ReadsAll, ReadsWhile}
 
 -- ---- what was read later is so of the state before
 
@@ -120,26 +120,33 @@ pub begun_select : {S : Type 0} (g : Ghosts S) (sql : List ℕ) (params : Row) (
 begun_select g sql params old new bare (inl h) = h
 begun_select g sql params old new bare (inr h) = absurd (never_both _ (bare old.schema) h.0)
 
-module _ {S : Type 0} (g : Ghosts S) {X : Type 0} (show : X → Row) (p : X → Bool) (sql : List ℕ) (params : Row) (old : State) (mid new : Held S) (xs : List X) (given : HasGiven g sql params mid (map show xs) × IsUnchanged old (state g mid))
+module _ {S : Type 0} (g : Ghosts S) {X : Type 0} (show : X → Row) (sql : List ℕ) (params : Row) (old : State) (mid new : Held S) (xs : List X) (given : HasGiven g sql params mid (map show xs) × IsUnchanged old (state g mid))
     (same : IsUnchanged (state g mid) (state g new)) where
   since : IsUnchanged old (state g new)
   since = unchanged_then old (state g mid) (state g new) given.1 same
 
+  shown_all : HasNoReturning sql → Advances g mid new None → Shown sql params old (state g new) (map show xs)
+  shown_all bare advances = shown_before sql params old (state g mid) (state g new) _ bare given.1 (advances sql params _ given.0)
+
+  -- one more is read
+  pub goes_on : (x : X) → Advances g mid new (Some (show x)) → HasGiven g sql params new (map show (xs ++ x ∷ [])) × IsUnchanged old (state g new)
+  goes_on x advances = (subst (HasGiven g sql params new) (sym (map-append show xs (x ∷ []))) (advances sql params _ given.0), since)
+
   -- there was no more
-  pub while_ended : HasNoReturning sql → AllByRecursion (λ x. p x ≡ true) xs → Advances g mid new None → ReadsWhile sql params show p old (state g new) xs
-  while_ended bare pass advances = record { same = since; pass = pass; ends = inl (shown_before sql params old (state g mid) (state g new) _ bare given.1 (advances sql params _ given.0)) }
+  pub all_ended : HasNoReturning sql → Advances g mid new None → ReadsAll sql params show old (state g new) xs
+  all_ended bare advances = record { was_open = since.0.was_open; rows = map show xs; shown = shown_all bare advances; are = refl }
 
-  -- one that does not pass came next
-  pub while_stopped : AllByRecursion (λ x. p x ≡ true) xs → (x : X) → p x ≡ false → Advances g mid new (Some (show x)) → ReadsWhile sql params show p old (state g new) xs
-  while_stopped pass x fails advances = record {
-    same = since;
-    pass = pass;
-    ends = inr (x, fails, begins_before sql params old (state g new) since.0.now_is _ (given_begin g sql params new _ (advances sql params _ given.0)));
-  }
+  module _ (p : X → Bool) (pass : AllByRecursion (λ x. p x ≡ true) xs) where
+    pub while_ended : HasNoReturning sql → Advances g mid new None → ReadsWhile sql params show p old (state g new) xs
+    while_ended bare advances = record { same = since; pass = pass; ends = inl (shown_all bare advances) }
 
-  -- one more
-  pub while_goes_on : (x : X) → Advances g mid new (Some (show x)) → HasGiven g sql params new (map show (xs ++ x ∷ [])) × IsUnchanged old (state g new)
-  while_goes_on x advances = (subst (HasGiven g sql params new) (sym (map-append show xs (x ∷ []))) (advances sql params _ given.0), since)
+    -- one that does not pass came next
+    pub while_stopped : (x : X) → p x ≡ false → Advances g mid new (Some (show x)) → ReadsWhile sql params show p old (state g new) xs
+    while_stopped x fails advances = record {
+      same = since;
+      pass = pass;
+      ends = inr (x, fails, begins_before sql params old (state g new) since.0.now_is _ (given_begin g sql params new _ (advances sql params _ given.0)));
+    }
 
 -- where none that passes comes after one that does not
 pub while_all : {X : Type 0} (p : X → Bool) (xs : List X) → IsAscending (λ a b. p b ≡ true → p a ≡ true) xs → take_while p xs ≡ filter p xs

@@ -14,6 +14,7 @@ use bank_days::Day;
 use desk_accounts::{Account, Posting};
 use desk_history::DaySum;
 use desk_records::PostingLine;
+use emptying_lists::EmptyingList;
 use sqlite::{Alter, Connection, Error};
 use std::alloc::Global;
 
@@ -34,19 +35,20 @@ pub fn postings<S: Alter>(
         "SELECT value_day, cents, cause, ref, idx FROM postings WHERE account = ?1 ORDER BY no",
         &[characters(&text)],
     )?;
-    of_account(alloc, &account, &lines)
+    of_account(alloc, &account, lines)
 }
 
-// The lines, with their account.
+// The lines, with their account. They come into the place of what was read.
 fn of_account(
     alloc: Global,
     account: &Account,
-    lines: &[PostingLine],
+    lines: Vec<PostingLine>,
 ) -> Result<Vec<Posting>, Error>
-    ensures { IfOk result (λ postings. postings.items ≡ map (posting_of account.now) lines.now) }
+    ensures { IfOk result (λ postings. postings.items ≡ map (posting_of account.now) lines.items) }
 {
+    let mut left = EmptyingList::new(lines);
     let mut postings = Vec::new(alloc);
-    for line in lines {
+    while let Some(line) = left.take_first() {
         postings.push(Posting {
             account: *account,
             value_day: line.value_day,

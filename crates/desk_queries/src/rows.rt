@@ -1,8 +1,9 @@
 //! The rows of a query are read back.
-ghost use Rattle.std.specs.Prelude.{◌≡◌, [], ◌∷◌, List, map, slice_get, Option, option_map, IfOk};
+ghost use Rattle.std.specs.Prelude.{◌≡◌, ◌⊎◌, [], ◌∷◌, List, map, slice_get, Option, option_map, IfOk, IfErr, OnOk};
 ghost use Rattle.std.specs.List.{AllByRecursion};
+ghost use Rattle.sqlite.specs.Given.{Advances};
 ghost use Rattle.sqlite.specs.Held.{state};
-ghost use Rattle.sqlite.specs.State.{HasCleanDisk, Survives};
+ghost use Rattle.sqlite.specs.State.{HasCleanDisk, Survives, IsUnchanged, Fails};
 ghost use Rattle.sqlite.specs.Values.{bound};
 ghost use Rattle.sqlite_value.specs.declared.value.Value.TheVariants.{Blob};
 ghost use Rattle.sql_statements.specs.Queries.{Stays};
@@ -13,22 +14,26 @@ ghost use Rattle.desk_queries.specs.Shows.{ReadsAll, ReadsFirst};
 use desk_records::{FromColumn, FromRow, read_only_column};
 use sql_statements::query;
 use sqlite::types::ValueRef;
-use sqlite::{Alter, Connection, Error, Row};
+use sqlite::{Alter, Connection, Error, Row, Rows};
 use std::alloc::Global;
 
-// The values that rows store.
-fn read_all<T: FromRow>(alloc: Global, rows: &[Row]) -> Result<Vec<T>, Error>
-    ensures are { IfOk result (λ xs. map T.FromRow.stored_row xs.items ≡ rows.now) }
-    ensures fit { IfOk result (λ xs. AllByRecursion T.FromRow.fits xs.items) }
+/// Gives the value that the next row stores, and `None` behind the last row.
+pub(crate) fn next_of<S: Alter, T: FromRow>(rows: &mut Rows<'_, S>) -> Result<Option<T>, Error>
+    ensures same_reference { rows.new.conn.ghost_name ≡ rows.old.conn.ghost_name }
+    ensures advances { HasCleanDisk (state S.Store rows.new.conn.now) → IfOk result (λ value. Advances S.Store rows.old.conn.now rows.new.conn.now (option_map T.FromRow.stored_row value)) }
+    ensures fits { IfOk result (FitsIfAny T.FromRow.fits) }
+    ensures same { HasCleanDisk (state S.Store rows.new.conn.now) → OnOk result (IsUnchanged (state S.Store rows.old.conn.now) (state S.Store rows.new.conn.now)) }
+    ensures kept { HasCleanDisk (state S.Store rows.new.conn.now) → IfErr result (λ e. Fails (state S.Store rows.old.conn.now) (state S.Store rows.new.conn.now) ⊥ e ⊎ IsUnchanged (state S.Store rows.old.conn.now) (state S.Store rows.new.conn.now)) }
+    ensures survives { Survives (state S.Store rows.old.conn.now) (state S.Store rows.new.conn.now) (λ _. ⊥) }
 {
-    let mut values = Vec::new(alloc);
-    for row in rows {
-        let Some(value) = T::from_row(row) else {
-            return Err(Error::InvalidQuery);
-        };
-        values.push(value)?;
+    rows.advance()?;
+    let Some(row) = rows.get() else {
+        return Ok(None);
+    };
+    match T::from_row(row) {
+        Some(value) => Ok(Some(value)),
+        None => Err(Error::InvalidQuery),
     }
-    Ok(values)
 }
 
 // The value that the first row stores.
@@ -44,7 +49,7 @@ fn read_first<T: FromRow>(rows: &[Row]) -> Result<Option<T>, Error>
     }
 }
 
-/// Gives the values of all rows of a query. The text has to be a SELECT.
+/// Gives the values of all rows of a query, of which one is there at a time. The text has to be a SELECT.
 pub(crate) fn all_of<S: Alter, T: FromRow>(
     conn: &mut Connection<S>,
     alloc: Global,
@@ -57,8 +62,19 @@ pub(crate) fn all_of<S: Alter, T: FromRow>(
     ensures stays { HasCleanDisk (state S.Store conn.new) → Stays (state S.Store conn.old) (state S.Store conn.new) }
     ensures survives { Survives (state S.Store conn.old) (state S.Store conn.new) (λ _. ⊥) }
 {
-    let rows = query(conn, sql, params)?;
-    read_all(alloc, &rows)
+    if !conn.is_autocommit() {
+        return Err(Error::InvalidQuery);
+    }
+    let mut values = Vec::new(alloc);
+    let mut rows = conn.query(sql, params)?;
+    'rows: for _ in 0..u64::MAX {
+        let Some(value) = next_of(&mut rows)? else {
+            return Ok(values);
+        };
+        values.push(value)?;
+    }
+    // No memory has so many.
+    Err(Error::InvalidQuery)
 }
 
 /// Gives the value of the first row of a query, and `None` where it shows no row. The text has to be a

@@ -4,14 +4,14 @@ ghost use Rattle.serde_json.specs.Written.{compact_text};
 ghost use Rattle.desk_bodies.specs.Company.{change_body, changes_body};
 
 use crate::list::{Row, add_list_alone};
-use desk_history::ChangeRow;
+use desk_history::{ChangeRow, ListOf};
 use desk_members::{put, put_number, put_text};
 use std::alloc::AllocError;
 
 /// Appends the body of a company's notifications of change.
 #[tactic(auto, unfolding(crate::specs::Company::changes_body))]
-pub(crate) fn add_changes(text: &mut Vec<u8>, rows: &[ChangeRow]) -> Result<(), AllocError>
-    ensures { OnOk result (text.new.items ≡ text.old.items ++ compact_text (changes_body rows.now)) }
+pub(crate) fn add_changes(text: &mut Vec<u8>, rows: ListOf<ChangeRow>) -> Result<(), AllocError>
+    ensures { OnOk result (text.new.items ≡ text.old.items ++ compact_text (changes_body rows)) }
 {
     add_list_alone(text, b"changes", rows)
 }

@@ -12,8 +12,8 @@ use desk_rules::{Direction, EntryState, ReturnCode, RuleDay};
 use std::alloc::AllocError;
 
 /// Appends the body of a submission or retry that was looked up.
-pub(crate) fn add_report(text: &mut Vec<u8>, report: &SubmissionReport) -> Result<(), AllocError>
-    ensures { OnOk result (text.new.items ≡ text.old.items ++ compact_text (report_body report.now)) }
+pub(crate) fn add_report(text: &mut Vec<u8>, report: SubmissionReport) -> Result<(), AllocError>
+    ensures { OnOk result (text.new.items ≡ text.old.items ++ compact_text (report_body report)) }
 {
     text.reserve(ROW_ROOM)?;
     put(text, b"{");
@@ -25,7 +25,7 @@ pub(crate) fn add_report(text: &mut Vec<u8>, report: &SubmissionReport) -> Resul
         b"direction",
         direction_text(report.direction).as_bytes(),
     );
-    add_list(text, true, b"entries", report.entries.as_slice())?;
+    add_list(text, true, b"entries", report.entries)?;
     text.reserve(ROW_ROOM)?;
     put_retried(text, &report.retried);
     put_number(text, true, b"order", report.order);

@@ -6,14 +6,14 @@ ghost use Rattle.desk_bodies.specs.Company.{return_body, returns_body};
 
 use crate::list::{Row, add_list_alone};
 use ach_fields::without_blanks_after;
-use desk_history::ReturnRow;
+use desk_history::{ListOf, ReturnRow};
 use desk_members::{put, put_flag, put_number, put_text};
 use std::alloc::AllocError;
 
 /// Appends the body of a company's returns.
 #[tactic(auto, unfolding(crate::specs::Company::returns_body))]
-pub(crate) fn add_returns(text: &mut Vec<u8>, rows: &[ReturnRow]) -> Result<(), AllocError>
-    ensures { OnOk result (text.new.items ≡ text.old.items ++ compact_text (returns_body rows.now)) }
+pub(crate) fn add_returns(text: &mut Vec<u8>, rows: ListOf<ReturnRow>) -> Result<(), AllocError>
+    ensures { OnOk result (text.new.items ≡ text.old.items ++ compact_text (returns_body rows)) }
 {
     add_list_alone(text, b"returns", rows)
 }

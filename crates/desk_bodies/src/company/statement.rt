@@ -10,14 +10,14 @@ use desk_members::{put, put_decimal, put_number, put_signed, put_text};
 use std::alloc::AllocError;
 
 /// Appends the body of a company's statement.
-pub(crate) fn add_statement(text: &mut Vec<u8>, statement: &Statement) -> Result<(), AllocError>
-    ensures { OnOk result (text.new.items ≡ text.old.items ++ compact_text (statement_body statement.now)) }
+pub(crate) fn add_statement(text: &mut Vec<u8>, statement: Statement) -> Result<(), AllocError>
+    ensures { OnOk result (text.new.items ≡ text.old.items ++ compact_text (statement_body statement)) }
 {
     text.reserve(ROW_ROOM)?;
     put(text, b"{");
     put_decimal(text, false, b"balance", statement.balance);
     put_text(text, true, b"day", &statement.day.text());
-    add_list(text, true, b"lines", statement.lines.as_slice())?;
+    add_list(text, true, b"lines", statement.lines)?;
     text.push(b'}')?;
     Ok(())
 }

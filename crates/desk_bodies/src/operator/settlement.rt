@@ -9,14 +9,14 @@ use desk_members::{put, put_decimal, put_text};
 use std::alloc::AllocError;
 
 /// Appends the body of the operator's account.
-pub(crate) fn add_settlement(text: &mut Vec<u8>, settlement: &Settlement) -> Result<(), AllocError>
-    ensures { OnOk result (text.new.items ≡ text.old.items ++ compact_text (settlement_body settlement.now)) }
+pub(crate) fn add_settlement(text: &mut Vec<u8>, settlement: Settlement) -> Result<(), AllocError>
+    ensures { OnOk result (text.new.items ≡ text.old.items ++ compact_text (settlement_body settlement)) }
 {
     text.reserve(ROW_ROOM)?;
     put(text, b"{");
     put_decimal(text, false, b"balance", settlement.balance);
     put_text(text, true, b"day", &settlement.day.text());
-    add_list(text, true, b"days", settlement.days.as_slice())?;
+    add_list(text, true, b"days", settlement.days)?;
     text.push(b'}')?;
     Ok(())
 }

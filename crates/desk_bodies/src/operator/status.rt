@@ -9,19 +9,20 @@ ghost use Rattle.desk_bodies.specs.Status.{company_status_body, day_or_null, due
 
 use crate::list::{ROW_ROOM, Row, add_list};
 use bank_days::Day;
-use desk_history::{CompanyStatus, DeskStatus, DueDay, Tallies, Tally};
+use desk_history::{CompanyStatus, DeskStatus, DueDay, ListOf, Tallies, Tally};
 use desk_members::{put, put_comma, put_decimal, put_key, put_number, put_quoted, put_text};
+use emptying_lists::EmptyingList;
 use std::alloc::AllocError;
 
 /// Appends the body of how the desk stands.
-pub(crate) fn add_status(text: &mut Vec<u8>, status: &DeskStatus) -> Result<(), AllocError>
-    ensures { OnOk result (text.new.items ≡ text.old.items ++ compact_text (status_body status.now)) }
+pub(crate) fn add_status(text: &mut Vec<u8>, status: DeskStatus) -> Result<(), AllocError>
+    ensures { OnOk result (text.new.items ≡ text.old.items ++ compact_text (status_body status)) }
 {
     text.push(b'{')?;
-    add_companies(text, status.companies.as_slice())?;
+    add_companies(text, status.companies)?;
     text.reserve(ROW_ROOM)?;
     put_desk_day(text, status.day);
-    add_list(text, true, b"files", status.files.as_slice())?;
+    add_list(text, true, b"files", status.files)?;
     text.reserve(ROW_ROOM)?;
     put_number(text, true, b"holidays", status.holidays);
     put_number(text, true, b"sent", status.sent);
@@ -55,21 +56,22 @@ impl Row for u8 {
 }
 
 #[tactic(auto, unfolding(desk_members::specs::Members::member_text))]
-fn add_companies(text: &mut Vec<u8>, companies: &[CompanyStatus]) -> Result<(), AllocError>
-    ensures { OnOk result (text.new.items ≡ text.old.items ++ member_text false (codes "companies") (array (items_of (map company_status_body companies.now)))) }
+fn add_companies(text: &mut Vec<u8>, companies: ListOf<CompanyStatus>) -> Result<(), AllocError>
+    ensures { OnOk result (text.new.items ≡ text.old.items ++ member_text false (codes "companies") (array (items_of (map company_status_body companies)))) }
 {
     text.reserve(ROW_ROOM)?;
     put_key(text, false, b"companies");
     put(text, b"[");
-    add_each(text, companies)
+    add_each(text, EmptyingList::new(companies.into_vec()))
 }
 
 // With the closing bracket.
-fn add_each(text: &mut Vec<u8>, companies: &[CompanyStatus]) -> Result<(), AllocError>
-    ensures { OnOk result (text.new.items ≡ text.old.items ++ items_text false (items_of (map company_status_body companies.now))) }
+fn add_each(text: &mut Vec<u8>, companies: EmptyingList<CompanyStatus>) -> Result<(), AllocError>
+    ensures { OnOk result (text.new.items ≡ text.old.items ++ items_text false (items_of (map company_status_body companies))) }
 {
+    let mut left = companies;
     let mut later = false;
-    for company in companies {
+    while let Some(company) = left.take_first() {
         add_company_behind(text, later, company)?;
         later = true;
     }
@@ -80,20 +82,20 @@ fn add_each(text: &mut Vec<u8>, companies: &[CompanyStatus]) -> Result<(), Alloc
 fn add_company_behind(
     text: &mut Vec<u8>,
     later: bool,
-    company: &CompanyStatus,
+    company: CompanyStatus,
 ) -> Result<(), AllocError>
-    ensures { OnOk result (text.new.items ≡ text.old.items ++ (comma_if later ++ compact_text (company_status_body company.now))) }
+    ensures { OnOk result (text.new.items ≡ text.old.items ++ (comma_if later ++ compact_text (company_status_body company))) }
 {
     text.reserve(ROW_ROOM)?;
     put_comma(text, later);
     add_company(text, company)
 }
 
-fn add_company(text: &mut Vec<u8>, company: &CompanyStatus) -> Result<(), AllocError>
-    ensures { OnOk result (text.new.items ≡ text.old.items ++ compact_text (company_status_body company.now)) }
+fn add_company(text: &mut Vec<u8>, company: CompanyStatus) -> Result<(), AllocError>
+    ensures { OnOk result (text.new.items ≡ text.old.items ++ compact_text (company_status_body company)) }
 {
     text.push(b'{')?;
-    add_list(text, false, b"due", company.due.as_slice())?;
+    add_list(text, false, b"due", company.due)?;
     text.reserve(ROW_ROOM)?;
     put_held(text, &company.held);
     text.reserve(ROW_ROOM)?;

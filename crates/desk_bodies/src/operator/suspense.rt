@@ -4,14 +4,14 @@ ghost use Rattle.serde_json.specs.Written.{compact_text};
 ghost use Rattle.desk_bodies.specs.Operator.{reason_text, suspense_row_body, suspense_body};
 
 use crate::list::{Row, add_list_alone};
-use desk_history::{SuspenseReason, SuspenseRow};
+use desk_history::{ListOf, SuspenseReason, SuspenseRow};
 use desk_members::{put, put_number, put_text};
 use std::alloc::AllocError;
 
 /// Appends the body of the items in suspense.
 #[tactic(auto, unfolding(crate::specs::Operator::suspense_body))]
-pub(crate) fn add_suspense(text: &mut Vec<u8>, rows: &[SuspenseRow]) -> Result<(), AllocError>
-    ensures { OnOk result (text.new.items ≡ text.old.items ++ compact_text (suspense_body rows.now)) }
+pub(crate) fn add_suspense(text: &mut Vec<u8>, rows: ListOf<SuspenseRow>) -> Result<(), AllocError>
+    ensures { OnOk result (text.new.items ≡ text.old.items ++ compact_text (suspense_body rows)) }
 {
     add_list_alone(text, b"items", rows)
 }

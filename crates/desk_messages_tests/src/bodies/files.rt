@@ -10,10 +10,10 @@ use std::test::Fail;
 fn a_file_is_its_text(rt: HostRuntime) -> Result<(), Fail> {
     let file = Vec::from_slice(rt.alloc(), b"101 061000146\n\"9\n")?;
     let answer = Answer::Done(Outcome::File(Some(ListOf::new(file))));
-    let text = body_of_answer(rt.alloc(), &answer)?;
-    assert!(rt; text.as_slice() == b">101 061000146\n\"9\n".as_slice());
     assert!(rt; content_of(&answer) == Content::PlainText);
     assert!(rt; status_of(CallKind::LooksUp, &answer) == StatusCode::OK);
+    let text = body_of_answer(rt.alloc(), answer)?;
+    assert!(rt; text.as_slice() == b">101 061000146\n\"9\n".as_slice());
     Ok(())
 }
 

@@ -14,10 +14,10 @@ use std::test::Fail;
 
 /// The body of what was done, after a byte that stands before it.
 fn body_of(alloc: Global, outcome: Outcome) -> Result<Vec<u8>, Fail> {
-    body_of_answer(alloc, &Answer::Done(outcome))
+    body_of_answer(alloc, Answer::Done(outcome))
 }
 
-fn body_of_answer(alloc: Global, answer: &Answer) -> Result<Vec<u8>, Fail> {
+fn body_of_answer(alloc: Global, answer: Answer) -> Result<Vec<u8>, Fail> {
     let mut text = Vec::with_capacity(alloc, 1 + BODY_ROOM)?;
     text.push(b'>')?;
     if text.capacity() - text.len() < BODY_ROOM {

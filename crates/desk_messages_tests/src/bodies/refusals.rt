@@ -57,9 +57,9 @@ fn refusals_have_their_fields(rt: HostRuntime) -> Result<(), Fail> {
     ];
     for (why, status, body) in rows {
         let answer = Answer::Refused(why);
-        let text = body_of_answer(rt.alloc(), &answer)?;
-        assert!(rt; text.as_slice() == body.as_bytes());
         assert!(rt; status_of(CallKind::Creates, &answer).as_u16() == status);
+        let text = body_of_answer(rt.alloc(), answer)?;
+        assert!(rt; text.as_slice() == body.as_bytes());
     }
     Ok(())
 }

@@ -6,7 +6,7 @@ use Rattle.desk_bodies.proofs.list.add_list_alone.Goals as goal
 
 pub returns : goal.returns
 returns g c = rw (
-  compact_text-object_of ((c.args.key.now, array (items_of (map g.R.Row.body c.args.rows.now))) ∷ []),
+  compact_text-object_of ((c.args.key.now, array (items_of (map g.R.Row.body c.args.rows))) ∷ []),
   c.in_ok-push-2.ensures.items,
   c.in_ok-add_list.ensures,
   c.in_ok-push.ensures.items,

@@ -8,7 +8,7 @@ use Rattle.sqlite_keyed.proofs.ListLemmas.{all-append}
 use Rattle.sql_statements.proofs.Queries.{fails_same, stays_rolled_back}
 use Rattle.sql_statements.proofs.SelectTexts.{select_returns_none}
 use Rattle.desk_records.specs.QueryRows.{submission_head_row}
-use Rattle.desk_queries.proofs.FirstRows.{begun_select, select_survives, while_ended, while_stopped, while_goes_on}
+use Rattle.desk_queries.proofs.FirstRows.{begun_select, select_survives, goes_on, while_ended, while_stopped}
 use Rattle.desk_queries.specs.Shows.{ReadsWhile}
 use Rattle.desk_queries.specs.Waiting.{waits}
 use Rattle.desk_queries.proofs.waiting.first_that_wait.Goals as goal
@@ -45,7 +45,7 @@ returns-in_default-clause-answer g c clean =
     let late : HasCleanDisk (state g.S.Store new) = search rules in
     let was = c.rows.invariant.read (omega (arith, c.next_of.ensures.survives.clean, late)) in
     let more = subst (λ o. Advances g.S.Store mid new (option_map submission_head_row o)) c.in_default.is (c.in_ok-head.ensures.advances late) in
-    let read = while_ended g.S.Store submission_head_row waits c.args.sql.now (bound c.args.params.now) (state g.S.Store c.args.conn.now) mid new _ was (c.in_ok-head.ensures.same late) (select_returns_none c.args.sql.now c.requires) c.rows.invariant.pass more in
+    let read = while_ended g.S.Store submission_head_row c.args.sql.now (bound c.args.params.now) (state g.S.Store c.args.conn.now) mid new _ was (c.in_ok-head.ensures.same late) waits c.rows.invariant.pass (select_returns_none c.args.sql.now c.requires) more in
     search rules
 
 pub returns-then-not-waits-clause-answer : goal.returns-then-not-waits-clause-answer
@@ -56,7 +56,7 @@ returns-then-not-waits-clause-answer g c clean =
     let was = c.rows.invariant.read (omega (arith, c.next_of.ensures.survives.clean, late)) in
     let more = subst (λ o. Advances g.S.Store mid new (option_map submission_head_row o)) c.in-Some.is (c.in_ok-head.ensures.advances late) in
     let fails : waits c.in-Some.head ≡ false = search rules in
-    let read = while_stopped g.S.Store submission_head_row waits c.args.sql.now (bound c.args.params.now) (state g.S.Store c.args.conn.now) mid new _ was (c.in_ok-head.ensures.same late) c.rows.invariant.pass c.in-Some.head fails more in
+    let read = while_stopped g.S.Store submission_head_row c.args.sql.now (bound c.args.params.now) (state g.S.Store c.args.conn.now) mid new _ was (c.in_ok-head.ensures.same late) waits c.rows.invariant.pass c.in-Some.head fails more in
     subst (λ s. ReadsWhile c.args.sql.now (bound c.args.params.now) submission_head_row waits (state g.S.Store c.args.conn.now) s c.rows.waiting.items) (search rules) read
 
 pub returns-then-not-waits-clause-survives : goal.returns-then-not-waits-clause-survives
@@ -80,5 +80,5 @@ rows-preserved g c =
       read = λ clean.
           let was = c.rows.invariant.read (omega (arith, c.next_of.ensures.survives.clean, clean)) in
           let more = subst (λ o. Advances g.S.Store mid new (option_map submission_head_row o)) c.in-Some.is (c.in_ok-head.ensures.advances clean) in
-          rw c.in_ok-push.ensures.items (while_goes_on g.S.Store submission_head_row waits c.args.sql.now (bound c.args.params.now) (state g.S.Store c.args.conn.now) mid new _ was (c.in_ok-head.ensures.same clean) c.in-Some.head more);
+          rw c.in_ok-push.ensures.items (goes_on g.S.Store submission_head_row c.args.sql.now (bound c.args.params.now) (state g.S.Store c.args.conn.now) mid new _ was (c.in_ok-head.ensures.same clean) c.in-Some.head more);
     }

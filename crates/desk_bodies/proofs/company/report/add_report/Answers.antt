@@ -6,8 +6,8 @@ use Rattle.desk_bodies.proofs.company.report.add_report.Goals as goal
 
 pub returns : goal.returns
 returns c = rw (
-  report_text c.args.report.now,
-  last_members_text-append (retried_members c.args.report.now.retried) (report_last_members c.args.report.now),
+  report_text c.args.report,
+  last_members_text-append (retried_members c.args.report.retried) (report_last_members c.args.report),
   c.put-2.ensures.items,
   c.put_text-4.ensures.items,
   c.text-2.ensures,
@@ -17,7 +17,6 @@ returns c = rw (
   c.put_retried.ensures.items,
   c.in_ok-reserve-2.ensures.items,
   c.in_ok-add_list.ensures,
-  c.as_slice.ensures,
   c.put_text-2.ensures.items,
   c.as_bytes.ensures.value,
   c.direction_text.ensures.text,

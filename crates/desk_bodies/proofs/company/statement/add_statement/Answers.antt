@@ -5,10 +5,9 @@ use Rattle.desk_bodies.proofs.company.statement.add_statement.Goals as goal
 
 pub returns : goal.returns
 returns c = rw (
-  statement_text c.args.statement.now,
+  statement_text c.args.statement,
   c.in_ok-push.ensures.items,
   c.in_ok-add_list.ensures,
-  c.as_slice.ensures,
   c.put_text.ensures.items,
   c.text.ensures,
   c.put_decimal.ensures.items,

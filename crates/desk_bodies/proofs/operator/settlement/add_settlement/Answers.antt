@@ -5,10 +5,9 @@ use Rattle.desk_bodies.proofs.operator.settlement.add_settlement.Goals as goal
 
 pub returns : goal.returns
 returns c = rw (
-  settlement_text c.args.settlement.now,
+  settlement_text c.args.settlement,
   c.in_ok-push.ensures.items,
   c.in_ok-add_list.ensures,
-  c.as_slice.ensures,
   c.put_text.ensures.items,
   c.text.ensures,
   c.put_decimal.ensures.items,

@@ -4,7 +4,7 @@ use Rattle.desk_bodies.proofs.operator.status.add_company.Goals as goal
 
 pub returns : goal.returns
 returns c = rw (
-  company_status_text c.args.company.now,
+  company_status_text c.args.company,
   c.put.ensures.items,
   c.put_text-2.ensures.items,
   c.bytes-2.ensures.value,
@@ -15,6 +15,5 @@ returns c = rw (
   c.put_held.ensures,
   c.in_ok-reserve.ensures.items,
   c.in_ok-add_list.ensures,
-  c.as_slice.ensures,
   c.in_ok-push.ensures.items,
 ) (simp append_assoc)

@@ -1,4 +1,4 @@
-use Rattle.std.proofs.Common.{◌≡◌, ◌++◌, false, drop, map}
+use Rattle.std.proofs.Common.{◌≡◌, ◌++◌, false, length, map}
 use Rattle.serde_json.specs.View.{items_of}
 use Rattle.serde_json.specs.Written.{items_text}
 use Rattle.desk_bodies.specs.Status.{company_status_body}
@@ -6,4 +6,7 @@ use Rattle.desk_bodies.proofs.operator.status.add_each.Given as goal
 
 abbrev pub invariant-loop-company : goal.invariant-loop-company
 invariant-loop-company l =
-    l.initial.text.items ++ items_text false (items_of (map company_status_body l.companies)) ≡ l.text.items ++ items_text l.later (items_of (map company_status_body (drop l.company-index l.companies)))
+    l.initial.text.items ++ items_text false (items_of (map company_status_body l.initial.left)) ≡ l.text.items ++ items_text l.later (items_of (map company_status_body l.left))
+
+abbrev pub decreases-loop-company : goal.decreases-loop-company
+decreases-loop-company l = length l.left

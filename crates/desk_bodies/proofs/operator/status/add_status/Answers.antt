@@ -4,17 +4,15 @@ use Rattle.desk_bodies.proofs.operator.status.add_status.Goals as goal
 
 pub returns : goal.returns
 returns c = rw (
-  status_text c.args.status.now,
+  status_text c.args.status,
   c.put.ensures.items,
   c.put_number-3.ensures.items,
   c.put_number-2.ensures.items,
   c.put_number.ensures.items,
   c.in_ok-reserve-2.ensures.items,
   c.in_ok-add_list.ensures,
-  c.as_slice-2.ensures,
   c.put_desk_day.ensures.items,
   c.in_ok-reserve.ensures.items,
   c.in_ok-add_companies.ensures,
-  c.as_slice.ensures,
   c.in_ok-push.ensures.items,
 ) (simp append_assoc)

@@ -1,0 +1,6 @@
+//! Lists that are used up from the front and let their memory go.
+#![tactic(auto)]
+
+mod emptying;
+
+pub use emptying::EmptyingList;
