@@ -5,7 +5,8 @@ PROGRAM is ./achdesk where it is left out. It serves a desk behind nginx, with t
 but for TLS. Chromium without a window opens console/index.html there, types the operator's key, puts holidays, registers
 companies, sets days, cuts, fetches files and hands in files of returns, with refusals of each kind on the way. After each
 step what the page shows is compared with what the calls answer. A company's name has `<script>` in it and must stay text.
-All is there at 360 pixels and by keyboard, and the page says so when the desk is gone. PICTURE is where a picture is put.
+All is there at 360 pixels and by keyboard, and the page says so when the desk is gone. PICTURE is where a picture is put; the
+company then has a plain name.
 
 It takes Debian's packages chromium, chromium-driver and nginx: where one is missing it says so, with status 2. The last
 line counts the checks; the status is 1 where one failed.
@@ -26,7 +27,7 @@ from returned import file_of_returns
 from running import HOST, MILL_KEY, OPERATOR_KEY, TOP, Checks, Serving, connect, free_port, make_desk, program_of
 
 PAGE = (TOP / "console" / "index.html").read_text()
-BAKERY = "<script>hit=1//"
+BAKERY = "CITY BAKERY" if sys.argv[2:] else "<script>hit=1//"
 NAMES = {"BAKE01": BAKERY, "MILL01": "MILL STREET"}
 KEYS = {"BAKE01": "bakery-key", "MILL01": MILL_KEY}
 LEVELS = {"overall": "15%", "administrative": "3%", "unauthorized": "0.5%"}
@@ -431,6 +432,20 @@ def without_a_desk(bank, serving, program, path):
         checks.that("locked, the page shows nothing of the desk", [it for it in (BAKERY, "MILL", "$", "2025", OPERATOR_KEY, MILL_KEY) if it in text], [])
 
 
+def photograph(bank, path):
+    """A picture of the whole page, opened anew, with a company's rates and statement."""
+    browser = bank.browser
+    browser.go(f"http://{HOST}:{bank.proxy.port}/console/")
+    browser.type("#open [name=key]", OPERATOR_KEY)
+    browser.press("Enter")
+    browser.wait("return !document.getElementById('desk').hidden")
+    bank.do("look", id="MILL01", key=MILL_KEY)
+    browser.run("document.querySelectorAll('details').forEach(it => { it.open = false; }); document.activeElement.blur(); window.scrollTo(0, 0)")
+    browser.size(1280, browser.run("return document.documentElement.scrollHeight"))
+    browser.picture(path)
+    browser.size(1280, 900)
+
+
 def sentences(checks):
     """Each refusal, fault of a message and fault of a file has a sentence on the page, and nothing is put in as HTML."""
     bodies = (TOP / "docs" / "BODIES.md").read_text()
@@ -457,9 +472,7 @@ def main():
                 for step in (opening, before_any_day, first_day, next_days):
                     step(bank)
                 if sys.argv[2:]:
-                    browser.size(1280, 1180)
-                    browser.run("document.activeElement.blur(); document.querySelectorAll('details').forEach(it => { it.open = false; }); window.scrollTo(0, 0)")
-                    browser.picture(Path(sys.argv[2]))
+                    photograph(bank, Path(sys.argv[2]))
                 for step in (lapse, text_and_memory, narrow, by_keyboard):
                     step(bank)
                 without_a_desk(bank, serving, program, path)
