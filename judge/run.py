@@ -46,6 +46,7 @@ JUDGES = (
     Judge("big_day", (), is_asked=True),
     Judge("costs", (), is_asked=True),
     Judge("opening", (), is_asked=True),
+    Judge("console", (), is_asked=True),
     Judge("openapi", (), is_asked=True),
     Judge("growths", (), is_asked=True, takes_program=False),
     Judge("refused", (), is_asked=True, takes_program=False),

@@ -1,0 +1,482 @@
+#!/usr/bin/env python3
+"""Clicks a bank's days through the operator's page: `python3 judge/console.py [PROGRAM] [PICTURE]`.
+
+PROGRAM is ./achdesk where it is left out. It serves a desk behind nginx, with the `server` that docs/OPERATING.md shows,
+but for TLS. Chromium without a window opens console/index.html there, types the operator's key, puts holidays, registers
+companies, sets days, cuts, fetches files and hands in files of returns, with refusals of each kind on the way. After each
+step what the page shows is compared with what the calls answer. A company's name has `<script>` in it and must stay text.
+All is there at 360 pixels and by keyboard, and the page says so when the desk is gone. PICTURE is where a picture is put; the
+company then has a plain name.
+
+It takes Debian's packages chromium, chromium-driver and nginx: where one is missing it says so, with status 2. The last
+line counts the checks; the status is 1 where one failed.
+"""
+
+import datetime
+import http.client
+import json
+import re
+import subprocess
+import sys
+import tempfile
+import time
+from pathlib import Path
+
+from helpers.browser import Browser, found, missing
+from helpers.returned import file_of_returns
+from helpers.running import HOST, MILL_KEY, OPERATOR_KEY, TOP, Checks, Serving, connect, free_port, make_desk, program_of
+
+PAGE = (TOP / "console" / "index.html").read_text()
+BAKERY = "CITY BAKERY" if sys.argv[2:] else "<script>hit=1//"
+NAMES = {"BAKE01": BAKERY, "MILL01": "MILL STREET"}
+KEYS = {"BAKE01": "bakery-key", "MILL01": MILL_KEY}
+LEVELS = {"overall": "15%", "administrative": "3%", "unauthorized": "0.5%"}
+REASONS = {"NoTrace": "No entry that was sent has the trace.", "AlreadyReturned": "The entry came back before."}
+
+
+# ---- what is served
+
+class Proxy:
+    """nginx before a desk, as docs/OPERATING.md shows it, without TLS."""
+
+    def __init__(self, folder, desk):
+        self.port, self.log = free_port(), folder / "access.log"
+        shown = re.search(r"```nginx\n(server \{.*?)```", (TOP / "docs" / "OPERATING.md").read_text(), re.S).group(1)
+        server = re.sub(r"\n *(server_name|ssl_\w+) .*", "", shown).replace("443 ssl", f"{HOST}:{self.port}")
+        server = server.replace("127.0.0.1:8080", f"{HOST}:{desk}").replace("/usr/local/share/achdesk", str(TOP))
+        paths = "".join(f"{it}_temp_path {folder}/{it};" for it in ("client_body", "proxy", "fastcgi", "uwsgi", "scgi"))
+        config = folder / "nginx.conf"
+        config.write_text(f"daemon off; master_process off; pid {folder}/pid; error_log {folder}/error.log; events {{}}\n"
+                          f"http {{ access_log {self.log}; types {{ text/html html; }} {paths}\n{server}}}\n")
+        self.process = subprocess.Popen([found("nginx"), "-p", str(folder), "-e", f"{folder}/error.log", "-c", str(config)])
+        for _ in range(100):
+            try:
+                return connect(self.port).close()
+            except ConnectionRefusedError:
+                time.sleep(0.05)
+        sys.exit(f"nginx does not listen: {(folder / 'error.log').read_text()}")
+
+    def __enter__(self):
+        return self
+
+    def __exit__(self, *_):
+        self.process.kill()
+        self.process.wait()
+
+
+class Bank:
+    """A desk behind the proxy, and the page that is opened there."""
+
+    def __init__(self, checks, browser, proxy, folder):
+        self.checks, self.browser, self.proxy, self.folder = checks, browser, proxy, folder
+
+    def ask(self, method, path, body=None, key=OPERATOR_KEY):
+        """The status and the body of a call by way of the proxy."""
+        it = http.client.HTTPConnection(HOST, self.proxy.port)
+        it.request(method, path, body=body, headers={"X-Desk-Key": key})
+        answer = it.getresponse()
+        came = answer.status, answer.read()
+        it.close()
+        return came
+
+    def told(self, path, key=OPERATOR_KEY):
+        return json.loads(self.ask("GET", path, key=key)[1])
+
+    def hand_in(self, company, what, **body):
+        status, said = self.ask("POST", f"/c/{company}/{what}", json.dumps(body), KEYS[company])
+        if status != 201:
+            sys.exit(f"{body} was refused: {said}")
+
+    def submit(self, company, ref, direction, day, cents):
+        entry = {"routing": "091000019", "account": "123456789", "kind": "checking", "cents": cents, "id": "E1", "name": "ANN LEE"}
+        self.hand_in(company, "submissions", ref=ref, sec="PPD", direction=direction, description="PAYROLL", day=day, entries=[entry])
+
+    # what is done on the page
+
+    def settled(self):
+        """Waits until the page has done what it does."""
+        return self.browser.wait("return document.body.getAttribute('aria-busy') !== 'true'")
+
+    def said(self, form):
+        """What is said beneath a form, once the page is done."""
+        self.settled()
+        return self.browser.run("return document.querySelector(arguments[0]).innerText", f"#{form} .said")
+
+    def do(self, form, **fields):
+        """Fills in a form, sends it, and gives what is said."""
+        self.browser.run("document.querySelectorAll('details').forEach(it => { it.open = true; })")
+        for name, text in fields.items():
+            self.browser.type(f"#{form} [name={name}]", text)
+        self.browser.click(f"#{form} button")
+        return self.said(form)
+
+    def file(self, name, text):
+        path = self.folder / name
+        path.write_bytes(text if isinstance(text, bytes) else text.encode())
+        return str(path)
+
+    def set_day(self, day):
+        return self.do("set-day", day=f"{day[5:7]}{day[8:]}{day[:4]}")
+
+    def begin_cut(self):
+        self.browser.click("#cut button")
+        return self.is_asked()
+
+    def is_asked(self):
+        """Waits for the question before a cut."""
+        return self.browser.wait("return document.querySelector('dialog[open]') !== null")
+
+    def cut(self):
+        self.begin_cut()
+        self.browser.click("#question-yes")
+        return self.said("cut")
+
+    def refresh(self):
+        self.browser.click("#refresh")
+        return self.settled()
+
+    # what is seen on the page
+
+    def lines(self, selector):
+        """The lines of text that are seen of each element."""
+        return self.browser.run("return [...document.querySelectorAll(arguments[0])].map(it => it.innerText.split(/\\n+/).map(x => x.trim()).filter(x => x))", selector)
+
+    def rows(self, place, part="tbody"):
+        """The cells of each row of a table, each with its lines."""
+        return self.browser.run("""return [...document.querySelectorAll(`${arguments[0]} ${arguments[1]} tr`)].map(row => [...row.cells].map(it =>
+            it.innerText.split(/\\n+/).map(x => x.trim()).filter(x => x).join('|')))""", place, part)
+
+
+# ---- how things are shown
+
+def dollars(cents):
+    cents = int(cents)
+    return f"{'−' if cents < 0 else ''}${abs(cents) // 100:,}.{abs(cents) % 100:02}"
+
+
+def short_day(day):
+    on = datetime.date.fromisoformat(day)
+    return f"{on:%a} {on.day} {on:%b %Y}"
+
+
+def long_day(day):
+    on = datetime.date.fromisoformat(day)
+    return f"{on:%A}, {on.day} {on:%B %Y}"
+
+
+def many(number, one, more=None):
+    return f"{number:,} {one if number == 1 else more or one + 's'}"
+
+
+def held_cell(held):
+    return f"{dollars(held['cents'])}|{many(held['submissions'], 'submission')}" if held["submissions"] else "none"
+
+
+def due_cell(company):
+    lines = []
+    for due in company["due"]:
+        lines.append(f"settles {short_day(due['day'])}")
+        for way in ("credits", "debits"):
+            if due[way]["submissions"]:
+                lines.append(f"{dollars(due[way]['cents'])} {way} in {many(due[way]['submissions'], 'submission')}")
+    if company["lapsing"]:
+        lines.append(f"{many(company['lapsing'], 'retry', 'retries')} would lapse")
+    return "|".join(lines) or "nothing"
+
+
+def sums(status, way):
+    due = [it[way] for company in status["companies"] for it in company["due"]]
+    return sum(int(it["cents"]) for it in due), sum(it["submissions"] for it in due)
+
+
+# ---- comparisons
+
+def compare_status(bank, what):
+    status = bank.told("/ops/status")
+    bank.checks.that(f"{what}: the day", bank.lines("#day"), [[long_day(status["day"]) if status["day"] else "No day is set"]])
+    held = {way: sum(int(it["held"][way]["cents"]) for it in status["companies"]) for way in ("credits", "debits")}
+    tiles = [["Credits due", dollars(sums(status, "credits")[0]), f"of {dollars(held['credits'])} held"],
+             ["Debits due", dollars(sums(status, "debits")[0]), f"of {dollars(held['debits'])} held"],
+             ["Files today", str(len(status["files"])), " ".join(status["files"]) or "no cut made one yet"],
+             ["In suspense", str(status["suspense"]), "look at each" if status["suspense"] else "nothing waits"],
+             ["Entries sent", f"{status['sent']:,}", "since the desk began"],
+             ["Holidays", str(status["holidays"]), "in the list" if status["holidays"] else "no list yet"]]
+    bank.checks.that(f"{what}: the sums", bank.lines("#tiles > div"), tiles)
+    rows = [[f"{it['name']}|{it['id']}", held_cell(it["held"]["credits"]), held_cell(it["held"]["debits"]), due_cell(it)] for it in status["companies"]]
+    bank.checks.that(f"{what}: the companies", bank.rows("#companies"), rows)
+    bank.checks.that(f"{what}: the files", [it[0] for it in bank.lines("#files li")], [f"File {it}" for it in status["files"]] or ["No cut made a file on this day."])
+    return status
+
+
+def compare_money(bank, what):
+    settlement, items = bank.told("/ops/settlement"), bank.told("/ops/suspense")["items"]
+    bank.checks.that(f"{what}: the balance", bank.lines("#balance"), [[f"Balance on {short_day(settlement['day'])}: {dollars(settlement['balance'])}"]])
+    rows = [[short_day(it["day"]), dollars(it["cents"]), *(["to come"] if it["day"] > settlement["day"] else [])] for it in reversed(settlement["days"])]
+    bank.checks.that(f"{what}: the settlement", bank.lines("#settlement li"), rows)
+    most = max((abs(int(it["cents"])) for it in settlement["days"]), default=1)
+    bars = [["in" if int(it["cents"]) < 0 else "out", round(abs(int(it["cents"])) * 50 / most)] for it in reversed(settlement["days"])]
+    found_bars = bank.browser.run("return [...document.querySelectorAll('#settlement i')].map(it => [it.className, parseFloat(it.style.width)])")
+    bank.checks.that(f"{what}: the bars", [[side, round(wide)] for side, wide in found_bars], bars)
+    rows = [[short_day(it["day"]), f"{REASONS[it['why']]}|{it['why']}", it["code"], f"{it['trace']}|item {it['item']} of {it['file'].strip()}", dollars(it["cents"])]
+            for it in reversed(items)]
+    bank.checks.that(f"{what}: suspense", bank.rows("#suspense"), rows)
+
+
+def rate_lines(name, rate):
+    shown = f"{rate['n'] * 100 / rate['d']:.3f}%" if rate["d"] else "none" if rate["n"] == 0 else "over all"
+    level = f"over Nacha’s level of {LEVELS[name]}" if rate["over"] else f"level {LEVELS[name]}"
+    return [name.capitalize(), shown, f"{rate['n']} of {many(rate['d'], 'debit')}; {level}"]
+
+
+def compare_company(bank, company):
+    bank.checks.that(f"{company}: nothing is said against its key", bank.do("look", id=company, key=KEYS[company]), "")
+    rates, statement = (bank.told(f"/c/{company}/{it}", KEYS[company]) for it in ("rates", "statement"))
+    bank.checks.that(f"{company}: its name", bank.lines("#company h3"), [[f"{NAMES[company]} ({company})"]])
+    bank.checks.that(f"{company}: its rates", bank.lines("#company [data-rate]"), [rate_lines(it, rates[it]) for it in LEVELS])
+    bank.checks.that(f"{company}: which are over", bank.browser.run("return [...document.querySelectorAll('#company .over')].map(it => it.dataset.rate)"), [it for it in LEVELS if rates[it]["over"]])
+    bank.checks.that(f"{company}: its balance", bank.lines("#company .balance"), [[f"Balance on {short_day(statement['day'])}: {dollars(statement['balance'])}"]])
+    lines = [[short_day(it["day"]), "Sent by a cut" if it["cause"] == "cut" else f"Entry {it['index']} came back", it["ref"], dollars(it["cents"])] for it in reversed(statement["lines"])]
+    bank.checks.that(f"{company}: the newest of its statement", bank.rows("#company"), lines[:12])
+    if len(lines) > 12:
+        bank.browser.click("#company table + button")
+        bank.checks.that(f"{company}: all of its statement", bank.rows("#company"), lines)
+    bank.checks.that(f"{company}: its key is gone from the field", bank.browser.run("return document.querySelector('#look [name=key]').value"), "")
+
+
+def compare_file(bank, day, letter):
+    text = bank.ask("GET", f"/ops/files/{day}/{letter}")[1]
+    bank.browser.click(f"[aria-label='Look at file {letter}']")
+    bank.browser.wait("return document.getElementById('paper').open")
+    bank.checks.that(f"file {letter} of {day} is shown", bank.browser.run("return document.getElementById('paper-text').textContent").encode(), text)
+    control = [it for it in text.decode().split("\n") if it.startswith("9") and it.strip("9")][-1]
+    sums = f"{many(int(control[1:7]), 'batch', 'batches')}, {many(int(control[13:21]), 'record')} of entries and addenda, " \
+           f"{dollars(control[43:55])} of credits, {dollars(control[31:43])} of debits"
+    bank.checks.that("its sums are those of its control", bank.lines("#paper-sums"), [[sums]])
+    bank.browser.press("Escape")
+    bank.browser.click(f"[aria-label='Save file {letter}']")
+    bank.checks.that("it is saved", bank.said("fetch"), f"File {letter} of {short_day(day)} is saved: {sums}. Send it as it is.")
+    saved = bank.folder / f"ach-{day}-{letter}.txt"
+    for _ in range(100):
+        if saved.exists():
+            break
+        time.sleep(0.05)
+    bank.checks.that("to the byte", saved.read_bytes() if saved.exists() else None, text)
+
+
+# ---- the days
+
+def opening(bank):
+    checks, browser = bank.checks, bank.browser
+    browser.go(f"http://{HOST}:{bank.proxy.port}/console/")
+    for what, key in (("a key that is none", "short"), ("a wrong key", "wrong-key")):
+        browser.type("#open [name=key]", key)
+        browser.press("Enter")
+        browser.wait("return document.querySelector('#open .said').innerText !== ''")
+        checks.that(f"{what}: Denied", (bank.said("open"), browser.run("return document.getElementById('desk').hidden")), ("The desk does not know this key. Denied", True))
+    browser.type("#open [name=key]", OPERATOR_KEY)
+    browser.press("Enter")
+    checks.that("the key opens the desk", browser.wait("return !document.getElementById('desk').hidden"))
+    checks.that("and is gone from the field", browser.run("return document.querySelector('#open [name=key]').value"), "")
+
+
+def before_any_day(bank):
+    checks = bank.checks
+    compare_status(bank, "before any day")
+    checks.that("a cut: NoDay", bank.do("cut"), "No desk day is set yet. Set the day first. NoDay")
+    checks.that("a bad list of holidays", bank.do("holidays", file=bank.file("bad.csv", "2025-01-20\n2025-01-20\n")),
+                "This is no list of holidays. The old list stands. A row’s day is not after the one before. Row 2. BadCalendar NotAscending")
+    checks.that("a good one", bank.do("holidays", file=bank.file("good.csv", "2025-01-20\n2025-05-26\n")), "The list has 2 days.")
+    limits = {"entry_limit": "99,999,999.99", "credit_limit": "200000", "debit_limit": "50000.50"}
+    checks.that("a company with a short key", bank.do("register", id="MILL01", name="MILL STREET", key="mill", **limits),
+                "The key has 8 to 64 plain characters, none of them a blank. BadField key")
+    checks.that("one with a limit that is no amount", bank.do("register", id="MILL01", name="MILL STREET", key=MILL_KEY, **{**limits, "entry_limit": "much"}),
+                "The limit for one entry is 0 to 99,999,999.99 dollars. BadField entry_limit")
+    for company, name in NAMES.items():
+        checks.that(f"{company} is registered", bank.do("register", id=company, name=name, key=KEYS[company], **limits), f"{company} is registered.")
+    checks.that("it is registered once", bank.do("register", id="MILL01", name="MILL STREET", key=MILL_KEY, **limits), "A company has this identification already. CompanyExists")
+    exposure = bank.told("/c/MILL01/exposure", MILL_KEY)
+    checks.that("before a day nobody has an exposure", exposure, {"error": "NoDay", "number": 1})
+    checks.that("nor a rate", bank.do("look", id="MILL01", key=MILL_KEY), "No desk day is set yet. Set the day first. NoDay")
+    compare_status(bank, "with two companies")
+
+
+def first_day(bank):
+    checks, browser = bank.checks, bank.browser
+    checks.that("a Saturday", bank.set_day("2025-01-04"), "The new day is a Saturday, a Sunday or a holiday. NotBankingDay")
+    checks.that("the first day", bank.set_day("2025-01-08"), "The day is Wednesday, 8 January 2025.")
+    checks.that("the limits are in cents", [bank.told("/c/MILL01/exposure", MILL_KEY)[it] for it in ("entry_limit", "credit_limit", "debit_limit")], [9999999999, 20000000, 5000050])
+    bank.submit("MILL01", "PAY-1", "credit", "2025-01-10", 150000)
+    bank.submit("MILL01", "PAY-2", "debit", "2025-01-10", 2500)
+    for number in range(1, 15):
+        bank.submit("BAKE01", f"DUES-{number}", "debit", "2025-01-09", 100000 + number)
+    bank.refresh()
+    before = compare_status(bank, "held and due")
+    browser.run("document.querySelector('#cut button').focus()")
+    browser.press("Enter")
+    checks.that("Enter asks the question", bank.is_asked())
+    checks.that("the question names the day", bank.lines("#question-title"), [["Cut on Wednesday, 8 January 2025?"]])
+    checks.that("and what is due", bank.rows("#question-body"), [[f"{BAKERY}|BAKE01", "Thu 9 Jan 2025", "none", f"{dollars(1400105)}|14 submissions"],
+                                                                  ["MILL STREET|MILL01", "Fri 10 Jan 2025", "$1,500.00|1 submission", "none"]])
+    checks.that("and how much that is", bank.rows("#question-body", "tfoot"), [["In all", "", "$1,500.00|1 submission", f"{dollars(1400105)}|14 submissions"]])
+    browser.press("Escape")
+    checks.that("Escape leaves all as it was", (bank.said("cut"), bank.told("/ops/status")), ("", before))
+    browser.press("Enter")
+    checks.that("the focus is where it was", bank.is_asked())
+    browser.press("Enter")
+    checks.that("so does `Not now`, on which the focus stands", (bank.said("cut"), bank.told("/ops/status")), ("", before))
+    browser.press("Enter")
+    checks.that("a third time it asks", bank.is_asked())
+    browser.press("Tab", "Enter")
+    checks.that("the next button cuts", bank.said("cut"), "Sent: 15 entries in file A.")
+    compare_status(bank, "after the cut")
+    compare_money(bank, "after the cut")
+    compare_file(bank, "2025-01-08", "A")
+    checks.that("a file that no cut made", bank.do("fetch", day="01082025", letter="b"), "No cut made this file. NoFile")
+
+
+def next_days(bank):
+    checks = bank.checks
+    checks.that("the next weekday is offered", bank.browser.run("return document.querySelector('#set-day [name=day]').value"), "2025-01-09")
+    checks.that("and taken", bank.do("set-day"), "The day is Thursday, 9 January 2025.")
+    checks.that("an earlier day", bank.set_day("2025-01-08"), "The new day is not after the present one. If an answer was lost before, the day is set already. DayNotLater")
+    checks.that("the second cut", bank.cut(), "Sent: 1 entry in file A.")
+    checks.that("a cut with nothing due", bank.cut(), "Nothing was sent.")
+    bank.set_day("2025-01-14")
+    item = {"debit": True, "savings": False, "account": "123456789", "ident": "E1", "name": "ANN LEE", "dfi": "09100001"}
+    items = [{**item, "cents": 2500, "code": "R01", "trace": "121042880000016"}, {**item, "cents": 2500, "code": "R10", "trace": "121042880000016"},
+             {**item, "cents": 4900, "code": "R02", "trace": "121042880000099"}, {**item, "cents": 100001, "code": "R10", "trace": "121042880000001"}]
+    text = file_of_returns(1, "PPD", items)
+    taken = bank.file("returns.ach", text)
+    checks.that("a file of returns", bank.do("returns", file=taken), "Taken: 2 returns, 0 changes, 2 in suspense.")
+    checks.that("the same again", bank.do("returns", file=taken), "Taken: 2 returns, 0 changes, 2 in suspense.")
+    checks.that("another under its key", bank.do("returns", file=bank.file("other.ach", file_of_returns(1, "PPD", items[:1]))),
+                "Another file with the same origin, date, time and modifier was taken before. Nothing of this one was taken. FileKeyReused")
+    checks.that("a file with a fault", bank.do("returns", file=str(TOP / "examples" / "spoiled.ach")),
+                "This is no file of returns and changes. A control says another total. Record 7. BadFile BadTotal")
+    checks.that("a file that is too large", bank.do("returns", file=bank.file("large", b" " * 4194305)), "The file has more than 4,194,304 bytes. TooLarge")
+    bank.submit("MILL01", "PAY-3", "credit", "2025-01-16", 12520050)
+    bank.submit("MILL01", "PAY-4", "credit", "2025-01-15", 4812000)
+    bank.submit("BAKE01", "DUES-20", "debit", "2025-01-15", 990000)
+    bank.submit("BAKE01", "DUES-21", "debit", "2025-01-21", 310000)
+    bank.refresh()
+    compare_status(bank, "on the day of returns")
+    compare_money(bank, "on the day of returns")
+    checks.that("a company's wrong key", bank.do("look", id="MILL01", key="wrong-key"), "The desk does not know this key. Denied")
+    compare_company(bank, "BAKE01")
+    compare_company(bank, "MILL01")
+
+
+def lapse(bank):
+    checks = bank.checks
+    bank.set_day("2025-07-01")
+    bank.hand_in("MILL01", "retries", ref="RT-1", of="PAY-2", index=1, day="2025-07-09")
+    bank.set_day("2025-07-09")
+    compare_status(bank, "with a retry that would lapse")
+    bank.begin_cut()
+    told = [it for lines in bank.lines("#question-body > p") for it in lines]
+    checks.that("the question says so", told[-1], "1 retry would lapse, since it would settle too late.")
+    bank.browser.click("#question-yes")
+    checks.that("and it lapses", bank.said("cut"), "Sent: 4 entries in file A. 1 retry lapsed.")
+    compare_status(bank, "after it lapsed")
+    compare_money(bank, "after it lapsed")
+
+
+# ---- what holds throughout
+
+def text_and_memory(bank):
+    checks, browser = bank.checks, bank.browser
+    checks.that("the company's name is text", (browser.run("return typeof hit"), browser.run("return document.scripts.length"), BAKERY in browser.text("#companies")), ("undefined", 1, True))
+    kept = browser.run("return [localStorage.length, sessionStorage.length, document.cookie]")
+    checks.that("nothing is kept outside of the page", kept, [0, 0, ""])
+    asked = {line.split('"')[1].split()[1] for line in bank.proxy.log.read_text().splitlines() if "Chrome" in line}
+    checks.that("the page asks for itself and for the desk's paths", sorted(it for it in asked if not it.startswith(("/ops/", "/c/"))), ["/console/"])
+
+
+def narrow(bank):
+    for width in (360, 640, 1000, 1280):
+        bank.browser.size(width, 800)
+        bank.checks.that(f"at {width} pixels nothing stands beyond the edge", bank.browser.run("return document.documentElement.scrollWidth"), width)
+    bank.browser.size(360, 800)
+    bank.begin_cut()
+    box = bank.browser.run("const it = document.querySelector('dialog').getBoundingClientRect(); return it.left >= 0 && it.right <= 360 && document.querySelector('dialog').scrollWidth <= 360")
+    bank.checks.that("nor does the question", box)
+    bank.browser.press("Escape")
+    bank.settled()
+    bank.browser.size(1280, 900)
+
+
+def by_keyboard(bank):
+    """Each field and button has its turn with Tab."""
+    mine = "[...document.querySelectorAll('a[href], button, input, summary, pre[tabindex]')].filter(it => it.checkVisibility({visibilityProperty: true}))"
+    count = bank.browser.run(f"document.activeElement.blur(); window.scrollTo(0, 0); window.seen = new Set(); return {mine}.length")
+    bank.browser.run("document.addEventListener('focusin', it => window.seen.add(it.target))")
+    bank.browser.press(*["Tab"] * (count * 3))
+    left = bank.browser.run(f"return {mine}.filter(it => !window.seen.has(it)).map(it => it.outerHTML.slice(0, 80))")
+    bank.checks.that(f"Tab comes to all {count} fields and buttons", (count > 20, left), (True, []))
+
+
+def without_a_desk(bank, serving, program, path):
+    checks, browser = bank.checks, bank.browser
+    serving.stop()
+    bank.refresh()
+    checks.that("the page says that the desk is gone", browser.text("#trouble").split("\n")[0].startswith("The desk does not answer. Its last answer came at "))
+    checks.that("and beside the day", browser.text("#state"), "No answer")
+    checks.that("a day that is set without an answer", bank.do("set-day"), "No answer came. The desk may have done it all the same: refresh and look before you do it again.")
+    with Serving(program, path, port=serving.port).listen():
+        browser.click("#trouble button")
+        bank.settled()
+        checks.that("once it answers again the page says so", (browser.run("return document.getElementById('trouble').hidden"), browser.text("#state")[:17]), (True, "The desk answers,"))
+        compare_status(bank, "after the desk was started again")
+        browser.click("#lock")
+        text = browser.run("return document.body.innerText + [...document.querySelectorAll('input')].map(it => it.value).join(' ')")
+        checks.that("locked, the page shows nothing of the desk", [it for it in (BAKERY, "MILL", "$", "2025", OPERATOR_KEY, MILL_KEY) if it in text], [])
+
+
+def photograph(bank, path):
+    """A picture of the whole page, opened anew, with a company's rates and statement."""
+    browser = bank.browser
+    browser.go(f"http://{HOST}:{bank.proxy.port}/console/")
+    browser.type("#open [name=key]", OPERATOR_KEY)
+    browser.press("Enter")
+    browser.wait("return !document.getElementById('desk').hidden")
+    bank.do("look", id="MILL01", key=MILL_KEY)
+    browser.run("document.querySelectorAll('details').forEach(it => { it.open = false; }); document.activeElement.blur(); window.scrollTo(0, 0)")
+    browser.size(1280, browser.run("return document.documentElement.scrollHeight"))
+    browser.picture(path)
+    browser.size(1280, 900)
+
+
+def sentences(checks):
+    """Each refusal, fault of a message and fault of a file has a sentence on the page, and nothing is put in as HTML."""
+    bodies = (TOP / "docs" / "BODIES.md").read_text()
+    names = set(re.findall(r"^\| (?:\d+ \| )?`([A-Z]\w+)` \|", bodies, re.M)) | set(re.findall(r"^\| \d+ \| `([A-Z]\w+)` \|", bodies, re.M)) | {"BadRow", "NotAscending", "TooMany"}
+    told = set(re.findall(r"^  ([A-Z]\w+): \"", PAGE, re.M))
+    checks.that(f"each of {len(names)} names of BODIES has a sentence", (len(names) > 40, sorted(names - told)), (True, []))
+    checks.that("the page puts nothing in as HTML and runs no text", re.findall(r"innerHTML|outerHTML|insertAdjacentHTML|document\.write|eval\(|new Function|srcdoc", PAGE), [])
+
+
+def main():
+    if missing():
+        print(f"not tried, since these packages are missing: {', '.join(missing())}")
+        sys.exit(2)
+    program, checks = program_of(sys.argv[1:]), Checks()
+    sentences(checks)
+    with tempfile.TemporaryDirectory() as name:
+        folder = Path(name)
+        path = folder / "bank.db"
+        make_desk(program, path)
+        with Serving(program, path).listen() as serving:
+            with Proxy(folder, serving.port) as proxy, Browser(folder) as browser:
+                bank = Bank(checks, browser, proxy, folder)
+                browser.size(1280, 900)
+                for step in (opening, before_any_day, first_day, next_days):
+                    step(bank)
+                if sys.argv[2:]:
+                    photograph(bank, Path(sys.argv[2]))
+                for step in (lapse, text_and_memory, narrow, by_keyboard):
+                    step(bank)
+                without_a_desk(bank, serving, program, path)
+    checks.end()
+
+
+main()
