@@ -6,7 +6,6 @@ use desk_history::{FilePlace, Identity, RetriedEntry, SuspenseRow};
 use desk_rules::{Direction, Entry, ReturnCode, RuleDay, SecCode};
 
 /// A `DeskRecord` is the one row of `desk`: whose desk it is.
-#[derive(Clone, Copy, Debug, PartialEq, Eq, Drop)]
 pub struct DeskRecord {
     pub identity: Identity,
     /// The SHA-256 digest of the operator's key.
@@ -16,7 +15,6 @@ pub struct DeskRecord {
 }
 
 /// A `SubmissionRecord` is a row of `submissions`: an accepted submission or retry.
-#[derive(Clone, Copy, Debug, PartialEq, Eq, Drop)]
 pub struct SubmissionRecord {
     pub company: Id,
     /// Its number among the company's accepted submissions and retries, from 1.
@@ -38,7 +36,6 @@ pub struct SubmissionRecord {
 }
 
 /// An `EntryRecord` is a row of `entries`: an entry of a submission or retry.
-#[derive(Clone, Copy, Debug, PartialEq, Eq, Drop)]
 pub struct EntryRecord {
     pub company: Id,
     /// The number of its submission in the company.
@@ -51,7 +48,7 @@ pub struct EntryRecord {
 }
 
 /// A `ReturnRecord` is a row of `returns`: a return of an entry.
-#[derive(Clone, Copy, Debug, PartialEq, Eq, Drop)]
+#[derive(Clone, Copy, Drop)]
 pub struct ReturnRecord {
     /// Its number among all returns, from 1, in the order in which they came.
     pub number: u64,
@@ -70,7 +67,7 @@ pub struct ReturnRecord {
 }
 
 /// A `ChangeRecord` is a row of `changes`: a notification of change of an entry.
-#[derive(Clone, Copy, Debug, PartialEq, Eq, Drop)]
+#[derive(Clone, Copy, Drop)]
 pub struct ChangeRecord {
     /// Its number among all changes, from 1, in the order in which they came.
     pub number: u64,
@@ -88,7 +85,6 @@ pub struct ChangeRecord {
 }
 
 /// A `PostingRecord` is a row of `postings`: a line of an account.
-#[derive(Clone, Copy, Debug, PartialEq, Eq, Drop)]
 pub struct PostingRecord {
     /// Its number among all lines, from 1, in the order in which they came.
     pub number: u64,
@@ -96,7 +92,6 @@ pub struct PostingRecord {
 }
 
 /// A `SuspenseRecord` is a row of `suspense`: an item that names no sent entry.
-#[derive(Clone, Copy, Debug, PartialEq, Eq, Drop)]
 pub struct SuspenseRecord {
     /// Its number among all of them, from 1, in the order in which they came.
     pub number: u64,
@@ -104,7 +99,6 @@ pub struct SuspenseRecord {
 }
 
 /// A `BalanceRecord` is a row of `balances`: the sum of an account's lines of a value day.
-#[derive(Clone, Copy, Debug, PartialEq, Eq, Drop)]
 pub struct BalanceRecord {
     pub account: Account,
     pub value_day: Day,
@@ -121,7 +115,6 @@ pub struct NumberRecord {
 }
 
 /// An `AuthorizationRecord` is a row of `authorizations`: a retry of a stopped payment.
-#[derive(Clone, Copy, Debug, PartialEq, Eq, Drop)]
 pub struct AuthorizationRecord {
     pub company: Id,
     /// The retry's number in the company.
