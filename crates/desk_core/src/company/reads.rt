@@ -86,7 +86,7 @@ pub(crate) fn statement_of<S: Store>(
     };
     let sums = store.balances_of(alloc, Account::Company(company))?;
     let postings = store.postings_of(alloc, Account::Company(company))?;
-    let statement = statement(alloc, day, &sums, &postings)?;
+    let statement = statement(alloc, day, &sums, postings)?;
     Ok(Answer::Done(Outcome::Statement(statement)))
 }
 

@@ -7,6 +7,7 @@ use bank_days::Day;
 use desk_accounts::{Posting, balance_of_days};
 use desk_history::{ListOf, Statement, StatementLine};
 use desk_store::StoreFault;
+use emptying_lists::EmptyingList;
 use std::alloc::Global;
 
 // A line of a company's account. Each is of a submission.
@@ -22,25 +23,28 @@ fn line(posting: &Posting) -> Option<StatementLine>
     })
 }
 
-fn lines(alloc: Global, postings: &[Posting]) -> Result<Vec<StatementLine>, StoreFault>
-    ensures { IfOk result (λ v. v.items ≡ map line_of postings.now) }
+// The lines come into the place of the postings.
+fn lines(alloc: Global, postings: Vec<Posting>) -> Result<Vec<StatementLine>, StoreFault>
+    ensures { IfOk result (λ v. v.items ≡ map line_of postings.items) }
 {
+    let mut left = EmptyingList::new(postings);
     let mut lines = Vec::new(alloc);
-    for posting in postings {
-        let line = line(posting).ok_or(StoreFault::Unavailable)?;
+    while let Some(posting) = left.take_first() {
+        let line = line(&posting).ok_or(StoreFault::Unavailable)?;
         lines.push(line)?;
     }
     Ok(lines)
 }
 
-/// Gives a company's statement on a day, from the sums of its lines by value day and the lines.
+/// Gives a company's statement on a day, from the sums of its lines by value day and the lines, which are
+/// let go.
 pub(crate) fn statement(
     alloc: Global,
     day: Day,
     sums: &[(Day, i128)],
-    postings: &[Posting],
+    postings: Vec<Posting>,
 ) -> Result<Statement, StoreFault>
-    ensures { IfOk result (λ s. s ≡ record { balance = days_balance day sums.now; day = day; lines = map line_of postings.now }) }
+    ensures { IfOk result (λ s. s ≡ record { balance = days_balance day sums.now; day = day; lines = map line_of postings.items }) }
 {
     let Some(balance) = balance_of_days(sums, day) else {
         return Err(StoreFault::Unavailable);
