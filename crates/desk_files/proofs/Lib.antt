@@ -9,4 +9,3 @@ mod Openings
 mod OwnNumbers
 mod SecondTables
 mod SentPlaces
-mod VersionFound

@@ -1,14 +1,14 @@
 -- A connection that is clean was opened on clean files, so what they held is known.
-use Rattle.std.proofs.Common.{◌≡◌, ◌≢◌, ◌∙◌, ℕ, zero, suc, List, [], ◌∷◌, Result, Ok, Err, IfOk, inl, refl, sym, ap, subst, arith}
+use Rattle.std.proofs.Common.{◌≡◌, ◌∙◌, ℕ, List, [], ◌∷◌, Result, Ok, Err, IfOk, IfErr, inl, inr, sym, ap, subst}
 use Rattle.sqlite_disk.specs.declared.Disk.{Ghosts}
 use Rattle.sqlite_wal.specs.Recovery.{Image}
 use Rattle.sqlite_trees.specs.Tree.{Trees}
 use Rattle.sqlite_store.specs.declared.store.FileStore.{FileStore}
-use Rattle.sqlite.specs.Files.{file_state, IsOpened, HoldsDatabase}
+use Rattle.sqlite.specs.Files.{file_state, over_files, IsOpened, HoldsDatabase}
 use Rattle.sqlite.specs.Held.{Held}
 use Rattle.sqlite.specs.Start.{FindsIn}
 use Rattle.sqlite.specs.Effect.{Database}
-use Rattle.sqlite.specs.State.{HasCleanDisk}
+use Rattle.sqlite.specs.State.{State, HasCleanDisk}
 use Rattle.sql_statements.specs.StoredRows.{Stores}
 use Rattle.desk_book.specs.Book.{Book}
 use Rattle.desk_history.specs.declared.identity.Identity.{Identity}
@@ -16,17 +16,13 @@ use Rattle.desk_records.specs.TableDefinitions.{desk_table}
 use Rattle.desk_records.specs.Layout.{Keeps}
 use Rattle.desk_records.specs.declared.records.DeskRecord.{DeskRecord}
 use Rattle.desk_setup.specs.Checked.{IsDesk}
+use Rattle.desk_setup.specs.Refusals.{IsDropped, IsUnmade}
 use Rattle.desk_setup.specs.Setup.{HasNewDesk}
 use Rattle.desk_files.specs.FirstVersion.{first_version, first_schema, versioned_row, KeepsFirst}
 use Rattle.desk_files.specs.Migration.{HasMigrated}
-use Rattle.desk_files.specs.Versions.{IsOfVersion}
-use Rattle.desk_files.specs.Opened.{IsFoundIn, IsMadeIn, IsMigratedIn, IsOpenedOn}
-
--- a number that is no other than 1
-no_other : (n : ℕ) → (n ≢ first_version → ⊥) → n ≡ first_version
-no_other zero only = absurd (only (λ e. omega (arith, e)))
-no_other (suc zero) only = refl
-no_other (suc (suc n)) only = absurd (only (λ e. omega (arith, e)))
+use Rattle.desk_setup.specs.Versions.{IsOfVersion}
+use Rattle.desk_setup.specs.declared.fault.OpenFault.{OpenFault}
+use Rattle.desk_files.specs.Opened.{IsFoundIn, IsMadeIn, IsMigratedIn, IsOpenedOn, RefusesIn, UnmadeIn}
 
 module _ {D : Type 0} {g : Ghosts D} (held : Image) (was : Held (FileStore D g))
     (opened : HasCleanDisk (file_state was) → IsOpened was) (found : HasCleanDisk (file_state was) → FindsIn held (file_state was)) where
@@ -43,15 +39,15 @@ module _ {D : Type 0} {g : Ghosts D} (held : Image) (was : Held (FileStore D g))
   }
 
   migrated_in_so : (now : Held (FileStore D g)) → HasCleanDisk (file_state was) → HasMigrated (file_state was) (file_state now)
-      → ((n : ℕ) → IsOfVersion (file_state was).now n → n ≢ first_version → ⊥) → IsMigratedIn held now
-  migrated_in_so now before desk other =
+      → ((n : ℕ) → IsOfVersion (file_state was).now n → n ≡ first_version) → IsMigratedIn held now
+  migrated_in_so now before desk first_one =
       let early = opened_on before in
       let first = λ (db : Trees) (b : Book) (is_held : HoldsDatabase held db) (keeps : KeepsFirst db b). subst (λ (trees : Trees). KeepsFirst trees b) (sym (early.found.holds db is_held)) keeps in
       record {
         was = was;
         opened = early;
         desk = desk;
-        version = λ db n row is_held stored. no_other n (other n (seen_version early db n row is_held desk.was_first stored));
+        version = λ db n row is_held stored. first_one n (seen_version early db n row is_held desk.was_first stored);
         sees = λ db b is_held keeps. desk.sees b (first db b is_held keeps);
         keeps = λ db b is_held keeps. desk.keeps b (first db b is_held keeps);
       }
@@ -81,6 +77,16 @@ module _ {D : Type 0} {g : Ghosts D} (held : Image) (was : Held (FileStore D g))
 
     pub migrated_in : (r : Result (Held (FileStore D g)) E)
         → Gives r (λ now. HasCleanDisk (file_state was)) → Gives r (λ now. HasMigrated (file_state was) (file_state now))
-        → Gives r (λ now. (n : ℕ) → IsOfVersion (file_state was).now n → n ≢ first_version → ⊥) → Gives r (IsMigratedIn held)
+        → Gives r (λ now. (n : ℕ) → IsOfVersion (file_state was).now n → n ≡ first_version) → Gives r (IsMigratedIn held)
     migrated_in (Ok now) before desk first = λ clean. migrated_in_so now (before clean) (desk clean) (first clean)
     migrated_in (Err fault) before desk first = tt
+
+  -- where no connection was given
+  pub refused_in : (wanted : ℕ) (Leaves : State → Trees → Type 0) (r : Result (Held (FileStore D g)) OpenFault)
+      → IfErr r (IsDropped over_files wanted (Leaves (file_state was)) was) → RefusesIn held wanted Leaves r
+  refused_in wanted Leaves (Ok now) dropped = tt
+  refused_in wanted Leaves (Err fault) dropped = inr (record { was = was; opened = opened_on; dropped = dropped })
+
+  pub unmade_in : (Leaves : Trees → Type 0) (r : Result (Held (FileStore D g)) OpenFault) → IfErr r (IsUnmade over_files Leaves was) → UnmadeIn held Leaves r
+  unmade_in Leaves (Ok now) unmade = tt
+  unmade_in Leaves (Err fault) unmade = inr (record { was = was; opened = opened_on; unmade = unmade })

@@ -1,36 +1,24 @@
 -- The tables of version 1, which has no table of numbers and none of authorizations, and which book they hold.
-use Rattle.std.specs.Prelude.{◌≡◌, ◌++◌, ℕ, List, [], ◌∷◌, drop, All}
+use Rattle.std.specs.Prelude.{◌≡◌, ℕ, List, [], ◌∷◌, All}
 use Rattle.std.specs.List.{enumerate_from}
 use Rattle.std.specs.Ordering.{nat_cmp, on}
-use Rattle.sqlite_schema.specs.declared.schema.Schema.{Schema}
 use Rattle.sqlite_trees.specs.Tree.{Trees}
-use Rattle.sqlite_value.specs.Order.{Row}
 use Rattle.sql_statements.specs.StoredRows.{Stores}
 use Rattle.sql_statements.specs.Books.{keeps}
 use Rattle.sql_statements.specs.Layouts.{Layout}
 use Rattle.desk_book.specs.Book.{Book}
 use Rattle.desk_store.specs.Rows.{Rows, flat_book}
-use Rattle.desk_records.specs.Schema.{schema_of, registry_definitions, submission_definitions, posting_definitions, file_definitions, submission_index_definitions, line_index_definitions}
 use Rattle.desk_records.specs.TableDefinitions.{desk_table, holidays_table, companies_table, submissions_table, entries_table, returns_table, changes_table, postings_table, suspense_table, files_table, taken_table, balances_table}
 use Rattle.desk_records.specs.Beside.{Beside}
-use Rattle.desk_records.specs.Columns.{number}
 use Rattle.desk_records.specs.Encodes.{Encodes}
 use Rattle.desk_records.specs.KeyOrders.{company_cmp, submission_cmp, entry_cmp, file_cmp, taken_cmp, balance_cmp}
-use Rattle.desk_records.specs.RecordRows.{desk_row, holiday_row, company_row, submission_row, entry_row, return_row, change_row, posting_row, suspense_row, file_row, taken_row, balance_row}
+use Rattle.desk_records.specs.RecordRows.{holiday_row, company_row, submission_row, entry_row, return_row, change_row, posting_row, suspense_row, file_row, taken_row, balance_row}
 use Rattle.desk_records.specs.Tables.{Tables, IsTableOf}
-use Rattle.desk_records.specs.declared.records.DeskRecord.{DeskRecord}
 use Rattle.desk_records.specs.declared.records.NumberRecord.{NumberRecord}
+pub use Rattle.desk_setup.specs.Versions.{first_schema, versioned_row}
 
 abbrev pub first_version : ℕ
 first_version = 1
-
--- twelve tables and five indexes, as in version 2
-abbrev pub first_schema : Schema
-first_schema = schema_of (registry_definitions ++ submission_definitions ++ posting_definitions ++ file_definitions ++ submission_index_definitions ++ line_index_definitions)
-
--- the row of a desk whose tables have this version
-abbrev pub versioned_row : (version : ℕ) → DeskRecord → Row
-versioned_row version d = number 1 ∷ number version ∷ drop 2 (desk_row d)
 
 -- The trees store these records, but for the tables that version 1 has not.
 pub record IsFirstStored (trees : Trees) (t : Tables) : Type 0 where

@@ -4,4 +4,3 @@ pub mod Migration
 pub mod MigrationTexts
 pub mod Opened
 pub mod StruckHistory
-pub mod Versions

@@ -1,12 +1,13 @@
 -- What a connection is that was opened on files.
-use Rattle.std.specs.Prelude.{◌≡◌, ℕ, List, [], ◌∷◌}
+use Rattle.std.specs.Prelude.{◌≡◌, ◌⊎◌, ⊤, ℕ, List, [], ◌∷◌, Result, Ok, Err}
 use Rattle.sqlite_disk.specs.declared.Disk.{Ghosts}
 use Rattle.sqlite_wal.specs.Recovery.{Image}
 use Rattle.sqlite_trees.specs.Tree.{Trees}
 use Rattle.sqlite_store.specs.declared.store.FileStore.{FileStore}
-use Rattle.sqlite.specs.Files.{file_state, IsOpened, HoldsDatabase}
+use Rattle.sqlite.specs.Files.{file_state, over_files, IsOpened, HoldsDatabase}
 use Rattle.sqlite.specs.Held.{Held}
 use Rattle.sqlite.specs.Start.{FindsIn}
+use Rattle.sqlite.specs.State.{State, HasCleanDisk}
 use Rattle.sql_statements.specs.StoredRows.{Stores}
 use Rattle.desk_book.specs.Book.{Book}
 use Rattle.desk_history.specs.declared.identity.Identity.{Identity}
@@ -14,7 +15,10 @@ use Rattle.desk_records.specs.TableDefinitions.{desk_table}
 use Rattle.desk_records.specs.Layout.{Keeps, Sees}
 use Rattle.desk_records.specs.declared.records.DeskRecord.{DeskRecord}
 use Rattle.desk_setup.specs.Checked.{IsDesk}
+use Rattle.desk_setup.specs.Refusals.{IsDropped, IsUnmade}
 use Rattle.desk_setup.specs.Setup.{HasNewDesk}
+use Rattle.desk_setup.specs.declared.fault.OpenFault.{OpenFault}
+use Rattle.desk_setup.specs.declared.fault.OpenFault.TheVariants.{Unavailable}
 use Rattle.desk_files.specs.FirstVersion.{first_version, versioned_row, KeepsFirst}
 use Rattle.desk_files.specs.Migration.{HasMigrated}
 
@@ -46,3 +50,34 @@ module _ {D : Type 0} {g : Ghosts D} where
     pub version : (db : Trees) (n : ℕ) (row : DeskRecord) → HoldsDatabase held db → Stores (versioned_row n) (db desk_table.tree) (row ∷ []) → n ≡ first_version
     pub sees : (db : Trees) (b : Book) → HoldsDatabase held db → KeepsFirst db b → Sees (file_state now) b
     pub keeps : (db : Trees) (b : Book) → HoldsDatabase held db → KeepsFirst db b → (trees : Trees) → (file_state now).may_leave trees → Keeps trees b
+
+-- It was opened on these files, and refused where a desk of this version was asked for, and then dropped. Nothing had
+-- changed, and what a crash leaves it left before, or is one of these.
+pub record IsRefusedIn {D : Type 0} (g : Ghosts D) (held : Image) (wanted : ℕ) (Leaves : State → Trees → Type 0) (fault : OpenFault) : Type 0 where
+  pub was : Held (FileStore D g)
+  pub opened : HasCleanDisk (file_state was) → IsOpenedOn held was
+  pub dropped : IsDropped over_files wanted (Leaves (file_state was)) was fault
+
+-- the files could not be opened or read, or they were, and then the connection was refused
+abbrev pub RefusesIn : {D : Type 0} {g : Ghosts D} → (held : Image) → (wanted : ℕ) → (Leaves : State → Trees → Type 0) → Result (Held (FileStore D g)) OpenFault → Type 0
+RefusesIn held wanted Leaves (Ok now) = ⊤
+RefusesIn {g = g} held wanted Leaves (Err fault) = (fault ≡ Unavailable) ⊎ IsRefusedIn g held wanted Leaves fault
+
+-- It was opened on these files, no desk was made, and it was dropped.
+pub record IsUnmadeIn {D : Type 0} (g : Ghosts D) (held : Image) (Leaves : Trees → Type 0) (fault : OpenFault) : Type 0 where
+  pub was : Held (FileStore D g)
+  pub opened : HasCleanDisk (file_state was) → IsOpenedOn held was
+  pub unmade : IsUnmade over_files Leaves was fault
+
+-- the files could not be opened or made, or they were, and then no desk was made
+abbrev pub UnmadeIn : {D : Type 0} {g : Ghosts D} → (held : Image) → (Leaves : Trees → Type 0) → Result (Held (FileStore D g)) OpenFault → Type 0
+UnmadeIn held Leaves (Ok now) = ⊤
+UnmadeIn {g = g} held Leaves (Err fault) = (fault ≡ Unavailable) ⊎ IsUnmadeIn g held Leaves fault
+
+-- a crash leaves nothing new
+abbrev pub leaves_nothing : State → Trees → Type 0
+leaves_nothing old trees = ⊥
+
+-- each book of version 1's tables is kept
+abbrev pub leaves_migrated : State → Trees → Type 0
+leaves_migrated old trees = (b : Book) → KeepsFirst old.committed.trees b → Keeps trees b

@@ -1,11 +1,13 @@
 //! The desk in the file at a path is opened.
-ghost use Rattle.std.specs.Prelude.{◌≢◌, IfOk, IfErr};
+ghost use Rattle.std.specs.Prelude.{◌≡◌, ◌≢◌, Err, IfOk, IfErr};
 ghost use Rattle.sqlite.specs.Files.{file_state};
 ghost use Rattle.sqlite.specs.Held.{state};
 ghost use Rattle.sqlite.specs.State.{HasCleanDisk};
 ghost use Rattle.sqlite_wal.specs.Files.{image_at};
+ghost use Rattle.desk_records.specs.RecordRows.{version};
 ghost use Rattle.desk_setup.specs.Checked.{IsDesk};
-ghost use Rattle.desk_files.specs.Opened.{IsFoundIn};
+ghost use Rattle.desk_setup.specs.Refusals.{IsDropped};
+ghost use Rattle.desk_files.specs.Opened.{IsFoundIn, RefusesIn, leaves_nothing};
 
 use crate::connect::connect;
 use crate::presence::check_presence;
@@ -16,15 +18,20 @@ use std::alloc::Global;
 /// Opens the desk in the database file at a path. The connection then sees each book that the file and
 /// its log keep, whatever moment a crash left them at.
 ///
-/// Where there is no file, an empty one, or a database with no desk, it is `OpenFault::NotADesk`, and
-/// no file is made; a desk of another version is `OpenFault::WrongVersion`. A file that cannot be opened
-/// as a database is `OpenFault::Unavailable`. `S` stands for what the files hold, as in `create`.
+/// Where there is no file, an empty one, or a database with no table `desk` or no row in it, it is
+/// `OpenFault::NotADesk`, and no file is made. Where that row says another version it is
+/// `OpenFault::WrongVersion`, whatever else the file has. Every other file is `OpenFault::Unavailable`.
+/// A refused call changes nothing in the files. `S` stands for what they hold, as in `create`.
+///
+/// By the clause `refused` each fault but `NotADesk` is the one that `check_desk` tells of what the
+/// files hold. `NotADesk` may be the file system's answer too, of which nothing can be stated.
 pub fn open<S: Start>(
     rt: &HostRuntime,
     path: &str,
     start: S,
 ) -> Result<Connection<FileStore<FileFrom<S>>>, OpenFault>
     ensures found { IfOk result (λ c. HasCleanDisk (file_state c) → IsFoundIn (image_at S.Start) c) }
+    ensures refused { result ≢ Err OpenFault.NotADesk → RefusesIn (image_at S.Start) version leaves_nothing result }
     ensures otherwise { IfErr result (λ fault. fault ≢ OpenFault.Exists) }
 {
     check_presence(rt, path)?;
@@ -40,6 +47,7 @@ fn with_desk<P: Alter + Drop>(
 ) -> Result<Connection<P>, OpenFault>
     ensures before { IfOk result (λ c. HasCleanDisk (state P.Store c) → HasCleanDisk (state P.Store conn)) }
     ensures desk { IfOk result (λ c. HasCleanDisk (state P.Store c) → IsDesk (state P.Store conn) (state P.Store c)) }
+    ensures refused { IfErr result (IsDropped P.Store version (λ _. ⊥) conn) }
     ensures otherwise { IfErr result (λ fault. fault ≢ OpenFault.Exists) }
 {
     let mut conn = conn;

@@ -1,13 +1,14 @@
 //! The desk of version 1 in the file at a path becomes one of version 2.
-ghost use Rattle.std.specs.Prelude.{◌≢◌, ℕ, IfOk, IfErr};
+ghost use Rattle.std.specs.Prelude.{◌≡◌, ◌≢◌, ℕ, Err, IfOk, IfErr};
 ghost use Rattle.sqlite.specs.Files.{file_state};
 ghost use Rattle.sqlite.specs.Held.{state};
 ghost use Rattle.sqlite.specs.State.{HasCleanDisk};
 ghost use Rattle.sqlite_wal.specs.Files.{image_at};
+ghost use Rattle.desk_setup.specs.Refusals.{IsDropped};
+ghost use Rattle.desk_setup.specs.Versions.{IsOfVersion};
 ghost use Rattle.desk_files.specs.FirstVersion.{first_version};
 ghost use Rattle.desk_files.specs.Migration.{HasMigrated};
-ghost use Rattle.desk_files.specs.Opened.{IsMigratedIn};
-ghost use Rattle.desk_files.specs.Versions.{IsOfVersion};
+ghost use Rattle.desk_files.specs.Opened.{IsMigratedIn, RefusesIn, leaves_migrated};
 
 use crate::connect::connect;
 use crate::migration::migrate;
@@ -20,16 +21,18 @@ use std::alloc::Global;
 /// gives the connection. Each book that the file and its log kept is kept, whatever moment a crash left
 /// them at, and whatever moment the next one comes at.
 ///
-/// A desk of another version, also one that was migrated before, is `OpenFault::WrongVersion`. Where
-/// there is no file, an empty one, or a database with no desk, it is `OpenFault::NotADesk`, and no file
-/// is made. A file that cannot be opened as a database is `OpenFault::Unavailable`. `S` stands for what
-/// the files hold, as in `create`.
+/// Where there is no file, an empty one, or a database with no table `desk` or no row in it, it is
+/// `OpenFault::NotADesk`, and no file is made. Where that row says another version, also after an
+/// earlier migration, it is `OpenFault::WrongVersion`, whatever else the file has. Every other file is
+/// `OpenFault::Unavailable`. A refused call changes nothing in the files. `S` stands for what they hold,
+/// as in `create`, and the clause `refused` reads as that of `open`.
 pub fn migrate_file<S: Start>(
     rt: &HostRuntime,
     path: &str,
     start: S,
 ) -> Result<Connection<FileStore<FileFrom<S>>>, OpenFault>
     ensures migrated { IfOk result (λ c. HasCleanDisk (file_state c) → IsMigratedIn (image_at S.Start) c) }
+    ensures refused { result ≢ Err OpenFault.NotADesk → RefusesIn (image_at S.Start) first_version leaves_migrated result }
     ensures otherwise { IfErr result (λ fault. fault ≢ OpenFault.Exists) }
 {
     check_presence(rt, path)?;
@@ -44,7 +47,8 @@ fn with_second_version<P: Alter + Drop>(
 ) -> Result<Connection<P>, OpenFault>
     ensures before { IfOk result (λ c. HasCleanDisk (state P.Store c) → HasCleanDisk (state P.Store conn)) }
     ensures migrated { IfOk result (λ c. HasCleanDisk (state P.Store c) → HasMigrated (state P.Store conn) (state P.Store c)) }
-    ensures first { IfOk result (λ c. HasCleanDisk (state P.Store c) → (n : ℕ) → IsOfVersion (state P.Store conn).now n → n ≢ first_version → ⊥) }
+    ensures first { IfOk result (λ c. HasCleanDisk (state P.Store c) → (n : ℕ) → IsOfVersion (state P.Store conn).now n → n ≡ first_version) }
+    ensures refused { IfErr result (IsDropped P.Store first_version (leaves_migrated (state P.Store conn)) conn) }
     ensures otherwise { IfErr result (λ fault. fault ≢ OpenFault.Exists) }
 {
     let mut conn = conn;

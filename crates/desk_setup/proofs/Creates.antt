@@ -4,7 +4,7 @@ use Rattle.sqlite_tied.specs.Compute.{everything}
 use Rattle.sqlite.specs.Listing.{understood}
 use Rattle.sql_statements.specs.Definitions.{IsCreate, IsCreateIndex}
 use Rattle.desk_records.specs.IndexDefinitions.{entries_seq_text, entries_seq_index, submissions_open_text, submissions_open_index, submissions_retries_text, submissions_retries_index, returns_company_text, returns_company_index, changes_company_text, changes_company_index, postings_account_text, postings_account_index}
-use Rattle.desk_records.specs.Schema.{Definition, NewTable, NewIndex, schema_of, registry_definitions, submission_definitions, posting_definitions, file_definitions, submission_index_definitions, line_index_definitions, number_definitions}
+use Rattle.desk_records.specs.Schema.{NewTable, NewIndex, schema_of, registry_definitions, submission_definitions, posting_definitions, file_definitions, submission_index_definitions, line_index_definitions}
 use Rattle.desk_records.specs.TableDefinitions.{desk_text, desk_table, holidays_text, holidays_table, companies_text, companies_table, submissions_text, submissions_table, entries_text, entries_table, returns_text, returns_table, changes_text, changes_table, postings_text, postings_table, suspense_text, suspense_table, files_text, files_table, taken_text, taken_table, balances_text, balances_table, numbers_text, numbers_table, authorizations_text, authorizations_table}
 
 pub creates_desk : IsCreate (schema_of ([])) desk_text (record desk_table { tree = 0 })

@@ -6,4 +6,6 @@ pub mod FreeNames
 pub mod Memory
 pub mod NewDesks
 pub mod Plain
+pub mod Refused
+pub mod VersionFound
 pub mod VersionShown

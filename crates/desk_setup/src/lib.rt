@@ -8,6 +8,7 @@ mod create;
 mod fault;
 mod new_desk;
 mod pattern;
+mod row;
 mod same;
 mod version;
 
@@ -15,4 +16,5 @@ pub use check::check_desk;
 pub use fault::OpenFault;
 pub use new_desk::make_desk;
 pub use pattern::empty_tables;
-pub use same::{are_same_indexes, are_same_tables, is_same_first_table};
+pub use row::unread_fault;
+pub use same::{are_same_indexes, are_same_tables};

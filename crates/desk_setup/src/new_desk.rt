@@ -114,6 +114,7 @@ pub fn make_desk<S: Alter>(
     ensures exists { (result ≡ Err OpenFault.Exists) ↔ HasDesk (state S.Store conn.old).now.schema }
     ensures untouched { result ≡ Err OpenFault.Exists → conn.new ≡ conn.old }
     ensures otherwise { IfErr result (λ fault. (fault ≡ OpenFault.Exists) ⊎ (fault ≡ OpenFault.Unavailable)) }
+    ensures blank { OnOk result ((state S.Store conn.old).now.schema ≡ schema_of []) }
     ensures made { HasCleanDisk (state S.Store conn.new) → OnOk result (HasNewDesk identity operator_key (state S.Store conn.old) (state S.Store conn.new)) }
     ensures unmade { HasCleanDisk (state S.Store conn.new) → OnErr result (Stays (state S.Store conn.old) (state S.Store conn.new)) }
     ensures survives { Survives (state S.Store conn.old) (state S.Store conn.new) (λ trees. Keeps trees (book_of identity operator_key [])) }

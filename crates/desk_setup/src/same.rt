@@ -1,5 +1,5 @@
 //! Two schemas of plain tables are told to be the same.
-ghost use Rattle.std.specs.Prelude.{◌≡◌, ◌≢◌, ◌↔◌, slice_get, [], ⊤, IsTrue, None};
+ghost use Rattle.std.specs.Prelude.{◌≡◌, ◌↔◌, [], ⊤, IsTrue, None};
 ghost use Rattle.std.specs.List.{AllByRecursion};
 ghost use Rattle.desk_setup.specs.Plain.{IsPlainColumn, IsPlainTable, IsPlainSchema, no_stamps};
 
@@ -176,15 +176,4 @@ pub(crate) fn is_same_schema(this: &Schema, other: &Schema) -> bool
         && are_same_indexes(this.indexes.as_slice(), other.indexes.as_slice())
         && this.views.is_empty()
         && other.views.is_empty()
-}
-
-/// Is the first table the same in both schemas, and a plain one?
-pub fn is_same_first_table(this: &Schema, other: &Schema) -> bool
-    ensures told { IsTrue result → slice_get this.now.tables 0 ≡ slice_get other.now.tables 0 }
-    ensures found { IsPlainSchema this.now → this.now.tables ≢ [] → slice_get this.now.tables 0 ≡ slice_get other.now.tables 0 → IsTrue result }
-{
-    match (this.tables.as_slice(), other.tables.as_slice()) {
-        ([this, ..], [other, ..]) => this.is_same(other),
-        _ => false,
-    }
 }

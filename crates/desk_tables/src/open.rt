@@ -1,12 +1,14 @@
 //! A store over tables begins with a new desk, or with one that is there.
-ghost use Rattle.std.specs.Prelude.{◌≡◌, ◌≢◌, ◌⊎◌, [], Err, IfOk, IfErr};
+ghost use Rattle.std.specs.Prelude.{◌≡◌, ◌≢◌, ◌⊎◌, [], IfOk, IfErr};
 ghost use Rattle.sqlite.specs.Held.{state};
 ghost use Rattle.sqlite.specs.State.{HasCleanDisk};
 ghost use Rattle.sqlite.specs.Steps.{over_memory};
 ghost use Rattle.desk_book.specs.Book.{book_of};
-ghost use Rattle.desk_records.specs.Layout.{Sees};
+ghost use Rattle.desk_records.specs.Layout.{Keeps, Sees};
+ghost use Rattle.desk_records.specs.RecordRows.{version};
 ghost use Rattle.desk_setup.specs.Checked.{IsDesk};
-ghost use Rattle.desk_setup.specs.Setup.{HasDesk, HasNewDesk};
+ghost use Rattle.desk_setup.specs.Refusals.{IsDropped, IsUnmade};
+ghost use Rattle.desk_setup.specs.Setup.{HasNewDesk};
 
 use crate::store::SqlStore;
 use desk_history::Identity;
@@ -29,7 +31,8 @@ impl<S: Alter + Drop> SqlStore<S> {
     /// and the row of the desk, in one transaction.
     ///
     /// Where a table `desk` is there already, it is `OpenFault::Exists`. A database that has something
-    /// else in it, and a connection that is inside a transaction, are `OpenFault::Unavailable`.
+    /// else in it, and a connection that is inside a transaction, are `OpenFault::Unavailable`. A
+    /// refused call changes nothing, and drops the connection.
     pub fn create_on(
         conn: Connection<S>,
         identity: Identity,
@@ -37,7 +40,7 @@ impl<S: Alter + Drop> SqlStore<S> {
     ) -> Result<SqlStore<S>, OpenFault>
         ensures created { IfOk result (λ s. HasCleanDisk (state S.Store s.conn) → HasNewDesk identity operator_key (state S.Store conn) (state S.Store s.conn)) }
         ensures before { IfOk result (λ s. HasCleanDisk (state S.Store s.conn) → HasCleanDisk (state S.Store conn)) }
-        ensures exists { result ≡ Err OpenFault.Exists → HasDesk (state S.Store conn).now.schema }
+        ensures unmade { IfErr result (IsUnmade S.Store (λ trees. Keeps trees (book_of identity operator_key [])) conn) }
         ensures otherwise { IfErr result (λ fault. (fault ≡ OpenFault.Exists) ⊎ (fault ≡ OpenFault.Unavailable)) }
     {
         let mut conn = conn;
@@ -47,11 +50,14 @@ impl<S: Alter + Drop> SqlStore<S> {
 
     /// Takes over the desk that is in a database: the store holds each book that the tables keep.
     ///
-    /// Tables of another version are `OpenFault::WrongVersion`, and other tables, or none,
-    /// `OpenFault::NotADesk`. A connection that is inside a transaction is `OpenFault::Unavailable`.
+    /// Where there is no table `desk`, or no row in it, it is `OpenFault::NotADesk`. Where its row says
+    /// another version it is `OpenFault::WrongVersion`, whatever else the schema is. Every other schema,
+    /// and a connection that is inside a transaction, is `OpenFault::Unavailable`. A refused call
+    /// changes nothing, and drops the connection.
     pub fn adopt(alloc: Global, conn: Connection<S>) -> Result<SqlStore<S>, OpenFault>
         ensures before { IfOk result (λ s. HasCleanDisk (state S.Store s.conn) → HasCleanDisk (state S.Store conn)) }
         ensures adopted { IfOk result (λ s. HasCleanDisk (state S.Store s.conn) → IsDesk (state S.Store conn) (state S.Store s.conn)) }
+        ensures refused { IfErr result (IsDropped S.Store version (λ _. ⊥) conn) }
         ensures otherwise { IfErr result (λ fault. fault ≢ OpenFault.Exists) }
     {
         let mut conn = conn;

@@ -73,31 +73,56 @@ fn what_is_blank_is_no_desk(rt: HostRuntime) -> Result<(), Fail> {
 }
 
 #[test]
-fn a_version_is_told(rt: HostRuntime) -> Result<(), Fail> {
-    assert!(rt;
-        checked_after(&rt, "UPDATE desk SET version = 9")? == Err(OpenFault::WrongVersion(9))
-    );
-    assert!(rt;
-        checked_after(&rt, "UPDATE desk SET version = 1; DROP TABLE numbers")?
-            == Err(OpenFault::WrongVersion(1))
-    );
+fn a_version_is_told_whatever_else_there_is(rt: HostRuntime) -> Result<(), Fail> {
+    let changes = [
+        ("UPDATE desk SET version = 9", 9),
+        ("UPDATE desk SET version = 1; DROP TABLE numbers", 1),
+        ("UPDATE desk SET version = 3; CREATE TABLE notes (id INT)", 3),
+        (
+            "DROP TABLE desk; CREATE TABLE desk (id INTEGER PRIMARY KEY, version INTEGER, note TEXT); INSERT INTO desk VALUES (1, 9, 'other columns')",
+            9,
+        ),
+    ];
+    for (sql, version) in &changes {
+        assert!(rt;
+            checked_after(&rt, sql)? == Err(OpenFault::WrongVersion(*version)),
+            "{sql}"
+        );
+    }
     Ok(())
 }
 
 #[test]
-fn what_lacks_a_part_is_no_desk(rt: HostRuntime) -> Result<(), Fail> {
-    let parts = [
+fn what_has_no_row_of_a_desk_is_no_desk(rt: HostRuntime) -> Result<(), Fail> {
+    let losses = [
         "DELETE FROM desk",
         "DROP TABLE desk",
+        "DROP TABLE desk; CREATE TABLE desk (note TEXT)",
+        "DROP TABLE desk; CREATE VIEW desk AS SELECT name FROM companies",
+    ];
+    for sql in &losses {
+        assert!(rt;
+            checked_after(&rt, sql)? == Err(OpenFault::NotADesk),
+            "{sql}"
+        );
+    }
+    Ok(())
+}
+
+#[test]
+fn what_has_other_tables_is_unavailable(rt: HostRuntime) -> Result<(), Fail> {
+    let changes = [
         "DROP TABLE authorizations",
         "DROP INDEX entries_seq",
         "CREATE TABLE notes (id INT)",
         "CREATE VIEW companies_by_name AS SELECT name FROM companies",
         "DROP TABLE authorizations; CREATE TABLE authorizations (company TEXT NOT NULL, ord INT NOT NULL, day INT, PRIMARY KEY (company, ord)) STRICT",
+        "DROP TABLE desk; CREATE TABLE desk (id INTEGER PRIMARY KEY, version TEXT); INSERT INTO desk VALUES (1, 'two')",
+        "DROP TABLE desk; CREATE TABLE desk (note TEXT); INSERT INTO desk VALUES ('no version')",
     ];
-    for sql in &parts {
+    for sql in &changes {
         assert!(rt;
-            checked_after(&rt, sql)? == Err(OpenFault::NotADesk),
+            checked_after(&rt, sql)? == Err(OpenFault::Unavailable),
             "{sql}"
         );
     }

@@ -1,15 +1,15 @@
 //! Version 1's tables become version 2's.
-ghost use Rattle.std.specs.Prelude.{◌≡◌, ◌≢◌, ◌⊎◌, ℕ, false, pos, Err, IfErr, OnErr, OnOk};
+ghost use Rattle.std.specs.Prelude.{◌≡◌, ◌≢◌, ℕ, false, Err, IfErr, OnErr, OnOk};
 ghost use Rattle.sqlite.specs.Held.{state};
 ghost use Rattle.sqlite.specs.State.{HasCleanDisk, Survives};
 ghost use Rattle.sql_statements.specs.Queries.{Stays};
-ghost use Rattle.sql_statements.specs.Layouts.{Holds};
 ghost use Rattle.desk_book.specs.Book.{Book};
 ghost use Rattle.desk_records.specs.Layout.{Keeps};
-ghost use Rattle.desk_records.specs.Tables.{Tables};
-ghost use Rattle.desk_files.specs.FirstVersion.{first_version, first_layout, KeepsFirst};
+ghost use Rattle.desk_setup.specs.Refusals.{IsRefused};
+ghost use Rattle.desk_setup.specs.Setup.{HasDesk};
+ghost use Rattle.desk_setup.specs.Versions.{IsOfVersion};
+ghost use Rattle.desk_files.specs.FirstVersion.{first_version, KeepsFirst};
 ghost use Rattle.desk_files.specs.Migration.{migration_layout, migration_edit, HasMigrated};
-ghost use Rattle.desk_files.specs.Versions.{IsOfVersion};
 
 use crate::migration::check::check_first;
 use crate::migration::entries::number_entries;
@@ -50,13 +50,15 @@ impl TransactionBody for Migration {
 /// A desk of version 1 did not read the key `authorized` of a retry. The history that its tables stood
 /// for is the one that they then stand for, with that key struck from the bodies of its retries.
 ///
-/// Another version is `OpenFault::WrongVersion`, and other tables, or none, `OpenFault::NotADesk`. A
-/// connection that is inside a transaction is `OpenFault::Unavailable`. After an error the tables are as
-/// they were.
+/// Where there is no table `desk`, or no row in it, it is `OpenFault::NotADesk`. Where its row says
+/// another version it is `OpenFault::WrongVersion`, whatever else the schema is. Every other schema, and
+/// a connection that is inside a transaction, is `OpenFault::Unavailable`. After an error the tables are
+/// as they were.
 pub fn migrate<S: Alter>(alloc: Global, conn: &mut Connection<S>) -> Result<(), OpenFault>
     ensures migrated { HasCleanDisk (state S.Store conn.new) → OnOk result (HasMigrated (state S.Store conn.old) (state S.Store conn.new)) }
-    ensures other_version { HasCleanDisk (state S.Store conn.new) → (n : ℕ) → IsOfVersion (state S.Store conn.old).now n → n ≢ first_version → (result ≡ Err (OpenFault.WrongVersion (pos n))) ⊎ (result ≡ Err OpenFault.Unavailable) }
-    ensures takes { HasCleanDisk (state S.Store conn.new) → (t : Tables) → Holds first_layout (state S.Store conn.old).now t → IfErr result (λ fault. fault ≡ OpenFault.Unavailable) }
+    ensures absent { conn.old.in_transaction ≡ false → ¬ HasDesk (state S.Store conn.old).now.schema → result ≡ Err OpenFault.NotADesk }
+    ensures first { HasCleanDisk (state S.Store conn.new) → OnOk result ((n : ℕ) → IsOfVersion (state S.Store conn.old).now n → n ≡ first_version) }
+    ensures refused { IfErr result (IsRefused S.Store first_version conn.old conn.new) }
     ensures otherwise { IfErr result (λ fault. fault ≢ OpenFault.Exists) }
     ensures unmigrated { HasCleanDisk (state S.Store conn.new) → OnErr result (Stays (state S.Store conn.old) (state S.Store conn.new)) }
     ensures survives { Survives (state S.Store conn.old) (state S.Store conn.new) (λ trees. (b : Book) → KeepsFirst (state S.Store conn.old).committed.trees b → Keeps trees b) }

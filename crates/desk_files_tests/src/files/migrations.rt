@@ -62,10 +62,15 @@ fn a_desk_is_migrated_once(rt: HostRuntime) -> Result<(), Fail> {
 fn what_is_no_first_version_is_refused(rt: HostRuntime) -> Result<(), Fail> {
     let refusals = [
         ("UPDATE desk SET version = 9", OpenFault::WrongVersion(9)),
+        (
+            "UPDATE desk SET version = 9; DROP TABLE balances",
+            OpenFault::WrongVersion(9),
+        ),
         ("DELETE FROM desk", OpenFault::NotADesk),
-        ("DROP TABLE balances", OpenFault::NotADesk),
-        ("DROP INDEX entries_seq", OpenFault::NotADesk),
-        ("CREATE TABLE notes (id INT)", OpenFault::NotADesk),
+        ("DROP TABLE desk", OpenFault::NotADesk),
+        ("DROP TABLE balances", OpenFault::Unavailable),
+        ("DROP INDEX entries_seq", OpenFault::Unavailable),
+        ("CREATE TABLE notes (id INT)", OpenFault::Unavailable),
         ("BEGIN", OpenFault::Unavailable),
     ];
     for (sql, fault) in &refusals {

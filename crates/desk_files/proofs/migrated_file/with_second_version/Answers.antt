@@ -1,6 +1,17 @@
-use Rattle.std.proofs.Common.{inl, inr}
+use Rattle.std.proofs.Common.{rules}
+use Rattle.sqlite.specs.Held.{state}
+use Rattle.desk_setup.specs.Refusals.{IsDropped}
+use Rattle.desk_files.specs.FirstVersion.{first_version}
+use Rattle.desk_files.specs.Opened.{leaves_migrated}
 use Rattle.desk_files.proofs.migrated_file.with_second_version.Goals as goal
 
-pub returns-clause-first : goal.returns-clause-first
-returns-clause-first g c clean n is other =
-    elim (c.in_ok-migrate.ensures.other_version clean n is other) [ inl version ↦ cc | inr unavailable ↦ cc ]
+pub returns-in_err-migrate-clause-refused : goal.returns-in_err-migrate-clause-refused
+returns-in_err-migrate-clause-refused g c =
+    let it : IsDropped g.P.Store first_version (leaves_migrated (state g.P.Store c.args.conn)) c.args.conn c.in_err-migrate.field-0.0 = record {
+      left = c.migrate.new.conn;
+      refused = c.in_err-migrate.ensures.refused;
+      absent = λ free none. let told = c.migrate.ensures.absent free none in search rules;
+      stays = c.in_err-migrate.ensures.unmigrated;
+      survives = c.migrate.ensures.survives;
+    } in
+    it

@@ -1,19 +1,20 @@
-use Rattle.std.proofs.Common.{rules, ◌≡◌, pos}
-use Rattle.sqlite.specs.Held.{state}
+use Rattle.std.proofs.Common.{rules, ◌≡◌, ◌≢◌, pos, Some, refl, sym, ap, ◌∙◌, arith, to_z, of_z}
+use Rattle.std.specs.Int.{w64}
 use Rattle.desk_records.specs.RecordRows.{version}
-use Rattle.desk_setup.proofs.VersionShown.{version_found}
+use Rattle.desk_setup.proofs.Refused.{says_shown, other_version, unread}
 use Rattle.desk_setup.proofs.check.check_version.Goals as goal
 
-pub returns-else-found-eq-VERSION-clause-takes : goal.returns-else-found-eq-VERSION-clause-takes
-returns-else-found-eq-VERSION-clause-takes g c clean t h =
-    let is = version_found (state g.S.Store c.args.conn.now) (state g.S.Store c.found_version.new.conn) c.in-Ok-Some.field-0 (c.in-Ok-Some.ensures.answer clean) t h in
-    let found = c.in-Ok-Some.field-0-is in
-    let same : c.in-Ok-Some.found ≡ pos version = cc in
-    let other = c.if-found-eq-VERSION.false in
-    search rules
+pub returns-in_default-clause-refused : goal.returns-in_default-clause-refused
+returns-in_default-clause-refused g c =
+    unread g.S.Store version c.args.conn.now c.found_version.new.conn c.unread_fault.new.conn c.unread_fault.result
+    (λ clean. c.found_version.ensures.stays (omega (arith, c.unread_fault.ensures.survives.clean, clean))) c.unread_fault.ensures.no_row c.unread_fault.ensures.otherwise
 
-pub returns-in-Ok-None-clause-takes : goal.returns-in-Ok-None-clause-takes
-returns-in-Ok-None-clause-takes g c clean t h =
-    let is = version_found (state g.S.Store c.args.conn.now) (state g.S.Store c.found_version.new.conn) c.in-Ok-None.field-0 (c.in-Ok-None.ensures.answer clean) t h in
-    let none = c.in-Ok-None.field-0-is in
-    absurd cc
+pub returns-then-found-ne-VERSION-clause-refused : goal.returns-then-found-ne-VERSION-clause-refused
+returns-then-found-ne-VERSION-clause-refused g c =
+    let was = c.args.conn.now in
+    let left = c.found_version.new.conn in
+    let whole : to_z w64 (of_z w64 c.in-Ok-Some.found) ≡ c.in-Ok-Some.found = search rules in
+    let other : to_z w64 (of_z w64 c.in-Ok-Some.found) ≢ pos version = search rules in
+    other_version g.S.Store version was left (to_z w64 (of_z w64 c.in-Ok-Some.found))
+    (λ clean. let read = c.in-Ok-Some.ensures.answer clean in says_shown g.S.Store version was was left c.in-Ok-Some.field-0 _ refl read.was_open read (c.in-Ok-Some.field-0-is ∙ ap Some (sym whole)))
+    other

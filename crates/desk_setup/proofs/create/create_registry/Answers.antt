@@ -1,4 +1,4 @@
-use Rattle.std.proofs.Common.{[], ◌∷◌, ◌++◌, arith}
+use Rattle.std.proofs.Common.{[], ◌∷◌, arith}
 use Rattle.desk_setup.proofs.Creates.{creates_desk, creates_holidays, creates_companies}
 use Rattle.desk_setup.proofs.create.create_registry.Goals as goal
 use Rattle.desk_records.specs.Schema.{schema_of, NewTable}

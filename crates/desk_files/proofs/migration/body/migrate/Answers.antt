@@ -1,17 +1,10 @@
-use Rattle.std.proofs.Common.{rules, inl, inr, IsTrue, arith}
+use Rattle.std.proofs.Common.{rules, IsTrue, arith}
 use Rattle.sqlite.specs.Held.{state}
 use Rattle.sqlite.specs.State.{HasCleanDisk}
+use Rattle.desk_setup.proofs.Refused.{unavailable}
+use Rattle.desk_files.specs.FirstVersion.{first_version}
 use Rattle.desk_files.proofs.MigrationMade.{has_migrated, left_migrated}
 use Rattle.desk_files.proofs.migration.body.migrate.Goals as goal
-
-pub returns-in_err-check_first-clause-other_version : goal.returns-in_err-check_first-clause-other_version
-returns-in_err-check_first-clause-other_version g c clean n is other =
-    elim (c.in_err-check_first.ensures.other_version clean n is other) [ inl version ↦ inl (search rules) | inr unavailable ↦ inr (search rules) ]
-
-pub returns-in_err-check_first-clause-takes : goal.returns-in_err-check_first-clause-takes
-returns-in_err-check_first-clause-takes g c clean t h =
-    let refused = c.in_err-check_first.ensures.takes clean t h in
-    search rules
 
 pub returns-in-Ok-clause-migrated : goal.returns-in-Ok-clause-migrated
 returns-in-Ok-clause-migrated g c clean =
@@ -22,11 +15,13 @@ returns-in-Ok-clause-migrated g c clean =
     let before : HasCleanDisk mid = omega (arith, c.commit.ensures.survives.clean, clean) in
     has_migrated old mid new (c.is_autocommit.ensures.settled free) c.in_ok-check_first.ensures.stays c.in_ok-check_first.ensures.checked before (c.in-Ok.ensures.done clean)
 
-pub returns-in-Ok-clause-other_version : goal.returns-in-Ok-clause-other_version
-returns-in-Ok-clause-other_version g c clean n is other =
-    let was = c.in_ok-check_first.was in
+pub returns-in-Ok-clause-first : goal.returns-in-Ok-clause-first
+returns-in-Ok-clause-first g c clean =
     let before : HasCleanDisk (state g.S.Store c.check_first.new.conn) = omega (arith, c.commit.ensures.survives.clean, clean) in
-    elim (c.in_ok-check_first.ensures.other_version before n is other) [ inl version ↦ absurd cc | inr unavailable ↦ absurd cc ]
+    c.in_ok-check_first.ensures.first before
+
+pub returns-in-Err-clause-refused : goal.returns-in-Err-clause-refused
+returns-in-Err-clause-refused g c = unavailable g.S.Store first_version c.args.conn.now c.commit.new.conn
 
 pub returns-in-Ok-clause-survives : goal.returns-in-Ok-clause-survives
 returns-in-Ok-clause-survives g c =

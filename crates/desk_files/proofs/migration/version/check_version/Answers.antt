@@ -1,42 +1,25 @@
-use Rattle.std.proofs.Common.{rules, ◌≡◌, pos, inl, sym, ap, ◌∙◌, Err, to_z, of_z}
+use Rattle.std.proofs.Common.{rules, ◌≡◌, ◌≢◌, pos, Some, sym, ap, ◌∙◌, arith, to_z, of_z}
 use Rattle.std.specs.Int.{w64}
-use Rattle.desk_setup.specs.declared.fault.OpenFault.{OpenFault}
+use Rattle.desk_setup.proofs.Refused.{said_version, other_version, unread}
+use Rattle.desk_files.specs.FirstVersion.{first_version}
 use Rattle.desk_files.proofs.migration.version.check_version.Goals as goal
 
-pub returns-then-found-eq-FIRST_VERSION-clause-other_version : goal.returns-then-found-eq-FIRST_VERSION-clause-other_version
-returns-then-found-eq-FIRST_VERSION-clause-other_version g c clean n is other =
-    let told = c.in-Ok-Some.ensures.told clean n is in
-    let found = c.in-Ok-Some.field-0-is in
-    let same : c.in-Ok-Some.found ≡ pos n = cc in
-    let first = c.if-found-eq-FIRST_VERSION.true in
+pub returns-in_default-clause-refused : goal.returns-in_default-clause-refused
+returns-in_default-clause-refused g c =
+    unread g.S.Store first_version c.args.conn.now c.found_version.new.conn c.unread_fault.new.conn c.unread_fault.result
+    (λ clean. c.found_version.ensures.stays (omega (arith, c.unread_fault.ensures.survives.clean, clean))) c.unread_fault.ensures.no_row c.unread_fault.ensures.otherwise
+
+pub returns-then-found-ne-FIRST_VERSION-clause-refused : goal.returns-then-found-ne-FIRST_VERSION-clause-refused
+returns-then-found-ne-FIRST_VERSION-clause-refused g c =
     let whole : to_z w64 (of_z w64 c.in-Ok-Some.found) ≡ c.in-Ok-Some.found = search rules in
-    let one : pos 1 ≡ pos n = ap (to_z w64) (sym first) ∙ whole ∙ same in
-    absurd (other (let e = one in cc))
+    let other : to_z w64 (of_z w64 c.in-Ok-Some.found) ≢ pos first_version = search rules in
+    other_version g.S.Store first_version c.args.conn.now c.found_version.new.conn (to_z w64 (of_z w64 c.in-Ok-Some.found))
+    (λ clean. c.in-Ok-Some.ensures.said clean _ (c.in-Ok-Some.field-0-is ∙ ap Some (sym whole))) other
 
-pub returns-else-found-eq-FIRST_VERSION-clause-other_version : goal.returns-else-found-eq-FIRST_VERSION-clause-other_version
-returns-else-found-eq-FIRST_VERSION-clause-other_version g c clean n is other =
-    let told = c.in-Ok-Some.ensures.told clean n is in
-    let found = c.in-Ok-Some.field-0-is in
-    let same : c.in-Ok-Some.found ≡ pos n = cc in
+pub returns-clause-first : goal.returns-clause-first
+returns-clause-first g c clean n is =
     let whole : to_z w64 (of_z w64 c.in-Ok-Some.found) ≡ c.in-Ok-Some.found = search rules in
-    inl (ap (λ m. Err (OpenFault.WrongVersion m)) (whole ∙ same))
-
-pub returns-else-found-eq-FIRST_VERSION-clause-takes : goal.returns-else-found-eq-FIRST_VERSION-clause-takes
-returns-else-found-eq-FIRST_VERSION-clause-takes g c clean is =
-    let told = c.in-Ok-Some.ensures.told clean 1 is in
-    let found = c.in-Ok-Some.field-0-is in
-    let same : c.in-Ok-Some.found ≡ pos 1 = cc in
-    let other = c.if-found-eq-FIRST_VERSION.false in
-    absurd (other (ap (of_z w64) same))
-
-pub returns-in-Ok-None-clause-other_version : goal.returns-in-Ok-None-clause-other_version
-returns-in-Ok-None-clause-other_version g c clean n is other =
-    let told = c.in-Ok-None.ensures.told clean n is in
-    let none = c.in-Ok-None.field-0-is in
-    absurd cc
-
-pub returns-in-Ok-None-clause-takes : goal.returns-in-Ok-None-clause-takes
-returns-in-Ok-None-clause-takes g c clean is =
-    let told = c.in-Ok-None.ensures.told clean 1 is in
-    let none = c.in-Ok-None.field-0-is in
-    absurd cc
+    let first : c.in-Ok-Some.found ≡ pos first_version = search rules in
+    let same = said_version g.S.Store first_version c.args.conn.now c.in-Ok-Some.found n (c.in-Ok-Some.ensures.said clean _ c.in-Ok-Some.field-0-is) is in
+    let one : pos n ≡ pos first_version = sym same ∙ first in
+    cc

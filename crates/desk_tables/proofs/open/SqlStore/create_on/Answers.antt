@@ -1,0 +1,16 @@
+use Rattle.std.proofs.Common.{rules, []}
+use Rattle.desk_book.specs.Book.{book_of}
+use Rattle.desk_records.specs.Layout.{Keeps}
+use Rattle.desk_setup.specs.Refusals.{IsUnmade}
+use Rattle.desk_tables.proofs.open.SqlStore.create_on.Goals as goal
+
+pub returns-in_err-make_desk-clause-unmade : goal.returns-in_err-make_desk-clause-unmade
+returns-in_err-make_desk-clause-unmade g c =
+    let it : IsUnmade g.S.Store (λ trees. Keeps trees (book_of c.args.identity c.args.operator_key [])) c.args.conn c.in_err-make_desk.field-0.0 = record {
+      left = c.make_desk.new.conn;
+      exists = (λ is. c.make_desk.ensures.exists.0 (search rules), λ named. let told = c.make_desk.ensures.exists.1 named in search rules);
+      untouched = λ is. c.make_desk.ensures.untouched (search rules);
+      stays = c.in_err-make_desk.ensures.unmade;
+      survives = c.make_desk.ensures.survives;
+    } in
+    it
