@@ -41,6 +41,7 @@ JUDGES = (
     Judge("patience"),
     Judge("sent_first"),
     Judge("private_files"),
+    Judge("statuses"),
     Judge("big_day", (), is_asked=True),
     Judge("costs", (), is_asked=True),
     Judge("opening", (), is_asked=True),
