@@ -43,6 +43,7 @@ JUDGES = (
     Judge("private_files"),
     Judge("pages"),
     Judge("benches", takes_program=False),
+    Judge("statuses"),
     Judge("big_day", (), is_asked=True),
     Judge("costs", (), is_asked=True),
     Judge("opening", (), is_asked=True),

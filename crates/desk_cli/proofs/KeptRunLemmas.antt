@@ -1,5 +1,5 @@
 -- A session with the desk that a file keeps.
-use Rattle.std.proofs.Common.{ℕ, List, Option, Result, Err, inl, inr}
+use Rattle.std.proofs.Common.{⊤, ℕ, List, Option, Result, Err, inl, inr}
 use Rattle.sqlite.specs.Files.{file_state}
 use Rattle.sqlite.specs.Held.{Held}
 use Rattle.sqlite_disk.specs.declared.Disk.{Ghosts}
@@ -8,51 +8,89 @@ use Rattle.sqlite_wal.specs.Recovery.{Image}
 use Rattle.desk_records.specs.Layout.{Sees}
 use Rattle.desk_bytes.specs.History.{book_behind}
 use Rattle.desk_files.specs.Opened.{IsFoundIn}
-use Rattle.desk_session.specs.Session.{SessionRan}
 use Rattle.desk_session.specs.declared.sessions.Ended.{Ended}
 use Rattle.desk_session.specs.declared.sessions.SessionFault.{SessionFault}
-use Rattle.desk_http.specs.Answering.{DeskHistory, IsAnswered, StandsBehind}
+use Rattle.desk_http.specs.Answering.{DeskHistory, StandsBehind}
 use Rattle.desk_commands.specs.StoreRuns.{BreaksOffFrom, HasAnsweredFrom, RanFrom}
+use Rattle.desk_command_line.specs.declared.command.Command.{Command}
+use Rattle.desk_command_line.specs.declared.command.Command.TheVariants.{AnswerByFile, AnswerMessages, AnswerSubmission, Check, Init, Migrate, Serve, Submit}
+use Rattle.desk_cli.specs.Commands.{CarriesOut, FailsToCarryOut, NoneKnown}
 use Rattle.desk_cli.specs.KeptRuns.{IsKeptIn}
 use Rattle.desk_commands.specs.declared.status.Status.{Status}
 
-module _ (clean was_clean : Type 0) (kept stood : DeskHistory → Type 0)
-    (before : clean → was_clean) (stands_first : clean → (h : DeskHistory) → kept h → stood h) where
+module _ (clean was_clean : Type 0) (kept stood stands fewer : DeskHistory → Type 0) (before : clean → was_clean)
+    (stands_first : clean → (h : DeskHistory) → kept h → stood h) (within : (h : DeskHistory) → stands h → fewer h) where
   -- what is said of more histories, or with less that is clean, is said of these
-  pub ran_from : (stands : DeskHistory → Type 0) (input left old new : Option (List ℕ)) (ended : Result Ended SessionFault)
-      → SessionRan IsAnswered was_clean stood stands input left old new ended → RanFrom clean kept input old new ended
-  ran_from stands input left old new ended ran = (
-    left,
-    record {
-      first = ran.first;
-      last = ran.last;
-      taken = ran.taken;
-      rest = ran.rest;
-      final = ran.final;
-      sent = ran.sent;
-      takes = ran.takes;
-      spelled = ran.spelled;
-      few = ran.few;
-      little = ran.little;
-      sends = ran.sends;
-      writes = ran.writes;
-      goes_on = ran.goes_on;
-      ending = ran.ending;
-      answers = λ is_clean h is.
-          let follows = ran.answers (before is_clean) h (stands_first is_clean h is) in
-          (follows.0, follows.1, tt);
-    },
-  )
+  pub ran_from : (input old new : Option (List ℕ)) (ended : Result Ended SessionFault)
+      → RanFrom was_clean stood stands input old new ended → RanFrom clean kept fewer input old new ended
+  ran_from input old new ended was =
+      let ran = was.1 in (
+        was.0,
+        record {
+          first = ran.first;
+          last = ran.last;
+          taken = ran.taken;
+          rest = ran.rest;
+          final = ran.final;
+          sent = ran.sent;
+          takes = ran.takes;
+          spelled = ran.spelled;
+          few = ran.few;
+          little = ran.little;
+          sends = ran.sends;
+          writes = ran.writes;
+          goes_on = ran.goes_on;
+          ending = ran.ending;
+          answers = λ is_clean h is.
+              let follows = ran.answers (before is_clean) h (stands_first is_clean h is) in
+              (follows.0, follows.1, within follows.0 follows.2);
+        },
+      )
 
-  pub has_answered_from : (input old new : Option (List ℕ)) (status : Status) → HasAnsweredFrom was_clean stood input old new status
-      → HasAnsweredFrom clean kept input old new status
-  has_answered_from input old new status answered =
-      (answered.0, answered.1, ran_from (λ h. Unit {0}) input answered.2.0 old new answered.0 answered.2.1)
+  pub has_answered_from : (input old new : Option (List ℕ)) (status : Status) → HasAnsweredFrom was_clean stood stands input old new status
+      → HasAnsweredFrom clean kept fewer input old new status
+  has_answered_from input old new status answered = (answered.0, answered.1, ran_from input old new answered.0 answered.2)
 
-  pub breaks_off_from : (input old new : Option (List ℕ)) → BreaksOffFrom was_clean stood input old new → BreaksOffFrom clean kept input old new
-  breaks_off_from input old new (inl prefix) = inl prefix
-  breaks_off_from input old new (inr broken) =
-      inr (broken.0, ran_from (λ h. Unit {0}) input broken.1.0 old new (Err broken.0) broken.1.1)
+  pub breaks_off_from : (input old new : Option (List ℕ)) → BreaksOffFrom was_clean stood stands input old new → BreaksOffFrom clean kept fewer input old new
+  breaks_off_from input old new (inl still) =
+      inl (still.0, λ is_clean h is. within h (still.1 (before is_clean) h (stands_first is_clean h is)))
+  breaks_off_from input old new (inr broken) = inr (broken.0, ran_from input old new (Err broken.0) broken.1)
+
+-- where the file is closed, which book it keeps is not told
+pub closed_answered : (clean : Type 0) (kept stands : DeskHistory → Type 0) (input old new : Option (List ℕ)) (status : Status)
+    → HasAnsweredFrom clean kept stands input old new status → HasAnsweredFrom clean kept (λ h. ⊤) input old new status
+closed_answered clean kept stands = has_answered_from clean clean kept kept stands (λ h. ⊤) (λ c. c) (λ c h is. is) (λ h is. tt)
+
+pub closed_broken_off : (clean : Type 0) (kept stands : DeskHistory → Type 0) (input old new : Option (List ℕ))
+    → BreaksOffFrom clean kept stands input old new → BreaksOffFrom clean kept (λ h. ⊤) input old new
+closed_broken_off clean kept stands = breaks_off_from clean clean kept kept stands (λ h. ⊤) (λ c. c) (λ c h is. is) (λ h is. tt)
+
+-- what is said of the histories that a file kept says less of one of which nothing is known
+pub none_known_answered : (kept : DeskHistory → Type 0) (command : Command) (input old new : Option (List ℕ)) (status : Status)
+    → CarriesOut kept command input old new status → CarriesOut NoneKnown command input old new status
+none_known_answered kept AnswerSubmission input old new status is = is
+none_known_answered kept (Check path) input old new status is = is
+none_known_answered kept (Submit list options) input old new status is = is
+none_known_answered kept AnswerMessages input old new status is = is
+none_known_answered kept (AnswerByFile path) input old new status (inl is) =
+    inl (is.0, has_answered_from _ _ NoneKnown kept (λ h. ⊤) (λ h. ⊤) (λ c. c) (λ c h none. absurd none) (λ h is. is) input old new status is.1)
+none_known_answered kept (AnswerByFile path) input old new status (inr is) = inr is
+none_known_answered kept (Init path options) input old new status is = is
+none_known_answered kept (Serve path options) input old new status is = is
+none_known_answered kept (Migrate path) input old new status is = is
+
+pub none_known_failed : (kept : DeskHistory → Type 0) (command : Command) (input old new : Option (List ℕ))
+    → FailsToCarryOut kept command input old new → FailsToCarryOut NoneKnown command input old new
+none_known_failed kept AnswerSubmission input old new is = is
+none_known_failed kept (Check path) input old new is = is
+none_known_failed kept (Submit list options) input old new is = is
+none_known_failed kept AnswerMessages input old new is = is
+none_known_failed kept (AnswerByFile path) input old new (inl is) =
+    inl (is.0, breaks_off_from _ _ NoneKnown kept (λ h. ⊤) (λ h. ⊤) (λ c. c) (λ c h none. absurd none) (λ h is. is) input old new is.1)
+none_known_failed kept (AnswerByFile path) input old new (inr is) = inr is
+none_known_failed kept (Init path options) input old new is = is
+none_known_failed kept (Serve path options) input old new is = is
+none_known_failed kept (Migrate path) input old new is = is
 
 -- a connection that was opened on the files sees the book of each history whose book they kept
 pub kept_stands : {D : Type 0} {g : Ghosts D} (held : Image) (c : Held (FileStore D g)) (h : DeskHistory)

@@ -1,5 +1,5 @@
 -- What each command prints, and how it ends.
-use Rattle.std.specs.Prelude.{◌≡◌, ◌⊎◌, ℕ, List, [], Option, None, string_bytes}
+use Rattle.std.specs.Prelude.{◌≡◌, ◌⊎◌, ℕ, List, Option, None, string_bytes}
 use Rattle.std.specs.Io.KnownBytes.{Appends}
 use Rattle.desk_command_line.specs.declared.command.Command.{Command}
 use Rattle.desk_command_line.specs.declared.command.Command.TheVariants.{AnswerByFile, AnswerMessages, AnswerSubmission, Check, Init, Migrate, Serve, Submit}
@@ -11,7 +11,7 @@ use Rattle.desk_commands.specs.FileChecks.{HasChecked, IsFailedCheck}
 use Rattle.desk_command_line.specs.InitOptions.{init_texts_of}
 use Rattle.desk_cli.specs.InitRuns.{HasInitialized, IsFailedInit}
 use Rattle.desk_commands.specs.InputRuns.{HasAnswered, IsFailedRun}
-use Rattle.sqlite_wal.specs.Recovery.{Image}
+use Rattle.desk_http.specs.Answering.{DeskHistory}
 use Rattle.desk_cli.specs.KeptRuns.{HasAnsweredKept, HasBrokenOffKept}
 use Rattle.desk_commands.specs.ListRuns.{list_answer}
 use Rattle.desk_commands.specs.MessageRuns.{HasAnsweredMessages, HasBrokenOff}
@@ -22,31 +22,32 @@ use Rattle.io_retries.specs.Prefixes.{AppendsPrefix}
 use Rattle.desk_commands.specs.SubmissionRuns.{first_run_line}
 use Rattle.desk_commands.specs.declared.status.Status.{Status}
 
--- no file, and no log beside it
-abbrev pub no_files : Image
-no_files = record { log = []; db = [] }
+-- Of a file of which nothing is known, no history is known whose book it keeps.
+abbrev pub NoneKnown : DeskHistory → Type 0
+NoneKnown h = ⊥
 
--- A command that did not fail gave its answer. What a path's file has is not known: the answer is that to some bytes.
-abbrev pub CarriesOut : (held : Image) → Command → (input old new : Option (List ℕ)) → Status → Type 0
-CarriesOut held AnswerSubmission input old new status = HasAnswered first_run_line input old new status
-CarriesOut held (Check path) input old new status = HasChecked None old new status
-CarriesOut held (Submit list options) input old new status = HasAnswered (list_answer (texts_of options)) None old new status
-CarriesOut held AnswerMessages input old new status = HasAnsweredMessages input old new status
-CarriesOut held (AnswerByFile path) input old new status = HasAnsweredKept held input old new status
-CarriesOut held (Init path options) input old new status = HasInitialized (init_texts_of options) old new status
-CarriesOut held (Serve path options) input old new status = HasServedFile options.port old new status
-CarriesOut held (Migrate path) input old new status = HasMigratedFile old new status
+-- A command that did not fail gave its answer, over a desk's file that kept the books of these histories. What another
+-- file has is not known: the answer is that to some bytes.
+abbrev pub CarriesOut : (kept : DeskHistory → Type 0) → Command → (input old new : Option (List ℕ)) → Status → Type 0
+CarriesOut kept AnswerSubmission input old new status = HasAnswered first_run_line input old new status
+CarriesOut kept (Check path) input old new status = HasChecked None old new status
+CarriesOut kept (Submit list options) input old new status = HasAnswered (list_answer (texts_of options)) None old new status
+CarriesOut kept AnswerMessages input old new status = HasAnsweredMessages input old new status
+CarriesOut kept (AnswerByFile path) input old new status = HasAnsweredKept kept input old new status
+CarriesOut kept (Init path options) input old new status = HasInitialized (init_texts_of options) old new status
+CarriesOut kept (Serve path options) input old new status = HasServedFile options.port old new status
+CarriesOut kept (Migrate path) input old new status = HasMigratedFile old new status
 
 -- what a command that failed has printed
-abbrev pub FailsToCarryOut : (held : Image) → Command → (input old new : Option (List ℕ)) → Type 0
-FailsToCarryOut held AnswerSubmission input old new = IsFailedRun first_run_line input old new
-FailsToCarryOut held (Check path) input old new = IsFailedCheck None old new
-FailsToCarryOut held (Submit list options) input old new = IsFailedRun (list_answer (texts_of options)) None old new
-FailsToCarryOut held AnswerMessages input old new = HasBrokenOff input old new
-FailsToCarryOut held (AnswerByFile path) input old new = HasBrokenOffKept held input old new
-FailsToCarryOut held (Init path options) input old new = IsFailedInit (init_texts_of options) old new
-FailsToCarryOut held (Serve path options) input old new = FailsToServeFile options.port old new
-FailsToCarryOut held (Migrate path) input old new = FailsToMigrateFile old new
+abbrev pub FailsToCarryOut : (kept : DeskHistory → Type 0) → Command → (input old new : Option (List ℕ)) → Type 0
+FailsToCarryOut kept AnswerSubmission input old new = IsFailedRun first_run_line input old new
+FailsToCarryOut kept (Check path) input old new = IsFailedCheck None old new
+FailsToCarryOut kept (Submit list options) input old new = IsFailedRun (list_answer (texts_of options)) None old new
+FailsToCarryOut kept AnswerMessages input old new = HasBrokenOff input old new
+FailsToCarryOut kept (AnswerByFile path) input old new = HasBrokenOffKept kept input old new
+FailsToCarryOut kept (Init path options) input old new = IsFailedInit (init_texts_of options) old new
+FailsToCarryOut kept (Serve path options) input old new = FailsToServeFile options.port old new
+FailsToCarryOut kept (Migrate path) input old new = FailsToMigrateFile old new
 
 -- the text is printed and the exit status is this code, or a prefix of the text and 3
 abbrev pub PrintsWithCode : (old new : Option (List ℕ)) → (text : List ℕ) → (code given : ℕ) → Type 0

@@ -1,5 +1,5 @@
 -- A session with the desk that a file keeps.
-use Rattle.std.specs.Prelude.{◌≡◌, ◌⊎◌, ℕ, Bool, List, Option}
+use Rattle.std.specs.Prelude.{◌≡◌, ◌⊎◌, ⊤, ℕ, Bool, List, Option}
 use Rattle.sqlite.specs.Files.{HoldsDatabase}
 use Rattle.sqlite_trees.specs.Tree.{Trees}
 use Rattle.sqlite_trees.specs.View.{doubt}
@@ -24,11 +24,11 @@ BreaksOffUnopened old new = (fault : OpenFault) × FailsToSayFault fault old new
 
 -- ---- of the command, whose file is closed as it ends
 
--- whether the disk was clean is what the connection saw
-abbrev pub HasAnsweredKept : (held : Image) → (input old new : Option (List ℕ)) → Status → Type 0
-HasAnsweredKept held input old new status =
-    ((is_clean : Bool) × HasAnsweredFrom (doubt is_clean ≡ 0) (IsKeptIn held) input old new status) ⊎ SaysUnopened old new status
+-- Whether the disk was clean is what the connection saw; which book the files keep then is told of the connection.
+abbrev pub HasAnsweredKept : (kept : DeskHistory → Type 0) → (input old new : Option (List ℕ)) → Status → Type 0
+HasAnsweredKept kept input old new status =
+    ((is_clean : Bool) × HasAnsweredFrom (doubt is_clean ≡ 0) kept (λ h. ⊤) input old new status) ⊎ SaysUnopened old new status
 
-abbrev pub HasBrokenOffKept : (held : Image) → (input old new : Option (List ℕ)) → Type 0
-HasBrokenOffKept held input old new =
-    ((is_clean : Bool) × BreaksOffFrom (doubt is_clean ≡ 0) (IsKeptIn held) input old new) ⊎ BreaksOffUnopened old new
+abbrev pub HasBrokenOffKept : (kept : DeskHistory → Type 0) → (input old new : Option (List ℕ)) → Type 0
+HasBrokenOffKept kept input old new =
+    ((is_clean : Bool) × BreaksOffFrom (doubt is_clean ≡ 0) kept (λ h. ⊤) input old new) ⊎ BreaksOffUnopened old new

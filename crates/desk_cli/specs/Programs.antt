@@ -2,7 +2,7 @@
 use Rattle.std.specs.Prelude.{◌≡◌, ◌≢◌, ℕ, List, Option, Result, Ok, Err}
 use Rattle.clap.specs.Words.{Text}
 use Rattle.desk_command_line.specs.CommandLine.{GivesAt}
-use Rattle.desk_cli.specs.Commands.{CarriesOut, FailsToCarryOut, PrintsLineFault, no_files}
+use Rattle.desk_cli.specs.Commands.{CarriesOut, FailsToCarryOut, PrintsLineFault, NoneKnown}
 use Rattle.desk_commands.specs.ExitCodes.{code_of}
 use Rattle.desk_commands.specs.declared.status.Status.{Status}
 use Rattle.desk_commands.specs.declared.status.Status.TheVariants.{Failed}
@@ -14,7 +14,7 @@ abbrev pub RunsCommand : Command → (input old new : Option (List ℕ)) → (co
 RunsCommand command input old new code =
     (status : Status)
     × (code ≡ code_of status)
-    × (status ≢ Failed → CarriesOut no_files command input old new status)
+    × (status ≢ Failed → CarriesOut NoneKnown command input old new status)
     × (status ≡ Failed → FailsToCarryOut no_files command input old new)
 
 -- the command that the words give is run, or why they give none is printed
@@ -26,3 +26,9 @@ DoesRead (Err fault) input old new code = PrintsLineFault fault old new code
 abbrev pub RunsWords : (words : List Text) → (input old new : Option (List ℕ)) → (code : ℕ) → Type 0
 RunsWords words input old new code =
     (read : Result Command LineFault) × GivesAt words read × DoesRead read input old new code
+
+-- The exit status is that of a command which was carried out, or of why there is none. Which words the program was
+-- given, and what standard input and output are, is not known.
+abbrev pub RunsProgram : (code : ℕ) → Type 0
+RunsProgram code =
+    (read : Result Command LineFault) × (input : Option (List ℕ)) × (old : Option (List ℕ)) × (new : Option (List ℕ)) × DoesRead read input old new code

@@ -1,7 +1,8 @@
 //! Commands that are carried out, and line faults that are printed.
 ghost use Rattle.std.specs.Prelude.{◌≡◌, ◌≢◌};
 ghost use Rattle.sqlite_wal.specs.Files.{image_at};
-ghost use Rattle.desk_cli.specs.Commands.{CarriesOut, FailsToCarryOut, PrintsLineFault, PrintsWithCode, no_files};
+ghost use Rattle.desk_cli.specs.Commands.{CarriesOut, FailsToCarryOut, PrintsLineFault, PrintsWithCode, NoneKnown};
+ghost use Rattle.desk_cli.specs.KeptRuns.{IsKeptIn};
 
 use crate::init_desk::make_desk;
 use crate::kept_session::answer_by_file;
@@ -18,6 +19,9 @@ use std::io::{Read, Write};
 /// Carries out a command, which reads what it needs of the reader and prints to the writer.
 ///
 /// Where a file cannot be opened or read, `unavailable` is printed. A session prints its answers alone.
+///
+/// Of the history that a desk's file keeps these clauses say nothing, since no code can read what it
+/// holds: there the promise is that of `run_from`, for whatever it holds, which this function calls.
 pub fn run<R: Read + Drop, W: Write>(
     rt: &HostRuntime,
     command: &Command<'_>,
@@ -25,9 +29,9 @@ pub fn run<R: Read + Drop, W: Write>(
     writer: &mut W,
 ) -> Status
     ensures answered { result ≢ Status.Failed →
-        CarriesOut no_files command.now (R.remaining reader) (W.contents writer.old) (W.contents writer.new) result }
+        CarriesOut NoneKnown command.now (R.remaining reader) (W.contents writer.old) (W.contents writer.new) result }
     ensures failed { result ≡ Status.Failed →
-        FailsToCarryOut no_files command.now (R.remaining reader) (W.contents writer.old) (W.contents writer.new) }
+        FailsToCarryOut NoneKnown command.now (R.remaining reader) (W.contents writer.old) (W.contents writer.new) }
 {
     run_from(rt, Wary, command, reader, writer)
 }
@@ -42,9 +46,9 @@ pub fn run_from<S: Start, R: Read + Drop, W: Write>(
     writer: &mut W,
 ) -> Status
     ensures answered { result ≢ Status.Failed →
-        CarriesOut (image_at S.Start) command.now (R.remaining reader) (W.contents writer.old) (W.contents writer.new) result }
+        CarriesOut (IsKeptIn (image_at S.Start)) command.now (R.remaining reader) (W.contents writer.old) (W.contents writer.new) result }
     ensures failed { result ≡ Status.Failed →
-        FailsToCarryOut (image_at S.Start) command.now (R.remaining reader) (W.contents writer.old) (W.contents writer.new) }
+        FailsToCarryOut (IsKeptIn (image_at S.Start)) command.now (R.remaining reader) (W.contents writer.old) (W.contents writer.new) }
 {
     let (status, _opened) = carry_out(rt, start, command, reader, writer);
     status
@@ -60,9 +64,9 @@ fn carry_out<S: Start, R: Read + Drop, W: Write>(
     writer: &mut W,
 ) -> (Status, Option<Connection<FileStore<FileFrom<S>>>>)
     ensures answered { result.0 ≢ Status.Failed →
-        CarriesOut (image_at S.Start) command.now (R.remaining reader) (W.contents writer.old) (W.contents writer.new) result.0 }
+        CarriesOut (IsKeptIn (image_at S.Start)) command.now (R.remaining reader) (W.contents writer.old) (W.contents writer.new) result.0 }
     ensures failed { result.0 ≡ Status.Failed →
-        FailsToCarryOut (image_at S.Start) command.now (R.remaining reader) (W.contents writer.old) (W.contents writer.new) }
+        FailsToCarryOut (IsKeptIn (image_at S.Start)) command.now (R.remaining reader) (W.contents writer.old) (W.contents writer.new) }
 {
     match *command {
         Command::AnswerSubmission => (first_run(rt.alloc(), reader, writer), None),

@@ -24,7 +24,8 @@ use std::io::{Read, Write};
 /// `WrongVersion 9` or `unavailable` is printed, and there is no session.
 ///
 /// By the clauses each answer is the text of its message after those before it, for every history whose
-/// book the file kept, where nobody else acted on the file.
+/// book the file kept, and the tables then stand for that history with these messages and no other, where
+/// nobody else acted on the file.
 pub fn answer_by_file<S: Start, R: Read + Drop, W: Write>(
     rt: &HostRuntime,
     path: &str,
@@ -34,10 +35,12 @@ pub fn answer_by_file<S: Start, R: Read + Drop, W: Write>(
 ) -> (Status, Option<Connection<FileStore<FileFrom<S>>>>)
     ensures answered { result.0 ≢ Status.Failed → MatchOption result.1
         (SaysUnopened (W.contents writer.old) (W.contents writer.new) result.0)
-        (λ c. HasAnsweredFrom (HasCleanDisk (file_state c)) (IsKeptIn (image_at S.Start)) (R.remaining reader) (W.contents writer.old) (W.contents writer.new) result.0) }
+        (λ c. HasAnsweredFrom (HasCleanDisk (file_state c)) (IsKeptIn (image_at S.Start)) (StandsBehind (Sees (file_state c)))
+            (R.remaining reader) (W.contents writer.old) (W.contents writer.new) result.0) }
     ensures failed { result.0 ≡ Status.Failed → MatchOption result.1
         (BreaksOffUnopened (W.contents writer.old) (W.contents writer.new))
-        (λ c. BreaksOffFrom (HasCleanDisk (file_state c)) (IsKeptIn (image_at S.Start)) (R.remaining reader) (W.contents writer.old) (W.contents writer.new)) }
+        (λ c. BreaksOffFrom (HasCleanDisk (file_state c)) (IsKeptIn (image_at S.Start)) (StandsBehind (Sees (file_state c)))
+            (R.remaining reader) (W.contents writer.old) (W.contents writer.new)) }
 {
     match desk_files::open(rt, path, start) {
         Ok(conn) => {
@@ -58,9 +61,11 @@ fn answer_by_tables<P: Alter + Drop, R: Read + Drop, W: Write>(
 ) -> (Status, Connection<P>)
     ensures before { HasCleanDisk (state P.Store result.1) → HasCleanDisk (state P.Store conn) }
     ensures answered { result.0 ≢ Status.Failed →
-        HasAnsweredFrom (HasCleanDisk (state P.Store result.1)) (StandsBehind (Sees (state P.Store conn))) (R.remaining reader) (W.contents writer.old) (W.contents writer.new) result.0 }
+        HasAnsweredFrom (HasCleanDisk (state P.Store result.1)) (StandsBehind (Sees (state P.Store conn))) (StandsBehind (Sees (state P.Store result.1)))
+        (R.remaining reader) (W.contents writer.old) (W.contents writer.new) result.0 }
     ensures failed { result.0 ≡ Status.Failed →
-        BreaksOffFrom (HasCleanDisk (state P.Store result.1)) (StandsBehind (Sees (state P.Store conn))) (R.remaining reader) (W.contents writer.old) (W.contents writer.new) }
+        BreaksOffFrom (HasCleanDisk (state P.Store result.1)) (StandsBehind (Sees (state P.Store conn))) (StandsBehind (Sees (state P.Store result.1)))
+        (R.remaining reader) (W.contents writer.old) (W.contents writer.new) }
 {
     let (status, store) = answer_remembering(alloc, SqlStore::new(conn), reader, writer);
     (status, store.into_connection())

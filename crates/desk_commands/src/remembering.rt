@@ -44,9 +44,11 @@ pub fn answer_remembering<S: Store + Drop, R: Read + Drop, W: Write>(
 ) -> (Status, S)
     ensures before { S.is_clean result.1 → S.is_clean store }
     ensures answered { result.0 ≢ Status.Failed →
-        HasAnsweredFrom (S.is_clean result.1) (StandsBehind (S.holds store)) (R.remaining reader) (W.contents writer.old) (W.contents writer.new) result.0 }
+        HasAnsweredFrom (S.is_clean result.1) (StandsBehind (S.holds store)) (StandsBehind (S.holds result.1))
+        (R.remaining reader) (W.contents writer.old) (W.contents writer.new) result.0 }
     ensures failed { result.0 ≡ Status.Failed →
-        BreaksOffFrom (S.is_clean result.1) (StandsBehind (S.holds store)) (R.remaining reader) (W.contents writer.old) (W.contents writer.new) }
+        BreaksOffFrom (S.is_clean result.1) (StandsBehind (S.holds store)) (StandsBehind (S.holds result.1))
+        (R.remaining reader) (W.contents writer.old) (W.contents writer.new) }
 {
     let store = Remembering::new(alloc, store);
     let (status, store) = answer_by_store(alloc, store, reader, writer);

@@ -18,7 +18,8 @@ use std::io::{Read, Write};
 /// store back.
 ///
 /// The command ends as `answer_messages` says. By the clauses each answer is the text of its message after
-/// those before it, for every history for which the store stood, where it is clean in the end.
+/// those before it, for every history for which the store stood, and the store given back stands for that
+/// history with these messages and no other, where it is clean in the end.
 pub fn answer_by_store<S: Store + Drop, R: Read + Drop, W: Write>(
     alloc: Global,
     store: S,
@@ -27,9 +28,11 @@ pub fn answer_by_store<S: Store + Drop, R: Read + Drop, W: Write>(
 ) -> (Status, S)
     ensures before { S.is_clean result.1 → S.is_clean store }
     ensures answered { result.0 ≢ Status.Failed →
-        HasAnsweredFrom (S.is_clean result.1) (StandsBehind (S.holds store)) (R.remaining reader) (W.contents writer.old) (W.contents writer.new) result.0 }
+        HasAnsweredFrom (S.is_clean result.1) (StandsBehind (S.holds store)) (StandsBehind (S.holds result.1))
+        (R.remaining reader) (W.contents writer.old) (W.contents writer.new) result.0 }
     ensures failed { result.0 ≡ Status.Failed →
-        BreaksOffFrom (S.is_clean result.1) (StandsBehind (S.holds store)) (R.remaining reader) (W.contents writer.old) (W.contents writer.new) }
+        BreaksOffFrom (S.is_clean result.1) (StandsBehind (S.holds store)) (StandsBehind (S.holds result.1))
+        (R.remaining reader) (W.contents writer.old) (W.contents writer.new) }
 {
     let Ok(routes) = Routes::new(alloc) else {
         return (print_unavailable(writer, Tries::new()), store);

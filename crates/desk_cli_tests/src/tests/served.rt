@@ -50,6 +50,7 @@ const NOT_FOUND: &[u8] =
     b"HTTP/1.1 404 Not Found\r\nContent-Type: application/json\r\nContent-Length: 20\r\nConnection: close\r\n\r\n{\"error\":\"NotFound\"}";
 
 // Standard output of which somebody reads where the desk listens, and calls it there.
+#[derive(Drop)]
 struct Caller<'a> {
     rt: &'a HostRuntime,
     port: u16,

@@ -1,10 +1,13 @@
 use Rattle.sqlite.specs.Files.{file_state}
 use Rattle.sqlite.specs.State.{HasCleanDisk}
 use Rattle.sqlite_wal.specs.Files.{image_at}
+use Rattle.desk_records.specs.Layout.{Sees}
 use Rattle.desk_files.specs.Opened.{IsMadeIn}
+use Rattle.desk_http.specs.Answering.{StandsBehind}
 use Rattle.desk_command_line.specs.InitOptions.{init_texts_of}
 use Rattle.desk_cli.proofs.ClosedFiles.{closed}
 use Rattle.desk_cli.proofs.InitLemmas.{closed_desk}
+use Rattle.desk_cli.proofs.KeptRunLemmas.{closed_answered, closed_broken_off}
 use Rattle.desk_cli.proofs.dispatch.carry_out.Goals as goal
 
 pub returns-in-Init-clause-answered : goal.returns-in-Init-clause-answered
@@ -19,11 +22,11 @@ returns-in-Init-clause-failed g c = λ failed.
 
 pub returns-in-AnswerByFile-clause-answered : goal.returns-in-AnswerByFile-clause-answered
 returns-in-AnswerByFile-clause-answered g c = λ fine.
-    rw c.in-AnswerByFile.is (closed c.answer_by_file.result.1 _ _ _ (λ conn is. ((file_state conn).is_clean, is)) (c.answer_by_file.ensures.answered fine))
+    rw c.in-AnswerByFile.is (closed c.answer_by_file.result.1 _ _ _ (λ conn is. ((file_state conn).is_clean, closed_answered _ _ (StandsBehind (Sees (file_state conn))) _ _ _ _ is)) (c.answer_by_file.ensures.answered fine))
 
 pub returns-in-AnswerByFile-clause-failed : goal.returns-in-AnswerByFile-clause-failed
 returns-in-AnswerByFile-clause-failed g c = λ failed.
-    rw c.in-AnswerByFile.is (closed c.answer_by_file.result.1 _ _ _ (λ conn is. ((file_state conn).is_clean, is)) (c.answer_by_file.ensures.failed failed))
+    rw c.in-AnswerByFile.is (closed c.answer_by_file.result.1 _ _ _ (λ conn is. ((file_state conn).is_clean, closed_broken_off _ _ (StandsBehind (Sees (file_state conn))) _ _ _ is)) (c.answer_by_file.ensures.failed failed))
 
 pub returns-in-Serve-clause-answered : goal.returns-in-Serve-clause-answered
 returns-in-Serve-clause-answered g c = λ fine.
