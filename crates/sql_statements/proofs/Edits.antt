@@ -47,23 +47,13 @@ module _ (layout : Layout) where
   makes_none s inside is_open = record { shown = record { was_open = is_open; is_open = is_open; now_is = refl; committed_is = refl; mode = inside }; holds = λ t h. (h, tt) }
 
   module _ {X : Type 0} (edit : X → Edit layout.Tables) where
-    after_all : (xs ys : List X) (t : layout.Tables) → (each_edit edit (xs ++ ys)).after t ≡ (each_edit edit ys).after ((each_edit edit xs).after t)
-    after_all [] ys t = refl
-    after_all (x ∷ xs) ys t = after_all xs ys ((edit x).after t)
-
-    tells_all : (xs ys : List X) (t : layout.Tables) → (each_edit edit xs).Tells t → (each_edit edit ys).Tells ((each_edit edit xs).after t) → (each_edit edit (xs ++ ys)).Tells t
-    tells_all [] ys t none more = more
-    tells_all (x ∷ xs) ys t all more = (all.0, tells_all xs ys ((edit x).after t) all.1 more)
-
     pub after_more : (xs : List X) (x : X) (t : layout.Tables) → (each_edit edit (xs ++ x ∷ [])).after t ≡ (edit x).after ((each_edit edit xs).after t)
-    after_more xs x = after_all xs (x ∷ [])
+    after_more [] x t = refl
+    after_more (y ∷ xs) x t = after_more xs x ((edit y).after t)
 
     pub tells_more : (xs : List X) (x : X) (t : layout.Tables) → (each_edit edit xs).Tells t → (edit x).Tells ((each_edit edit xs).after t) → (each_edit edit (xs ++ x ∷ [])).Tells t
-    tells_more xs x t all it = tells_all xs (x ∷ []) t all (it, tt)
-
-    -- some rows of a loop, and then others
-    pub makes_all : (xs ys : List X) (old mid new : State) → Makes layout (each_edit edit xs) old mid → Makes layout (each_edit edit ys) mid new → Makes layout (each_edit edit (xs ++ ys)) old new
-    makes_all xs ys = makes_both (each_edit edit xs) (each_edit edit ys) (each_edit edit (xs ++ ys)) (λ t all more. (after_all xs ys t, tells_all xs ys t all more))
+    tells_more [] x t none it = (it, tt)
+    tells_more (y ∷ xs) x t all it = (all.0, tells_more xs x ((edit y).after t) all.1 it)
 
     -- one more row of a loop
     pub makes_more : (xs : List X) (x : X) (old mid new : State) → Makes layout (each_edit edit xs) old mid → Makes layout (edit x) mid new → Makes layout (each_edit edit (xs ++ x ∷ [])) old new
@@ -74,12 +64,12 @@ module _ (layout : Layout) where
     unnumbered first [] = refl
     unnumbered first (x ∷ xs) = ap (then_edit (edit x)) (unnumbered (first + 1) xs)
 
-numbered_all : {X : Type 0} (first : ℕ) (xs ys : List X) → enumerate_from first (xs ++ ys) ≡ enumerate_from first xs ++ enumerate_from (first + length xs) ys
-numbered_all first [] ys = ap (λ n. enumerate_from n ys) (plus_none first)
+numbered_more : {X : Type 0} (first : ℕ) (xs : List X) (x : X) → enumerate_from first (xs ++ x ∷ []) ≡ enumerate_from first xs ++ (first + length xs, x) ∷ []
+numbered_more first [] x = ap (λ n. (n, x) ∷ []) (plus_none first)
   where
     plus_none : (n : ℕ) → n ≡ n + 0
     plus_none n = omega arith
-numbered_all first (x ∷ xs) ys = ap (λ l. (first, x) ∷ l) (numbered_all (first + 1) xs ys ∙ ap (λ n. enumerate_from (first + 1) xs ++ enumerate_from n ys) (plus_one first (length xs)))
+numbered_more first (y ∷ xs) x = ap (λ l. (first, y) ∷ l) (numbered_more (first + 1) xs x ∙ ap (λ n. enumerate_from (first + 1) xs ++ (n, x) ∷ []) (plus_one first (length xs)))
   where
     plus_one : (n m : ℕ) → (n + 1) + m ≡ n + suc m
     plus_one n m = omega arith
@@ -89,12 +79,5 @@ module _ (layout : Layout) {X : Type 0} (edit : ℕ → X → Edit layout.Tables
   pub makes_more_from : (first : ℕ) (xs : List X) (x : X) (old mid new : State) → Makes layout (each_edit_from edit first xs) old mid → Makes layout (edit (first + length xs) x) mid new
       → Makes layout (each_edit_from edit first (xs ++ x ∷ [])) old new
   makes_more_from first xs x old mid new a b =
-      subst (λ l. Makes layout (each_edit (λ p. edit p.0 p.1) l) old new) (sym (numbered_all first xs (x ∷ [])))
+      subst (λ l. Makes layout (each_edit (λ p. edit p.0 p.1) l) old new) (sym (numbered_more first xs x))
       (makes_more layout (λ p. edit p.0 p.1) (enumerate_from first xs) (first + length xs, x) old mid new a b)
-
-  -- some rows of a loop that numbers its rows, and then others
-  pub makes_all_from : (first : ℕ) (xs ys : List X) (old mid new : State) → Makes layout (each_edit_from edit first xs) old mid → Makes layout (each_edit_from edit (first + length xs) ys) mid new
-      → Makes layout (each_edit_from edit first (xs ++ ys)) old new
-  makes_all_from first xs ys old mid new a b =
-      subst (λ l. Makes layout (each_edit (λ p. edit p.0 p.1) l) old new) (sym (numbered_all first xs ys))
-      (makes_all layout (λ p. edit p.0 p.1) (enumerate_from first xs) (enumerate_from (first + length xs) ys) old mid new a b)

@@ -9,7 +9,6 @@ use Rattle.sqlite.specs.Table.{Table}
 use Rattle.sqlite.specs.Schema.{Schema}
 use Rattle.sqlite.specs.Term.{lit}
 use Rattle.sqlite.specs.declared.types.Value.TheVariants.{Null}
-use Rattle.sqlite_schema.specs.declared.command.Source.{Source}
 use Rattle.sqlite.specs.Source.TheVariants.{Values}
 use Rattle.sqlite.specs.Command.TheVariants.{Insert}
 use Rattle.sqlite_trees.specs.Tree.{Trees}
@@ -23,19 +22,15 @@ use Rattle.sqlite_keyed.specs.Keyed.{IsKeyedBy}
 use Rattle.sqlite_keyed.proofs.KeyedLemmas.{int_eq_apart}
 use Rattle.sqlite_keyed.proofs.ListLemmas.{filter_none, filter-map, IsPermutation-filter, any_from_none}
 use Rattle.sql_statements.specs.StoredRows.{row_of, Stores}
-use Rattle.sql_statements.specs.Statements.{IsInsert, IsInsertOf, params_shown}
+use Rattle.sql_statements.specs.Statements.{IsInsert, params_shown}
 use Rattle.sql_statements.proofs.Upserts.{passes, has_image}
 
 -- the rules hold after a statement
-pub source_rules : (schema : Schema) (sql : List ℕ) (at : ℕ) (source : Source) → IsInsertOf schema sql at source → (params : Row) (old new : State) (count : ℕ) → old.now.schema ≡ schema → new.now.schema ≡ schema
-    → Executes sql params old new (Ok count) → Keeps Unique schema new.now.trees
-source_rules schema sql at source is params old new count has after h =
-    let w = runs_as sql params old new schema has (Insert at source) is.is is.plain count h in
-    subst (λ s. Keeps Unique s new.now.trees) after (w.sound.obeys.rules Unique)
-
 pub insert_rules : (schema : Schema) (sql : List ℕ) (at : ℕ) (table : Table) → IsInsert schema sql at table → (params : Row) (old new : State) (count : ℕ) → old.now.schema ≡ schema → new.now.schema ≡ schema
     → Executes sql params old new (Ok count) → Keeps Unique schema new.now.trees
-insert_rules schema sql at table = source_rules schema sql at (Values (lit Null ∷ params_shown (length table.columns)) (suc (length table.columns)))
+insert_rules schema sql at table is params old new count has after h =
+    let w = runs_as sql params old new schema has (Insert at (Values (lit Null ∷ params_shown (length table.columns)) (suc (length table.columns)))) is.is is.plain count h in
+    subst (λ s. Keeps Unique s new.now.trees) after (w.sound.obeys.rules Unique)
 
 bool_not : (b : Bool) → (b ≡ true → ⊥) → b ≡ false
 bool_not true h = absurd (h refl)

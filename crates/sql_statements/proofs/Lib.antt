@@ -10,7 +10,6 @@ pub mod FreeKeys
 pub mod Inserts
 pub mod KeyOrder
 pub mod LastRows
-pub mod ManyKeys
 pub mod NewIndexes
 pub mod NewTables
 pub mod OneList
@@ -22,4 +21,3 @@ pub mod Selects
 pub mod StoredRows
 pub mod Sums
 pub mod Upserts
-pub mod ValueRows

@@ -3,14 +3,11 @@ use Rattle.std.proofs.Common.{◌≡◌, ℕ, ℤ, pos, ◌+ℤ◌, Bool, true, 
 use Rattle.std.specs.List.{AllByRecursion, list_any}
 use Rattle.std.specs.Ordering.{match_ordering}
 use Rattle.std.proofs.lemmas.Bool.{and_parts, not-true, or_parts}
-use Rattle.std.proofs.lemmas.List.{map-append}
 use Rattle.std.proofs.lemmas.List.Sorted.{IsPermutation-refl, IsPermutation-cons, IsPermutation-trans, IsPermutation-sym, IsPermutation-middle, IsPermutation-map, IsPermutation-append_right, IsPermutation-append_left, list_any-IsPermutation}
 use Rattle.sqlite_value.specs.Order.{Row}
-use Rattle.sqlite_value.specs.declared.value.Value.TheVariants.{Null}
 use Rattle.sqlite_value.proofs.OrderLemmas.{value_cmp-Int}
 use Rattle.sqlite_trees.specs.Tree.{rowid, put_row}
-use Rattle.sqlite.specs.Rowids.TheVariants.{Chosen}
-use Rattle.sqlite_rules.specs.Edit.{put_all, without_all, is_taken, are_fresh, next_rowid, numbered}
+use Rattle.sqlite_rules.specs.Edit.{put_all, without_all, is_taken, are_fresh, next_rowid}
 use Rattle.sqlite_keyed.specs.Keyed.{IsKeyedBy, insert_by}
 use Rattle.sqlite_keyed.specs.Lists.{without_key, delete_where, update_where}
 use Rattle.sqlite_keyed.proofs.KeyedLemmas.{IsKeyedBy-insert_by, IsKeyedBy-delete_where}
@@ -117,36 +114,18 @@ module _ {X : Type 0} (encode : X → Row) where
   next_is [] a = refl
   next_is (p ∷ ps) a = next_is ps (p.0 +ℤ pos 1)
 
-  -- the row of a new value, which has no rowid yet
-  abbrev pub new_row : X → Row
-  new_row x = Null ∷ encode x
-
-  -- the new rows, each under the rowid that the table chooses
-  pub numbered_are : (ys : List X) (rows : List Row) → (news : List (ℤ × X)) × (numbered Chosen rows (map new_row ys) ≡ map (row_of encode) news) × (map (λ (r : ℤ × X). r.1) news ≡ ys)
-  numbered_are [] rows = ([], refl, refl)
-  numbered_are (y ∷ ys) rows =
-      let i = next_rowid rows in
-      let more = numbered_are ys (put_row (row_of encode (i, y)) rows) in
-      ((i, y) ∷ more.0, ap (λ l. row_of encode (i, y) ∷ l) more.1, ap (λ l. y ∷ l) more.2)
-
-  pub stores_insert_all : (rows next : List Row) (xs ys : List X) → Stores encode rows xs → let news = numbered Chosen rows (map new_row ys) in are_fresh rows news ≡ true → next ≡ put_all rows news → Stores encode next (ys ++ xs)
-  stores_insert_all rows next xs ys h fresh is =
-      let named = numbered_are ys rows in
-      let values = λ (r : ℤ × X). r.1 in
-      let put = puts_store named.0 h.numbered (subst (λ l. are_fresh l (map (row_of encode) named.0) ≡ true) h.are (subst (λ n. are_fresh rows n ≡ true) named.1 fresh)) h.rise in
-      record {
-        numbered = put.0;
-        are = is ∙ ap (put_all rows) named.1 ∙ ap (λ l. put_all l (map (row_of encode) named.0)) h.are ∙ put.1;
-        rise = put.2;
-        same = IsPermutation-trans _ _ _ (IsPermutation-sym _ _ (IsPermutation-map values _ _ put.3))
-            (subst (λ l. IsPermutation l (ys ++ xs)) (sym (map-append values named.0 h.numbered))
-            (subst (λ l. IsPermutation (l ++ map values h.numbered) (ys ++ xs)) (sym named.2) (IsPermutation-append_right ys _ _ h.same)));
-      }
-
   -- a new row under the rowid that the table chooses
   pub stores_insert : (rows next : List Row) (xs : List X) (x : X) → Stores encode rows xs
       → let new = row_of encode (next_rowid rows, x) in are_fresh rows (new ∷ []) ≡ true → next ≡ put_all rows (new ∷ []) → Stores encode next (x ∷ xs)
-  stores_insert rows next xs x = stores_insert_all rows next xs (x ∷ [])
+  stores_insert rows next xs x h fresh is =
+      let i = next_rowid rows in
+      let put = puts_store ((i, x) ∷ []) h.numbered (subst (λ l. are_fresh l (row_of encode (i, x) ∷ []) ≡ true) h.are fresh) h.rise in
+      record {
+        numbered = put.0;
+        are = is ∙ ap (λ l. put_all l (row_of encode (i, x) ∷ [])) h.are ∙ put.1;
+        rise = put.2;
+        same = IsPermutation-trans _ _ _ (IsPermutation-sym _ _ (IsPermutation-map (λ (p : ℤ × X). p.1) _ _ put.3)) (IsPermutation-cons x _ _ h.same);
+      }
 
   -- the values in another order
   pub stores_in : (rows : List Row) (xs ys : List X) → IsPermutation xs ys → Stores encode rows xs → Stores encode rows ys

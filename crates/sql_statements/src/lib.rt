@@ -22,6 +22,5 @@ pub use definition::{create_index, create_table};
 pub use parameter::{blob, number, text};
 pub use statement::{execute, query};
 pub use transaction::{
-    BatchBody, RowBody, TransactionBody, commit, execute_one, query_first_inside, query_inside,
-    run_batches, run_each,
+    RowBody, TransactionBody, commit, execute_one, query_first_inside, query_inside, run_each,
 };
