@@ -1,16 +1,19 @@
 -- The lemmas, by what is written:
+--   submissions               EntryInserts, SubmissionRows
+--   many rows at once         ManyEdits, ManyInserts, ManyKeys, ValueRows
 --   days, companies, limits   Companies, Days, Holidays
 --   lines and balances        BalanceLists, BalanceUpserts, JoinedLines, LineSums, PendingSums, PostingInserts
 --   cuts                      EntryUpdates, FileInserts, KeyTests, NumberUpserts, SubmissionUpdates
 --   incoming files            ChangeInserts, NamedSubmissions, ReturnInserts, SuspenseInserts, TakenInserts
--- Conditions, Keys, LastNumbers, Numbered, NumberedRows, OtherTables and SubmissionRows are lemmas on which
--- several of these stand, and the submissions too.
+-- Conditions, Keys, LastNumbers, Numbered, NumberedRows and OtherTables are lemmas on which several of these
+-- stand.
 mod BalanceLists
 mod BalanceUpserts
 mod ChangeInserts
 mod Companies
 pub mod Conditions
 mod Days
+mod EntryInserts
 mod EntryUpdates
 mod FileInserts
 mod Holidays
@@ -19,6 +22,9 @@ mod KeyTests
 mod Keys
 mod LastNumbers
 mod LineSums
+mod ManyEdits
+mod ManyInserts
+mod ManyKeys
 mod NamedSubmissions
 mod NumberUpserts
 mod Numbered
@@ -31,3 +37,4 @@ mod SubmissionRows
 mod SubmissionUpdates
 mod SuspenseInserts
 mod TakenInserts
+mod ValueRows

@@ -119,12 +119,20 @@ insert_entry_is = record { is = refl; plain = (refl, refl) }
 pub entry_total : IsTotalOrder entry_cmp
 entry_total = then_total (then_total (on_total (λ (r : EntryRecord). r.company) nat_list_cmp_total) (on_total (λ (r : EntryRecord). r.order) nat_cmp_total)) (on_total (λ (r : EntryRecord). r.index) nat_cmp_total)
 
-same_entry : (c : List ℕ) (n i : ℕ) (a b : ℤ × EntryRecord) → is_entry_row c n i a.1 ≡ true → is_entry_row c n i b.1 ≡ true → agree plain (1 ∷ 2 ∷ 3 ∷ []) (row_of entry_row b) (1 ∷ 2 ∷ 3 ∷ []) (row_of entry_row a) ≡ true
+pub same_entry : (c : List ℕ) (n i : ℕ) (a b : ℤ × EntryRecord) → is_entry_row c n i a.1 ≡ true → is_entry_row c n i b.1 ≡ true → agree plain (1 ∷ 2 ∷ 3 ∷ []) (row_of entry_row b) (1 ∷ 2 ∷ 3 ∷ []) (row_of entry_row a) ≡ true
 unfolding first_key
 same_entry c n i a b h k =
     let x = and_parts (bytes_eq a.1.company c && (a.1.order == n)) (a.1.index == i) h in let y = and_parts (bytes_eq b.1.company c && (b.1.order == n)) (b.1.index == i) k in
     let v = and_parts (bytes_eq a.1.company c) (a.1.order == n) x.0 in let w = and_parts (bytes_eq b.1.company c) (b.1.order == n) y.0 in
     and_from _ _ (key_text a.1.company b.1.company c v.0 w.0) (and_from _ _ (key_number a.1.order b.1.order n v.1 w.1) (and_from _ _ (key_number a.1.index b.1.index i x.1 y.1) refl))
+
+pub same_entry_key : (x y : EntryRecord) → is_eq (entry_cmp y x) ≡ is_entry_row x.company x.order x.index y
+same_entry_key x y =
+    equal_both _ _
+    ∙ (let f = equal_both _ _ ∙ (let c = is_eq-slice_cmp y.company x.company in let n = equal_numbers y.order x.order in λ i. c i && n i) in let m = equal_numbers y.index x.index in λ i. f i && m i)
+
+pub entry_itself : (x : EntryRecord) → is_entry_row x.company x.order x.index x ≡ true
+entry_itself x = and_from _ _ (and_from _ _ (text_itself x.company) (number_itself x.order)) (number_itself x.index)
 
 pub entry_put : (x : EntryRecord) (old new : State) (count : ℕ) → Executes insert_entry (entry_row x) old new (Ok count) → (t : Tables) → Holds desk_layout old.now t
     → Holds desk_layout new.now (record t { entries = insert_sorted entry_cmp x t.entries }) × (find (is_entry_row x.company x.order x.index) t.entries ≡ None)
@@ -132,10 +140,10 @@ entry_put x old new count ran t h =
     let s = entries_table in
     let done = inserted entry_row desk_schema 4 9 s.name s.columns s.primary s.uniques s.orders insert_entry insert_entry_is refl (λ olds news. refl) x refl (row_kept s Null (entry_row x) refl (entry_kept x)) old new count h.0 t.entries h.1.entries.stored ran in
     let rules = insert_rules desk_schema insert_entry 4 s insert_entry_is (entry_row x) old new count h.0 done.0.schema_is ran in
-    let free = key_free entry_row desk_schema s (1 ∷ 2 ∷ 3 ∷ []) (is_entry_row x.company x.order x.index) (same_entry x.company x.order x.index) (λ db row any. taken_first _ _ any) new.now.trees x t.entries (and_from _ _ (and_from _ _ (text_itself x.company) (number_itself x.order)) (number_itself x.index)) done.1 rules.1.1.1.1.0 in (
+    let free = key_free entry_row desk_schema s (1 ∷ 2 ∷ 3 ∷ []) (is_entry_row x.company x.order x.index) (same_entry x.company x.order x.index) (λ db row any. taken_first _ _ any) new.now.trees x t.entries (entry_itself x) done.1 rules.1.1.1.1.0 in (
       (
         done.0.schema_is,
-        entries_changed old.now.trees new.now.trees t h.1 done.0.others _ (put_in_order entry_row entry_cmp entry_total (is_entry_row x.company x.order x.index) new.now.trees s x t.entries (λ y. equal_both _ _ ∙ (let f = equal_both _ _ ∙ (let c = is_eq-slice_cmp y.company x.company in let n = equal_numbers y.order x.order in λ i. c i && n i) in let m = equal_numbers y.index x.index in λ i. f i && m i)) free h.1.entries.rise done.1),
+        entries_changed old.now.trees new.now.trees t h.1 done.0.others _ (put_in_order entry_row entry_cmp entry_total (is_entry_row x.company x.order x.index) new.now.trees s x t.entries (same_entry_key x) free h.1.entries.rise done.1),
       ),
       find_none (is_entry_row x.company x.order x.index) t.entries free,
     )

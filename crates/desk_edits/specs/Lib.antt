@@ -1,8 +1,10 @@
 pub mod CutTexts
+pub mod EntryEdits
 pub mod HolidayEdits
 pub mod IntakeTexts
 pub mod LineEdits
 pub mod LineTexts
+pub mod ManyRows
 pub mod Numbering
 pub mod PendingBalances
 pub mod PlaceEdits

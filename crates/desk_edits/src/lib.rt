@@ -8,8 +8,10 @@
 #![tactic(auto)]
 
 mod account_lines;
+mod batches;
 mod cell;
 mod cut;
+mod entries;
 mod intake;
 mod numbering;
 mod parameters;

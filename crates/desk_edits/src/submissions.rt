@@ -9,14 +9,16 @@ ghost use Rattle.sqlite_value.specs.declared.value.Value.TheVariants.{Text};
 ghost use Rattle.desk_records.specs.Columns.{number};
 ghost use Rattle.desk_records.specs.Encodes.{AsksAs, retried_entry};
 ghost use Rattle.desk_records.specs.Layout.{desk_layout};
-ghost use Rattle.desk_records.specs.TableEdits.{add_submission_edit, put_submission_edit, put_entry_edit, put_authorization_edit};
+ghost use Rattle.desk_records.specs.TableEdits.{add_submission_edit, put_submission_edit, put_authorization_edit};
 
-use crate::parameters::{direction, optional_text, savings, switch};
+use crate::batches::run_batches;
+use crate::entries::EntryRows;
+use crate::parameters::{direction, switch};
 use ach_fields::{Id, Ref};
 use bank_days::Day;
 use desk_queries::{characters, date, natural};
-use desk_rules::{Entry, Retry, RuleDay, SizedSubmission, Submission};
-use sql_statements::{RowBody, TransactionBody, execute, run_each};
+use desk_rules::{Retry, RuleDay, SizedSubmission, Submission};
+use sql_statements::{TransactionBody, execute};
 use sqlite::types::ValueRef;
 use sqlite::{Alter, Error, Transaction};
 
@@ -43,7 +45,7 @@ impl<'a> TransactionBody for AddSubmission<'a> {
             company: self.company,
             order: self.order,
         };
-        run_each(tx, &rows, 1, content.entries.as_slice())?;
+        run_batches(tx, &rows, 1, content.entries.as_slice())?;
         put_authorization(tx, &self.company, self.order, authorized_by(&self.retry))?;
         Ok(())
     }
@@ -126,79 +128,6 @@ fn put_submission<'x, S: Alter>(
             ValueRef::Null,
             ValueRef::Null,
             ValueRef::Null,
-            ValueRef::Null,
-        ],
-    )?;
-    Ok(())
-}
-
-// The rows of the entries of a submission, which number them.
-#[derive(Clone, Copy)]
-struct EntryRows {
-    company: Id,
-    order: u64,
-}
-
-impl RowBody for EntryRows {
-    type Row = Entry;
-
-    ghost layout = { desk_layout };
-
-    ghost edit = { λ b. put_entry_edit b.company b.order };
-
-    fn run_row<S: Alter>(
-        &self,
-        tx: &mut Transaction<'_, S>,
-        number: u64,
-        entry: &Entry,
-    ) -> Result<(), Error> {
-        let row = EntryRow {
-            company: self.company,
-            order: self.order,
-            index: number,
-            routing: entry.routing.text(),
-            entry: *entry,
-        };
-        put_entry(tx, &row)
-    }
-}
-
-// An entry stands beside the text of its routing number, so that its row borrows from one value.
-#[derive(Clone, Copy)]
-struct EntryRow {
-    company: Id,
-    order: u64,
-    index: u64,
-    routing: [u8; 9],
-    entry: Entry,
-}
-
-// Writes the row of an entry that was not sent.
-fn put_entry<S: Alter>(tx: &mut Transaction<'_, S>, row: &EntryRow) -> Result<(), Error>
-    requires { row.now.routing ≡ row.now.entry.routing }
-    ensures same_reference { tx.new.conn.ghost_name ≡ tx.old.conn.ghost_name }
-    ensures makes { HasCleanDisk (state S.Store tx.new.conn.now) → OnOk result (Makes desk_layout (put_entry_edit row.now.company row.now.order row.now.index row.now.entry) (state S.Store tx.old.conn.now) (state S.Store tx.new.conn.now)) }
-    ensures keeps { HasCleanDisk (state S.Store tx.new.conn.now) → KeepsCommit (state S.Store tx.old.conn.now) (state S.Store tx.new.conn.now) }
-    ensures survives { Survives (state S.Store tx.old.conn.now) (state S.Store tx.new.conn.now) (λ _. ⊥) }
-{
-    let order = natural(row.order)?;
-    let index = natural(row.index)?;
-    let cents = natural(row.entry.cents.get())?;
-    execute(
-        tx,
-        "INSERT INTO entries VALUES (?1, ?2, ?3, ?4, ?5, ?6, ?7, ?8, ?9, ?10, ?11, ?12)",
-        &[
-            characters(row.company.bytes()),
-            order,
-            index,
-            characters(&row.routing),
-            characters(row.entry.account.bytes()),
-            savings(row.entry.kind),
-            switch(row.entry.prenote),
-            cents,
-            characters(row.entry.id.bytes()),
-            characters(row.entry.name.bytes()),
-            optional_text(&row.entry.info),
             ValueRef::Null,
         ],
     )?;

@@ -32,6 +32,32 @@ fn a_submission_is_sent_again(rt: HostRuntime) {
     );
 }
 
+// One more entry than one statement writes.
+#[test]
+fn seventeen_entries_are_one_submission(rt: HostRuntime) {
+    holds(
+        &rt,
+        &[
+            MILL,
+            DAY,
+            (
+                "MILL01 submit PAY-1 credit 2025-01-10 091000019 \
+                 101 102 103 104 105 106 107 108 109 110 \
+                 111 112 113 114 115 116 117",
+                "PAY-1 order 1 entries 17 cents 1853",
+            ),
+            (
+                "MILL01 look PAY-1",
+                "PAY-1 order 1 2025-01-10\
+                 ; 1 101 held; 2 102 held; 3 103 held; 4 104 held; 5 105 held\
+                 ; 6 106 held; 7 107 held; 8 108 held; 9 109 held; 10 110 held\
+                 ; 11 111 held; 12 112 held; 13 113 held; 14 114 held; 15 115 held\
+                 ; 16 116 held; 17 117 held",
+            ),
+        ],
+    );
+}
+
 // References and order numbers are each company's own.
 #[test]
 fn two_companies_use_one_reference(rt: HostRuntime) {

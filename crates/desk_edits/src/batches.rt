@@ -1,0 +1,58 @@
+//! A transaction does the same for each row of a list, for sixteen rows at a time as long as there are so
+//! many.
+ghost use Rattle.std.specs.Prelude.{◌≡◌, ◌+◌, ◌<◌, ◌^◌, length, OnOk};
+ghost use Rattle.sqlite.specs.Held.{state};
+ghost use Rattle.sqlite.specs.State.{HasCleanDisk, Survives, KeepsCommit};
+ghost use Rattle.sql_statements.specs.Edits.{each_edit_from};
+ghost use Rattle.sql_statements.specs.Transactions.{Makes};
+
+use sql_statements::{RowBody, run_each};
+use sqlite::{Alter, Error, ErrorCode, Transaction};
+
+/// A `BatchBody` also has the statements of sixteen rows of a list at once, which make the edits of these
+/// rows, one after another.
+pub(crate) trait BatchBody: RowBody {
+    /// Runs the statements of sixteen rows, of which the first has this number. After an error the
+    /// transaction has to be rolled back.
+    fn run_batch<S: Alter>(
+        &self,
+        tx: &mut Transaction<'_, S>,
+        first: u64,
+        rows: &[Self::Row],
+    ) -> Result<(), Error>
+        requires many { length rows.now ≡ 16 }
+        requires numbers { first + 16 < 2 ^ 64 }
+        ensures same_reference { tx.new.conn.ghost_name ≡ tx.old.conn.ghost_name }
+        ensures makes { HasCleanDisk (state S.Store tx.new.conn.now) → OnOk result (Makes Self.layout (each_edit_from (Self.edit self.now) first rows.now) (state S.Store tx.old.conn.now) (state S.Store tx.new.conn.now)) }
+        ensures keeps { HasCleanDisk (state S.Store tx.new.conn.now) → KeepsCommit (state S.Store tx.old.conn.now) (state S.Store tx.new.conn.now) }
+        ensures survives { Survives (state S.Store tx.old.conn.now) (state S.Store tx.new.conn.now) (λ _. ⊥) };
+}
+
+/// Runs the statements of each row, in order, with numbers from the first on: of sixteen rows at once, and
+/// one by one of those that are left. Where no number comes after that of a row, it ends with
+/// `ErrorCode::IntegerOverflow`.
+pub(crate) fn run_batches<S: Alter, B: BatchBody>(
+    tx: &mut Transaction<'_, S>,
+    body: &B,
+    first: u64,
+    rows: &[B::Row],
+) -> Result<(), Error>
+    ensures same_reference { tx.new.conn.ghost_name ≡ tx.old.conn.ghost_name }
+    ensures makes { HasCleanDisk (state S.Store tx.new.conn.now) → OnOk result (Makes B.RowBody.layout (each_edit_from (B.RowBody.edit body.now) first rows.now) (state S.Store tx.old.conn.now) (state S.Store tx.new.conn.now)) }
+    ensures keeps { HasCleanDisk (state S.Store tx.new.conn.now) → KeepsCommit (state S.Store tx.old.conn.now) (state S.Store tx.new.conn.now) }
+    ensures survives { Survives (state S.Store tx.old.conn.now) (state S.Store tx.new.conn.now) (λ _. ⊥) }
+{
+    let mut number = first;
+    let mut rest = rows;
+    'batches: while rest.len() >= 16 {
+        let (batch, later) = rest.split_at(16);
+        let Some(next) = number.checked_add(16) else {
+            return Err(Error::SqliteFailure(ErrorCode::IntegerOverflow));
+        };
+        body.run_batch(tx, number, batch)?;
+        number = next;
+        rest = later;
+    }
+    run_each(tx, body, number, rest)?;
+    Ok(())
+}
