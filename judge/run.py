@@ -43,6 +43,7 @@ JUDGES = (
     Judge("private_files"),
     Judge("big_day", (), is_asked=True),
     Judge("costs", (), is_asked=True),
+    Judge("peaks", (), is_asked=True),
     Judge("opening", (), is_asked=True),
     Judge("openapi", (), is_asked=True),
     Judge("growths", (), is_asked=True, takes_program=False),
