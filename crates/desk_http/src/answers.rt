@@ -28,19 +28,20 @@ pub fn answer<S: Store>(
     alloc: Global,
     desk: &mut Desk<S>,
     routes: &Routes,
-    message: &Message<'_>,
+    message: Message<'_>,
 ) -> Result<Vec<u8>, Unavailable>
     ensures before { S.is_clean desk.new → S.is_clean desk.old }
-    ensures goes { S.is_clean desk.new → GoesBytes (S.holds desk.old) (message_value message.now) result (S.holds desk.new) }
-    ensures replies { S.is_clean desk.new → RepliesBytes (S.holds desk.old) (message_value message.now) result }
-    ensures left { S.is_clean desk.new → LeavesBytes S.keeps (S.holds desk.old) (S.may_leave desk.old) (message_value message.now) result (S.may_leave desk.new) }
+    ensures goes { S.is_clean desk.new → GoesBytes (S.holds desk.old) (message_value message) result (S.holds desk.new) }
+    ensures replies { S.is_clean desk.new → RepliesBytes (S.holds desk.old) (message_value message) result }
+    ensures left { S.is_clean desk.new → LeavesBytes S.keeps (S.holds desk.old) (S.may_leave desk.old) (message_value message) result (S.may_leave desk.new) }
 {
     desk_bytes::one_meaning();
     desk_bytes::own_text();
     desk_bytes::calls_are_history();
+    let closes = closes(&message);
     match verdict_of(alloc, desk, routes, message) {
-        Ok(Ok(call)) => carry_out(alloc, desk, call, closes(message)),
-        Ok(Err(fault)) => answer_fault(alloc, fault, closes(message)),
+        Ok(Ok(call)) => carry_out(alloc, desk, call, closes),
+        Ok(Err(fault)) => answer_fault(alloc, fault, closes),
         Err(_) => Err(Unavailable),
     }
 }

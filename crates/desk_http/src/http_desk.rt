@@ -42,7 +42,7 @@ impl<S: Store> Answers for HttpDesk<S> {
 
     ghost step = { IsAnswered };
 
-    fn answer(&mut self, alloc: Global, message: &Message<'_>) -> Result<Vec<u8>, Unavailable> {
+    fn answer(&mut self, alloc: Global, message: Message<'_>) -> Result<Vec<u8>, Unavailable> {
         desk_bytes::one_meaning();
         answer(alloc, &mut self.desk, &self.routes, message)
     }

@@ -19,15 +19,16 @@ use operator::operator_verdict;
 use std::alloc::Global;
 
 /// Gives the call that a message makes of the desk, or the fault that is answered in its place. The
-/// desk tells who has which key, and nothing else is read of it.
+/// desk tells who has which key, and nothing else is read of it. A file or a holiday list is the body
+/// itself, and no copy of it.
 pub(crate) fn verdict_of<S: Store>(
     alloc: Global,
     desk: &mut Desk<S>,
     routes: &Routes,
-    message: &Message<'_>,
+    message: Message<'_>,
 ) -> Result<Result<Call, MessageFault>, StoreFault>
     ensures before { S.is_clean desk.new → S.is_clean desk.old }
-    ensures read { S.is_clean desk.new → Reads (S.holds desk.old) result (λ b. verdict_on b (message_value message.now)) (S.holds desk.new) }
+    ensures read { S.is_clean desk.new → Reads (S.holds desk.old) result (λ b. verdict_on b (message_value message)) (S.holds desk.new) }
     ensures left { S.is_clean desk.new → LeavesRead (S.may_leave desk.old) (S.may_leave desk.new) }
 {
     match message {
@@ -40,14 +41,14 @@ fn request_verdict<S: Store>(
     alloc: Global,
     desk: &mut Desk<S>,
     routes: &Routes,
-    request: &Request<'_>,
+    request: Request<'_>,
 ) -> Result<Result<Call, MessageFault>, StoreFault>
     ensures before { S.is_clean desk.new → S.is_clean desk.old }
-    ensures read { S.is_clean desk.new → Reads (S.holds desk.old) result (λ b. verdict_on b (asked (request_value request.now))) (S.holds desk.new) }
+    ensures read { S.is_clean desk.new → Reads (S.holds desk.old) result (λ b. verdict_on b (asked (request_value request))) (S.holds desk.new) }
     ensures left { S.is_clean desk.new → LeavesRead (S.may_leave desk.old) (S.may_leave desk.new) }
 {
-    match route_of(routes, request) {
-        Ok(Route::Company(route)) => company_verdict(alloc, desk, route, request),
+    match route_of(routes, &request) {
+        Ok(Route::Company(route)) => company_verdict(alloc, desk, route, &request),
         Ok(Route::Operator(route)) => operator_verdict(alloc, desk, route, request),
         Err(fault) => Ok(Err(fault)),
     }

@@ -30,7 +30,7 @@ request_value r = record {
   target = r.target.now;
   version = r.version;
   fields = map field_value r.fields.now;
-  body = r.body.now;
+  body = r.body.items;
   is_last = r.is_last;
 }
 

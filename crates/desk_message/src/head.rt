@@ -74,18 +74,19 @@ fn version_of(minor: u8) -> Version
     }
 }
 
-/// The request at the start of the bytes, whose parts lie where the spans say, without its body.
+/// The request at the start of the bytes, whose parts lie where the spans say, with this body.
 pub fn request_at<'f, 'b: 'f>(
     bytes: &'b [u8],
     fields: &[HeaderSpan],
     head: &RequestSpans,
     room: &'f mut [Field<'b>],
+    body: Vec<u8>,
     is_last: bool,
 ) -> Request<'f>
     requires within { IsRequestWithin bytes.now fields.now head.now }
     requires fits { length fields.now ≤ length room.old }
     ensures { (h : RequestHead) → IsRequestAt bytes.now fields.now head.now h
-        → request_value result ≡ request_of h [] is_last }
+        → request_value result ≡ request_of h body.items is_last }
 {
     let count = head.headers;
     put_fields(bytes, &fields[..count], room);
@@ -95,7 +96,7 @@ pub fn request_at<'f, 'b: 'f>(
         target: head.path.of(bytes),
         version: version_of(head.version),
         fields: &all[..count],
-        body: b"",
+        body,
         is_last,
     }
 }

@@ -30,21 +30,21 @@ pub const EMPTY_FIELD: Field<'static> = Field {
 };
 
 /// A request: its head and its body.
-#[derive(Clone, Copy)]
+#[derive(Drop)]
 pub struct Request<'a> {
     pub method: &'a [u8],
     /// The target as it was sent, with what follows a question mark.
     pub target: &'a [u8],
     pub version: Version,
     pub fields: &'a [Field<'a>],
-    /// Empty where the head alone decides the answer.
-    pub body: &'a [u8],
+    /// Empty where the head alone decides the answer. Who answers the request may keep it.
+    pub body: Vec<u8>,
     /// Whether it is the last message that its session takes.
     pub is_last: bool,
 }
 
 /// A message of a session.
-#[derive(Clone, Copy)]
+#[derive(Drop)]
 pub enum Message<'a> {
     /// The bytes are no head that is small enough, or its length is bad.
     BadHead,

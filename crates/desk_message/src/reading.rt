@@ -174,13 +174,18 @@ fn read_body<R: Read>(
 }
 
 /// What the head at the start of the bytes says of its body.
-fn head_framing(bytes: &[u8], fields: &[HeaderSpan], head: &RequestSpans) -> Framing
+fn head_framing(
+    alloc: Global,
+    bytes: &[u8],
+    fields: &[HeaderSpan],
+    head: &RequestSpans,
+) -> Framing
     requires within { IsRequestWithin bytes.now fields.now head.now }
     requires fits { length fields.now ≡ MAX_FIELDS }
     ensures { (h : RequestHead) → IsRequestAt bytes.now fields.now head.now h → result ≡ head_framing h }
 {
     let mut room = [EMPTY_FIELD; MAX_FIELDS];
-    let request = request_at(bytes, fields, head, &mut room, false);
+    let request = request_at(bytes, fields, head, &mut room, Vec::new(alloc), false);
     framing_of(request.method, request.fields)
 }
 
@@ -199,7 +204,7 @@ fn read_rest<R: Read>(
     ensures arrived { Arrives result fields.now (R.remaining reader.old) (R.remaining reader.new) bytes.now bytes.now }
     ensures mark { ArrivalMarks result tries.old tries.new }
 {
-    match head_framing(bytes, fields, &head) {
+    match head_framing(alloc, bytes, fields, &head) {
         Framing::BadLength => Arrival::BadHead,
         Framing::LengthRequired | Framing::TooLarge => Arrival::Request(head, Vec::new(alloc)),
         Framing::Body(size) => {

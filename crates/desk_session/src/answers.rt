@@ -26,9 +26,9 @@ pub trait Answers {
     /// Which answers a message may have, and what each makes of what stands behind the answerer.
     ghost step: { Behind → MessageValue → List ℕ → Behind → Type 0 };
 
-    /// The answer to a message, whole with its head.
-    fn answer(&mut self, alloc: Global, message: &Message<'_>) -> Result<Vec<u8>, Unavailable>
+    /// The answer to a message, whole with its head. The answerer may keep the message's body.
+    fn answer(&mut self, alloc: Global, message: Message<'_>) -> Result<Vec<u8>, Unavailable>
         ensures before { is_clean self.new → is_clean self.old }
         ensures answers { is_clean self.new → (w : Behind) → stands_for self.old w
-            → Answered step w (message_value message.now) (stands_for self.new) result };
+            → Answered step w (message_value message) (stands_for self.new) result };
 }

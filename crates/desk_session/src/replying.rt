@@ -10,7 +10,7 @@ ghost use Rattle.desk_session.specs.Turns.{Replied, Sends};
 
 use crate::answers::Answers;
 use crate::sessions::SessionFault;
-use desk_message::{EMPTY_FIELD, MAX_FIELDS, Message, Request, closes, request_at};
+use desk_message::{EMPTY_FIELD, MAX_FIELDS, Message, closes, request_at};
 use desk_response::UNAVAILABLE;
 use httparse::spans::{HeaderSpan, RequestSpans};
 use io_retries::{Tries, write_all_with_retries};
@@ -45,16 +45,17 @@ pub(crate) fn reply<D: Answers, W: Write>(
     desk: &mut D,
     writer: &mut W,
     tries: &mut Tries,
-    message: &Message<'_>,
+    message: Message<'_>,
 ) -> Result<bool, SessionFault>
     ensures before { D.is_clean desk.new → D.is_clean desk.old }
     ensures replied { Replied D.step (D.is_clean desk.new) (D.stands_for desk.old) (D.stands_for desk.new)
-        (message_value message.now) (W.contents writer.old) (W.contents writer.new) result }
+        (message_value message) (W.contents writer.old) (W.contents writer.new) result }
     ensures cause { HasCause result tries.old tries.new }
 {
+    let closes = closes(&message);
     match desk.answer(alloc, message) {
         Ok(bytes) => match send(writer, tries, &bytes) {
-            Ok(()) => Ok(!closes(message)),
+            Ok(()) => Ok(!closes),
             Err(fault) => Err(fault),
         },
         Err(_) => match send_unavailable(writer, tries) {
@@ -73,7 +74,7 @@ pub(crate) fn reply_to_request<D: Answers, W: Write>(
     bytes: &[u8],
     fields: &[HeaderSpan],
     head: &RequestSpans,
-    body: &[u8],
+    body: Vec<u8>,
     is_last: bool,
 ) -> Result<bool, SessionFault>
     requires within { IsRequestWithin bytes.now fields.now head.now }
@@ -81,11 +82,10 @@ pub(crate) fn reply_to_request<D: Answers, W: Write>(
     ensures before { D.is_clean desk.new → D.is_clean desk.old }
     ensures replied { (h : RequestHead) → IsRequestAt bytes.now fields.now head.now h
         → Replied D.step (D.is_clean desk.new) (D.stands_for desk.old) (D.stands_for desk.new)
-        (asked (request_of h body.now is_last)) (W.contents writer.old) (W.contents writer.new) result }
+        (asked (request_of h body.items is_last)) (W.contents writer.old) (W.contents writer.new) result }
     ensures cause { HasCause result tries.old tries.new }
 {
     let mut room = [EMPTY_FIELD; MAX_FIELDS];
-    let request = request_at(bytes, fields, head, &mut room, is_last);
-    let message = Message::Asked(Request { body, ..request });
-    reply(alloc, desk, writer, tries, &message)
+    let request = request_at(bytes, fields, head, &mut room, body, is_last);
+    reply(alloc, desk, writer, tries, Message::Asked(request))
 }

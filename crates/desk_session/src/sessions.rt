@@ -80,10 +80,11 @@ fn turn<D: Answers, R: Read, W: Write>(
         Arrival::End => Ok(Some(Ended::Closed)),
         Arrival::Cut => Ok(Some(Ended::Cut)),
         Arrival::BadHead => {
-            let told = reply(alloc, desk, writer, tries, &Message::BadHead);
+            let told = reply(alloc, desk, writer, tries, Message::BadHead);
             turn_of(told, is_last)
         }
         Arrival::Request(head, body) => {
+            let size = body.len();
             let told = reply_to_request(
                 alloc,
                 desk,
@@ -92,11 +93,11 @@ fn turn<D: Answers, R: Read, W: Write>(
                 unread.bytes(),
                 fields,
                 &head,
-                &body,
+                body,
                 is_last,
             );
             unread.skip(head.len);
-            unread.skip(body.len());
+            unread.skip(size);
             turn_of(told, is_last)
         }
     }

@@ -55,8 +55,8 @@ fn route_call(
     ensures { IfOk result (λ v. v ≡ company_verdict id (request_on route (request_value request.now))) }
 {
     match route {
-        CompanyRoute::Submit => submission_call(alloc, id, request.body),
-        CompanyRoute::Retry => retry_call(alloc, id, request.body),
+        CompanyRoute::Submit => submission_call(alloc, id, &request.body),
+        CompanyRoute::Retry => retry_call(alloc, id, &request.body),
         CompanyRoute::LookUp => Ok(look_up_call(id, piece_of(path_of(request.target), 4))),
         CompanyRoute::Returns => Ok(Ok(Call::ReturnsOf(id))),
         CompanyRoute::Changes => Ok(Ok(Call::ChangesOf(id))),

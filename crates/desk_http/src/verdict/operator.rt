@@ -22,11 +22,11 @@ pub(crate) fn operator_verdict<S: Store>(
     alloc: Global,
     desk: &mut Desk<S>,
     route: OperatorRoute,
-    request: &Request<'_>,
+    request: Request<'_>,
 ) -> Result<Result<Call, MessageFault>, StoreFault>
     ensures before { S.is_clean desk.new → S.is_clean desk.old }
     ensures read { S.is_clean desk.new → Reads (S.holds desk.old) result
-        (λ b. operator_verdict (key_of callers.Operator b) route (request_value request.now)) (S.holds desk.new) }
+        (λ b. operator_verdict (key_of callers.Operator b) route (request_value request)) (S.holds desk.new) }
     ensures left { S.is_clean desk.new → LeavesRead (S.may_leave desk.old) (S.may_leave desk.new) }
 {
     let Some(key) = value_of(request.fields, b"X-Desk-Key") else {
@@ -46,28 +46,22 @@ pub(crate) fn operator_verdict<S: Store>(
 fn route_call(
     alloc: Global,
     route: OperatorRoute,
-    request: &Request<'_>,
+    request: Request<'_>,
 ) -> Result<Result<Call, MessageFault>, AllocError>
-    ensures { IfOk result (λ v. v ≡ operator_call route (request_value request.now)) }
+    ensures { IfOk result (λ v. v ≡ operator_call route (request_value request)) }
 {
     match route {
-        OperatorRoute::SetDay => day_call(alloc, request.body),
-        OperatorRoute::SetHolidays => Ok(Ok(Call::SetHolidays(copy_of(alloc, request.body)?))),
-        OperatorRoute::PutCompany => company_call(alloc, request.body),
-        OperatorRoute::PutLimits => limits_call(alloc, request.body),
+        OperatorRoute::SetDay => day_call(alloc, &request.body),
+        OperatorRoute::SetHolidays => Ok(Ok(Call::SetHolidays(ListOf::new(request.body)))),
+        OperatorRoute::PutCompany => company_call(alloc, &request.body),
+        OperatorRoute::PutLimits => limits_call(alloc, &request.body),
         OperatorRoute::Cut => Ok(Ok(Call::Cut)),
-        OperatorRoute::TakeFile => Ok(Ok(Call::TakeFile(copy_of(alloc, request.body)?))),
+        OperatorRoute::TakeFile => Ok(Ok(Call::TakeFile(ListOf::new(request.body)))),
         OperatorRoute::FileText => Ok(file_call(path_of(request.target))),
         OperatorRoute::Settlement => Ok(Ok(Call::Settlement)),
         OperatorRoute::Status => Ok(Ok(Call::Status)),
         OperatorRoute::Suspense => Ok(Ok(Call::SuspenseItems)),
     }
-}
-
-fn copy_of(alloc: Global, bytes: &[u8]) -> Result<ListOf<u8>, AllocError>
-    ensures { IfOk result (λ list. list ≡ bytes.now) }
-{
-    Ok(ListOf::new(Vec::from_slice(alloc, bytes)?))
 }
 
 // The file that a path names, by its day and its modifier.

@@ -17,14 +17,14 @@ pub struct Front {
 }
 
 /// The status of a message, and the body of its answer.
-fn answer_to<'a>(routes: &Routes, message: &Message<'a>) -> (StatusCode, &'a [u8]) {
+fn answer_to<'a>(routes: &Routes, message: &'a Message<'_>) -> (StatusCode, &'a [u8]) {
     match message {
         Message::BadHead => (StatusCode::BAD_REQUEST, b"{\"error\":\"BadHead\"}"),
         Message::Asked(request) => answer_to_request(routes, request),
     }
 }
 
-fn answer_to_request<'a>(routes: &Routes, request: &Request<'a>) -> (StatusCode, &'a [u8]) {
+fn answer_to_request<'a>(routes: &Routes, request: &'a Request<'_>) -> (StatusCode, &'a [u8]) {
     match framing_of(request.method, request.fields) {
         Framing::LengthRequired => {
             return (
@@ -38,7 +38,7 @@ fn answer_to_request<'a>(routes: &Routes, request: &Request<'a>) -> (StatusCode,
         _ => {}
     }
     match routes.find(request.method, path_of(request.target)) {
-        Ok(_) => (StatusCode::OK, request.body),
+        Ok(_) => (StatusCode::OK, &request.body),
         Err(RouteFault::NotFound) => (StatusCode::NOT_FOUND, b"{\"error\":\"NotFound\"}"),
         Err(RouteFault::BadMethod) => (
             StatusCode::METHOD_NOT_ALLOWED,
@@ -58,16 +58,16 @@ impl Answers for Front {
 
     ghost step = { λ _ _ _ _. ⊤ };
 
-    fn answer(&mut self, alloc: Global, message: &Message<'_>) -> Result<Vec<u8>, Unavailable> {
+    fn answer(&mut self, alloc: Global, message: Message<'_>) -> Result<Vec<u8>, Unavailable> {
         if self.left == 0 {
             return Err(Unavailable);
         }
         self.left -= 1;
-        let (status, body) = answer_to(&self.routes, message);
+        let (status, body) = answer_to(&self.routes, &message);
         let response = Response {
             status,
             content: Content::Json,
-            closes: closes(message),
+            closes: closes(&message),
             body,
         };
         match print_response(alloc, &response) {

@@ -51,10 +51,7 @@ returns-in-Request-clause-turned g c start before old count e p =
     let body = c.in-Request.body.items in
     let At : List ℕ → Type 0 = λ bytes. IsRequestAt bytes c.read_message.new.fields c.in-Request.head h in
     let parts : At c.bytes.result.now = subst At (sym c.bytes.ensures.value) came.is.at.parts in
-    let Reply : List ℕ → Type 0 = λ l. Replied g.D.Answers.step (g.D.Answers.is_clean c.reply_to_request-told.new.desk)
-    (g.D.Answers.stands_for c.args.desk.now) (g.D.Answers.stands_for c.reply_to_request-told.new.desk)
-    (asked (request_of h l c.args.is_last)) (g.W.Write.contents c.args.writer.now) (g.W.Write.contents c.reply_to_request-told.new.writer) c.reply_to_request-told.result in
-    let replied : Reply body = subst Reply c.deref.ensures.value (c.reply_to_request-told.ensures.replied h parts) in
+    let replied = c.reply_to_request-told.ensures.replied h parts in
     let rest_is = c.skip-in-Request.ensures ∙ ap (λ n. drop n c.skip.new.self) (c.len.ensures ∙ c.in-Request.body.ok.0) ∙ ap (λ l. drop (length body) l) c.skip.ensures in
     let sizes = simp length-drop at (ap length rest_is) in
     let few = came.few in
