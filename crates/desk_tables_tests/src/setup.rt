@@ -77,7 +77,10 @@ fn a_version_is_told_whatever_else_there_is(rt: HostRuntime) -> Result<(), Fail>
     let changes = [
         ("UPDATE desk SET version = 9", 9),
         ("UPDATE desk SET version = 1; DROP TABLE numbers", 1),
-        ("UPDATE desk SET version = 3; CREATE TABLE notes (id INT)", 3),
+        (
+            "UPDATE desk SET version = 3; CREATE TABLE notes (id INT)",
+            3,
+        ),
         (
             "DROP TABLE desk; CREATE TABLE desk (id INTEGER PRIMARY KEY, version INTEGER, note TEXT); INSERT INTO desk VALUES (1, 9, 'other columns')",
             9,

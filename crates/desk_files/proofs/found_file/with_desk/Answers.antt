@@ -1,4 +1,4 @@
-use Rattle.std.proofs.Common.{rules}
+use Rattle.std.proofs.Common.{rules, ◌≡◌, Err, IfErr, sym, subst}
 use Rattle.desk_records.specs.RecordRows.{version}
 use Rattle.desk_setup.specs.Refusals.{IsDropped}
 use Rattle.desk_files.proofs.found_file.with_desk.Goals as goal
@@ -12,4 +12,5 @@ returns-in_err-check_desk-clause-refused g c =
       stays = c.check_desk.ensures.stays;
       survives = c.check_desk.ensures.survives;
     } in
-    it
+    let is : c.from_residual.result ≡ Err c.in_err-check_desk.field-0.0 = search rules in
+    subst (λ r. IfErr r (IsDropped g.P.Store version (λ _. ⊥) c.args.conn)) (sym is) it

@@ -1,4 +1,4 @@
-use Rattle.std.proofs.Common.{rules}
+use Rattle.std.proofs.Common.{rules, ◌≡◌, Err, IfErr, sym, subst}
 use Rattle.sqlite.specs.Held.{state}
 use Rattle.desk_setup.specs.Refusals.{IsDropped}
 use Rattle.desk_files.specs.FirstVersion.{first_version}
@@ -14,4 +14,5 @@ returns-in_err-migrate-clause-refused g c =
       stays = c.in_err-migrate.ensures.unmigrated;
       survives = c.migrate.ensures.survives;
     } in
-    it
+    let is : c.from_residual.result ≡ Err c.in_err-migrate.field-0.0 = search rules in
+    subst (λ r. IfErr r (IsDropped g.P.Store first_version (leaves_migrated (state g.P.Store c.args.conn)) c.args.conn)) (sym is) it

@@ -1,4 +1,4 @@
-use Rattle.std.proofs.Common.{rules, []}
+use Rattle.std.proofs.Common.{rules, ◌≡◌, Err, IfErr, sym, subst, []}
 use Rattle.desk_book.specs.Book.{book_of}
 use Rattle.desk_records.specs.Layout.{Keeps}
 use Rattle.desk_setup.specs.Refusals.{IsUnmade}
@@ -13,4 +13,5 @@ returns-in_err-make_desk-clause-unmade g c =
       stays = c.in_err-make_desk.ensures.unmade;
       survives = c.make_desk.ensures.survives;
     } in
-    it
+    let is : c.from_residual.result ≡ Err c.in_err-make_desk.field-0.0 = search rules in
+    subst (λ r. IfErr r (IsUnmade g.S.Store (λ trees. Keeps trees (book_of c.args.identity c.args.operator_key [])) c.args.conn)) (sym is) it
