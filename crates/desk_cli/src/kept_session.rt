@@ -36,11 +36,11 @@ pub fn answer_by_file<S: Start, R: Read + Drop, W: Write>(
     ensures answered { result.0 ≢ Status.Failed → MatchOption result.1
         (SaysUnopened (W.contents writer.old) (W.contents writer.new) result.0)
         (λ c. HasAnsweredFrom (HasCleanDisk (file_state c)) (IsKeptIn (image_at S.Start)) (StandsBehind (Sees (file_state c)))
-            (R.remaining reader) (W.contents writer.old) (W.contents writer.new) result.0) }
+        (R.remaining reader) (W.contents writer.old) (W.contents writer.new) result.0) }
     ensures failed { result.0 ≡ Status.Failed → MatchOption result.1
         (BreaksOffUnopened (W.contents writer.old) (W.contents writer.new))
         (λ c. BreaksOffFrom (HasCleanDisk (file_state c)) (IsKeptIn (image_at S.Start)) (StandsBehind (Sees (file_state c)))
-            (R.remaining reader) (W.contents writer.old) (W.contents writer.new)) }
+        (R.remaining reader) (W.contents writer.old) (W.contents writer.new)) }
 {
     match desk_files::open(rt, path, start) {
         Ok(conn) => {

@@ -174,12 +174,7 @@ fn read_body<R: Read>(
 }
 
 /// What the head at the start of the bytes says of its body.
-fn head_framing(
-    alloc: Global,
-    bytes: &[u8],
-    fields: &[HeaderSpan],
-    head: &RequestSpans,
-) -> Framing
+fn head_framing(alloc: Global, bytes: &[u8], fields: &[HeaderSpan], head: &RequestSpans) -> Framing
     requires within { IsRequestWithin bytes.now fields.now head.now }
     requires fits { length fields.now ≡ MAX_FIELDS }
     ensures { (h : RequestHead) → IsRequestAt bytes.now fields.now head.now h → result ≡ head_framing h }
