@@ -8,6 +8,7 @@ use Rattle.desk_session.specs.declared.sessions.SessionFault.{SessionFault}
 use Rattle.desk_bytes.specs.History.{calls_of}
 use Rattle.desk_http.specs.Answering.{DeskHistory, IsAnswered, StandsBehind}
 use Rattle.desk_commands.specs.MessageRuns.{new_book, new_history, status_of_session, HasBrokenOff, HasRun}
+use Rattle.desk_commands.specs.StoreRuns.{BreaksOffFrom, RanFrom}
 use Rattle.desk_commands.specs.declared.status.Status.TheVariants.{Failed}
 
 -- a desk that holds the new book stands for the empty history
@@ -47,3 +48,10 @@ broken_off input old new (Ok Closed) failed ran = absurd (let no : ⊥ = cc in n
 broken_off input old new (Ok Full) failed ran = absurd (let no : ⊥ = cc in no)
 broken_off input old new (Ok Cut) failed ran = absurd (let no : ⊥ = cc in no)
 broken_off input old new (Err fault) failed ran = inr (fault, ran)
+
+pub broken_off_from : (clean : Type 0) (stood stands : DeskHistory → Type 0) (input old new : Option (List ℕ)) (ended : Result Ended SessionFault)
+    → status_of_session ended ≡ Failed → RanFrom clean stood stands input old new ended → BreaksOffFrom clean stood stands input old new
+broken_off_from clean stood stands input old new (Ok Closed) failed ran = absurd (let no : ⊥ = cc in no)
+broken_off_from clean stood stands input old new (Ok Full) failed ran = absurd (let no : ⊥ = cc in no)
+broken_off_from clean stood stands input old new (Ok Cut) failed ran = absurd (let no : ⊥ = cc in no)
+broken_off_from clean stood stands input old new (Err fault) failed ran = inr (fault, ran)

@@ -51,11 +51,12 @@ pub fn serve_by_store<S: Store + Drop, W: Write>(
     let Some((_, line)) = listening_line(rt.alloc(), options.port) else {
         return (print_unavailable(writer, Tries::new()), store);
     };
+    let mut listener = CountedListener::new(listener);
     let mut desk = HttpDesk::new(Desk::new(store), routes);
     let status = serve_and_tell(
         rt.alloc(),
         &mut desk,
-        CountedListener::new(listener),
+        &mut listener,
         options,
         line.as_slice(),
         writer,
@@ -64,17 +65,17 @@ pub fn serve_by_store<S: Store + Drop, W: Write>(
 }
 
 // Prints the line that tells where the desk listens, and serves its connections.
-fn serve_and_tell<D: Answers, L: OpenListener + Drop, W: Write>(
+fn serve_and_tell<D: Answers, L: OpenListener, W: Write>(
     alloc: Global,
     desk: &mut D,
-    listener: CountedListener<L>,
+    listener: &mut CountedListener<L>,
     options: ServeOptions,
     line: &[u8],
     writer: &mut W,
 ) -> Status
 where
     L::Stream: Read + Write + OpenStream,
-    requires unasked { IsUnasked listener }
+    requires unasked { IsUnasked listener.old }
     ensures before { D.is_clean desk.new → D.is_clean desk.old }
     ensures served { HasServed D.step (D.is_clean desk.new) (D.stands_for desk.old) (D.stands_for desk.new) }
     ensures answered { result ≢ Status.Failed →
@@ -88,8 +89,7 @@ where
     };
     let connections = u64::from(options.connections);
     let patience = Duration::from_secs(u64::from(options.patience));
-    let mut listener = listener;
-    match serve(alloc, desk, &mut listener, connections, patience) {
+    match serve(alloc, desk, listener, connections, patience) {
         Ok(()) => Status::Done,
         Err(_) => print_unavailable(writer, tries),
     }
