@@ -13,6 +13,9 @@ use std::alloc::AllocError;
 /// The room that is taken for an object of a list, or for the members around a list.
 pub(crate) const ROW_ROOM: usize = 1_024;
 
+/// About so many bytes a long list has for each object.
+const ROW_LENGTH: usize = 128;
+
 /// A `Row` is an object in a list of a body.
 pub(crate) trait Row {
     ghost use Rattle.std.specs.Prelude.{◌≡◌, ◌≤◌, ◌+◌, ◌++◌, vec_len, vec_capacity};
@@ -40,6 +43,8 @@ pub(crate) fn add_list<R: Row + Drop>(
     requires { length key.now ≤ 32 }
     ensures { OnOk result (text.new.items ≡ text.old.items ++ member_text later key.now (array (items_of (map R.body rows)))) }
 {
+    // A long text has a block of its own from the start, which then grows without a copy.
+    text.reserve(rows.as_slice().len().saturating_mul(ROW_LENGTH))?;
     text.reserve(ROW_ROOM)?;
     put_key(text, later, key);
     put(text, b"[");
