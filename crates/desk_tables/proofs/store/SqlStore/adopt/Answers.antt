@@ -1,7 +1,7 @@
 use Rattle.std.proofs.Common.{rules, ◌≡◌, Err, IfErr, sym, subst}
 use Rattle.desk_records.specs.RecordRows.{version}
 use Rattle.desk_setup.specs.Refusals.{IsDropped}
-use Rattle.desk_tables.proofs.open.SqlStore.adopt.Goals as goal
+use Rattle.desk_tables.proofs.store.SqlStore.adopt.Goals as goal
 
 pub returns-in_err-check_desk-clause-refused : goal.returns-in_err-check_desk-clause-refused
 returns-in_err-check_desk-clause-refused g c =

@@ -2,7 +2,7 @@ use Rattle.std.proofs.Common.{rules, ◌≡◌, Err, IfErr, sym, subst, []}
 use Rattle.desk_book.specs.Book.{book_of}
 use Rattle.desk_records.specs.Layout.{Keeps}
 use Rattle.desk_setup.specs.Refusals.{IsUnmade}
-use Rattle.desk_tables.proofs.open.SqlStore.create_on.Goals as goal
+use Rattle.desk_tables.proofs.store.SqlStore.create_on.Goals as goal
 
 pub returns-in_err-make_desk-clause-unmade : goal.returns-in_err-make_desk-clause-unmade
 returns-in_err-make_desk-clause-unmade g c =
