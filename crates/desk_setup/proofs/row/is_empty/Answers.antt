@@ -16,11 +16,14 @@ returns-clause-shown g c clean =
     let before : HasCleanDisk (state g.S.Store to) = omega (arith, c.rollback.ensures.survives.clean, after) in
     let found = c.in_ok-row.ensures.answer row_selects before in
     let same = shown_same row_text [] (state g.S.Store from) (state g.S.Store to) found.0 (select_returns_none row_text row_selects) found.1 in
-    let begun = c.transaction-tx.ensures.begun in
-    (found.0, record {
-      is_open = subst (λ h. IsTrue (state g.S.Store h).is_open) begun same.0.was_open;
-      from = from;
-      to = to;
-      seen = ap (λ h. (state g.S.Store h).now) begun;
-      shown = found.1;
-    }, λ none. no_first found.0 c.in_ok-row.row found.2 c.is_none.result c.is_none.ensures none)
+    let begun = c.transaction-tx.ensures.begun in (
+      found.0,
+      record {
+        is_open = subst (λ h. IsTrue (state g.S.Store h).is_open) begun same.0.was_open;
+        from = from;
+        to = to;
+        seen = ap (λ h. (state g.S.Store h).now) begun;
+        shown = found.1;
+      },
+      λ none. no_first found.0 c.in_ok-row.row found.2 c.is_none.result c.is_none.ensures none,
+    )
