@@ -46,7 +46,7 @@ pub(crate) fn reply<D: Answers, W: Write>(
 ) -> Result<bool, SessionFault>
     ensures before { D.is_clean desk.new → D.is_clean desk.old }
     ensures replied { Replied D.step (D.is_clean desk.new) (D.stands_for desk.old) (D.stands_for desk.new)
-        (message_value message) (W.contents writer.old) (W.contents writer.new) result }
+        (message_value message.entry) (W.contents writer.old) (W.contents writer.new) result }
 {
     let closes = closes(&message);
     match desk.answer(alloc, message) {
