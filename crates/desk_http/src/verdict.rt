@@ -28,7 +28,7 @@ pub(crate) fn verdict_of<S: Store>(
     message: Message<'_>,
 ) -> Result<Result<Call, MessageFault>, StoreFault>
     ensures before { S.is_clean desk.new → S.is_clean desk.old }
-    ensures read { S.is_clean desk.new → Reads (S.holds desk.old) result (λ b. verdict_on b (message_value message)) (S.holds desk.new) }
+    ensures read { S.is_clean desk.new → Reads (S.holds desk.old) result (λ b. verdict_on b (message_value message.entry)) (S.holds desk.new) }
     ensures left { S.is_clean desk.new → LeavesRead (S.may_leave desk.old) (S.may_leave desk.new) }
 {
     match message {
@@ -44,7 +44,7 @@ fn request_verdict<S: Store>(
     request: Request<'_>,
 ) -> Result<Result<Call, MessageFault>, StoreFault>
     ensures before { S.is_clean desk.new → S.is_clean desk.old }
-    ensures read { S.is_clean desk.new → Reads (S.holds desk.old) result (λ b. verdict_on b (asked (request_value request))) (S.holds desk.new) }
+    ensures read { S.is_clean desk.new → Reads (S.holds desk.old) result (λ b. verdict_on b (asked (request_value request.entry))) (S.holds desk.new) }
     ensures left { S.is_clean desk.new → LeavesRead (S.may_leave desk.old) (S.may_leave desk.new) }
 {
     match route_of(routes, &request) {

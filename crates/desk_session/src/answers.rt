@@ -30,5 +30,5 @@ pub trait Answers {
     fn answer(&mut self, alloc: Global, message: Message<'_>) -> Result<Vec<u8>, Unavailable>
         ensures before { is_clean self.new → is_clean self.old }
         ensures answers { is_clean self.new → (w : Behind) → stands_for self.old w
-            → Answered step w (message_value message) (stands_for self.new) result };
+            → Answered step w (message_value message.entry) (stands_for self.new) result };
 }

@@ -49,7 +49,7 @@ pub(crate) fn reply<D: Answers, W: Write>(
 ) -> Result<bool, SessionFault>
     ensures before { D.is_clean desk.new → D.is_clean desk.old }
     ensures replied { Replied D.step (D.is_clean desk.new) (D.stands_for desk.old) (D.stands_for desk.new)
-        (message_value message) (W.contents writer.old) (W.contents writer.new) result }
+        (message_value message.entry) (W.contents writer.old) (W.contents writer.new) result }
     ensures cause { HasCause result tries.old tries.new }
 {
     let closes = closes(&message);

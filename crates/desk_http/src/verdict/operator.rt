@@ -26,7 +26,7 @@ pub(crate) fn operator_verdict<S: Store>(
 ) -> Result<Result<Call, MessageFault>, StoreFault>
     ensures before { S.is_clean desk.new → S.is_clean desk.old }
     ensures read { S.is_clean desk.new → Reads (S.holds desk.old) result
-        (λ b. operator_verdict (key_of callers.Operator b) route (request_value request)) (S.holds desk.new) }
+        (λ b. operator_verdict (key_of callers.Operator b) route (request_value request.entry)) (S.holds desk.new) }
     ensures left { S.is_clean desk.new → LeavesRead (S.may_leave desk.old) (S.may_leave desk.new) }
 {
     let Some(key) = value_of(request.fields, b"X-Desk-Key") else {
@@ -48,7 +48,7 @@ fn route_call(
     route: OperatorRoute,
     request: Request<'_>,
 ) -> Result<Result<Call, MessageFault>, AllocError>
-    ensures { IfOk result (λ v. v ≡ operator_call route (request_value request)) }
+    ensures { IfOk result (λ v. v ≡ operator_call route (request_value request.entry)) }
 {
     match route {
         OperatorRoute::SetDay => day_call(alloc, &request.body),
