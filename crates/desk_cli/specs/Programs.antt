@@ -15,7 +15,7 @@ RunsCommand command input old new code =
     (status : Status)
     × (code ≡ code_of status)
     × (status ≢ Failed → CarriesOut NoneKnown command input old new status)
-    × (status ≡ Failed → FailsToCarryOut no_files command input old new)
+    × (status ≡ Failed → FailsToCarryOut NoneKnown command input old new)
 
 -- the command that the words give is run, or why they give none is printed
 abbrev pub DoesRead : Result Command LineFault → (input old new : Option (List ℕ)) → (code : ℕ) → Type 0
