@@ -6,7 +6,7 @@ returns-in-Ok-send-clause-replied g c = record {
   answer = Some c.in-Ok.bytes.items;
   answered = c.in-Ok.ensures.answers;
   sends = rw c.deref.ensures.value at c.in-Ok-send.ensures.sends;
-  tells = ap not c.closes.ensures;
+  tells = ap not c.closes-closes.ensures;
 }
 
 pub returns-in-Ok-clause-replied : goal.returns-in-Ok-clause-replied
