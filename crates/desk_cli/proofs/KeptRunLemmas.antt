@@ -1,5 +1,6 @@
 -- A session with the desk that a file keeps.
-use Rattle.std.proofs.Common.{⊤, ℕ, List, Option, Result, Err, inl, inr}
+use Rattle.std.proofs.Common.{ℕ, List, Option, Result, Err, inl, inr}
+use Rattle.std.specs.Prelude.{⊤}
 use Rattle.sqlite.specs.Files.{file_state}
 use Rattle.sqlite.specs.Held.{Held}
 use Rattle.sqlite_disk.specs.declared.Disk.{Ghosts}
