@@ -1,5 +1,3 @@
-use Rattle.std.proofs.Common.{◌∙◌, ap, map}
-use Rattle.desk_queries.specs.Postings.{posting_of}
 use Rattle.std.proofs.lemmas.Result.{IfOk-weaker}
 use Rattle.desk_queries.proofs.Found.{all_found}
 use Rattle.desk_queries.proofs.Injective.{posting_line_rows}
@@ -13,4 +11,4 @@ all_of-requires g c = postings_selects
 pub returns-clause-answer : goal.returns-clause-answer
 returns-clause-answer g c clean =
     let lines = all_found _ posting_line_rows (postings_shown c.args.account) (rw (c.characters.ensures, c.deref.ensures.value, c.in_ok-text.ensures) at (c.in_ok-lines.ensures.answer clean)) in
-    IfOk-weaker c.of_account.result _ _ (λ found are. postings_found lines (are ∙ ap (map (posting_of c.args.account)) c.deref-2.ensures.value)) c.of_account.ensures
+    IfOk-weaker c.of_account.result _ _ (λ found are. postings_found lines are) c.of_account.ensures
