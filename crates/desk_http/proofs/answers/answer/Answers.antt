@@ -13,7 +13,7 @@ returns-in-Ok-Ok-clause-goes g c = λ clean.
     (message_value c.args.message) c.in-Ok-Ok.call c.carry_out.result
     (subst (λ (v : Verdict). IsRead (g.S.Store.holds c.args.desk.now) (g.S.Store.holds c.verdict_of.new.desk) (message_value c.args.message) v)
     c.in-Ok-Ok.field-0-is (c.in-Ok-Ok.ensures.read (c.carry_out.ensures.before clean)))
-    (subst (λ (b : Bool). GoesCall (g.S.Store.holds c.verdict_of.new.desk) c.in-Ok-Ok.call b c.carry_out.result (g.S.Store.holds c.carry_out.new.desk)) c.closes.ensures (c.carry_out.ensures.goes clean))
+    (subst (λ (b : Bool). GoesCall (g.S.Store.holds c.verdict_of.new.desk) c.in-Ok-Ok.call b c.carry_out.result (g.S.Store.holds c.carry_out.new.desk)) c.closes-closes.ensures (c.carry_out.ensures.goes clean))
 
 pub returns-in-Ok-Ok-clause-replies : goal.returns-in-Ok-Ok-clause-replies
 returns-in-Ok-Ok-clause-replies g c = λ clean.
@@ -34,7 +34,7 @@ returns-in-Ok-Err-clause-goes g c = λ clean.
     faulted (g.S.Store.holds c.args.desk.now) (g.S.Store.holds c.verdict_of.new.desk) (message_value c.args.message) c.in-Ok-Err.fault c.answer_fault.result
     (subst (λ (v : Verdict). IsRead (g.S.Store.holds c.args.desk.now) (g.S.Store.holds c.verdict_of.new.desk) (message_value c.args.message) v)
     c.in-Ok-Err.field-0-is (c.in-Ok-Err.ensures.read clean))
-    (subst (λ (b : Bool). IfOk c.answer_fault.result (λ bytes. bytes.items ≡ fault_text b (Err c.in-Ok-Err.fault))) c.closes.ensures c.answer_fault.ensures)
+    (subst (λ (b : Bool). IfOk c.answer_fault.result (λ bytes. bytes.items ≡ fault_text b (Err c.in-Ok-Err.fault))) c.closes-closes.ensures c.answer_fault.ensures)
 
 pub returns-in-Ok-Err-clause-replies : goal.returns-in-Ok-Err-clause-replies
 returns-in-Ok-Err-clause-replies g c = λ clean.
