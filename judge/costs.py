@@ -10,7 +10,8 @@ open debits that were handed in one by one. Each round then begins with a new da
 exposures, cuts what is due, which is nothing, and hands in submissions: of these companies, and of new ones that have
 nothing open. At the end all of it is cut, and the first submission after that is told. A second desk gets 1,000,000 debits,
 50 weeks of them, of which 20,000 came back, and then 10,000 in a week beside 10,000 of another company that has no others;
-each round asks for the rates of both on a new day.
+each round asks for the rates of both on a new day. On a third desk it is asked how the desk stands, where 1,000 entries
+were sent and where 100,000 more were.
 
 It prints a table with a line for each figure: what it is without and with what is open or old, and whether that is within
 its bound. The status is 1 where one is not. Three rounds took a little over a minute.
@@ -260,6 +261,22 @@ def measure_old(program, folder, figures, rounds, part):
     desk.end()
 
 
+def measure_status(program, folder, figures, rounds, part):
+    """Asks how the desk stands where 1,000 entries were sent, and where 100,000 more were, with as much held."""
+    desk = Desk(program, folder / "status.db")
+    desk.set_day(FIRST_DAY)
+    desk.company("SENT")
+    desk.company("HELD")
+    desk.ask(*desk.submissions(20, "HELD", 1, True, LAST_DAY))
+    for what, count in [("1,000 sent", 1), ("100,000 more sent", 100 // part)]:
+        desk.ask(*desk.submissions(count, "SENT", SIZE, False, next_day(desk.day)))
+        desk.cut()
+        desk.set_day(next_day(desk.day))
+        for _ in range(rounds):
+            figures.keep(f"status, {what}", desk.cost(*[message("GET /ops/status")] * CALLS))
+    desk.end()
+
+
 def tell(figures, part):
     large, each = OPEN // part * SIZE, EACH // part // 100 * 100
     seconds = figures.best["100 submissions"]
@@ -277,6 +294,7 @@ def tell(figures, part):
     old = WEEKS * max(WEEKLY // part, 1) * SIZE
     figures.times(f"rates with nothing remembered, {old:,} older", "first rates of YOUNG", "first rates of AGED", 1.2)
     figures.times(f"rates, {old:,} older", "rates of YOUNG", "rates of AGED", 1.2)
+    figures.times("how the desk stands, 1,000 and 100,000 entries sent", "status, 1,000 sent", "status, 100,000 more sent", 1.2)
     print("| What | Without | With | Told | Bound |\n|---|---|---|---|---|")
     print("\n".join(figures.lines))
     print(f"{len(figures.lines)} figures, {figures.failed} not within their bounds")
@@ -289,6 +307,7 @@ def main():
     with tempfile.TemporaryDirectory() as name:
         measure_open(program, Path(name), figures, rounds, part)
         measure_old(program, Path(name), figures, rounds, part)
+        measure_status(program, Path(name), figures, rounds, part)
     tell(figures, part)
     sys.exit(1 if figures.failed else 0)
 

@@ -70,6 +70,8 @@ class Room:
             for end in ("", "-wal"):
                 (self.folder / f"bank.db{end}").unlink()
             write_version_1(self.folder / "var/lib/achdesk/bank.db", self.folder / "bank.db")
+        elif command.startswith("cp bank.db") and not (self.folder / "bank.db").exists():
+            self.shell("cp -p var/lib/achdesk/bank.db* .")
         elif "/tmp/copy/bank.db" in command and not command.startswith("cp"):
             self.shell("cp -p var/lib/achdesk/bank.db* tmp/copy/")
 
