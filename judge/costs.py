@@ -11,7 +11,7 @@ exposures, cuts what is due, which is nothing, and hands in submissions: of thes
 nothing open. At the end all of it is cut, and the first submission after that is told. A second desk gets 1,000,000 debits,
 50 weeks of them, of which 20,000 came back, and then 10,000 in a week beside 10,000 of another company that has no others;
 each round asks for the rates of both on a new day. On a third desk it is asked how the desk stands, where 1,000 entries
-were sent and where 100,000 more were.
+were sent, where 100,000 more were, and where then 20,000 items that name no entry stand in suspense.
 
 It prints a table with a line for each figure: what it is without and with what is open or old, and whether that is within
 its bound. The status is 1 where one is not. Three rounds took a little over a minute.
@@ -31,6 +31,7 @@ KEY = "a-company-key"
 SIZE = 1_000
 OPEN, EACH = 100, 5_000  # submissions of 1,000 entries, and of one
 WEEKS, WEEKLY, RECENT, BACK = 50, 20, 10, 20_000  # weeks, submissions of 1,000 in each, those in the window, entries that came back
+STRAYS, NEVER_SENT = 20_000, 5_000_001  # items that name no entry, and the first sequence that they name
 ENTRY = '{"routing":"091000019","account":"123456789","kind":"checking","cents":100,"id":"E1","name":"ANN LEE"}'
 LIMITS = {"entry_limit": 9_999_999_999, "credit_limit": 999_999_999_999_999, "debit_limit": 999_999_999_999_999}
 CALLS = 20  # of a kind that is measured together, where one is short
@@ -262,7 +263,7 @@ def measure_old(program, folder, figures, rounds, part):
 
 
 def measure_status(program, folder, figures, rounds, part):
-    """Asks how the desk stands where 1,000 entries were sent, and where 100,000 more were, with as much held."""
+    """Asks how the desk stands where 1,000 entries were sent, where 100,000 more were, and with items in suspense, with as much held."""
     desk = Desk(program, folder / "status.db")
     desk.set_day(FIRST_DAY)
     desk.company("SENT")
@@ -272,9 +273,19 @@ def measure_status(program, folder, figures, rounds, part):
         desk.ask(*desk.submissions(count, "SENT", SIZE, False, next_day(desk.day)))
         desk.cut()
         desk.set_day(next_day(desk.day))
-        for _ in range(rounds):
-            figures.keep(f"status, {what}", desk.cost(*[message("GET /ops/status")] * CALLS))
+        ask_status(desk, figures, what, rounds, 0)
+    give_back(desk, 1, NEVER_SENT, STRAYS // part)
+    ask_status(desk, figures, "with suspense", rounds, STRAYS // part)
     desk.end()
+
+
+def ask_status(desk, figures, what, rounds, suspense):
+    """Asks how the desk stands, which has to have so many items in suspense."""
+    for _ in range(rounds):
+        figures.keep(f"status, {what}", desk.cost(*[message("GET /ops/status")] * CALLS))
+    told = json.loads(desk.ask(message("GET /ops/status")))["suspense"]
+    if told != suspense:
+        sys.exit(f"{told} items in suspense were told, and {suspense} came")
 
 
 def tell(figures, part):
@@ -295,6 +306,7 @@ def tell(figures, part):
     figures.times(f"rates with nothing remembered, {old:,} older", "first rates of YOUNG", "first rates of AGED", 1.2)
     figures.times(f"rates, {old:,} older", "rates of YOUNG", "rates of AGED", 1.2)
     figures.times("how the desk stands, 1,000 and 100,000 entries sent", "status, 1,000 sent", "status, 100,000 more sent", 1.2)
+    figures.times(f"how the desk stands, none and {STRAYS // part:,} items in suspense", "status, 100,000 more sent", "status, with suspense", 1.2)
     print("| What | Without | With | Told | Bound |\n|---|---|---|---|---|")
     print("\n".join(figures.lines))
     print(f"{len(figures.lines)} figures, {figures.failed} not within their bounds")

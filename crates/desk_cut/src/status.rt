@@ -131,7 +131,8 @@ fn due_on(
 /// Says what a company has of which this waits: what is held, and what a cut on the desk day would
 /// do with it, which is nothing before the first day.
 ///
-/// It is `DaysSpent` where a submission would settle after 2100-01-31, else `NoMemory`.
+/// `DaysSpent` says that a submission would settle after 2100-01-31, and `NoMemory` that there was no
+/// room for a list or a sum.
 pub fn company_status(
     alloc: Global,
     day: Option<RuleDay>,

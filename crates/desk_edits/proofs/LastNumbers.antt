@@ -1,18 +1,15 @@
 -- The queries of the last number of a table.
-use Rattle.std.proofs.Common.{◌≡◌, ◌+◌, ℕ, ℤ, pos, true, List, [], ◌∷◌, map, take, reverse, slice_get, Option, None, Some, option_map, unwrap_or, refl, sym, ap, ◌∙◌}
+use Rattle.std.proofs.Common.{◌≡◌, ◌+◌, ℕ, ℤ, pos, true, List, [], ◌∷◌, Option, unwrap_or, refl, ap, ◌∙◌}
 use Rattle.std.specs.Ordering.{nat_cmp}
 use Rattle.sqlite.specs.Listing.{understood}
 use Rattle.sqlite.specs.State.{State, Shows}
-use Rattle.sqlite_keyed.proofs.ListLemmas.{ascending_weaker}
 use Rattle.sqlite_resolve.specs.Compile.{first}
 use Rattle.sqlite_sql.specs.Term.{eval_all}
 use Rattle.sqlite_tied.specs.Compute.{everything}
-use Rattle.sql_statements.proofs.LastRows.{backwards, last_selected}
 use Rattle.sql_statements.specs.SelectTexts.{IsSelectText}
 use Rattle.sql_statements.specs.Statements.{IsSelect, query_within, falling}
 use Rattle.sql_statements.specs.StoredRows.{row_of}
 use Rattle.sql_statements.proofs.Edits.{makes_told}
-use Rattle.sql_statements.proofs.QueriesInside.{first_shown}
 use Rattle.sql_statements.specs.Edits.{only_tells}
 use Rattle.sql_statements.specs.Transactions.{Makes}
 use Rattle.desk_records.specs.Schema.{desk_schema}
@@ -21,12 +18,11 @@ use Rattle.desk_records.specs.Layout.{desk_layout}
 use Rattle.desk_records.specs.TableEdits.{next_number}
 use Rattle.desk_queries.proofs.Found.{first_found}
 use Rattle.desk_queries.proofs.Injective.{number_columns}
-use Rattle.desk_queries.proofs.Keys.{by_falling_number}
-use Rattle.desk_queries.proofs.LastShown.{backwards_is}
+use Rattle.desk_queries.proofs.LastShown.{number_shown}
 use Rattle.desk_queries.proofs.Listings.{Listing, postings, returns, changes, suspense}
-use Rattle.desk_queries.proofs.Selects.{all_pass}
-use Rattle.desk_queries.proofs.Texts.{places}
-use Rattle.desk_queries.specs.Shows.{ShowsFirst, ReadsFirst}
+use Rattle.desk_queries.proofs.Texts.{places, last_suspense_is}
+use Rattle.desk_queries.proofs.TextsAnywhere.{last_suspense_selects}
+use Rattle.desk_queries.specs.Shows.{ReadsFirst}
 use Rattle.desk_edits.specs.Numbering.{next_is}
 use Rattle.desk_edits.specs.LineTexts.{last_text}
 use Rattle.desk_edits.specs.declared.numbering.NumberedTable.{NumberedTable}
@@ -39,7 +35,7 @@ unfolding first everything
 last_selects tables.Postings = refl
 last_selects tables.Returns = refl
 last_selects tables.Changes = refl
-last_selects tables.Suspense = refl
+last_selects tables.Suspense = last_suspense_selects
 
 last_posting_is : IsSelect desk_schema (last_text tables.Postings) (query_within (pos 1) 16 [] (places (1 ∷ [])) (falling 1 ∷ []))
 unfolding understood everything
@@ -53,37 +49,16 @@ last_change_is : IsSelect desk_schema (last_text tables.Changes) (query_within (
 unfolding understood everything
 last_change_is = record { selects = refl; body = refl; alone = refl; unlisted = refl; plain = (refl, refl) }
 
-last_suspense_is : IsSelect desk_schema (last_text tables.Suspense) (query_within (pos 1) 18 [] (places (1 ∷ [])) (falling 1 ∷ []))
-unfolding understood everything
-last_suspense_is = record { selects = refl; body = refl; alone = refl; unlisted = refl; plain = (refl, refl) }
-
 -- ---- what they show
-
-number_shown : {X : Type 0} (number_of : X → ℕ) (o : Option X) → option_map (λ x. number (number_of x) ∷ []) o ≡ option_map (λ n. number n ∷ []) (option_map number_of o)
-number_shown number_of None = refl
-number_shown number_of (Some x) = refl
 
 -- of a table that stands in the order of its numbers
 module _ {X : Type 0} (of : Listing X) (number_of : X → ℕ) (sql : List ℕ) (is : IsSelect desk_schema sql (query_within (pos 1) of.table.tree [] (places (1 ∷ [])) (falling 1 ∷ [])))
     (shows : (i : ℤ) (x : X) → eval_all (places (1 ∷ [])) ([] ∷ row_of of.encode (i, x) ∷ []) ≡ number (number_of x) ∷ [])
     (compares : (x y : X) → of.cmp x y ≡ nat_cmp (number_of x) (number_of y)) where
-  last_shown : ShowsFirst sql [] (λ n. number n ∷ []) (λ t. option_map number_of (slice_get (reverse (of.records t)) 0))
-  last_shown = record {
-    row = λ t old new h rows seen.
-        let table = of.stored old.now.trees t h.1 in
-        let xs = of.records t in
-        let show = λ (x : X). number (number_of x) ∷ [] in
-        ap (λ l. slice_get l 0)
-        (last_selected of.encode of.table.tree [] (places (1 ∷ [])) (falling 1 ∷ []) [] (λ _. true) show show (λ i x. refl) shows shows desk_schema sql is old new h.0 xs table.stored
-        (ascending_weaker _ _ (λ x y less. by_falling_number (number_of x) (number_of y) ∙ sym (compares x y) ∙ less) xs table.rise) rows seen
-        ∙ ap (λ l. map show (take 1 l)) (all_pass (backwards xs) ∙ backwards_is xs))
-        ∙ first_shown show (reverse xs) ∙ number_shown number_of (slice_get (reverse xs) 0);
-  }
-
   next_found : {old new : State} {o : Option ℕ} {n : ℕ} → ReadsFirst sql [] (λ n. number n ∷ []) old new o → Shows old new old.now old.committed true → n ≡ unwrap_or o 0 + 1
       → Makes desk_layout (only_tells (λ t. n ≡ next_number number_of (of.records t))) old new
   next_found {old} {new} {o} {n} read shown is_next =
-      let found = first_found (λ n. number n ∷ []) number_columns last_shown read in
+      let found = first_found (λ n. number n ∷ []) number_columns (number_shown of number_of sql is shows compares) read in
       makes_told desk_layout (λ t. n ≡ next_number number_of (of.records t)) old new shown (λ t h. is_next ∙ ap (λ last. unwrap_or last 0 + 1) (found.told t h))
 
 pub next_read : (table : NumberedTable) {old new : State} {o : Option ℕ} {n : ℕ} → ReadsFirst (last_text table) [] (λ n. number n ∷ []) old new o → Shows old new old.now old.committed true → n ≡ unwrap_or o 0 + 1

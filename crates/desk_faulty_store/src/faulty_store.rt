@@ -216,6 +216,11 @@ impl Store for FaultyStore {
         self.store.suspense(alloc)
     }
 
+    fn suspense_count(&mut self, alloc: Global) -> Result<u64, StoreFault> {
+        self.count_call()?;
+        self.store.suspense_count(alloc)
+    }
+
     fn file(
         &mut self,
         alloc: Global,

@@ -209,6 +209,10 @@ impl Store for ListStore {
         Ok(copy_of(alloc, &self.suspense)?)
     }
 
+    fn suspense_count(&mut self, _alloc: Global) -> Result<u64, StoreFault> {
+        Ok(self.suspense.len() as u64)
+    }
+
     fn file(
         &mut self,
         alloc: Global,

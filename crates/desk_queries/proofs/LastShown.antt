@@ -1,32 +1,36 @@
 -- The queries that show the last row of an order.
-use Rattle.std.proofs.Common.{◌≡◌, ℕ, Bool, true, false, cond, List, [], ◌∷◌, ◌++◌, map, filter, take, reverse, slice_get, Option, option_map, unwrap_or, refl, sym, ap, ◌∙◌}
+use Rattle.std.proofs.Common.{◌≡◌, ℕ, ℤ, pos, Bool, true, false, cond, List, [], ◌∷◌, ◌++◌, map, filter, take, reverse, slice_get, Option, option_map, unwrap_or, refl, sym, ap, ◌∙◌}
 use Rattle.std.proofs.lemmas.Grind.{reverse_onto}
 use Rattle.std.proofs.lemmas.List.{append-nil}
 use Rattle.std.proofs.lemmas.List.Elements.{filter-append}
+use Rattle.std.specs.Ordering.{nat_cmp}
 use Rattle.sqlite.specs.State.{State}
 use Rattle.sqlite_keyed.proofs.ListLemmas.{ascending_weaker}
+use Rattle.sqlite_sql.specs.Term.{eval_all}
 use Rattle.sqlite_value.specs.declared.value.Value.TheVariants.{Text}
 use Rattle.sqlite_value.specs.Order.{Row}
 use Rattle.sql_statements.proofs.Conditions.{text_is}
 use Rattle.sql_statements.proofs.LastRows.{backwards, last_selected}
 use Rattle.sql_statements.proofs.StoredRows.{stores_in}
-use Rattle.sql_statements.specs.Statements.{column_is, columns, falling}
+use Rattle.sql_statements.specs.Statements.{IsSelect, query_within, column_is, columns, falling}
+use Rattle.sql_statements.specs.StoredRows.{row_of}
 use Rattle.sql_statements.specs.Findings.{Finds}
 use Rattle.desk_records.specs.Schema.{desk_schema}
 use Rattle.desk_records.specs.TableDefinitions.{submissions_table, numbers_table}
 use Rattle.desk_records.specs.Columns.{number}
 use Rattle.desk_records.specs.Layout.{desk_layout}
 use Rattle.desk_records.specs.RecordRows.{submission_row, number_row}
-use Rattle.desk_records.specs.TableReads.{is_of, last_order, IsLastNumber}
+use Rattle.desk_records.specs.TableReads.{number_of_last, is_of, last_order, IsLastNumber}
 use Rattle.desk_records.specs.declared.records.NumberRecord.{NumberRecord}
 use Rattle.desk_queries.proofs.Conditions.{one}
 use Rattle.desk_queries.proofs.Found.{same_option, first_found}
 use Rattle.desk_queries.proofs.Injective.{number_rows, number_columns}
 use Rattle.desk_queries.proofs.Keys.{by_falling_number, by_falling_text_then_number}
+use Rattle.desk_queries.proofs.Listings.{Listing, suspense}
 use Rattle.desk_queries.proofs.Selects.{all_pass, itself}
-use Rattle.desk_queries.proofs.Texts.{places, last_order_is, last_number_is}
+use Rattle.desk_queries.proofs.Texts.{places, last_order_is, last_number_is, last_suspense_is}
 use Rattle.desk_queries.specs.Shows.{ShowsFirst, ReadsFirst}
-use Rattle.desk_queries.specs.Texts.{last_order_text, last_number_text}
+use Rattle.desk_queries.specs.Texts.{last_order_text, last_number_text, last_suspense_text}
 
 pub backwards_is : {X : Type 0} (xs : List X) → backwards xs ≡ reverse xs
 backwards_is [] = refl
@@ -70,3 +74,24 @@ last_number_found {old} {new} {x} read = record {
       ∙ ap (λ l. map number_row (take 1 l)) (all_pass (backwards by_place) ∙ backwards_is by_place))
       ∙ ap (option_map number_row) (itself (slice_get (reverse by_place) 0)));
 }
+
+-- the last number of a table that stands in the order of its numbers
+module _ {X : Type 0} (of : Listing X) (number_of : X → ℕ) (sql : List ℕ) (is : IsSelect desk_schema sql (query_within (pos 1) of.table.tree [] (places (1 ∷ [])) (falling 1 ∷ [])))
+    (shows : (i : ℤ) (x : X) → eval_all (places (1 ∷ [])) ([] ∷ row_of of.encode (i, x) ∷ []) ≡ number (number_of x) ∷ [])
+    (compares : (x y : X) → of.cmp x y ≡ nat_cmp (number_of x) (number_of y)) where
+  pub number_shown : ShowsFirst sql [] (λ n. number n ∷ []) (λ t. option_map number_of (slice_get (reverse (of.records t)) 0))
+  number_shown = record {
+    row = λ t old new h rows seen.
+        let table = of.stored old.now.trees t h.1 in
+        let xs = of.records t in
+        let show = λ (x : X). number (number_of x) ∷ [] in
+        first_taken (λ n. number n ∷ []) number_of (reverse xs) rows
+        (last_selected of.encode of.table.tree [] (places (1 ∷ [])) (falling 1 ∷ []) [] (λ _. true) show show (λ i x. refl) shows shows desk_schema sql is old new h.0 xs table.stored
+        (ascending_weaker _ _ (λ x y less. by_falling_number (number_of x) (number_of y) ∙ sym (compares x y) ∙ less) xs table.rise) rows seen
+        ∙ ap (λ l. map show (take 1 l)) (all_pass (backwards xs) ∙ backwards_is xs));
+  }
+
+pub last_suspense_found : {old new : State} {o : Option ℕ} {n : ℕ} → ReadsFirst last_suspense_text [] (λ n. number n ∷ []) old new o → unwrap_or o 0 ≡ n → Finds desk_layout (λ t. n ≡ number_of_last (λ s. s.number) t.suspense) old
+last_suspense_found read is =
+    let found = first_found _ number_columns (number_shown suspense (λ s. s.number) last_suspense_text last_suspense_is (λ i s. refl) (λ s u. refl)) read in
+    record { was_open = found.was_open; told = λ t h. sym is ∙ ap (λ o. unwrap_or o 0) (found.told t h) }

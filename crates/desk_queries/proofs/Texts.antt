@@ -5,7 +5,7 @@ use Rattle.sqlite_sql.specs.Term.{Term, col}
 use Rattle.sqlite_tied.specs.Compute.{everything}
 use Rattle.sql_statements.specs.Statements.{IsSelect, query_from, query_within, sum_query, column_is, number_is, at_least, at_most, by, falling, columns}
 use Rattle.desk_records.specs.Schema.{desk_schema}
-use Rattle.desk_queries.specs.Texts.{identity_text, operator_key_text, day_text, company_text, companies_text, holidays_text, submissions_of_text, settled_submissions_text, waiting_submissions_text, retries_text, numbered_submission_text, submission_text, order_text, facts_text, last_order_text, authorization_text, entries_text, amounts_text, cents_text, entry_text, sent_entry_text, place_text, places_text, last_number_text, returns_text, return_text, returned_orders_text, return_lines_text, change_lines_text, suspense_text, postings_text, sums_text, sum_text, modifiers_text, file_text, taken_text}
+use Rattle.desk_queries.specs.Texts.{identity_text, operator_key_text, day_text, company_text, companies_text, holidays_text, submissions_of_text, settled_submissions_text, waiting_submissions_text, retries_text, numbered_submission_text, submission_text, order_text, facts_text, last_order_text, authorization_text, entries_text, amounts_text, cents_text, entry_text, sent_entry_text, place_text, places_text, last_number_text, returns_text, return_text, returned_orders_text, return_lines_text, change_lines_text, suspense_text, last_suspense_text, postings_text, sums_text, sum_text, modifiers_text, file_text, taken_text}
 
 -- the columns at these places, from 1
 abbrev pub places : List ℕ → List Term
@@ -130,6 +130,10 @@ change_lines_is = record { selects = refl; body = refl; alone = refl; unlisted =
 pub suspense_is : IsSelect desk_schema suspense_text (query_from 18 [] (places (2 ∷ 3 ∷ 4 ∷ 5 ∷ 6 ∷ 7 ∷ 8 ∷ [])) (by 1 ∷ []))
 unfolding understood everything
 suspense_is = record { selects = refl; body = refl; alone = refl; unlisted = refl; plain = (refl, refl) }
+
+pub last_suspense_is : IsSelect desk_schema last_suspense_text (query_within (pos 1) 18 [] (places (1 ∷ [])) (falling 1 ∷ []))
+unfolding understood everything
+last_suspense_is = record { selects = refl; body = refl; alone = refl; unlisted = refl; plain = (refl, refl) }
 
 pub postings_is : IsSelect desk_schema postings_text (query_from 16 (column_is 2 0 ∷ []) (places (3 ∷ 4 ∷ 5 ∷ 6 ∷ 7 ∷ [])) (by 1 ∷ []))
 unfolding understood everything

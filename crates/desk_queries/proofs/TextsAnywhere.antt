@@ -3,7 +3,7 @@ use Rattle.std.proofs.Common.{refl}
 use Rattle.sqlite_resolve.specs.Compile.{first}
 use Rattle.sqlite_tied.specs.Compute.{everything}
 use Rattle.sql_statements.specs.SelectTexts.{IsSelectText}
-use Rattle.desk_queries.specs.Texts.{identity_text, operator_key_text, day_text, company_text, companies_text, holidays_text, submissions_of_text, settled_submissions_text, waiting_submissions_text, retries_text, numbered_submission_text, submission_text, order_text, facts_text, last_order_text, authorization_text, entries_text, amounts_text, cents_text, entry_text, sent_entry_text, place_text, places_text, last_number_text, returns_text, return_text, returned_orders_text, return_lines_text, change_lines_text, suspense_text, postings_text, sums_text, sum_text, modifiers_text, file_text, taken_text}
+use Rattle.desk_queries.specs.Texts.{identity_text, operator_key_text, day_text, company_text, companies_text, holidays_text, submissions_of_text, settled_submissions_text, waiting_submissions_text, retries_text, numbered_submission_text, submission_text, order_text, facts_text, last_order_text, authorization_text, entries_text, amounts_text, cents_text, entry_text, sent_entry_text, place_text, places_text, last_number_text, returns_text, return_text, returned_orders_text, return_lines_text, change_lines_text, suspense_text, last_suspense_text, postings_text, sums_text, sum_text, modifiers_text, file_text, taken_text}
 
 pub identity_selects : IsSelectText identity_text
 unfolding first everything
@@ -124,6 +124,10 @@ change_lines_selects = refl
 pub suspense_selects : IsSelectText suspense_text
 unfolding first everything
 suspense_selects = refl
+
+pub last_suspense_selects : IsSelectText last_suspense_text
+unfolding first everything
+last_suspense_selects = refl
 
 pub postings_selects : IsSelectText postings_text
 unfolding first everything

@@ -99,6 +99,9 @@ change_lines_text = codes "SELECT ord, idx, code, day, text FROM changes WHERE c
 abbrev pub suspense_text : List ℕ
 suspense_text = codes "SELECT file_key, item, why, code, trace, cents, day FROM suspense ORDER BY no"
 
+abbrev pub last_suspense_text : List ℕ
+last_suspense_text = codes "SELECT no FROM suspense ORDER BY no DESC LIMIT 1"
+
 -- ---- lines of accounts, and files
 
 abbrev pub postings_text : List ℕ

@@ -5,10 +5,10 @@ ghost use Rattle.sqlite.specs.State.{HasCleanDisk, Survives};
 ghost use Rattle.sql_statements.specs.Queries.{Stays};
 ghost use Rattle.sql_statements.specs.Findings.{Finds};
 ghost use Rattle.desk_records.specs.Layout.{desk_layout};
-ghost use Rattle.desk_records.specs.TableReads.{returns_in, return_at, orders_returned, return_lines_in, change_lines_in, suspense_in};
+ghost use Rattle.desk_records.specs.TableReads.{number_of_last, returns_in, return_at, orders_returned, return_lines_in, change_lines_in, suspense_in};
 
 use crate::parameter::{characters, natural};
-use crate::rows::{all_of, column_of, first_of};
+use crate::rows::{all_of, cell_of, column_of, first_of};
 use ach_fields::Id;
 use desk_history::SuspenseRow;
 use desk_records::{ChangeLine, EntryReturn, ReturnLine};
@@ -127,4 +127,20 @@ pub fn suspense<S: Alter>(
         "SELECT file_key, item, why, code, trace, cents, day FROM suspense ORDER BY no",
         &[],
     )
+}
+
+/// Gives the number of the last item in suspense, 0 before the first.
+pub fn last_suspense_number<S: Alter>(conn: &mut Connection<S>) -> Result<u64, Error>
+    ensures answer { HasCleanDisk (state S.Store conn.new) → IfOk result (λ found. Finds desk_layout (λ t. found ≡ number_of_last (λ s. s.number) t.suspense) (state S.Store conn.old)) }
+    ensures stays { HasCleanDisk (state S.Store conn.new) → Stays (state S.Store conn.old) (state S.Store conn.new) }
+    ensures survives { Survives (state S.Store conn.old) (state S.Store conn.new) (λ _. ⊥) }
+{
+    match cell_of(
+        conn,
+        "SELECT no FROM suspense ORDER BY no DESC LIMIT 1",
+        &[],
+    )? {
+        Some(number) => Ok(number),
+        None => Ok(0),
+    }
 }

@@ -20,7 +20,10 @@ pub use entries::{
     amounts_of, cents_of, entries_of, entry, last_number, place, places, sent_entry,
 };
 pub use files::{file_text, modifiers, taken_file};
-pub use items::{change_lines, entry_return, orders_returned, return_lines, returns, suspense};
+pub use items::{
+    change_lines, entry_return, last_suspense_number, orders_returned, return_lines, returns,
+    suspense,
+};
 pub use lines::{postings, sum, sums};
 pub use parameter::{characters, date, natural, number_of};
 pub use registry::{companies, company, day, holidays, identity, operator_key};

@@ -19,12 +19,12 @@ use Rattle.desk_store.specs.Rows.{CompanyRow, Rows, flat_book}
 use Rattle.desk_records.specs.Beside.{AreNumbered, orders_of}
 use Rattle.desk_records.specs.Encodes.{Encodes, HasStates, submission_record, retried_entry, unless_lapsed, settled_state, entry_state, is_return_of, is_submission_under}
 use Rattle.desk_records.specs.KeyOrders.{IsInOrder, submission_cmp}
-use Rattle.desk_records.specs.TableReads.{rows_in, row_under_in, is_of, is_under, is_open_of, is_retry_of, is_since, tries, last_order}
+use Rattle.desk_records.specs.TableReads.{number_of_last, rows_in, row_under_in, is_of, is_under, is_open_of, is_retry_of, is_since, tries, last_order}
 use Rattle.desk_records.specs.Tables.{Tables}
 use Rattle.desk_records.specs.declared.records.ReturnRecord.{ReturnRecord}
 use Rattle.desk_records.specs.declared.records.SubmissionRecord.{SubmissionRecord}
 use Rattle.desk_read_laws.proofs.FoundRows.{rows_found, row_found}
-use Rattle.desk_read_laws.proofs.Lists.{filter-both, find-both, filter_agrees, find-map, last_of_range, last-map}
+use Rattle.desk_read_laws.proofs.Lists.{filter-both, find-both, filter_agrees, find-map, last_counts}
 
 abbrev pub is_in : List ℕ → CompanyRow → Bool
 is_in c x = bytes_eq x.company c
@@ -75,13 +75,6 @@ same_tries : (of : List ℕ) (index : ℕ) (retry : Option Retry) → tries of i
 same_tries of index None = refl
 same_tries of index (Some r) = refl
 
-last_number : (orders : List ℕ) → orders ≡ range_with_len 1 (length orders) → unwrap_or (slice_get (reverse orders) 0) 0 ≡ length orders
-last_number orders is = ap (λ (l : List ℕ). unwrap_or (slice_get (reverse l) 0) 0) is ∙ go (length orders)
-  where
-    go : (n : ℕ) → unwrap_or (slice_get (reverse (range_with_len 1 n)) 0) 0 ≡ n
-    go zero = refl
-    go (suc n) = ap (λ (o : Option ℕ). unwrap_or o 0) (last_of_range 1 n) ∙ (let e : 1 + n ≡ suc n = omega arith in e)
-
 module _ (t : Tables) (r : Rows) (e : Encodes t r) (rise : IsInOrder submission_cmp t.submissions) (c : List ℕ) where
   pub entries_found : rows_in (is_of c) t ≡ (flat_book r).rows c
   entries_found = rows_found t r e rise (is_of c)
@@ -109,10 +102,9 @@ module _ (t : Tables) (r : Rows) (e : Encodes t r) (rise : IsInOrder submission_
   count_found numbered =
       let own : List CompanyRow = filter (is_in c) r.submissions in
       let number : SubmissionRecord → ℕ = λ s. s.order in
-      ap (λ l. unwrap_or (option_map number (slice_get (reverse (filter (is_of c) l)) 0)) 0) e.submissions
-      ∙ ap (λ l. unwrap_or (option_map number (slice_get (reverse l) 0)) 0) (filter-map (is_of c) (submission_record r.printed) r.submissions)
-      ∙ ap (λ o. unwrap_or o 0) (last-map number (map (submission_record r.printed) own))
-      ∙ ap (λ (l : List ℕ). unwrap_or (slice_get (reverse l) 0) 0) (map-map number (submission_record r.printed) own)
-      ∙ last_number (orders_of r.submissions c) (numbered c)
-      ∙ length-map own (λ x. x.row.order)
+      let count : length (orders_of r.submissions c) ≡ length own = length-map own (λ x. x.row.order) in
+      ap (λ l. number_of_last number (filter (is_of c) l)) e.submissions
+      ∙ ap (number_of_last number) (filter-map (is_of c) (submission_record r.printed) r.submissions)
+      ∙ last_counts number (map (submission_record r.printed) own) (length own)
+      (map-map number (submission_record r.printed) own ∙ numbered c ∙ ap (range_with_len 1) count)
       ∙ sym (length-map own (λ x. x.row))

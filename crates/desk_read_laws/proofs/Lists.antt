@@ -1,10 +1,11 @@
 -- Tests and look-ups one after another.
-use Rattle.std.proofs.Common.{◌≡◌, ℕ, zero, suc, ◌+◌, Bool, true, false, ◌&&◌, cond, List, [], ◌∷◌, ◌++◌, map, filter, find, reverse, slice_get, Option, Some, None, option_map, refl, sym, subst, ap, ◌∙◌, arith}
+use Rattle.std.proofs.Common.{◌≡◌, ℕ, zero, suc, ◌+◌, Bool, true, false, ◌&&◌, cond, List, [], ◌∷◌, ◌++◌, map, filter, find, reverse, slice_get, Option, Some, None, option_map, unwrap_or, length, refl, sym, subst, ap, ◌∙◌, arith}
 use Rattle.std.specs.Option.{option_or}
 use Rattle.std.specs.List.{AllPairs, Contains, AllByRecursion, enumerate_from, range_with_len}
 use Rattle.std.proofs.lemmas.List.{reverse-append}
 use Rattle.std.proofs.lemmas.List.Elements.{recursion_from_All, All-from_recursion}
 use Rattle.sqlite_trees.specs.Tree.{IsAscending}
+use Rattle.desk_records.specs.TableReads.{number_of_last}
 
 module _ {X : Type 0} (p q : X → Bool) where
   pub filter-both : (xs : List X) → filter p (filter q xs) ≡ filter (λ x. q x && p x) xs
@@ -102,6 +103,19 @@ module _ {X Y : Type 0} (f : X → Y) where
       ∙ sym (last-cons (f x) (map f xs))
 
 -- ---- numbers
+
+-- of what is numbered from 1 on, the last number is the count
+pub last_counts : {X : Type 0} (number : X → ℕ) (xs : List X) (n : ℕ) → map number xs ≡ range_with_len 1 n → number_of_last number xs ≡ n
+last_counts number xs n is = ap (λ o. unwrap_or o 0) (last-map number xs) ∙ ap (λ l. unwrap_or (slice_get (reverse l) 0) 0) is ∙ go n
+  where
+    go : (n : ℕ) → unwrap_or (slice_get (reverse (range_with_len 1 n)) 0) 0 ≡ n
+    go zero = refl
+    go (suc n) = ap (λ (o : Option ℕ). unwrap_or o 0) (last_of_range 1 n) ∙ (let e : 1 + n ≡ suc n = omega arith in e)
+
+-- what is enumerated has the numbers from there on
+pub enumerated_numbers : {X : Type 0} (n : ℕ) (xs : List X) → map (λ (p : ℕ × X). p.0) (enumerate_from n xs) ≡ range_with_len n (length xs)
+enumerated_numbers n [] = refl
+enumerated_numbers n (x ∷ xs) = ap (λ l. n ∷ l) (enumerated_numbers (n + 1) xs)
 
 -- without their numbers they are what they were
 pub unnumbered : {X : Type 0} (n : ℕ) (xs : List X) → map (λ (p : ℕ × X). p.1) (enumerate_from n xs) ≡ xs

@@ -25,12 +25,12 @@ use Rattle.desk_book.specs.Reads.{key_of, company}
 use Rattle.desk_store.specs.Rows.{Rows, flat_book}
 use Rattle.desk_records.specs.Encodes.{Encodes, posting_record, suspense_record}
 use Rattle.desk_records.specs.KeyOrders.{IsInOrder, file_cmp, taken_cmp}
-use Rattle.desk_records.specs.TableReads.{company_in, lines_in, suspense_in, modifiers_in, text_in, taken_in}
+use Rattle.desk_records.specs.TableReads.{number_of_last, company_in, lines_in, suspense_in, modifiers_in, text_in, taken_in}
 use Rattle.desk_records.specs.Tables.{Tables}
 use Rattle.desk_records.specs.declared.records.PostingRecord.{PostingRecord}
 use Rattle.desk_records.specs.declared.records.SuspenseRecord.{SuspenseRecord}
 use Rattle.desk_read_laws.specs.Composed.{key_in}
-use Rattle.desk_read_laws.proofs.Lists.{unnumbered, filter-unnumbered}
+use Rattle.desk_read_laws.proofs.Lists.{last_counts, enumerated_numbers, unnumbered, filter-unnumbered}
 use Rattle.desk_read_laws.proofs.Permuted.{found_same}
 use Rattle.desk_read_laws.proofs.WholeRows.{number_ties, text_ties}
 
@@ -70,6 +70,13 @@ module _ (t : Tables) (r : Rows) (e : Encodes t r) where
   suspense_found =
       let line : SuspenseRecord → SuspenseRow = λ s. s.row in
       ap (map line) e.suspense ∙ map-map line suspense_record (enumerate_from 1 r.suspense) ∙ unnumbered 1 r.suspense
+
+  pub suspense_counted : number_of_last (λ s. s.number) t.suspense ≡ length r.suspense
+  suspense_counted =
+      let number : SuspenseRecord → ℕ = λ s. s.number in
+      ap (number_of_last number) e.suspense
+      ∙ last_counts number (map suspense_record (enumerate_from 1 r.suspense)) (length r.suspense)
+      (map-map number suspense_record (enumerate_from 1 r.suspense) ∙ enumerated_numbers 1 r.suspense)
 
   pub files_found : (day : ℕ) → length (modifiers_in day t) ≡ (flat_book r).files_on day
   files_found day =

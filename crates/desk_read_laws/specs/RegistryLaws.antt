@@ -4,7 +4,7 @@ use Rattle.desk_accounts.specs.declared.account.Account.{Account}
 use Rattle.desk_accounts.specs.Balance.{lines_of, day_sums}
 use Rattle.desk_book.specs.declared.caller.Caller.{Caller}
 use Rattle.desk_book.specs.Reads.{key_of, company}
-use Rattle.desk_records.specs.TableReads.{company_in, lines_in, suspense_in, modifiers_in, text_in, taken_in}
+use Rattle.desk_records.specs.TableReads.{number_of_last, company_in, lines_in, suspense_in, modifiers_in, text_in, taken_in}
 use Rattle.desk_read_laws.specs.Composed.{key_in, day_sums_in}
 use Rattle.desk_read_laws.specs.ReadsAs.{ReadsAs}
 
@@ -20,6 +20,7 @@ pub record FileLaws : Type 0 where
   pub postings : (account : Account) → ReadsAs (lines_in account) (λ b. lines_of account b.postings)
   pub balances : (account : Account) → ReadsAs (day_sums_in account) (λ b. day_sums account b.postings)
   pub suspense : ReadsAs suspense_in (λ b. b.suspense)
+  pub suspense_count : ReadsAs (λ t. number_of_last (λ s. s.number) t.suspense) (λ b. length b.suspense)
   pub files_on : (day : ℕ) → ReadsAs (λ t. length (modifiers_in day t)) (λ b. b.files_on day)
   pub file : (day modifier : ℕ) → ReadsAs (text_in day modifier) (λ b. b.file day modifier)
   pub taken : (key : List ℕ) → ReadsAs (taken_in key) (λ b. b.taken key)

@@ -7,7 +7,7 @@ pub fn registry_of_tables()
 {}
 
 /// So do files, those that came in, what stands in suspense, and the lines of accounts with their
-/// sums.
+/// sums. The number of the last item in suspense says how many there are.
 pub fn files_of_tables()
     ensures { FileLaws }
 {

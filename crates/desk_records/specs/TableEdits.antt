@@ -27,7 +27,7 @@ use Rattle.desk_records.specs.Beside.{is_balance_of}
 use Rattle.desk_records.specs.CutTables.{is_row, mark_sent, mark_lapsed, is_entry_row, mark_entry, with_number}
 use Rattle.desk_records.specs.Encodes.{retried_entry, AsksAs}
 use Rattle.desk_records.specs.KeyOrders.{company_cmp, submission_cmp, entry_cmp, file_cmp, taken_cmp, balance_cmp, authorization_cmp}
-use Rattle.desk_records.specs.TableReads.{company_in, is_under, is_return_at, sum_in, taken_in}
+use Rattle.desk_records.specs.TableReads.{number_of_last, company_in, is_under, is_return_at, sum_in, taken_in}
 use Rattle.desk_records.specs.Tables.{Tables}
 use Rattle.desk_records.specs.declared.records.AuthorizationRecord.{AuthorizationRecord}
 use Rattle.desk_records.specs.declared.records.BalanceRecord.{BalanceRecord}
@@ -106,7 +106,7 @@ add_submission_edit c order s retry =
 
 -- SELECT no .. ORDER BY no DESC LIMIT 1: the number after the last one
 abbrev pub next_number : {X : Type 0} → (X → ℕ) → List X → ℕ
-next_number number xs = unwrap_or (option_map number (slice_get (reverse xs) 0)) 0 + 1
+next_number number xs = number_of_last number xs + 1
 
 -- INSERT INTO balances .. ON CONFLICT (account, value_day) DO UPDATE SET cents = ?
 abbrev pub with_balance : Account → (value_day : ℕ) → (cents : ℤ) → List BalanceRecord → List BalanceRecord

@@ -38,6 +38,10 @@ use Rattle.desk_records.specs.declared.row.submissions.OrderAndSettlement.{Order
 use Rattle.desk_records.specs.declared.row.submissions.SubmissionFacts.{SubmissionFacts}
 use Rattle.desk_records.specs.declared.row.submissions.SubmissionHead.{SubmissionHead}
 
+-- SELECT no .. ORDER BY no DESC LIMIT 1: the number of the last row, 0 before the first
+abbrev pub number_of_last : {X : Type 0} → (X → ℕ) → List X → ℕ
+number_of_last number xs = unwrap_or (option_map number (slice_get (reverse xs) 0)) 0
+
 -- ---- companies
 
 -- SELECT .. FROM companies WHERE id = ? ORDER BY id
@@ -96,7 +100,7 @@ facts_in c order t = option_map facts_of (find (is_row c order) t.submissions)
 
 -- SELECT ord .. WHERE company = ? ORDER BY company DESC, ord DESC LIMIT 1: the last order, 0 before the first
 abbrev pub last_order : (company : List ℕ) → Tables → ℕ
-last_order c t = unwrap_or (option_map (λ s. s.order) (slice_get (reverse (filter (is_of c) t.submissions)) 0)) 0
+last_order c t = number_of_last (λ s. s.order) (filter (is_of c) t.submissions)
 
 -- ---- what stands of one submission
 

@@ -202,6 +202,10 @@ impl<S: Store> Store for Remembering<S> {
         self.store.suspense(alloc)
     }
 
+    fn suspense_count(&mut self, alloc: Global) -> Result<u64, StoreFault> {
+        self.store.suspense_count(alloc)
+    }
+
     fn file(
         &mut self,
         alloc: Global,

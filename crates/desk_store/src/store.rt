@@ -1,5 +1,5 @@
 //! A desk keeps its book in a store, in whatever way.
-ghost use Rattle.std.specs.Prelude.{◌≡◌, Option};
+ghost use Rattle.std.specs.Prelude.{◌≡◌, length, Option};
 ghost use Rattle.desk_accounts.specs.Balance.{lines_of, day_sums};
 ghost use Rattle.desk_book.specs.Book.{Book};
 ghost use Rattle.desk_book.specs.Reads.{key_of, company, submission, submission_count, open_rows_of, retries_of, state_of, waiting_of, waiting, last_sequence, sent_count, latest_settled, sent_as, items_of};
@@ -294,6 +294,12 @@ pub trait Store {
     fn suspense(&mut self, alloc: Global) -> Result<Vec<SuspenseRow>, StoreFault>
         ensures before { is_clean self.new → is_clean self.old }
         ensures read { is_clean self.new → ReadsList (holds self.old) result (λ b. b.suspense) (holds self.new) }
+        ensures left { is_clean self.new → LeavesRead (may_leave self.old) (may_leave self.new) };
+
+    /// Says how many items stand in suspense.
+    fn suspense_count(&mut self, alloc: Global) -> Result<u64, StoreFault>
+        ensures before { is_clean self.new → is_clean self.old }
+        ensures read { is_clean self.new → Reads (holds self.old) result (λ b. length b.suspense) (holds self.new) }
         ensures left { is_clean self.new → LeavesRead (may_leave self.old) (may_leave self.new) };
 
     /// Reads the text of a file, by its day and modifier.

@@ -214,6 +214,11 @@ impl<S: Alter> Store for SqlStore<S> {
         or_unavailable(desk_queries::suspense(&mut self.conn, alloc))
     }
 
+    fn suspense_count(&mut self, _alloc: Global) -> Result<u64, StoreFault> {
+        files_of_tables();
+        or_unavailable(desk_queries::last_suspense_number(&mut self.conn))
+    }
+
     fn file(
         &mut self,
         alloc: Global,

@@ -112,13 +112,13 @@ pub(crate) fn status<S: Store>(store: &mut S, alloc: Global) -> Result<Answer, S
     let statuses = statuses_of(store, alloc, &day, &holidays, &companies)?;
     let files = files_of(store, alloc, &day)?;
     let sent = store.sent_count(alloc)?;
-    let suspense = store.suspense(alloc)?;
+    let suspense = store.suspense_count(alloc)?;
     Ok(Answer::Done(Outcome::Status(DeskStatus {
         companies: ListOf::new(statuses),
         day: day_of(&day),
         files: ListOf::new(files),
         holidays: holidays.holidays().len() as u64,
         sent,
-        suspense: suspense.len() as u64,
+        suspense,
     })))
 }

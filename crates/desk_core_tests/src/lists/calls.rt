@@ -27,6 +27,7 @@ const EMPTY: &[Step] = &[
     Step::Read(Read::SentCount(0)),
     Step::Read(Read::Held(0, None)),
     Step::Read(Read::Suspense(false)),
+    Step::Read(Read::SuspenseCount(0)),
 ];
 
 #[test]
@@ -94,6 +95,7 @@ const INTAKE: &[Step] = &[
     Step::Read(Read::State(MILL, State::Returned)),
     Step::Read(Read::Return(MILL)),
     Step::Read(Read::Suspense(true)),
+    Step::Read(Read::SuspenseCount(1)),
     Step::Read(Read::Taken(b'K', true)),
     Step::Read(Read::Taken(b'L', false)),
     Step::Read(Read::Balances(None, &[(b"2025-01-10", -2500), (b"2025-01-14", 5000)])),

@@ -57,6 +57,7 @@ pub(super) enum Read {
     Return(Text),
     /// The sample row, if it is there.
     Suspense(bool),
+    SuspenseCount(u64),
     /// The sample file under a key of one byte, if it is there.
     Taken(u8, bool),
 }
@@ -314,6 +315,7 @@ pub(super) fn finds<S: Store>(
         Read::Balances(name, rows) => balances(rt, store, name) == sums(rt, rows),
         Read::Return(name) => has_return(rt, store, name),
         Read::Suspense(is_there) => has_suspense(rt, store) == is_there,
+        Read::SuspenseCount(wanted) => store.suspense_count(alloc) == Ok(wanted),
         Read::Taken(byte, is_there) => has_taken(rt, store, byte) == is_there,
     }
 }
