@@ -7,7 +7,7 @@ pub cell_of-requires : goal.cell_of-requires
 cell_of-requires g c = last_suspense_selects
 
 pub returns-in-Some-clause-answer : goal.returns-in-Some-clause-answer
-returns-in-Some-clause-answer g c clean = last_suspense_found (c.cell_of.ensures.answer clean) (ap (λ o. unwrap_or o 0) c.in-Some.is)
+returns-in-Some-clause-answer g c clean = last_suspense_found (c.in_ok-number.ensures.answer clean) (ap (λ o. unwrap_or o 0) c.in-Some.is)
 
 pub returns-in-None-clause-answer : goal.returns-in-None-clause-answer
-returns-in-None-clause-answer g c clean = last_suspense_found (c.cell_of.ensures.answer clean) (ap (λ o. unwrap_or o 0) c.in-None.is)
+returns-in-None-clause-answer g c clean = last_suspense_found (c.in_ok-number.ensures.answer clean) (ap (λ o. unwrap_or o 0) c.in-None.is)
