@@ -1,22 +1,22 @@
 -- Lists that are read item by item.
-use Rattle.std.proofs.Common.{◌≡◌, ◌∙◌, ap, sym, ℕ, ◌+◌, take, Option, List, [], ◌∷◌, ◌++◌, map, refl}
+use Rattle.std.proofs.Common.{◌≡◌, ◌∙◌, ap, sym, Option, List, [], ◌∷◌, ◌++◌, map, refl}
+use Rattle.std.proofs.lemmas.List.{append-nil}
 use Rattle.std.specs.List.{flat_map, cons_option}
 use Rattle.std.specs.Prelude.{filter_map}
 
--- one more item
-map_more : {X Y Z : Type 0} (show : X → Z) (f : Y → Z) (xs : List X) (x : X) (ys : List Y) (y : Y) → map show xs ≡ map f ys → show x ≡ f y → map show (xs ++ x ∷ []) ≡ map f (ys ++ y ∷ [])
-map_more show f [] x [] y e is = λ i. is i ∷ []
-map_more show f [] x (z ∷ ys) y e is = cc
-map_more show f (w ∷ xs) x [] y e is = cc
-map_more show f (w ∷ xs) x (z ∷ ys) y e is =
-    let first : show w ≡ f z = cc in
-    let rest = map_more show f xs x ys y (let h = e in cc) is in
-    λ i. first i ∷ rest i
+-- one more is read, and the rest is as it was
+read_one : {X Y Z : Type 0} (show : X → Z) (f : Y → Z) (xs : List X) (x : X) (y : Y) (ys : List Y) → show x ≡ f y → map show xs ++ map f (y ∷ ys) ≡ map show (xs ++ x ∷ []) ++ map f ys
+read_one show f [] x y ys is = ap (λ z. z ∷ map f ys) (sym is)
+read_one show f (w ∷ xs) x y ys is = ap (λ l. show w ∷ l) (read_one show f xs x y ys is)
 
--- what was read so far, with one more
-pub read_more : {X Y Z : Type 0} (show : X → Z) (f : Y → Z) (xs more : List X) (x : X) (items : List Y) (i : ℕ) (item : Y)
-    → more ≡ xs ++ x ∷ [] → take (i + 1) items ≡ take i items ++ item ∷ [] → map show xs ≡ map f (take i items) → show x ≡ f item → map show more ≡ map f (take (i + 1) items)
-read_more show f xs more x items i item pushed next are is = ap (map show) pushed ∙ map_more show f xs x (take i items) item are is ∙ ap (map f) (sym next)
+-- what was read so far and what belongs to the items that are left are all that there is; so with one more
+pub read_more : {X Y Z : Type 0} (show : X → Z) (f : Y → Z) (all : List Z) (xs more : List X) (x : X) (left : List Y) (y : Y) (ys : List Y)
+    → all ≡ map show xs ++ map f left → left ≡ y ∷ ys → more ≡ xs ++ x ∷ [] → show x ≡ f y → all ≡ map show more ++ map f ys
+read_more show f all xs more x left y ys are first pushed is = are ∙ ap (λ l. map show xs ++ map f l) first ∙ read_one show f xs x y ys is ∙ ap (λ l. map show l ++ map f ys) (sym pushed)
+
+-- no item is left
+pub read_all : {X Y Z : Type 0} (show : X → Z) (f : Y → Z) (all : List Z) (xs : List X) (left : List Y) → all ≡ map show xs ++ map f left → left ≡ [] → map show xs ≡ all
+read_all show f all xs left are none = sym (are ∙ ap (λ l. map show xs ++ map f l) none ∙ append-nil (map show xs))
 
 -- lists that were read of each item, in one
 pub flat_map_same : {X Y Z : Type 0} (show : X → List Z) (f : Y → List Z) (xs : List X) (ys : List Y) → map show xs ≡ map f ys → flat_map show xs ≡ flat_map f ys

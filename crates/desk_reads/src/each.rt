@@ -6,12 +6,13 @@ ghost use Rattle.desk_records.specs.Tables.{Tables};
 ghost use Rattle.desk_reads.specs.Answers.{Learns};
 
 use desk_store::StoreFault;
+use emptying_lists::EmptyingList;
 use sqlite::{Alter, Connection};
 use std::alloc::Global;
 
 /// An `ItemRead` reads what belongs to an item of a list.
 pub(crate) trait ItemRead {
-    type Item;
+    type Item: Drop;
 
     type Found: Drop;
 
@@ -34,18 +35,20 @@ pub(crate) trait ItemRead {
         ensures { Learns (λ found t. shown found ≡ value self.now t item.now) result (state S.Store conn.old) (state S.Store conn.new) };
 }
 
-/// Reads what belongs to each item of a list, in its order.
+/// Reads what belongs to each item of a list, in its order. The items are let go as they are read, so
+/// that what is found may come into their place.
 pub(crate) fn read_each<S: Alter, R: ItemRead>(
     conn: &mut Connection<S>,
     alloc: Global,
     read: &R,
-    items: &[R::Item],
+    items: Vec<R::Item>,
 ) -> Result<Vec<R::Found>, StoreFault>
-    ensures { Learns (λ found t. map R.ItemRead.shown found.items ≡ map (R.ItemRead.value read.now t) items.now) result (state S.Store conn.old) (state S.Store conn.new) }
+    ensures { Learns (λ found t. map R.ItemRead.shown found.items ≡ map (R.ItemRead.value read.now t) items.items) result (state S.Store conn.old) (state S.Store conn.new) }
 {
+    let mut left = EmptyingList::new(items);
     let mut all = Vec::new(alloc);
-    for item in items {
-        all.push(read.read_item(conn, alloc, item)?)?;
+    while let Some(item) = left.take_first() {
+        all.push(read.read_item(conn, alloc, &item)?)?;
     }
     Ok(all)
 }

@@ -78,9 +78,9 @@ impl ItemRead for DebitFacts {
 pub(crate) fn facts_of_debits<S: Alter>(
     conn: &mut Connection<S>,
     alloc: Global,
-    heads: &[SubmissionHead],
+    heads: Vec<SubmissionHead>,
 ) -> Result<Vec<EntryFact>, StoreFault>
-    ensures { Learns (λ found t. found.items ≡ flat_map (λ head. debit_facts (whole_row t head)) heads.now) result (state S.Store conn.old) (state S.Store conn.new) }
+    ensures { Learns (λ found t. found.items ≡ flat_map (λ head. debit_facts (whole_row t head)) heads.items) result (state S.Store conn.old) (state S.Store conn.new) }
 {
     let lists = read_each(conn, alloc, &DebitFacts, heads)?;
     let all = joined(alloc, lists)?;

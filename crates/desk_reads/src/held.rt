@@ -78,7 +78,7 @@ pub fn waiting_of<S: Alter>(
 {
     let heads = or_unavailable(waiting_submissions(conn, alloc, company.id))?;
     let held = HeldSubmissions { company: *company };
-    let found = read_each(conn, alloc, &held, &heads)?;
+    let found = read_each(conn, alloc, &held, heads)?;
     Ok(found)
 }
 
@@ -115,7 +115,7 @@ pub fn waiting<S: Alter>(
     ensures { Answers (λ found t. found.items ≡ waiting_in t) result (state S.Store conn.old) (state S.Store conn.new) }
 {
     let companies = or_unavailable(companies(conn, alloc))?;
-    let lists = read_each(conn, alloc, &HeldByCompany, &companies)?;
+    let lists = read_each(conn, alloc, &HeldByCompany, companies)?;
     let all = joined(alloc, lists)?;
     Ok(all)
 }

@@ -101,7 +101,7 @@ fn returns_of<S: Alter>(
     ensures { Answers (λ found t. map Some found.items ≡ map (return_row_in company t) (return_lines_in company t)) result (state S.Store conn.old) (state S.Store conn.new) }
 {
     let lines = or_unavailable(return_lines(conn, alloc, company))?;
-    read_each(conn, alloc, &ReturnRows { company }, &lines)
+    read_each(conn, alloc, &ReturnRows { company }, lines)
 }
 
 // A company's changes, in the order in which they came.
@@ -113,7 +113,7 @@ fn changes_of<S: Alter>(
     ensures { Answers (λ found t. map Some found.items ≡ map (change_row_in company t) (change_lines_in company t)) result (state S.Store conn.old) (state S.Store conn.new) }
 {
     let lines = or_unavailable(change_lines(conn, alloc, company))?;
-    read_each(conn, alloc, &ChangeRows { company }, &lines)
+    read_each(conn, alloc, &ChangeRows { company }, lines)
 }
 
 /// Reads the returns and changes of a company's entries. One of a submission that is not there leaves

@@ -86,6 +86,6 @@ pub fn latest_settled<S: Alter>(
     ensures { Answers (λ found t. found ≡ latest_in from to t) result (state S.Store conn.old) (state S.Store conn.new) }
 {
     let places = or_unavailable(places(conn, alloc, from, to))?;
-    let days = read_each(conn, alloc, &Settlements, &places)?;
+    let days = read_each(conn, alloc, &Settlements, places)?;
     Ok(latest_of(&days))
 }

@@ -210,6 +210,6 @@ pub fn exposures<S: Alter>(
         today,
         calendar: &calendar,
     };
-    let pairs = read_each(conn, alloc, &read, &heads)?;
+    let pairs = read_each(conn, alloc, &read, heads)?;
     Ok((credits_of(&pairs), debits_of(&pairs)))
 }

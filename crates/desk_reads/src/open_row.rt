@@ -37,7 +37,7 @@ pub fn open_rows<S: Alter>(
     ensures { Answers (λ found t. found.items ≡ filter (is_open_row since) (rows_in (is_open_of company since) t)) result (state S.Store conn.old) (state S.Store conn.new) }
 {
     let heads = or_unavailable(open_submissions(conn, alloc, company, since))?;
-    let mut found = rows(conn, alloc, &heads)?;
+    let mut found = rows(conn, alloc, heads)?;
     found.retain(|row| is_open(row, since));
     Ok(found)
 }

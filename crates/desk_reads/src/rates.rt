@@ -64,7 +64,7 @@ impl ItemRead for EarlierFacts {
         let mut heads = or_unavailable(numbered_submission(conn, alloc, self.company, *order))?;
         let since = self.since;
         heads.retain(|head| !is_since(head, since));
-        let found = facts_of_debits(conn, alloc, &heads)?;
+        let found = facts_of_debits(conn, alloc, heads)?;
         Ok(found)
     }
 }
@@ -90,7 +90,7 @@ fn returned_facts<S: Alter>(
 {
     let orders = or_unavailable(orders_returned(conn, alloc, company, since))?;
     let orders = distinct(orders);
-    let lists = read_each(conn, alloc, &EarlierFacts { company, since }, &orders)?;
+    let lists = read_each(conn, alloc, &EarlierFacts { company, since }, orders)?;
     let all = joined(alloc, lists)?;
     Ok(all)
 }
@@ -105,7 +105,7 @@ fn settled_facts<S: Alter>(
     ensures { Answers (λ found t. found.items ≡ flat_map (λ head. debit_facts (whole_row t head)) (heads_in (is_settled_of company since) t)) result (state S.Store conn.old) (state S.Store conn.new) }
 {
     let heads = or_unavailable(settled_submissions(conn, alloc, company, since))?;
-    let all = facts_of_debits(conn, alloc, &heads)?;
+    let all = facts_of_debits(conn, alloc, heads)?;
     Ok(all)
 }
 

@@ -76,9 +76,9 @@ impl ItemRead for WholeRows {
 pub(crate) fn rows<S: Alter>(
     conn: &mut Connection<S>,
     alloc: Global,
-    heads: &[SubmissionHead],
+    heads: Vec<SubmissionHead>,
 ) -> Result<Vec<Row>, StoreFault>
-    ensures { Learns (λ found t. found.items ≡ map (whole_row t) heads.now) result (state S.Store conn.old) (state S.Store conn.new) }
+    ensures { Learns (λ found t. found.items ≡ map (whole_row t) heads.items) result (state S.Store conn.old) (state S.Store conn.new) }
 {
     let found = read_each(conn, alloc, &WholeRows, heads)?;
     Ok(found)
@@ -111,7 +111,7 @@ pub fn entries_of<S: Alter>(
     ensures { Answers (λ found t. found.items ≡ rows_in (is_of company) t) result (state S.Store conn.old) (state S.Store conn.new) }
 {
     let heads = or_unavailable(desk_queries::submissions_of(conn, alloc, company))?;
-    rows(conn, alloc, &heads)
+    rows(conn, alloc, heads)
 }
 
 /// Reads a company's retries of the entry that has this number in the submission with this
@@ -126,5 +126,5 @@ pub fn retries_of<S: Alter>(
     ensures { Answers (λ found t. found.items ≡ rows_in (is_retry_of company of index) t) result (state S.Store conn.old) (state S.Store conn.new) }
 {
     let heads = or_unavailable(desk_queries::retries(conn, alloc, company, of, index))?;
-    rows(conn, alloc, &heads)
+    rows(conn, alloc, heads)
 }

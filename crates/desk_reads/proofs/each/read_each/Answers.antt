@@ -1,18 +1,22 @@
-use Rattle.std.proofs.Common.{rules, ◌≡◌, ◌∙◌, sym, ap, ◌+◌, ◌++◌, ◌∷◌, [], take, map}
-use Rattle.std.proofs.lemmas.List.{take_more, take_all}
+use Rattle.std.proofs.Common.{rules, ◌≡◌, ◌∙◌, ap, ◌∷◌, [], map}
 use Rattle.desk_reads.proofs.Joined.{told_then, told_as, learnt, learned}
-use Rattle.desk_reads.proofs.ListReads.{read_more}
+use Rattle.desk_reads.proofs.ListReads.{read_more, read_all}
 use Rattle.desk_reads.proofs.each.read_each.Goals as goal
 
 pub loop-item-preserved : goal.loop-item-preserved
 loop-item-preserved g c =
-    let items = c.args.items.now in
-    let i = c.loop-item.item-index in
-    let item = c.item-item.result in
-    let next : take (i + 1) items ≡ take i items ++ item ∷ [] = take_more items i item (search rules) ∙ ap (λ x. take i items ++ x ∷ []) (sym c.item-item.is) in
+    let read = c.loop-item in
+    let item = c.in-Some.item in
+    let rest = c.take_first.new.self in
+    let first : read.left ≡ item ∷ rest = search rules in
     told_as
-    (λ t told. read_more g.R.ItemRead.shown (g.R.ItemRead.value c.args.read.now t) c.loop-item.all.items _ c.in_ok-read_item.field-0 items i item c.in_ok-push.ensures.items next told.0 told.1)
-    (told_then c.loop-item.invariant (learnt c.read_item.ensures c.in_ok-read_item.was))
+    (λ t told. read_more g.R.ItemRead.shown (g.R.ItemRead.value c.args.read.now t) _ read.all.items _ c.in_ok-read_item.field-0 read.left item rest told.0 first c.in_ok-push.ensures.items told.1)
+    (told_then read.invariant (learnt c.read_item.ensures c.in_ok-read_item.was))
 
 pub returns : goal.returns
-returns g c = learned c.loop-item.invariant (λ t are. are ∙ ap (map (g.R.ItemRead.value c.args.read.now t)) (take_all c.loop-item.item-index c.args.items.now (search rules)))
+returns g c =
+    let none : c.loop-item.left ≡ [] = search rules in
+    learned c.loop-item.invariant
+    (λ t are.
+    let value = g.R.ItemRead.value c.args.read.now t in
+    read_all g.R.ItemRead.shown value _ c.loop-item.all.items c.loop-item.left are none ∙ ap (map value) c.new-left.ensures)

@@ -8,4 +8,4 @@ use Rattle.desk_reads.proofs.facts.facts_of_debits.Goals as goal
 pub returns : goal.returns
 returns g c =
     learned (learnt c.read_each.ensures c.in_ok-lists.was)
-    (λ t are. c.in_ok-all.ensures ∙ flat_map_same (λ list. list.items) (λ head. debit_facts (whole_row t head)) c.in_ok-lists.lists.items c.args.heads.now are)
+    (λ t are. c.in_ok-all.ensures ∙ flat_map_same (λ list. list.items) (λ head. debit_facts (whole_row t head)) c.in_ok-lists.lists.items c.args.heads.items are)

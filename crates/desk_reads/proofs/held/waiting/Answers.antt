@@ -18,5 +18,5 @@ returns g c =
     answered (both companies (learnt c.read_each.ensures c.in_ok-lists.was))
     (λ t told.
     c.in_ok-all.ensures
-    ∙ flat_map_same (λ list. list.items) (held t) c.in_ok-lists.lists.items c.in_ok-companies.companies.items (rw c.deref.ensures.value at told.1)
+    ∙ flat_map_same (λ list. list.items) (held t) c.in_ok-lists.lists.items c.in_ok-companies.companies.items told.1
     ∙ ap (flat_map (held t)) told.0)

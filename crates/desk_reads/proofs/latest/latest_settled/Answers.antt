@@ -13,6 +13,6 @@ returns g c =
     let places = query (rw c.in_ok-places.ensures at c.places.ensures.answer) c.places.ensures.stays c.places.ensures.survives in
     answered (both places (learnt c.read_each.ensures c.in_ok-days.was))
     (λ t told.
-    rw c.deref-2.ensures.value at c.latest_of.ensures
-    ∙ ap (λ days. reduce max (filter_map (λ day. day) days)) (sym (each_itself c.in_ok-days.days.items) ∙ rw c.deref.ensures.value at told.1 ∙ ap (map (λ place. settled_at place t)) told.0)
+    rw c.deref.ensures.value at c.latest_of.ensures
+    ∙ ap (λ days. reduce max (filter_map (λ day. day) days)) (sym (each_itself c.in_ok-days.days.items) ∙ told.1 ∙ ap (map (λ place. settled_at place t)) told.0)
     ∙ ap (reduce max) (filter_map_all (λ place. settled_at place t) (places_between c.args.from c.args.to t)))

@@ -12,4 +12,4 @@ returns g c =
     answered (both heads (learnt c.rows.ensures c.in_ok-found.was))
     (λ t told.
     filter_same _ (is_open_row since) _ (λ row is_kept next called. (search rules, search rules)) _ _ c.retain.ensures.filtered
-    ∙ ap (filter (is_open_row since)) (rw c.deref.ensures.value at told.1 ∙ ap (map (whole_row t)) told.0))
+    ∙ ap (filter (is_open_row since)) (told.1 ∙ ap (map (whole_row t)) told.0))

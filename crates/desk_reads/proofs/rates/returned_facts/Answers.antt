@@ -13,5 +13,5 @@ returns g c =
       orders = c.distinct-orders.result.items;
       rise = c.distinct-orders.ensures.rise;
       all = λ o has. c.distinct-orders.ensures.all o (subst (λ l. Contains l o) (Rattle.std.proofs.Common.sym told.0) has);
-      are = c.in_ok-all.ensures ∙ flat_map_same (λ list. list.items) (earlier_facts c.args.company c.args.since t) c.in_ok-lists.lists.items c.distinct-orders.result.items (rw c.deref.ensures.value at told.1);
+      are = c.in_ok-all.ensures ∙ flat_map_same (λ list. list.items) (earlier_facts c.args.company c.args.since t) c.in_ok-lists.lists.items c.distinct-orders.result.items told.1;
     })

@@ -6,4 +6,4 @@ use Rattle.desk_reads.proofs.rows.entries_of.Goals as goal
 pub returns : goal.returns
 returns g c =
     let heads = query (rw c.in_ok-heads.ensures at c.submissions_of.ensures.answer) c.submissions_of.ensures.stays c.submissions_of.ensures.survives in
-    answered_last heads c.rows.ensures (λ found t are these. rw c.deref.ensures.value at these ∙ ap (map (whole_row t)) are)
+    answered_last heads c.rows.ensures (λ found t are these. these ∙ ap (map (whole_row t)) are)

@@ -12,7 +12,7 @@ returns g c =
     let heads = query (rw c.in_ok-heads.ensures at c.numbered_submission.ensures.answer) c.numbered_submission.ensures.stays c.numbered_submission.ensures.survives in
     learned (told_then heads.so (learnt c.facts_of_debits.ensures c.in_ok-found.was))
     (λ t told.
-    rw c.deref.ensures.value at told.1
+    told.1
     ∙ ap (flat_map (λ head. debit_facts (whole_row t head)))
     (filter_same _ (λ head. not (is_since since head.settled)) _ (λ head is_kept next called. (search rules, search rules)) _ _ c.retain.ensures.filtered
     ∙ ap (filter (λ head. not (is_since since head.settled))) told.0))
