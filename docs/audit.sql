@@ -46,7 +46,7 @@ SELECT s.company, c.name, s.ord AS number, s.ref,
        e.entries, e.cents, printf('%d.%02d', e.cents / 100, e.cents % 100) AS amount,
        CASE WHEN s.lapsed = 1 THEN 'lapsed' WHEN s.settled IS NULL THEN 'held' ELSE 'sent' END AS state,
        date(s.settled * 86400, 'unixepoch') AS settled, date(s.file_day * 86400, 'unixepoch') AS cut_on,
-       CASE WHEN s.modifier IS NOT NULL THEN char(s.modifier) END AS file, s.batch,
+       s.modifier AS file, s.batch,
        (SELECT count(*) FROM returns r WHERE r.company = s.company AND r.ord = s.ord) AS returned,
        s.of_ref, s.of_index, date(a.day * 86400, 'unixepoch') AS authorized
 FROM submissions s
@@ -181,7 +181,7 @@ JOIN (SELECT k.account, coalesce(sum(p.cents), 0) AS cents FROM audit_accounts k
 
 -- Each file that a cut made: what the tables say of it, and its text. `records` counts entries and addenda.
 CREATE TEMP VIEW audit_files AS
-SELECT date(f.day * 86400, 'unixepoch') AS day, char(f.modifier) AS file, count(s.batch) AS batches,
+SELECT date(f.day * 86400, 'unixepoch') AS day, f.modifier AS file, count(s.batch) AS batches,
        sum(e.entries) AS entries, sum(e.entries + e.addenda) AS records,
        coalesce(sum(e.cents) FILTER (WHERE s.direction = 'debit'), 0) AS debit_cents,
        coalesce(sum(e.cents) FILTER (WHERE s.direction = 'credit'), 0) AS credit_cents, CAST(f.text AS TEXT) AS text

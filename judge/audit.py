@@ -113,7 +113,7 @@ SPOILED = [
     ("UPDATE numbers SET nth = 99 WHERE sequence = 1", "each sequence names the place of a sent entry"),
     ("UPDATE returns SET idx = 9 WHERE no = 1", "what came back was sent"),
     ("DELETE FROM changes", "the returns, changes and items in suspense are those that taken files count"),
-    ("UPDATE submissions SET modifier = 66 WHERE file_day = 20096 AND company = 'MILL01'", "the control of each file counts what the tables have of it"),
+    ("UPDATE submissions SET modifier = 'B' WHERE file_day = 20096 AND company = 'MILL01'", "the control of each file counts what the tables have of it"),
 ]
 
 

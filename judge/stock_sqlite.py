@@ -18,14 +18,14 @@ TABLES = {
     "holidays": ("day:INT", "day"),
     "companies": ("id:TEXT name:TEXT key_digest:BLOB entry_limit:INT credit_limit:INT debit_limit:INT", "id"),
     "submissions": ("company:TEXT ord:INT ref:TEXT sec:TEXT direction:TEXT description:TEXT asked:INT of_ref:TEXT? of_index:INT? "
-                    "lapsed:INT settled:INT? file_day:INT? modifier:INT? batch:INT?", "company ord", "company ref"),
+                    "lapsed:INT settled:INT? file_day:INT? modifier:TEXT? batch:INT?", "company ord", "company ref"),
     "entries": ("company:TEXT ord:INT idx:INT routing:TEXT account:TEXT savings:INT prenote:INT cents:INT ident:TEXT name:TEXT "
                 "info:TEXT? seq:INT?", "company ord idx"),
     "returns": ("no:INT company:TEXT ord:INT idx:INT code:TEXT day:INT late:INT info:TEXT", "no", "company ord idx"),
     "changes": ("no:INT company:TEXT ord:INT idx:INT code:TEXT day:INT text:TEXT", "no"),
-    "postings": ("no:INT account:TEXT value_day:INT cents:INT cause:TEXT ref:TEXT? idx:INT", "no"),
+    "postings": ("no:INT account:TEXT value_day:INT cents:INT cause:TEXT ref:TEXT idx:INT", "no"),
     "suspense": ("no:INT file_key:TEXT item:INT why:TEXT code:TEXT trace:TEXT cents:INT day:INT", "no"),
-    "files": ("day:INT modifier:INT text:BLOB", "day modifier"),
+    "files": ("day:INT modifier:TEXT text:BLOB", "day modifier"),
     "taken": ("file_key:TEXT digest:BLOB day:INT returns:INT changes:INT late:INT suspense:INT", "file_key"),
     "balances": ("account:TEXT value_day:INT cents:TEXT", "account value_day"),
     "numbers": ("sequence:INT nth:INT", "sequence", "nth"),

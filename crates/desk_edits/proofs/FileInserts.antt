@@ -1,5 +1,5 @@
 -- The statement of a cut that keeps a file, against the records of files.
-use Rattle.std.proofs.Common.{◌≡◌, ℕ, ℤ, true, ◌&&◌, ◌==◌, [], ◌∷◌, find, None, Ok, refl, ap, ap₂, ◌∙◌}
+use Rattle.std.proofs.Common.{◌≡◌, ℕ, ℤ, true, ◌&&◌, ◌==◌, [], ◌∷◌, find, None, Ok, refl, ap₂, ◌∙◌}
 use Rattle.std.specs.Cmp.{IsTotalOrder}
 use Rattle.std.specs.Ordering.{nat_cmp}
 use Rattle.std.proofs.lemmas.Bool.{and_parts, and_from}
@@ -14,7 +14,6 @@ use Rattle.sqlite_value.specs.Keys.{first_key, plain}
 use Rattle.sql_statements.specs.Statements.{IsInsert}
 use Rattle.sql_statements.specs.StoredRows.{row_of}
 use Rattle.sql_statements.proofs.Casts.{row_kept}
-use Rattle.sql_statements.proofs.Conditions.{and_true}
 use Rattle.sql_statements.proofs.FreeKeys.{insert_rules}
 use Rattle.sql_statements.proofs.Inserts.{inserted}
 use Rattle.sql_statements.specs.Layouts.{Holds}
@@ -26,8 +25,8 @@ use Rattle.desk_records.specs.KeyOrders.{file_cmp}
 use Rattle.desk_records.specs.Layout.{desk_layout}
 use Rattle.desk_records.specs.RecordRows.{file_row}
 use Rattle.desk_records.specs.Tables.{Tables}
-use Rattle.desk_edits.proofs.Conditions.{number_is, same_number, number_itself, equal_numbers, equal_both, taken_first}
-use Rattle.desk_edits.proofs.Keys.{find_none, key_free, put_in_order}
+use Rattle.desk_edits.proofs.Conditions.{number_itself, equal_numbers, equal_both, taken_first}
+use Rattle.desk_edits.proofs.Keys.{find_none, key_free, key_letter, key_number, put_in_order}
 use Rattle.desk_edits.proofs.OtherTables.{files_changed}
 use Rattle.desk_edits.specs.CutTexts.{insert_file}
 
@@ -43,8 +42,7 @@ unfolding first_key
 same_file day modifier a b here there =
     let x = and_parts (a.1.day == day) (a.1.modifier == modifier) here in
     let y = and_parts (b.1.day == day) (b.1.modifier == modifier) there in
-    and_from _ _ (number_is b.1.day a.1.day ∙ ap (λ n. b.1.day == n) (same_number a.1.day day x.0) ∙ y.0)
-    (and_true _ ∙ number_is b.1.modifier a.1.modifier ∙ ap (λ n. b.1.modifier == n) (same_number a.1.modifier modifier x.1) ∙ y.1)
+    and_from _ _ (key_number a.1.day b.1.day day x.0 y.0) (and_from _ _ (key_letter a.1.modifier b.1.modifier modifier x.1 y.1) refl)
 
 pub file_put : (f : FileRow) (old new : State) (count : ℕ) → Executes insert_file (file_row f) old new (Ok count) → (t : Tables) → Holds desk_layout old.now t
     → Holds desk_layout new.now (record t { files = insert_sorted file_cmp f t.files }) × (find (is_file f.day f.modifier) t.files ≡ None)

@@ -1,5 +1,5 @@
 -- The statement that puts in a line, against the records of lines.
-use Rattle.std.proofs.Common.{◌≡◌, ℕ, true, List, Option, None, Some, Ok, refl}
+use Rattle.std.proofs.Common.{◌≡◌, ℕ, true, List, [], ◌∷◌, Option, None, Some, Ok, refl}
 use Rattle.std.specs.Ordering.{nat_cmp, on}
 use Rattle.sqlite_tied.specs.Compute.{everything}
 use Rattle.sqlite.specs.Listing.{understood}
@@ -31,7 +31,8 @@ posting_kept p = at_reference p.posting.reference
   where
     at_reference : (o : Option (List ℕ)) → are_kept postings_table.columns (posting_row (record p { posting = record p.posting { reference = o } })) ≡ true
     at_reference None = refl
-    at_reference (Some r) = refl
+    at_reference (Some []) = refl
+    at_reference (Some (c ∷ s)) = refl
 
 pub posting_put : (p : PostingRecord) (old new : State) (count : ℕ) → Executes insert_posting (posting_row p) old new (Ok count) → (t : Tables) → Holds desk_layout old.now t
     → Holds desk_layout new.now (record t { postings = insert_sorted (on (λ x. x.number) nat_cmp) p t.postings })

@@ -22,7 +22,7 @@ use Rattle.desk_records.specs.Schema.{desk_schema}
 use Rattle.desk_records.specs.TableDefinitions.{submissions_table}
 use Rattle.desk_book.specs.declared.flat_rows.LapsedRow.{LapsedRow}
 use Rattle.desk_book.specs.declared.flat_rows.SentRow.{SentRow}
-use Rattle.desk_records.specs.Columns.{number}
+use Rattle.desk_records.specs.Columns.{number, letter}
 use Rattle.desk_records.specs.CutTables.{is_row, mark_sent, mark_lapsed}
 use Rattle.desk_records.specs.KeyOrders.{submission_cmp, text_cmp}
 use Rattle.desk_records.specs.Layout.{desk_layout}
@@ -96,10 +96,10 @@ module _ (c : List ℕ) (o : ℕ) (rest : Row) (sql : List ℕ) (sets : List Ter
         record { submission = it.row; found = it.found; unsettled = parts.1; lasts = parts.2 },
       )
 
-pub submission_sent : (s : SentRow) (old new : State) → Executes update_sent (Text s.company ∷ number s.order ∷ number s.settled ∷ number s.printed.day ∷ number s.printed.modifier ∷ number s.printed.batch ∷ []) old new (Ok 1)
+pub submission_sent : (s : SentRow) (old new : State) → Executes update_sent (Text s.company ∷ number s.order ∷ number s.settled ∷ number s.printed.day ∷ letter s.printed.modifier ∷ number s.printed.batch ∷ []) old new (Ok 1)
     → (t : Tables) → Holds desk_layout old.now t → Holds desk_layout new.now (record t { submissions = mark_sent s t.submissions }) × Waits s.company s.order t
 submission_sent s =
-    submission_updated s.company s.order (number s.settled ∷ number s.printed.day ∷ number s.printed.modifier ∷ number s.printed.batch ∷ []) update_sent _ update_sent_is
+    submission_updated s.company s.order (number s.settled ∷ number s.printed.day ∷ letter s.printed.modifier ∷ number s.printed.batch ∷ []) update_sent _ update_sent_is
     (λ r. record r { settled = Some s.settled; printed = Some s.printed }) (λ r. refl) (λ r. refl) (λ i r. refl)
 
 pub submission_lapsed : (l : LapsedRow) (old new : State) → Executes update_lapsed (Text l.company ∷ number l.order ∷ []) old new (Ok 1)

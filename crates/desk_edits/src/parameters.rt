@@ -4,7 +4,7 @@ ghost use Rattle.sqlite.specs.Values.{bound_value, or_null};
 ghost use Rattle.sqlite_value.specs.Value.{owned};
 ghost use Rattle.sqlite_value.specs.declared.value.Value.TheVariants.{Text};
 ghost use Rattle.desk_history.specs.Resolve.{is_savings};
-ghost use Rattle.desk_records.specs.Columns.{flag, direction_text, cause_text, reason_text};
+ghost use Rattle.desk_records.specs.Columns.{flag, line_reference, direction_text, cause_text, reason_text};
 
 use ach_fields::{Ref, ShortText};
 use desk_accounts::Cause;
@@ -76,12 +76,12 @@ pub(crate) fn optional_text<'a, const N: usize>(text: &'a Option<ShortText<N>>) 
     }
 }
 
-/// Gives a reference as a parameter, NULL where there is none.
-pub(crate) fn optional_reference<'a>(reference: &'a Option<Ref>) -> ValueRef<'a>
-    ensures { bound_value (owned result) ≡ or_null Text reference.now }
+/// Gives the reference of a line as a parameter, the empty text where it has none.
+pub(crate) fn line_reference<'a>(reference: &'a Option<Ref>) -> ValueRef<'a>
+    ensures { bound_value (owned result) ≡ line_reference reference.now }
 {
     match reference {
-        None => ValueRef::Null,
+        None => characters(b""),
         Some(reference) => characters(reference.bytes()),
     }
 }

@@ -1,5 +1,5 @@
 -- What the tests of WHERE say of the values of columns.
-use Rattle.std.proofs.Common.{◌≡◌, ℕ, pos, Bool, true, false, ◌&&◌, ◌==◌, nat_le, Option, Some, None, refl, ◌∙◌, is_eq, is_ge, is_le, int_cmp, arith}
+use Rattle.std.proofs.Common.{◌≡◌, ℕ, pos, Bool, true, false, ◌&&◌, ◌==◌, nat_le, [], ◌∷◌, Option, Some, None, refl, ◌∙◌, is_eq, is_ge, is_le, int_cmp, arith}
 use Rattle.std.proofs.lemmas.Int.{ints}
 use Rattle.sqlite.specs.Values.{or_null}
 use Rattle.sqlite_value.specs.declared.keys.Collation.TheVariants.{Binary}
@@ -7,14 +7,17 @@ use Rattle.sqlite_sql.specs.declared.ops.BinaryOp.TheVariants.{Compare}
 use Rattle.sqlite_sql.specs.declared.ops.CompareOp.TheVariants.{Eq, Ge, Le}
 use Rattle.sqlite_sql.specs.Ops.{binary, is_true}
 use Rattle.desk_records.specs.TableReads.{is_place, is_since}
-use Rattle.sql_statements.proofs.Conditions.{and_true, int_is, int_least, int_most}
-use Rattle.desk_records.specs.Columns.{number}
+use Rattle.sql_statements.proofs.Conditions.{and_true, int_is, int_least, int_most, text_is}
+use Rattle.desk_records.specs.Columns.{number, letter}
 
 pub number_is : (a b : ℕ) → is_true (binary (Compare Eq Binary) (number a) (number b)) ≡ (a == b)
 number_is a b = int_is (pos a) (pos b) ∙ same a b
   where
     same : (a b : ℕ) → is_eq (int_cmp (pos a) (pos b)) ≡ (a == b)
     same a b = grind (arith, ints)
+
+pub letter_is : (a b : ℕ) → is_true (binary (Compare Eq Binary) (letter a) (letter b)) ≡ (a == b)
+letter_is a b = text_is (a ∷ []) (b ∷ []) ∙ and_true (a == b)
 
 pub number_least : (a b : ℕ) → is_true (binary (Compare Ge Binary) (number a) (number b)) ≡ nat_le b a
 number_least a b = int_least (pos a) (pos b) ∙ same a b

@@ -22,7 +22,7 @@ use Rattle.desk_rules.specs.declared.bodies.submission.Direction.TheVariants as 
 use Rattle.desk_rules.specs.declared.bodies.submission.Entry.{Entry}
 use Rattle.desk_rules.specs.declared.bodies.submission.SecCode.{SecCode}
 use Rattle.desk_rules.specs.declared.bodies.submission.SecCode.TheVariants as secs
-use Rattle.desk_records.specs.Columns.{number, flag, direction_text, cause_text, reason_text}
+use Rattle.desk_records.specs.Columns.{number, flag, letter, line_reference, direction_text, cause_text, reason_text}
 use Rattle.desk_records.specs.QueryRows.{submission_head_row, submission_facts_row, order_and_settlement_row, entry_amount_row, numbered_entry_row, placed_entry_row, entry_return_row, return_line_row, change_line_row, posting_line_row, suspense_line_row}
 use Rattle.desk_records.specs.RecordRows.{company_row, identity_row, taken_row, number_row, entry_columns}
 use Rattle.desk_records.specs.declared.row.items.EntryReturn.{EntryReturn}
@@ -59,6 +59,20 @@ if_any_in f _ = None
 number_if_any : (o : Option ℕ) → if_any_in number_in (or_null number o) ≡ o
 number_if_any None = refl
 number_if_any (Some n) = refl
+
+abbrev letter_in : Value → ℕ
+letter_in (Text (c ∷ s)) = c
+letter_in _ = 0
+
+abbrev line_reference_in : Value → Option (List ℕ)
+line_reference_in Null = Some []
+line_reference_in (Text (c ∷ s)) = Some (c ∷ s)
+line_reference_in _ = None
+
+line_reference_back : (o : Option (List ℕ)) → line_reference_in (line_reference o) ≡ o
+line_reference_back None = refl
+line_reference_back (Some []) = refl
+line_reference_back (Some (c ∷ s)) = refl
 
 text_if_any : (o : Option (List ℕ)) → if_any_in text_in (or_null Text o) ≡ o
 text_if_any None = refl
@@ -134,6 +148,9 @@ retried_back (Some r) = refl
 
 pub number_columns : IsInjective (λ n. number n ∷ [])
 number_columns = read_back (λ n. number n ∷ []) (λ r. number_in (column r 0)) (λ n. refl)
+
+pub letter_columns : IsInjective (λ c. letter c ∷ [])
+letter_columns = read_back (λ c. letter c ∷ []) (λ r. letter_in (column r 0)) (λ c. refl)
 
 pub number_if_any_columns : IsInjective (λ o. or_null number o ∷ [])
 number_if_any_columns = read_back (λ o. or_null number o ∷ []) (λ r. if_any_in number_in (column r 0)) number_if_any
@@ -248,12 +265,12 @@ posting_line_in r = record {
   value_day = number_in (column r 0);
   cents = int_in (column r 1);
   cause = cause_with (text_in (column r 2));
-  reference = if_any_in text_in (column r 3);
+  reference = line_reference_in (column r 3);
   idx = number_in (column r 4);
 }
 
 pub posting_line_rows : IsInjective posting_line_row
-posting_line_rows = read_back posting_line_row posting_line_in (λ p i. record p { cause = cause_back p.cause i; reference = text_if_any p.reference i })
+posting_line_rows = read_back posting_line_row posting_line_in (λ p i. record p { cause = cause_back p.cause i; reference = line_reference_back p.reference i })
 
 abbrev suspense_in : Row → SuspenseRow
 suspense_in r = record {

@@ -9,7 +9,7 @@ use Rattle.sqlite_value.specs.Keys.{ascending}
 use Rattle.sqlite_value.specs.Order.{value_cmp}
 use Rattle.sqlite_value.proofs.OrderLemmas.{value_cmp-Int, value_cmp-Text}
 use Rattle.sqlite_sql.specs.Query.{key_cmp}
-use Rattle.desk_records.specs.Columns.{number}
+use Rattle.desk_records.specs.Columns.{number, letter}
 use Rattle.desk_records.specs.KeyOrders.{text_cmp}
 
 pub numbers_compare : (a b : ℕ) → value_cmp (number a) (number b) ≡ nat_cmp a b
@@ -29,10 +29,16 @@ by_number a b = then_equal _ ∙ numbers_compare a b
 pub by_text : (s t : List ℕ) → key_cmp 0 (ascending Binary ∷ []) (Text s ∷ []) (Text t ∷ []) ≡ text_cmp s t
 by_text s t = then_equal _ ∙ value_cmp-Text s t
 
+pub by_number_then_letter : (a b c d : ℕ) → key_cmp 0 (ascending Binary ∷ ascending Binary ∷ []) (number a ∷ letter c ∷ []) (number b ∷ letter d ∷ []) ≡ ordering_then (nat_cmp a b) (nat_cmp c d)
+by_number_then_letter a b c d = let first = numbers_compare a b in let then = by_text (c ∷ []) (d ∷ []) ∙ letters_compare c d in λ i. ordering_then (first i) (then i)
+  where
+    letters_compare : (c d : ℕ) → text_cmp (c ∷ []) (d ∷ []) ≡ nat_cmp c d
+    letters_compare c d = then_equal (nat_cmp c d)
+
 pub by_text_then_number : (s t : List ℕ) (a b : ℕ) → key_cmp 0 (ascending Binary ∷ ascending Binary ∷ []) (Text s ∷ number a ∷ []) (Text t ∷ number b ∷ []) ≡ ordering_then (text_cmp s t) (nat_cmp a b)
 by_text_then_number s t a b = let first = value_cmp-Text s t in let then = by_number a b in λ i. ordering_then (first i) (then i)
 
-pub by_numbers : (a b c d : ℕ) → key_cmp 0 (ascending Binary ∷ ascending Binary ∷ []) (number a ∷ number c ∷ []) (number b ∷ number d ∷ []) ≡ ordering_then (nat_cmp a b) (nat_cmp c d)
+by_numbers : (a b c d : ℕ) → key_cmp 0 (ascending Binary ∷ ascending Binary ∷ []) (number a ∷ number c ∷ []) (number b ∷ number d ∷ []) ≡ ordering_then (nat_cmp a b) (nat_cmp c d)
 by_numbers a b c d = let first = numbers_compare a b in let then = by_number c d in λ i. ordering_then (first i) (then i)
 
 pub by_text_then_numbers : (s t : List ℕ) (a b c d : ℕ) → key_cmp 0 (ascending Binary ∷ ascending Binary ∷ ascending Binary ∷ []) (Text s ∷ number a ∷ number c ∷ []) (Text t ∷ number b ∷ number d ∷ []) ≡ ordering_then (ordering_then (text_cmp s t) (nat_cmp a b)) (nat_cmp c d)

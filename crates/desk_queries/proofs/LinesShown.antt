@@ -20,24 +20,24 @@ use Rattle.desk_records.specs.Selected.{day_sum_of, posting_line_of}
 use Rattle.desk_records.specs.declared.records.PostingRecord.{PostingRecord}
 use Rattle.desk_records.specs.declared.row.lines.PostingLine.{PostingLine}
 use Rattle.desk_queries.specs.Postings.{posting_of}
-use Rattle.desk_records.specs.Columns.{number, account_text, decimal_text}
+use Rattle.desk_records.specs.Columns.{number, letter, account_text, decimal_text}
 use Rattle.desk_records.specs.RecordRows.{taken_row}
 use Rattle.desk_records.specs.TableReads.{lines_in, sums_in, sum_in, modifiers_in, text_in, taken_in}
-use Rattle.desk_queries.proofs.Conditions.{one, two, number_is}
+use Rattle.desk_queries.proofs.Conditions.{one, two, number_is, letter_is}
 use Rattle.desk_queries.proofs.Listings.{files, taken, balances, postings}
 use Rattle.desk_queries.proofs.Selects.{all_selected, first_selected, itself}
 use Rattle.desk_queries.proofs.Texts.{places, postings_is, sums_is, sum_is, modifiers_is, file_is, taken_is}
 use Rattle.desk_queries.specs.Shows.{ShowsAll, ShowsFirst}
 use Rattle.desk_queries.specs.Texts.{postings_text, sums_text, sum_text, modifiers_text, file_text, taken_text}
 
-pub modifiers_shown : (day : ℕ) → ShowsAll modifiers_text (number day ∷ []) (λ n. number n ∷ []) (modifiers_in day)
+pub modifiers_shown : (day : ℕ) → ShowsAll modifiers_text (number day ∷ []) (λ n. letter n ∷ []) (modifiers_in day)
 modifiers_shown day =
-    all_selected files modifiers_text (column_is 1 0 ∷ []) (places (2 ∷ [])) (number day ∷ []) (λ f. f.day == day) (λ f. f.modifier) (λ n. number n ∷ []) modifiers_is (λ i f. one (number_is f.day day)) (λ i f. refl)
+    all_selected files modifiers_text (column_is 1 0 ∷ []) (places (2 ∷ [])) (number day ∷ []) (λ f. f.day == day) (λ f. f.modifier) (λ n. letter n ∷ []) modifiers_is (λ i f. one (number_is f.day day)) (λ i f. refl)
 
-pub file_shown : (day modifier : ℕ) → ShowsFirst file_text (number day ∷ number modifier ∷ []) (λ text. Blob text ∷ []) (text_in day modifier)
+pub file_shown : (day modifier : ℕ) → ShowsFirst file_text (number day ∷ letter modifier ∷ []) (λ text. Blob text ∷ []) (text_in day modifier)
 file_shown day modifier =
-    first_selected files file_text (column_is 1 0 ∷ column_is 2 1 ∷ []) (places (3 ∷ [])) (number day ∷ number modifier ∷ []) (is_file day modifier) (λ f. f.text) (λ text. Blob text ∷ [])
-    file_is (λ i f. two (number_is f.day day) (number_is f.modifier modifier)) (λ i f. refl)
+    first_selected files file_text (column_is 1 0 ∷ column_is 2 1 ∷ []) (places (3 ∷ [])) (number day ∷ letter modifier ∷ []) (is_file day modifier) (λ f. f.text) (λ text. Blob text ∷ [])
+    file_is (λ i f. two (number_is f.day day) (letter_is f.modifier modifier)) (λ i f. refl)
 
 pub taken_shown : (key : List ℕ) → ShowsFirst taken_text (Text key ∷ []) taken_row (taken_in key)
 taken_shown key =

@@ -14,7 +14,7 @@ use Rattle.desk_records.specs.TableDefinitions.{desk_table, holidays_table, comp
 use Rattle.desk_book.specs.declared.flat_rows.FileRow.{FileRow}
 use Rattle.desk_history.specs.declared.operations.TakenFile.{TakenFile}
 use Rattle.desk_rules.specs.declared.bodies.company.Company.{Company}
-use Rattle.desk_records.specs.Columns.{number, account_text}
+use Rattle.desk_records.specs.Columns.{number, letter, account_text}
 use Rattle.desk_records.specs.KeyOrders.{company_cmp, submission_cmp, entry_cmp, file_cmp, taken_cmp, balance_cmp, number_cmp, authorization_cmp}
 use Rattle.desk_records.specs.RecordRows.{desk_row, holiday_row, company_row, submission_row, entry_row, return_row, change_row, posting_row, suspense_row, file_row, taken_row, balance_row, number_row, authorization_row}
 use Rattle.desk_records.specs.Tables.{Tables, IsTableOf, IsStored}
@@ -28,7 +28,7 @@ use Rattle.desk_records.specs.declared.records.PostingRecord.{PostingRecord}
 use Rattle.desk_records.specs.declared.records.ReturnRecord.{ReturnRecord}
 use Rattle.desk_records.specs.declared.records.SubmissionRecord.{SubmissionRecord}
 use Rattle.desk_records.specs.declared.records.SuspenseRecord.{SuspenseRecord}
-use Rattle.desk_queries.proofs.Keys.{by_text, by_number, by_numbers, by_text_then_number, by_text_then_numbers}
+use Rattle.desk_queries.proofs.Keys.{by_text, by_number, by_number_then_letter, by_text_then_number, by_text_then_numbers}
 
 -- a table whose records stand in the order of these columns
 pub record Listing (X : Type 0) : Type 0 where
@@ -168,9 +168,9 @@ files = record {
   records = λ t. t.files;
   stored = λ trees t h. h.files;
   order = by 1 ∷ by 2 ∷ [];
-  sort = λ f. number f.day ∷ number f.modifier ∷ [];
+  sort = λ f. number f.day ∷ letter f.modifier ∷ [];
   sorts = λ params i x. refl;
-  compares = λ x y. by_numbers x.day y.day x.modifier y.modifier;
+  compares = λ x y. by_number_then_letter x.day y.day x.modifier y.modifier;
 }
 
 abbrev pub taken : Listing TakenFile

@@ -7,7 +7,7 @@ ghost use Rattle.sql_statements.specs.Findings.{Finds};
 ghost use Rattle.desk_records.specs.Layout.{desk_layout};
 ghost use Rattle.desk_records.specs.TableReads.{modifiers_in, text_in, taken_in};
 
-use crate::parameter::{characters, date, natural};
+use crate::parameter::{characters, date};
 use crate::rows::{blob_of, column_of, first_of};
 use bank_days::Day;
 use desk_history::TakenFile;
@@ -59,10 +59,11 @@ pub fn file_text<S: Alter>(
     ensures stays { HasCleanDisk (state S.Store conn.new) → Stays (state S.Store conn.old) (state S.Store conn.new) }
     ensures survives { Survives (state S.Store conn.old) (state S.Store conn.new) (λ _. ⊥) }
 {
+    let letter = [modifier];
     blob_of(
         conn,
         alloc,
         "SELECT text FROM files WHERE day = ?1 AND modifier = ?2 ORDER BY day, modifier",
-        &[date(day), natural(u64::from(modifier))?],
+        &[date(day), characters(&letter)],
     )
 }

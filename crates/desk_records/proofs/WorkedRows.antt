@@ -175,10 +175,10 @@ company = refl
 
 submissions : map submission_row tables.submissions ≡
     (Text bake ∷ Int (pos 1) ∷ Text (codes "B") ∷ Text (codes "CCD") ∷ Text (codes "debit") ∷ Text (codes "DUES") ∷ Int (pos 20120) ∷ Null ∷ Null ∷ Int (pos 0) ∷ Null ∷ Null ∷ Null ∷ Null ∷ [])
-    ∷ (Text mill ∷ Int (pos 1) ∷ Text pay ∷ Text (codes "CCD") ∷ Text (codes "debit") ∷ Text (codes "DUES") ∷ Int (pos 20098) ∷ Null ∷ Null ∷ Int (pos 0) ∷ Int (pos 20098) ∷ Int (pos 20096) ∷ Int (pos 65) ∷ Int (pos 3) ∷ [])
+    ∷ (Text mill ∷ Int (pos 1) ∷ Text pay ∷ Text (codes "CCD") ∷ Text (codes "debit") ∷ Text (codes "DUES") ∷ Int (pos 20098) ∷ Null ∷ Null ∷ Int (pos 0) ∷ Int (pos 20098) ∷ Int (pos 20096) ∷ Text (codes "A") ∷ Int (pos 3) ∷ [])
     ∷ (Text mill ∷ Int (pos 2) ∷ Text (codes "TRY-1") ∷ Text (codes "CCD") ∷ Text (codes "debit") ∷ Text (codes "DUES") ∷ Int (pos 20103) ∷ Text pay ∷ Int (pos 1) ∷ Int (pos 1) ∷ Null ∷ Null ∷ Null ∷ Null ∷ [])
     ∷ (Text mill ∷ Int (pos 3) ∷ Text (codes "TRY-2") ∷ Text (codes "CCD") ∷ Text (codes "debit") ∷ Text (codes "DUES") ∷ Int (pos 20115) ∷ Text pay ∷ Int (pos 1) ∷ Int (pos 0) ∷ Null ∷ Null ∷ Null ∷ Null ∷ [])
-    ∷ (Text mill ∷ Int (pos 4) ∷ Text (codes "PAY-4") ∷ Text (codes "CCD") ∷ Text (codes "debit") ∷ Text (codes "DUES") ∷ Int (pos 20109) ∷ Null ∷ Null ∷ Int (pos 0) ∷ Int (pos 20109) ∷ Int (pos 20107) ∷ Int (pos 66) ∷ Int (pos 1) ∷ []) ∷ []
+    ∷ (Text mill ∷ Int (pos 4) ∷ Text (codes "PAY-4") ∷ Text (codes "CCD") ∷ Text (codes "debit") ∷ Text (codes "DUES") ∷ Int (pos 20109) ∷ Null ∷ Null ∷ Int (pos 0) ∷ Int (pos 20109) ∷ Int (pos 20107) ∷ Text (codes "B") ∷ Int (pos 1) ∷ []) ∷ []
 submissions = refl
 
 credit : submission_row (record (record_of mill 5 pay 20098 None false None None) { sec = Ppd; direction = Credit })
@@ -203,13 +203,13 @@ postings : map posting_row tables.postings ≡
 postings = refl
 
 suspended : posting_row (record { number = 3; posting = record { account = accounts.Suspense; value_day = 20102; cents = pos 5; cause = causes.Cut; reference = None; idx = 0 } })
-    ≡ Int (pos 3) ∷ Text (codes "S") ∷ Int (pos 20102) ∷ Int (pos 5) ∷ Text (codes "cut") ∷ Null ∷ Int (pos 0) ∷ []
+    ≡ Int (pos 3) ∷ Text (codes "S") ∷ Int (pos 20102) ∷ Int (pos 5) ∷ Text (codes "cut") ∷ Text [] ∷ Int (pos 0) ∷ []
 suspended = refl
 
 suspense : map suspense_row tables.suspense ≡ (Int (pos 1) ∷ Text (codes "F") ∷ Int (pos 2) ∷ Text (codes "NoTrace") ∷ Text (codes "R02") ∷ Text (codes "T") ∷ Int (pos 5) ∷ Int (pos 20103) ∷ []) ∷ []
 suspense = refl
 
-others : (map file_row tables.files ≡ (Int (pos 20096) ∷ Int (pos 65) ∷ Blob (1 ∷ 2 ∷ []) ∷ []) ∷ [])
+others : (map file_row tables.files ≡ (Int (pos 20096) ∷ Text (codes "A") ∷ Blob (1 ∷ 2 ∷ []) ∷ []) ∷ [])
     × (map taken_row tables.taken ≡ (Text (codes "F") ∷ Blob digest ∷ Int (pos 20102) ∷ Int (pos 2) ∷ Int (pos 1) ∷ Int (pos 4) ∷ Int (pos 3) ∷ []) ∷ [])
     × (map balance_row tables.balances ≡ (Text (codes "C:MILL01") ∷ Int (pos 20102) ∷ Text (signed_decimal (negsuc 2499)) ∷ []) ∷ (Text (codes "O") ∷ Int (pos 20102) ∷ Text (signed_decimal (pos 2500)) ∷ []) ∷ [])
     × (map number_row tables.numbers ≡ (Int (pos 1) ∷ Int (pos 3) ∷ []) ∷ (Int (pos 2) ∷ Int (pos 2) ∷ []) ∷ [])

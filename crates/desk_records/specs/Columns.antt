@@ -1,8 +1,8 @@
 -- How a value stands in a column.
-use Rattle.std.specs.Prelude.{ℕ, ℤ, pos, Bool, true, false, List, ◌++◌, codes}
+use Rattle.std.specs.Prelude.{ℕ, ℤ, pos, Bool, true, false, List, [], ◌∷◌, ◌++◌, codes, Option, Some, None}
 use Rattle.std.specs.Fmt.{signed_decimal}
 use Rattle.sqlite_value.specs.declared.value.Value.{Value}
-use Rattle.sqlite_value.specs.declared.value.Value.TheVariants.{Int, Text}
+use Rattle.sqlite_value.specs.declared.value.Value.TheVariants.{Null, Int, Text}
 use Rattle.desk_accounts.specs.declared.account.Account.{Account}
 use Rattle.desk_accounts.specs.declared.account.Account.TheVariants as accounts
 use Rattle.desk_accounts.specs.declared.posting.Cause.{Cause}
@@ -23,6 +23,17 @@ flag false = number 0
 -- a number as decimal text: sums may be longer than a column's integer
 abbrev pub decimal_text : ℤ → Value
 decimal_text n = Text (signed_decimal n)
+
+-- a text of one character
+abbrev pub letter : ℕ → Value
+letter c = Text (c ∷ [])
+
+-- the reference of a line, as the empty text where it has none: no reference is empty, so that no line
+-- would store NULL
+abbrev pub line_reference : Option (List ℕ) → Value
+line_reference None = Text []
+line_reference (Some []) = Null
+line_reference (Some (c ∷ s)) = Text (c ∷ s)
 
 abbrev pub direction_text : Direction → List ℕ
 direction_text directions.Credit = codes "credit"

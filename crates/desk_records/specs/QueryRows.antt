@@ -7,7 +7,7 @@ use Rattle.desk_history.specs.declared.operations.DaySum.{DaySum}
 use Rattle.desk_history.specs.declared.operations.SuspenseRow.{SuspenseRow}
 use Rattle.desk_rules.specs.Fields.{sec_text}
 use Rattle.desk_rules.specs.ReturnCodes.{code_text}
-use Rattle.desk_records.specs.Columns.{number, flag, decimal_text, direction_text, cause_text, reason_text}
+use Rattle.desk_records.specs.Columns.{number, flag, decimal_text, line_reference, direction_text, cause_text, reason_text}
 use Rattle.desk_records.specs.RecordRows.{entry_columns, retried_columns}
 use Rattle.desk_records.specs.declared.row.entries.EntryAmount.{EntryAmount}
 use Rattle.desk_records.specs.declared.row.entries.NumberedEntry.{NumberedEntry}
@@ -62,7 +62,7 @@ change_line_row c = number c.order ∷ number c.index ∷ Text c.code ∷ number
 
 -- value_day, cents, cause, ref, idx
 abbrev pub posting_line_row : PostingLine → Row
-posting_line_row p = number p.value_day ∷ Int p.cents ∷ Text (cause_text p.cause) ∷ or_null Text p.reference ∷ number p.idx ∷ []
+posting_line_row p = number p.value_day ∷ Int p.cents ∷ Text (cause_text p.cause) ∷ line_reference p.reference ∷ number p.idx ∷ []
 
 -- file_key, item, why, code, trace, cents, day
 abbrev pub suspense_line_row : SuspenseRow → Row

@@ -12,7 +12,7 @@ use Rattle.desk_rules.specs.declared.bodies.company.Company.{Company}
 use Rattle.desk_rules.specs.declared.bodies.submission.Entry.{Entry}
 use Rattle.desk_rules.specs.Fields.{sec_text}
 use Rattle.desk_rules.specs.ReturnCodes.{code_text}
-use Rattle.desk_records.specs.Columns.{number, flag, decimal_text, direction_text, cause_text, reason_text, account_text}
+use Rattle.desk_records.specs.Columns.{number, flag, decimal_text, letter, line_reference, direction_text, cause_text, reason_text, account_text}
 use Rattle.desk_records.specs.declared.records.AuthorizationRecord.{AuthorizationRecord}
 use Rattle.desk_records.specs.declared.records.BalanceRecord.{BalanceRecord}
 use Rattle.desk_records.specs.declared.records.ChangeRecord.{ChangeRecord}
@@ -50,7 +50,7 @@ submission_row s =
     ∷ Text (sec_text s.sec) ∷ Text (direction_text s.direction) ∷ Text s.description ∷ number s.asked
     ∷ retried_columns s.retried
     ++ flag s.lapsed ∷ or_null number s.settled
-    ∷ or_null number (option_map (λ p. p.day) s.printed) ∷ or_null number (option_map (λ p. p.modifier) s.printed) ∷ or_null number (option_map (λ p. p.batch) s.printed) ∷ []
+    ∷ or_null number (option_map (λ p. p.day) s.printed) ∷ or_null letter (option_map (λ p. p.modifier) s.printed) ∷ or_null number (option_map (λ p. p.batch) s.printed) ∷ []
 
 -- routing, account, savings, prenote, cents, ident, name, info
 abbrev pub entry_columns : Entry → Row
@@ -71,7 +71,7 @@ change_row c = number c.number ∷ Text c.company ∷ number c.order ∷ number 
 abbrev pub posting_row : PostingRecord → Row
 posting_row p =
     number p.number ∷ Text (account_text p.posting.account) ∷ number p.posting.value_day ∷ Int p.posting.cents
-    ∷ Text (cause_text p.posting.cause) ∷ or_null Text p.posting.reference ∷ number p.posting.idx ∷ []
+    ∷ Text (cause_text p.posting.cause) ∷ line_reference p.posting.reference ∷ number p.posting.idx ∷ []
 
 abbrev pub suspense_row : SuspenseRecord → Row
 suspense_row s =
@@ -79,7 +79,7 @@ suspense_row s =
     ∷ Text s.row.code ∷ Text s.row.trace ∷ number s.row.cents ∷ number s.row.day ∷ []
 
 abbrev pub file_row : FileRow → Row
-file_row f = number f.day ∷ number f.modifier ∷ Blob f.text ∷ []
+file_row f = number f.day ∷ letter f.modifier ∷ Blob f.text ∷ []
 
 abbrev pub taken_row : TakenFile → Row
 taken_row t =

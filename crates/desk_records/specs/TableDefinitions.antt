@@ -46,7 +46,7 @@ companies_table = plain_table_at 4 (codes "companies")
 
 -- submissions and retries: of_ref and of_index name what a retry tries again; file_day, modifier and batch say where a cut printed it
 abbrev pub submissions_text : List ℕ
-submissions_text = codes "CREATE TABLE submissions (company TEXT NOT NULL, ord INT NOT NULL, ref TEXT NOT NULL, sec TEXT NOT NULL, direction TEXT NOT NULL, description TEXT NOT NULL, asked INT NOT NULL, of_ref TEXT, of_index INT, lapsed INT NOT NULL, settled INT, file_day INT, modifier INT, batch INT, PRIMARY KEY (company, ord), UNIQUE (company, ref)) STRICT"
+submissions_text = codes "CREATE TABLE submissions (company TEXT NOT NULL, ord INT NOT NULL, ref TEXT NOT NULL, sec TEXT NOT NULL, direction TEXT NOT NULL, description TEXT NOT NULL, asked INT NOT NULL, of_ref TEXT, of_index INT, lapsed INT NOT NULL, settled INT, file_day INT, modifier TEXT, batch INT, PRIMARY KEY (company, ord), UNIQUE (company, ref)) STRICT"
 
 abbrev pub submissions_table : Table
 submissions_table = plain_table_at 6 (codes "submissions")
@@ -62,7 +62,7 @@ submissions_table = plain_table_at 6 (codes "submissions")
     ∷ plain_column (codes "lapsed") Integer true
     ∷ plain_column (codes "settled") Integer false
     ∷ plain_column (codes "file_day") Integer false
-    ∷ plain_column (codes "modifier") Integer false
+    ∷ plain_column (codes "modifier") Text false
     ∷ plain_column (codes "batch") Integer false ∷ [])
     (1 ∷ 2 ∷ []) ((1 ∷ 2 ∷ []) ∷ (1 ∷ 3 ∷ []) ∷ []) (plain ∷ plain ∷ [])
 
@@ -119,7 +119,7 @@ changes_table = plain_table_at 14 (codes "changes")
 
 -- the lines of all accounts, in the order in which they came; account is C: and the company, O or S
 abbrev pub postings_text : List ℕ
-postings_text = codes "CREATE TABLE postings (no INT NOT NULL, account TEXT NOT NULL, value_day INT NOT NULL, cents INT NOT NULL, cause TEXT NOT NULL, ref TEXT, idx INT NOT NULL, PRIMARY KEY (no)) STRICT"
+postings_text = codes "CREATE TABLE postings (no INT NOT NULL, account TEXT NOT NULL, value_day INT NOT NULL, cents INT NOT NULL, cause TEXT NOT NULL, ref TEXT NOT NULL, idx INT NOT NULL, PRIMARY KEY (no)) STRICT"
 
 abbrev pub postings_table : Table
 postings_table = plain_table_at 16 (codes "postings")
@@ -128,7 +128,7 @@ postings_table = plain_table_at 16 (codes "postings")
     ∷ plain_column (codes "value_day") Integer true
     ∷ plain_column (codes "cents") Integer true
     ∷ plain_column (codes "cause") Text true
-    ∷ plain_column (codes "ref") Text false
+    ∷ plain_column (codes "ref") Text true
     ∷ plain_column (codes "idx") Integer true ∷ [])
     (1 ∷ []) ((1 ∷ []) ∷ []) (plain ∷ [])
 
@@ -150,12 +150,12 @@ suspense_table = plain_table_at 18 (codes "suspense")
 
 -- the texts of the files that were cut
 abbrev pub files_text : List ℕ
-files_text = codes "CREATE TABLE files (day INT NOT NULL, modifier INT NOT NULL, text BLOB NOT NULL, PRIMARY KEY (day, modifier)) STRICT"
+files_text = codes "CREATE TABLE files (day INT NOT NULL, modifier TEXT NOT NULL, text BLOB NOT NULL, PRIMARY KEY (day, modifier)) STRICT"
 
 abbrev pub files_table : Table
 files_table = plain_table_at 20 (codes "files")
     (plain_column (codes "day") Integer true
-    ∷ plain_column (codes "modifier") Integer true
+    ∷ plain_column (codes "modifier") Text true
     ∷ plain_column (codes "text") Blob true ∷ [])
     (1 ∷ 2 ∷ []) ((1 ∷ 2 ∷ []) ∷ []) (plain ∷ [])
 

@@ -16,6 +16,7 @@ mod fields;
 mod numbers;
 mod words;
 
+pub(crate) use fields::read_line_reference;
 pub use fields::{read_digest, read_text_or_empty};
 pub use numbers::{read_number, read_ordinal};
 

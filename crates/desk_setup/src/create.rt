@@ -39,7 +39,7 @@ fn create_submissions<S: Alter>(tx: &mut Transaction<'_, S>) -> Result<(), Error
 {
     create_table(
         tx,
-        "CREATE TABLE submissions (company TEXT NOT NULL, ord INT NOT NULL, ref TEXT NOT NULL, sec TEXT NOT NULL, direction TEXT NOT NULL, description TEXT NOT NULL, asked INT NOT NULL, of_ref TEXT, of_index INT, lapsed INT NOT NULL, settled INT, file_day INT, modifier INT, batch INT, PRIMARY KEY (company, ord), UNIQUE (company, ref)) STRICT",
+        "CREATE TABLE submissions (company TEXT NOT NULL, ord INT NOT NULL, ref TEXT NOT NULL, sec TEXT NOT NULL, direction TEXT NOT NULL, description TEXT NOT NULL, asked INT NOT NULL, of_ref TEXT, of_index INT, lapsed INT NOT NULL, settled INT, file_day INT, modifier TEXT, batch INT, PRIMARY KEY (company, ord), UNIQUE (company, ref)) STRICT",
     )?;
     create_table(
         tx,
@@ -65,7 +65,7 @@ fn create_postings<S: Alter>(tx: &mut Transaction<'_, S>) -> Result<(), Error>
     )?;
     create_table(
         tx,
-        "CREATE TABLE postings (no INT NOT NULL, account TEXT NOT NULL, value_day INT NOT NULL, cents INT NOT NULL, cause TEXT NOT NULL, ref TEXT, idx INT NOT NULL, PRIMARY KEY (no)) STRICT",
+        "CREATE TABLE postings (no INT NOT NULL, account TEXT NOT NULL, value_day INT NOT NULL, cents INT NOT NULL, cause TEXT NOT NULL, ref TEXT NOT NULL, idx INT NOT NULL, PRIMARY KEY (no)) STRICT",
     )?;
     create_table(
         tx,
@@ -83,7 +83,7 @@ fn create_files<S: Alter>(tx: &mut Transaction<'_, S>) -> Result<(), Error>
 {
     create_table(
         tx,
-        "CREATE TABLE files (day INT NOT NULL, modifier INT NOT NULL, text BLOB NOT NULL, PRIMARY KEY (day, modifier)) STRICT",
+        "CREATE TABLE files (day INT NOT NULL, modifier TEXT NOT NULL, text BLOB NOT NULL, PRIMARY KEY (day, modifier)) STRICT",
     )?;
     create_table(
         tx,

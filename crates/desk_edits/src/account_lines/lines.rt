@@ -11,7 +11,7 @@ ghost use Rattle.desk_edits.specs.LineEdits.{put_posting_edit};
 use crate::account_lines::accounts::{AccountText, account_text};
 use crate::account_lines::pending::add_lines;
 use crate::numbering::{NumberedTable, next_after};
-use crate::parameters::{cause, optional_reference};
+use crate::parameters::{cause, line_reference};
 use desk_accounts::Posting;
 use desk_queries::{characters, date, natural};
 use sql_statements::{RowBody, execute, number, run_each};
@@ -89,7 +89,7 @@ fn put_posting<S: Alter>(tx: &mut Transaction<'_, S>, row: &PostingRow) -> Resul
             date(row.posting.value_day),
             number(row.posting.cents),
             cause(row.posting.cause),
-            optional_reference(&row.posting.reference),
+            line_reference(&row.posting.reference),
             index,
         ],
     )?;

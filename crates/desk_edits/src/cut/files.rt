@@ -3,7 +3,7 @@ ghost use Rattle.desk_records.specs.Layout.{desk_layout};
 ghost use Rattle.desk_records.specs.TableEdits.{put_file_edit};
 
 use desk_book::FileRow;
-use desk_queries::{date, natural};
+use desk_queries::{characters, date};
 use sql_statements::{RowBody, blob, execute};
 use sqlite::{Alter, Error, Transaction};
 
@@ -25,11 +25,15 @@ impl RowBody for PutFiles {
         _number: u64,
         file: &FileRow,
     ) -> Result<(), Error> {
-        let modifier = natural(u64::from(file.modifier))?;
+        let letter = [file.modifier];
         execute(
             tx,
             "INSERT INTO files VALUES (?1, ?2, ?3)",
-            &[date(file.day), modifier, blob(file.text.as_slice())],
+            &[
+                date(file.day),
+                characters(&letter),
+                blob(file.text.as_slice()),
+            ],
         )?;
         Ok(())
     }

@@ -27,7 +27,7 @@ impl RowBody for SendSubmissions {
         row: &SentRow,
     ) -> Result<(), Error> {
         let order = natural(row.order)?;
-        let modifier = natural(u64::from(row.printed.modifier))?;
+        let letter = [row.printed.modifier];
         let batch = natural(row.printed.batch)?;
         execute_one(
             tx,
@@ -37,7 +37,7 @@ impl RowBody for SendSubmissions {
                 order,
                 date(row.settled.day()),
                 date(row.printed.day),
-                modifier,
+                characters(&letter),
                 batch,
             ],
         )?;

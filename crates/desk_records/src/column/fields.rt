@@ -1,12 +1,13 @@
 //! Fields of entries and files stand in columns as their texts.
-ghost use Rattle.std.specs.Prelude.{◌≡◌, ◌≢◌, IsTrue, IfSome, IfNone, length};
+ghost use Rattle.std.specs.Prelude.{◌≡◌, ◌≢◌, ◌↔◌, IsTrue, IfSome, IfNone, length};
 ghost use Rattle.sqlite_value.specs.Order.{column};
 ghost use Rattle.sqlite_value.specs.declared.value.Value.TheVariants.{Text, Blob};
 ghost use Rattle.ach_fields.specs.Names.{is_id, is_reference};
 ghost use Rattle.ach_fields.specs.Routing.{is_routing};
 ghost use Rattle.ach_fields.specs.Text.{is_short_text};
 ghost use Rattle.desk_rules.specs.ReturnCodes.{code_text, IsCode};
-ghost use Rattle.desk_records.specs.Ranges.{IsText, IsRecordText};
+ghost use Rattle.desk_records.specs.Columns.{letter, line_reference};
+ghost use Rattle.desk_records.specs.Ranges.{FitsIfAny, IsModifier, IsText, IsRecordText};
 ghost use Rattle.desk_records.specs.Reading.{Reads};
 
 use super::{FromColumn, text_in, value_at};
@@ -33,6 +34,17 @@ impl FromColumn for Ref {
     fn from_column(value: ValueRef<'_>) -> Option<Ref> {
         Ref::new(text_in(value)?).ok()
     }
+}
+
+/// Reads the reference of a line, which may have none, from the column that has this index.
+pub(crate) fn read_line_reference(row: &Row, at: usize) -> Option<Option<Ref>>
+    ensures { Reads line_reference (FitsIfAny (λ s. IsTrue (is_reference s))) (column row.now at) result }
+{
+    let text = text_in(value_at(row, at))?;
+    if text.is_empty() {
+        return Some(None);
+    }
+    Some(Some(Ref::new(text).ok()?))
 }
 
 impl FromColumn for Routing {
@@ -79,6 +91,31 @@ impl<const N: usize> FromColumn for [u8; N] {
         }
         array_of(text)
     }
+}
+
+// The modifier of a file is the one byte that a column has by itself.
+impl FromColumn for u8 {
+    ghost stored = { letter };
+
+    ghost fits = { IsModifier };
+
+    fn from_column(value: ValueRef<'_>) -> Option<u8> {
+        let [letter] = text_in(value)? else {
+            return None
+        };
+        if !is_modifier(*letter) {
+            return None;
+        }
+        Some(*letter)
+    }
+}
+
+// Is it one of the letters that a day's files get?
+#[tactic(auto, unfolding(desk_plan::specs::Modifiers::modifiers))]
+fn is_modifier(letter: u8) -> bool
+    ensures { IsTrue result ↔ IsModifier letter }
+{
+    letter.is_ascii_uppercase() || letter.is_ascii_digit()
 }
 
 /// Reads the SHA-256 digest in the column that has this index.

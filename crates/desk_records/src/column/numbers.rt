@@ -99,19 +99,6 @@ impl FromColumn for EntryCents {
     }
 }
 
-impl FromColumn for u8 {
-    ghost stored = { number };
-
-    ghost fits = { λ n. IsInRange 0 255 n };
-
-    fn from_column(value: ValueRef<'_>) -> Option<u8> {
-        match value {
-            ValueRef::Int(n) => u8::try_from(n).ok(),
-            _ => None,
-        }
-    }
-}
-
 /// Reads a number from the least to the most, from the column that has this index.
 pub fn read_number(row: &Row, at: usize, least: u64, most: u64) -> Option<u64>
     ensures { Reads number (IsInRange least most) (column row.now at) result }

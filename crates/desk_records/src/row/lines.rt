@@ -5,7 +5,7 @@ ghost use Rattle.desk_records.specs.RowRanges.{PostingLineFits, NumberFits, DayS
 
 use super::FromRow;
 use crate::NumberRecord;
-use crate::column::{read_column, read_number, read_ordinal};
+use crate::column::{read_column, read_line_reference, read_number, read_ordinal};
 use ach_fields::{MOST_SEQUENCE, Ref};
 use bank_days::Day;
 use desk_accounts::Cause;
@@ -41,7 +41,7 @@ impl FromRow for PostingLine {
         let value_day = read_column(row, 0)?;
         let cents = read_column(row, 1)?;
         let cause = read_column(row, 2)?;
-        let reference = read_column(row, 3)?;
+        let reference = read_line_reference(row, 3)?;
         let idx = read_number(row, 4, 0, MOST_ENTRIES as u64)?;
         Some(PostingLine {
             value_day,

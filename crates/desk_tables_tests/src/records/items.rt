@@ -199,13 +199,15 @@ fn postings(rt: HostRuntime) -> Result<(), Fail> {
         idx: 1,
     };
     assert!(rt; read(rt.alloc(), &columns)? == Some(line));
-    for (at, value) in [(0, "0"), (1, "'1'"), (2, "'Cut'"), (3, "''"), (4, "1001")] {
+    let mut suspended = line;
+    suspended.reference = None;
+    assert!(rt; read(rt.alloc(), &["20102", "-2500", "'return'", "''", "1"])? == Some(suspended));
+    for (at, value) in [(0, "0"), (1, "'1'"), (2, "'Cut'"), (3, "NULL"), (4, "1001")] {
         assert!(rt;
             is_refused::<PostingLine>(rt.alloc(), &columns, at, value)?,
             "{at}: {value}"
         );
     }
-    assert!(rt; !is_refused::<PostingLine>(rt.alloc(), &columns, 3, "NULL")?);
     assert!(rt; !is_refused::<PostingLine>(rt.alloc(), &columns, 2, "'cut'")?);
     Ok(())
 }

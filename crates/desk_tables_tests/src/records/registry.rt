@@ -78,6 +78,18 @@ fn companies(rt: HostRuntime) -> Result<(), Fail> {
     Ok(())
 }
 
+// A day's files have the letters A to Z, and then 0 to 9.
+#[test]
+fn modifiers(rt: HostRuntime) -> Result<(), Fail> {
+    for (column, modifier) in [("'A'", b'A'), ("'Z'", b'Z'), ("'0'", b'0'), ("'9'", b'9')] {
+        assert!(rt; read_only(rt.alloc(), column)? == Some(modifier), "{column}");
+    }
+    for column in ["65", "'@'", "'['", "'/'", "':'", "'a'", "''", "'AB'", "x'41'", "NULL"] {
+        assert!(rt; read_only::<u8>(rt.alloc(), column)?.is_none(), "{column}");
+    }
+    Ok(())
+}
+
 // 2000-01-01 is day 10,957, and 2100-01-31 day 47,512.
 #[test]
 fn days(rt: HostRuntime) -> Result<(), Fail> {

@@ -9,4 +9,4 @@ pub blob_of-requires : goal.blob_of-requires
 blob_of-requires g c = file_selects
 
 pub returns-clause-answer : goal.returns-clause-answer
-returns-clause-answer g c clean = IfOk-weaker c.blob_of.result _ _ (λ x read. first_found _ blob_columns (file_shown c.args.day c.args.modifier) (rw (c.date.ensures, c.in_ok-natural.ensures, c.from.ensures) at read)) (c.blob_of.ensures.answer clean)
+returns-clause-answer g c clean = IfOk-weaker c.blob_of.result _ _ (λ x read. first_found _ blob_columns (file_shown c.args.day c.args.modifier) (rw (c.date.ensures, c.characters.ensures) at read)) (c.blob_of.ensures.answer clean)

@@ -1,7 +1,7 @@
 use Rattle.std.proofs.lemmas.Result.{IfOk-weaker}
 use Rattle.desk_queries.proofs.LinesShown.{modifiers_shown}
 use Rattle.desk_queries.proofs.Found.{all_found}
-use Rattle.desk_queries.proofs.Injective.{number_columns}
+use Rattle.desk_queries.proofs.Injective.{letter_columns}
 use Rattle.desk_queries.proofs.TextsAnywhere.{modifiers_selects}
 use Rattle.desk_queries.proofs.files.modifiers.Goals as goal
 
@@ -9,4 +9,4 @@ pub column_of-requires : goal.column_of-requires
 column_of-requires g c = modifiers_selects
 
 pub returns-clause-answer : goal.returns-clause-answer
-returns-clause-answer g c clean = IfOk-weaker c.column_of.result _ _ (λ x read. all_found _ number_columns (modifiers_shown c.args.day) (rw c.date.ensures at read)) (c.column_of.ensures.answer clean)
+returns-clause-answer g c clean = IfOk-weaker c.column_of.result _ _ (λ x read. all_found _ letter_columns (modifiers_shown c.args.day) (rw c.date.ensures at read)) (c.column_of.ensures.answer clean)

@@ -9,5 +9,5 @@ pub returns-clause-makes : goal.returns-clause-makes
 returns-clause-makes g c clean =
     let old = state g.S.Store c.args.tx.now.conn.now in
     let new = state g.S.Store c.execute.new.tx.conn.now in
-    let ran = rw (c.date.ensures, c.in_ok-modifier.ensures, c.from.ensures, c.blob.ensures, c.as_slice.ensures) at (c.in_ok-execute.ensures.ran clean) in
+    let ran = rw (c.date.ensures, c.characters.ensures, c.blob.ensures, c.as_slice.ensures) at (c.in_ok-execute.ensures.ran clean) in
     makes_of desk_layout (put_file_edit c.args.file.now) old new (c.in_ok-execute.ensures.shown clean) (file_put c.args.file.now old new c.in_ok-execute.field-0 ran)

@@ -9,5 +9,5 @@ pub returns-clause-makes : goal.returns-clause-makes
 returns-clause-makes g c clean =
     let old = state g.S.Store c.args.tx.now.conn.now in
     let new = state g.S.Store c.execute_one.new.tx.conn.now in
-    let ran = rw (c.characters.ensures, c.bytes.ensures.value, c.in_ok-order.ensures, c.date.ensures, c.day.ensures.value, c.date-2.ensures, c.in_ok-modifier.ensures, c.from.ensures, c.in_ok-batch.ensures) at (c.in_ok-execute_one.ensures.ran clean) in
+    let ran = rw (c.characters.ensures, c.bytes.ensures.value, c.in_ok-order.ensures, c.date.ensures, c.day.ensures.value, c.date-2.ensures, c.characters-2.ensures, c.in_ok-batch.ensures) at (c.in_ok-execute_one.ensures.ran clean) in
     makes_of desk_layout (send_edit c.args.row.now) old new (c.in_ok-execute_one.ensures.shown clean) (submission_sent c.args.row.now old new ran)
