@@ -11,13 +11,14 @@ use Rattle.desk_book.specs.Book.{Book}
 use Rattle.desk_history.specs.Sendings.{plan_of, sent_sequence}
 use Rattle.desk_history.specs.Words.{holds_or}
 use Rattle.desk_book.specs.CutLaws.{EntriesOfCuts}
-use Rattle.desk_book.specs.OnCut.{CutFacts, cut_sendings, files, cut_facts, cut_on_day, cut_write}
+use Rattle.desk_book.specs.OnCut.{CutFacts, cut_sendings, files, cut_facts, cut_on_day, cut_write, ranges_after}
 use Rattle.desk_book.specs.Steps.{CutWrite, commit_cut}
 use Rattle.desk_cut.specs.declared.plan.CutPlan.{CutPlan}
 use Rattle.desk_cut.specs.declared.fault.CutFault.{CutFault}
 use Rattle.desk_cut.specs.declared.fault.CutFault.TheVariants as faults
+use Rattle.desk_cut.specs.Numbers.{HasNoRanges}
 use Rattle.desk_cut.specs.Plan.{IsPlan, MayTake, Plans, has_modifiers, plan_write}
-use Rattle.desk_core.specs.Cutting.{latest_of, IsPlanned, refusal_of}
+use Rattle.desk_core.specs.Cutting.{latest_of, IsPlanned, PlansOrTells, refusal_of}
 
 -- ---- a cut on a day
 
@@ -81,3 +82,26 @@ planned_refused b x rs latest faults.ModifiersSpent why is taken settled plans r
     subst (λ why. IsPlanned (Err why) (cut_on_day b x.day)) same (planned_without_modifiers b x rs latest is taken settled plans)
 planned_refused b x rs latest faults.DaysSpent why is taken settled plans refuses = cc
 planned_refused b x rs latest faults.NoMemory why is taken settled plans refuses = cc
+
+-- ---- a plan, or the fault of one
+
+pub plans_or_tells : EntriesOfCuts → (old new : Book → Type 0) (x : CutFacts) (rs : List (ℕ × ℕ)) (latest : List (Option ℕ)) (planned : Result CutPlan CutFault) → IsTakenAs x rs
+    → ((b : Book) → old b → (latest ≡ latest_of rs b) × new b) → Plans x latest planned → PlansOrTells old x (Ok planned) new
+plans_or_tells law old new x rs latest (Ok p) taken read plans = λ b held is.
+    let seen = read b held in
+    (planned_cut b x rs latest p is taken seen.0 plans, (seen.1, planned_admitted law b x p is plans.2))
+plans_or_tells law old new x rs latest (Err fault) taken read plans = λ b held.
+    let seen = read b held in
+    (seen.1, λ is why refuses. planned_refused b x rs latest fault why is taken seen.0 plans refuses)
+
+-- a cut that has no sequences has no plan, whenever they were used last
+plans_none : (x : CutFacts) (latest : List (Option ℕ)) (fault : CutFault) → HasNoRanges x.day x.last (cut_sendings x) fault → Plans x latest (Err fault)
+plans_none x latest faults.TracesSpent none = λ sent told. none.1 sent told.last
+plans_none x latest faults.ModifiersSpent none = absurd none
+plans_none x latest faults.DaysSpent none = none
+plans_none x latest faults.NoMemory none = none
+
+pub tells_unnumbered : (old : Book → Type 0) (x : CutFacts) (fault : CutFault) → HasNoRanges x.day x.last (cut_sendings x) fault → PlansOrTells old x (Ok (Err fault)) old
+tells_unnumbered old x fault none = λ b held.
+    (held, λ is why refuses. planned_refused b x (ranges_after x.last (cut_sendings x)) (latest_of (ranges_after x.last (cut_sendings x)) b) fault why is refl refl
+    (plans_none x (latest_of (ranges_after x.last (cut_sendings x)) b) fault none) refuses)
