@@ -11,12 +11,11 @@ use Rattle.desk_book.specs.Book.{Book}
 use Rattle.desk_history.specs.Sendings.{plan_of, sent_sequence}
 use Rattle.desk_history.specs.Words.{holds_or}
 use Rattle.desk_book.specs.CutLaws.{EntriesOfCuts}
-use Rattle.desk_book.specs.OnCut.{CutFacts, cut_sendings, files, cut_facts, cut_on_day, cut_write, ranges_after}
+use Rattle.desk_book.specs.OnCut.{CutFacts, cut_sendings, files, cut_facts, cut_on_day, cut_write}
 use Rattle.desk_book.specs.Steps.{CutWrite, commit_cut}
 use Rattle.desk_cut.specs.declared.plan.CutPlan.{CutPlan}
 use Rattle.desk_cut.specs.declared.fault.CutFault.{CutFault}
 use Rattle.desk_cut.specs.declared.fault.CutFault.TheVariants as faults
-use Rattle.desk_cut.specs.Numbers.{HasNoRanges}
 use Rattle.desk_cut.specs.Plan.{IsPlan, MayTake, Plans, has_modifiers, plan_write}
 use Rattle.desk_core.specs.Cutting.{latest_of, IsPlanned, PlansOrTells, refusal_of}
 
@@ -93,15 +92,3 @@ plans_or_tells law old new x rs latest (Ok p) taken read plans = λ b held is.
 plans_or_tells law old new x rs latest (Err fault) taken read plans = λ b held.
     let seen = read b held in
     (seen.1, λ is why refuses. planned_refused b x rs latest fault why is taken seen.0 plans refuses)
-
--- a cut that has no sequences has no plan, whenever they were used last
-plans_none : (x : CutFacts) (latest : List (Option ℕ)) (fault : CutFault) → HasNoRanges x.day x.last (cut_sendings x) fault → Plans x latest (Err fault)
-plans_none x latest faults.TracesSpent none = λ sent told. none.1 sent told.last
-plans_none x latest faults.ModifiersSpent none = absurd none
-plans_none x latest faults.DaysSpent none = none
-plans_none x latest faults.NoMemory none = none
-
-pub tells_unnumbered : (old : Book → Type 0) (x : CutFacts) (fault : CutFault) → HasNoRanges x.day x.last (cut_sendings x) fault → PlansOrTells old x (Ok (Err fault)) old
-tells_unnumbered old x fault none = λ b held.
-    (held, λ is why refuses. planned_refused b x (ranges_after x.last (cut_sendings x)) (latest_of (ranges_after x.last (cut_sendings x)) b) fault why is refl refl
-    (plans_none x (latest_of (ranges_after x.last (cut_sendings x)) b) fault none) refuses)
