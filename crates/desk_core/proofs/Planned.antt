@@ -17,7 +17,7 @@ use Rattle.desk_cut.specs.declared.plan.CutPlan.{CutPlan}
 use Rattle.desk_cut.specs.declared.fault.CutFault.{CutFault}
 use Rattle.desk_cut.specs.declared.fault.CutFault.TheVariants as faults
 use Rattle.desk_cut.specs.Plan.{IsPlan, MayTake, Plans, has_modifiers, plan_write}
-use Rattle.desk_core.specs.Cutting.{latest_of, IsPlanned, refusal_of}
+use Rattle.desk_core.specs.Cutting.{latest_of, IsPlanned, PlansOrTells, refusal_of}
 
 -- ---- a cut on a day
 
@@ -81,3 +81,14 @@ planned_refused b x rs latest faults.ModifiersSpent why is taken settled plans r
     subst (λ why. IsPlanned (Err why) (cut_on_day b x.day)) same (planned_without_modifiers b x rs latest is taken settled plans)
 planned_refused b x rs latest faults.DaysSpent why is taken settled plans refuses = cc
 planned_refused b x rs latest faults.NoMemory why is taken settled plans refuses = cc
+
+-- ---- a plan, or the fault of one
+
+pub plans_or_tells : EntriesOfCuts → (old new : Book → Type 0) (x : CutFacts) (rs : List (ℕ × ℕ)) (latest : List (Option ℕ)) (planned : Result CutPlan CutFault) → IsTakenAs x rs
+    → ((b : Book) → old b → (latest ≡ latest_of rs b) × new b) → Plans x latest planned → PlansOrTells old x (Ok planned) new
+plans_or_tells law old new x rs latest (Ok p) taken read plans = λ b held is.
+    let seen = read b held in
+    (planned_cut b x rs latest p is taken seen.0 plans, (seen.1, planned_admitted law b x p is plans.2))
+plans_or_tells law old new x rs latest (Err fault) taken read plans = λ b held.
+    let seen = read b held in
+    (seen.1, λ is why refuses. planned_refused b x rs latest fault why is taken seen.0 plans refuses)

@@ -48,3 +48,13 @@ refusal_of faults.TracesSpent = Ok TracesSpent
 refusal_of faults.ModifiersSpent = Ok ModifiersSpent
 refusal_of faults.DaysSpent = Err Unavailable
 refusal_of faults.NoMemory = Err Unavailable
+
+-- where the fault refuses a cut, the cut of the book is refused so
+abbrev pub RefusesOn : Book → CutFacts → CutFault → Type 0
+RefusesOn b x fault = (why : Refusal) → refusal_of fault ≡ Ok why → IsPlanned (Err why) (cut_on_day b x.day)
+
+-- The same with the fault of the plan in place of the refusal.
+abbrev pub PlansOrTells : (Book → Type 0) → CutFacts → Result (Result CutPlan CutFault) StoreFault → (Book → Type 0) → Type 0
+PlansOrTells old x (Ok (Ok p)) new = (b : Book) → old b → x ≡ cut_facts b x.day → IsPlanned (Ok p) (cut_on_day b x.day) × HoldsFor new p b
+PlansOrTells old x (Ok (Err fault)) new = (b : Book) → old b → new b × (x ≡ cut_facts b x.day → RefusesOn b x fault)
+PlansOrTells old x (Err fault) new = (b : Book) → old b → new b

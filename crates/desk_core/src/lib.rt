@@ -21,7 +21,7 @@ pub use desk_book::{
     steps_of_operator, tells_cut, tells_intake, tells_operator, tells_replies, tells_status,
     twice_acts_once, verdicts_on_rows,
 };
-pub use desk_cut::{CutFault, CutPlan, company_status, plan_cut, ranges_of_cut};
+pub use desk_cut::{CutFault, CutPlan, NumberedCut, company_status, number_cut, plan_cut};
 pub use desk_history::{
     Answer, Call, CallRefusal, ChangeRow, CompanyStatus, CutSummary, DayRates, DaySum, DeskStatus,
     DueDay, Exposure, FilePlace, Identity, Intake, ListOf, Outcome, Receipt, ReportedEntry,
@@ -32,5 +32,6 @@ pub use desk_history::{
     two_worlds,
 };
 pub use desk_intake::{FoundItem, IntakePlan, NamedEntry, plan_intake};
+pub use desk_plan::{NumberFault, plan_numbers};
 pub use desk_store::{CutRows, IntakeRows, Store, StoreFault};
 pub use laws::{crashes_leave, desk_alone, two_desks};

@@ -5,7 +5,7 @@ use ach_fields::{Id, Ref};
 use bank_days::{Calendar, Day};
 use desk_accounts::Account;
 use desk_book::{HeldSubmission, Row};
-use desk_cut::{CutFault, CutPlan, plan_cut, ranges_of_cut};
+use desk_cut::{CutFault, CutPlan, number_cut, plan_cut};
 use desk_history::ListOf;
 use desk_rules::{
     AccountKind, Company, Direction, Entries, Entry, EntryCents, Limits, RuleDay, SecCode,
@@ -132,16 +132,8 @@ fn plan(
 ) -> Result<CutPlan, CutFault> {
     let holidays = Calendar::empty(rt.alloc());
     let today = rule_day(rt, b"2025-01-09");
-    plan_cut(
-        rt.alloc(),
-        &identity(rt),
-        today,
-        &holidays,
-        LAST,
-        made,
-        latest,
-        waiting,
-    )
+    let numbered = number_cut(rt.alloc(), today, &holidays, LAST, waiting)?;
+    plan_cut(rt.alloc(), &identity(rt), numbered, made, latest)
 }
 
 // The same of the credit and the debit.
@@ -178,7 +170,14 @@ fn ranges_of_two(
     today: RuleDay,
 ) -> Result<Result<Vec<(u32, u32)>, CutFault>, Fail> {
     let holidays = Calendar::empty(rt.alloc());
-    Ok(ranges_of_cut(rt.alloc(), today, &holidays, LAST, &two(rt)?))
+    let waiting = two(rt)?;
+    let numbered = match number_cut(rt.alloc(), today, &holidays, LAST, &waiting) {
+        Ok(numbered) => numbered,
+        Err(fault) => return Ok(Err(fault)),
+    };
+    let mut ranges = Vec::new(rt.alloc());
+    ranges.extend_from_slice(numbered.ranges())?;
+    Ok(Ok(ranges))
 }
 
 #[test]

@@ -19,14 +19,14 @@ use Rattle.desk_history.specs.Files.{files_from}
 use Rattle.desk_history.specs.Postings.{if_any, sending_line}
 use Rattle.desk_history.specs.Sendings.{Sending, NumberedBatch, is_debit_sending, plan_of, batch_of, entries_in, batch_entries}
 use Rattle.desk_book.specs.OnCut.{CutFacts, cut_sendings, batches, files, ranges_after, sent_rows, file_row}
-use Rattle.desk_cut.specs.declared.numbers.NumberedCut.{NumberedCut}
+use Rattle.desk_cut.specs.declared.numbers.CutNumbers.{CutNumbers}
 use Rattle.desk_cut.specs.declared.plan.CutPlan.{CutPlan}
 use Rattle.desk_cut.specs.Numbers.{IsNumbered, line_by, batches_in, write_of, summary_of}
 use Rattle.desk_cut.specs.Sent.{sending_in}
 use Rattle.desk_cut.specs.Plan.{MayTake, IsPlan, has_modifiers, plan_write}
 
 -- these are the submissions of a cut, with their sequences
-abbrev pub IsOf : CutFacts → NumberedCut → Type 0
+abbrev pub IsOf : CutFacts → CutNumbers → Type 0
 IsOf x n = IsNumbered x.holidays x.day x.last x.waiting n
 
 -- ---- lengths
@@ -52,11 +52,11 @@ sendings_are x = of_pairs (zip (ranges_after x.last (cut_sendings x)) (cut_sendi
   of_pairs [] = refl
   of_pairs (p ∷ ps) = ap (λ (l : List Sending). p.1 ∷ l) (of_pairs ps)
 
-pub batches_are : (x : CutFacts) (n : NumberedCut) → IsOf x n → batches_in n ≡ batches x
+pub batches_are : (x : CutFacts) (n : CutNumbers) → IsOf x n → batches_in n ≡ batches x
 batches_are x n h = λ i. map batch_of (zip (h.ranges i) (h.sent i))
 
 -- what each batch takes is what its submission takes
-pub loads_are : (x : CutFacts) (n : NumberedCut) → IsOf x n → n.loads.items ≡ map (λ b. plan_of b.sending) (batches x)
+pub loads_are : (x : CutFacts) (n : CutNumbers) → IsOf x n → n.loads.items ≡ map (λ b. plan_of b.sending) (batches x)
 loads_are x n h = h.loads ∙ ap (λ (ss : List Sending). map plan_of ss) (sym (sendings_are x)) ∙ sym (of_batches (batches x)) where
   of_batches : (bs : List NumberedBatch) → map (λ b. plan_of b.sending) bs ≡ map plan_of (map (λ b. b.sending) bs)
   of_batches [] = refl
@@ -70,34 +70,34 @@ entries_counted (b ∷ bs) =
     ∙ (λ i. here i + entries_counted bs i)
     ∙ sym (sum_by-cons (λ (s : Sending). length (entries_in s)) b.sending (map (λ (b : NumberedBatch). b.sending) bs))
 
-all_counted : (x : CutFacts) (n : NumberedCut) → IsOf x n → length (flat_map batch_entries (batches_in n)) ≡ sum_by (λ s. length (entries_in s)) (cut_sendings x)
+all_counted : (x : CutFacts) (n : CutNumbers) → IsOf x n → length (flat_map batch_entries (batches_in n)) ≡ sum_by (λ s. length (entries_in s)) (cut_sendings x)
 all_counted x n h =
     ap (λ (bs : List NumberedBatch). length (flat_map batch_entries bs)) (batches_are x n h)
     ∙ entries_counted (batches x)
     ∙ ap (λ (ss : List Sending). sum_by (λ s. length (entries_in s)) ss) (sendings_are x)
 
 -- there are as many as the sizes of the files say
-pub whole : (x : CutFacts) (n : NumberedCut) (sizes : List ℕ) → IsOf x n → sum sizes ≡ length n.loads.items → sum sizes ≡ length (batches_in n)
+pub whole : (x : CutFacts) (n : CutNumbers) (sizes : List ℕ) → IsOf x n → sum sizes ≡ length n.loads.items → sum sizes ≡ length (batches_in n)
 whole x n sizes h is =
     is ∙ ap length (loads_are x n h) ∙ length-map (batches x) (λ (b : NumberedBatch). plan_of b.sending) ∙ ap length (sym (batches_are x n h))
 
 -- ---- the files
 
-files_are : (x : CutFacts) (n : NumberedCut) (sizes : List ℕ) → IsOf x n → sizes ≡ map length (division n.loads.items)
+files_are : (x : CutFacts) (n : CutNumbers) (sizes : List ℕ) → IsOf x n → sizes ≡ map length (division n.loads.items)
     → files_from x.day x.made (in_runs sizes (batches_in n)) ≡ files x
 files_are x n sizes h is =
     let same : sizes ≡ map length (division (map (λ (b : NumberedBatch). plan_of b.sending) (batches x))) = is ∙ ap (λ (bs : List plan.Batch). map length (division bs)) (loads_are x n h) in
     λ i. files_from x.day x.made (in_runs (same i) (batches_are x n h i))
 
 -- a file for each size
-files_counted : (x : CutFacts) (n : NumberedCut) (sizes : List ℕ) → IsOf x n → sizes ≡ map length (division n.loads.items) → length (files x) ≡ length sizes
+files_counted : (x : CutFacts) (n : CutNumbers) (sizes : List ℕ) → IsOf x n → sizes ≡ map length (division n.loads.items) → length (files x) ≡ length sizes
 files_counted x n sizes h is =
     ap length (sym (files_are x n sizes h is))
     ∙ length-map (enumerate_from x.made (in_runs sizes (batches_in n))) _
     ∙ length-enumerate_from x.made (in_runs sizes (batches_in n))
     ∙ length-in_runs sizes (batches_in n)
 
-pub modifiers_are : (x : CutFacts) (n : NumberedCut) (sizes : List ℕ) → IsOf x n → sizes ≡ map length (division n.loads.items) → has_modifiers x ≡ nat_le (x.made + length sizes) most_files
+pub modifiers_are : (x : CutFacts) (n : CutNumbers) (sizes : List ℕ) → IsOf x n → sizes ≡ map length (division n.loads.items) → has_modifiers x ≡ nat_le (x.made + length sizes) most_files
 modifiers_are x n sizes h is = ap (λ k. nat_le (x.made + k) most_files) (files_counted x n sizes h is)
 
 -- ---- the postings
@@ -114,15 +114,15 @@ lines_told : (ss : List Sending) → flat_map line_by (zip ss (map plan_of ss)) 
 lines_told [] = refl
 lines_told (s ∷ ss) = λ i. line_told s i ++ lines_told ss i
 
-lines_are : (x : CutFacts) (n : NumberedCut) → IsOf x n → flat_map line_by (zip (map sending_in n.sent.items) n.loads.items) ≡ flat_map sending_line (cut_sendings x)
+lines_are : (x : CutFacts) (n : CutNumbers) → IsOf x n → flat_map line_by (zip (map sending_in n.sent.items) n.loads.items) ≡ flat_map sending_line (cut_sendings x)
 lines_are x n h = (λ i. flat_map line_by (zip (h.sent i) (h.loads i))) ∙ lines_told (cut_sendings x)
 
 -- ---- the plan
 
-pub may_take : (x : CutFacts) (n : NumberedCut) (latest : List (Option ℕ)) (may : Bool) → IsOf x n → list_all (is_past x.day) latest ≡ may → MayTake x latest may
+pub may_take : (x : CutFacts) (n : CutNumbers) (latest : List (Option ℕ)) (may : Bool) → IsOf x n → list_all (is_past x.day) latest ≡ may → MayTake x latest may
 may_take x n latest may h past = λ sent told. h.may sent told.last ∙ ap (list_all (is_past x.day)) (sym told.settled) ∙ past
 
-pub is_plan : (x : CutFacts) (n : NumberedCut) (sizes : List ℕ) (p : CutPlan) → IsOf x n → sizes ≡ map length (division n.loads.items)
+pub is_plan : (x : CutFacts) (n : CutNumbers) (sizes : List ℕ) (p : CutPlan) → IsOf x n → sizes ≡ map length (division n.loads.items)
     → plan_write p ≡ write_of x.identity (files_from x.day x.made (in_runs sizes (batches_in n))) n
     → p.done ≡ summary_of x.day (files_from x.day x.made (in_runs sizes (batches_in n))) n
     → IsPlan x p

@@ -18,13 +18,13 @@ use Rattle.desk_book.specs.Steps.{CutWrite}
 use Rattle.desk_book.specs.OnCut.{sendings, lapses_among, ranges_after, sent_rows, file_row}
 use Rattle.desk_cut.specs.declared.fault.CutFault.{CutFault}
 use Rattle.desk_cut.specs.declared.fault.CutFault.TheVariants.{TracesSpent}
-use Rattle.desk_cut.specs.declared.numbers.NumberedCut.{NumberedCut}
+use Rattle.desk_cut.specs.declared.numbers.CutNumbers.{CutNumbers}
 use Rattle.desk_cut.specs.Faults.{IsUndecided}
 use Rattle.desk_cut.specs.Sent.{sending_in}
 
 -- What is sent with its sequences, and what lapses. The cut may take them where those of each range may
 -- be used.
-pub record IsNumbered (holidays : List ℕ) (day last : ℕ) (waiting : List HeldSubmission) (n : NumberedCut) : Type 0 where
+pub record IsNumbered (holidays : List ℕ) (day last : ℕ) (waiting : List HeldSubmission) (n : CutNumbers) : Type 0 where
   pub sent : map sending_in n.sent.items ≡ sendings holidays day waiting
   pub lapsed : n.lapsed.items ≡ lapses_among holidays day waiting
   pub loads : n.loads.items ≡ map plan_of (sendings holidays day waiting)
@@ -42,7 +42,7 @@ HasNoRanges day last ss fault = IsUndecided ss fault
 
 -- ---- what is written of them
 
-abbrev pub sendings_in : NumberedCut → List Sending
+abbrev pub sendings_in : CutNumbers → List Sending
 sendings_in n = map sending_in n.sent.items
 
 -- the line of a submission, its total told by what it takes of a file
@@ -51,11 +51,11 @@ line_by x =
     let cents = if is_debit_sending x.0 then x.1.debits else x.1.credits in
     if_any cents (cut_line x.0.company.id (is_debit_sending x.0) cents x.0.settled x.0.content.reference)
 
-abbrev pub batches_in : NumberedCut → List NumberedBatch
+abbrev pub batches_in : CutNumbers → List NumberedBatch
 batches_in n = map batch_of (zip n.ranges.items (sendings_in n))
 
 -- where these are the files
-abbrev pub write_of : Identity → List File → NumberedCut → CutWrite
+abbrev pub write_of : Identity → List File → CutNumbers → CutWrite
 write_of identity files n = record {
   sent = flat_map sent_rows files;
   lapsed = n.lapsed.items;
@@ -64,7 +64,7 @@ write_of identity files n = record {
   files = map (file_row identity) files;
 }
 
-abbrev pub summary_of : ℕ → List File → NumberedCut → CutSummary
+abbrev pub summary_of : ℕ → List File → CutNumbers → CutSummary
 summary_of day files n = record {
   day = day;
   entries = length (flat_map batch_entries (batches_in n));

@@ -10,12 +10,17 @@ use Rattle.desk_book.specs.Steps.{CutWrite}
 use Rattle.desk_book.specs.OnCut.{CutFacts, cut_sendings, files, cut_write, cut_summary}
 use Rattle.desk_cut.specs.declared.fault.CutFault.{CutFault}
 use Rattle.desk_cut.specs.declared.fault.CutFault.TheVariants.{TracesSpent, ModifiersSpent}
+use Rattle.desk_cut.specs.declared.numbers.NumberedCut.{NumberedCut}
 use Rattle.desk_cut.specs.declared.plan.CutPlan.{CutPlan}
 use Rattle.desk_cut.specs.Faults.{IsUndecided}
 
 -- the cut of these values
 abbrev pub cut_of : Identity → (day : ℕ) → (holidays : List ℕ) → (last : ℕ) → (made : ℕ) → List HeldSubmission → CutFacts
 cut_of identity day holidays last made waiting = record { identity = identity; day = day; holidays = holidays; last = last; made = made; waiting = waiting }
+
+-- the cut that is numbered, on a day that has so many files
+abbrev pub cut_in : Identity → NumberedCut → (made : ℕ) → CutFacts
+cut_in identity n made = cut_of identity n.day n.holidays.now n.last made n.waiting.now
 
 -- The entries that were sent before are as the plan was told: they end with the last sequence, and for
 -- each range that a batch takes this is the latest day on which a youngest entry with one of its

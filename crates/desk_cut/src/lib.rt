@@ -3,9 +3,8 @@
 //!
 //! `company_status` says what a company has waiting, and what a cut would send of it.
 //!
-//! Nothing here reads or writes a store. `ranges_of_cut` says which sequences the batches would
-//! take, so that the caller can look up when these were used last, and `plan_cut` plans the cut or
-//! refuses it.
+//! Nothing here reads or writes a store. `number_cut` gives the batches their sequences,
+//! so that the caller can look up when these were used last, and `plan_cut` plans the cut or refuses it.
 #![tactic(auto)]
 
 mod batches;
@@ -20,5 +19,6 @@ mod printing;
 mod status;
 
 pub use fault::CutFault;
-pub use plan::{CutPlan, plan_cut, ranges_of_cut};
+pub use numbers::{NumberedCut, number_cut};
+pub use plan::{CutPlan, plan_cut};
 pub use status::company_status;

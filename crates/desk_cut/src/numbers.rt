@@ -1,10 +1,11 @@
 //! The sequences of a cut.
-ghost use Rattle.std.specs.Prelude.{◌≡◌, ◌<◌, All, IfOk, IfErr, map};
+ghost use Rattle.std.specs.Prelude.{◌≡◌, ◌<◌, All, IfOk, IfErr, OnOk, map, true};
 ghost use Rattle.std.specs.List.{list_all};
 ghost use Rattle.desk_plan.specs.Batch.{IsBatch};
 ghost use Rattle.desk_plan.specs.Reuse.{is_past};
+ghost use Rattle.desk_plan.specs.Sequences.{are_apart};
 ghost use Rattle.desk_history.specs.Sendings.{plan_of};
-ghost use Rattle.desk_book.specs.OnCut.{sendings, lapses_among};
+ghost use Rattle.desk_book.specs.OnCut.{sendings, lapses_among, ranges_after};
 ghost use Rattle.desk_cut.specs.Faults.{IsUndecided};
 ghost use Rattle.desk_cut.specs.Numbers.{IsNumbered, HasNoRanges};
 ghost use Rattle.desk_cut.specs.Sent.{sending_in};
@@ -26,9 +27,9 @@ struct LoadedCut<'a> {
     loads: Vec<Batch>,
 }
 
-/// A `NumberedCut` has what a cut sends, with the first and the last sequence of each submission.
+/// `CutNumbers` have what a cut sends, with the first and the last sequence of each submission.
 #[derive(Drop)]
-pub(crate) struct NumberedCut<'a> {
+pub(crate) struct CutNumbers<'a> {
     pub(crate) sent: Vec<Sending<'a>>,
     pub(crate) lapsed: Vec<LapsedRow>,
     pub(crate) loads: Vec<Batch>,
@@ -57,17 +58,14 @@ fn load<'a>(
     })
 }
 
-/// Gives what a cut sends with its sequences, and what lapses. It is `TracesSpent` where two
-/// batches would have a sequence in common, and `DaysSpent` where a submission would settle after
-/// 2100-01-31; whether the entries of earlier cuts leave the ranges
-/// free is for the caller to see, from the latest settlement of each.
-pub(crate) fn number<'a>(
+// What a cut sends with its sequences, and what lapses.
+fn number<'a>(
     alloc: Global,
     day: RuleDay,
     holidays: &Calendar,
     last: u32,
     waiting: &'a [HeldSubmission],
-) -> Result<NumberedCut<'a>, CutFault>
+) -> Result<CutNumbers<'a>, CutFault>
     ensures ok { IfOk result (λ n. IsNumbered holidays.now day last waiting.now n) }
     ensures err { IfErr result (λ fault. HasNoRanges day last (sendings holidays.now day waiting.now) fault) }
 {
@@ -79,7 +77,7 @@ pub(crate) fn number<'a>(
     } = load(alloc, day, holidays, waiting)?;
     let counts = counts_of(alloc, &loads)?;
     match plan_numbers(alloc, last, &counts) {
-        Ok(ranges) => Ok(NumberedCut {
+        Ok(ranges) => Ok(CutNumbers {
             sent,
             lapsed,
             loads,
@@ -88,6 +86,59 @@ pub(crate) fn number<'a>(
         Err(NumberFault::TracesSpent) => Err(CutFault::TracesSpent),
         Err(NumberFault::NoMemory) => Err(CutFault::NoMemory),
     }
+}
+
+/// A `NumberedCut` is a cut whose batches have their sequences.
+#[derive(Drop)]
+pub struct NumberedCut<'a> {
+    /// The day on which it is made.
+    pub day: RuleDay,
+    /// The holidays by which it is due.
+    pub holidays: &'a Calendar,
+    /// The sequence of the entry that was sent last before it.
+    pub last: u32,
+    /// The submissions that wait for it.
+    pub waiting: &'a [HeldSubmission],
+    pub(crate) numbers: CutNumbers<'a>,
+    ghost is_numbered: { IsNumbered holidays.now day last waiting.now numbers },
+}
+
+impl<'a> NumberedCut<'a> {
+    /// Gives the first and the last sequence of each batch, in order.
+    pub fn ranges(&self) -> &[(u32, u32)]
+        ensures { result.now ≡ ranges_after self.now.last (sendings self.now.holidays.now self.now.day self.now.waiting.now) }
+    {
+        &self.numbers.ranges
+    }
+}
+
+/// Numbers a cut on a day, after the sequence of the last entry that was sent.
+///
+/// It is `DaysSpent` where a submission would settle after 2100-01-31, then `TracesSpent` where two
+/// batches would have a sequence in common. Whether the entries of earlier cuts leave the ranges free
+/// is for the caller to see, from the latest settlement of each.
+pub fn number_cut<'a>(
+    alloc: Global,
+    day: RuleDay,
+    holidays: &'a Calendar,
+    last: u32,
+    waiting: &'a [HeldSubmission],
+) -> Result<NumberedCut<'a>, CutFault>
+    ensures day { IfOk result (λ cut. cut.day ≡ day) }
+    ensures holidays { IfOk result (λ cut. cut.holidays.now ≡ holidays.now) }
+    ensures last { IfOk result (λ cut. cut.last ≡ last) }
+    ensures waiting { IfOk result (λ cut. cut.waiting.now ≡ waiting.now) }
+    ensures apart { OnOk result (are_apart (ranges_after last (sendings holidays.now day waiting.now)) ≡ true) }
+    ensures err { IfErr result (λ fault. HasNoRanges day last (sendings holidays.now day waiting.now) fault) }
+{
+    let numbers = number(alloc, day, holidays, last, waiting)?;
+    Ok(NumberedCut {
+        day,
+        holidays,
+        last,
+        waiting,
+        numbers,
+    })
 }
 
 /// May the sequences of each range be used on a day, by the latest settlement of each?

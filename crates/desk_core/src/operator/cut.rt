@@ -9,14 +9,14 @@ ghost use Rattle.desk_cut.specs.Plan.{plan_write};
 ghost use Rattle.desk_history.specs.Message.{Cut};
 ghost use Rattle.desk_book.specs.Writes.{writes_on};
 ghost use Rattle.desk_core.specs.Answering.{Answers, LeavesCall};
-ghost use Rattle.desk_core.specs.Cutting.{HoldsFor, Plans, facts_in, latest_of, refusal_of};
+ghost use Rattle.desk_core.specs.Cutting.{HoldsFor, Plans, PlansOrTells, facts_in, latest_of, refusal_of};
 ghost use Rattle.desk_core.specs.Taking.{ReadsAs};
 
 use crate::guards::rule_day;
 use crate::refuse::refuse;
 use bank_days::{Calendar, Day};
 use desk_book::HeldSubmission;
-use desk_cut::{CutFault, CutPlan, plan_cut, ranges_of_cut};
+use desk_cut::{CutFault, CutPlan, number_cut, plan_cut};
 use desk_history::{Answer, Identity, Outcome};
 use desk_rules::{Refusal, RuleDay};
 use desk_store::{CutRows, Store, StoreFault};
@@ -80,6 +80,26 @@ fn refusal_of(fault: CutFault) -> Result<Refusal, StoreFault>
     }
 }
 
+// The plan of a cut, or its fault.
+fn planned<S: Store>(
+    store: &mut S,
+    alloc: Global,
+    reads: &CutReads,
+) -> Result<Result<CutPlan, CutFault>, StoreFault>
+    ensures before { S.is_clean store.new → S.is_clean store.old }
+    ensures plans { S.is_clean store.new → PlansOrTells (S.holds store.old) (facts_in reads.now) result (S.holds store.new) }
+    ensures left { S.is_clean store.new → LeavesRead (S.may_leave store.old) (S.may_leave store.new) }
+{
+    desk_book::entries_of_cuts();
+    let (day, last) = (reads.day, reads.last);
+    let numbered = match number_cut(alloc, day, &reads.holidays, last, &reads.waiting) {
+        Ok(numbered) => numbered,
+        Err(fault) => return Ok(Err(fault)),
+    };
+    let latest = latest_of(store, alloc, numbered.ranges())?;
+    Ok(plan_cut(alloc, &reads.identity, numbered, reads.made, &latest))
+}
+
 // The plan of a cut, or why it is refused.
 fn plan<S: Store>(
     store: &mut S,
@@ -90,26 +110,7 @@ fn plan<S: Store>(
     ensures plans { S.is_clean store.new → Plans (S.holds store.old) (facts_in reads.now) result (S.holds store.new) }
     ensures left { S.is_clean store.new → LeavesRead (S.may_leave store.old) (S.may_leave store.new) }
 {
-    desk_book::entries_of_cuts();
-    let (day, last) = (reads.day, reads.last);
-    let ranges = match ranges_of_cut(alloc, day, &reads.holidays, last, &reads.waiting) {
-        Ok(ranges) => ranges,
-        Err(CutFault::TracesSpent) => return Ok(Err(Refusal::TracesSpent)),
-        Err(CutFault::DaysSpent | CutFault::NoMemory) => return Err(StoreFault::Unavailable),
-        Err(CutFault::ModifiersSpent) => unreachable!(),
-    };
-    let latest = latest_of(store, alloc, &ranges)?;
-    let plan = plan_cut(
-        alloc,
-        &reads.identity,
-        day,
-        &reads.holidays,
-        last,
-        reads.made,
-        &latest,
-        &reads.waiting,
-    );
-    match plan {
+    match planned(store, alloc, reads)? {
         Ok(plan) => Ok(Ok(plan)),
         Err(fault) => Ok(Err(refusal_of(fault)?)),
     }

@@ -10,7 +10,7 @@ use Rattle.desk_history.specs.Files.{files_from}
 use Rattle.desk_history.specs.Sendings.{NumberedBatch, plan_of}
 use Rattle.desk_book.specs.OnCut.{cut_sendings, batches}
 use Rattle.desk_cut.specs.Numbers.{batches_in, write_of, summary_of}
-use Rattle.desk_cut.specs.Plan.{cut_of}
+use Rattle.desk_cut.specs.Plan.{cut_in}
 use Rattle.desk_cut.specs.Sendable.{IsSendable, AreSendable}
 use Rattle.desk_cut.proofs.Sendings.{all_sendable, runs_sendable}
 use Rattle.desk_cut.proofs.Planned.{batches_are, loads_are, whole, modifiers_are, may_take, is_plan, left, none_left}
@@ -18,9 +18,9 @@ use Rattle.desk_cut.proofs.plan.plan_cut.Goals as goal
 
 pub returns-in_default : goal.returns-in_default
 returns-in_default c =
-    let x = cut_of c.args.identity.now c.args.day c.args.holidays.now c.args.last c.args.made c.args.waiting.now in
-    let n = c.in_ok-numbered.numbered in
-    let h = c.in_ok-numbered.ensures.ok in
+    let x = cut_in c.args.identity.now c.args.numbered c.args.made in
+    let n = c.args.numbered.numbers in
+    let h = c.args.numbered.is_numbered in
     let sizes : c.in_ok-sizes.sizes.items ≡ map length (division n.loads.items) = c.in_ok-sizes.ensures.sizes ∙ ap (λ (bs : List Batch). map length (division bs)) c.deref.ensures.value in
     let count : length c.in_ok-sizes.sizes.items ≡ c.len.result = search rules in (
       may_take x n c.args.latest.now _ h (ap (λ (d : ℕ). list_all (is_past d) c.args.latest.now) (sym c.day-today.ensures.value) ∙ sym c.are_past.ensures ∙ c.if-not-are_past.false),
@@ -31,37 +31,37 @@ returns-in_default c =
 
 pub write-requires-clause-whole : goal.write-requires-clause-whole
 write-requires-clause-whole c =
-    let x = cut_of c.args.identity.now c.args.day c.args.holidays.now c.args.last c.args.made c.args.waiting.now in
+    let x = cut_in c.args.identity.now c.args.numbered c.args.made in
     ap (λ (l : List ℕ). sum l) c.deref-2.ensures.value
-    ∙ whole x c.in_ok-numbered.numbered c.in_ok-sizes.sizes.items c.in_ok-numbered.ensures.ok (c.in_ok-sizes.ensures.whole ∙ ap length c.deref.ensures.value)
+    ∙ whole x c.args.numbered.numbers c.in_ok-sizes.sizes.items c.args.numbered.is_numbered (c.in_ok-sizes.ensures.whole ∙ ap length c.deref.ensures.value)
 
 pub returns-then-not-are_past : goal.returns-then-not-are_past
 returns-then-not-are_past c =
-    let x = cut_of c.args.identity.now c.args.day c.args.holidays.now c.args.last c.args.made c.args.waiting.now in
-    may_take x c.in_ok-numbered.numbered c.args.latest.now _ c.in_ok-numbered.ensures.ok
+    let x = cut_in c.args.identity.now c.args.numbered c.args.made in
+    may_take x c.args.numbered.numbers c.args.latest.now _ c.args.numbered.is_numbered
     (ap (λ (d : ℕ). list_all (is_past d) c.args.latest.now) (sym c.day-today.ensures.value) ∙ sym c.are_past.ensures ∙ c.if-not-are_past.true)
 
 pub write-requires-clause-sendable : goal.write-requires-clause-sendable
 write-requires-clause-sendable c =
-    let x = cut_of c.args.identity.now c.args.day c.args.holidays.now c.args.last c.args.made c.args.waiting.now in
-    let h = c.in_ok-numbered.ensures.ok in
-    subst (All IsSendable) (sym (batches_are x c.in_ok-numbered.numbered h)) (all_sendable c.args.last (cut_sendings x) h.batches)
+    let x = cut_in c.args.identity.now c.args.numbered c.args.made in
+    let h = c.args.numbered.is_numbered in
+    subst (All IsSendable) (sym (batches_are x c.args.numbered.numbers h)) (all_sendable c.args.numbered.last (cut_sendings x) h.batches)
 
 pub write-requires-clause-runs : goal.write-requires-clause-runs
 write-requires-clause-runs c =
-    let x = cut_of c.args.identity.now c.args.day c.args.holidays.now c.args.last c.args.made c.args.waiting.now in
-    let n = c.in_ok-numbered.numbered in
-    let h = c.in_ok-numbered.ensures.ok in
+    let x = cut_in c.args.identity.now c.args.numbered c.args.made in
+    let n = c.args.numbered.numbers in
+    let h = c.args.numbered.is_numbered in
     let sizes : c.deref-2.result.now ≡ map length (division (map (λ (b : NumberedBatch). plan_of b.sending) (batches x))) =
     c.deref-2.ensures.value ∙ c.in_ok-sizes.ensures.sizes ∙ ap (λ (bs : List Batch). map length (division bs)) (c.deref.ensures.value ∙ loads_are x n h) in
     subst (All AreSendable) (sym (λ i. in_runs (sizes i) (batches_are x n h i)))
-    (runs_sendable c.one_division.ensures (batches x) (all_sendable c.args.last (cut_sendings x) h.batches))
+    (runs_sendable c.one_division.ensures (batches x) (all_sendable c.args.numbered.last (cut_sendings x) h.batches))
 
 pub returns : goal.returns
 returns c =
-    let x = cut_of c.args.identity.now c.args.day c.args.holidays.now c.args.last c.args.made c.args.waiting.now in
-    let n = c.in_ok-numbered.numbered in
-    let h = c.in_ok-numbered.ensures.ok in
+    let x = cut_in c.args.identity.now c.args.numbered c.args.made in
+    let n = c.args.numbered.numbers in
+    let h = c.args.numbered.is_numbered in
     let sizes : c.deref-2.result.now ≡ map length (division n.loads.items) =
     c.deref-2.ensures.value ∙ c.in_ok-sizes.ensures.sizes ∙ ap (λ (bs : List Batch). map length (division bs)) c.deref.ensures.value in
     let count : length c.deref-2.result.now ≡ c.len.result = c.deref-2.ensures.len ∙ sym c.len.ensures in

@@ -13,7 +13,7 @@ use Rattle.desk_cut.proofs.plan.write.Goals as goal
 
 pub entries_of-requires : goal.entries_of-requires
 entries_of-requires c =
-    let is : map batch_in c.in_ok-batches.batches.items ≡ batches_in c.args.numbered =
+    let is : map batch_in c.in_ok-batches.batches.items ≡ batches_in c.args.numbers =
     c.in_ok-batches.ensures ∙ (λ i. map batch_of (zip (c.deref-2.ensures.value i) (map sending_in (c.deref.ensures.value i)))) in
     subst (λ (bs : List NumberedBatch). All (λ b. IsSendable (batch_in b)) bs) (sym c.deref-4.ensures.value)
     (each_before IsSendable batch_in c.in_ok-batches.batches.items (subst (All IsSendable) (sym is) c.requires.sendable))
@@ -21,7 +21,7 @@ entries_of-requires c =
 pub texts_of-requires : goal.texts_of-requires
 texts_of-requires c =
     let sizes = c.args.sizes.now in
-    let bs = batches_in c.args.numbered in
+    let bs = batches_in c.args.numbers in
     let is : map batch_in c.deref-3.result.now ≡ bs =
     ap (λ (bs : List NumberedBatch). map batch_in bs) c.deref-3.ensures.value
     ∙ c.in_ok-batches.ensures ∙ (λ i. map batch_of (zip (c.deref-2.ensures.value i) (map sending_in (c.deref.ensures.value i)))) in
