@@ -46,6 +46,7 @@ JUDGES = (
     Judge("statuses"),
     Judge("big_day", (), is_asked=True),
     Judge("costs", (), is_asked=True),
+    Judge("peaks", (), is_asked=True),
     Judge("opening", (), is_asked=True),
     Judge("console", (), is_asked=True),
     Judge("openapi", (), is_asked=True),
