@@ -177,13 +177,13 @@ def is_within(name, path):
 
 
 def goals_left(lines):
-    """Returns the functions that are not proved for a goal of their own, each with the goal. One that waits for what it calls is none."""
+    """Returns the functions that are not proved for a goal of their own, each with the goal, and not only for what they call."""
     found = {}
     for at in filter(None, map(UNPROVED.match, lines)):
         goal = re.search(r"did not prove `([^`]*)`", at[2])
         own = f"proofs/{at[1].replace('::', '/')}/"
         wrong = [it for it in lines if it.removeprefix("./").startswith(own) and ": error" in it and not OF_NAMES.match(it)]
-        if "it calls `" not in at[2] and (goal or wrong):
+        if wrong or (goal and "it calls `" not in at[2]):
             found[at[1]] = goal[1] if goal else "a goal that its proof file answers"
     return found
 
