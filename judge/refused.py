@@ -30,6 +30,7 @@ from dataclasses import dataclass
 from pathlib import Path
 
 from helpers.edits import read_edit
+from helpers.functions import functions_of
 
 TOP = Path(__file__).resolve().parent.parent
 sys.path.insert(0, str(TOP / ".ci"))
@@ -40,6 +41,7 @@ PARTS = ("src", "specs", "proofs")
 UNREAD = re.compile(r"is not in scope|has no field|is no name|operand is missing|expected the end|cannot continue")
 # A proof file that names what an edit took away is refused for that alone.
 OF_NAMES = re.compile(r"(\./)?proofs/.*(has no field|is not in scope|has no `|was not admitted)")
+NOTED = re.compile(r"note: (src/\S+?):(\d+):\d+: it is not proved that .*\(`([^`]*)`\)")
 UNPROVED = re.compile(r"fn \w+::(\S+): (?:no proof|not proved)(.*)")
 
 
@@ -97,7 +99,7 @@ class Trial:
         return True
 
     def together(self, edits):
-        """Tries edits of different functions in one copy, and returns those that are shown to be refused, each with its refusal."""
+        """Tries edits of different functions in one copy, and returns those of which it shows how they end, each with its verdict."""
         texts = {}
         try:
             for it in edits:
@@ -107,9 +109,12 @@ class Trial:
         status, lines = self.check(texts, self.kept, set().union(*(it.functions() for it in edits)))
         if status != 1 or any(is_unread(it, texts) for it in lines):
             return {}
-        left = goals_left(lines)
-        found = {it: [name for name in left if any(is_within(name, path) for path in it.functions())] for it in edits}
-        return {it: (None, f"{self.crate}::{names[0]}: {left[names[0]]}") for it, names in found.items() if names}
+        found = {}
+        for name, (fault, goal) in outcomes(lines, texts).items():
+            for it in edits:
+                if any(is_within(name, path) for path in it.functions()) and (it not in found or found[it][0]):
+                    found[it] = fault, f"{self.crate}::{name}: {goal}"
+        return found
 
     def alone(self, edit):
         """Tries an edit alone, and returns why it is not refused as it must be, or None, and by what it is refused."""
@@ -176,15 +181,28 @@ def is_within(name, path):
     return f"::{plain}".endswith(f"::{path}") or (plain != name and f"::{path}::" in f"::{plain}")
 
 
-def goals_left(lines):
-    """Returns the functions that are not proved for a goal of their own, each with the goal. One that waits for what it calls is none."""
-    found = {}
+def outcomes(lines, texts):
+    """Returns of each function that is not proved by its own fault what a verdict says: one that only waits for what it calls is left out."""
+    found, noted = {}, goals_noted(lines, texts)
     for at in filter(None, map(UNPROVED.match, lines)):
-        goal = re.search(r"did not prove `([^`]*)`", at[2])
         own = f"proofs/{at[1].replace('::', '/')}/"
-        wrong = [it for it in lines if it.removeprefix("./").startswith(own) and ": error" in it and not OF_NAMES.match(it)]
-        if "it calls `" not in at[2] and (goal or wrong):
-            found[at[1]] = goal[1] if goal else "a goal that its proof file answers"
+        errors = [it for it in lines if it.removeprefix("./").startswith(own) and ": error" in it]
+        goals = re.findall(r"did not prove `([^`]*)`", at[2]) + [goal for path, goal in noted if is_within(at[1], path)]
+        if not all(OF_NAMES.match(it) for it in errors):
+            found[at[1]] = None, (goals or ["a goal that its proof file answers"])[0]
+        elif "it calls `" not in at[2] and (goals or errors):
+            found[at[1]] = (None, goals[0]) if goals else (f"BAD EDIT: a proof file names what it took away: {errors[0][:160]}", "")
+    return found
+
+
+def goals_noted(lines, texts):
+    """Returns the goals that are noted at lines of these texts, each with the function that the line is of."""
+    found = []
+    for at in filter(None, map(NOTED.match, lines)):
+        text = texts.get(at[1], "")
+        for it in functions_of(at[1], text):
+            if text.count("\n", 0, it.start) < int(at[2]) <= text.count("\n", 0, it.end) + 1:
+                found.append((it.path, at[3]))
     return found
 
 
