@@ -26,3 +26,7 @@ DoesRead (Err fault) input old new code = PrintsLineFault fault old new code
 abbrev pub RunsWords : (words : List Text) → (input old new : Option (List ℕ)) → (code : ℕ) → Type 0
 RunsWords words input old new code =
     (read : Result Command LineFault) × GivesAt words read × DoesRead read input old new code
+
+-- the same for some words, over some input and some output
+abbrev pub RunsProgram : (code : ℕ) → Type 0
+RunsProgram code = (read : Result Command LineFault) × (input : Option (List ℕ)) × (old : Option (List ℕ)) × (new : Option (List ℕ)) × DoesRead read input old new code

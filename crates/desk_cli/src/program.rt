@@ -1,6 +1,6 @@
 //! The program: the words that it was started with, and what they ask for.
-ghost use Rattle.std.specs.Prelude.{◌≤◌, map};
-ghost use Rattle.desk_cli.specs.Programs.{RunsWords};
+ghost use Rattle.std.specs.Prelude.{map};
+ghost use Rattle.desk_cli.specs.Programs.{RunsProgram, RunsWords};
 
 use crate::dispatch::{print_line_fault, run};
 use desk_command_line::{LineFault, command_of};
@@ -25,9 +25,9 @@ pub fn run_words<R: Read + Drop, W: Write>(
 }
 
 /// Does what the program's own words ask for, over standard input and output, and gives the exit
-/// status.
+/// status: that of what was done. No contract knows the words, nor what the two hold.
 pub fn run_program(rt: &HostRuntime) -> u8
-    ensures { result ≤ 3 }
+    ensures { RunsProgram result }
 {
     let mut writer = io::writer(rt);
     let words = match program_words(rt) {
