@@ -82,9 +82,14 @@ fn companies(rt: HostRuntime) -> Result<(), Fail> {
 #[test]
 fn modifiers(rt: HostRuntime) -> Result<(), Fail> {
     for (column, modifier) in [("'A'", b'A'), ("'Z'", b'Z'), ("'0'", b'0'), ("'9'", b'9')] {
-        assert!(rt; read_only(rt.alloc(), column)? == Some(modifier), "{column}");
+        assert!(rt;
+            read_only(rt.alloc(), column)? == Some(modifier),
+            "{column}"
+        );
     }
-    for column in ["65", "'@'", "'['", "'/'", "':'", "'a'", "''", "'AB'", "x'41'", "NULL"] {
+    for column in [
+        "65", "'@'", "'['", "'/'", "':'", "'a'", "''", "'AB'", "x'41'", "NULL",
+    ] {
         assert!(rt; read_only::<u8>(rt.alloc(), column)?.is_none(), "{column}");
     }
     Ok(())
