@@ -1,15 +1,20 @@
--- A text and its unused bytes.
-use Rattle.std.proofs.Common.{◌≡◌, ◌≤◌, ◌-◌, ◌++◌, ℕ, List, length, take, drop, replicate, arith}
-use Rattle.std.proofs.lemmas.List.{take-append-drop, length-take-le}
+-- A text in a fixed number of bytes, with zeros after it.
+use Rattle.std.specs.Prelude.{◌≡◌, ◌-◌, ◌++◌, ◌==◌, not, ℕ, Bool, List, length, replicate}
+use Rattle.std.specs.List.{take_while}
+use Rattle.std.proofs.Common.{sym}
 
--- the bytes in use, and zeros after them, are all the bytes
-pub used_and_zeros : (n len : ℕ) (bytes : List ℕ) → len ≤ n → length bytes ≡ n → drop len bytes ≡ replicate (n - len) 0
-    → take len bytes ++ replicate (n - length (take len bytes)) 0 ≡ bytes
-used_and_zeros n len bytes within whole rest =
-    let short : len ≤ length bytes = omega arith in
-    let taken : length (take len bytes) ≡ len = length-take-le len bytes short in
-    rw (taken, ← rest) (take-append-drop len bytes)
+-- a byte of the text
+abbrev pub is_used : ℕ → Bool
+is_used c = not (c == 0)
 
--- how many bytes are in use
-pub used_length : (n len : ℕ) (bytes : List ℕ) → len ≤ n → length bytes ≡ n → length (take len bytes) ≡ len
-used_length n len bytes within whole = length-take-le len bytes (omega arith)
+-- the bytes before the first zero
+abbrev pub used : List ℕ → List ℕ
+used bytes = take_while is_used bytes
+
+-- so many bytes, of which the last are zeros
+abbrev pub with_zeros : ℕ → List ℕ → List ℕ
+with_zeros n s = s ++ replicate (n - length s) 0
+
+-- the text with its zeros is the bytes
+pub zeros_again : (n : ℕ) (bytes : List ℕ) → bytes ≡ with_zeros n (used bytes) → with_zeros n (used bytes) ≡ bytes
+zeros_again n bytes h = sym h

@@ -33,6 +33,7 @@ impl Id {
     /// Gives the identification of these characters.
     ///
     /// More than 10 are `TooLong`; none, or one that an identification may not have, is `NotText`.
+    #[tactic(auto, using(crate::proofs::Packing::id_used))]
     pub fn new(bytes: &[u8]) -> Result<Id, FieldFault>
         ensures { result ≡ id_of bytes.now }
     {

@@ -33,6 +33,7 @@ impl Ref {
     /// Gives the reference of these characters.
     ///
     /// More than 20 are `TooLong`; none, or one that a reference may not have, is `NotText`.
+    #[tactic(auto, using(crate::proofs::Packing::reference_used))]
     pub fn new(bytes: &[u8]) -> Result<Ref, FieldFault>
         ensures { result ≡ reference_of bytes.now }
     {

@@ -31,6 +31,7 @@ impl<const N: usize> ShortText<N> {
     ///
     /// More than `N` are `TooLong`; a character that is no blank to `~`, or a blank at an end, is
     /// `NotText`.
+    #[tactic(auto, using(crate::proofs::Packing::printable_used))]
     pub fn new(bytes: &[u8]) -> Result<ShortText<N>, FieldFault>
         ensures { result ≡ short_text_of N bytes.now }
     {
