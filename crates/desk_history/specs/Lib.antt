@@ -13,6 +13,7 @@ pub mod Message
 pub mod Operator
 pub mod Part
 pub mod PartCompany
+pub mod PartyNames
 pub mod Possible
 pub mod PostingLaws
 pub mod Postings

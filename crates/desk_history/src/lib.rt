@@ -16,6 +16,7 @@ mod identity;
 mod laws;
 mod list_of;
 mod operations;
+mod party_name;
 mod posting_laws;
 mod reports;
 mod sent_entry;
@@ -34,6 +35,7 @@ pub use list_of::ListOf;
 pub use operations::{
     CutSummary, DaySum, Intake, Settlement, SuspenseReason, SuspenseRow, TakenFile,
 };
+pub use party_name::PartyName;
 pub use posting_laws::company_lines;
 pub use reports::{
     ChangeRow, DayRates, Exposure, Receipt, ReportedEntry, RetriedEntry, ReturnRow, Statement,
