@@ -4,6 +4,7 @@ pub mod AcceptedLaws
 pub mod Alone
 pub mod Calls
 pub mod Cutting
+pub mod DayFiles
 pub mod Facts
 pub mod Files
 pub mod History

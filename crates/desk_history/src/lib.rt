@@ -28,7 +28,7 @@ pub use account_laws::accounts_cancel;
 pub use alone_laws::served_alone;
 pub use answer::{Answer, CallRefusal, Outcome};
 pub use call::Call;
-pub use cut_laws::{accepted_cuts, traces_name, traces_of_cuts};
+pub use cut_laws::{accepted_cuts, files_of_status, traces_name, traces_of_cuts};
 pub use identity::Identity;
 pub use laws::{company_of_part, digest_of_part, first_answer_stands, one_message, two_worlds};
 pub use list_of::ListOf;
