@@ -1,8 +1,8 @@
 -- Whose desk a new one is, as the options of `init` say, or the first option that is bad.
 use Rattle.std.specs.Prelude.{ℕ, List, [], ◌∷◌, ◌++◌, codes, if◌then◌else◌, Result, Ok, Err}
 use Rattle.ach_fields.specs.Routing.{routing_of}
-use Rattle.ach_fields.specs.Text.{short_text_of}
 use Rattle.ach_fields.specs.declared.fault.FieldFault.{FieldFault}
+use Rattle.desk_history.specs.PartyNames.{party_name_of}
 use Rattle.desk_history.specs.declared.identity.Identity.{Identity}
 use Rattle.desk_rules.specs.Fields.{is_key}
 use Rattle.desk_command_line.specs.InitOptions.{InitTexts}
@@ -14,13 +14,13 @@ abbrev pub checked : {A B : Type 0} → OptionFault → Result A FieldFault → 
 checked fault (Ok value) rest = rest value
 checked fault (Err e) rest = Err fault
 
--- Whose desk it is, or the first bad option: two routing numbers, two names of at most 23 characters, and a key.
+-- Whose desk it is, or the first bad option: two routing numbers, two names, and a key.
 abbrev pub identity_of : InitTexts → Result Identity OptionFault
 identity_of t =
     checked Odfi (routing_of t.odfi) λ odfi.
-    checked OdfiName (short_text_of 23 t.odfi_name) λ odfi_name.
+    checked OdfiName (party_name_of t.odfi_name) λ odfi_name.
     checked Destination (routing_of t.destination) λ destination.
-    checked DestinationName (short_text_of 23 t.destination_name) λ destination_name.
+    checked DestinationName (party_name_of t.destination_name) λ destination_name.
     if is_key t.key then Ok (record {
       odfi = odfi;
       odfi_name = odfi_name;

@@ -3,9 +3,9 @@ ghost use Rattle.std.specs.Prelude.{◌≡◌};
 ghost use Rattle.desk_command_line.specs.InitOptions.{init_texts_of};
 ghost use Rattle.desk_commands.specs.NewIdentities.{fault_line, identity_of};
 
-use ach_fields::{Routing, ShortText};
+use ach_fields::Routing;
 use desk_command_line::InitOptions;
-use desk_core::Identity;
+use desk_core::{Identity, PartyName};
 use desk_rules::is_key;
 
 /// A fault says which option of a new desk is bad.
@@ -45,13 +45,13 @@ pub fn identity_of(options: &InitOptions<'_>) -> Result<Identity, OptionFault>
     let Ok(odfi) = Routing::parse(options.odfi.as_bytes()) else {
         return Err(OptionFault::Odfi);
     };
-    let Ok(odfi_name) = ShortText::new(options.odfi_name.as_bytes()) else {
+    let Ok(odfi_name) = PartyName::new(options.odfi_name.as_bytes()) else {
         return Err(OptionFault::OdfiName);
     };
     let Ok(destination) = Routing::parse(options.destination.as_bytes()) else {
         return Err(OptionFault::Destination);
     };
-    let Ok(destination_name) = ShortText::new(options.destination_name.as_bytes()) else {
+    let Ok(destination_name) = PartyName::new(options.destination_name.as_bytes()) else {
         return Err(OptionFault::DestinationName);
     };
     if !is_key(options.key.as_bytes()) {

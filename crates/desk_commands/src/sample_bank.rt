@@ -2,8 +2,8 @@
 ghost use Rattle.std.specs.Prelude.{◌≡◌};
 ghost use Rattle.desk_commands.specs.MessageRuns.{new_book, sample_identity};
 
-use ach_fields::{Routing, ShortText};
-use desk_core::{Desk, Identity, Store};
+use ach_fields::Routing;
+use desk_core::{Desk, Identity, PartyName, Store};
 use desk_lists::ListStore;
 use desk_remembering_store::Remembering;
 use sha2::{Digest, Sha256};
@@ -27,8 +27,8 @@ fn sample_identity() -> Identity
 {
     Identity {
         odfi: Routing::parse(b"121042882").unwrap(),
-        odfi_name: ShortText::new(b"OUR BANK").unwrap(),
+        odfi_name: PartyName::new(b"OUR BANK").unwrap(),
         destination: Routing::parse(b"061000146").unwrap(),
-        destination_name: ShortText::new(b"ACH OPERATOR").unwrap(),
+        destination_name: PartyName::new(b"ACH OPERATOR").unwrap(),
     }
 }

@@ -24,12 +24,12 @@ pub use desk_book::{
 pub use desk_cut::{CutFault, CutPlan, NumberedCut, company_status, number_cut, plan_cut};
 pub use desk_history::{
     Answer, Call, CallRefusal, ChangeRow, CompanyStatus, CutSummary, DayRates, DaySum, DeskStatus,
-    DueDay, Exposure, FilePlace, Identity, Intake, ListOf, Outcome, Receipt, ReportedEntry,
-    RetriedEntry, ReturnRow, SentEntry, Settlement, Statement, StatementLine, SubmissionReport,
-    SuspenseReason, SuspenseRow, TakenFile, Tallies, Tally, accepted_cuts, accepted_in_order,
-    accounts_cancel, company_lines, company_of_part, digest_of_part, first_answer_stands,
-    one_message, possible_parts, sent_are_accepted, served_alone, traces_name, traces_of_cuts,
-    two_worlds,
+    DueDay, Exposure, FilePlace, Identity, Intake, ListOf, Outcome, PartyName, Receipt,
+    ReportedEntry, RetriedEntry, ReturnRow, SentEntry, Settlement, Statement, StatementLine,
+    SubmissionReport, SuspenseReason, SuspenseRow, TakenFile, Tallies, Tally, accepted_cuts,
+    accepted_in_order, accounts_cancel, company_lines, company_of_part, digest_of_part,
+    first_answer_stands, one_message, possible_parts, sent_are_accepted, served_alone, traces_name,
+    traces_of_cuts, two_worlds,
 };
 pub use desk_intake::{FoundItem, IntakePlan, NamedEntry, plan_intake};
 pub use desk_plan::{NumberFault, plan_numbers};

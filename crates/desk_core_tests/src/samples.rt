@@ -1,7 +1,7 @@
 //! Several tests read these of texts and numbers, which are right.
 use ach_fields::{Cents, Id, Ref, Routing, ShortText};
 use bank_days::Day;
-use desk_history::Identity;
+use desk_history::{Identity, PartyName};
 use desk_rules::RuleDay;
 use std::process::Abort;
 
@@ -33,6 +33,10 @@ pub(crate) fn short_text<const N: usize>(rt: &impl Abort, text: &[u8]) -> ShortT
     ShortText::new(text).ok().expect(rt, "a text")
 }
 
+fn party_name(rt: &impl Abort, text: &[u8]) -> PartyName {
+    PartyName::new(text).ok().expect(rt, "a name")
+}
+
 pub(crate) fn mill(rt: &impl Abort) -> Id {
     Id::new(b"MILL01").ok().expect(rt, "an identification")
 }
@@ -40,8 +44,8 @@ pub(crate) fn mill(rt: &impl Abort) -> Id {
 pub(crate) fn identity(rt: &impl Abort) -> Identity {
     Identity {
         odfi: routing(rt, b"121042882"),
-        odfi_name: short_text(rt, b"OUR BANK"),
+        odfi_name: party_name(rt, b"OUR BANK"),
         destination: routing(rt, b"061000146"),
-        destination_name: short_text(rt, b"ACH OPERATOR"),
+        destination_name: party_name(rt, b"ACH OPERATOR"),
     }
 }

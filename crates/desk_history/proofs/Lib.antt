@@ -7,6 +7,7 @@
 --   accepted_cuts          Traces, AcceptedCuts
 --   traces_name            Traces, NamedTraces
 --   traces_of_cuts         Traces, TracesOfCuts
+--   files_of_status        Traces, FilesOfDays
 --   accounts_cancel        Accounts
 --   company_lines          Lines
 --   digest_of_part         Lines, PartCompany

@@ -4,6 +4,7 @@ pub mod AcceptedLaws
 pub mod Alone
 pub mod Calls
 pub mod Cutting
+pub mod DayFiles
 pub mod Facts
 pub mod Files
 pub mod History
@@ -13,6 +14,7 @@ pub mod Message
 pub mod Operator
 pub mod Part
 pub mod PartCompany
+pub mod PartyNames
 pub mod Possible
 pub mod PostingLaws
 pub mod Postings

@@ -1,4 +1,5 @@
-//! The laws of cuts and of traces.
+//! The laws of cuts, of their files and of traces.
+ghost use Rattle.desk_history.specs.DayFiles.{FilesOfStatus};
 ghost use Rattle.desk_history.specs.SentLaws.{AcceptedCuts, TracesName, TracesOfCuts};
 
 /// A cut that was accepted had a desk day, took only sequences that were free, and had modifiers for
@@ -21,3 +22,9 @@ pub fn traces_of_cuts()
     desk_plan::sent_by_cut();
     desk_plan::by_ranges();
 }
+
+/// The modifiers that the status tells are those of the desk day's files, in the order in which they
+/// were made.
+pub fn files_of_status()
+    ensures { FilesOfStatus }
+{}

@@ -16,6 +16,7 @@ mod identity;
 mod laws;
 mod list_of;
 mod operations;
+mod party_name;
 mod posting_laws;
 mod reports;
 mod sent_entry;
@@ -27,13 +28,14 @@ pub use account_laws::accounts_cancel;
 pub use alone_laws::served_alone;
 pub use answer::{Answer, CallRefusal, Outcome};
 pub use call::Call;
-pub use cut_laws::{accepted_cuts, traces_name, traces_of_cuts};
+pub use cut_laws::{accepted_cuts, files_of_status, traces_name, traces_of_cuts};
 pub use identity::Identity;
 pub use laws::{company_of_part, digest_of_part, first_answer_stands, one_message, two_worlds};
 pub use list_of::ListOf;
 pub use operations::{
     CutSummary, DaySum, Intake, Settlement, SuspenseReason, SuspenseRow, TakenFile,
 };
+pub use party_name::PartyName;
 pub use posting_laws::company_lines;
 pub use reports::{
     ChangeRow, DayRates, Exposure, Receipt, ReportedEntry, RetriedEntry, ReturnRow, Statement,

@@ -1,5 +1,5 @@
 //! A desk is made and checked in memory.
-use crate::samples::{routing, short_text};
+use crate::samples::{party_name, routing};
 use desk_history::Identity;
 use desk_setup::{OpenFault, check_desk, make_desk};
 use sqlite::{Alter, Connection, Error, MemStore};
@@ -10,9 +10,9 @@ use std::test::Fail;
 fn identity(rt: &impl Abort) -> Identity {
     Identity {
         odfi: routing(rt, b"121042882"),
-        odfi_name: short_text(rt, b"OUR BANK"),
+        odfi_name: party_name(rt, b"OUR BANK"),
         destination: routing(rt, b"061000146"),
-        destination_name: short_text(rt, b"ACH OPERATOR"),
+        destination_name: party_name(rt, b"ACH OPERATOR"),
     }
 }
 

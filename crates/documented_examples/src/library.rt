@@ -1,6 +1,6 @@
 //! The library in use, as docs/USING.md shows it.
-use ach_fields::{FieldFault, Id, Routing, ShortText};
-use desk_core::{Answer, Call, Desk, Identity, Outcome, StoreFault};
+use ach_fields::{FieldFault, Id, Routing};
+use desk_core::{Answer, Call, Desk, Identity, Outcome, PartyName, StoreFault};
 use desk_json::{company_draft, day_draft, read_object, submission_draft};
 use desk_lists::ListStore;
 use serde_json::Value;
@@ -52,9 +52,9 @@ fn bodies_with(alloc: Global, pay: &[u8]) -> Result<Option<Bodies>, AllocError> 
 fn sample_identity() -> Result<Identity, FieldFault> {
     Ok(Identity {
         odfi: Routing::parse(b"121042882")?,
-        odfi_name: ShortText::new(b"OUR BANK")?,
+        odfi_name: PartyName::new(b"OUR BANK")?,
         destination: Routing::parse(b"061000146")?,
-        destination_name: ShortText::new(b"ACH OPERATOR")?,
+        destination_name: PartyName::new(b"ACH OPERATOR")?,
     })
 }
 

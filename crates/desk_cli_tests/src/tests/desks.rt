@@ -100,6 +100,8 @@ fn the_first_bad_option_is_told(rt: HostRuntime) -> Result<(), Fail> {
     assert!(rt; says(&rt, path, options, Status::Refused, "bad odfi\n"));
     options.odfi = SAMPLE_BANK.odfi;
     assert!(rt; says(&rt, path, options, Status::Refused, "bad odfi-name\n"));
+    options.odfi_name = "";
+    assert!(rt; says(&rt, path, options, Status::Refused, "bad odfi-name\n"));
     options.odfi_name = SAMPLE_BANK.odfi_name;
     assert!(rt; says(&rt, path, options, Status::Refused, "bad destination\n"));
     options.destination = SAMPLE_BANK.destination;
@@ -112,6 +114,9 @@ fn the_first_bad_option_is_told(rt: HostRuntime) -> Result<(), Fail> {
             "bad destination-name\n"
         )
     );
+    options.destination_name = "";
+    let line = "bad destination-name\n";
+    assert!(rt; says(&rt, path, options, Status::Refused, line));
     options.destination_name = SAMPLE_BANK.destination_name;
     assert!(rt; says(&rt, path, options, Status::Refused, "bad key\n"));
     // No file was made meanwhile.

@@ -1,6 +1,6 @@
 //! The sample bank, its company, what the company hands in, and what comes back.
-use ach_fields::{Id, Routing, ShortText};
-use desk_core::{Call, Identity, ListOf};
+use ach_fields::{Id, Routing};
+use desk_core::{Call, Identity, ListOf, PartyName};
 use desk_rules::{CompanyDraft, Draft, DraftText, EntryDraft, EntryDrafts, LimitDrafts, Optional};
 use std::alloc::Global;
 use std::process::Abort;
@@ -26,8 +26,8 @@ fn routing(rt: &impl Abort, text: &[u8]) -> Routing {
     Routing::parse(text).ok().expect(rt, "a routing number")
 }
 
-fn name(rt: &impl Abort, text: &[u8]) -> ShortText<23> {
-    ShortText::new(text).ok().expect(rt, "a name")
+fn name(rt: &impl Abort, text: &[u8]) -> PartyName {
+    PartyName::new(text).ok().expect(rt, "a name")
 }
 
 pub(crate) fn identity(rt: &impl Abort) -> Identity {

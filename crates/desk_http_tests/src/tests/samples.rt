@@ -1,6 +1,6 @@
 //! The sample bank, its companies, their submissions, and files of returns.
-use ach_fields::{Routing, ShortText};
-use desk_core::Identity;
+use ach_fields::Routing;
+use desk_core::{Identity, PartyName};
 use desk_lists::ListStore;
 use desk_tables::SqlStore;
 use sha2::{Digest, Sha256};
@@ -94,8 +94,8 @@ pub(super) const RETURN_1: &str = concat!(
 pub(super) const TAKEN: &str =
     r#"{"changes":0,"day":"2025-01-14","late":0,"returns":1,"suspense":0}"#;
 
-fn name(rt: &impl Abort, text: &[u8]) -> ShortText<23> {
-    ShortText::new(text).ok().expect(rt, "a name")
+fn name(rt: &impl Abort, text: &[u8]) -> PartyName {
+    PartyName::new(text).ok().expect(rt, "a name")
 }
 
 fn routing(rt: &impl Abort, text: &[u8]) -> Routing {

@@ -12,6 +12,7 @@ ghost use Rattle.desk_records.specs.Reading.{Reads};
 
 use super::{FromColumn, text_in, value_at};
 use ach_fields::{Id, Ref, Routing, ShortText, are_printable};
+use desk_history::PartyName;
 use desk_rules::ReturnCode;
 use sqlite::Row;
 use sqlite::types::ValueRef;
@@ -68,6 +69,16 @@ impl<const N: usize> FromColumn for ShortText<N> {
             return None;
         }
         ShortText::new(text).ok()
+    }
+}
+
+impl FromColumn for PartyName {
+    ghost stored = { Text };
+
+    ghost fits = { IsText 23 };
+
+    fn from_column(value: ValueRef<'_>) -> Option<PartyName> {
+        PartyName::new(text_in(value)?).ok()
     }
 }
 

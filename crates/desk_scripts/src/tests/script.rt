@@ -2,8 +2,8 @@
 use super::answers::words_of;
 use super::calls::call_of;
 use super::old_cut::put_old_cut;
-use ach_fields::{Routing, ShortText};
-use desk_core::{Desk, Identity, Store};
+use ach_fields::Routing;
+use desk_core::{Desk, Identity, PartyName, Store};
 use desk_faulty_store::FaultyStore;
 use desk_lists::ListStore;
 use desk_remembering_store::Remembering;
@@ -43,8 +43,8 @@ pub(super) const PAY_2: (&str, &str) = (
 /// A script makes fewer calls of the store.
 pub(super) const MOST_CALLS: u64 = 1_000;
 
-fn name(rt: &impl Abort, text: &[u8]) -> ShortText<23> {
-    ShortText::new(text).ok().expect(rt, "a name")
+fn name(rt: &impl Abort, text: &[u8]) -> PartyName {
+    PartyName::new(text).ok().expect(rt, "a name")
 }
 
 fn routing(rt: &impl Abort, text: &[u8]) -> Routing {

@@ -1,6 +1,6 @@
 //! Rows of the desk, of companies, and of one column.
 use super::queries::{is_refused, read, read_only};
-use crate::samples::{routing, short_text};
+use crate::samples::{party_name, routing, short_text};
 use ach_fields::Id;
 use desk_history::Identity;
 use desk_rules::{Company, Limits, RuleDay};
@@ -17,14 +17,16 @@ const IDENTITY: [&str; 4] = ["'121042882'", "'OUR BANK'", "'061000146'", "'ACH O
 fn identities(rt: HostRuntime) -> Result<(), Fail> {
     let identity = Identity {
         odfi: routing(&rt, b"121042882"),
-        odfi_name: short_text(&rt, b"OUR BANK"),
+        odfi_name: party_name(&rt, b"OUR BANK"),
         destination: routing(&rt, b"061000146"),
-        destination_name: short_text(&rt, b"ACH OPERATOR"),
+        destination_name: party_name(&rt, b"ACH OPERATOR"),
     };
     assert!(rt; read(rt.alloc(), &IDENTITY)? == Some(identity));
     let bad = [
         (0, "'121042883'"),
         (1, "''"),
+        (1, "' OUR BANK'"),
+        (3, "'ACH OPERATOR '"),
         (2, "61000146"),
         (3, "'A NAME OF 24 CHARACTERS.'"),
         (3, "'X', 'Y'"),
