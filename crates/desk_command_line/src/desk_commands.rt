@@ -5,11 +5,11 @@ ghost use Rattle.desk_command_line.specs.InitOptions.{init_texts_of};
 ghost use Rattle.desk_command_line.specs.Arguments.{init_app, migrate_app, serve_app, stdio_app};
 ghost use Rattle.desk_command_line.specs.CommandLine.{Gives, HasConnections, HasPatience, HasPort, command_value, init_texts_in, named_init, named_migrate, named_serve, named_stdio, number_in, session_with};
 
-use crate::argument_values::{argument_text, connections_of, patience_of, port_of};
-use crate::arguments::stdio_matches;
 use crate::command::{Command, LineFault, line_fault};
 use crate::desk_arguments::{init_matches, migrate_matches, serve_matches};
+use crate::given_values::{argument_text, connections_of, patience_of, port_of};
 use crate::init_options::InitOptions;
+use crate::plain_arguments::stdio_matches;
 use crate::serve_options::ServeOptions;
 use clap::ArgMatches;
 use std::alloc::Global;

@@ -78,13 +78,13 @@ fn put_posting<S: Alter>(tx: &mut Transaction<'_, S>, row: &PostingRow) -> Resul
     ensures keeps { HasCleanDisk (state S.Store tx.new.conn.now) → KeepsCommit (state S.Store tx.old.conn.now) (state S.Store tx.new.conn.now) }
     ensures survives { Survives (state S.Store tx.old.conn.now) (state S.Store tx.new.conn.now) (λ _. ⊥) }
 {
-    let nth = natural(row.number)?;
+    let line_number = natural(row.number)?;
     let index = natural(row.posting.idx)?;
     execute(
         tx,
         "INSERT INTO postings VALUES (?1, ?2, ?3, ?4, ?5, ?6, ?7)",
         &[
-            nth,
+            line_number,
             characters(row.account.as_slice()),
             date(row.posting.value_day),
             number(row.posting.cents),
