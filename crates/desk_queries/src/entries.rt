@@ -7,10 +7,9 @@ ghost use Rattle.sql_statements.specs.Findings.{Finds};
 ghost use Rattle.desk_records.specs.Layout.{desk_layout};
 ghost use Rattle.desk_records.specs.TableReads.{entries_in, amounts_in, cents_in, entry_at, entry_at_place, place_in, places_between, IsLastNumber};
 
-use crate::parameter::{characters, natural};
 use crate::rows::{all_of, cell_of, column_of, first_of};
 use ach_fields::Id;
-use desk_records::{EntryAmount, NumberRecord, NumberedEntry, PlacedEntry};
+use desk_records::{EntryAmount, NumberRecord, NumberedEntry, PlacedEntry, characters, natural};
 use sqlite::{Alter, Connection, Error};
 use std::alloc::Global;
 

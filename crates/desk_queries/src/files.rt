@@ -7,10 +7,10 @@ ghost use Rattle.sql_statements.specs.Findings.{Finds};
 ghost use Rattle.desk_records.specs.Layout.{desk_layout};
 ghost use Rattle.desk_records.specs.TableReads.{modifiers_in, text_in, taken_in};
 
-use crate::parameter::{characters, date};
 use crate::rows::{blob_of, column_of, first_of};
 use bank_days::Day;
 use desk_history::TakenFile;
+use desk_records::{characters, date};
 use sqlite::{Alter, Connection, Error};
 use std::alloc::Global;
 

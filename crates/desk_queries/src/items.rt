@@ -7,11 +7,10 @@ ghost use Rattle.sql_statements.specs.Findings.{Finds};
 ghost use Rattle.desk_records.specs.Layout.{desk_layout};
 ghost use Rattle.desk_records.specs.TableReads.{number_of_last, returns_in, return_at, orders_returned, return_lines_in, change_lines_in, suspense_in};
 
-use crate::parameter::{characters, natural};
 use crate::rows::{all_of, cell_of, column_of, first_of};
 use ach_fields::Id;
 use desk_history::SuspenseRow;
-use desk_records::{ChangeLine, EntryReturn, ReturnLine};
+use desk_records::{ChangeLine, EntryReturn, ReturnLine, characters, natural};
 use sqlite::{Alter, Connection, Error};
 use std::alloc::Global;
 

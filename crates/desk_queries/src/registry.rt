@@ -8,12 +8,11 @@ ghost use Rattle.desk_records.specs.Layout.{desk_layout};
 ghost use Rattle.desk_records.specs.TableReads.{company_in};
 ghost use Rattle.desk_queries.specs.DigestRows.{key_digest_row};
 
-use crate::parameter::characters;
 use crate::rows::{all_of, cell_of, column_of, first_of};
 use ach_fields::Id;
 use bank_days::Day;
 use desk_history::Identity;
-use desk_records::{FromRow, read_digest};
+use desk_records::{FromRow, characters, read_digest};
 use desk_rules::{Company, RuleDay};
 use sqlite::{Alter, Connection, Error, Row};
 use std::alloc::Global;

@@ -9,12 +9,13 @@ ghost use Rattle.desk_records.specs.Layout.{desk_layout};
 ghost use Rattle.desk_records.specs.TableReads.{is_of, is_open_of, is_waiting_of, is_retry_of, heads_in, head_under, order_in, facts_in, last_order, authorized_in};
 ghost use Rattle.desk_queries.specs.Waiting.{by_head_order, is_settled_of};
 
-use crate::parameter::{characters, natural, number_of};
 use crate::rows::{all_of, cell_of, first_of};
 use crate::waiting::first_that_wait;
 use ach_fields::{Id, Ref};
 use bank_days::Day;
-use desk_records::{OrderAndSettlement, SubmissionFacts, SubmissionHead};
+use desk_records::{
+    OrderAndSettlement, SubmissionFacts, SubmissionHead, characters, natural, number_of,
+};
 use sqlite::{Alter, Connection, Error};
 use std::alloc::Global;
 

@@ -1,7 +1,7 @@
 //! The sums of an account.
 ghost use Rattle.std.specs.Prelude.{◌≡◌, map, IfOk};
 ghost use Rattle.sqlite.specs.Held.{state};
-ghost use Rattle.desk_read_laws.specs.Composed.{day_sums_in};
+ghost use Rattle.desk_records.specs.Composed.{day_sums_in};
 ghost use Rattle.desk_reads.specs.Answers.{Answers};
 
 use crate::fault::or_unavailable;

@@ -11,8 +11,7 @@ ghost use Rattle.desk_rules.specs.declared.rules.entry_fact.EntryFact.{EntryFact
 use crate::each::{ItemRead, joined, read_each};
 use crate::fault::or_unavailable;
 use desk_queries::{amounts_of, returns};
-use desk_read_laws::facts_from;
-use desk_records::SubmissionHead;
+use desk_records::{SubmissionHead, facts_from};
 use desk_rules::{Direction, EntryFact};
 use desk_store::StoreFault;
 use sqlite::{Alter, Connection};

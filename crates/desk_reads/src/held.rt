@@ -2,7 +2,7 @@
 ghost use Rattle.std.specs.Prelude.{◌≡◌, List};
 ghost use Rattle.sqlite.specs.Held.{state};
 ghost use Rattle.desk_book.specs.declared.held_submission.HeldSubmission.{HeldSubmission};
-ghost use Rattle.desk_read_laws.specs.Composed.{original_in, held_in, waiting_of_in, waiting_in};
+ghost use Rattle.desk_records.specs.Composed.{original_in, held_in, waiting_of_in, waiting_in};
 ghost use Rattle.desk_records.specs.TableReads.{whole_row};
 ghost use Rattle.desk_reads.specs.Answers.{Answers, Learns};
 

@@ -3,7 +3,7 @@ ghost use Rattle.std.specs.Prelude.{◌≡◌, Option, Some, map};
 ghost use Rattle.sqlite.specs.Held.{state};
 ghost use Rattle.desk_history.specs.declared.reports.ChangeRow.{ChangeRow};
 ghost use Rattle.desk_history.specs.declared.reports.ReturnRow.{ReturnRow};
-ghost use Rattle.desk_read_laws.specs.Composed.{return_row_of, change_row_of, return_row_in, change_row_in};
+ghost use Rattle.desk_records.specs.Composed.{return_row_of, change_row_of, return_row_in, change_row_in};
 ghost use Rattle.desk_records.specs.TableReads.{return_lines_in, change_lines_in};
 ghost use Rattle.desk_reads.specs.Answers.{Answers, Learns};
 ghost use Rattle.desk_reads.specs.ItemsFound.{AreItemsOf};

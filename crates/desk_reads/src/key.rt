@@ -1,7 +1,7 @@
 //! The digests of keys.
 ghost use Rattle.std.specs.Prelude.{◌≡◌};
 ghost use Rattle.sqlite.specs.Held.{state};
-ghost use Rattle.desk_read_laws.specs.Composed.{key_in};
+ghost use Rattle.desk_records.specs.Composed.{key_in};
 ghost use Rattle.desk_reads.specs.Answers.{Answers};
 
 use crate::fault::or_unavailable;

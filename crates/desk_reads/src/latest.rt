@@ -2,7 +2,7 @@
 ghost use Rattle.std.specs.Prelude.{◌≡◌, ℕ, Option, filter_map, max, option_and_then};
 ghost use Rattle.std.specs.List.{reduce};
 ghost use Rattle.sqlite.specs.Held.{state};
-ghost use Rattle.desk_read_laws.specs.Composed.{settled_at, latest_in};
+ghost use Rattle.desk_records.specs.Composed.{settled_at, latest_in};
 ghost use Rattle.desk_records.specs.TableReads.{facts_in};
 ghost use Rattle.desk_reads.specs.Answers.{Answers, Learns};
 

@@ -2,7 +2,7 @@
 ghost use Rattle.std.specs.Prelude.{◌≡◌, true, option_map};
 ghost use Rattle.sqlite.specs.Held.{state};
 ghost use Rattle.ach_fields.specs.Trace.{is_trace};
-ghost use Rattle.desk_read_laws.specs.Composed.{sent_entry_of, sent_with, sent_at, sent_in};
+ghost use Rattle.desk_records.specs.Composed.{sent_entry_of, sent_with, sent_at, sent_in};
 ghost use Rattle.desk_records.specs.TableReads.{facts_in};
 ghost use Rattle.desk_reads.specs.Answers.{Answers};
 ghost use Rattle.desk_reads.specs.TracedEntries.{IsSentAs};

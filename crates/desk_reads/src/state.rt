@@ -1,14 +1,13 @@
 //! The state of one entry.
 ghost use Rattle.std.specs.Prelude.{◌≡◌, ◌+◌, ◌-◌};
 ghost use Rattle.sqlite.specs.Held.{state};
-ghost use Rattle.desk_read_laws.specs.Composed.{state_in, state_under_in};
+ghost use Rattle.desk_records.specs.Composed.{state_in, state_under_in};
 ghost use Rattle.desk_reads.specs.Answers.{Answers};
 
 use crate::fault::or_unavailable;
 use ach_fields::{Id, Ref};
 use desk_queries::{entry, entry_return, submission};
-use desk_read_laws::entry_state;
-use desk_records::SubmissionHead;
+use desk_records::{SubmissionHead, entry_state};
 use desk_rules::EntryState;
 use desk_store::StoreFault;
 use sqlite::{Alter, Connection};

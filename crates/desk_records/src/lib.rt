@@ -6,12 +6,16 @@
 #![tactic(auto)]
 
 mod column;
+mod parts;
 mod records;
 mod row;
 
 pub use column::{
-    FromColumn, read_column, read_digest, read_number, read_ordinal, read_text_or_empty,
+    AccountText, FromColumn, account_text, cause, characters, date, direction, line_reference,
+    natural, number_of, optional_text, read_column, read_digest, read_number, read_ordinal,
+    read_text_or_empty, reason, savings, switch,
 };
+pub use parts::{entry_state, facts_from, row_from};
 pub use records::{
     AuthorizationRecord, BalanceRecord, ChangeRecord, DeskRecord, EntryRecord, NumberRecord,
     PostingRecord, ReturnRecord, SubmissionRecord, SuspenseRecord,

@@ -8,12 +8,10 @@ ghost use Rattle.desk_records.specs.Layout.{desk_layout};
 ghost use Rattle.desk_records.specs.TableEdits.{put_lines_edit};
 ghost use Rattle.desk_edits.specs.LineEdits.{put_posting_edit};
 
-use crate::account_lines::accounts::{AccountText, account_text};
 use crate::account_lines::pending::add_lines;
 use crate::numbering::{NumberedTable, next_after};
-use crate::parameters::{cause, line_reference};
 use desk_accounts::Posting;
-use desk_queries::{characters, date, natural};
+use desk_records::{AccountText, account_text, cause, characters, date, line_reference, natural};
 use sql_statements::{RowBody, execute, number, run_each};
 use sqlite::{Alter, Error, Transaction};
 

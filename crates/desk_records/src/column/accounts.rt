@@ -9,10 +9,10 @@ use desk_accounts::Account;
 const MOST_CHARACTERS: usize = 12;
 
 /// An `AccountText` has the characters of the text of an account.
-pub(crate) type AccountText = ArrayVec<u8, MOST_CHARACTERS>;
+pub type AccountText = ArrayVec<u8, MOST_CHARACTERS>;
 
 /// Gives the text of an account.
-pub(crate) fn account_text(account: &Account) -> AccountText
+pub fn account_text(account: &Account) -> AccountText
     ensures { result.items ≡ text_of account.now }
 {
     let mut text = ArrayVec::new();

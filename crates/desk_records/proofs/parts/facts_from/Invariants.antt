@@ -1,6 +1,6 @@
 use Rattle.std.proofs.Common.{◌≡◌, take, map}
-use Rattle.desk_read_laws.specs.Composed.{fact_among}
-use Rattle.desk_read_laws.proofs.parts.facts_from.Given as goal
+use Rattle.desk_records.specs.Composed.{fact_among}
+use Rattle.desk_records.proofs.parts.facts_from.Given as goal
 
 abbrev pub invariant-loop-amount : goal.invariant-loop-amount
 invariant-loop-amount l = record {

@@ -1,13 +1,15 @@
 //! Rows of a book are assembled of the parts that queries find.
 ghost use Rattle.std.specs.Prelude.{◌≡◌, ◌==◌, ◌∷◌, map, find, option_map, IfOk};
 ghost use Rattle.desk_records.specs.Encodes.{unless_lapsed};
-ghost use Rattle.desk_read_laws.specs.Composed.{fact_among};
+ghost use Rattle.desk_records.specs.Composed.{fact_among};
 ghost use Rattle.desk_records.specs.RowParts.{state_with, state_among, content_of, retry_with, row_of_parts};
 
+use crate::row::entries::{EntryAmount, NumberedEntry};
+use crate::row::items::EntryReturn;
+use crate::row::submissions::SubmissionHead;
 use bank_days::Day;
 use desk_book::Row;
 use desk_history::ListOf;
-use desk_records::{EntryAmount, EntryReturn, NumberedEntry, SubmissionHead};
 use desk_rules::{Entries, EntryFact, EntryState, Retry, SizedSubmission, Submission};
 use desk_store::StoreFault;
 use std::alloc::{AllocError, Global};
