@@ -8,8 +8,8 @@ use Rattle.desk_records.specs.Tables.{Tables}
 
 -- UPDATE entries SET seq = ? WHERE company = ? AND ord = ? AND idx = ? AND seq IS NULL
 abbrev pub mark_entry_edit : (place : ℕ) → SentEntry → Edit Tables
-mark_entry_edit place e = record { after = λ t. record t { entries = mark_entry place e t.entries }; Tells = IsUnsent e }
+mark_entry_edit n e = record { after = λ t. record t { entries = mark_entry n e t.entries }; Tells = IsUnsent e }
 
 -- INSERT INTO numbers .. ON CONFLICT (sequence) DO UPDATE SET nth = ?
 abbrev pub put_number_edit : (sequence : ℕ) → (place : ℕ) → Edit Tables
-put_number_edit s place = record { after = λ t. record t { numbers = with_number s place t.numbers }; Tells = λ _. ⊤ }
+put_number_edit s n = record { after = λ t. record t { numbers = with_number s n t.numbers }; Tells = λ _. ⊤ }

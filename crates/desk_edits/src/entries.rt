@@ -6,8 +6,9 @@ ghost use Rattle.desk_records.specs.TableEdits.{put_entry_edit};
 ghost use Rattle.desk_edits.specs.EntryEdits.{held_entry, held_rows, stored_values};
 
 use crate::batches::BatchBody;
+use crate::parameters::{optional_text, savings, switch};
 use ach_fields::Id;
-use desk_records::{characters, optional_text, savings, switch};
+use desk_queries::characters;
 use desk_rules::Entry;
 use sql_statements::{RowBody, execute, number};
 use sqlite::types::ValueRef;

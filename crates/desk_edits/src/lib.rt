@@ -14,6 +14,7 @@ mod cut;
 mod entries;
 mod intake;
 mod numbering;
+mod parameters;
 mod registry;
 mod submissions;
 

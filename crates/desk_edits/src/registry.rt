@@ -9,7 +9,7 @@ ghost use Rattle.desk_edits.specs.HolidayEdits.{clear_holidays_edit, put_holiday
 
 use ach_fields::Id;
 use bank_days::{Calendar, Day};
-use desk_records::{characters, date, natural};
+use desk_queries::{characters, date, natural};
 use desk_rules::{Company, Limits, RuleDay};
 use sql_statements::{RowBody, TransactionBody, blob, execute, run_each};
 use sqlite::{Alter, Error, Transaction};

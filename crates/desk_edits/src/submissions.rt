@@ -13,9 +13,10 @@ ghost use Rattle.desk_records.specs.TableEdits.{add_submission_edit, put_submiss
 
 use crate::batches::run_batches;
 use crate::entries::EntryRows;
+use crate::parameters::{direction, switch};
 use ach_fields::{Id, Ref};
 use bank_days::Day;
-use desk_records::{characters, date, direction, natural, switch};
+use desk_queries::{characters, date, natural};
 use desk_rules::{Retry, RuleDay, SizedSubmission, Submission};
 use sql_statements::{TransactionBody, execute};
 use sqlite::types::ValueRef;

@@ -15,6 +15,7 @@ mod rows;
 mod submissions;
 mod waiting;
 
+pub use desk_records::{characters, date, natural};
 pub use entries::{
     amounts_of, cents_of, entries_of, entry, last_number, place, places, sent_entry,
 };

@@ -22,10 +22,7 @@ pub use accounts::{AccountText, account_text};
 pub(crate) use fields::read_line_reference;
 pub use fields::{read_digest, read_text_or_empty};
 pub use numbers::{read_number, read_ordinal};
-pub use stored_values::{
-    cause, characters, date, direction, line_reference, natural, number_of, optional_text, reason,
-    savings, switch,
-};
+pub use stored_values::{characters, date, natural, number_of};
 
 /// A `FromColumn` is a value that a column stores.
 pub trait FromColumn: Sized + Drop {

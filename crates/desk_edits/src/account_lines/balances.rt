@@ -6,10 +6,11 @@ ghost use Rattle.sql_statements.specs.Transactions.{Makes};
 ghost use Rattle.desk_records.specs.Layout.{desk_layout};
 ghost use Rattle.desk_edits.specs.LineEdits.{put_balance_edit, sum_is};
 
+use crate::account_lines::accounts::account_text;
 use crate::cell::cell_inside;
 use bank_days::Day;
 use desk_accounts::Account;
-use desk_records::{account_text, characters, date};
+use desk_queries::{characters, date};
 use itoa::Buffer;
 use sql_statements::execute;
 use sqlite::{Alter, Error, Transaction};

@@ -8,10 +8,12 @@ ghost use Rattle.desk_records.specs.Layout.{desk_layout};
 ghost use Rattle.desk_records.specs.TableEdits.{put_lines_edit};
 ghost use Rattle.desk_edits.specs.LineEdits.{put_posting_edit};
 
+use crate::account_lines::accounts::{AccountText, account_text};
 use crate::account_lines::pending::add_lines;
 use crate::numbering::{NumberedTable, next_after};
+use crate::parameters::{cause, line_reference};
 use desk_accounts::Posting;
-use desk_records::{AccountText, account_text, cause, characters, date, line_reference, natural};
+use desk_queries::{characters, date, natural};
 use sql_statements::{RowBody, execute, number, run_each};
 use sqlite::{Alter, Error, Transaction};
 
@@ -76,13 +78,13 @@ fn put_posting<S: Alter>(tx: &mut Transaction<'_, S>, row: &PostingRow) -> Resul
     ensures keeps { HasCleanDisk (state S.Store tx.new.conn.now) → KeepsCommit (state S.Store tx.old.conn.now) (state S.Store tx.new.conn.now) }
     ensures survives { Survives (state S.Store tx.old.conn.now) (state S.Store tx.new.conn.now) (λ _. ⊥) }
 {
-    let line_number = natural(row.number)?;
+    let nth = natural(row.number)?;
     let index = natural(row.posting.idx)?;
     execute(
         tx,
         "INSERT INTO postings VALUES (?1, ?2, ?3, ?4, ?5, ?6, ?7)",
         &[
-            line_number,
+            nth,
             characters(row.account.as_slice()),
             date(row.posting.value_day),
             number(row.posting.cents),

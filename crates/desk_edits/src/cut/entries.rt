@@ -9,7 +9,7 @@ ghost use Rattle.desk_edits.specs.PlaceEdits.{mark_entry_edit, put_number_edit};
 
 use ach_fields::MOST_SEQUENCE;
 use desk_history::SentEntry;
-use desk_records::{characters, natural};
+use desk_queries::{characters, natural};
 use sql_statements::{RowBody, execute, execute_one};
 use sqlite::{Alter, Error, Transaction};
 

@@ -3,7 +3,7 @@ ghost use Rattle.desk_records.specs.Layout.{desk_layout};
 ghost use Rattle.desk_records.specs.TableEdits.{put_file_edit};
 
 use desk_book::FileRow;
-use desk_records::{characters, date};
+use desk_queries::{characters, date};
 use sql_statements::{RowBody, blob, execute};
 use sqlite::{Alter, Error, Transaction};
 

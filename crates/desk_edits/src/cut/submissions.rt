@@ -3,7 +3,7 @@ ghost use Rattle.desk_records.specs.Layout.{desk_layout};
 ghost use Rattle.desk_records.specs.TableEdits.{send_edit, lapse_edit};
 
 use desk_book::{LapsedRow, SentRow};
-use desk_records::{characters, date, natural};
+use desk_queries::{characters, date, natural};
 use sql_statements::{RowBody, execute_one};
 use sqlite::{Alter, Error, Transaction};
 

@@ -10,7 +10,8 @@ ghost use Rattle.desk_edits.specs.RowEdits.{insert_change_edit};
 use crate::intake::orders::order_under;
 use crate::numbering::{NumberedTable, next_after};
 use desk_book::ChangedRow;
-use desk_records::{ChangeRecord, characters, date, natural};
+use desk_queries::{characters, date, natural};
+use desk_records::ChangeRecord;
 use sql_statements::{RowBody, execute, run_each};
 use sqlite::{Alter, Error, Transaction};
 

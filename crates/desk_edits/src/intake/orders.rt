@@ -7,7 +7,8 @@ ghost use Rattle.desk_records.specs.Layout.{desk_layout};
 ghost use Rattle.desk_edits.specs.RowEdits.{find_order};
 
 use ach_fields::{Id, Ref};
-use desk_records::{FromRow, OrderAndSettlement, characters};
+use desk_queries::characters;
+use desk_records::{FromRow, OrderAndSettlement};
 use sql_statements::query_first_inside;
 use sqlite::{Alter, Error, Transaction};
 

@@ -10,8 +10,10 @@ ghost use Rattle.desk_edits.specs.RowEdits.{insert_return_edit};
 
 use crate::intake::orders::order_under;
 use crate::numbering::{NumberedTable, next_after};
+use crate::parameters::switch;
 use desk_book::ReturnedRow;
-use desk_records::{ReturnRecord, characters, date, natural, switch};
+use desk_queries::{characters, date, natural};
+use desk_records::ReturnRecord;
 use sql_statements::{RowBody, execute, run_each};
 use sqlite::{Alter, Error, Transaction};
 

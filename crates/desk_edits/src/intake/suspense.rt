@@ -7,8 +7,9 @@ ghost use Rattle.desk_records.specs.Layout.{desk_layout};
 ghost use Rattle.desk_records.specs.TableEdits.{put_suspense_edit, each_edit_on, next_number};
 
 use crate::numbering::{NumberedTable, next_after};
+use crate::parameters::reason;
 use desk_history::SuspenseRow;
-use desk_records::{characters, date, natural, reason};
+use desk_queries::{characters, date, natural};
 use sql_statements::{RowBody, execute, run_each};
 use sqlite::{Alter, Error, Transaction};
 

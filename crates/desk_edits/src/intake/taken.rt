@@ -7,7 +7,7 @@ ghost use Rattle.desk_records.specs.Layout.{desk_layout};
 ghost use Rattle.desk_records.specs.TableEdits.{put_taken_edit};
 
 use desk_history::TakenFile;
-use desk_records::{characters, date, natural};
+use desk_queries::{characters, date, natural};
 use sql_statements::{blob, execute};
 use sqlite::{Alter, Error, Transaction};
 

@@ -13,5 +13,5 @@ returns-clause-makes g c clean =
     let new = state g.S.Store c.execute.new.tx.conn.now in
     let row = c.args.row.now in
     let whole : to_z w64 (of_z w64 row.posting.cents) ≡ row.posting.cents = search rules in
-    let ran = rw (c.in_ok-line_number.ensures, c.characters.ensures, c.as_slice.ensures.value, c.requires, c.date.ensures, c.number.ensures, whole, c.cause.ensures, c.line_reference.ensures, c.in_ok-index.ensures) at (c.in_ok-execute.ensures.ran clean) in
+    let ran = rw (c.in_ok-nth.ensures, c.characters.ensures, c.as_slice.ensures.value, c.requires, c.date.ensures, c.number.ensures, whole, c.cause.ensures, c.line_reference.ensures, c.in_ok-index.ensures) at (c.in_ok-execute.ensures.ran clean) in
     makes_of desk_layout (put_posting_edit row.number row.posting) old new (c.in_ok-execute.ensures.shown clean) (λ t h. (posting_put (record { number = row.number; posting = row.posting }) old new c.in_ok-execute.field-0 ran t h, tt))
