@@ -26,7 +26,8 @@ pub fn migrate_by_file<S: Start, W: Write>(
     start: S,
     writer: &mut W,
 ) -> (Status, Option<Connection<FileStore<FileFrom<S>>>>)
-    ensures migrated { IfSome result.1 (λ c. HasCleanDisk (file_state c) → IsMigratedIn (image_at S.Start) c) }
+    ensures migrated { IfSome result.1
+        (λ c. HasCleanDisk (file_state c) → IsMigratedIn (image_at S.Start) c) }
     ensures answered { result.0 ≢ Status.Failed → MatchOption result.1
         (SaysUnmigrated (W.contents writer.old) (W.contents writer.new) result.0)
         (λ _. SaysMigrated (W.contents writer.old) (W.contents writer.new) result.0) }

@@ -97,7 +97,8 @@ fn command_by_name<'a>(alloc: Global, words: &'a [&'a str]) -> Result<Command<'a
 }
 
 fn check_command<'a>(alloc: Global, words: &'a [&'a str]) -> Result<Command<'a>, LineFault>
-    ensures { Gives (named_check (map (λ w. w.now) words.now)) (fault_of check_app (map (λ w. w.now) words.now)) result }
+    ensures { Gives (named_check (map (λ w. w.now) words.now))
+        (fault_of check_app (map (λ w. w.now) words.now)) result }
 {
     match check_matches(alloc, words) {
         Ok(matches) => Ok(Command::Check(argument_text(&matches, "FILE"))),
@@ -106,7 +107,8 @@ fn check_command<'a>(alloc: Global, words: &'a [&'a str]) -> Result<Command<'a>,
 }
 
 fn submit_command<'a>(alloc: Global, words: &'a [&'a str]) -> Result<Command<'a>, LineFault>
-    ensures { Gives (named_submit (map (λ w. w.now) words.now)) (fault_of submit_app (map (λ w. w.now) words.now)) result }
+    ensures { Gives (named_submit (map (λ w. w.now) words.now))
+        (fault_of submit_app (map (λ w. w.now) words.now)) result }
 {
     match submit_matches(alloc, words) {
         Ok(matches) => {

@@ -124,7 +124,8 @@ pub fn add_argument<'a>(
     id: &'a str,
     help: &'a str,
 ) -> Result<ClapCommand<'a>, AllocError>
-    ensures { IfOk result (λ more. app_of more ≡ with_rule (app_of command.entry) (required_argument id.now)) }
+    ensures { IfOk result
+        (λ more. app_of more ≡ with_rule (app_of command.entry) (required_argument id.now)) }
 {
     let argument = Arg::new(alloc, id)
         .required(true)
@@ -142,7 +143,8 @@ pub fn add_option<'a>(
     name: &'a str,
     help: &'a str,
 ) -> Result<ClapCommand<'a>, AllocError>
-    ensures { IfOk result (λ more. app_of more ≡ with_rule (app_of command.entry) (required_option id.now name.now)) }
+    ensures { IfOk result
+        (λ more. app_of more ≡ with_rule (app_of command.entry) (required_option id.now name.now)) }
 {
     let option = Arg::new(alloc, id)
         .long(name)
@@ -160,7 +162,9 @@ pub fn add_options<'a>(
     command: ClapCommand<'a>,
     options: &[(&'static str, &'static str, &'static str)],
 ) -> Result<ClapCommand<'a>, AllocError>
-    ensures { IfOk result (λ more. app_of more ≡ with_options (app_of command.entry) (map (λ o. (o.0.now, o.1.now)) options.now)) }
+    ensures { IfOk result
+        (λ more. app_of more ≡ with_options (app_of command.entry)
+        (map (λ o. (o.0.now, o.1.now)) options.now)) }
 {
     let mut command = command;
     for option in options {

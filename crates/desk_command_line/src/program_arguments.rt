@@ -53,7 +53,9 @@ fn add_commands<'a>(
     program: ClapCommand<'a>,
     commands: &[(&'static str, &'static str)],
 ) -> Result<ClapCommand<'a>, AllocError>
-    ensures { IfOk result (λ more. app_of more ≡ fold with_command (app_of program.entry) (map (λ c. c.0.now) commands.now)) }
+    ensures { IfOk result
+        (λ more. app_of more ≡ fold with_command (app_of program.entry)
+        (map (λ c. c.0.now) commands.now)) }
 {
     let mut program = program;
     for command in commands {

@@ -23,7 +23,8 @@ pub fn serve_remembering<S: Store + Drop, W: Write>(
     writer: &mut W,
 ) -> (Status, S)
     ensures before { S.is_clean result.1 → S.is_clean store }
-    ensures served { HasServed IsAnswered (S.is_clean result.1) (StandsBehind (S.holds store)) (StandsBehind (S.holds result.1)) }
+    ensures served { HasServed IsAnswered (S.is_clean result.1) (StandsBehind (S.holds store))
+        (StandsBehind (S.holds result.1)) }
     ensures answered { result.0 ≢ Status.Failed →
         HasServedConnections options.port (W.contents writer.old) (W.contents writer.new) result.0 }
     ensures failed { result.0 ≡ Status.Failed →

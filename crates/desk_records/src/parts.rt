@@ -57,7 +57,8 @@ fn states_of(
     entries: &[NumberedEntry],
     returns: &[EntryReturn],
 ) -> Result<Vec<EntryState>, AllocError>
-    ensures { IfOk result (λ states. states.items ≡ map (λ e. state_among head.now returns.now e.index) entries.now) }
+    ensures { IfOk result
+        (λ states. states.items ≡ map (λ e. state_among head.now returns.now e.index) entries.now) }
 {
     let mut states = Vec::new(alloc);
     for entry in entries {
@@ -115,7 +116,8 @@ pub fn facts_from(
     amounts: &[EntryAmount],
     returns: &[EntryReturn],
 ) -> Result<Vec<EntryFact>, AllocError>
-    ensures { IfOk result (λ facts. facts.items ≡ map (fact_among head.now returns.now) amounts.now) }
+    ensures { IfOk result
+        (λ facts. facts.items ≡ map (fact_among head.now returns.now) amounts.now) }
 {
     let debit = head.direction.is_debit();
     let mut facts = Vec::new(alloc);

@@ -14,9 +14,13 @@ pub(crate) fn write<S: Alter, B: TransactionBody>(
     conn: &mut Connection<S>,
     body: &B,
 ) -> Result<(), StoreFault>
-    ensures done { HasCleanDisk (state S.Store conn.new) → OnOk result (Commits B.TransactionBody.layout (B.TransactionBody.edit body.now) (state S.Store conn.old) (state S.Store conn.new)) }
-    ensures undone { HasCleanDisk (state S.Store conn.new) → OnErr result (Stays (state S.Store conn.old) (state S.Store conn.new)) }
-    ensures survives { Survives (state S.Store conn.old) (state S.Store conn.new) (Leaves B.TransactionBody.layout (B.TransactionBody.edit body.now) (state S.Store conn.old)) }
+    ensures done { HasCleanDisk (state S.Store conn.new) →
+        OnOk result (Commits B.TransactionBody.layout (B.TransactionBody.edit body.now)
+        (state S.Store conn.old) (state S.Store conn.new)) }
+    ensures undone { HasCleanDisk (state S.Store conn.new) →
+        OnErr result (Stays (state S.Store conn.old) (state S.Store conn.new)) }
+    ensures survives { Survives (state S.Store conn.old) (state S.Store conn.new) (Leaves
+        B.TransactionBody.layout (B.TransactionBody.edit body.now) (state S.Store conn.old)) }
 {
     match commit(conn, body) {
         Ok(()) => Ok(()),
