@@ -85,7 +85,8 @@ fn return_or_change(kind: Kind, text: &[u8; 94]) -> ReturnOrChange
 
 #[tactic(auto, unfolding(crate::specs::Facts::facts_from))]
 fn facts(batch: &OpenBatch, entry: &PendingEntry, kind: Kind, text: &[u8; 94]) -> ItemFacts
-    ensures { result ≡ facts_from batch.now.sec entry.now.transaction_code entry.now.cents kind text.now }
+    ensures { result ≡ facts_from batch.now.sec entry.now.transaction_code entry.now.cents kind
+        text.now }
 {
     ItemFacts {
         sec_code: batch.sec,

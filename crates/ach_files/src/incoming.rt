@@ -98,7 +98,8 @@ impl<'a> Incoming<'a> {
         ensures read { MatchResult result
             (λ incoming. (incoming.bytes ≡ bytes.now) × IsReadAs bytes.now incoming.facts)
             (λ f. Tells f (fault bytes.now)) }
-        ensures memory { IfErr result (λ f. f ≡ fault_at 0 faults.NoMemory → RunsOut 0 [] bytes.now) }
+        ensures memory { IfErr result
+            (λ f. f ≡ fault_at 0 faults.NoMemory → RunsOut 0 [] bytes.now) }
     {
         let mut reader = Reader::new(alloc);
         reader.feed(bytes)?;

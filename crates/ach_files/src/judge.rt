@@ -107,7 +107,8 @@ fn file_control_sums(text: &[u8; 94]) -> Sums
 fn file_control_fault(so_far: &BatchesSoFar, number: u32, text: &[u8; 94]) -> Option<FileFault>
     requires digits { has_digits kinds.FileControl text.now ≡ true }
     requires few { number ≤ most_bytes }
-    ensures { result ≡ control_fault (stages.BetweenBatches so_far.now) number kinds.FileControl text.now }
+    ensures { result ≡ control_fault
+        (stages.BetweenBatches so_far.now) number kinds.FileControl text.now }
 {
     if file_control_batches(text) != so_far.batches {
         return Some(FileFault::BadCount);

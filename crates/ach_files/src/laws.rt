@@ -27,12 +27,14 @@ pub fn one_file()
 
 /// The text of a file of good records is that file, where it isn't too long.
 pub fn printed_is_file()
-    ensures { (f : File) → AreRecords f → length (file_text f) ≤ most_bytes → IsFile (file_text f) f }
+    ensures { (f : File) → AreRecords f → length (file_text f) ≤ most_bytes →
+        IsFile (file_text f) f }
 {}
 
 /// A printed file of returns and changes is that file, where it isn't too long.
 pub fn returns_and_changes_are_read()
-    ensures { (o : Outgoing) → print_fault o ≡ None → AreReturnsAndChanges o → length (outgoing_text o) ≤ most_bytes → IsFile (outgoing_text o) (file_of o) }
+    ensures { (o : Outgoing) → print_fault o ≡ None → AreReturnsAndChanges o →
+        length (outgoing_text o) ≤ most_bytes → IsFile (outgoing_text o) (file_of o) }
 {}
 
 /// Where no fault is told, each row has a text, those of the controls too.
@@ -42,8 +44,11 @@ pub fn rows_have_texts()
 
 /// The key and what the items say are read again as they were given.
 pub fn facts_are_read_again()
-    ensures key { (o : Outgoing) → print_fault o ≡ None → header_key (file_of o).header ≡ outgoing_key o }
-    ensures facts { (o : Outgoing) → print_fault o ≡ None → AreReturnsAndChanges o → file_facts (file_of o) ≡ flat_map (λ b. map (outgoing_facts b.header.sec.now) b.entries.now) o.batches.now }
+    ensures key { (o : Outgoing) → print_fault o ≡ None →
+        header_key (file_of o).header ≡ outgoing_key o }
+    ensures facts { (o : Outgoing) → print_fault o ≡ None → AreReturnsAndChanges o →
+        file_facts (file_of o) ≡ flat_map (λ b. map (outgoing_facts b.header.sec.now) b.entries.now)
+        o.batches.now }
 {}
 
 /// The fillers are the fewest that make the number of records a multiple of ten.
@@ -54,10 +59,12 @@ pub fn fillers_are_few()
 
 /// A fault that is found among the first bytes is the fault of every input that begins with them.
 pub fn faults_stand()
-    ensures { (bytes rest : List ℕ) (f : Fault) → early_fault bytes ≡ Some f → fault (bytes ++ rest) ≡ Some f }
+    ensures { (bytes rest : List ℕ) (f : Fault) → early_fault bytes ≡ Some f →
+        fault (bytes ++ rest) ≡ Some f }
 {}
 
 /// More than 4,194,304 bytes have a fault, whatever they are, in the first 4,194,305.
 pub fn long_bytes_have_faults()
-    ensures { (bytes : List ℕ) → most_bytes < length bytes → (f : Fault) × (early_fault bytes ≡ Some f) }
+    ensures { (bytes : List ℕ) → most_bytes < length bytes →
+        (f : Fault) × (early_fault bytes ≡ Some f) }
 {}

@@ -68,7 +68,8 @@ pub fn step_of(position: Position, byte: u8) -> Step
 /// Numbers the record in which a byte stands that does this step after so many records.
 pub fn record_of(step: Step, records: u32) -> u32
     requires { records ≤ most_bytes }
-    ensures { (before : List (List ℕ)) (part : List ℕ) → records ≡ length before → result ≡ record_of before (move_of part step) }
+    ensures { (before : List (List ℕ)) (part : List ℕ) → records ≡ length before →
+        result ≡ record_of before (move_of part step) }
 {
     match step {
         Step::Put(_) => records + 1,
@@ -79,7 +80,8 @@ pub fn record_of(step: Step, records: u32) -> u32
 /// Did some bytes of a record come, and not all?
 #[tactic(auto, using(std::proofs::lemmas::Grind::common_steps))]
 pub fn is_inside(position: Position) -> bool
-    ensures { (part : List ℕ) → part_length position ≤ length part → result ≡ is_inside (place_of part position) }
+    ensures { (part : List ℕ) → part_length position ≤ length part →
+        result ≡ is_inside (place_of part position) }
 {
     match position {
         Position::InRecord(count) => count > 0,
@@ -90,7 +92,8 @@ pub fn is_inside(position: Position) -> bool
 /// May a record begin here?
 #[tactic(auto, using(std::proofs::lemmas::Grind::common_steps))]
 pub fn may_begin(position: Position) -> bool
-    ensures { (part : List ℕ) → part_length position ≤ length part → result ≡ may_begin (place_of part position) }
+    ensures { (part : List ℕ) → part_length position ≤ length part →
+        result ≡ may_begin (place_of part position) }
 {
     match position {
         Position::InRecord(count) => count == 0,

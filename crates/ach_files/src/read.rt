@@ -17,9 +17,12 @@ use std::alloc::Global;
 /// names the record in which that byte stands. Out of memory is `NoMemory`, in record 0.
 pub fn read_file(alloc: Global, bytes: &[u8]) -> Result<Incoming<'_>, Fault>
     // What is read is a file, and these are its items, key and digest.
-    ensures found { IfOk result (λ incoming. (incoming.bytes ≡ bytes.now) × IsReadAs bytes.now incoming.facts) }
+    ensures found { IfOk result
+        (λ incoming. (incoming.bytes ≡ bytes.now) × IsReadAs bytes.now incoming.facts) }
     // A file is read, unless memory runs out.
-    ensures only { (f : File) → IsFile bytes.now f → MatchResult result (λ incoming. incoming.facts ≡ facts_in f) (λ e. e ≡ fault_at 0 faults.NoMemory) }
+    ensures only { (f : File) → IsFile bytes.now f →
+        MatchResult result (λ incoming. incoming.facts ≡ facts_in f)
+        (λ e. e ≡ fault_at 0 faults.NoMemory) }
     // Else it's the fault at the first bad place.
     ensures told { IfErr result (λ e. Tells e (fault bytes.now)) }
     // Memory runs out only where an item needs it, before any fault.

@@ -45,8 +45,11 @@ impl Reader {
             (λ _. (early_fault (bytes ++ piece.now) ≡ None) × HasRead self.new (bytes ++ piece.now))
             (λ f. Tells f (early_fault (bytes ++ piece.now)) × HasFailed self.new) }
         // Memory runs out only where an item needs it, before any fault.
-        ensures memory { (bytes : List ℕ) → HasRead self.old bytes → IfErr result (λ f. f ≡ fault_at 0 faults.NoMemory → RunsOut (reader_room self.old) bytes piece.now) }
-        ensures failed { HasFailed self.old → (result ≡ Err (fault_at 0 faults.Failed)) × HasFailed self.new }
+        ensures memory { (bytes : List ℕ) → HasRead self.old bytes →
+            IfErr result
+            (λ f. f ≡ fault_at 0 faults.NoMemory → RunsOut (reader_room self.old) bytes piece.now) }
+        ensures failed { HasFailed self.old →
+            (result ≡ Err (fault_at 0 faults.Failed)) × HasFailed self.new }
         ensures nothing { piece.now ≡ [] → self.new ≡ self.old }
     {
         if self.state.is_none() {

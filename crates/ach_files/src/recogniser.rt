@@ -57,7 +57,8 @@ fn keep_item(facts: &mut Vec<ItemFacts>, item: Option<ItemFacts>) -> Result<(), 
 }
 
 fn digest_record(hasher: &mut Sha256, kind: Kind, text: &[u8; 94])
-    ensures { (m : List ℕ) → Holds256 hasher.old m → Holds256 hasher.new (m ++ digest_text kind text.now) }
+    ensures { (m : List ℕ) → Holds256 hasher.old m →
+        Holds256 hasher.new (m ++ digest_text kind text.now) }
 {
     match kind {
         Kind::Filler => {}
@@ -108,8 +109,12 @@ impl Recogniser {
         ensures records { (records : List (List ℕ)) → HasRecords self.old records → MatchResult result
             (λ _. (record_fault records self.old.part ≡ None) × HasRecords self.new (records ++ self.old.part ∷ []))
             (λ f. TellsKind f (record_fault records self.old.part)) }
-        ensures position { OnOk result ((self.new.position ≡ positions.AfterRecord) × (self.new.taken ≡ self.old.taken)) }
-        ensures memory { (records : List (List ℕ)) → HasRecords self.old records → IfErr result (λ f. f ≡ faults.NoMemory → (record_fault records self.old.part ≡ None) × (item_room self.old < items_in (records ++ self.old.part ∷ []))) }
+        ensures position { OnOk result
+            ((self.new.position ≡ positions.AfterRecord) × (self.new.taken ≡ self.old.taken)) }
+        ensures memory { (records : List (List ℕ)) → HasRecords self.old records →
+            IfErr result
+            (λ f. f ≡ faults.NoMemory → (record_fault records self.old.part ≡ None) ×
+            (item_room self.old < items_in (records ++ self.old.part ∷ []))) }
         ensures room { OnOk result (item_room self.old ≤ item_room self.new) }
     {
         let kind = kind_of(&self.part);
@@ -133,7 +138,11 @@ impl Recogniser {
             (λ _. (byte_fault l.records (take count self.old.part) byte ≡ None) × HasLayout self.new (layout_after_move l byte (Put (take count self.old.part))))
             (λ f. TellsKind f (byte_fault l.records (take count self.old.part) byte)) }
         ensures taken { OnOk result (self.new.taken ≡ self.old.taken) }
-        ensures memory { (l : Layout) → HasRecords self.old l.records → IfErr result (λ f. f ≡ faults.NoMemory → (byte_fault l.records (take count self.old.part) byte ≡ None) × (item_room self.old < items_in (layout_after_move l byte (Put (take count self.old.part))).records)) }
+        ensures memory { (l : Layout) → HasRecords self.old l.records →
+            IfErr result
+            (λ f. f ≡ faults.NoMemory →
+            (byte_fault l.records (take count self.old.part) byte ≡ None) × (item_room self.old <
+            items_in (layout_after_move l byte (Put (take count self.old.part))).records)) }
         ensures room { OnOk result (item_room self.old ≤ item_room self.new) }
     {
         if is_line_end(byte) {
@@ -156,7 +165,10 @@ impl Recogniser {
         ensures read { (l : Layout) (n : ℕ) → Has self.old l n → MatchResult result
             (λ _. (place_fault n l byte ≡ None) × Has self.new (next_layout l byte) (n + 1))
             (λ f. Tells f (place_fault n l byte)) }
-        ensures memory { (l : Layout) (n : ℕ) → Has self.old l n → IfErr result (λ f. f ≡ fault_at 0 faults.NoMemory → (place_fault n l byte ≡ None) × (item_room self.old < items_in (next_layout l byte).records)) }
+        ensures memory { (l : Layout) (n : ℕ) → Has self.old l n →
+            IfErr result
+            (λ f. f ≡ fault_at 0 faults.NoMemory → (place_fault n l byte ≡ None) ×
+            (item_room self.old < items_in (next_layout l byte).records)) }
         ensures room { OnOk result (item_room self.old ≤ item_room self.new) }
     {
         let step = step_of(self.position, byte);
@@ -192,7 +204,10 @@ impl Recogniser {
         ensures read { (bytes : List ℕ) → may_begin (layout bytes).place ≡ true → HasBytes self.old bytes → MatchResult result
             (λ _. HasBytes self.new (bytes ++ text.now))
             (λ f. Tells f (early_fault (bytes ++ text.now))) }
-        ensures memory { (bytes : List ℕ) → may_begin (layout bytes).place ≡ true → HasBytes self.old bytes → IfErr result (λ f. f ≡ fault_at 0 faults.NoMemory → (early_fault (bytes ++ text.now) ≡ None) × (item_room self.old < item_count (bytes ++ text.now))) }
+        ensures memory { (bytes : List ℕ) → may_begin (layout bytes).place ≡ true →
+            HasBytes self.old bytes → IfErr result
+            (λ f. f ≡ fault_at 0 faults.NoMemory → (early_fault (bytes ++ text.now) ≡ None) ×
+            (item_room self.old < item_count (bytes ++ text.now))) }
         ensures room { OnOk result (item_room self.old ≤ item_room self.new) }
     {
         self.part.copy_from_slice(text);
@@ -209,7 +224,8 @@ impl Recogniser {
         ensures whole { result ≡ true → 94 ≤ length bytes.now }
         ensures printable { result ≡ true → list_all is_printable (take 94 bytes.now) ≡ true }
         ensures room { result ≡ true → self.now.taken + 94 ≤ most_bytes }
-        ensures may_begin { result ≡ true → may_begin (place_of self.now.part self.now.position) ≡ true }
+        ensures may_begin { result ≡ true →
+            may_begin (place_of self.now.part self.now.position) ≡ true }
     {
         if bytes.len() < 94 || self.taken > MOST_BYTES - 94 || !may_begin(self.position) {
             return false;
@@ -224,7 +240,9 @@ impl Recogniser {
         ensures read { (seen : List ℕ) → HasBytes self.old seen → MatchResult result
             (λ count. HasBytes self.new (seen ++ take count bytes.now))
             (λ f. Tells f (early_fault (seen ++ bytes.now))) }
-        ensures memory { (seen : List ℕ) → HasBytes self.old seen → IfErr result (λ f. f ≡ fault_at 0 faults.NoMemory → RunsOut (item_room self.old) seen bytes.now) }
+        ensures memory { (seen : List ℕ) → HasBytes self.old seen →
+            IfErr result
+            (λ f. f ≡ fault_at 0 faults.NoMemory → RunsOut (item_room self.old) seen bytes.now) }
         ensures room { OnOk result (item_room self.old ≤ item_room self.new) }
     {
         if self.is_at_record(bytes) {
@@ -240,7 +258,9 @@ impl Recogniser {
         ensures read { (bytes : List ℕ) → HasBytes self.old bytes → MatchResult result
             (λ _. HasBytes self.new (bytes ++ piece.now))
             (λ f. Tells f (early_fault (bytes ++ piece.now))) }
-        ensures memory { (bytes : List ℕ) → HasBytes self.old bytes → IfErr result (λ f. f ≡ fault_at 0 faults.NoMemory → RunsOut (item_room self.old) bytes piece.now) }
+        ensures memory { (bytes : List ℕ) → HasBytes self.old bytes →
+            IfErr result
+            (λ f. f ≡ fault_at 0 faults.NoMemory → RunsOut (item_room self.old) bytes piece.now) }
     {
         let mut next = 0;
         while next < piece.len() {

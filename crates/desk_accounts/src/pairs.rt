@@ -45,7 +45,8 @@ pub fn post_return(
     reference: Ref,
     idx: u64,
 ) -> Option<[Posting; 2]>
-    ensures { result ≡ posting_pair cents (return_line company debit cents value_day reference idx) }
+    ensures { result ≡ posting_pair cents
+        (return_line company debit cents value_day reference idx) }
 {
     let returned = -cut_cents(debit, cents);
     let line = Posting {

@@ -9,8 +9,8 @@ use Rattle.desk_cli.specs.InitRuns.{AreGood, FailsToSayUncreated}
 use Rattle.desk_cli.specs.NewDesks.{FailsAs, IsMade}
 use Rattle.desk_cli.specs.OpenFaults.{fault_text, FailsToSayFault}
 use Rattle.desk_commands.specs.Printing.{with_line_feed}
-use Rattle.desk_cli.specs.declared.new_desk.InitFault.{InitFault}
-use Rattle.desk_cli.specs.declared.new_desk.InitFault.TheVariants.{File}
+use Rattle.desk_cli.specs.declared.init_file.InitFault.{InitFault}
+use Rattle.desk_cli.specs.declared.init_file.InitFault.TheVariants.{File}
 
 only_exists : (fault : OpenFault) (text : List ℕ) → (fault ≡ Exists) ⊎ (fault ≡ Unavailable) → fault_text fault ≡ Some text → text ≡ codes "Exists"
 only_exists fault text (inl exists) is = let known : Some text ≡ Some (codes "Exists") = sym is ∙ ap fault_text exists in cc

@@ -5,7 +5,7 @@ use Rattle.desk_command_line.specs.declared.command.Command.{Command}
 use Rattle.desk_command_line.specs.declared.command.Command.TheVariants.{AnswerByFile, AnswerMessages, AnswerSubmission, Check, Init, Migrate, Serve, Submit}
 use Rattle.desk_command_line.specs.declared.command.LineFault.{LineFault}
 use Rattle.desk_command_line.specs.declared.command.LineFault.TheVariants.{Help, Version, Usage, NoMemory}
-use Rattle.desk_command_line.specs.declared.version.TheConstants.{VERSION_LINE}
+use Rattle.desk_command_line.specs.declared.version_line.TheConstants.{VERSION_LINE}
 use Rattle.desk_submit.specs.Options.{texts_of}
 use Rattle.desk_commands.specs.FileChecks.{HasChecked, IsFailedCheck}
 use Rattle.desk_command_line.specs.InitOptions.{init_texts_of}

@@ -5,8 +5,8 @@ use Rattle.desk_history.specs.declared.identity.Identity.{Identity}
 use Rattle.desk_setup.specs.declared.fault.OpenFault.TheVariants.{Exists, Unavailable}
 use Rattle.desk_command_line.specs.InitOptions.{InitTexts}
 use Rattle.desk_commands.specs.NewIdentities.{identity_of}
-use Rattle.desk_cli.specs.declared.new_desk.InitFault.{InitFault}
-use Rattle.desk_cli.specs.declared.new_desk.InitFault.TheVariants.{Bad, File}
+use Rattle.desk_cli.specs.declared.init_file.InitFault.{InitFault}
+use Rattle.desk_cli.specs.declared.init_file.InitFault.TheVariants.{Bad, File}
 
 -- the options are good, and the desk is this bank's, with the digest of this key
 abbrev pub IsMade : InitTexts → (is_desk : Identity → (key : List ℕ) → Type 0) → Type 0

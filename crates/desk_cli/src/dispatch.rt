@@ -6,7 +6,7 @@ ghost use Rattle.desk_cli.specs.KeptRuns.{IsKeptIn};
 
 use crate::init_desk::make_desk;
 use crate::kept_session::answer_by_file;
-use crate::migrated_file::migrate_by_file;
+use crate::migrate_desk::migrate_by_file;
 use crate::served_file::serve_by_file;
 use desk_command_line::{Command, LineFault, VERSION_LINE};
 use desk_commands::{

@@ -8,7 +8,7 @@ ghost use Rattle.desk_command_line.specs.InitOptions.{init_texts_of};
 ghost use Rattle.desk_cli.specs.NewDesks.{IsMade};
 ghost use Rattle.desk_cli.specs.InitRuns.{SaysCreated, SaysUncreated, FailsToSayCreated, FailsToSayUncreated};
 
-use crate::new_desk::{InitFault, new_desk};
+use crate::init_file::{InitFault, new_desk};
 use crate::open_fault::print_open_fault;
 use desk_command_line::InitOptions;
 use desk_commands::{Status, print_line};

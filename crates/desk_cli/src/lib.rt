@@ -5,9 +5,9 @@
 
 mod dispatch;
 mod init_desk;
+mod init_file;
 mod kept_session;
-mod migrated_file;
-mod new_desk;
+mod migrate_desk;
 mod open_fault;
 mod program;
 mod served_file;
@@ -21,6 +21,6 @@ pub use desk_commands::{
 pub use dispatch::{print_line_fault, run, run_from};
 pub use init_desk::make_desk;
 pub use kept_session::answer_by_file;
-pub use migrated_file::migrate_by_file;
+pub use migrate_desk::migrate_by_file;
 pub use program::{run_program, run_words};
 pub use served_file::serve_by_file;

@@ -12,7 +12,8 @@ use std::io::Write;
 pub fn print_open_fault<W: Write>(alloc: Global, writer: &mut W, fault: OpenFault) -> Status
     ensures answered { result ≢ Status.Failed →
         SaysFault fault (W.contents writer.old) (W.contents writer.new) result }
-    ensures failed { result ≡ Status.Failed → FailsToSayFault fault (W.contents writer.old) (W.contents writer.new) }
+    ensures failed { result ≡ Status.Failed →
+        FailsToSayFault fault (W.contents writer.old) (W.contents writer.new) }
 {
     print_answer(writer, &fault_answer(alloc, fault), Tries::new())
 }
@@ -28,7 +29,8 @@ fn fault_answer(alloc: Global, fault: OpenFault) -> Option<(bool, Vec<u8>)>
 }
 
 fn fault_text(alloc: Global, fault: OpenFault) -> Option<Result<String, AllocError>>
-    ensures { IfSome result (λ text. IfOk text (λ text. fault_text fault ≡ Some (string_bytes text))) }
+    ensures { IfSome result
+        (λ text. IfOk text (λ text. fault_text fault ≡ Some (string_bytes text))) }
 {
     match fault {
         OpenFault::NotADesk => Some(String::from_str(alloc, "NotADesk")),

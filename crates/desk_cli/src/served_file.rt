@@ -60,7 +60,8 @@ fn serve_by_tables<P: Alter + Drop, W: Write>(
     writer: &mut W,
 ) -> (Status, Connection<P>)
     ensures before { HasCleanDisk (state P.Store result.1) → HasCleanDisk (state P.Store conn) }
-    ensures served { HasServed IsAnswered (HasCleanDisk (state P.Store result.1)) (StandsBehind (Sees (state P.Store conn))) (StandsBehind (Sees (state P.Store result.1))) }
+    ensures served { HasServed IsAnswered (HasCleanDisk (state P.Store result.1))
+        (StandsBehind (Sees (state P.Store conn))) (StandsBehind (Sees (state P.Store result.1))) }
     ensures answered { result.0 ≢ Status.Failed →
         HasServedConnections options.port (W.contents writer.old) (W.contents writer.new) result.0 }
     ensures failed { result.0 ≡ Status.Failed →

@@ -5,11 +5,11 @@ ghost use Rattle.desk_submit.specs.Options.{texts_of};
 ghost use Rattle.desk_command_line.specs.Arguments.{check_app, program_app, submit_app};
 ghost use Rattle.desk_command_line.specs.CommandLine.{Gives, GivesAt, GivesBy, IsFaultAmong, IsFaultOf, NamesNone, named_check, named_submit, options_in};
 
-use crate::argument_values::argument_text;
-use crate::arguments::{check_matches, submit_matches};
 use crate::desk_commands::{init_command, migrate_command, serve_command, stdio_command};
+use crate::given_values::argument_text;
 use crate::help_words::help_topic;
 use crate::init_options::InitOptions;
+use crate::plain_arguments::{check_matches, submit_matches};
 use crate::program_arguments::program_matches;
 use crate::serve_options::ServeOptions;
 use clap::error::ErrorKind;
@@ -97,7 +97,8 @@ fn command_by_name<'a>(alloc: Global, words: &'a [&'a str]) -> Result<Command<'a
 }
 
 fn check_command<'a>(alloc: Global, words: &'a [&'a str]) -> Result<Command<'a>, LineFault>
-    ensures { Gives (named_check (map (λ w. w.now) words.now)) (fault_of check_app (map (λ w. w.now) words.now)) result }
+    ensures { Gives (named_check (map (λ w. w.now) words.now))
+        (fault_of check_app (map (λ w. w.now) words.now)) result }
 {
     match check_matches(alloc, words) {
         Ok(matches) => Ok(Command::Check(argument_text(&matches, "FILE"))),
@@ -106,7 +107,8 @@ fn check_command<'a>(alloc: Global, words: &'a [&'a str]) -> Result<Command<'a>,
 }
 
 fn submit_command<'a>(alloc: Global, words: &'a [&'a str]) -> Result<Command<'a>, LineFault>
-    ensures { Gives (named_submit (map (λ w. w.now) words.now)) (fault_of submit_app (map (λ w. w.now) words.now)) result }
+    ensures { Gives (named_submit (map (λ w. w.now) words.now))
+        (fault_of submit_app (map (λ w. w.now) words.now)) result }
 {
     match submit_matches(alloc, words) {
         Ok(matches) => {

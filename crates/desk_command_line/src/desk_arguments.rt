@@ -4,7 +4,7 @@ ghost use Rattle.clap.specs.Words.{app_of, found_of, rows_of};
 ghost use Rattle.desk_command_line.specs.Arguments.{init_app, migrate_app, serve_app};
 ghost use Rattle.desk_command_line.specs.CommandLine.{HasConnections, HasPatience, HasPort, Parses};
 
-use crate::arguments::{HELP_REQUIRED, add_argument, add_options, new_command};
+use crate::plain_arguments::{HELP_REQUIRED, add_argument, add_options, new_command};
 use crate::serve_arguments::{connections_option, patience_option, port_argument};
 use clap::{ArgMatches, Command as ClapCommand, Error};
 use std::alloc::{AllocError, Global};

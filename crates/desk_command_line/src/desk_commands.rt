@@ -5,18 +5,19 @@ ghost use Rattle.desk_command_line.specs.InitOptions.{init_texts_of};
 ghost use Rattle.desk_command_line.specs.Arguments.{init_app, migrate_app, serve_app, stdio_app};
 ghost use Rattle.desk_command_line.specs.CommandLine.{Gives, HasConnections, HasPatience, HasPort, command_value, init_texts_in, named_init, named_migrate, named_serve, named_stdio, number_in, session_with};
 
-use crate::argument_values::{argument_text, connections_of, patience_of, port_of};
-use crate::arguments::stdio_matches;
 use crate::command::{Command, LineFault, line_fault};
 use crate::desk_arguments::{init_matches, migrate_matches, serve_matches};
+use crate::given_values::{argument_text, connections_of, patience_of, port_of};
 use crate::init_options::InitOptions;
+use crate::plain_arguments::stdio_matches;
 use crate::serve_options::ServeOptions;
 use clap::ArgMatches;
 use std::alloc::Global;
 
 /// Reads the words of `stdio [DB]`.
 pub fn stdio_command<'a>(alloc: Global, words: &'a [&'a str]) -> Result<Command<'a>, LineFault>
-    ensures { Gives (named_stdio (map (λ w. w.now) words.now)) (fault_of stdio_app (map (λ w. w.now) words.now)) result }
+    ensures { Gives (named_stdio (map (λ w. w.now) words.now))
+        (fault_of stdio_app (map (λ w. w.now) words.now)) result }
 {
     match stdio_matches(alloc, words) {
         Ok(matches) => Ok(session_with(matches.get_str("DB"))),
@@ -36,7 +37,8 @@ fn session_with<'a>(path: Option<&'a str>) -> Command<'a>
 
 /// Reads the words of `init DB` with its options.
 pub fn init_command<'a>(alloc: Global, words: &'a [&'a str]) -> Result<Command<'a>, LineFault>
-    ensures { Gives (named_init (map (λ w. w.now) words.now)) (fault_of init_app (map (λ w. w.now) words.now)) result }
+    ensures { Gives (named_init (map (λ w. w.now) words.now))
+        (fault_of init_app (map (λ w. w.now) words.now)) result }
 {
     match init_matches(alloc, words) {
         Ok(matches) => {
@@ -61,7 +63,8 @@ fn init_options<'a>(matches: &ArgMatches<'a>) -> InitOptions<'a>
 
 /// Reads the words of `serve DB PORT` with its options.
 pub fn serve_command<'a>(alloc: Global, words: &'a [&'a str]) -> Result<Command<'a>, LineFault>
-    ensures { Gives (named_serve (map (λ w. w.now) words.now)) (fault_of serve_app (map (λ w. w.now) words.now)) result }
+    ensures { Gives (named_serve (map (λ w. w.now) words.now))
+        (fault_of serve_app (map (λ w. w.now) words.now)) result }
 {
     match serve_matches(alloc, words) {
         Ok(matches) => {
@@ -77,8 +80,10 @@ fn serve_options(matches: &ArgMatches<'_>) -> ServeOptions
     requires connections { HasConnections (rows_of (found_of matches.now)) }
     requires patience { HasPatience (rows_of (found_of matches.now)) }
     ensures port { result.port ≡ number_in (codes "PORT") (rows_of (found_of matches.now)) }
-    ensures connections { result.connections ≡ number_in (codes "N") (rows_of (found_of matches.now)) }
-    ensures patience { result.patience ≡ number_in (codes "SECONDS") (rows_of (found_of matches.now)) }
+    ensures connections { result.connections ≡ number_in (codes "N")
+        (rows_of (found_of matches.now)) }
+    ensures patience { result.patience ≡ number_in (codes "SECONDS")
+        (rows_of (found_of matches.now)) }
 {
     ServeOptions {
         port: port_of(matches),
@@ -89,7 +94,8 @@ fn serve_options(matches: &ArgMatches<'_>) -> ServeOptions
 
 /// Reads the words of `migrate DB`.
 pub fn migrate_command<'a>(alloc: Global, words: &'a [&'a str]) -> Result<Command<'a>, LineFault>
-    ensures { Gives (named_migrate (map (λ w. w.now) words.now)) (fault_of migrate_app (map (λ w. w.now) words.now)) result }
+    ensures { Gives (named_migrate (map (λ w. w.now) words.now))
+        (fault_of migrate_app (map (λ w. w.now) words.now)) result }
 {
     match migrate_matches(alloc, words) {
         Ok(matches) => Ok(Command::Migrate(argument_text(&matches, "DB"))),

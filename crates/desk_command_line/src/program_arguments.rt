@@ -3,9 +3,9 @@ ghost use Rattle.std.specs.Prelude.{◌≡◌, fold, map, IfOk};
 ghost use Rattle.clap.specs.Words.{app_of, fault_of, FailsBy};
 ghost use Rattle.desk_command_line.specs.Arguments.{program_app, with_command};
 
-use crate::arguments::{ABOUT_CHECK, ABOUT_STDIO, ABOUT_SUBMIT};
 use crate::desk_arguments::{ABOUT_INIT, ABOUT_MIGRATE, ABOUT_SERVE};
-use crate::version::VERSION_LINE;
+use crate::plain_arguments::{ABOUT_CHECK, ABOUT_STDIO, ABOUT_SUBMIT};
+use crate::version_line::VERSION_LINE;
 use clap::{ArgMatches, Command as ClapCommand, Error};
 use std::alloc::{AllocError, Global};
 
@@ -53,7 +53,9 @@ fn add_commands<'a>(
     program: ClapCommand<'a>,
     commands: &[(&'static str, &'static str)],
 ) -> Result<ClapCommand<'a>, AllocError>
-    ensures { IfOk result (λ more. app_of more ≡ fold with_command (app_of program.entry) (map (λ c. c.0.now) commands.now)) }
+    ensures { IfOk result
+        (λ more. app_of more ≡ fold with_command (app_of program.entry)
+        (map (λ c. c.0.now) commands.now)) }
 {
     let mut program = program;
     for command in commands {

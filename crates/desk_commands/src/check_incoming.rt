@@ -31,8 +31,10 @@ pub fn check_file<R: Read + Drop, W: Write>(alloc: Global, reader: R, writer: &m
 
 /// Checks the incoming file at a path. Where it cannot be opened, `unavailable` is printed.
 pub fn check_path<W: Write>(rt: &HostRuntime, path: &str, writer: &mut W) -> Status
-    ensures answered { result ≢ Status.Failed → HasChecked None (W.contents writer.old) (W.contents writer.new) result }
-    ensures failed { result ≡ Status.Failed → IsFailedCheck None (W.contents writer.old) (W.contents writer.new) }
+    ensures answered { result ≢ Status.Failed →
+        HasChecked None (W.contents writer.old) (W.contents writer.new) result }
+    ensures failed { result ≡ Status.Failed →
+        IsFailedCheck None (W.contents writer.old) (W.contents writer.new) }
 {
     match File::open(rt, path) {
         Ok(file) => check_file(rt.alloc(), file, writer),

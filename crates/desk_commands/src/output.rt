@@ -68,7 +68,8 @@ pub fn print_answer<W: Write>(
 pub fn print_line<W: Write>(writer: &mut W, is_accepted: bool, line: &[u8]) -> Status
     ensures printed { result ≢ Status.Failed →
         PrintsAnswer (W.contents writer.old) (W.contents writer.new) (is_accepted, line.now) result }
-    ensures failed { result ≡ Status.Failed → AppendsPrefix (W.contents writer.old) (W.contents writer.new) line.now }
+    ensures failed { result ≡ Status.Failed →
+        AppendsPrefix (W.contents writer.old) (W.contents writer.new) line.now }
 {
     match write_line(writer, line, Tries::new()) {
         Ok(()) => status_of(is_accepted),

@@ -36,7 +36,8 @@ pub fn serve_by_store<S: Store + Drop, W: Write>(
     writer: &mut W,
 ) -> (Status, S)
     ensures before { S.is_clean result.1 → S.is_clean store }
-    ensures served { HasServed IsAnswered (S.is_clean result.1) (StandsBehind (S.holds store)) (StandsBehind (S.holds result.1)) }
+    ensures served { HasServed IsAnswered (S.is_clean result.1) (StandsBehind (S.holds store))
+        (StandsBehind (S.holds result.1)) }
     ensures answered { result.0 ≢ Status.Failed →
         HasServedConnections options.port (W.contents writer.old) (W.contents writer.new) result.0 }
     ensures failed { result.0 ≡ Status.Failed →
@@ -77,7 +78,8 @@ where
     L::Stream: Read + Write + OpenStream,
     requires unasked { IsUnasked listener.old }
     ensures before { D.is_clean desk.new → D.is_clean desk.old }
-    ensures served { HasServed D.step (D.is_clean desk.new) (D.stands_for desk.old) (D.stands_for desk.new) }
+    ensures served { HasServed D.step (D.is_clean desk.new) (D.stands_for desk.old)
+        (D.stands_for desk.new) }
     ensures answered { result ≢ Status.Failed →
         PrintsAnswer (W.contents writer.old) (W.contents writer.new) (true, line.now) result }
     ensures failed { result ≡ Status.Failed →

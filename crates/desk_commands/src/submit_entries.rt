@@ -60,7 +60,8 @@ fn input_answer<R: Read + Drop>(
     options: &SubmitOptions<'_>,
     reader: R,
 ) -> (Option<(bool, Vec<u8>)>, Tries)
-    ensures { IfSome result.0 (IsInputAnswer (list_answer (texts_of options.now)) (R.remaining reader)) }
+    ensures { IfSome result.0
+        (IsInputAnswer (list_answer (texts_of options.now)) (R.remaining reader)) }
 {
     let (list, tries) = read_input(alloc, reader);
     let Some(list) = list else {

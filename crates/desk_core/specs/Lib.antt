@@ -2,6 +2,7 @@ pub mod Alike
 pub mod Answering
 pub mod Applying
 pub mod Cutting
+pub mod OverStores
 pub mod Running
 pub mod Status
 pub mod Taking

@@ -1,7 +1,7 @@
 //! A caller is allowed by the digest of its key.
 ghost use Rattle.std.specs.Prelude.{◌≡◌, ◌↔◌, Some, IsTrue};
-ghost use Rattle.desk_store.specs.Words.{LeavesRead};
 ghost use Rattle.desk_core.specs.Answering.{Allows};
+ghost use Rattle.desk_core.specs.OverStores.{LeavesNoMore};
 
 use desk_book::Caller;
 use desk_store::{Store, StoreFault};
@@ -15,8 +15,9 @@ pub(crate) fn allow<S: Store>(
     digest: [u8; 32],
 ) -> Result<bool, StoreFault>
     ensures before { S.is_clean store.new → S.is_clean store.old }
-    ensures allows { S.is_clean store.new → Allows (S.holds store.old) result caller digest (S.holds store.new) }
-    ensures left { S.is_clean store.new → LeavesRead (S.may_leave store.old) (S.may_leave store.new) }
+    ensures allows { S.is_clean store.new →
+        Allows (S.holds store.old) result caller digest (S.holds store.new) }
+    ensures left { LeavesNoMore S.Store store.old store.new }
 {
     let key = store.key_of(alloc, caller)?;
     Ok(is_key(key, digest))

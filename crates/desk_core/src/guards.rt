@@ -2,7 +2,7 @@
 ghost use Rattle.desk_rules.specs.declared.refusals.refusal.Refusal.TheVariants.{NoCompany, NoDay};
 ghost use Rattle.desk_history.specs.Words.{some_or};
 ghost use Rattle.desk_book.specs.OnBook.{standing_in};
-ghost use Rattle.desk_store.specs.Words.{Reads, LeavesRead};
+ghost use Rattle.desk_core.specs.OverStores.{Gives, LeavesNoMore};
 
 use ach_fields::Id;
 use bank_days::Day;
@@ -17,8 +17,9 @@ pub(crate) fn company_limits<S: Store>(
     company: Id,
 ) -> Result<Result<Limits, Refusal>, StoreFault>
     ensures before { S.is_clean store.new → S.is_clean store.old }
-    ensures read { S.is_clean store.new → Reads (S.holds store.old) result (λ b. some_or NoCompany (standing_in b company).limits) (S.holds store.new) }
-    ensures left { S.is_clean store.new → LeavesRead (S.may_leave store.old) (S.may_leave store.new) }
+    ensures read { Gives S.Store store.old store.new result
+        (λ b. some_or NoCompany (standing_in b company).limits) }
+    ensures left { LeavesNoMore S.Store store.old store.new }
 {
     match store.company(alloc, company)? {
         Some(registered) => Ok(Ok(registered.limits)),
@@ -32,8 +33,8 @@ pub(crate) fn rule_day<S: Store>(
     alloc: Global,
 ) -> Result<Result<RuleDay, Refusal>, StoreFault>
     ensures before { S.is_clean store.new → S.is_clean store.old }
-    ensures read { S.is_clean store.new → Reads (S.holds store.old) result (λ b. some_or NoDay b.day) (S.holds store.new) }
-    ensures left { S.is_clean store.new → LeavesRead (S.may_leave store.old) (S.may_leave store.new) }
+    ensures read { Gives S.Store store.old store.new result (λ b. some_or NoDay b.day) }
+    ensures left { LeavesNoMore S.Store store.old store.new }
 {
     match store.day(alloc)? {
         Some(day) => Ok(Ok(day)),
@@ -47,8 +48,8 @@ pub(crate) fn desk_day<S: Store>(
     alloc: Global,
 ) -> Result<Result<Day, Refusal>, StoreFault>
     ensures before { S.is_clean store.new → S.is_clean store.old }
-    ensures read { S.is_clean store.new → Reads (S.holds store.old) result (λ b. some_or NoDay b.day) (S.holds store.new) }
-    ensures left { S.is_clean store.new → LeavesRead (S.may_leave store.old) (S.may_leave store.new) }
+    ensures read { Gives S.Store store.old store.new result (λ b. some_or NoDay b.day) }
+    ensures left { LeavesNoMore S.Store store.old store.new }
 {
     match rule_day(store, alloc)? {
         Ok(day) => Ok(Ok(day.day())),

@@ -21,9 +21,13 @@ pub(crate) fn respond<S: Store>(
     call: Call,
 ) -> Result<Answer, StoreFault>
     ensures before { S.is_clean store.new → S.is_clean store.old }
-    ensures answers { S.is_clean store.new → AnswersCall (S.holds store.old) call result (S.holds store.new) }
-    ensures left { S.is_clean store.new → LeavesMessage S.keeps (S.holds store.old) (S.may_leave store.old) call result (S.may_leave store.new) }
-    ensures read { S.is_clean store.new → IsReadCall call → LeavesRead (S.may_leave store.old) (S.may_leave store.new) }
+    ensures answers { S.is_clean store.new →
+        AnswersCall (S.holds store.old) call result (S.holds store.new) }
+    ensures left { S.is_clean store.new →
+        LeavesMessage S.keeps (S.holds store.old) (S.may_leave store.old) call result
+        (S.may_leave store.new) }
+    ensures read { S.is_clean store.new → IsReadCall call →
+        LeavesRead (S.may_leave store.old) (S.may_leave store.new) }
 {
     match call {
         Call::PutCompany(draft) => put_company(store, alloc, &draft),

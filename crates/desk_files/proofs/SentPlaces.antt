@@ -12,7 +12,7 @@ use Rattle.desk_records.specs.Beside.{AreApart, IsSentFrom}
 use Rattle.desk_records.specs.Encodes.{is_entry, entry_record, entry_records}
 use Rattle.desk_records.specs.TableReads.{is_place, is_at_place, is_since}
 use Rattle.desk_records.specs.declared.records.EntryRecord.{EntryRecord}
-use Rattle.desk_read_laws.proofs.Lists.{ascending_from_pairs}
+use Rattle.desk_records.proofs.Lists.{ascending_from_pairs}
 use Rattle.desk_read_laws.proofs.SentPlaces.{place_is}
 use Rattle.desk_files.specs.Migrated.{has_place, places_of}
 

@@ -84,7 +84,7 @@ abbrev pub sent_state : ℕ → Option TakenReturn → EntryState
 sent_state on None = states.Sent on
 sent_state on (Some t) = states.Returned on t.code t.day t.late
 
-abbrev pub state_from : (accepted : Bool) → (on : Option ℕ) → Option TakenReturn → EntryState
+abbrev pub state_from : (lapsed : Bool) → (on : Option ℕ) → Option TakenReturn → EntryState
 state_from true on t = states.Lapsed
 state_from false None t = states.Held
 state_from false (Some on) t = sent_state on t

@@ -51,7 +51,8 @@ fn receiving_dfi(entry: &SentEntry) -> [u8; 8]
 
 // A change moves no money, so only a return has the entry's amount.
 fn has_amount(entry: &SentEntry, item: &ItemFacts) -> bool
-    ensures { result ≡ (if is_return item.now then item.now.cents == entry.now.entry.cents else true) }
+    ensures { result ≡
+        (if is_return item.now then item.now.cents == entry.now.entry.cents else true) }
 {
     if is_return(item) {
         item.cents == entry.entry.cents.as_cents()

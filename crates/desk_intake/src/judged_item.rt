@@ -26,7 +26,8 @@ fn note(
     earlier: &mut ReturnedEntries,
     outcome: &Result<MatchedItem, SuspenseReason>,
 ) -> Result<(), AllocError>
-    ensures { OnOk result ((es : List SentEntry) → HasEntries earlier.old es → HasEntries earlier.new (entries_returned_by (resolution_as outcome.now) ++ es)) }
+    ensures { OnOk result ((es : List SentEntry) → HasEntries earlier.old es → HasEntries
+        earlier.new (entries_returned_by (resolution_as outcome.now) ++ es)) }
 {
     if let Ok(met) = outcome {
         if is_return(met) {
@@ -41,7 +42,8 @@ fn push(
     item: &ItemFacts,
     outcome: Result<MatchedItem, SuspenseReason>,
 ) -> Result<(), AllocError>
-    ensures { OnOk result (judged.new.items ≡ judged.old.items ++ record { item = item.now; outcome = outcome } ∷ []) }
+    ensures { OnOk result (judged.new.items ≡ judged.old.items ++ record
+        { item = item.now; outcome = outcome } ∷ []) }
 {
     // The checker follows a move of a `MatchedItem` only where the types of its parts are seen.
     if let Ok(met) = &outcome {
@@ -57,7 +59,8 @@ fn push(
 
 /// Gives the resolution of each item, in order.
 pub(crate) fn judge(alloc: Global, found: &[FoundItem]) -> Result<Vec<JudgedItem>, AllocError>
-    ensures { IfOk result (λ judged. map judged_as judged.items ≡ judged_after [] (map found_item_as found.now)) }
+    ensures { IfOk result
+        (λ judged. map judged_as judged.items ≡ judged_after [] (map found_item_as found.now)) }
 {
     let mut earlier = ReturnedEntries::new(alloc);
     let mut judged = Vec::new(alloc);

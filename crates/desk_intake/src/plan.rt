@@ -37,7 +37,8 @@ fn plan_of_items(
     day: Day,
     holidays: &Calendar,
 ) -> Result<IntakePlan, AllocError>
-    ensures { IfOk result (λ plan. plan_write plan ≡ write_of_items key digest judged.now day holidays.now) }
+    ensures { IfOk result
+        (λ plan. plan_write plan ≡ write_of_items key digest judged.now day holidays.now) }
 {
     let returned = returned_rows(alloc, judged, day, holidays)?;
     let changed = changed_rows(alloc, judged, day)?;
@@ -67,7 +68,9 @@ pub fn plan_intake(
     day: Day,
     holidays: &Calendar,
 ) -> Result<IntakePlan, AllocError>
-    ensures { IfOk result (λ plan. plan_write plan ≡ intake_write (intake_facts_of key digest found.now day holidays.now)) }
+    ensures { IfOk result
+        (λ plan. plan_write plan ≡ intake_write
+        (intake_facts_of key digest found.now day holidays.now)) }
 {
     let judged = judge(alloc, found)?;
     let plan = plan_of_items(alloc, key, digest, &judged, day, holidays)?;

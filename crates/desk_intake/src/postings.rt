@@ -15,7 +15,8 @@ use std::alloc::{AllocError, Global};
 
 // The money of an entry that comes back.
 fn returned_pair(met: &MatchedItem, day: Day) -> Option<[Posting; 2]>
-    ensures { unwrap_or result [] ≡ pairs (event_line day met.now.entry (matched_item_as met.now).event) }
+    ensures { unwrap_or result [] ≡ pairs
+        (event_line day met.now.entry (matched_item_as met.now).event) }
 {
     let Reaction::Return { .. } = met.reaction else {
         return None;
@@ -49,7 +50,8 @@ fn suspense_pair(item: &ItemFacts, day: Day) -> Option<[Posting; 2]>
 
 // The two lines of an item, if it moves money.
 fn pair_of(judged: &JudgedItem, day: Day) -> Option<[Posting; 2]>
-    ensures { unwrap_or result [] ≡ pairs (item_line day judged.now.item (resolution_of judged.now)) }
+    ensures { unwrap_or result [] ≡ pairs
+        (item_line day judged.now.item (resolution_of judged.now)) }
 {
     match &judged.outcome {
         Ok(met) => returned_pair(met, day),
@@ -72,7 +74,9 @@ pub(crate) fn postings_of(
     judged: &[JudgedItem],
     day: Day,
 ) -> Result<Vec<Posting>, AllocError>
-    ensures { IfOk result (λ postings. postings.items ≡ pairs (flat_map (λ y. item_line day y.0 y.1) (map judged_as judged.now))) }
+    ensures { IfOk result
+        (λ postings. postings.items ≡ pairs
+        (flat_map (λ y. item_line day y.0 y.1) (map judged_as judged.now))) }
 {
     let mut postings = Vec::new(alloc);
     for one in judged {

@@ -82,7 +82,8 @@ pub(crate) fn is_return(met: &MatchedItem) -> bool
 
 // Is it a return of an entry that came back before the file, or by an earlier item of it?
 fn is_repeated_return(earlier: &ReturnedEntries, before: bool, met: &MatchedItem) -> bool
-    ensures { (es : List SentEntry) → HasEntries earlier.now es → result ≡ is_repeated_return es before (matched_item_as met.now) }
+    ensures { (es : List SentEntry) → HasEntries earlier.now es →
+        result ≡ is_repeated_return es before (matched_item_as met.now) }
 {
     is_return(met) && (before || earlier.has(&met.entry))
 }
@@ -92,7 +93,8 @@ pub(crate) fn resolution_after(
     earlier: &ReturnedEntries,
     found: &FoundItem,
 ) -> Result<MatchedItem, SuspenseReason>
-    ensures { (es : List SentEntry) → HasEntries earlier.now es → resolution_as result ≡ resolution_after es found.now.item (found_item_as found.now).1 }
+    ensures { (es : List SentEntry) → HasEntries earlier.now es →
+        resolution_as result ≡ resolution_after es found.now.item (found_item_as found.now).1 }
 {
     let met = resolve(entry_of(&found.named), &found.item)?;
     if is_repeated_return(earlier, was_returned(&found.named), &met) {

@@ -63,14 +63,16 @@ impl ReturnedEntries {
 
     /// Did the entry come back?
     pub(crate) fn has(&self, entry: &SentEntry) -> bool
-        ensures { (es : List SentEntry) → HasEntries self.now es → result ≡ list_any (is_same_entry entry.now) es }
+        ensures { (es : List SentEntry) → HasEntries self.now es →
+            result ≡ list_any (is_same_entry entry.now) es }
     {
         self.keys.contains(&EntryKey::of(entry))
     }
 
     /// Adds one more that came back.
     pub(crate) fn add(&mut self, entry: &SentEntry) -> Result<(), AllocError>
-        ensures { OnOk result ((es : List SentEntry) → HasEntries self.old es → HasEntries self.new (entry.now ∷ es)) }
+        ensures { OnOk result ((es : List SentEntry) → HasEntries self.old es → HasEntries self.new
+            (entry.now ∷ es)) }
     {
         self.keys.insert(EntryKey::of(entry))?;
         Ok(())

@@ -46,7 +46,9 @@ pub(crate) fn returned_rows(
     day: Day,
     holidays: &Calendar,
 ) -> Result<Vec<ReturnedRow>, AllocError>
-    ensures { IfOk result (λ rows. rows.items ≡ filter_map (returned_row holidays.now day) (map resolution_of judged.now)) }
+    ensures { IfOk result
+        (λ rows. rows.items ≡ filter_map (returned_row holidays.now day)
+        (map resolution_of judged.now)) }
 {
     let mut rows = Vec::new(alloc);
     for one in judged {
@@ -85,7 +87,8 @@ pub(crate) fn changed_rows(
     judged: &[JudgedItem],
     day: Day,
 ) -> Result<Vec<ChangedRow>, AllocError>
-    ensures { IfOk result (λ rows. rows.items ≡ filter_map (changed_row day) (map resolution_of judged.now)) }
+    ensures { IfOk result
+        (λ rows. rows.items ≡ filter_map (changed_row day) (map resolution_of judged.now)) }
 {
     let mut rows = Vec::new(alloc);
     for one in judged {
@@ -131,7 +134,9 @@ pub(crate) fn suspense_rows(
     key: [u8; 21],
     day: Day,
 ) -> Result<Vec<SuspenseRow>, AllocError>
-    ensures { IfOk result (λ rows. rows.items ≡ filter_map (λ y. suspense_row key day y.0 y.1.0 y.1.1) (enumerate_from 1 (map judged_as judged.now))) }
+    ensures { IfOk result
+        (λ rows. rows.items ≡ filter_map (λ y. suspense_row key day y.0 y.1.0 y.1.1)
+        (enumerate_from 1 (map judged_as judged.now))) }
 {
     let mut rows = Vec::new(alloc);
     for (index, one) in judged.iter().enumerate() {

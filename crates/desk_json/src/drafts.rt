@@ -17,7 +17,8 @@ use std::alloc::{AllocError, Global};
 /// an entry that it has to copy.
 pub fn submission_draft(alloc: Global, value: &Value) -> Result<Draft, AllocError>
     ensures draft { IfOk result (λ d. d ≡ submission_draft_of (view value.now)) }
-    ensures memory { OnErr result (HasText submission_texts (view value.now) ⊎ HasEntry (view value.now)) }
+    ensures memory { OnErr result
+        (HasText submission_texts (view value.now) ⊎ HasEntry (view value.now)) }
 {
     let reference = text_at(alloc, value, Field::Reference)?;
     let sec = text_at(alloc, value, Field::Sec)?;

@@ -22,7 +22,8 @@ fn with_cents(sum: Option<i128>, cents: i128) -> Option<i128>
 
 // An amount is added to the sum of its day.
 fn add_to_day(sums: &mut BTreeMap<Day, i128>, day: Day, cents: i128) -> Result<(), StoreFault>
-    ensures { OnOk result (IsStrictlyIncreasing (map (λ row. row.0) sums.old.entries) → sums.new.entries ≡ with_sum day cents sums.old.entries) }
+    ensures { OnOk result (IsStrictlyIncreasing (map (λ row. row.0) sums.old.entries) →
+        sums.new.entries ≡ with_sum day cents sums.old.entries) }
 {
     let Some(sum) = with_cents(sums.get(&day).copied(), cents) else {
         return Err(StoreFault::Unavailable);
@@ -32,7 +33,8 @@ fn add_to_day(sums: &mut BTreeMap<Day, i128>, day: Day, cents: i128) -> Result<(
 }
 
 fn add_line(sums: &mut BTreeMap<Day, i128>, line: &Posting) -> Result<(), StoreFault>
-    ensures { OnOk result (IsStrictlyIncreasing (map (λ row. row.0) sums.old.entries) → sums.new.entries ≡ with_sum line.now.value_day line.now.cents sums.old.entries) }
+    ensures { OnOk result (IsStrictlyIncreasing (map (λ row. row.0) sums.old.entries) →
+        sums.new.entries ≡ with_sum line.now.value_day line.now.cents sums.old.entries) }
 {
     add_to_day(sums, line.value_day, i128::from(line.cents))
 }

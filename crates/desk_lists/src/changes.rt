@@ -46,7 +46,8 @@ fn change_at<C: Change>(kept: &mut [KeptSubmission], place: usize, change: &C)
 
 /// Makes a change of the submissions that an index finds by its key.
 fn change_found<C: Change>(kept: &mut [KeptSubmission], index: &PlaceIndex, change: &C)
-    ensures { FindsAll C.kind (map row_in kept.old) index.now → map row_in kept.new ≡ map (C.makes change.now) (map row_in kept.old) }
+    ensures { FindsAll C.kind (map row_in kept.old) index.now →
+        map row_in kept.new ≡ map (C.makes change.now) (map row_in kept.old) }
 {
     let places = index.of(change.key());
     for place in places {
@@ -55,8 +56,10 @@ fn change_found<C: Change>(kept: &mut [KeptSubmission], index: &PlaceIndex, chan
 }
 
 fn change_in_turn<C: Change>(kept: &mut [KeptSubmission], index: &PlaceIndex, changes: &[C])
-    ensures made { FindsAll C.kind (map row_in kept.old) index.now → map row_in kept.new ≡ in_turn C.makes changes.now (map row_in kept.old) }
-    ensures found { FindsAll C.kind (map row_in kept.old) index.now → FindsAll C.kind (map row_in kept.new) index.now }
+    ensures made { FindsAll C.kind (map row_in kept.old) index.now →
+        map row_in kept.new ≡ in_turn C.makes changes.now (map row_in kept.old) }
+    ensures found { FindsAll C.kind (map row_in kept.old) index.now →
+        FindsAll C.kind (map row_in kept.new) index.now }
 {
     for change in changes {
         change_found(kept, index, change);
@@ -69,8 +72,10 @@ pub(crate) fn change_all<C: Change>(
     index: &PlaceIndex,
     changes: &[C],
 )
-    ensures made { FindsAll C.kind (map row_in kept.old.items) index.now → map row_in kept.new.items ≡ in_turn C.makes changes.now (map row_in kept.old.items) }
-    ensures found { FindsAll C.kind (map row_in kept.old.items) index.now → FindsAll C.kind (map row_in kept.new.items) index.now }
+    ensures made { FindsAll C.kind (map row_in kept.old.items) index.now →
+        map row_in kept.new.items ≡ in_turn C.makes changes.now (map row_in kept.old.items) }
+    ensures found { FindsAll C.kind (map row_in kept.old.items) index.now →
+        FindsAll C.kind (map row_in kept.new.items) index.now }
 {
     change_in_turn(kept, index, changes);
 }

@@ -114,7 +114,9 @@ fn move_within(list: &mut Vec<FileRow>, files: Vec<FileRow>)
 
 /// Changes the submissions that a cut sends or lets lapse, which an index finds.
 fn decide(kept: &mut Vec<KeptSubmission>, orders: &PlaceIndex, cut: &CutRows<'_>)
-    ensures { FindsAll kinds.Order (map row_in kept.old.items) orders.now → map row_in kept.new.items ≡ in_turn lapse_in (cut_rows cut.now).lapsed (in_turn send_in (cut_rows cut.now).sent (map row_in kept.old.items)) }
+    ensures { FindsAll kinds.Order (map row_in kept.old.items) orders.now →
+        map row_in kept.new.items ≡ in_turn lapse_in (cut_rows cut.now).lapsed
+        (in_turn send_in (cut_rows cut.now).sent (map row_in kept.old.items)) }
 {
     change_all(kept, orders, cut.sent);
     change_all(kept, orders, cut.lapsed);
@@ -127,7 +129,9 @@ pub(crate) fn write_cut(
     alloc: Global,
     cut: &CutRows<'_>,
 ) -> Result<(), AllocError>
-    ensures ok { OnOk result (FindsAll kinds.Order (map row_in store.old.submissions.items) store.old.places.orders → rows_in store.new ≡ cut_in (cut_rows cut.now) (rows_in store.old)) }
+    ensures ok { OnOk result (FindsAll kinds.Order (map row_in store.old.submissions.items)
+        store.old.places.orders → rows_in store.new ≡ cut_in (cut_rows cut.now)
+        (rows_in store.old)) }
     ensures err { OnErr result (rows_in store.new ≡ rows_in store.old) }
     ensures traces { store.new.traces ≡ store.old.traces }
     ensures settlements { store.new.settlements ≡ store.old.settlements }

@@ -74,7 +74,8 @@ fn passes(kept: &KeptSubmission, which: &RowFilter) -> bool
 
 /// Is it a company's, and does it pass a filter?
 pub(crate) fn passes_of(kept: &KeptSubmission, company: Id, which: &RowFilter) -> bool
-    ensures { result ≡ (bytes_eq kept.now.company company && passes which.now (row_in kept.now).row) }
+    ensures { result ≡
+        (bytes_eq kept.now.company company && passes which.now (row_in kept.now).row) }
 {
     kept.company.bytes() == company.bytes() && passes(kept, which)
 }
@@ -88,7 +89,8 @@ fn push_passing(
     company: Id,
     which: &RowFilter,
 ) -> Result<(), AllocError>
-    ensures { OnOk result (rows.new.items ≡ rows.old.items ++ passing_at kept.now place company which.now) }
+    ensures { OnOk result
+        (rows.new.items ≡ rows.old.items ++ passing_at kept.now place company which.now) }
 {
     if place < kept.len() {
         let one = &kept[place];
@@ -107,7 +109,9 @@ pub(crate) fn rows_passing(
     company: Id,
     which: &RowFilter,
 ) -> Result<Vec<Row>, AllocError>
-    ensures { IfOk result (λ rows. rows.items ≡ filter (passes which.now) (rows_for (picked kept.now places.now) company)) }
+    ensures { IfOk result
+        (λ rows. rows.items ≡ filter (passes which.now)
+        (rows_for (picked kept.now places.now) company)) }
 {
     let mut rows = Vec::new(alloc);
     for place in places {
@@ -123,7 +127,8 @@ fn submission_at<'a>(
     company: Id,
     reference: Ref,
 ) -> Option<&'a KeptSubmission>
-    ensures { option_map (λ k. (row_in k.now).row) result ≡ row_under (rows_for (picked kept.now (place ∷ [])) company) reference }
+    ensures { option_map (λ k. (row_in k.now).row) result ≡ row_under
+        (rows_for (picked kept.now (place ∷ [])) company) reference }
 {
     if place < kept.len() {
         let one = &kept[place];
@@ -141,7 +146,8 @@ pub(crate) fn submission_among<'a>(
     company: Id,
     reference: Ref,
 ) -> Option<&'a KeptSubmission>
-    ensures { option_map (λ k. (row_in k.now).row) result ≡ row_under (rows_for (picked kept.now places.now) company) reference }
+    ensures { option_map (λ k. (row_in k.now).row) result ≡ row_under
+        (rows_for (picked kept.now places.now) company) reference }
 {
     for place in places {
         let found = submission_at(kept, *place, company, reference);
@@ -167,7 +173,8 @@ pub(crate) fn row_of(
 
 /// Gives the state of an entry of a row that was found.
 pub(crate) fn state_of(found: Option<&KeptSubmission>, index: u64) -> Option<EntryState>
-    ensures { result ≡ option_map (λ row. state_at row index) (option_map (λ k. (row_in k.now).row) found.entry) }
+    ensures { result ≡ option_map (λ row. state_at row index)
+        (option_map (λ k. (row_in k.now).row) found.entry) }
 {
     match found {
         Some(one) => Some(state_numbered(&one.states, index)),

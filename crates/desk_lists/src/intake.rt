@@ -32,7 +32,9 @@ fn come_back(state: EntryState, returned: &ReturnedRow) -> EntryState
 }
 
 fn bring_back(states: &mut Vec<EntryState>, returned: &ReturnedRow)
-    ensures { states.new.items ≡ map (λ y. if y.0 == returned.now.row.index then returned_state_by returned.now y.1 else y.1) (enumerate_from 1 states.old.items) }
+    ensures { states.new.items ≡ map
+        (λ y. if y.0 == returned.now.row.index then returned_state_by returned.now y.1 else y.1)
+        (enumerate_from 1 states.old.items) }
 {
     let number = returned.row.index as usize;
     if number >= 1 {
@@ -74,7 +76,9 @@ impl Change for ReturnedRow {
 /// Writes an incoming file, where the index of references covers all submissions. Where this is out
 /// of memory the lists stay as they were.
 pub(crate) fn write_intake(store: &mut ListStore, intake: &IntakeRows<'_>) -> Result<(), AllocError>
-    ensures ok { OnOk result (FindsAll kinds.Reference (map row_in store.old.submissions.items) store.old.places.references → rows_in store.new ≡ intake_in (intake_rows intake.now) (rows_in store.old)) }
+    ensures ok { OnOk result (FindsAll kinds.Reference (map row_in store.old.submissions.items)
+        store.old.places.references → rows_in store.new ≡ intake_in (intake_rows intake.now)
+        (rows_in store.old)) }
     ensures err { OnErr result (rows_in store.new ≡ rows_in store.old) }
     ensures traces { store.new.traces ≡ store.old.traces }
     ensures settlements { store.new.settlements ≡ store.old.settlements }

@@ -120,8 +120,10 @@ impl PlaceIndex {
 
     /// Adds a place to those of a key, where there is one.
     fn add(&mut self, alloc: Global, key: Option<RowKey>, place: usize) -> Result<(), StoreFault>
-        ensures ok { OnOk result ((k : RowKey) → listed_under k self.new ≡ listed_under k self.old ++ place_under k key place) }
-        ensures err { OnErr result ((k : RowKey) → listed_under k self.new ≡ listed_under k self.old) }
+        ensures ok { OnOk result ((k : RowKey) → listed_under k self.new ≡ listed_under k self.old
+            ++ place_under k key place) }
+        ensures err { OnErr result
+            ((k : RowKey) → listed_under k self.new ≡ listed_under k self.old) }
         ensures indexed { self.new.indexed ≡ self.old.indexed }
     {
         let Some(key) = key else {
@@ -144,8 +146,10 @@ impl PlaceIndex {
         kept: &[KeptSubmission],
         kind: &KeyKind,
     ) -> Result<(), StoreFault>
-        ensures right { IsPlaced kind.now (map row_in kept.now) self.old → IsPlaced kind.now (map row_in kept.now) self.new }
-        ensures whole { OnOk result (IsPlaced kind.now (map row_in kept.now) self.old → FindsAll kind.now (map row_in kept.now) self.new) }
+        ensures right { IsPlaced kind.now (map row_in kept.now) self.old →
+            IsPlaced kind.now (map row_in kept.now) self.new }
+        ensures whole { OnOk result (IsPlaced kind.now (map row_in kept.now) self.old → FindsAll
+            kind.now (map row_in kept.now) self.new) }
     {
         for at in self.indexed..kept.len() {
             let key = key_of(&kept[at], kind);

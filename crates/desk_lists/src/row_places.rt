@@ -48,8 +48,10 @@ impl RowPlaces {
         alloc: Global,
         kept: &[KeptSubmission],
     ) -> Result<(), StoreFault>
-        ensures right { ArePlaced (map row_in kept.now) self.old → ArePlaced (map row_in kept.now) self.new }
-        ensures whole { OnOk result (ArePlaced (map row_in kept.now) self.old → FindsAll kinds.Reference (map row_in kept.now) self.new.references) }
+        ensures right { ArePlaced (map row_in kept.now) self.old →
+            ArePlaced (map row_in kept.now) self.new }
+        ensures whole { OnOk result (ArePlaced (map row_in kept.now) self.old → FindsAll
+            kinds.Reference (map row_in kept.now) self.new.references) }
     {
         self.references.cover(alloc, kept, &KeyKind::Reference)?;
         self.originals.cover(alloc, kept, &KeyKind::Original)?;
@@ -63,8 +65,10 @@ impl RowPlaces {
         alloc: Global,
         kept: &[KeptSubmission],
     ) -> Result<(), StoreFault>
-        ensures right { ArePlaced (map row_in kept.now) self.old → ArePlaced (map row_in kept.now) self.new }
-        ensures whole { OnOk result (ArePlaced (map row_in kept.now) self.old → FindsAll kinds.Order (map row_in kept.now) self.new.orders) }
+        ensures right { ArePlaced (map row_in kept.now) self.old →
+            ArePlaced (map row_in kept.now) self.new }
+        ensures whole { OnOk result (ArePlaced (map row_in kept.now) self.old → FindsAll kinds.Order
+            (map row_in kept.now) self.new.orders) }
     {
         self.orders.cover(alloc, kept, &KeyKind::Order)
     }
@@ -80,7 +84,8 @@ impl RowPlaces {
 
     /// Begins the index of open rows again, where it is for another day.
     fn begin(&mut self, since: Day)
-        ensures right { (rows : List CompanyRow) → ArePlaced rows self.old → ArePlaced rows self.new }
+        ensures right { (rows : List CompanyRow) → ArePlaced rows self.old →
+            ArePlaced rows self.new }
         ensures since { self.new.since ≡ Some since }
     {
         if !self.is_since(since) {
@@ -96,9 +101,11 @@ impl RowPlaces {
         kept: &[KeptSubmission],
         since: Day,
     ) -> Result<(), StoreFault>
-        ensures right { ArePlaced (map row_in kept.now) self.old → ArePlaced (map row_in kept.now) self.new }
+        ensures right { ArePlaced (map row_in kept.now) self.old →
+            ArePlaced (map row_in kept.now) self.new }
         ensures since { self.new.since ≡ Some since }
-        ensures whole { OnOk result (ArePlaced (map row_in kept.now) self.old → FindsAll (kinds.OpenSince since) (map row_in kept.now) self.new.recent) }
+        ensures whole { OnOk result (ArePlaced (map row_in kept.now) self.old → FindsAll
+            (kinds.OpenSince since) (map row_in kept.now) self.new.recent) }
     {
         self.begin(since);
         self.recent.cover(alloc, kept, &KeyKind::OpenSince(since))
@@ -110,8 +117,10 @@ impl RowPlaces {
         alloc: Global,
         kept: &[KeptSubmission],
     ) -> Result<(), StoreFault>
-        ensures right { ArePlaced (map row_in kept.now) self.old → ArePlaced (map row_in kept.now) self.new }
-        ensures whole { OnOk result (ArePlaced (map row_in kept.now) self.old → FindWaiting (map row_in kept.now) (held_index self.new) self.new.references) }
+        ensures right { ArePlaced (map row_in kept.now) self.old →
+            ArePlaced (map row_in kept.now) self.new }
+        ensures whole { OnOk result (ArePlaced (map row_in kept.now) self.old → FindWaiting
+            (map row_in kept.now) (held_index self.new) self.new.references) }
     {
         self.references.cover(alloc, kept, &KeyKind::Reference)?;
         match self.since {

@@ -37,7 +37,8 @@ impl SettlementIndex {
     /// Covers the entries that it does not cover yet, from the oldest on.
     pub(crate) fn cover(&mut self, sent: &[SentEntry]) -> Result<(), StoreFault>
         ensures right { AreSettled sent.now self.old → AreSettled sent.now self.new }
-        ensures whole { OnOk result (AreSettled sent.now self.old → self.new.indexed ≡ length sent.now) }
+        ensures whole { OnOk result
+            (AreSettled sent.now self.old → self.new.indexed ≡ length sent.now) }
     {
         for at in self.indexed..sent.len() {
             let entry = sent[at];
@@ -51,7 +52,9 @@ impl SettlementIndex {
     /// Gives the latest settlement of the youngest entries of sequences from the first to the last,
     /// where all entries are covered.
     pub(crate) fn latest(&self, from: u32, to: u32) -> Option<Day>
-        ensures { (sent : List SentEntry) → AreSettled sent self.now → self.now.indexed ≡ length sent → result ≡ latest_settled (map sent_sequence (reverse sent)) (from, to) }
+        ensures { (sent : List SentEntry) → AreSettled sent self.now →
+            self.now.indexed ≡ length sent → result ≡ latest_settled
+            (map sent_sequence (reverse sent)) (from, to) }
     {
         let mut latest = None;
         for sequence in u64::from(from)..u64::from(to) + 1 {

@@ -40,7 +40,8 @@ impl TraceIndex {
     /// Covers the entries that it does not cover yet, from the oldest on.
     pub(crate) fn cover(&mut self, sent: &[SentEntry]) -> Result<(), StoreFault>
         ensures right { IsIndexed sent.now self.old → IsIndexed sent.now self.new }
-        ensures whole { OnOk result (IsIndexed sent.now self.old → self.new.indexed ≡ length sent.now) }
+        ensures whole { OnOk result
+            (IsIndexed sent.now self.old → self.new.indexed ≡ length sent.now) }
     {
         for at in self.indexed..sent.len() {
             let entry = sent[at];
@@ -54,7 +55,8 @@ impl TraceIndex {
 
     /// Gives the youngest entry that has a trace, where all entries are covered.
     pub(crate) fn entry_of(&self, odfi: Routing, trace: Trace) -> Option<SentEntry>
-        ensures { (sent : List SentEntry) → IsIndexed sent self.now → self.now.indexed ≡ length sent → result ≡ find (has_trace odfi trace) (reverse sent) }
+        ensures { (sent : List SentEntry) → IsIndexed sent self.now →
+            self.now.indexed ≡ length sent → result ≡ find (has_trace odfi trace) (reverse sent) }
     {
         ach_fields::numbers_and_digits();
         let _text = trace.text();

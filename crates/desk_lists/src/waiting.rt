@@ -21,7 +21,8 @@ use std::alloc::{AllocError, Global};
 
 /// Gives the day on which a row that was found settled.
 fn settlement_of(found: Option<&KeptSubmission>) -> Option<RuleDay>
-    ensures { result ≡ option_and_then (λ row. row.settled) (option_map (λ k. (row_in k.now).row) found.entry) }
+    ensures { result ≡ option_and_then (λ row. row.settled)
+        (option_map (λ k. (row_in k.now).row) found.entry) }
 {
     match found {
         Some(one) => one.settled,
@@ -36,7 +37,8 @@ fn original_settlement(
     company: Id,
     retry: Option<Retry>,
 ) -> Option<RuleDay>
-    ensures { FindsAll kinds.Reference (map row_in kept.now) references.now → result ≡ original_of_row (rows_for kept.now company) retry }
+    ensures { FindsAll kinds.Reference (map row_in kept.now) references.now →
+        result ≡ original_of_row (rows_for kept.now company) retry }
 {
     match retry {
         None => None,
@@ -55,7 +57,9 @@ fn waiting_like(
     one: &KeptSubmission,
     company: Company,
 ) -> Result<HeldSubmission, AllocError>
-    ensures { IfOk result (λ made. FindsAll kinds.Reference (map row_in kept.now) references.now → made ≡ held_submission company (rows_for kept.now company.id) (row_in one.now).row) }
+    ensures { IfOk result
+        (λ made. FindsAll kinds.Reference (map row_in kept.now) references.now → made ≡
+        held_submission company (rows_for kept.now company.id) (row_in one.now).row) }
 {
     let row = row_like(alloc, one)?;
     let original_settled = original_settlement(kept, references, company.id, one.retry);
@@ -75,7 +79,10 @@ fn push_waiting_at(
     place: usize,
     company: &Company,
 ) -> Result<(), AllocError>
-    ensures { OnOk result (FindsAll kinds.Reference (map row_in kept.now) references.now → found.new.items ≡ found.old.items ++ map (held_submission company.now (rows_for kept.now company.now.id)) (passing_at kept.now place company.now.id filters.Held)) }
+    ensures { OnOk result (FindsAll kinds.Reference (map row_in kept.now) references.now →
+        found.new.items ≡ found.old.items ++ map
+        (held_submission company.now (rows_for kept.now company.now.id))
+        (passing_at kept.now place company.now.id filters.Held)) }
 {
     if place < kept.len() {
         let one = &kept[place];
@@ -95,7 +102,10 @@ fn push_waiting(
     places: &[usize],
     company: &Company,
 ) -> Result<(), AllocError>
-    ensures { OnOk result (FindsAll kinds.Reference (map row_in kept.now) references.now → found.new.items ≡ found.old.items ++ map (held_submission company.now (rows_for kept.now company.now.id)) (filter is_held (rows_for (picked kept.now places.now) company.now.id))) }
+    ensures { OnOk result (FindsAll kinds.Reference (map row_in kept.now) references.now →
+        found.new.items ≡ found.old.items ++ map
+        (held_submission company.now (rows_for kept.now company.now.id))
+        (filter is_held (rows_for (picked kept.now places.now) company.now.id))) }
 {
     for place in places {
         push_waiting_at(alloc, found, kept, references, *place, company)?;
@@ -111,7 +121,9 @@ pub(crate) fn company_waiting(
     index: &PlaceIndex,
     references: &PlaceIndex,
 ) -> Result<Vec<HeldSubmission>, AllocError>
-    ensures { IfOk result (λ found. FindWaiting (map row_in kept.now) index.now references.now → found.items ≡ waiting_for company.now (rows_for kept.now company.now.id)) }
+    ensures { IfOk result
+        (λ found. FindWaiting (map row_in kept.now) index.now references.now → found.items ≡
+        waiting_for company.now (rows_for kept.now company.now.id)) }
 {
     let mut found = Vec::new(alloc);
     let places = index.of(RowKey::whole(company.id));
@@ -127,7 +139,9 @@ pub(crate) fn all_waiting(
     index: &PlaceIndex,
     references: &PlaceIndex,
 ) -> Result<Vec<HeldSubmission>, AllocError>
-    ensures { IfOk result (λ found. FindWaiting (map row_in kept.now) index.now references.now → found.items ≡ flat_map (λ k. waiting_for k (rows_for kept.now k.id)) companies.now) }
+    ensures { IfOk result
+        (λ found. FindWaiting (map row_in kept.now) index.now references.now → found.items ≡
+        flat_map (λ k. waiting_for k (rows_for kept.now k.id)) companies.now) }
 {
     let mut found = Vec::new(alloc);
     for company in companies {

@@ -14,7 +14,8 @@ use std::alloc::{AllocError, Global};
 /// Gives the place of a company, in the byte order of identifications.
 pub(crate) fn place_of(companies: &[Company], id: Id) -> usize
     ensures within { result ≤ length companies.now }
-    ensures place { (k : Company) → k.id ≡ id → insert companies.now result k ≡ with_company k companies.now }
+    ensures place { (k : Company) → k.id ≡ id →
+        insert companies.now result k ≡ with_company k companies.now }
 {
     let mut at = 0;
     for company in companies {

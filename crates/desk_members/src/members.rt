@@ -13,7 +13,8 @@ use itoa::{Buffer, Integer};
 /// Appends the key of a member with its colon, after a comma where it is not the first.
 pub fn put_key(text: &mut Vec<u8>, later: bool, key: &[u8])
     requires { vec_len text.old + (6 * length key.now + 4) ≤ vec_capacity text.old }
-    ensures items { text.new.items ≡ text.old.items ++ (comma_if later ++ (quoted key.now ++ 58 ∷ [])) }
+    ensures items { text.new.items ≡ text.old.items ++
+        (comma_if later ++ (quoted key.now ++ 58 ∷ [])) }
     ensures len { vec_len text.new ≤ vec_len text.old + (6 * length key.now + 4) }
     ensures capacity { vec_capacity text.old ≤ vec_capacity text.new }
 {
@@ -25,9 +26,12 @@ pub fn put_key(text: &mut Vec<u8>, later: bool, key: &[u8])
 /// Appends a member whose value is a text.
 #[tactic(auto, unfolding(crate::specs::Members::member_text))]
 pub fn put_text(text: &mut Vec<u8>, later: bool, key: &[u8], value: &[u8])
-    requires { vec_len text.old + (6 * length key.now + 6 * length value.now + 6) ≤ vec_capacity text.old }
-    ensures items { text.new.items ≡ text.old.items ++ member_text later key.now (string value.now) }
-    ensures len { vec_len text.new ≤ vec_len text.old + (6 * length key.now + 6 * length value.now + 6) }
+    requires { vec_len text.old + (6 * length key.now + 6 * length value.now + 6) ≤ vec_capacity
+        text.old }
+    ensures items { text.new.items ≡ text.old.items ++ member_text later key.now
+        (string value.now) }
+    ensures len { vec_len text.new ≤ vec_len text.old +
+        (6 * length key.now + 6 * length value.now + 6) }
     ensures capacity { vec_capacity text.old ≤ vec_capacity text.new }
 {
     put_key(text, later, key);
@@ -38,7 +42,8 @@ pub fn put_text(text: &mut Vec<u8>, later: bool, key: &[u8], value: &[u8])
 #[tactic(auto, unfolding(crate::specs::Members::member_text))]
 pub fn put_number(text: &mut Vec<u8>, later: bool, key: &[u8], value: u64)
     requires { vec_len text.old + (6 * length key.now + 24) ≤ vec_capacity text.old }
-    ensures items { text.new.items ≡ text.old.items ++ member_text later key.now (number (unsigned value)) }
+    ensures items { text.new.items ≡ text.old.items ++ member_text later key.now
+        (number (unsigned value)) }
     ensures len { vec_len text.new ≤ vec_len text.old + (6 * length key.now + 24) }
     ensures capacity { vec_capacity text.old ≤ vec_capacity text.new }
 {
@@ -51,7 +56,8 @@ pub fn put_number(text: &mut Vec<u8>, later: bool, key: &[u8], value: u64)
 #[tactic(auto, unfolding(crate::specs::Members::member_text))]
 pub fn put_signed(text: &mut Vec<u8>, later: bool, key: &[u8], value: i64)
     requires { vec_len text.old + (6 * length key.now + 24) ≤ vec_capacity text.old }
-    ensures items { text.new.items ≡ text.old.items ++ member_text later key.now (number (of_integer value)) }
+    ensures items { text.new.items ≡ text.old.items ++ member_text later key.now
+        (number (of_integer value)) }
     ensures len { vec_len text.new ≤ vec_len text.old + (6 * length key.now + 24) }
     ensures capacity { vec_capacity text.old ≤ vec_capacity text.new }
 {
@@ -65,7 +71,8 @@ pub fn put_signed(text: &mut Vec<u8>, later: bool, key: &[u8], value: i64)
 #[tactic(auto, unfolding(crate::specs::Members::member_text))]
 pub fn put_decimal<I: Integer>(text: &mut Vec<u8>, later: bool, key: &[u8], value: I)
     requires { vec_len text.old + (6 * length key.now + 246) ≤ vec_capacity text.old }
-    ensures items { text.new.items ≡ text.old.items ++ member_text later key.now (string (I.text value)) }
+    ensures items { text.new.items ≡ text.old.items ++ member_text later key.now
+        (string (I.text value)) }
     ensures len { vec_len text.new ≤ vec_len text.old + (6 * length key.now + 246) }
     ensures capacity { vec_capacity text.old ≤ vec_capacity text.new }
 {

@@ -53,7 +53,8 @@ pub(crate) fn start_of(bytes: &[u8], fields: &mut [HeaderSpan]) -> Start
 fn put_fields<'b>(bytes: &'b [u8], spans: &[HeaderSpan], room: &mut [Field<'b>])
     requires within { All (IsHeaderWithin (length bytes.now)) spans.now }
     requires fits { length spans.now ≤ length room.old }
-    ensures { map field_value (take (length spans.now) room.new) ≡ map (header_bytes bytes.now) spans.now }
+    ensures { map field_value (take (length spans.now) room.new) ≡ map
+        (header_bytes bytes.now) spans.now }
 {
     for at in 0..spans.len() {
         let span = spans[at];

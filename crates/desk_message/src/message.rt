@@ -83,7 +83,8 @@ fn request_closes(request: &Request<'_>) -> bool
 
 /// Whether the first `Connection` says that the connection is to close.
 fn says_close(fields: &[Field<'_>]) -> bool
-    ensures { result ≡ says_close (first_of (values_of (codes "Connection") (map field_value fields.now))) }
+    ensures { result ≡ says_close
+        (first_of (values_of (codes "Connection") (map field_value fields.now))) }
 {
     match value_of(fields, b"Connection") {
         Some(value) => value.eq_ignore_ascii_case(b"close"),

@@ -77,7 +77,8 @@ fn is_blank(bytes: &[u8]) -> bool
 /// came, and a reader that gives one byte a time has it looked for once for each of its lines.
 fn read_on<R: Read>(reader: &mut R, tries: &mut Tries, unread: &mut Unread) -> io::Result<bool>
     requires { IsOpen unread.old }
-    ensures read { ReadsOn result (R.remaining reader.old) (R.remaining reader.new) unread.old unread.new }
+    ensures read { ReadsOn result (R.remaining reader.old)
+        (R.remaining reader.new) unread.old unread.new }
     ensures mark { Marks result Failure.Read tries.old tries.new }
 {
     let mut blank = is_blank(unread.bytes());
@@ -103,7 +104,8 @@ fn read_head<R: Read>(
     fields: &mut [HeaderSpan],
 ) -> io::Result<Start>
     requires { length fields.old ≡ MAX_FIELDS }
-    ensures read { ReadsHead result fields.new (R.remaining reader.old) (R.remaining reader.new) unread.old unread.new }
+    ensures read { ReadsHead result fields.new (R.remaining reader.old)
+        (R.remaining reader.new) unread.old unread.new }
     ensures mark { Marks result Failure.Read tries.old tries.new }
 {
     loop {
@@ -138,7 +140,8 @@ fn read_whole<R: Read>(reader: &mut R, tries: &mut Tries, room: &mut [u8]) -> io
 /// Gives room for a body of this size, with what came of it at the start.
 fn room_for(alloc: Global, come: &[u8], size: usize) -> Result<Vec<u8>, AllocError>
     ensures size { IfOk result (λ room. length room.items ≡ size) }
-    ensures start { IfOk result (λ room. take (min size (length come.now)) room.items ≡ take size come.now) }
+    ensures start { IfOk result
+        (λ room. take (min size (length come.now)) room.items ≡ take size come.now) }
 {
     let mut room = Vec::with_capacity(alloc, size)?;
     room.extend_from_slice(&come[..size.min(come.len())])?;
@@ -158,7 +161,8 @@ fn read_body<R: Read>(
     come: &[u8],
     size: usize,
 ) -> Result<Option<Vec<u8>>, Stop>
-    ensures read { ReadsBody result (R.remaining reader.old) (R.remaining reader.new) come.now size }
+    ensures read { ReadsBody result (R.remaining reader.old)
+        (R.remaining reader.new) come.now size }
     ensures mark { StopMarks result tries.old tries.new }
 {
     if size == 0 {
@@ -177,7 +181,8 @@ fn read_body<R: Read>(
 fn head_framing(alloc: Global, bytes: &[u8], fields: &[HeaderSpan], head: &RequestSpans) -> Framing
     requires within { IsRequestWithin bytes.now fields.now head.now }
     requires fits { length fields.now ≡ MAX_FIELDS }
-    ensures { (h : RequestHead) → IsRequestAt bytes.now fields.now head.now h → result ≡ head_framing h }
+    ensures { (h : RequestHead) → IsRequestAt bytes.now fields.now head.now h →
+        result ≡ head_framing h }
 {
     let mut room = [EMPTY_FIELD; MAX_FIELDS];
     let request = request_at(bytes, fields, head, &mut room, Vec::new(alloc), false);
@@ -196,7 +201,8 @@ fn read_rest<R: Read>(
     requires start { IsStart bytes.now fields.now (Start.Head head) }
     requires fits { length fields.now ≡ MAX_FIELDS }
     requires few { length bytes.now ≤ MAX_HEAD }
-    ensures arrived { Arrives result fields.now (R.remaining reader.old) (R.remaining reader.new) bytes.now bytes.now }
+    ensures arrived { Arrives result fields.now (R.remaining reader.old)
+        (R.remaining reader.new) bytes.now bytes.now }
     ensures mark { ArrivalMarks result tries.old tries.new }
 {
     match head_framing(alloc, bytes, fields, &head) {
@@ -225,7 +231,8 @@ pub fn read_message<R: Read>(
     fields: &mut [HeaderSpan],
 ) -> Arrival
     requires { length fields.old ≡ MAX_FIELDS }
-    ensures arrived { Arrives result fields.new (R.remaining reader.old) (R.remaining reader.new) unread.old unread.new }
+    ensures arrived { Arrives result fields.new (R.remaining reader.old)
+        (R.remaining reader.new) unread.old unread.new }
     ensures mark { ArrivalMarks result tries.old tries.new }
 {
     match read_head(reader, tries, unread, fields) {

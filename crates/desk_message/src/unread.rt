@@ -74,9 +74,11 @@ impl Unread {
     /// the input alone.
     pub(crate) fn fill<R: Read>(&mut self, reader: &mut R, tries: &mut Tries) -> io::Result<usize>
         requires { length self.old < MAX_HEAD }
-        ensures ok { IfOk result (λ n. Grows n (R.remaining reader.old) (R.remaining reader.new) self.old self.new) }
+        ensures ok { IfOk result
+            (λ n. Grows n (R.remaining reader.old) (R.remaining reader.new) self.old self.new) }
         ensures end { IfOk result (λ n. n ≡ 0 → IsAtEnd (R.remaining reader.new)) }
-        ensures err { OnErr result ((self.new ≡ self.old) × Consumes (R.remaining reader.old) (R.remaining reader.new) []) }
+        ensures err { OnErr result ((self.new ≡ self.old) × Consumes (R.remaining reader.old)
+            (R.remaining reader.new) []) }
         ensures mark { Marks result Failure.Read tries.old tries.new }
     {
         self.end = move_to_start(&mut self.bytes, self.start, self.end);

@@ -15,7 +15,9 @@ use std::alloc::{AllocError, Global};
 /// own. A batch that is too large for any file makes one all the same; no batch of a submission is.
 pub fn divide(alloc: Global, batches: &[Batch]) -> Result<Vec<usize>, AllocError>
     ensures sizes { IfOk result (λ sizes. sizes.items ≡ map length (division batches.now)) }
-    ensures only { IfOk result (λ sizes. (runs : List (List Batch)) → Divides runs batches.now → sizes.items ≡ map length runs) }
+    ensures only { IfOk result
+        (λ sizes. (runs : List (List Batch)) → Divides runs batches.now → sizes.items ≡ map length
+        runs) }
     ensures whole { IfOk result (λ sizes. sum sizes.items ≡ length batches.now) }
     ensures within { IfOk result (λ sizes. All IsSize sizes.items) }
 {

@@ -34,7 +34,8 @@ impl Load {
 
     // With one batch more, where a file may hold so much.
     pub(crate) fn with(&self, batch: &Batch) -> Option<Load>
-        ensures { result ≡ (if is_within (plus self.now batch.now) then Some (plus self.now batch.now) else None) }
+        ensures { result ≡
+            (if is_within (plus self.now batch.now) then Some (plus self.now batch.now) else None) }
     {
         let debits = Cents::new(self.debits.get() + batch.debits.get())?;
         let credits = Cents::new(self.credits.get() + batch.credits.get())?;

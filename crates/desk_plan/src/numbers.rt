@@ -40,7 +40,8 @@ pub fn plan_numbers(
     requires { All IsEntryCount entries.now }
     ensures ranges { IfOk result (λ planned. planned.items ≡ ranges last_sequence entries.now) }
     ensures apart { OnOk result (are_apart (ranges last_sequence entries.now) ≡ true) }
-    ensures spent { IsErrOf result NumberFault.TracesSpent → are_apart (ranges last_sequence entries.now) ≡ false }
+    ensures spent { IsErrOf result NumberFault.TracesSpent →
+        are_apart (ranges last_sequence entries.now) ≡ false }
     ensures within { IfOk result (λ planned. All IsRange planned.items) }
 {
     let mut ranges = Vec::new(alloc);

@@ -1,3 +1,4 @@
+pub mod Asking
 pub mod DigestRows
 pub mod Postings
 pub mod Shows

@@ -1,16 +1,13 @@
 //! Files: those that were cut, and those that were taken.
-ghost use Rattle.std.specs.Prelude.{◌≡◌, IfOk, option_map};
-ghost use Rattle.sqlite.specs.Held.{state};
-ghost use Rattle.sqlite.specs.State.{HasCleanDisk, Survives};
-ghost use Rattle.sql_statements.specs.Queries.{Stays};
+ghost use Rattle.std.specs.Prelude.{◌≡◌, option_map};
 ghost use Rattle.sql_statements.specs.Findings.{Finds};
-ghost use Rattle.desk_records.specs.Layout.{desk_layout};
 ghost use Rattle.desk_records.specs.TableReads.{modifiers_in, text_in, taken_in};
+ghost use Rattle.desk_queries.specs.Asking.{Asks, SeesStill, LeavesNothingNew};
 
-use crate::parameter::{characters, date};
 use crate::rows::{blob_of, column_of, first_of};
 use bank_days::Day;
 use desk_history::TakenFile;
+use desk_records::{characters, date};
 use sqlite::{Alter, Connection, Error};
 use std::alloc::Global;
 
@@ -20,9 +17,10 @@ pub fn modifiers<S: Alter>(
     alloc: Global,
     day: Day,
 ) -> Result<Vec<u8>, Error>
-    ensures answer { HasCleanDisk (state S.Store conn.new) → IfOk result (λ found. Finds desk_layout (λ t. found.items ≡ modifiers_in day t) (state S.Store conn.old)) }
-    ensures stays { HasCleanDisk (state S.Store conn.new) → Stays (state S.Store conn.old) (state S.Store conn.new) }
-    ensures survives { Survives (state S.Store conn.old) (state S.Store conn.new) (λ _. ⊥) }
+    ensures answer { Asks S.Store conn.old conn.new result
+        (λ found t. found.items ≡ modifiers_in day t) }
+    ensures stays { SeesStill S.Store conn.old conn.new }
+    ensures survives { LeavesNothingNew S.Store conn.old conn.new }
 {
     column_of(
         conn,
@@ -37,9 +35,9 @@ pub fn taken_file<S: Alter>(
     conn: &mut Connection<S>,
     key: [u8; 21],
 ) -> Result<Option<TakenFile>, Error>
-    ensures answer { HasCleanDisk (state S.Store conn.new) → IfOk result (λ found. Finds desk_layout (λ t. found ≡ taken_in key t) (state S.Store conn.old)) }
-    ensures stays { HasCleanDisk (state S.Store conn.new) → Stays (state S.Store conn.old) (state S.Store conn.new) }
-    ensures survives { Survives (state S.Store conn.old) (state S.Store conn.new) (λ _. ⊥) }
+    ensures answer { Asks S.Store conn.old conn.new result (λ found t. found ≡ taken_in key t) }
+    ensures stays { SeesStill S.Store conn.old conn.new }
+    ensures survives { LeavesNothingNew S.Store conn.old conn.new }
 {
     first_of(
         conn,
@@ -55,9 +53,10 @@ pub fn file_text<S: Alter>(
     day: Day,
     modifier: u8,
 ) -> Result<Option<Vec<u8>>, Error>
-    ensures answer { HasCleanDisk (state S.Store conn.new) → IfOk result (λ found. Finds desk_layout (λ t. option_map (λ v. v.items) found ≡ text_in day modifier t) (state S.Store conn.old)) }
-    ensures stays { HasCleanDisk (state S.Store conn.new) → Stays (state S.Store conn.old) (state S.Store conn.new) }
-    ensures survives { Survives (state S.Store conn.old) (state S.Store conn.new) (λ _. ⊥) }
+    ensures answer { Asks S.Store conn.old conn.new result
+        (λ found t. option_map (λ v. v.items) found ≡ text_in day modifier t) }
+    ensures stays { SeesStill S.Store conn.old conn.new }
+    ensures survives { LeavesNothingNew S.Store conn.old conn.new }
 {
     let letter = [modifier];
     blob_of(

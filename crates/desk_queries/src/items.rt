@@ -1,17 +1,13 @@
 //! What came back of entries.
-ghost use Rattle.std.specs.Prelude.{◌≡◌, IfOk};
-ghost use Rattle.sqlite.specs.Held.{state};
-ghost use Rattle.sqlite.specs.State.{HasCleanDisk, Survives};
-ghost use Rattle.sql_statements.specs.Queries.{Stays};
+ghost use Rattle.std.specs.Prelude.{◌≡◌};
 ghost use Rattle.sql_statements.specs.Findings.{Finds};
-ghost use Rattle.desk_records.specs.Layout.{desk_layout};
 ghost use Rattle.desk_records.specs.TableReads.{number_of_last, returns_in, return_at, orders_returned, return_lines_in, change_lines_in, suspense_in};
+ghost use Rattle.desk_queries.specs.Asking.{Asks, SeesStill, LeavesNothingNew};
 
-use crate::parameter::{characters, natural};
 use crate::rows::{all_of, cell_of, column_of, first_of};
 use ach_fields::Id;
 use desk_history::SuspenseRow;
-use desk_records::{ChangeLine, EntryReturn, ReturnLine};
+use desk_records::{ChangeLine, EntryReturn, ReturnLine, characters, natural};
 use sqlite::{Alter, Connection, Error};
 use std::alloc::Global;
 
@@ -22,9 +18,10 @@ pub fn returns<S: Alter>(
     company: Id,
     order: u64,
 ) -> Result<Vec<EntryReturn>, Error>
-    ensures answer { HasCleanDisk (state S.Store conn.new) → IfOk result (λ found. Finds desk_layout (λ t. found.items ≡ returns_in company order t) (state S.Store conn.old)) }
-    ensures stays { HasCleanDisk (state S.Store conn.new) → Stays (state S.Store conn.old) (state S.Store conn.new) }
-    ensures survives { Survives (state S.Store conn.old) (state S.Store conn.new) (λ _. ⊥) }
+    ensures answer { Asks S.Store conn.old conn.new result
+        (λ found t. found.items ≡ returns_in company order t) }
+    ensures stays { SeesStill S.Store conn.old conn.new }
+    ensures survives { LeavesNothingNew S.Store conn.old conn.new }
 {
     all_of(
         conn,
@@ -41,9 +38,10 @@ pub fn entry_return<S: Alter>(
     order: u64,
     index: u64,
 ) -> Result<Option<EntryReturn>, Error>
-    ensures answer { HasCleanDisk (state S.Store conn.new) → IfOk result (λ found. Finds desk_layout (λ t. found ≡ return_at company order index t) (state S.Store conn.old)) }
-    ensures stays { HasCleanDisk (state S.Store conn.new) → Stays (state S.Store conn.old) (state S.Store conn.new) }
-    ensures survives { Survives (state S.Store conn.old) (state S.Store conn.new) (λ _. ⊥) }
+    ensures answer { Asks S.Store conn.old conn.new result
+        (λ found t. found ≡ return_at company order index t) }
+    ensures stays { SeesStill S.Store conn.old conn.new }
+    ensures survives { LeavesNothingNew S.Store conn.old conn.new }
 {
     first_of(
         conn,
@@ -64,9 +62,10 @@ pub fn orders_returned<S: Alter>(
     company: Id,
     since: u64,
 ) -> Result<Vec<u64>, Error>
-    ensures answer { HasCleanDisk (state S.Store conn.new) → IfOk result (λ found. Finds desk_layout (λ t. found.items ≡ orders_returned company since t) (state S.Store conn.old)) }
-    ensures stays { HasCleanDisk (state S.Store conn.new) → Stays (state S.Store conn.old) (state S.Store conn.new) }
-    ensures survives { Survives (state S.Store conn.old) (state S.Store conn.new) (λ _. ⊥) }
+    ensures answer { Asks S.Store conn.old conn.new result
+        (λ found t. found.items ≡ orders_returned company since t) }
+    ensures stays { SeesStill S.Store conn.old conn.new }
+    ensures survives { LeavesNothingNew S.Store conn.old conn.new }
 {
     column_of(
         conn,
@@ -82,9 +81,10 @@ pub fn return_lines<S: Alter>(
     alloc: Global,
     company: Id,
 ) -> Result<Vec<ReturnLine>, Error>
-    ensures answer { HasCleanDisk (state S.Store conn.new) → IfOk result (λ found. Finds desk_layout (λ t. found.items ≡ return_lines_in company t) (state S.Store conn.old)) }
-    ensures stays { HasCleanDisk (state S.Store conn.new) → Stays (state S.Store conn.old) (state S.Store conn.new) }
-    ensures survives { Survives (state S.Store conn.old) (state S.Store conn.new) (λ _. ⊥) }
+    ensures answer { Asks S.Store conn.old conn.new result
+        (λ found t. found.items ≡ return_lines_in company t) }
+    ensures stays { SeesStill S.Store conn.old conn.new }
+    ensures survives { LeavesNothingNew S.Store conn.old conn.new }
 {
     all_of(
         conn,
@@ -100,9 +100,10 @@ pub fn change_lines<S: Alter>(
     alloc: Global,
     company: Id,
 ) -> Result<Vec<ChangeLine>, Error>
-    ensures answer { HasCleanDisk (state S.Store conn.new) → IfOk result (λ found. Finds desk_layout (λ t. found.items ≡ change_lines_in company t) (state S.Store conn.old)) }
-    ensures stays { HasCleanDisk (state S.Store conn.new) → Stays (state S.Store conn.old) (state S.Store conn.new) }
-    ensures survives { Survives (state S.Store conn.old) (state S.Store conn.new) (λ _. ⊥) }
+    ensures answer { Asks S.Store conn.old conn.new result
+        (λ found t. found.items ≡ change_lines_in company t) }
+    ensures stays { SeesStill S.Store conn.old conn.new }
+    ensures survives { LeavesNothingNew S.Store conn.old conn.new }
 {
     all_of(
         conn,
@@ -117,9 +118,10 @@ pub fn suspense<S: Alter>(
     conn: &mut Connection<S>,
     alloc: Global,
 ) -> Result<Vec<SuspenseRow>, Error>
-    ensures answer { HasCleanDisk (state S.Store conn.new) → IfOk result (λ found. Finds desk_layout (λ t. found.items ≡ suspense_in t) (state S.Store conn.old)) }
-    ensures stays { HasCleanDisk (state S.Store conn.new) → Stays (state S.Store conn.old) (state S.Store conn.new) }
-    ensures survives { Survives (state S.Store conn.old) (state S.Store conn.new) (λ _. ⊥) }
+    ensures answer { Asks S.Store conn.old conn.new result
+        (λ found t. found.items ≡ suspense_in t) }
+    ensures stays { SeesStill S.Store conn.old conn.new }
+    ensures survives { LeavesNothingNew S.Store conn.old conn.new }
 {
     all_of(
         conn,
@@ -131,9 +133,10 @@ pub fn suspense<S: Alter>(
 
 /// Gives the number of the last item in suspense, 0 before the first.
 pub fn last_suspense_number<S: Alter>(conn: &mut Connection<S>) -> Result<u64, Error>
-    ensures answer { HasCleanDisk (state S.Store conn.new) → IfOk result (λ found. Finds desk_layout (λ t. found ≡ number_of_last (λ s. s.number) t.suspense) (state S.Store conn.old)) }
-    ensures stays { HasCleanDisk (state S.Store conn.new) → Stays (state S.Store conn.old) (state S.Store conn.new) }
-    ensures survives { Survives (state S.Store conn.old) (state S.Store conn.new) (λ _. ⊥) }
+    ensures answer { Asks S.Store conn.old conn.new result
+        (λ found t. found ≡ number_of_last (λ s. s.number) t.suspense) }
+    ensures stays { SeesStill S.Store conn.old conn.new }
+    ensures survives { LeavesNothingNew S.Store conn.old conn.new }
 {
     match cell_of(
         conn,

@@ -10,12 +10,12 @@ mod entries;
 mod files;
 mod items;
 mod lines;
-mod parameter;
 mod registry;
 mod rows;
 mod submissions;
 mod waiting;
 
+pub use desk_records::{characters, date, natural};
 pub use entries::{
     amounts_of, cents_of, entries_of, entry, last_number, place, places, sent_entry,
 };
@@ -24,8 +24,7 @@ pub use items::{
     change_lines, entry_return, last_suspense_number, orders_returned, return_lines, returns,
     suspense,
 };
-pub use lines::{postings, sum, sums};
-pub use parameter::{characters, date, natural, number_of};
+pub use lines::{postings, sums};
 pub use registry::{companies, company, day, holidays, identity, operator_key};
 pub use submissions::{
     authorization, facts, last_order, numbered_submission, open_submissions, order_and_settlement,

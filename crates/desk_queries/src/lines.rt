@@ -1,19 +1,13 @@
 //! The lines of accounts, and their sums.
 ghost use Rattle.std.specs.Prelude.{◌≡◌, IfOk, map};
-ghost use Rattle.sqlite.specs.Held.{state};
-ghost use Rattle.sqlite.specs.State.{HasCleanDisk, Survives};
-ghost use Rattle.sql_statements.specs.Queries.{Stays};
-ghost use Rattle.sql_statements.specs.Findings.{Finds};
-ghost use Rattle.desk_records.specs.Layout.{desk_layout};
-ghost use Rattle.desk_records.specs.TableReads.{lines_in, sums_in, sum_in};
+ghost use Rattle.desk_records.specs.TableReads.{lines_in, sums_in};
 ghost use Rattle.desk_queries.specs.Postings.{posting_of};
+ghost use Rattle.desk_queries.specs.Asking.{Asks, SeesStill, LeavesNothingNew};
 
-use crate::parameter::{account_text, characters, date};
-use crate::rows::{all_of, cell_of};
-use bank_days::Day;
+use crate::rows::all_of;
 use desk_accounts::{Account, Posting};
 use desk_history::DaySum;
-use desk_records::PostingLine;
+use desk_records::{PostingLine, account_text, characters};
 use emptying_lists::EmptyingList;
 use sqlite::{Alter, Connection, Error};
 use std::alloc::Global;
@@ -24,16 +18,17 @@ pub fn postings<S: Alter>(
     alloc: Global,
     account: Account,
 ) -> Result<Vec<Posting>, Error>
-    ensures answer { HasCleanDisk (state S.Store conn.new) → IfOk result (λ found. Finds desk_layout (λ t. found.items ≡ lines_in account t) (state S.Store conn.old)) }
-    ensures stays { HasCleanDisk (state S.Store conn.new) → Stays (state S.Store conn.old) (state S.Store conn.new) }
-    ensures survives { Survives (state S.Store conn.old) (state S.Store conn.new) (λ _. ⊥) }
+    ensures answer { Asks S.Store conn.old conn.new result
+        (λ found t. found.items ≡ lines_in account t) }
+    ensures stays { SeesStill S.Store conn.old conn.new }
+    ensures survives { LeavesNothingNew S.Store conn.old conn.new }
 {
-    let text = account_text(alloc, &account)?;
+    let text = account_text(&account);
     let lines = all_of(
         conn,
         alloc,
         "SELECT value_day, cents, cause, ref, idx FROM postings WHERE account = ?1 ORDER BY no",
-        &[characters(&text)],
+        &[characters(text.as_slice())],
     )?;
     of_account(alloc, &account, lines)
 }
@@ -67,34 +62,16 @@ pub fn sums<S: Alter>(
     alloc: Global,
     account: Account,
 ) -> Result<Vec<DaySum>, Error>
-    ensures answer { HasCleanDisk (state S.Store conn.new) → IfOk result (λ found. Finds desk_layout (λ t. found.items ≡ sums_in account t) (state S.Store conn.old)) }
-    ensures stays { HasCleanDisk (state S.Store conn.new) → Stays (state S.Store conn.old) (state S.Store conn.new) }
-    ensures survives { Survives (state S.Store conn.old) (state S.Store conn.new) (λ _. ⊥) }
+    ensures answer { Asks S.Store conn.old conn.new result
+        (λ found t. found.items ≡ sums_in account t) }
+    ensures stays { SeesStill S.Store conn.old conn.new }
+    ensures survives { LeavesNothingNew S.Store conn.old conn.new }
 {
-    let text = account_text(alloc, &account)?;
+    let text = account_text(&account);
     all_of(
         conn,
         alloc,
         "SELECT value_day, cents FROM balances WHERE account = ?1 ORDER BY account, value_day",
-        &[characters(&text)],
-    )
-}
-
-/// Finds the sum of an account's lines of a value day, in cents.
-pub fn sum<S: Alter>(
-    conn: &mut Connection<S>,
-    alloc: Global,
-    account: Account,
-    value_day: Day,
-) -> Result<Option<i128>, Error>
-    ensures answer { HasCleanDisk (state S.Store conn.new) → IfOk result (λ found. Finds desk_layout (λ t. found ≡ sum_in account value_day t) (state S.Store conn.old)) }
-    ensures stays { HasCleanDisk (state S.Store conn.new) → Stays (state S.Store conn.old) (state S.Store conn.new) }
-    ensures survives { Survives (state S.Store conn.old) (state S.Store conn.new) (λ _. ⊥) }
-{
-    let text = account_text(alloc, &account)?;
-    cell_of(
-        conn,
-        "SELECT cents FROM balances WHERE account = ?1 AND value_day = ?2 ORDER BY account, value_day",
-        &[characters(&text), date(value_day)],
+        &[characters(text.as_slice())],
     )
 }

@@ -1,28 +1,24 @@
 //! The desk, its calendar and its companies.
-ghost use Rattle.std.specs.Prelude.{◌≡◌, IfOk, length};
-ghost use Rattle.sqlite.specs.Held.{state};
-ghost use Rattle.sqlite.specs.State.{HasCleanDisk, Survives};
-ghost use Rattle.sql_statements.specs.Queries.{Stays};
+ghost use Rattle.std.specs.Prelude.{◌≡◌, length};
 ghost use Rattle.sql_statements.specs.Findings.{Finds};
-ghost use Rattle.desk_records.specs.Layout.{desk_layout};
 ghost use Rattle.desk_records.specs.TableReads.{company_in};
 ghost use Rattle.desk_queries.specs.DigestRows.{key_digest_row};
+ghost use Rattle.desk_queries.specs.Asking.{Asks, SeesStill, LeavesNothingNew};
 
-use crate::parameter::characters;
 use crate::rows::{all_of, cell_of, column_of, first_of};
 use ach_fields::Id;
 use bank_days::Day;
 use desk_history::Identity;
-use desk_records::{FromRow, read_digest};
+use desk_records::{FromRow, characters, read_digest};
 use desk_rules::{Company, RuleDay};
 use sqlite::{Alter, Connection, Error, Row};
 use std::alloc::Global;
 
 /// Gives the identity of the desk: whose files it makes, and for whom.
 pub fn identity<S: Alter>(conn: &mut Connection<S>) -> Result<Identity, Error>
-    ensures answer { HasCleanDisk (state S.Store conn.new) → IfOk result (λ found. Finds desk_layout (λ t. found ≡ t.desk.identity) (state S.Store conn.old)) }
-    ensures stays { HasCleanDisk (state S.Store conn.new) → Stays (state S.Store conn.old) (state S.Store conn.new) }
-    ensures survives { Survives (state S.Store conn.old) (state S.Store conn.new) (λ _. ⊥) }
+    ensures answer { Asks S.Store conn.old conn.new result (λ found t. found ≡ t.desk.identity) }
+    ensures stays { SeesStill S.Store conn.old conn.new }
+    ensures survives { LeavesNothingNew S.Store conn.old conn.new }
 {
     match first_of(
         conn,
@@ -56,9 +52,10 @@ impl FromRow for KeyDigest {
 
 /// Gives the SHA-256 digest of the operator's key.
 pub fn operator_key<S: Alter>(conn: &mut Connection<S>) -> Result<[u8; 32], Error>
-    ensures answer { HasCleanDisk (state S.Store conn.new) → IfOk result (λ found. Finds desk_layout (λ t. found ≡ t.desk.operator_key) (state S.Store conn.old)) }
-    ensures stays { HasCleanDisk (state S.Store conn.new) → Stays (state S.Store conn.old) (state S.Store conn.new) }
-    ensures survives { Survives (state S.Store conn.old) (state S.Store conn.new) (λ _. ⊥) }
+    ensures answer { Asks S.Store conn.old conn.new result
+        (λ found t. found ≡ t.desk.operator_key) }
+    ensures stays { SeesStill S.Store conn.old conn.new }
+    ensures survives { LeavesNothingNew S.Store conn.old conn.new }
 {
     let found: Option<KeyDigest> = first_of(
         conn,
@@ -73,9 +70,9 @@ pub fn operator_key<S: Alter>(conn: &mut Connection<S>) -> Result<[u8; 32], Erro
 
 /// Gives the desk day, once one was set.
 pub fn day<S: Alter>(conn: &mut Connection<S>) -> Result<Option<RuleDay>, Error>
-    ensures answer { HasCleanDisk (state S.Store conn.new) → IfOk result (λ found. Finds desk_layout (λ t. found ≡ t.desk.day) (state S.Store conn.old)) }
-    ensures stays { HasCleanDisk (state S.Store conn.new) → Stays (state S.Store conn.old) (state S.Store conn.new) }
-    ensures survives { Survives (state S.Store conn.old) (state S.Store conn.new) (λ _. ⊥) }
+    ensures answer { Asks S.Store conn.old conn.new result (λ found t. found ≡ t.desk.day) }
+    ensures stays { SeesStill S.Store conn.old conn.new }
+    ensures survives { LeavesNothingNew S.Store conn.old conn.new }
 {
     match cell_of(conn, "SELECT day FROM desk WHERE id = 1 ORDER BY id", &[])? {
         Some(found) => Ok(found),
@@ -85,18 +82,18 @@ pub fn day<S: Alter>(conn: &mut Connection<S>) -> Result<Option<RuleDay>, Error>
 
 /// Gives the holidays of the calendar, from the first.
 pub fn holidays<S: Alter>(conn: &mut Connection<S>, alloc: Global) -> Result<Vec<Day>, Error>
-    ensures answer { HasCleanDisk (state S.Store conn.new) → IfOk result (λ found. Finds desk_layout (λ t. found.items ≡ t.holidays) (state S.Store conn.old)) }
-    ensures stays { HasCleanDisk (state S.Store conn.new) → Stays (state S.Store conn.old) (state S.Store conn.new) }
-    ensures survives { Survives (state S.Store conn.old) (state S.Store conn.new) (λ _. ⊥) }
+    ensures answer { Asks S.Store conn.old conn.new result (λ found t. found.items ≡ t.holidays) }
+    ensures stays { SeesStill S.Store conn.old conn.new }
+    ensures survives { LeavesNothingNew S.Store conn.old conn.new }
 {
     column_of(conn, alloc, "SELECT day FROM holidays ORDER BY day", &[])
 }
 
 /// Gives the companies, by their identification.
 pub fn companies<S: Alter>(conn: &mut Connection<S>, alloc: Global) -> Result<Vec<Company>, Error>
-    ensures answer { HasCleanDisk (state S.Store conn.new) → IfOk result (λ found. Finds desk_layout (λ t. found.items ≡ t.companies) (state S.Store conn.old)) }
-    ensures stays { HasCleanDisk (state S.Store conn.new) → Stays (state S.Store conn.old) (state S.Store conn.new) }
-    ensures survives { Survives (state S.Store conn.old) (state S.Store conn.new) (λ _. ⊥) }
+    ensures answer { Asks S.Store conn.old conn.new result (λ found t. found.items ≡ t.companies) }
+    ensures stays { SeesStill S.Store conn.old conn.new }
+    ensures survives { LeavesNothingNew S.Store conn.old conn.new }
 {
     all_of(
         conn,
@@ -108,9 +105,9 @@ pub fn companies<S: Alter>(conn: &mut Connection<S>, alloc: Global) -> Result<Ve
 
 /// Finds a company.
 pub fn company<S: Alter>(conn: &mut Connection<S>, id: Id) -> Result<Option<Company>, Error>
-    ensures answer { HasCleanDisk (state S.Store conn.new) → IfOk result (λ found. Finds desk_layout (λ t. found ≡ company_in id t) (state S.Store conn.old)) }
-    ensures stays { HasCleanDisk (state S.Store conn.new) → Stays (state S.Store conn.old) (state S.Store conn.new) }
-    ensures survives { Survives (state S.Store conn.old) (state S.Store conn.new) (λ _. ⊥) }
+    ensures answer { Asks S.Store conn.old conn.new result (λ found t. found ≡ company_in id t) }
+    ensures stays { SeesStill S.Store conn.old conn.new }
+    ensures survives { LeavesNothingNew S.Store conn.old conn.new }
 {
     first_of(
         conn,

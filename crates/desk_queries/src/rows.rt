@@ -1,15 +1,15 @@
 //! The rows of a query are read back.
-ghost use Rattle.std.specs.Prelude.{◌≡◌, ◌⊎◌, [], ◌∷◌, List, map, slice_get, Option, option_map, IfOk, IfErr, OnOk};
+ghost use Rattle.std.specs.Prelude.{◌≡◌, ◌⊎◌, [], ◌∷◌, map, slice_get, Option, option_map, IfOk, IfErr, OnOk};
 ghost use Rattle.std.specs.List.{AllByRecursion};
 ghost use Rattle.sqlite.specs.Given.{Advances};
 ghost use Rattle.sqlite.specs.Held.{state};
-ghost use Rattle.sqlite.specs.State.{HasCleanDisk, Survives, IsUnchanged, Fails};
+ghost use Rattle.sqlite.specs.State.{HasCleanDisk, IsUnchanged, Fails};
 ghost use Rattle.sqlite.specs.Values.{bound};
 ghost use Rattle.sqlite_value.specs.declared.value.Value.TheVariants.{Blob};
-ghost use Rattle.sql_statements.specs.Queries.{Stays};
 ghost use Rattle.sql_statements.specs.SelectTexts.{IsSelectText};
 ghost use Rattle.desk_records.specs.Ranges.{FitsIfAny};
 ghost use Rattle.desk_queries.specs.Shows.{ReadsAll, ReadsFirst};
+ghost use Rattle.desk_queries.specs.Asking.{SeesStill, LeavesNothingNew};
 
 use desk_records::{FromColumn, FromRow, read_only_column};
 use sql_statements::query;
@@ -20,11 +20,17 @@ use std::alloc::Global;
 /// Gives the value that the next row stores, and `None` behind the last row.
 pub(crate) fn next_of<S: Alter, T: FromRow>(rows: &mut Rows<'_, S>) -> Result<Option<T>, Error>
     ensures same_reference { rows.new.conn.ghost_name ≡ rows.old.conn.ghost_name }
-    ensures advances { HasCleanDisk (state S.Store rows.new.conn.now) → IfOk result (λ value. Advances S.Store rows.old.conn.now rows.new.conn.now (option_map T.FromRow.stored_row value)) }
+    ensures advances { HasCleanDisk (state S.Store rows.new.conn.now) →
+        IfOk result (λ value. Advances S.Store rows.old.conn.now rows.new.conn.now
+        (option_map T.FromRow.stored_row value)) }
     ensures fits { IfOk result (FitsIfAny T.FromRow.fits) }
-    ensures same { HasCleanDisk (state S.Store rows.new.conn.now) → OnOk result (IsUnchanged (state S.Store rows.old.conn.now) (state S.Store rows.new.conn.now)) }
-    ensures kept { HasCleanDisk (state S.Store rows.new.conn.now) → IfErr result (λ e. Fails (state S.Store rows.old.conn.now) (state S.Store rows.new.conn.now) ⊥ e ⊎ IsUnchanged (state S.Store rows.old.conn.now) (state S.Store rows.new.conn.now)) }
-    ensures survives { Survives (state S.Store rows.old.conn.now) (state S.Store rows.new.conn.now) (λ _. ⊥) }
+    ensures same { HasCleanDisk (state S.Store rows.new.conn.now) →
+        OnOk result
+        (IsUnchanged (state S.Store rows.old.conn.now) (state S.Store rows.new.conn.now)) }
+    ensures kept { HasCleanDisk (state S.Store rows.new.conn.now) →
+        IfErr result (λ e. Fails (state S.Store rows.old.conn.now) (state S.Store rows.new.conn.now)
+        ⊥ e ⊎ IsUnchanged (state S.Store rows.old.conn.now) (state S.Store rows.new.conn.now)) }
+    ensures survives { LeavesNothingNew S.Store rows.old.conn.now rows.new.conn.now }
 {
     rows.advance()?;
     let Some(row) = rows.get() else {
@@ -57,10 +63,12 @@ pub(crate) fn all_of<S: Alter, T: FromRow>(
     params: &[ValueRef<'_>],
 ) -> Result<Vec<T>, Error>
     requires { IsSelectText sql.now }
-    ensures answer { HasCleanDisk (state S.Store conn.new) → IfOk result (λ xs. ReadsAll sql.now (bound params.now) T.FromRow.stored_row (state S.Store conn.old) (state S.Store conn.new) xs.items) }
+    ensures answer { HasCleanDisk (state S.Store conn.new) →
+        IfOk result (λ xs. ReadsAll sql.now (bound params.now) T.FromRow.stored_row
+        (state S.Store conn.old) (state S.Store conn.new) xs.items) }
     ensures fit { IfOk result (λ xs. AllByRecursion T.FromRow.fits xs.items) }
-    ensures stays { HasCleanDisk (state S.Store conn.new) → Stays (state S.Store conn.old) (state S.Store conn.new) }
-    ensures survives { Survives (state S.Store conn.old) (state S.Store conn.new) (λ _. ⊥) }
+    ensures stays { SeesStill S.Store conn.old conn.new }
+    ensures survives { LeavesNothingNew S.Store conn.old conn.new }
 {
     if !conn.is_autocommit() {
         return Err(Error::InvalidQuery);
@@ -85,9 +93,11 @@ pub(crate) fn first_of<S: Alter, T: FromRow>(
     params: &[ValueRef<'_>],
 ) -> Result<Option<T>, Error>
     requires { IsSelectText sql.now }
-    ensures answer { HasCleanDisk (state S.Store conn.new) → IfOk result (λ x. ReadsFirst sql.now (bound params.now) T.FromRow.stored_row (state S.Store conn.old) (state S.Store conn.new) x) }
-    ensures stays { HasCleanDisk (state S.Store conn.new) → Stays (state S.Store conn.old) (state S.Store conn.new) }
-    ensures survives { Survives (state S.Store conn.old) (state S.Store conn.new) (λ _. ⊥) }
+    ensures answer { HasCleanDisk (state S.Store conn.new) →
+        IfOk result (λ x. ReadsFirst sql.now (bound params.now) T.FromRow.stored_row
+        (state S.Store conn.old) (state S.Store conn.new) x) }
+    ensures stays { SeesStill S.Store conn.old conn.new }
+    ensures survives { LeavesNothingNew S.Store conn.old conn.new }
 {
     let rows = query(conn, sql, params)?;
     read_first(&rows)
@@ -109,7 +119,8 @@ fn read_column_of_all<T: FromColumn>(alloc: Global, rows: &[Row]) -> Result<Vec<
 
 // The value that the first of rows of one column stores.
 fn read_first_cell<T: FromColumn>(rows: &[Row]) -> Result<Option<T>, Error>
-    ensures is { IfOk result (λ x. option_map (λ x. T.FromColumn.stored x ∷ []) x ≡ slice_get rows.now 0) }
+    ensures is { IfOk result
+        (λ x. option_map (λ x. T.FromColumn.stored x ∷ []) x ≡ slice_get rows.now 0) }
     ensures fits { IfOk result (FitsIfAny T.FromColumn.fits) }
 {
     let Some(row) = rows.first() else {
@@ -129,9 +140,11 @@ pub(crate) fn column_of<S: Alter, T: FromColumn>(
     params: &[ValueRef<'_>],
 ) -> Result<Vec<T>, Error>
     requires { IsSelectText sql.now }
-    ensures answer { HasCleanDisk (state S.Store conn.new) → IfOk result (λ xs. ReadsAll sql.now (bound params.now) (λ x. T.FromColumn.stored x ∷ []) (state S.Store conn.old) (state S.Store conn.new) xs.items) }
-    ensures stays { HasCleanDisk (state S.Store conn.new) → Stays (state S.Store conn.old) (state S.Store conn.new) }
-    ensures survives { Survives (state S.Store conn.old) (state S.Store conn.new) (λ _. ⊥) }
+    ensures answer { HasCleanDisk (state S.Store conn.new) →
+        IfOk result (λ xs. ReadsAll sql.now (bound params.now) (λ x. T.FromColumn.stored x ∷ [])
+        (state S.Store conn.old) (state S.Store conn.new) xs.items) }
+    ensures stays { SeesStill S.Store conn.old conn.new }
+    ensures survives { LeavesNothingNew S.Store conn.old conn.new }
 {
     let rows = query(conn, sql, params)?;
     read_column_of_all(alloc, &rows)
@@ -145,10 +158,12 @@ pub(crate) fn cell_of<S: Alter, T: FromColumn>(
     params: &[ValueRef<'_>],
 ) -> Result<Option<T>, Error>
     requires { IsSelectText sql.now }
-    ensures answer { HasCleanDisk (state S.Store conn.new) → IfOk result (λ x. ReadsFirst sql.now (bound params.now) (λ x. T.FromColumn.stored x ∷ []) (state S.Store conn.old) (state S.Store conn.new) x) }
+    ensures answer { HasCleanDisk (state S.Store conn.new) →
+        IfOk result (λ x. ReadsFirst sql.now (bound params.now) (λ x. T.FromColumn.stored x ∷ [])
+        (state S.Store conn.old) (state S.Store conn.new) x) }
     ensures fits { IfOk result (FitsIfAny T.FromColumn.fits) }
-    ensures stays { HasCleanDisk (state S.Store conn.new) → Stays (state S.Store conn.old) (state S.Store conn.new) }
-    ensures survives { Survives (state S.Store conn.old) (state S.Store conn.new) (λ _. ⊥) }
+    ensures stays { SeesStill S.Store conn.old conn.new }
+    ensures survives { LeavesNothingNew S.Store conn.old conn.new }
 {
     let rows = query(conn, sql, params)?;
     read_first_cell(&rows)
@@ -156,7 +171,8 @@ pub(crate) fn cell_of<S: Alter, T: FromColumn>(
 
 // The bytes in the first of rows of one column.
 fn read_first_blob(alloc: Global, rows: &[Row]) -> Result<Option<Vec<u8>>, Error>
-    ensures { IfOk result (λ x. option_map (λ b. Blob b ∷ []) (option_map (λ v. v.items) x) ≡ slice_get rows.now 0) }
+    ensures { IfOk result
+        (λ x. option_map (λ b. Blob b ∷ []) (option_map (λ v. v.items) x) ≡ slice_get rows.now 0) }
 {
     let Some(row) = rows.first() else {
         return Ok(None);
@@ -179,9 +195,11 @@ pub(crate) fn blob_of<S: Alter>(
     params: &[ValueRef<'_>],
 ) -> Result<Option<Vec<u8>>, Error>
     requires { IsSelectText sql.now }
-    ensures answer { HasCleanDisk (state S.Store conn.new) → IfOk result (λ x. ReadsFirst sql.now (bound params.now) (λ b. Blob b ∷ []) (state S.Store conn.old) (state S.Store conn.new) (option_map (λ v. v.items) x)) }
-    ensures stays { HasCleanDisk (state S.Store conn.new) → Stays (state S.Store conn.old) (state S.Store conn.new) }
-    ensures survives { Survives (state S.Store conn.old) (state S.Store conn.new) (λ _. ⊥) }
+    ensures answer { HasCleanDisk (state S.Store conn.new) →
+        IfOk result (λ x. ReadsFirst sql.now (bound params.now) (λ b. Blob b ∷ [])
+        (state S.Store conn.old) (state S.Store conn.new) (option_map (λ v. v.items) x)) }
+    ensures stays { SeesStill S.Store conn.old conn.new }
+    ensures survives { LeavesNothingNew S.Store conn.old conn.new }
 {
     let rows = query(conn, sql, params)?;
     read_first_blob(alloc, &rows)

@@ -1,20 +1,18 @@
 //! Submissions.
 ghost use Rattle.std.specs.Prelude.{◌≡◌, ◌++◌, IfOk, IsPermutation, IsSorted};
-ghost use Rattle.sqlite.specs.Held.{state};
-ghost use Rattle.sqlite.specs.State.{HasCleanDisk, Survives};
-ghost use Rattle.sql_statements.specs.Queries.{Stays};
 ghost use Rattle.sql_statements.specs.Findings.{Finds};
 ghost use Rattle.desk_records.specs.CutTables.{is_row};
-ghost use Rattle.desk_records.specs.Layout.{desk_layout};
 ghost use Rattle.desk_records.specs.TableReads.{is_of, is_open_of, is_waiting_of, is_retry_of, heads_in, head_under, order_in, facts_in, last_order, authorized_in};
 ghost use Rattle.desk_queries.specs.Waiting.{by_head_order, is_settled_of};
+ghost use Rattle.desk_queries.specs.Asking.{Asks, SeesStill, LeavesNothingNew};
 
-use crate::parameter::{characters, natural, number_of};
 use crate::rows::{all_of, cell_of, first_of};
 use crate::waiting::first_that_wait;
 use ach_fields::{Id, Ref};
 use bank_days::Day;
-use desk_records::{OrderAndSettlement, SubmissionFacts, SubmissionHead};
+use desk_records::{
+    OrderAndSettlement, SubmissionFacts, SubmissionHead, characters, natural, number_of,
+};
 use sqlite::{Alter, Connection, Error};
 use std::alloc::Global;
 
@@ -24,9 +22,10 @@ pub fn submissions_of<S: Alter>(
     alloc: Global,
     company: Id,
 ) -> Result<Vec<SubmissionHead>, Error>
-    ensures answer { HasCleanDisk (state S.Store conn.new) → IfOk result (λ found. Finds desk_layout (λ t. found.items ≡ heads_in (is_of company) t) (state S.Store conn.old)) }
-    ensures stays { HasCleanDisk (state S.Store conn.new) → Stays (state S.Store conn.old) (state S.Store conn.new) }
-    ensures survives { Survives (state S.Store conn.old) (state S.Store conn.new) (λ _. ⊥) }
+    ensures answer { Asks S.Store conn.old conn.new result
+        (λ found t. found.items ≡ heads_in (is_of company) t) }
+    ensures stays { SeesStill S.Store conn.old conn.new }
+    ensures survives { LeavesNothingNew S.Store conn.old conn.new }
 {
     all_of(
         conn,
@@ -43,9 +42,10 @@ pub fn open_submissions<S: Alter>(
     company: Id,
     since: Day,
 ) -> Result<Vec<SubmissionHead>, Error>
-    ensures answer { HasCleanDisk (state S.Store conn.new) → IfOk result (λ found. Finds desk_layout (λ t. found.items ≡ heads_in (is_open_of company since) t) (state S.Store conn.old)) }
-    ensures stays { HasCleanDisk (state S.Store conn.new) → Stays (state S.Store conn.old) (state S.Store conn.new) }
-    ensures survives { Survives (state S.Store conn.old) (state S.Store conn.new) (λ _. ⊥) }
+    ensures answer { Asks S.Store conn.old conn.new result
+        (λ found t. found.items ≡ heads_in (is_open_of company since) t) }
+    ensures stays { SeesStill S.Store conn.old conn.new }
+    ensures survives { LeavesNothingNew S.Store conn.old conn.new }
 {
     let waiting = waiting_submissions(conn, alloc, company)?;
     let settled = settled_submissions(conn, alloc, company, number_of(since))?;
@@ -72,9 +72,10 @@ pub fn settled_submissions<S: Alter>(
     company: Id,
     since: u64,
 ) -> Result<Vec<SubmissionHead>, Error>
-    ensures answer { HasCleanDisk (state S.Store conn.new) → IfOk result (λ found. Finds desk_layout (λ t. found.items ≡ heads_in (is_settled_of company since) t) (state S.Store conn.old)) }
-    ensures stays { HasCleanDisk (state S.Store conn.new) → Stays (state S.Store conn.old) (state S.Store conn.new) }
-    ensures survives { Survives (state S.Store conn.old) (state S.Store conn.new) (λ _. ⊥) }
+    ensures answer { Asks S.Store conn.old conn.new result
+        (λ found t. found.items ≡ heads_in (is_settled_of company since) t) }
+    ensures stays { SeesStill S.Store conn.old conn.new }
+    ensures survives { LeavesNothingNew S.Store conn.old conn.new }
 {
     all_of(
         conn,
@@ -90,9 +91,10 @@ pub fn waiting_submissions<S: Alter>(
     alloc: Global,
     company: Id,
 ) -> Result<Vec<SubmissionHead>, Error>
-    ensures answer { HasCleanDisk (state S.Store conn.new) → IfOk result (λ found. Finds desk_layout (λ t. found.items ≡ heads_in (is_waiting_of company) t) (state S.Store conn.old)) }
-    ensures stays { HasCleanDisk (state S.Store conn.new) → Stays (state S.Store conn.old) (state S.Store conn.new) }
-    ensures survives { Survives (state S.Store conn.old) (state S.Store conn.new) (λ _. ⊥) }
+    ensures answer { Asks S.Store conn.old conn.new result
+        (λ found t. found.items ≡ heads_in (is_waiting_of company) t) }
+    ensures stays { SeesStill S.Store conn.old conn.new }
+    ensures survives { LeavesNothingNew S.Store conn.old conn.new }
 {
     first_that_wait(
         conn,
@@ -111,9 +113,10 @@ pub fn retries<S: Alter>(
     of: Ref,
     index: u64,
 ) -> Result<Vec<SubmissionHead>, Error>
-    ensures answer { HasCleanDisk (state S.Store conn.new) → IfOk result (λ found. Finds desk_layout (λ t. found.items ≡ heads_in (is_retry_of company of index) t) (state S.Store conn.old)) }
-    ensures stays { HasCleanDisk (state S.Store conn.new) → Stays (state S.Store conn.old) (state S.Store conn.new) }
-    ensures survives { Survives (state S.Store conn.old) (state S.Store conn.new) (λ _. ⊥) }
+    ensures answer { Asks S.Store conn.old conn.new result
+        (λ found t. found.items ≡ heads_in (is_retry_of company of index) t) }
+    ensures stays { SeesStill S.Store conn.old conn.new }
+    ensures survives { LeavesNothingNew S.Store conn.old conn.new }
 {
     all_of(
         conn,
@@ -134,9 +137,10 @@ pub fn numbered_submission<S: Alter>(
     company: Id,
     order: u64,
 ) -> Result<Vec<SubmissionHead>, Error>
-    ensures answer { HasCleanDisk (state S.Store conn.new) → IfOk result (λ found. Finds desk_layout (λ t. found.items ≡ heads_in (is_row company order) t) (state S.Store conn.old)) }
-    ensures stays { HasCleanDisk (state S.Store conn.new) → Stays (state S.Store conn.old) (state S.Store conn.new) }
-    ensures survives { Survives (state S.Store conn.old) (state S.Store conn.new) (λ _. ⊥) }
+    ensures answer { Asks S.Store conn.old conn.new result
+        (λ found t. found.items ≡ heads_in (is_row company order) t) }
+    ensures stays { SeesStill S.Store conn.old conn.new }
+    ensures survives { LeavesNothingNew S.Store conn.old conn.new }
 {
     all_of(
         conn,
@@ -152,9 +156,10 @@ pub fn submission<S: Alter>(
     company: Id,
     reference: Ref,
 ) -> Result<Option<SubmissionHead>, Error>
-    ensures answer { HasCleanDisk (state S.Store conn.new) → IfOk result (λ found. Finds desk_layout (λ t. found ≡ head_under company reference t) (state S.Store conn.old)) }
-    ensures stays { HasCleanDisk (state S.Store conn.new) → Stays (state S.Store conn.old) (state S.Store conn.new) }
-    ensures survives { Survives (state S.Store conn.old) (state S.Store conn.new) (λ _. ⊥) }
+    ensures answer { Asks S.Store conn.old conn.new result
+        (λ found t. found ≡ head_under company reference t) }
+    ensures stays { SeesStill S.Store conn.old conn.new }
+    ensures survives { LeavesNothingNew S.Store conn.old conn.new }
 {
     first_of(
         conn,
@@ -169,9 +174,10 @@ pub fn order_and_settlement<S: Alter>(
     company: Id,
     reference: Ref,
 ) -> Result<Option<OrderAndSettlement>, Error>
-    ensures answer { HasCleanDisk (state S.Store conn.new) → IfOk result (λ found. Finds desk_layout (λ t. found ≡ order_in company reference t) (state S.Store conn.old)) }
-    ensures stays { HasCleanDisk (state S.Store conn.new) → Stays (state S.Store conn.old) (state S.Store conn.new) }
-    ensures survives { Survives (state S.Store conn.old) (state S.Store conn.new) (λ _. ⊥) }
+    ensures answer { Asks S.Store conn.old conn.new result
+        (λ found t. found ≡ order_in company reference t) }
+    ensures stays { SeesStill S.Store conn.old conn.new }
+    ensures survives { LeavesNothingNew S.Store conn.old conn.new }
 {
     first_of(
         conn,
@@ -186,9 +192,10 @@ pub fn facts<S: Alter>(
     company: Id,
     order: u64,
 ) -> Result<Option<SubmissionFacts>, Error>
-    ensures answer { HasCleanDisk (state S.Store conn.new) → IfOk result (λ found. Finds desk_layout (λ t. found ≡ facts_in company order t) (state S.Store conn.old)) }
-    ensures stays { HasCleanDisk (state S.Store conn.new) → Stays (state S.Store conn.old) (state S.Store conn.new) }
-    ensures survives { Survives (state S.Store conn.old) (state S.Store conn.new) (λ _. ⊥) }
+    ensures answer { Asks S.Store conn.old conn.new result
+        (λ found t. found ≡ facts_in company order t) }
+    ensures stays { SeesStill S.Store conn.old conn.new }
+    ensures survives { LeavesNothingNew S.Store conn.old conn.new }
 {
     first_of(
         conn,
@@ -203,9 +210,10 @@ pub fn authorization<S: Alter>(
     company: Id,
     order: u64,
 ) -> Result<Option<Day>, Error>
-    ensures answer { HasCleanDisk (state S.Store conn.new) → IfOk result (λ found. Finds desk_layout (λ t. found ≡ authorized_in company order t) (state S.Store conn.old)) }
-    ensures stays { HasCleanDisk (state S.Store conn.new) → Stays (state S.Store conn.old) (state S.Store conn.new) }
-    ensures survives { Survives (state S.Store conn.old) (state S.Store conn.new) (λ _. ⊥) }
+    ensures answer { Asks S.Store conn.old conn.new result
+        (λ found t. found ≡ authorized_in company order t) }
+    ensures stays { SeesStill S.Store conn.old conn.new }
+    ensures survives { LeavesNothingNew S.Store conn.old conn.new }
 {
     cell_of(
         conn,
@@ -216,9 +224,10 @@ pub fn authorization<S: Alter>(
 
 /// Gives the number of the last submission or retry of a company, 0 before the first.
 pub fn last_order<S: Alter>(conn: &mut Connection<S>, company: Id) -> Result<u64, Error>
-    ensures answer { HasCleanDisk (state S.Store conn.new) → IfOk result (λ found. Finds desk_layout (λ t. found ≡ last_order company t) (state S.Store conn.old)) }
-    ensures stays { HasCleanDisk (state S.Store conn.new) → Stays (state S.Store conn.old) (state S.Store conn.new) }
-    ensures survives { Survives (state S.Store conn.old) (state S.Store conn.new) (λ _. ⊥) }
+    ensures answer { Asks S.Store conn.old conn.new result
+        (λ found t. found ≡ last_order company t) }
+    ensures stays { SeesStill S.Store conn.old conn.new }
+    ensures survives { LeavesNothingNew S.Store conn.old conn.new }
 {
     match cell_of(
         conn,

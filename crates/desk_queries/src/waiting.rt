@@ -2,13 +2,13 @@
 //! up to the first that does not wait.
 ghost use Rattle.std.specs.Prelude.{◌≡◌, IfOk};
 ghost use Rattle.sqlite.specs.Held.{state};
-ghost use Rattle.sqlite.specs.State.{HasCleanDisk, Survives};
+ghost use Rattle.sqlite.specs.State.{HasCleanDisk};
 ghost use Rattle.sqlite.specs.Values.{bound};
-ghost use Rattle.sql_statements.specs.Queries.{Stays};
 ghost use Rattle.sql_statements.specs.SelectTexts.{IsSelectText};
 ghost use Rattle.desk_records.specs.QueryRows.{submission_head_row};
 ghost use Rattle.desk_queries.specs.Shows.{ReadsWhile};
 ghost use Rattle.desk_queries.specs.Waiting.{waits};
+ghost use Rattle.desk_queries.specs.Asking.{SeesStill, LeavesNothingNew};
 
 use crate::rows::next_of;
 use desk_records::SubmissionHead;
@@ -32,9 +32,11 @@ pub(crate) fn first_that_wait<S: Alter>(
     params: &[ValueRef<'_>],
 ) -> Result<Vec<SubmissionHead>, Error>
     requires { IsSelectText sql.now }
-    ensures answer { HasCleanDisk (state S.Store conn.new) → IfOk result (λ waiting. ReadsWhile sql.now (bound params.now) submission_head_row waits (state S.Store conn.old) (state S.Store conn.new) waiting.items) }
-    ensures stays { HasCleanDisk (state S.Store conn.new) → Stays (state S.Store conn.old) (state S.Store conn.new) }
-    ensures survives { Survives (state S.Store conn.old) (state S.Store conn.new) (λ _. ⊥) }
+    ensures answer { HasCleanDisk (state S.Store conn.new) →
+        IfOk result (λ waiting. ReadsWhile sql.now (bound params.now) submission_head_row waits
+        (state S.Store conn.old) (state S.Store conn.new) waiting.items) }
+    ensures stays { SeesStill S.Store conn.old conn.new }
+    ensures survives { LeavesNothingNew S.Store conn.old conn.new }
 {
     if !conn.is_autocommit() {
         return Err(Error::InvalidQuery);

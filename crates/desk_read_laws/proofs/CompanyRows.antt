@@ -24,7 +24,7 @@ use Rattle.desk_records.specs.Tables.{Tables}
 use Rattle.desk_records.specs.declared.records.ReturnRecord.{ReturnRecord}
 use Rattle.desk_records.specs.declared.records.SubmissionRecord.{SubmissionRecord}
 use Rattle.desk_read_laws.proofs.FoundRows.{rows_found, row_found}
-use Rattle.desk_read_laws.proofs.Lists.{filter-both, find-both, filter_agrees, find-map, last_counts}
+use Rattle.desk_records.proofs.Lists.{filter-both, find-both, filter_agrees, find-map, last_counts}
 
 abbrev pub is_in : List ℕ → CompanyRow → Bool
 is_in c x = bytes_eq x.company c

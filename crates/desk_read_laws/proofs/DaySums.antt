@@ -22,7 +22,7 @@ use Rattle.desk_records.specs.KeyOrders.{IsInOrder, balance_cmp, text_cmp}
 use Rattle.desk_records.specs.Selected.{day_sum_of}
 use Rattle.desk_records.specs.declared.records.BalanceRecord.{BalanceRecord}
 use Rattle.desk_history.specs.declared.operations.DaySum.{DaySum}
-use Rattle.desk_read_laws.proofs.Lists.{find-map, find-both, option_map-map, ascending_from_pairs}
+use Rattle.desk_records.proofs.Lists.{find-map, find-both, option_map-map, ascending_from_pairs}
 use Rattle.desk_read_laws.proofs.WholeRows.{text_ties}
 
 -- ---- sums by ascending days are told by their look-ups

@@ -19,10 +19,10 @@ use Rattle.desk_records.specs.Selected.{head_of, numbered_of}
 use Rattle.desk_records.specs.TableReads.{is_under}
 use Rattle.desk_records.specs.Tables.{Tables}
 use Rattle.desk_records.specs.declared.records.EntryRecord.{EntryRecord}
-use Rattle.desk_read_laws.specs.Composed.{state_in, state_under_in}
+use Rattle.desk_records.specs.Composed.{state_in, state_under_in}
 use Rattle.desk_read_laws.proofs.CompanyRows.{row_under_of}
 use Rattle.desk_read_laws.proofs.FoundRows.{record_found}
-use Rattle.desk_read_laws.proofs.Lists.{found_agrees, option_map-map, found_passes}
+use Rattle.desk_records.proofs.Lists.{found_agrees, option_map-map, found_passes}
 use Rattle.desk_read_laws.proofs.OwnParts.{own_entry, numbered_at}
 use Rattle.desk_read_laws.proofs.WholeRows.{is_own, all_alone, same_state}
 

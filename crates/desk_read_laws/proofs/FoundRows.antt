@@ -8,7 +8,7 @@ use Rattle.desk_records.specs.Selected.{head_of}
 use Rattle.desk_records.specs.TableReads.{whole_row, rows_in}
 use Rattle.desk_records.specs.Tables.{Tables}
 use Rattle.desk_records.specs.declared.records.SubmissionRecord.{SubmissionRecord}
-use Rattle.desk_read_laws.proofs.Lists.{map_agrees, found_agrees, find-map, option_map-map}
+use Rattle.desk_records.proofs.Lists.{map_agrees, found_agrees, find-map, option_map-map}
 use Rattle.desk_read_laws.proofs.WholeRows.{rows_whole}
 
 module _ (t : Tables) (r : Rows) (e : Encodes t r) where

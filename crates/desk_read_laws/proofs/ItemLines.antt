@@ -15,8 +15,8 @@ use Rattle.desk_records.specs.Tables.{Tables}
 use Rattle.desk_records.specs.declared.records.ChangeRecord.{ChangeRecord}
 use Rattle.desk_records.specs.declared.records.ReturnRecord.{ReturnRecord}
 use Rattle.desk_records.specs.declared.row.submissions.SubmissionFacts.{SubmissionFacts}
-use Rattle.desk_read_laws.specs.Composed.{return_row_of, return_row_in, change_row_of, change_row_in}
-use Rattle.desk_read_laws.proofs.Lists.{found_passes}
+use Rattle.desk_records.specs.Composed.{return_row_of, return_row_in, change_row_of, change_row_in}
+use Rattle.desk_records.proofs.Lists.{found_passes}
 use Rattle.desk_read_laws.proofs.OwnParts.{own_record}
 use Rattle.desk_read_laws.proofs.WholeRows.{is_own, all_alone}
 

@@ -22,7 +22,7 @@ use Rattle.desk_records.specs.Encodes.{AreYoungest, youngest_place}
 use Rattle.desk_records.specs.KeyOrders.{IsInOrder, number_cmp}
 use Rattle.desk_records.specs.declared.records.NumberRecord.{NumberRecord}
 use Rattle.desk_read_laws.proofs.DaySums.{less_number}
-use Rattle.desk_read_laws.proofs.Lists.{last-cons, found_passes}
+use Rattle.desk_records.proofs.Lists.{last-cons, found_passes}
 use Rattle.desk_read_laws.proofs.Singles.{each_alone}
 use Rattle.desk_read_laws.proofs.SentPlaces.{StandsAt, StandsOrNone, stands, stands_as, place_more, slice_get-end}
 

@@ -12,7 +12,7 @@ use Rattle.desk_records.specs.KeyOrders.{IsInOrder, number_cmp}
 use Rattle.desk_records.specs.TableReads.{is_between}
 use Rattle.desk_records.specs.declared.records.NumberRecord.{NumberRecord}
 use Rattle.desk_read_laws.proofs.DaySums.{less_number}
-use Rattle.desk_read_laws.proofs.Lists.{filter_agrees}
+use Rattle.desk_records.proofs.Lists.{filter_agrees}
 
 -- ---- those of some that are there
 

@@ -3,7 +3,6 @@ pub mod DaySums
 pub mod EntryStates
 pub mod FoundRows
 pub mod ItemLines
-pub mod Lists
 pub mod OwnParts
 pub mod Permuted
 pub mod ReadsAs

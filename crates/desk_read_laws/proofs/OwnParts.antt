@@ -12,7 +12,7 @@ use Rattle.desk_records.specs.TableReads.{is_entry_of}
 use Rattle.desk_records.specs.declared.records.EntryRecord.{EntryRecord}
 use Rattle.desk_records.specs.declared.records.SubmissionRecord.{SubmissionRecord}
 use Rattle.desk_read_laws.proofs.FoundRows.{record_found}
-use Rattle.desk_read_laws.proofs.Lists.{find-map, find-both, of_contained}
+use Rattle.desk_records.proofs.Lists.{find-map, find-both, of_contained}
 use Rattle.desk_read_laws.proofs.Singles.{each_alone}
 use Rattle.desk_read_laws.proofs.WholeRows.{is_own, own_entries}
 

@@ -29,8 +29,8 @@ use Rattle.desk_records.specs.TableReads.{number_of_last, company_in, lines_in, 
 use Rattle.desk_records.specs.Tables.{Tables}
 use Rattle.desk_records.specs.declared.records.PostingRecord.{PostingRecord}
 use Rattle.desk_records.specs.declared.records.SuspenseRecord.{SuspenseRecord}
-use Rattle.desk_read_laws.specs.Composed.{key_in}
-use Rattle.desk_read_laws.proofs.Lists.{last_counts, enumerated_numbers, unnumbered, filter-unnumbered}
+use Rattle.desk_records.specs.Composed.{key_in}
+use Rattle.desk_records.proofs.Lists.{last_counts, enumerated_numbers, unnumbered, filter-unnumbered}
 use Rattle.desk_read_laws.proofs.Permuted.{found_same}
 use Rattle.desk_read_laws.proofs.WholeRows.{number_ties, text_ties}
 

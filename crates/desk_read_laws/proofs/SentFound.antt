@@ -24,8 +24,8 @@ use Rattle.desk_records.specs.Tables.{Tables}
 use Rattle.desk_records.specs.declared.records.EntryRecord.{EntryRecord}
 use Rattle.desk_records.specs.declared.row.entries.PlacedEntry.{PlacedEntry}
 use Rattle.desk_records.specs.declared.row.submissions.SubmissionFacts.{SubmissionFacts}
-use Rattle.desk_read_laws.specs.Composed.{sent_entry_of, sent_with, sent_at, sent_in, settled_at}
-use Rattle.desk_read_laws.proofs.Lists.{find-map, find_agrees, of_contained, option_map-map, ascending_from_pairs}
+use Rattle.desk_records.specs.Composed.{sent_entry_of, sent_with, sent_at, sent_in, settled_at}
+use Rattle.desk_records.proofs.Lists.{find-map, find_agrees, of_contained, option_map-map, ascending_from_pairs}
 use Rattle.desk_read_laws.proofs.OwnParts.{own_record, own_entry, numbered_found}
 use Rattle.desk_read_laws.proofs.SentPlaces.{place_is, youngest, StandsAt, StandsOrNone, stands, stands_as}
 use Rattle.desk_read_laws.proofs.WholeRows.{is_own, all_alone}

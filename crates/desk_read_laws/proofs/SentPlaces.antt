@@ -11,7 +11,7 @@ use Rattle.desk_history.specs.declared.sent_entry.SentEntry.{SentEntry}
 use Rattle.desk_records.specs.Beside.{AreApart}
 use Rattle.desk_records.specs.Encodes.{is_entry, youngest_place}
 use Rattle.desk_records.specs.TableReads.{is_place}
-use Rattle.desk_read_laws.proofs.Lists.{found_passes}
+use Rattle.desk_records.proofs.Lists.{found_passes}
 use Rattle.desk_records.proofs.YoungestNumbers.{youngest_more}
 
 -- ---- the place of an entry

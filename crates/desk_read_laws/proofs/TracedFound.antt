@@ -23,9 +23,9 @@ use Rattle.desk_records.specs.Encodes.{Encodes}
 use Rattle.desk_records.specs.KeyOrders.{IsInOrder, submission_cmp, number_cmp}
 use Rattle.desk_records.specs.TableReads.{place_in}
 use Rattle.desk_records.specs.Tables.{Tables}
-use Rattle.desk_read_laws.specs.Composed.{sent_in, sent_as_in, settled_at, latest_in}
+use Rattle.desk_records.specs.Composed.{sent_in, sent_as_in, settled_at, latest_in}
 use Rattle.desk_read_laws.proofs.LatestFound.{filter_map_same, filter_map_then, places_of_range, numbers_before}
-use Rattle.desk_read_laws.proofs.Lists.{find_agrees}
+use Rattle.desk_records.proofs.Lists.{find_agrees}
 use Rattle.desk_read_laws.proofs.SentFound.{sent_found, settled_found}
 
 module _ (t : Tables) (r : Rows) (e : Encodes t r) (rise : IsInOrder submission_cmp t.submissions) (beside : Beside t r) where

@@ -14,7 +14,7 @@ use Rattle.desk_records.specs.KeyOrders.{IsInOrder, submission_cmp}
 use Rattle.desk_records.specs.Selected.{order_of}
 use Rattle.desk_records.specs.TableReads.{order_in, is_under, is_waiting_of}
 use Rattle.desk_records.specs.Tables.{Tables}
-use Rattle.desk_read_laws.specs.Composed.{original_in, held_in, waiting_of_in, waiting_in}
+use Rattle.desk_records.specs.Composed.{original_in, held_in, waiting_of_in, waiting_in}
 use Rattle.desk_read_laws.proofs.CompanyRows.{row_under_of, rows_of}
 use Rattle.desk_read_laws.proofs.FoundRows.{rows_found, record_found}
 

@@ -1,4 +1,3 @@
-pub mod Composed
 pub mod NumberLaws
 pub mod ReadsAs
 pub mod RegistryLaws

@@ -9,7 +9,7 @@ use Rattle.desk_history.specs.declared.sent_entry.SentEntry.{SentEntry}
 use Rattle.desk_records.specs.Layout.{desk_layout, IsBookIn}
 use Rattle.desk_records.specs.TableReads.{IsLastNumber}
 use Rattle.desk_records.specs.declared.records.NumberRecord.{NumberRecord}
-use Rattle.desk_read_laws.specs.Composed.{sent_as_in, latest_in}
+use Rattle.desk_records.specs.Composed.{sent_as_in, latest_in}
 use Rattle.desk_read_laws.specs.ReadsAs.{ReadsAs}
 
 pub record NumberLaws : Type 0 where

@@ -5,7 +5,7 @@ use Rattle.desk_accounts.specs.Balance.{lines_of, day_sums}
 use Rattle.desk_book.specs.declared.caller.Caller.{Caller}
 use Rattle.desk_book.specs.Reads.{key_of, company}
 use Rattle.desk_records.specs.TableReads.{number_of_last, company_in, lines_in, suspense_in, modifiers_in, text_in, taken_in}
-use Rattle.desk_read_laws.specs.Composed.{key_in, day_sums_in}
+use Rattle.desk_records.specs.Composed.{key_in, day_sums_in}
 use Rattle.desk_read_laws.specs.ReadsAs.{ReadsAs}
 
 pub record RegistryLaws : Type 0 where

@@ -10,7 +10,7 @@ use Rattle.desk_history.specs.declared.reports.ChangeRow.{ChangeRow}
 use Rattle.desk_history.specs.declared.reports.ReturnRow.{ReturnRow}
 use Rattle.desk_records.specs.Layout.{desk_layout, IsBookIn}
 use Rattle.desk_records.specs.TableReads.{rows_in, row_under_in, is_of, is_open_of, is_retry_of, last_order, return_lines_in, change_lines_in}
-use Rattle.desk_read_laws.specs.Composed.{exposures_in, rates_in, state_under_in, waiting_of_in, waiting_in, return_row_in, change_row_in}
+use Rattle.desk_records.specs.Composed.{exposures_in, rates_in, state_under_in, waiting_of_in, waiting_in, return_row_in, change_row_in}
 use Rattle.desk_read_laws.specs.ReadsAs.{ReadsAs}
 
 -- A query of open rows may find some that are not open; those that are open are all.

@@ -2,11 +2,9 @@
 #![tactic(auto)]
 
 mod numbers;
-mod parts;
 mod registry;
 mod rows;
 
 pub use numbers::numbers_of_tables;
-pub use parts::{entry_state, facts_from, row_from};
 pub use registry::{files_of_tables, registry_of_tables};
 pub use rows::rows_of_tables;

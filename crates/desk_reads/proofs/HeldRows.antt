@@ -4,7 +4,7 @@ use Rattle.sqlite_keyed.proofs.ListLemmas.{map-map}
 use Rattle.desk_book.specs.declared.held_submission.HeldSubmission.{HeldSubmission}
 use Rattle.desk_rules.specs.declared.bodies.company.Company.{Company}
 use Rattle.desk_queries.proofs.Selects.{each_itself}
-use Rattle.desk_read_laws.specs.Composed.{held_in}
+use Rattle.desk_records.specs.Composed.{held_in}
 use Rattle.desk_records.specs.TableReads.{heads_in, is_waiting_of, rows_in, whole_row}
 use Rattle.desk_records.specs.Tables.{Tables}
 use Rattle.desk_records.specs.declared.row.submissions.SubmissionHead.{SubmissionHead}

@@ -15,7 +15,7 @@ use Rattle.desk_records.specs.TableReads.{is_of, is_open_of, is_since, is_waitin
 use Rattle.desk_records.specs.Tables.{Tables}
 use Rattle.desk_records.specs.declared.records.SubmissionRecord.{SubmissionRecord}
 use Rattle.desk_records.specs.declared.row.submissions.SubmissionHead.{SubmissionHead}
-use Rattle.desk_read_laws.specs.Composed.{exposures_in}
+use Rattle.desk_records.specs.Composed.{exposures_in}
 use Rattle.desk_reads.proofs.Measures.{Adds, over_each, summed_map, narrowed}
 use Rattle.desk_reads.proofs.RowFacts.{credit_none, debit_none}
 use Rattle.desk_reads.specs.Counted.{row_exposures, heads_exposures}

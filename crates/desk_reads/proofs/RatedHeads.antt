@@ -28,8 +28,8 @@ use Rattle.desk_records.specs.declared.row.entries.EntryAmount.{EntryAmount}
 use Rattle.desk_records.specs.declared.row.items.EntryReturn.{EntryReturn}
 use Rattle.desk_records.specs.declared.row.submissions.SubmissionHead.{SubmissionHead}
 use Rattle.desk_queries.specs.Waiting.{is_settled_of}
-use Rattle.desk_read_laws.specs.Composed.{fact_among, rates_in}
-use Rattle.desk_read_laws.proofs.Lists.{filter-both}
+use Rattle.desk_records.specs.Composed.{fact_among, rates_in}
+use Rattle.desk_records.proofs.Lists.{filter-both}
 use Rattle.desk_reads.proofs.Measures.{Adds, over_each, summed_map, summed_same, apart, others, by_key, passing_all}
 use Rattle.desk_reads.proofs.RowFacts.{facts_are}
 use Rattle.desk_reads.specs.Counted.{AreReturned, debit_facts, earlier_facts}

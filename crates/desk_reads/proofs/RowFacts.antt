@@ -15,7 +15,7 @@ use Rattle.desk_records.specs.declared.records.EntryRecord.{EntryRecord}
 use Rattle.desk_records.specs.declared.row.entries.EntryAmount.{EntryAmount}
 use Rattle.desk_records.specs.declared.row.items.EntryReturn.{EntryReturn}
 use Rattle.desk_records.specs.declared.row.submissions.SubmissionHead.{SubmissionHead}
-use Rattle.desk_read_laws.specs.Composed.{fact_among}
+use Rattle.desk_records.specs.Composed.{fact_among}
 use Rattle.desk_reads.specs.Counted.{IsWhole, state_alone}
 
 credit_alike : (lapsed : Bool) (settled : Option ℕ) (back : Option EntryReturn) (day : ℕ) → is_open_credit (unless_lapsed lapsed (state_with settled back)) day ≡ is_open_credit (unless_lapsed lapsed (state_with settled None)) day

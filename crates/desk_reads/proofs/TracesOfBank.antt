@@ -5,7 +5,7 @@ use Rattle.std.proofs.lemmas.Bool.{ne_eqb}
 use Rattle.std.proofs.lemmas.Bool.Decides.{nat_tests}
 use Rattle.ach_fields.specs.Routing.{dfi_of}
 use Rattle.ach_fields.specs.Trace.{dfi_in, sequence_in}
-use Rattle.desk_read_laws.specs.Composed.{sent_in, sent_as_in}
+use Rattle.desk_records.specs.Composed.{sent_in, sent_as_in}
 use Rattle.desk_records.specs.Tables.{Tables}
 
 module _ (odfi trace : List ℕ) (t : Tables) where

@@ -1,7 +1,7 @@
 -- Which returns and changes are a company's.
 use Rattle.std.specs.Prelude.{◌≡◌, ℕ, List, Some, map}
 use Rattle.desk_book.specs.declared.returns_and_changes.ReturnsAndChanges.{ReturnsAndChanges}
-use Rattle.desk_read_laws.specs.Composed.{return_row_in, change_row_in}
+use Rattle.desk_records.specs.Composed.{return_row_in, change_row_in}
 use Rattle.desk_records.specs.TableReads.{return_lines_in, change_lines_in}
 use Rattle.desk_records.specs.Tables.{Tables}
 

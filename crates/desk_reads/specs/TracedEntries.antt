@@ -2,7 +2,7 @@
 use Rattle.std.specs.Prelude.{◌≡◌, ◌≤◌, ℕ, List, Option}
 use Rattle.ach_fields.specs.Routing.{dfi_of, most_dfi}
 use Rattle.desk_history.specs.declared.sent_entry.SentEntry.{SentEntry}
-use Rattle.desk_read_laws.specs.Composed.{sent_as_in}
+use Rattle.desk_records.specs.Composed.{sent_as_in}
 use Rattle.desk_records.specs.Tables.{Tables}
 
 -- the youngest that was sent under it by this bank, whose number has eight digits

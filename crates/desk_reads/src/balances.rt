@@ -1,8 +1,7 @@
 //! The sums of an account.
 ghost use Rattle.std.specs.Prelude.{◌≡◌, map, IfOk};
-ghost use Rattle.sqlite.specs.Held.{state};
-ghost use Rattle.desk_read_laws.specs.Composed.{day_sums_in};
-ghost use Rattle.desk_reads.specs.Answers.{Answers};
+ghost use Rattle.desk_records.specs.Composed.{day_sums_in};
+ghost use Rattle.desk_reads.specs.Answers.{AnswersOn};
 
 use crate::fault::or_unavailable;
 use bank_days::Day;
@@ -30,7 +29,8 @@ pub fn balances_of<S: Alter>(
     alloc: Global,
     account: Account,
 ) -> Result<Vec<(Day, i128)>, StoreFault>
-    ensures { Answers (λ found t. found.items ≡ day_sums_in account t) result (state S.Store conn.old) (state S.Store conn.new) }
+    ensures { AnswersOn S.Store conn.old conn.new result
+        (λ found t. found.items ≡ day_sums_in account t) }
 {
     let sums = or_unavailable(sums(conn, alloc, account))?;
     let pairs = pairs_of(alloc, &sums)?;

@@ -1,9 +1,8 @@
 //! A read does the same for each item of a list.
 ghost use Rattle.std.specs.Prelude.{◌≡◌, map, IfOk};
 ghost use Rattle.std.specs.List.{flat_map};
-ghost use Rattle.sqlite.specs.Held.{state};
 ghost use Rattle.desk_records.specs.Tables.{Tables};
-ghost use Rattle.desk_reads.specs.Answers.{Learns};
+ghost use Rattle.desk_reads.specs.Answers.{LearnsOn};
 
 use desk_store::StoreFault;
 use emptying_lists::EmptyingList;
@@ -32,7 +31,8 @@ pub(crate) trait ItemRead {
         alloc: Global,
         item: &Self::Item,
     ) -> Result<Self::Found, StoreFault>
-        ensures { Learns (λ found t. shown found ≡ value self.now t item.now) result (state S.Store conn.old) (state S.Store conn.new) };
+        ensures { LearnsOn S.Store conn.old conn.new result
+            (λ found t. shown found ≡ value self.now t item.now) };
 }
 
 /// Reads what belongs to each item of a list, in its order. The items are let go as they are read, so
@@ -43,7 +43,9 @@ pub(crate) fn read_each<S: Alter, R: ItemRead>(
     read: &R,
     items: Vec<R::Item>,
 ) -> Result<Vec<R::Found>, StoreFault>
-    ensures { Learns (λ found t. map R.ItemRead.shown found.items ≡ map (R.ItemRead.value read.now t) items.items) result (state S.Store conn.old) (state S.Store conn.new) }
+    ensures { LearnsOn S.Store conn.old conn.new result
+        (λ found t. map R.ItemRead.shown found.items ≡ map (R.ItemRead.value read.now t)
+        items.items) }
 {
     let mut left = EmptyingList::new(items);
     let mut all = Vec::new(alloc);

@@ -1,18 +1,16 @@
 //! What the rules read of the entries of submissions, without their names and texts.
 ghost use Rattle.std.specs.Prelude.{◌≡◌, List};
 ghost use Rattle.std.specs.List.{flat_map};
-ghost use Rattle.sqlite.specs.Held.{state};
 ghost use Rattle.desk_book.specs.Standing.{row_facts};
 ghost use Rattle.desk_records.specs.TableReads.{whole_row};
-ghost use Rattle.desk_reads.specs.Answers.{Answers, Learns};
+ghost use Rattle.desk_reads.specs.Answers.{AnswersOn, LearnsOn};
 ghost use Rattle.desk_reads.specs.Counted.{debit_facts};
 ghost use Rattle.desk_rules.specs.declared.rules.entry_fact.EntryFact.{EntryFact as Fact};
 
 use crate::each::{ItemRead, joined, read_each};
 use crate::fault::or_unavailable;
 use desk_queries::{amounts_of, returns};
-use desk_read_laws::facts_from;
-use desk_records::SubmissionHead;
+use desk_records::{SubmissionHead, facts_from};
 use desk_rules::{Direction, EntryFact};
 use desk_store::StoreFault;
 use sqlite::{Alter, Connection};
@@ -24,7 +22,8 @@ pub(crate) fn facts<S: Alter>(
     alloc: Global,
     head: &SubmissionHead,
 ) -> Result<Vec<EntryFact>, StoreFault>
-    ensures { Answers (λ found t. found.items ≡ row_facts (whole_row t head.now)) result (state S.Store conn.old) (state S.Store conn.new) }
+    ensures { AnswersOn S.Store conn.old conn.new result
+        (λ found t. found.items ≡ row_facts (whole_row t head.now)) }
 {
     let amounts = or_unavailable(amounts_of(conn, alloc, head.company, head.order))?;
     let returns = or_unavailable(returns(conn, alloc, head.company, head.order))?;
@@ -38,7 +37,8 @@ fn debit_facts<S: Alter>(
     alloc: Global,
     head: &SubmissionHead,
 ) -> Result<Vec<EntryFact>, StoreFault>
-    ensures { Learns (λ found t. found.items ≡ debit_facts (whole_row t head.now)) result (state S.Store conn.old) (state S.Store conn.new) }
+    ensures { LearnsOn S.Store conn.old conn.new result
+        (λ found t. found.items ≡ debit_facts (whole_row t head.now)) }
 {
     match head.direction {
         Direction::Credit => Ok(Vec::new(alloc)),
@@ -80,7 +80,8 @@ pub(crate) fn facts_of_debits<S: Alter>(
     alloc: Global,
     heads: Vec<SubmissionHead>,
 ) -> Result<Vec<EntryFact>, StoreFault>
-    ensures { Learns (λ found t. found.items ≡ flat_map (λ head. debit_facts (whole_row t head)) heads.items) result (state S.Store conn.old) (state S.Store conn.new) }
+    ensures { LearnsOn S.Store conn.old conn.new result
+        (λ found t. found.items ≡ flat_map (λ head. debit_facts (whole_row t head)) heads.items) }
 {
     let lists = read_each(conn, alloc, &DebitFacts, heads)?;
     let all = joined(alloc, lists)?;

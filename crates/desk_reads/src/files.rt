@@ -1,8 +1,7 @@
 //! Files that were cut.
 ghost use Rattle.std.specs.Prelude.{◌≡◌, length};
-ghost use Rattle.sqlite.specs.Held.{state};
 ghost use Rattle.desk_records.specs.TableReads.{modifiers_in, text_in};
-ghost use Rattle.desk_reads.specs.Answers.{Answers};
+ghost use Rattle.desk_reads.specs.Answers.{AnswersOn};
 
 use crate::fault::or_unavailable;
 use bank_days::Day;
@@ -18,7 +17,8 @@ pub fn files_on<S: Alter>(
     alloc: Global,
     day: Day,
 ) -> Result<u64, StoreFault>
-    ensures { Answers (λ found t. found ≡ length (modifiers_in day t)) result (state S.Store conn.old) (state S.Store conn.new) }
+    ensures { AnswersOn S.Store conn.old conn.new result
+        (λ found t. found ≡ length (modifiers_in day t)) }
 {
     let modifiers = or_unavailable(modifiers(conn, alloc, day))?;
     Ok(modifiers.len() as u64)
@@ -31,7 +31,8 @@ pub fn file<S: Alter>(
     day: Day,
     modifier: u8,
 ) -> Result<Option<ListOf<u8>>, StoreFault>
-    ensures { Answers (λ found t. found ≡ text_in day modifier t) result (state S.Store conn.old) (state S.Store conn.new) }
+    ensures { AnswersOn S.Store conn.old conn.new result
+        (λ found t. found ≡ text_in day modifier t) }
 {
     match or_unavailable(file_text(conn, alloc, day, modifier))? {
         Some(text) => Ok(Some(ListOf::new(text))),

@@ -1,10 +1,9 @@
 //! Submissions that wait for a cut.
 ghost use Rattle.std.specs.Prelude.{◌≡◌, List};
-ghost use Rattle.sqlite.specs.Held.{state};
 ghost use Rattle.desk_book.specs.declared.held_submission.HeldSubmission.{HeldSubmission};
-ghost use Rattle.desk_read_laws.specs.Composed.{original_in, held_in, waiting_of_in, waiting_in};
+ghost use Rattle.desk_records.specs.Composed.{original_in, held_in, waiting_of_in, waiting_in};
 ghost use Rattle.desk_records.specs.TableReads.{whole_row};
-ghost use Rattle.desk_reads.specs.Answers.{Answers, Learns};
+ghost use Rattle.desk_reads.specs.Answers.{AnswersOn, LearnsOn};
 
 use crate::each::{ItemRead, joined, read_each};
 use crate::fault::or_unavailable;
@@ -24,7 +23,8 @@ fn original_of<S: Alter>(
     company: Id,
     retry: Option<Retry>,
 ) -> Result<Option<RuleDay>, StoreFault>
-    ensures { Learns (λ found t. found ≡ original_in company retry t) result (state S.Store conn.old) (state S.Store conn.new) }
+    ensures { LearnsOn S.Store conn.old conn.new result
+        (λ found t. found ≡ original_in company retry t) }
 {
     match retry {
         None => Ok(None),
@@ -74,7 +74,8 @@ pub fn waiting_of<S: Alter>(
     alloc: Global,
     company: &Company,
 ) -> Result<Vec<HeldSubmission>, StoreFault>
-    ensures { Answers (λ found t. found.items ≡ waiting_of_in company.now t) result (state S.Store conn.old) (state S.Store conn.new) }
+    ensures { AnswersOn S.Store conn.old conn.new result
+        (λ found t. found.items ≡ waiting_of_in company.now t) }
 {
     let heads = or_unavailable(waiting_submissions(conn, alloc, company.id))?;
     let held = HeldSubmissions { company: *company };
@@ -112,7 +113,7 @@ pub fn waiting<S: Alter>(
     conn: &mut Connection<S>,
     alloc: Global,
 ) -> Result<Vec<HeldSubmission>, StoreFault>
-    ensures { Answers (λ found t. found.items ≡ waiting_in t) result (state S.Store conn.old) (state S.Store conn.new) }
+    ensures { AnswersOn S.Store conn.old conn.new result (λ found t. found.items ≡ waiting_in t) }
 {
     let companies = or_unavailable(companies(conn, alloc))?;
     let lists = read_each(conn, alloc, &HeldByCompany, companies)?;

@@ -1,9 +1,8 @@
 //! The holidays of the table are a calendar.
 ghost use Rattle.std.specs.Prelude.{◌≡◌, nat_le, IfOk};
 ghost use Rattle.std.specs.List.{list_all};
-ghost use Rattle.sqlite.specs.Held.{state};
 ghost use Rattle.desk_rules.specs.Deadlines.{last_rule_day};
-ghost use Rattle.desk_reads.specs.Answers.{Answers};
+ghost use Rattle.desk_reads.specs.Answers.{AnswersOn};
 
 use crate::fault::or_unavailable;
 use bank_days::{Calendar, Day};
@@ -41,7 +40,7 @@ fn calendar_of(alloc: Global, days: &[Day]) -> Result<Calendar, StoreFault>
 
 /// Reads the holidays of the operator's calendar.
 pub fn calendar<S: Alter>(conn: &mut Connection<S>, alloc: Global) -> Result<Calendar, StoreFault>
-    ensures { Answers (λ found t. found ≡ t.holidays) result (state S.Store conn.old) (state S.Store conn.new) }
+    ensures { AnswersOn S.Store conn.old conn.new result (λ found t. found ≡ t.holidays) }
 {
     let days = or_unavailable(holidays(conn, alloc))?;
     calendar_of(alloc, &days)

@@ -1,11 +1,10 @@
 //! What came back of a company's entries.
 ghost use Rattle.std.specs.Prelude.{◌≡◌, Option, Some, map};
-ghost use Rattle.sqlite.specs.Held.{state};
 ghost use Rattle.desk_history.specs.declared.reports.ChangeRow.{ChangeRow};
 ghost use Rattle.desk_history.specs.declared.reports.ReturnRow.{ReturnRow};
-ghost use Rattle.desk_read_laws.specs.Composed.{return_row_of, change_row_of, return_row_in, change_row_in};
+ghost use Rattle.desk_records.specs.Composed.{return_row_of, change_row_of, return_row_in, change_row_in};
 ghost use Rattle.desk_records.specs.TableReads.{return_lines_in, change_lines_in};
-ghost use Rattle.desk_reads.specs.Answers.{Answers, Learns};
+ghost use Rattle.desk_reads.specs.Answers.{AnswersOn};
 ghost use Rattle.desk_reads.specs.ItemsFound.{AreItemsOf};
 
 use crate::each::{ItemRead, read_each};
@@ -98,7 +97,9 @@ fn returns_of<S: Alter>(
     alloc: Global,
     company: Id,
 ) -> Result<Vec<ReturnRow>, StoreFault>
-    ensures { Answers (λ found t. map Some found.items ≡ map (return_row_in company t) (return_lines_in company t)) result (state S.Store conn.old) (state S.Store conn.new) }
+    ensures { AnswersOn S.Store conn.old conn.new result
+        (λ found t. map Some found.items ≡ map (return_row_in company t)
+        (return_lines_in company t)) }
 {
     let lines = or_unavailable(return_lines(conn, alloc, company))?;
     read_each(conn, alloc, &ReturnRows { company }, lines)
@@ -110,7 +111,9 @@ fn changes_of<S: Alter>(
     alloc: Global,
     company: Id,
 ) -> Result<Vec<ChangeRow>, StoreFault>
-    ensures { Answers (λ found t. map Some found.items ≡ map (change_row_in company t) (change_lines_in company t)) result (state S.Store conn.old) (state S.Store conn.new) }
+    ensures { AnswersOn S.Store conn.old conn.new result
+        (λ found t. map Some found.items ≡ map (change_row_in company t)
+        (change_lines_in company t)) }
 {
     let lines = or_unavailable(change_lines(conn, alloc, company))?;
     read_each(conn, alloc, &ChangeRows { company }, lines)
@@ -123,7 +126,7 @@ pub fn items_of<S: Alter>(
     alloc: Global,
     company: Id,
 ) -> Result<ReturnsAndChanges, StoreFault>
-    ensures { Answers (AreItemsOf company) result (state S.Store conn.old) (state S.Store conn.new) }
+    ensures { AnswersOn S.Store conn.old conn.new result (AreItemsOf company) }
 {
     let returns = returns_of(conn, alloc, company)?;
     let changes = changes_of(conn, alloc, company)?;

@@ -1,8 +1,7 @@
 //! The digests of keys.
 ghost use Rattle.std.specs.Prelude.{◌≡◌};
-ghost use Rattle.sqlite.specs.Held.{state};
-ghost use Rattle.desk_read_laws.specs.Composed.{key_in};
-ghost use Rattle.desk_reads.specs.Answers.{Answers};
+ghost use Rattle.desk_records.specs.Composed.{key_in};
+ghost use Rattle.desk_reads.specs.Answers.{AnswersOn};
 
 use crate::fault::or_unavailable;
 use desk_book::Caller;
@@ -15,7 +14,7 @@ pub fn key_of<S: Alter>(
     conn: &mut Connection<S>,
     caller: Caller,
 ) -> Result<Option<[u8; 32]>, StoreFault>
-    ensures { Answers (λ found t. found ≡ key_in caller t) result (state S.Store conn.old) (state S.Store conn.new) }
+    ensures { AnswersOn S.Store conn.old conn.new result (λ found t. found ≡ key_in caller t) }
 {
     match caller {
         Caller::Operator => {

@@ -1,10 +1,9 @@
 //! When sent entries settled.
 ghost use Rattle.std.specs.Prelude.{◌≡◌, ℕ, Option, filter_map, max, option_and_then};
 ghost use Rattle.std.specs.List.{reduce};
-ghost use Rattle.sqlite.specs.Held.{state};
-ghost use Rattle.desk_read_laws.specs.Composed.{settled_at, latest_in};
+ghost use Rattle.desk_records.specs.Composed.{settled_at, latest_in};
 ghost use Rattle.desk_records.specs.TableReads.{facts_in};
-ghost use Rattle.desk_reads.specs.Answers.{Answers, Learns};
+ghost use Rattle.desk_reads.specs.Answers.{AnswersOn, LearnsOn};
 
 use crate::each::{ItemRead, read_each};
 use crate::fault::or_unavailable;
@@ -22,7 +21,8 @@ fn settlement_of<S: Alter>(
     company: Id,
     order: u64,
 ) -> Result<Option<Day>, StoreFault>
-    ensures { Learns (λ found t. found ≡ option_and_then (λ f. f.settled) (facts_in company order t)) result (state S.Store conn.old) (state S.Store conn.new) }
+    ensures { LearnsOn S.Store conn.old conn.new result
+        (λ found t. found ≡ option_and_then (λ f. f.settled) (facts_in company order t)) }
 {
     match or_unavailable(facts(conn, company, order))? {
         Some(facts) => Ok(day_of(facts.settled)),
@@ -83,7 +83,7 @@ pub fn latest_settled<S: Alter>(
     from: u32,
     to: u32,
 ) -> Result<Option<Day>, StoreFault>
-    ensures { Answers (λ found t. found ≡ latest_in from to t) result (state S.Store conn.old) (state S.Store conn.new) }
+    ensures { AnswersOn S.Store conn.old conn.new result (λ found t. found ≡ latest_in from to t) }
 {
     let places = or_unavailable(places(conn, alloc, from, to))?;
     let days = read_each(conn, alloc, &Settlements, places)?;

@@ -1,6 +1,6 @@
 //! This crate reads the tables of a desk where a read takes several queries, outside of a transaction.
 //!
-//! Each read finds what `Composed` of `desk_read_laws` says of the tables as they were at its first
+//! Each read finds what `Composed` of `desk_records` says of the tables as they were at its first
 //! query. Whatever goes wrong, the store could not act: `StoreFault::Unavailable`.
 #![tactic(auto)]
 

@@ -1,12 +1,11 @@
 //! What a company's entries may still cost the bank, by the sums of the cents of what is open.
 ghost use Rattle.std.specs.Prelude.{◌≡◌, ℕ, true, false, sum_by};
-ghost use Rattle.sqlite.specs.Held.{state};
 ghost use Rattle.desk_book.specs.Standing.{row_facts};
 ghost use Rattle.desk_rules.specs.Exposure.{credit_exposure, debit_exposure, is_open_debit};
 ghost use Rattle.desk_rules.specs.LimitChecks.{is_debit};
-ghost use Rattle.desk_read_laws.specs.Composed.{exposures_in};
+ghost use Rattle.desk_records.specs.Composed.{exposures_in};
 ghost use Rattle.desk_records.specs.TableReads.{whole_row};
-ghost use Rattle.desk_reads.specs.Answers.{Answers, Learns};
+ghost use Rattle.desk_reads.specs.Answers.{AnswersOn, LearnsOn};
 ghost use Rattle.desk_reads.specs.Counted.{IsWhole, heads_exposures, row_exposures, state_alone};
 
 use crate::each::{ItemRead, read_each};
@@ -17,8 +16,7 @@ use ach_fields::Id;
 use bank_days::{Calendar, Day};
 use desk_book::first_open_day;
 use desk_queries::{cents_of, open_submissions, returns, submissions_of};
-use desk_read_laws::entry_state;
-use desk_records::SubmissionHead;
+use desk_records::{SubmissionHead, entry_state};
 use desk_rules::{Direction, debit_exposure, is_open_credit, is_open_debit};
 use desk_store::StoreFault;
 use sqlite::{Alter, Connection};
@@ -30,7 +28,9 @@ fn credit_of<S: Alter>(
     head: &SubmissionHead,
     today: Day,
 ) -> Result<u64, StoreFault>
-    ensures { Learns (λ found t. is_debit head.now.direction ≡ false → found ≡ credit_exposure (row_facts (whole_row t head.now)) today) result (state S.Store conn.old) (state S.Store conn.new) }
+    ensures { LearnsOn S.Store conn.old conn.new result
+        (λ found t. is_debit head.now.direction ≡ false → found ≡ credit_exposure
+        (row_facts (whole_row t head.now)) today) }
 {
     if is_open_credit(entry_state(head, None), today) {
         let cents = or_unavailable(cents_of(conn, head.company, head.order))?;
@@ -46,7 +46,8 @@ fn is_whole<S: Alter>(
     alloc: Global,
     head: &SubmissionHead,
 ) -> Result<bool, StoreFault>
-    ensures { Learns (λ found t. found ≡ true → IsWhole t head.now) result (state S.Store conn.old) (state S.Store conn.new) }
+    ensures { LearnsOn S.Store conn.old conn.new result
+        (λ found t. found ≡ true → IsWhole t head.now) }
 {
     match head.settled {
         None => Ok(true),
@@ -65,7 +66,8 @@ fn standing_debits<S: Alter>(
     today: Day,
     calendar: &Calendar,
 ) -> Result<u64, StoreFault>
-    ensures { Learns (λ found t. found ≡ debit_exposure (row_facts (whole_row t head.now)) today calendar.now) result (state S.Store conn.old) (state S.Store conn.new) }
+    ensures { LearnsOn S.Store conn.old conn.new result
+        (λ found t. found ≡ debit_exposure (row_facts (whole_row t head.now)) today calendar.now) }
 {
     let found = facts(conn, alloc, head)?;
     match u64::try_from(debit_exposure(&found, today, calendar)) {
@@ -82,7 +84,10 @@ fn open_debit_of<S: Alter>(
     today: Day,
     calendar: &Calendar,
 ) -> Result<u64, StoreFault>
-    ensures { Learns (λ found t. is_debit head.now.direction ≡ true → is_open_debit (state_alone head.now) today calendar.now ≡ true → found ≡ debit_exposure (row_facts (whole_row t head.now)) today calendar.now) result (state S.Store conn.old) (state S.Store conn.new) }
+    ensures { LearnsOn S.Store conn.old conn.new result
+        (λ found t. is_debit head.now.direction ≡ true → is_open_debit (state_alone head.now) today
+        calendar.now ≡ true → found ≡ debit_exposure (row_facts (whole_row t head.now)) today
+        calendar.now) }
 {
     let whole = is_whole(conn, alloc, head)?;
     if whole {
@@ -102,7 +107,9 @@ fn debit_of<S: Alter>(
     today: Day,
     calendar: &Calendar,
 ) -> Result<u64, StoreFault>
-    ensures { Learns (λ found t. is_debit head.now.direction ≡ true → found ≡ debit_exposure (row_facts (whole_row t head.now)) today calendar.now) result (state S.Store conn.old) (state S.Store conn.new) }
+    ensures { LearnsOn S.Store conn.old conn.new result
+        (λ found t. is_debit head.now.direction ≡ true → found ≡ debit_exposure
+        (row_facts (whole_row t head.now)) today calendar.now) }
 {
     if is_open_debit(entry_state(head, None), today, calendar) {
         let cents = open_debit_of(conn, alloc, head, today, calendar)?;
@@ -180,7 +187,9 @@ fn exposed_submissions<S: Alter>(
     today: Day,
     calendar: &Calendar,
 ) -> Result<Vec<SubmissionHead>, StoreFault>
-    ensures { Answers (λ found t. heads_exposures t found.items today calendar.now ≡ exposures_in company today calendar.now t) result (state S.Store conn.old) (state S.Store conn.new) }
+    ensures { AnswersOn S.Store conn.old conn.new result
+        (λ found t. heads_exposures t found.items today calendar.now ≡ exposures_in company today
+        calendar.now t) }
 {
     match first_open_day(calendar, today) {
         Some(since) => {
@@ -202,7 +211,8 @@ pub fn exposures<S: Alter>(
     company: Id,
     today: Day,
 ) -> Result<(u128, u128), StoreFault>
-    ensures { Answers (λ found t. found ≡ exposures_in company today t.holidays t) result (state S.Store conn.old) (state S.Store conn.new) }
+    ensures { AnswersOn S.Store conn.old conn.new result
+        (λ found t. found ≡ exposures_in company today t.holidays t) }
 {
     let calendar = calendar(conn, alloc)?;
     let heads = exposed_submissions(conn, alloc, company, today, &calendar)?;

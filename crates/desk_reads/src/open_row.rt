@@ -1,9 +1,8 @@
 //! Rows of submissions that still count for a company's exposures.
 ghost use Rattle.std.specs.Prelude.{◌≡◌, filter};
-ghost use Rattle.sqlite.specs.Held.{state};
 ghost use Rattle.desk_book.specs.OpenRows.{is_open_row};
 ghost use Rattle.desk_records.specs.TableReads.{rows_in, is_open_of};
-ghost use Rattle.desk_reads.specs.Answers.{Answers};
+ghost use Rattle.desk_reads.specs.Answers.{AnswersOn};
 
 use crate::fault::or_unavailable;
 use crate::rows::rows;
@@ -34,7 +33,9 @@ pub fn open_rows<S: Alter>(
     company: Id,
     since: Day,
 ) -> Result<Vec<Row>, StoreFault>
-    ensures { Answers (λ found t. found.items ≡ filter (is_open_row since) (rows_in (is_open_of company since) t)) result (state S.Store conn.old) (state S.Store conn.new) }
+    ensures { AnswersOn S.Store conn.old conn.new result
+        (λ found t. found.items ≡ filter (is_open_row since)
+        (rows_in (is_open_of company since) t)) }
 {
     let heads = or_unavailable(open_submissions(conn, alloc, company, since))?;
     let mut found = rows(conn, alloc, heads)?;

@@ -3,11 +3,10 @@ ghost use Rattle.std.specs.Prelude.{◌≡◌, ℕ, List, Contains};
 ghost use Rattle.std.specs.Ordering.{nat_cmp};
 ghost use Rattle.std.specs.List.{flat_map};
 ghost use Rattle.std.specs.List.Sorted.{IsStrictlySortedBy};
-ghost use Rattle.sqlite.specs.Held.{state};
-ghost use Rattle.desk_read_laws.specs.Composed.{rates_in};
+ghost use Rattle.desk_records.specs.Composed.{rates_in};
 ghost use Rattle.desk_records.specs.TableReads.{heads_in, is_since, whole_row};
 ghost use Rattle.desk_queries.specs.Waiting.{is_settled_of};
-ghost use Rattle.desk_reads.specs.Answers.{Answers, Learns};
+ghost use Rattle.desk_reads.specs.Answers.{AnswersOn};
 ghost use Rattle.desk_reads.specs.Counted.{AreReturned, debit_facts, earlier_facts};
 ghost use Rattle.desk_rules.specs.declared.rules.entry_fact.EntryFact.{EntryFact as Fact};
 
@@ -16,8 +15,8 @@ use crate::facts::facts_of_debits;
 use crate::fault::or_unavailable;
 use ach_fields::Id;
 use bank_days::Day;
-use desk_queries::{number_of, numbered_submission, orders_returned, settled_submissions};
-use desk_records::SubmissionHead;
+use desk_queries::{numbered_submission, orders_returned, settled_submissions};
+use desk_records::{SubmissionHead, number_of};
 use desk_rules::{EntryFact, Rates, rates};
 use desk_store::StoreFault;
 use sqlite::{Alter, Connection};
@@ -86,7 +85,8 @@ fn returned_facts<S: Alter>(
     company: Id,
     since: u64,
 ) -> Result<Vec<EntryFact>, StoreFault>
-    ensures { Answers (λ found t. AreReturned company since t found.items) result (state S.Store conn.old) (state S.Store conn.new) }
+    ensures { AnswersOn S.Store conn.old conn.new result
+        (λ found t. AreReturned company since t found.items) }
 {
     let orders = or_unavailable(orders_returned(conn, alloc, company, since))?;
     let orders = distinct(orders);
@@ -102,7 +102,9 @@ fn settled_facts<S: Alter>(
     company: Id,
     since: u64,
 ) -> Result<Vec<EntryFact>, StoreFault>
-    ensures { Answers (λ found t. found.items ≡ flat_map (λ head. debit_facts (whole_row t head)) (heads_in (is_settled_of company since) t)) result (state S.Store conn.old) (state S.Store conn.new) }
+    ensures { AnswersOn S.Store conn.old conn.new result
+        (λ found t. found.items ≡ flat_map (λ head. debit_facts (whole_row t head))
+        (heads_in (is_settled_of company since) t)) }
 {
     let heads = or_unavailable(settled_submissions(conn, alloc, company, since))?;
     let all = facts_of_debits(conn, alloc, heads)?;
@@ -117,7 +119,8 @@ pub fn rates_of<S: Alter>(
     company: Id,
     today: Day,
 ) -> Result<Rates, StoreFault>
-    ensures { Answers (λ found t. found ≡ rates_in company today t) result (state S.Store conn.old) (state S.Store conn.new) }
+    ensures { AnswersOn S.Store conn.old conn.new result
+        (λ found t. found ≡ rates_in company today t) }
 {
     let since = number_of(today).saturating_sub(DAYS_BEFORE);
     let mut all = settled_facts(conn, alloc, company, since)?;

@@ -1,18 +1,16 @@
 //! Rows of submissions, assembled of what several queries find.
 ghost use Rattle.std.specs.Prelude.{◌≡◌, map, option_map};
-ghost use Rattle.sqlite.specs.Held.{state};
 ghost use Rattle.desk_book.specs.declared.row.Row.{Row};
 ghost use Rattle.desk_records.specs.RowParts.{retry_with};
 ghost use Rattle.desk_records.specs.TableReads.{authorized_in, whole_row, row_under_in, rows_in, is_of, is_retry_of};
-ghost use Rattle.desk_reads.specs.Answers.{Answers, Learns};
+ghost use Rattle.desk_reads.specs.Answers.{AnswersOn, LearnsOn};
 
 use crate::each::{ItemRead, read_each};
 use crate::fault::or_unavailable;
 use ach_fields::{Id, Ref};
 use bank_days::Day;
 use desk_book::Row;
-use desk_read_laws::row_from;
-use desk_records::SubmissionHead;
+use desk_records::{SubmissionHead, row_from};
 use desk_store::StoreFault;
 use sqlite::{Alter, Connection};
 use std::alloc::Global;
@@ -22,7 +20,9 @@ fn authorized_for<S: Alter>(
     conn: &mut Connection<S>,
     head: &SubmissionHead,
 ) -> Result<Option<Day>, StoreFault>
-    ensures { Learns (λ found t. option_map (retry_with head.now found) head.now.retried ≡ option_map (retry_with head.now (authorized_in head.now.company head.now.order t)) head.now.retried) result (state S.Store conn.old) (state S.Store conn.new) }
+    ensures { LearnsOn S.Store conn.old conn.new result
+        (λ found t. option_map (retry_with head.now found) head.now.retried ≡ option_map
+        (retry_with head.now (authorized_in head.now.company head.now.order t)) head.now.retried) }
 {
     match head.retried {
         None => Ok(None),
@@ -39,7 +39,7 @@ pub(crate) fn row<S: Alter>(
     alloc: Global,
     head: &SubmissionHead,
 ) -> Result<Row, StoreFault>
-    ensures { Answers (λ found t. found ≡ whole_row t head.now) result (state S.Store conn.old) (state S.Store conn.new) }
+    ensures { AnswersOn S.Store conn.old conn.new result (λ found t. found ≡ whole_row t head.now) }
 {
     let entries = or_unavailable(desk_queries::entries_of(conn, alloc, head.company, head.order))?;
     let returns = or_unavailable(desk_queries::returns(conn, alloc, head.company, head.order))?;
@@ -78,7 +78,8 @@ pub(crate) fn rows<S: Alter>(
     alloc: Global,
     heads: Vec<SubmissionHead>,
 ) -> Result<Vec<Row>, StoreFault>
-    ensures { Learns (λ found t. found.items ≡ map (whole_row t) heads.items) result (state S.Store conn.old) (state S.Store conn.new) }
+    ensures { LearnsOn S.Store conn.old conn.new result
+        (λ found t. found.items ≡ map (whole_row t) heads.items) }
 {
     let found = read_each(conn, alloc, &WholeRows, heads)?;
     Ok(found)
@@ -91,7 +92,8 @@ pub fn submission<S: Alter>(
     company: Id,
     reference: Ref,
 ) -> Result<Option<Row>, StoreFault>
-    ensures { Answers (λ found t. found ≡ row_under_in company reference t) result (state S.Store conn.old) (state S.Store conn.new) }
+    ensures { AnswersOn S.Store conn.old conn.new result
+        (λ found t. found ≡ row_under_in company reference t) }
 {
     match or_unavailable(desk_queries::submission(conn, company, reference))? {
         Some(head) => {
@@ -108,7 +110,8 @@ pub fn entries_of<S: Alter>(
     alloc: Global,
     company: Id,
 ) -> Result<Vec<Row>, StoreFault>
-    ensures { Answers (λ found t. found.items ≡ rows_in (is_of company) t) result (state S.Store conn.old) (state S.Store conn.new) }
+    ensures { AnswersOn S.Store conn.old conn.new result
+        (λ found t. found.items ≡ rows_in (is_of company) t) }
 {
     let heads = or_unavailable(desk_queries::submissions_of(conn, alloc, company))?;
     rows(conn, alloc, heads)
@@ -123,7 +126,8 @@ pub fn retries_of<S: Alter>(
     of: Ref,
     index: u64,
 ) -> Result<Vec<Row>, StoreFault>
-    ensures { Answers (λ found t. found.items ≡ rows_in (is_retry_of company of index) t) result (state S.Store conn.old) (state S.Store conn.new) }
+    ensures { AnswersOn S.Store conn.old conn.new result
+        (λ found t. found.items ≡ rows_in (is_retry_of company of index) t) }
 {
     let heads = or_unavailable(desk_queries::retries(conn, alloc, company, of, index))?;
     rows(conn, alloc, heads)

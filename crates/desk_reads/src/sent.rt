@@ -1,10 +1,9 @@
 //! Entries that were sent, by their traces.
 ghost use Rattle.std.specs.Prelude.{◌≡◌, true, option_map};
-ghost use Rattle.sqlite.specs.Held.{state};
 ghost use Rattle.ach_fields.specs.Trace.{is_trace};
-ghost use Rattle.desk_read_laws.specs.Composed.{sent_entry_of, sent_with, sent_at, sent_in};
+ghost use Rattle.desk_records.specs.Composed.{sent_entry_of, sent_with, sent_at, sent_in};
 ghost use Rattle.desk_records.specs.TableReads.{facts_in};
-ghost use Rattle.desk_reads.specs.Answers.{Answers};
+ghost use Rattle.desk_reads.specs.Answers.{AnswersOn};
 ghost use Rattle.desk_reads.specs.TracedEntries.{IsSentAs};
 
 use crate::fault::or_unavailable;
@@ -43,7 +42,9 @@ fn sent_with<S: Alter>(
     sequence: u32,
     placed: &PlacedEntry,
 ) -> Result<Option<SentEntry>, StoreFault>
-    ensures { Answers (λ found t. found ≡ sent_with sequence placed.now (facts_in placed.now.company placed.now.order t)) result (state S.Store conn.old) (state S.Store conn.new) }
+    ensures { AnswersOn S.Store conn.old conn.new result
+        (λ found t. found ≡ sent_with sequence placed.now
+        (facts_in placed.now.company placed.now.order t)) }
 {
     match or_unavailable(facts(conn, placed.company, placed.order))? {
         Some(facts) => Ok(sent_entry_from(sequence, placed, &facts)),
@@ -57,7 +58,8 @@ fn sent_at<S: Alter>(
     sequence: u32,
     place: u64,
 ) -> Result<Option<SentEntry>, StoreFault>
-    ensures { Answers (λ found t. found ≡ sent_at sequence place t) result (state S.Store conn.old) (state S.Store conn.new) }
+    ensures { AnswersOn S.Store conn.old conn.new result
+        (λ found t. found ≡ sent_at sequence place t) }
 {
     match or_unavailable(sent_entry(conn, place))? {
         Some(placed) => sent_with(conn, sequence, &placed),
@@ -70,7 +72,7 @@ fn sent_in<S: Alter>(
     conn: &mut Connection<S>,
     sequence: u32,
 ) -> Result<Option<SentEntry>, StoreFault>
-    ensures { Answers (λ found t. found ≡ sent_in sequence t) result (state S.Store conn.old) (state S.Store conn.new) }
+    ensures { AnswersOn S.Store conn.old conn.new result (λ found t. found ≡ sent_in sequence t) }
 {
     match or_unavailable(place(conn, sequence))? {
         Some(place) => sent_at(conn, sequence, place),
@@ -84,7 +86,7 @@ pub fn sent_as<S: Alter>(
     trace: Trace,
 ) -> Result<Option<SentEntry>, StoreFault>
     ensures trace { is_trace trace ≡ true }
-    ensures read { Answers (λ found t. IsSentAs trace found t) result (state S.Store conn.old) (state S.Store conn.new) }
+    ensures read { AnswersOn S.Store conn.old conn.new result (λ found t. IsSentAs trace found t) }
 {
     let _digits = trace.text();
     let identity = or_unavailable(identity(conn))?;

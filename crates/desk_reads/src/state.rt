@@ -1,14 +1,12 @@
 //! The state of one entry.
 ghost use Rattle.std.specs.Prelude.{◌≡◌, ◌+◌, ◌-◌};
-ghost use Rattle.sqlite.specs.Held.{state};
-ghost use Rattle.desk_read_laws.specs.Composed.{state_in, state_under_in};
-ghost use Rattle.desk_reads.specs.Answers.{Answers};
+ghost use Rattle.desk_records.specs.Composed.{state_in, state_under_in};
+ghost use Rattle.desk_reads.specs.Answers.{AnswersOn};
 
 use crate::fault::or_unavailable;
 use ach_fields::{Id, Ref};
 use desk_queries::{entry, entry_return, submission};
-use desk_read_laws::entry_state;
-use desk_records::SubmissionHead;
+use desk_records::{SubmissionHead, entry_state};
 use desk_rules::EntryState;
 use desk_store::StoreFault;
 use sqlite::{Alter, Connection};
@@ -19,7 +17,8 @@ fn state_at<S: Alter>(
     head: &SubmissionHead,
     index: u64,
 ) -> Result<EntryState, StoreFault>
-    ensures { Answers (λ found t. found ≡ state_in head.now index t) result (state S.Store conn.old) (state S.Store conn.new) }
+    ensures { AnswersOn S.Store conn.old conn.new result
+        (λ found t. found ≡ state_in head.now index t) }
 {
     if or_unavailable(entry(conn, head.company, head.order, index))?.is_none() {
         return Ok(EntryState::Held);
@@ -37,7 +36,8 @@ pub fn state_of<S: Alter>(
     reference: Ref,
     index: u64,
 ) -> Result<Option<EntryState>, StoreFault>
-    ensures { Answers (λ found t. found ≡ state_under_in company reference (index - 1 + 1) t) result (state S.Store conn.old) (state S.Store conn.new) }
+    ensures { AnswersOn S.Store conn.old conn.new result
+        (λ found t. found ≡ state_under_in company reference (index - 1 + 1) t) }
 {
     match or_unavailable(submission(conn, company, reference))? {
         Some(head) => {

@@ -1,6 +1,7 @@
 pub mod CutRecords
 pub mod Decimals
 pub mod KeptRows
+pub mod Lists
 mod SelectedColumns
 mod WorkedRows
 pub mod YoungestNumbers

@@ -26,7 +26,7 @@ is_entry_row c order index r = bytes_eq r.company c && r.order == order && r.ind
 
 -- an entry gets its place
 abbrev pub mark_entry : (place : ℕ) → SentEntry → List EntryRecord → List EntryRecord
-mark_entry n e = update_where (is_entry_row e.company e.order e.index) (λ r. record r { place = Some n })
+mark_entry place e = update_where (is_entry_row e.company e.order e.index) (λ r. record r { place = Some place })
 
 abbrev pub has_sequence : (sequence : ℕ) → NumberRecord → Bool
 has_sequence s n = n.sequence == s

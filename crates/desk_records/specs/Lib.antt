@@ -1,5 +1,6 @@
 pub mod Beside
 pub mod Columns
+pub mod Composed
 pub mod CutTables
 pub mod Encodes
 pub mod IndexDefinitions

@@ -164,8 +164,8 @@ pub record IsUnsent (e : SentEntry) (t : Tables) : Type 0 where
 
 -- UPDATE entries SET seq = ? WHERE company = ? AND ord = ? AND idx = ? AND seq IS NULL, and its number by upsert
 abbrev pub place_edit : (place : ℕ) → SentEntry → Edit Tables
-place_edit n e = record {
-  after = λ t. record t { entries = mark_entry n e t.entries; numbers = with_number e.sequence n t.numbers };
+place_edit place e = record {
+  after = λ t. record t { entries = mark_entry place e t.entries; numbers = with_number e.sequence place t.numbers };
   Tells = λ t. IsUnsent e t × IsInRange 1 most_sequence e.sequence;
 }
 

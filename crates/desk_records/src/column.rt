@@ -11,14 +11,18 @@ ghost use Rattle.desk_records.specs.Reading.{Reads};
 use sqlite::Row;
 use sqlite::types::ValueRef;
 
+mod accounts;
 mod decimals;
 mod fields;
 mod numbers;
+mod stored_values;
 mod words;
 
+pub use accounts::{AccountText, account_text};
 pub(crate) use fields::read_line_reference;
 pub use fields::{read_digest, read_text_or_empty};
 pub use numbers::{read_number, read_ordinal};
+pub use stored_values::{characters, date, natural, number_of};
 
 /// A `FromColumn` is a value that a column stores.
 pub trait FromColumn: Sized + Drop {

@@ -6,12 +6,15 @@
 #![tactic(auto)]
 
 mod column;
+mod parts;
 mod records;
 mod row;
 
 pub use column::{
-    FromColumn, read_column, read_digest, read_number, read_ordinal, read_text_or_empty,
+    AccountText, FromColumn, account_text, characters, date, natural, number_of, read_column,
+    read_digest, read_number, read_ordinal, read_text_or_empty,
 };
+pub use parts::{entry_state, facts_from, row_from};
 pub use records::{
     AuthorizationRecord, BalanceRecord, ChangeRecord, DeskRecord, EntryRecord, NumberRecord,
     PostingRecord, ReturnRecord, SubmissionRecord, SuspenseRecord,

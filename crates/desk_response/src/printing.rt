@@ -54,9 +54,11 @@ fn put(out: &mut Vec<u8>, bytes: &[u8])
 /// Appends a line of the head, for which there is room.
 #[tactic(auto, unfolding(crate::specs::Response::line))]
 fn put_line(out: &mut Vec<u8>, name: &[u8], value: &[u8])
-    requires { length out.old.items + length name.now + length value.now + 2 ≤ vec_capacity out.old }
+    requires { length out.old.items + length name.now + length value.now + 2 ≤ vec_capacity
+        out.old }
     ensures items { out.new.items ≡ out.old.items ++ line name.now value.now }
-    ensures size { length out.new.items ≡ length out.old.items + length name.now + length value.now + 2 }
+    ensures size { length out.new.items ≡ length out.old.items + length name.now + length value.now
+        + 2 }
     ensures capacity { vec_capacity out.old ≤ vec_capacity out.new }
 {
     put(out, name);
@@ -81,7 +83,8 @@ fn put_status(out: &mut Vec<u8>, status: StatusCode)
 /// Appends the size of the body, for which there is room.
 fn put_size(out: &mut Vec<u8>, size: usize)
     requires { length out.old.items + 60 ≤ vec_capacity out.old }
-    ensures items { out.new.items ≡ out.old.items ++ line (codes "Content-Length: ") (decimal size) }
+    ensures items { out.new.items ≡ out.old.items ++ line (codes "Content-Length: ")
+        (decimal size) }
     ensures size { length out.new.items ≤ length out.old.items + 60 }
     ensures capacity { vec_capacity out.old ≤ vec_capacity out.new }
 {
@@ -121,7 +124,8 @@ pub(crate) fn put_head(
 
 /// Appends a response for which there is room, so that no memory is taken.
 pub fn put_response(out: &mut Vec<u8>, response: &Response<'_>)
-    requires { length out.old.items + HEAD_ROOM + length response.now.body.now ≤ vec_capacity out.old }
+    requires { length out.old.items + HEAD_ROOM + length response.now.body.now ≤ vec_capacity
+        out.old }
     ensures { out.new.items ≡ out.old.items ++ text_of response.now }
 {
     let size = response.body.len();

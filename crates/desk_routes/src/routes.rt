@@ -59,7 +59,8 @@ fn add_routes(
     router: &mut Router<Served>,
     routes: &[(Method, &'static str, Route)],
 ) -> Result<(), InsertError>
-    ensures { OnOk result (router.new ≡ with_routes router.old (map (λ r. (r.1.now, record { method = r.0; route = r.2 })) routes.now)) }
+    ensures { OnOk result (router.new ≡ with_routes router.old
+        (map (λ r. (r.1.now, record { method = r.0; route = r.2 })) routes.now)) }
 {
     for served in routes {
         let (method, path, route) = *served;

@@ -61,7 +61,7 @@ abbrev pub cents_within : ℕ → Option ℕ
 cents_within n = if nat_le n most_entry_cents then Some n else None
 
 -- nothing for a prenote, else 1 to ten digits of cents
-abbrev pub entry_cents_of : (accepted : Bool) → ℕ → Option ℕ
+abbrev pub entry_cents_of : (prenote : Bool) → ℕ → Option ℕ
 entry_cents_of true n = if n == 0 then Some 0 else None
 entry_cents_of false n = if nat_le 1 n && nat_le n most_entry_cents then Some n else None
 

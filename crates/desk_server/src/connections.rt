@@ -42,7 +42,8 @@ where
     L::Stream: Read + Write + OpenStream,
     requires unasked { IsUnasked listener.old }
     ensures before { D.is_clean desk.new → D.is_clean desk.old }
-    ensures served { HasServed D.step (D.is_clean desk.new) (D.stands_for desk.old) (D.stands_for desk.new) }
+    ensures served { HasServed D.step (D.is_clean desk.new) (D.stands_for desk.old)
+        (D.stands_for desk.new) }
     ensures counted { HasCounted result connections listener.new }
 {
     for served in 0..connections {
@@ -69,7 +70,8 @@ fn serve_connection<D: Answers, S: Read + Write + OpenStream + Drop>(
     patience: Duration,
 )
     ensures before { D.is_clean desk.new → D.is_clean desk.old }
-    ensures served { HasServed D.step (D.is_clean desk.new) (D.stands_for desk.old) (D.stands_for desk.new) }
+    ensures served { HasServed D.step (D.is_clean desk.new) (D.stands_for desk.old)
+        (D.stands_for desk.new) }
 {
     if set_patience(&stream, patience).is_ok() {
         match stream.try_clone() {
@@ -87,7 +89,8 @@ fn answer<D: Answers, S: Read + Write + OpenStream + Drop>(
     writer: S,
 )
     ensures before { D.is_clean desk.new → D.is_clean desk.old }
-    ensures served { HasServed D.step (D.is_clean desk.new) (D.stands_for desk.old) (D.stands_for desk.new) }
+    ensures served { HasServed D.step (D.is_clean desk.new) (D.stands_for desk.old)
+        (D.stands_for desk.new) }
 {
     let mut reader = reader;
     let mut writer = writer;

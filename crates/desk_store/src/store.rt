@@ -94,37 +94,43 @@ pub trait Store {
     /// Reads the identity of the desk.
     fn identity(&mut self, alloc: Global) -> Result<Identity, StoreFault>
         ensures before { is_clean self.new → is_clean self.old }
-        ensures read { is_clean self.new → Reads (holds self.old) result (λ b. b.identity) (holds self.new) }
+        ensures read { is_clean self.new →
+            Reads (holds self.old) result (λ b. b.identity) (holds self.new) }
         ensures left { is_clean self.new → LeavesRead (may_leave self.old) (may_leave self.new) };
 
     /// Reads the digest of a caller's key; there is none where the company is not registered.
     fn key_of(&mut self, alloc: Global, caller: Caller) -> Result<Option<[u8; 32]>, StoreFault>
         ensures before { is_clean self.new → is_clean self.old }
-        ensures read { is_clean self.new → Reads (holds self.old) result (key_of caller) (holds self.new) }
+        ensures read { is_clean self.new →
+            Reads (holds self.old) result (key_of caller) (holds self.new) }
         ensures left { is_clean self.new → LeavesRead (may_leave self.old) (may_leave self.new) };
 
     /// Reads the desk day, once one was set.
     fn day(&mut self, alloc: Global) -> Result<Option<RuleDay>, StoreFault>
         ensures before { is_clean self.new → is_clean self.old }
-        ensures read { is_clean self.new → Reads (holds self.old) result (λ b. b.day) (holds self.new) }
+        ensures read { is_clean self.new →
+            Reads (holds self.old) result (λ b. b.day) (holds self.new) }
         ensures left { is_clean self.new → LeavesRead (may_leave self.old) (may_leave self.new) };
 
     /// Reads the holidays.
     fn calendar(&mut self, alloc: Global) -> Result<Calendar, StoreFault>
         ensures before { is_clean self.new → is_clean self.old }
-        ensures read { is_clean self.new → Reads (holds self.old) result (λ b. b.holidays) (holds self.new) }
+        ensures read { is_clean self.new →
+            Reads (holds self.old) result (λ b. b.holidays) (holds self.new) }
         ensures left { is_clean self.new → LeavesRead (may_leave self.old) (may_leave self.new) };
 
     /// Reads a registered company, with its present limits.
     fn company(&mut self, alloc: Global, id: Id) -> Result<Option<Company>, StoreFault>
         ensures before { is_clean self.new → is_clean self.old }
-        ensures read { is_clean self.new → Reads (holds self.old) result (company id) (holds self.new) }
+        ensures read { is_clean self.new →
+            Reads (holds self.old) result (company id) (holds self.new) }
         ensures left { is_clean self.new → LeavesRead (may_leave self.old) (may_leave self.new) };
 
     /// Reads all registered companies, with their present limits, by identification.
     fn companies(&mut self, alloc: Global) -> Result<Vec<Company>, StoreFault>
         ensures before { is_clean self.new → is_clean self.old }
-        ensures read { is_clean self.new → ReadsList (holds self.old) result (λ b. b.companies) (holds self.new) }
+        ensures read { is_clean self.new →
+            ReadsList (holds self.old) result (λ b. b.companies) (holds self.new) }
         ensures left { is_clean self.new → LeavesRead (may_leave self.old) (may_leave self.new) };
 
     /// Reads a company's submission or retry with its entries, by its reference.
@@ -135,20 +141,23 @@ pub trait Store {
         reference: Ref,
     ) -> Result<Option<Row>, StoreFault>
         ensures before { is_clean self.new → is_clean self.old }
-        ensures read { is_clean self.new → Reads (holds self.old) result (submission company reference) (holds self.new) }
+        ensures read { is_clean self.new →
+            Reads (holds self.old) result (submission company reference) (holds self.new) }
         ensures left { is_clean self.new → LeavesRead (may_leave self.old) (may_leave self.new) };
 
     /// Says how many submissions and retries a company has.
     fn submission_count(&mut self, alloc: Global, company: Id) -> Result<u64, StoreFault>
         ensures before { is_clean self.new → is_clean self.old }
-        ensures read { is_clean self.new → Reads (holds self.old) result (submission_count company) (holds self.new) }
+        ensures read { is_clean self.new →
+            Reads (holds self.old) result (submission_count company) (holds self.new) }
         ensures left { is_clean self.new → LeavesRead (may_leave self.old) (may_leave self.new) };
 
     /// Reads a company's submissions and retries with their entries, by order number, of which an
     /// entry is held or settled on a day or later, also where it came back.
     fn open_rows(&mut self, alloc: Global, company: Id, since: Day) -> Result<Vec<Row>, StoreFault>
         ensures before { is_clean self.new → is_clean self.old }
-        ensures read { is_clean self.new → ReadsList (holds self.old) result (open_rows_of company since) (holds self.new) }
+        ensures read { is_clean self.new →
+            ReadsList (holds self.old) result (open_rows_of company since) (holds self.new) }
         ensures left { is_clean self.new → LeavesRead (may_leave self.old) (may_leave self.new) };
 
     /// Reads a company's retries of the entry that has this number in the submission with this
@@ -161,7 +170,8 @@ pub trait Store {
         index: u64,
     ) -> Result<Vec<Row>, StoreFault>
         ensures before { is_clean self.new → is_clean self.old }
-        ensures read { is_clean self.new → ReadsList (holds self.old) result (retries_of company of index) (holds self.new) }
+        ensures read { is_clean self.new →
+            ReadsList (holds self.old) result (retries_of company of index) (holds self.new) }
         ensures left { is_clean self.new → LeavesRead (may_leave self.old) (may_leave self.new) };
 
     /// Reads the state of the entry that has this number in the submission with this reference; there
@@ -174,13 +184,15 @@ pub trait Store {
         index: u64,
     ) -> Result<Option<EntryState>, StoreFault>
         ensures before { is_clean self.new → is_clean self.old }
-        ensures read { is_clean self.new → Reads (holds self.old) result (state_of company reference index) (holds self.new) }
+        ensures read { is_clean self.new →
+            Reads (holds self.old) result (state_of company reference index) (holds self.new) }
         ensures left { is_clean self.new → LeavesRead (may_leave self.old) (may_leave self.new) };
 
     /// Reads a company's submissions and retries with their entries, by order number.
     fn entries_of(&mut self, alloc: Global, company: Id) -> Result<Vec<Row>, StoreFault>
         ensures before { is_clean self.new → is_clean self.old }
-        ensures read { is_clean self.new → ReadsList (holds self.old) result (λ b. b.rows company) (holds self.new) }
+        ensures read { is_clean self.new →
+            ReadsList (holds self.old) result (λ b. b.rows company) (holds self.new) }
         ensures left { is_clean self.new → LeavesRead (may_leave self.old) (may_leave self.new) };
 
     /// Reads a company's credit exposure and its debit exposure on a day. Where a store has nothing
@@ -193,7 +205,8 @@ pub trait Store {
         today: Day,
     ) -> Result<(u128, u128), StoreFault>
         ensures before { is_clean self.new → is_clean self.old }
-        ensures read { is_clean self.new → Reads (holds self.old) result (exposures_of company today) (holds self.new) }
+        ensures read { is_clean self.new →
+            Reads (holds self.old) result (exposures_of company today) (holds self.new) }
         ensures left { is_clean self.new → LeavesRead (may_leave self.old) (may_leave self.new) }
     {
         desk_book::open_rows_suffice();
@@ -209,7 +222,8 @@ pub trait Store {
     /// company's rows.
     fn rates(&mut self, alloc: Global, company: Id, today: Day) -> Result<Rates, StoreFault>
         ensures before { is_clean self.new → is_clean self.old }
-        ensures read { is_clean self.new → Reads (holds self.old) result (rates_of company today) (holds self.new) }
+        ensures read { is_clean self.new →
+            Reads (holds self.old) result (rates_of company today) (holds self.new) }
         ensures left { is_clean self.new → LeavesRead (may_leave self.old) (may_leave self.new) }
     {
         let rows = self.entries_of(alloc, company)?;
@@ -223,25 +237,29 @@ pub trait Store {
         company: Company,
     ) -> Result<Vec<HeldSubmission>, StoreFault>
         ensures before { is_clean self.new → is_clean self.old }
-        ensures read { is_clean self.new → ReadsList (holds self.old) result (waiting_of company) (holds self.new) }
+        ensures read { is_clean self.new →
+            ReadsList (holds self.old) result (waiting_of company) (holds self.new) }
         ensures left { is_clean self.new → LeavesRead (may_leave self.old) (may_leave self.new) };
 
     /// Reads the held submissions of all companies, by identification and then by order number.
     fn waiting(&mut self, alloc: Global) -> Result<Vec<HeldSubmission>, StoreFault>
         ensures before { is_clean self.new → is_clean self.old }
-        ensures read { is_clean self.new → ReadsList (holds self.old) result (waiting) (holds self.new) }
+        ensures read { is_clean self.new →
+            ReadsList (holds self.old) result (waiting) (holds self.new) }
         ensures left { is_clean self.new → LeavesRead (may_leave self.old) (may_leave self.new) };
 
     /// Reads the sequence of the last sent entry, 0 before the first.
     fn last_sequence(&mut self, alloc: Global) -> Result<u32, StoreFault>
         ensures before { is_clean self.new → is_clean self.old }
-        ensures read { is_clean self.new → Reads (holds self.old) result (last_sequence) (holds self.new) }
+        ensures read { is_clean self.new →
+            Reads (holds self.old) result (last_sequence) (holds self.new) }
         ensures left { is_clean self.new → LeavesRead (may_leave self.old) (may_leave self.new) };
 
     /// Says how many entries were sent.
     fn sent_count(&mut self, alloc: Global) -> Result<u64, StoreFault>
         ensures before { is_clean self.new → is_clean self.old }
-        ensures read { is_clean self.new → Reads (holds self.old) result (sent_count) (holds self.new) }
+        ensures read { is_clean self.new →
+            Reads (holds self.old) result (sent_count) (holds self.new) }
         ensures left { is_clean self.new → LeavesRead (may_leave self.old) (may_leave self.new) };
 
     /// Reads the latest day on which a youngest entry settled that has a sequence from the first to
@@ -253,31 +271,36 @@ pub trait Store {
         to: u32,
     ) -> Result<Option<Day>, StoreFault>
         ensures before { is_clean self.new → is_clean self.old }
-        ensures read { is_clean self.new → Reads (holds self.old) result (latest_settled from to) (holds self.new) }
+        ensures read { is_clean self.new →
+            Reads (holds self.old) result (latest_settled from to) (holds self.new) }
         ensures left { is_clean self.new → LeavesRead (may_leave self.old) (may_leave self.new) };
 
     /// Says how many files a day has.
     fn files_on(&mut self, alloc: Global, day: Day) -> Result<u64, StoreFault>
         ensures before { is_clean self.new → is_clean self.old }
-        ensures read { is_clean self.new → Reads (holds self.old) result (λ b. b.files_on day) (holds self.new) }
+        ensures read { is_clean self.new →
+            Reads (holds self.old) result (λ b. b.files_on day) (holds self.new) }
         ensures left { is_clean self.new → LeavesRead (may_leave self.old) (may_leave self.new) };
 
     /// Reads the youngest entry that has a trace.
     fn sent_as(&mut self, alloc: Global, trace: Trace) -> Result<Option<SentEntry>, StoreFault>
         ensures before { is_clean self.new → is_clean self.old }
-        ensures read { is_clean self.new → Reads (holds self.old) result (sent_as trace) (holds self.new) }
+        ensures read { is_clean self.new →
+            Reads (holds self.old) result (sent_as trace) (holds self.new) }
         ensures left { is_clean self.new → LeavesRead (may_leave self.old) (may_leave self.new) };
 
     /// Reads the returns and changes of a company's entries.
     fn items_of(&mut self, alloc: Global, company: Id) -> Result<ReturnsAndChanges, StoreFault>
         ensures before { is_clean self.new → is_clean self.old }
-        ensures read { is_clean self.new → Reads (holds self.old) result (items_of company) (holds self.new) }
+        ensures read { is_clean self.new →
+            Reads (holds self.old) result (items_of company) (holds self.new) }
         ensures left { is_clean self.new → LeavesRead (may_leave self.old) (may_leave self.new) };
 
     /// Reads the lines of an account, in the order in which they came.
     fn postings_of(&mut self, alloc: Global, account: Account) -> Result<Vec<Posting>, StoreFault>
         ensures before { is_clean self.new → is_clean self.old }
-        ensures read { is_clean self.new → ReadsList (holds self.old) result (λ b. lines_of account b.postings) (holds self.new) }
+        ensures read { is_clean self.new →
+            ReadsList (holds self.old) result (λ b. lines_of account b.postings) (holds self.new) }
         ensures left { is_clean self.new → LeavesRead (may_leave self.old) (may_leave self.new) };
 
     /// Reads the sums of an account's lines by value day, ascending, in cents.
@@ -287,19 +310,22 @@ pub trait Store {
         account: Account,
     ) -> Result<Vec<(Day, i128)>, StoreFault>
         ensures before { is_clean self.new → is_clean self.old }
-        ensures read { is_clean self.new → ReadsList (holds self.old) result (λ b. day_sums account b.postings) (holds self.new) }
+        ensures read { is_clean self.new →
+            ReadsList (holds self.old) result (λ b. day_sums account b.postings) (holds self.new) }
         ensures left { is_clean self.new → LeavesRead (may_leave self.old) (may_leave self.new) };
 
     /// Reads what stands in suspense, in the order in which it came.
     fn suspense(&mut self, alloc: Global) -> Result<Vec<SuspenseRow>, StoreFault>
         ensures before { is_clean self.new → is_clean self.old }
-        ensures read { is_clean self.new → ReadsList (holds self.old) result (λ b. b.suspense) (holds self.new) }
+        ensures read { is_clean self.new →
+            ReadsList (holds self.old) result (λ b. b.suspense) (holds self.new) }
         ensures left { is_clean self.new → LeavesRead (may_leave self.old) (may_leave self.new) };
 
     /// Says how many items stand in suspense.
     fn suspense_count(&mut self, alloc: Global) -> Result<u64, StoreFault>
         ensures before { is_clean self.new → is_clean self.old }
-        ensures read { is_clean self.new → Reads (holds self.old) result (λ b. length b.suspense) (holds self.new) }
+        ensures read { is_clean self.new →
+            Reads (holds self.old) result (λ b. length b.suspense) (holds self.new) }
         ensures left { is_clean self.new → LeavesRead (may_leave self.old) (may_leave self.new) };
 
     /// Reads the text of a file, by its day and modifier.
@@ -310,38 +336,52 @@ pub trait Store {
         modifier: u8,
     ) -> Result<Option<ListOf<u8>>, StoreFault>
         ensures before { is_clean self.new → is_clean self.old }
-        ensures read { is_clean self.new → Reads (holds self.old) result (λ b. b.file day modifier) (holds self.new) }
+        ensures read { is_clean self.new →
+            Reads (holds self.old) result (λ b. b.file day modifier) (holds self.new) }
         ensures left { is_clean self.new → LeavesRead (may_leave self.old) (may_leave self.new) };
 
     /// Reads an incoming file that was taken, by its key.
     fn taken(&mut self, alloc: Global, key: [u8; 21]) -> Result<Option<TakenFile>, StoreFault>
         ensures before { is_clean self.new → is_clean self.old }
-        ensures read { is_clean self.new → Reads (holds self.old) result (λ b. b.taken key) (holds self.new) }
+        ensures read { is_clean self.new →
+            Reads (holds self.old) result (λ b. b.taken key) (holds self.new) }
         ensures left { is_clean self.new → LeavesRead (may_leave self.old) (may_leave self.new) };
 
     /// Sets the desk day.
     fn set_day(&mut self, alloc: Global, day: RuleDay) -> Result<(), StoreFault>
         ensures before { is_clean self.new → is_clean self.old }
-        ensures write { is_clean self.new → Writes (holds self.old) result (set_day day) (holds self.new) }
-        ensures left { is_clean self.new → LeavesWrite keeps (holds self.old) (may_leave self.old) result (set_day day) (may_leave self.new) };
+        ensures write { is_clean self.new →
+            Writes (holds self.old) result (set_day day) (holds self.new) }
+        ensures left { is_clean self.new →
+            LeavesWrite keeps (holds self.old) (may_leave self.old) result (set_day day)
+            (may_leave self.new) };
 
     /// Sets the holidays.
     fn set_holidays(&mut self, alloc: Global, holidays: Calendar) -> Result<(), StoreFault>
         ensures before { is_clean self.new → is_clean self.old }
-        ensures write { is_clean self.new → Writes (holds self.old) result (set_holidays holidays) (holds self.new) }
-        ensures left { is_clean self.new → LeavesWrite keeps (holds self.old) (may_leave self.old) result (set_holidays holidays) (may_leave self.new) };
+        ensures write { is_clean self.new →
+            Writes (holds self.old) result (set_holidays holidays) (holds self.new) }
+        ensures left { is_clean self.new →
+            LeavesWrite keeps (holds self.old) (may_leave self.old) result (set_holidays holidays)
+            (may_leave self.new) };
 
     /// Registers a company.
     fn put_company(&mut self, alloc: Global, company: Company) -> Result<(), StoreFault>
         ensures before { is_clean self.new → is_clean self.old }
-        ensures write { is_clean self.new → Writes (holds self.old) result (put_company company) (holds self.new) }
-        ensures left { is_clean self.new → LeavesWrite keeps (holds self.old) (may_leave self.old) result (put_company company) (may_leave self.new) };
+        ensures write { is_clean self.new →
+            Writes (holds self.old) result (put_company company) (holds self.new) }
+        ensures left { is_clean self.new →
+            LeavesWrite keeps (holds self.old) (may_leave self.old) result (put_company company)
+            (may_leave self.new) };
 
     /// Sets a company's limits.
     fn put_limits(&mut self, alloc: Global, company: Id, limits: Limits) -> Result<(), StoreFault>
         ensures before { is_clean self.new → is_clean self.old }
-        ensures write { is_clean self.new → Writes (holds self.old) result (put_limits company limits) (holds self.new) }
-        ensures left { is_clean self.new → LeavesWrite keeps (holds self.old) (may_leave self.old) result (put_limits company limits) (may_leave self.new) };
+        ensures write { is_clean self.new →
+            Writes (holds self.old) result (put_limits company limits) (holds self.new) }
+        ensures left { is_clean self.new →
+            LeavesWrite keeps (holds self.old) (may_leave self.old) result
+            (put_limits company limits) (may_leave self.new) };
 
     /// Adds a company's next submission or retry, with what a retry asked.
     fn add_submission(
@@ -353,19 +393,30 @@ pub trait Store {
         retry: Option<Retry>,
     ) -> Result<(), StoreFault>
         ensures before { is_clean self.new → is_clean self.old }
-        ensures write { is_clean self.new → Writes (holds self.old) result (add_submission company order content.now retry) (holds self.new) }
-        ensures left { is_clean self.new → LeavesWrite keeps (holds self.old) (may_leave self.old) result (add_submission company order content.now retry) (may_leave self.new) };
+        ensures write { is_clean self.new →
+            Writes (holds self.old) result (add_submission company order content.now retry)
+            (holds self.new) }
+        ensures left { is_clean self.new →
+            LeavesWrite keeps (holds self.old) (may_leave self.old) result
+            (add_submission company order content.now retry) (may_leave self.new) };
 
     /// Writes all that a cut does. Each of its entries is one of a submission that it sends, as the
     /// book has that submission.
     fn commit_cut(&mut self, alloc: Global, cut: &CutRows<'_>) -> Result<(), StoreFault>
         ensures before { is_clean self.new → is_clean self.old }
-        ensures write { is_clean self.new → Writes (holds self.old) result (commit_cut (cut_rows cut.now)) (holds self.new) }
-        ensures left { is_clean self.new → LeavesWrite keeps (holds self.old) (may_leave self.old) result (commit_cut (cut_rows cut.now)) (may_leave self.new) };
+        ensures write { is_clean self.new →
+            Writes (holds self.old) result (commit_cut (cut_rows cut.now)) (holds self.new) }
+        ensures left { is_clean self.new →
+            LeavesWrite keeps (holds self.old) (may_leave self.old) result
+            (commit_cut (cut_rows cut.now)) (may_leave self.new) };
 
     /// Writes all that an incoming file does.
     fn commit_intake(&mut self, alloc: Global, intake: &IntakeRows<'_>) -> Result<(), StoreFault>
         ensures before { is_clean self.new → is_clean self.old }
-        ensures write { is_clean self.new → Writes (holds self.old) result (commit_intake (intake_rows intake.now)) (holds self.new) }
-        ensures left { is_clean self.new → LeavesWrite keeps (holds self.old) (may_leave self.old) result (commit_intake (intake_rows intake.now)) (may_leave self.new) };
+        ensures write { is_clean self.new →
+            Writes (holds self.old) result (commit_intake (intake_rows intake.now))
+            (holds self.new) }
+        ensures left { is_clean self.new →
+            LeavesWrite keeps (holds self.old) (may_leave self.old) result
+            (commit_intake (intake_rows intake.now)) (may_leave self.new) };
 }

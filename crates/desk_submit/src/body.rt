@@ -80,7 +80,8 @@ fn body_value(
     options: &SubmitOptions<'_>,
     entries: Vec<Value>,
 ) -> Result<Value, AllocError>
-    ensures { IfOk result (λ v. view v ≡ body_with (texts_of options.now) (items_view entries.items)) }
+    ensures { IfOk result
+        (λ v. view v ≡ body_with (texts_of options.now) (items_view entries.items)) }
 {
     json!(in alloc; {
         "day": options.day,

@@ -36,7 +36,8 @@ pub fn submit_message(
     list: &[u8],
 ) -> Result<Vec<u8>, SubmitFault>
     ensures message { Gives (message_of (texts_of options.now) list.now) result }
-    ensures reads_back { IfOk result (λ message. ReadsBack (texts_of options.now) list.now message.items) }
+    ensures reads_back { IfOk result
+        (λ message. ReadsBack (texts_of options.now) list.now message.items) }
 {
     if let Some(fault) = input_fault(options, list.len()) {
         return Err(SubmitFault::Input(fault));

@@ -8,7 +8,7 @@
 mod last_number;
 mod open;
 mod store;
-mod transaction;
+mod whole_write;
 
 pub use desk_setup::OpenFault;
 pub use store::SqlStore;

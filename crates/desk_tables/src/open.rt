@@ -38,10 +38,15 @@ impl<S: Alter + Drop> SqlStore<S> {
         identity: Identity,
         operator_key: [u8; 32],
     ) -> Result<SqlStore<S>, OpenFault>
-        ensures created { IfOk result (λ s. HasCleanDisk (state S.Store s.conn) → HasNewDesk identity operator_key (state S.Store conn) (state S.Store s.conn)) }
-        ensures before { IfOk result (λ s. HasCleanDisk (state S.Store s.conn) → HasCleanDisk (state S.Store conn)) }
-        ensures unmade { IfErr result (IsUnmade S.Store (λ trees. Keeps trees (book_of identity operator_key [])) conn) }
-        ensures otherwise { IfErr result (λ fault. (fault ≡ OpenFault.Exists) ⊎ (fault ≡ OpenFault.Unavailable)) }
+        ensures created { IfOk result
+            (λ s. HasCleanDisk (state S.Store s.conn) → HasNewDesk identity operator_key
+            (state S.Store conn) (state S.Store s.conn)) }
+        ensures before { IfOk result
+            (λ s. HasCleanDisk (state S.Store s.conn) → HasCleanDisk (state S.Store conn)) }
+        ensures unmade { IfErr result
+            (IsUnmade S.Store (λ trees. Keeps trees (book_of identity operator_key [])) conn) }
+        ensures otherwise { IfErr result
+            (λ fault. (fault ≡ OpenFault.Exists) ⊎ (fault ≡ OpenFault.Unavailable)) }
     {
         let mut conn = conn;
         make_desk(&mut conn, identity, operator_key)?;
@@ -55,8 +60,11 @@ impl<S: Alter + Drop> SqlStore<S> {
     /// and a connection that is inside a transaction, is `OpenFault::Unavailable`. A refused call
     /// changes nothing, and drops the connection.
     pub fn adopt(alloc: Global, conn: Connection<S>) -> Result<SqlStore<S>, OpenFault>
-        ensures before { IfOk result (λ s. HasCleanDisk (state S.Store s.conn) → HasCleanDisk (state S.Store conn)) }
-        ensures adopted { IfOk result (λ s. HasCleanDisk (state S.Store s.conn) → IsDesk (state S.Store conn) (state S.Store s.conn)) }
+        ensures before { IfOk result
+            (λ s. HasCleanDisk (state S.Store s.conn) → HasCleanDisk (state S.Store conn)) }
+        ensures adopted { IfOk result
+            (λ s. HasCleanDisk (state S.Store s.conn) → IsDesk (state S.Store conn)
+            (state S.Store s.conn)) }
         ensures refused { IfErr result (IsDropped S.Store version (λ _. ⊥) conn) }
         ensures otherwise { IfErr result (λ fault. fault ≢ OpenFault.Exists) }
     {
@@ -81,7 +89,8 @@ impl SqlStore<MemStore> {
         identity: Identity,
         operator_key: [u8; 32],
     ) -> Result<SqlStore<MemStore>, OpenFault>
-        ensures { IfOk result (λ s. Sees (state over_memory s.conn) (book_of identity operator_key [])) }
+        ensures { IfOk result
+            (λ s. Sees (state over_memory s.conn) (book_of identity operator_key [])) }
     {
         let Ok(conn) = Connection::open_in_memory(alloc) else {
             return Err(OpenFault::Unavailable);

@@ -5,7 +5,7 @@ ghost use Rattle.sqlite_trees.specs.Tree.{Trees};
 ghost use Rattle.desk_records.specs.Layout.{Keeps, Sees};
 
 use crate::last_number::{place_after, place_of, sequence_of};
-use crate::transaction::write;
+use crate::whole_write::write;
 use ach_fields::{Id, Ref, Trace};
 use bank_days::{Calendar, Day};
 use desk_accounts::{Account, Posting};

@@ -3,8 +3,7 @@ use crate::samples::{reference, routing, short_text};
 use ach_fields::Id;
 use bank_days::Day;
 use desk_history::RetriedEntry;
-use desk_read_laws::row_from;
-use desk_records::{EntryReturn, NumberedEntry, SubmissionHead};
+use desk_records::{EntryReturn, NumberedEntry, SubmissionHead, row_from};
 use desk_rules::{
     AccountKind, Direction, Entry, EntryCents, EntryState, Retry, ReturnCode, RuleDay, SecCode,
 };

@@ -8,5 +8,7 @@ ghost use Rattle.desk_write_laws.specs.Making.{Makes};
 
 /// A company's next submission or retry.
 pub fn submission_follows()
-    ensures { (company : List ℕ) (order : ℕ) (content : Submission) (retry : Option Retry) → Makes (add_submission_edit company order content retry) (add_submission company order content retry) }
+    ensures { (company : List ℕ) (order : ℕ) (content : Submission) (retry : Option Retry) →
+        Makes (add_submission_edit company order content retry)
+        (add_submission company order content retry) }
 {}

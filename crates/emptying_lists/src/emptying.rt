@@ -35,7 +35,8 @@ impl<T> EmptyingList<T> {
 
     /// Takes the first item, and gives `None` where there is none.
     pub fn take_first(&mut self) -> Option<T>
-        ensures { MatchOption result ((self.old ≡ []) × (self.new ≡ [])) (λ first. self.old ≡ first ∷ self.new) }
+        ensures { MatchOption result ((self.old ≡ []) × (self.new ≡ []))
+            (λ first. self.old ≡ first ∷ self.new) }
     {
         let first = self.backwards.pop();
         if self.backwards.len() % PIECE == 0 {

@@ -41,7 +41,8 @@ impl<R: Read> Read for RetryingReader<R> {
 
     fn read(&mut self, buf: &mut [u8]) -> io::Result<usize>
         ensures bound { ReadsAtMost result buf.new }
-        ensures bytes { ReadConsumes (R.remaining self.old.inner) (R.remaining self.new.inner) result buf.new }
+        ensures bytes { ReadConsumes (R.remaining self.old.inner)
+            (R.remaining self.new.inner) result buf.new }
         ensures tries { self.new.tries.left ≤ self.old.tries.left }
         ensures mark { Marks result Failure.Read self.old.tries self.new.tries }
         ensures failed { IfErr result (λ e. error_kind e ≢ ErrorKind.Interrupted) }

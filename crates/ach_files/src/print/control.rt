@@ -23,8 +23,12 @@ pub fn control_of(
     is_any_long: bool,
     sums: &Sums,
 ) -> Result<FileControlText, PrintFault>
-    ensures ok { (o : Outgoing) → batches ≡ min (length o.batches.now) (six_digits + 1) → is_any_long ≡ list_any is_long_batch o.batches.now → sums.now ≡ capped_sums (sums_of o) → IfOk result (λ control. (totals_fault o ≡ None) × (control ≡ file_control o)) }
-    ensures err { (o : Outgoing) → batches ≡ min (length o.batches.now) (six_digits + 1) → is_any_long ≡ list_any is_long_batch o.batches.now → sums.now ≡ capped_sums (sums_of o) → IfErr result (λ f. totals_fault o ≡ Some f) }
+    ensures ok { (o : Outgoing) → batches ≡ min (length o.batches.now) (six_digits + 1) →
+        is_any_long ≡ list_any is_long_batch o.batches.now → sums.now ≡ capped_sums (sums_of o) →
+        IfOk result (λ control. (totals_fault o ≡ None) × (control ≡ file_control o)) }
+    ensures err { (o : Outgoing) → batches ≡ min (length o.batches.now) (six_digits + 1) →
+        is_any_long ≡ list_any is_long_batch o.batches.now → sums.now ≡ capped_sums (sums_of o) →
+        IfErr result (λ f. totals_fault o ≡ Some f) }
     ensures counted { IfOk result (λ control. IsCounted control) }
     ensures fits { IfOk result (λ control. row_fits (file_control_row control) ≡ true) }
 {
@@ -73,7 +77,8 @@ pub fn room_of(control: &FileControlText) -> usize
 /// Adds the control of a file.
 pub fn put_control(out: &mut Vec<u8>, control: &FileControlText) -> Result<(), AllocError>
     requires { row_fits (file_control_row control.now) ≡ true }
-    ensures { OnOk result (out.new.items ≡ out.old.items ++ (row_text (file_control_row control.now) ++ 10 ∷ [])) }
+    ensures { OnOk result
+        (out.new.items ≡ out.old.items ++ (row_text (file_control_row control.now) ++ 10 ∷ [])) }
 {
     let mut record = [0; 94];
     let outcome = print_file_control(control, &mut record);

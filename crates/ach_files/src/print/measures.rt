@@ -40,7 +40,8 @@ pub fn measures_of(batch: &OutgoingBatch) -> Measures
 fn joint_measures(all: Measures, own: Measures) -> Measures
     ensures fit { result.fit ≡ (all.fit && own.fit) }
     ensures long { result.is_any_long ≡ (all.is_any_long || own.is_any_long) }
-    ensures sums { (x y : Sums) → all.sums ≡ capped_sums x → own.sums ≡ capped_sums y → result.sums ≡ capped_sums (joint_sums x y) }
+    ensures sums { (x y : Sums) → all.sums ≡ capped_sums x → own.sums ≡ capped_sums y →
+        result.sums ≡ capped_sums (joint_sums x y) }
 {
     Measures {
         fit: all.fit && own.fit,

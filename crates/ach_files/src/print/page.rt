@@ -26,7 +26,8 @@ pub fn put(out: &mut Vec<u8>, text: &[u8; 94]) -> Result<(), AllocError>
 // A record that has a text.
 pub fn put_record(out: &mut Vec<u8>, text: Option<[u8; 94]>) -> Result<(), AllocError>
     requires { IsSome text }
-    ensures ok { (values : List Value) → IsText text values → OnOk result (out.new.items ≡ out.old.items ++ (row_text values ++ 10 ∷ [])) }
+    ensures ok { (values : List Value) → IsText text values →
+        OnOk result (out.new.items ≡ out.old.items ++ (row_text values ++ 10 ∷ [])) }
     ensures err { OnErr result (BeginsWith out.new.items out.old.items) }
 {
     let Some(text) = text else {
@@ -37,7 +38,8 @@ pub fn put_record(out: &mut Vec<u8>, text: Option<[u8; 94]>) -> Result<(), Alloc
 
 fn put_addenda(out: &mut Vec<u8>, entry: &OutgoingEntry) -> Result<(), AllocError>
     requires { AllFit (addenda_rows entry.now.trace entry.now.addenda) }
-    ensures ok { OnOk result (Puts out.old.items out.new.items (addenda_rows entry.now.trace entry.now.addenda)) }
+    ensures ok { OnOk result
+        (Puts out.old.items out.new.items (addenda_rows entry.now.trace entry.now.addenda)) }
     ensures err { OnErr result (BeginsWith out.new.items out.old.items) }
 {
     match entry.addenda {

@@ -31,7 +31,9 @@ pub struct Printer {
 
 // What a batch is refused for.
 fn fault_of(measures: &Measures) -> Option<PrintFault>
-    ensures { result ≡ (if not measures.now.fit then Some faults.BadField else if is_large measures.now.sums then Some faults.TotalTooLarge else if measures.now.is_any_long then Some faults.TooManyRecords else None) }
+    ensures { result ≡ (if not measures.now.fit then Some faults.BadField else if is_large
+        measures.now.sums then Some faults.TotalTooLarge else if measures.now.is_any_long then Some
+        faults.TooManyRecords else None) }
 {
     if !measures.fit {
         Some(PrintFault::BadField)
@@ -70,10 +72,13 @@ impl Printer {
     /// credits exceed 999,999,999,999 cents, then with `TooManyRecords` where the batch has more than
     /// 999,999 entries and addenda. The printer then stays as it was, also where memory ran out.
     pub fn put(&mut self, batch: &OutgoingBatch) -> Result<(), PrintFault>
-        ensures ok { (header : FileHeaderText) (before : List OutgoingBatch) → HasPrinted self.old header before → OnOk result (HasPrinted self.new header (before ++ batch.now ∷ [])) }
+        ensures ok { (header : FileHeaderText) (before : List OutgoingBatch) →
+            HasPrinted self.old header before → OnOk result
+            (HasPrinted self.new header (before ++ batch.now ∷ [])) }
         ensures fits { OnOk result (batch_fault batch.now ≡ None) }
         ensures err { IfErr result (λ f. TellsPrint f (batch_fault batch.now)) }
-        ensures unchanged { (header : FileHeaderText) (before : List OutgoingBatch) → HasPrinted self.old header before → OnErr result (HasPrinted self.new header before) }
+        ensures unchanged { (header : FileHeaderText) (before : List OutgoingBatch) →
+            HasPrinted self.old header before → OnErr result (HasPrinted self.new header before) }
     {
         let own = measures_of(batch);
         if let Some(fault) = fault_of(&own) {
@@ -94,8 +99,10 @@ impl Printer {
     ///
     /// Fails as `print_file` does for the same file: `TotalTooLarge` comes before `TooManyRecords`.
     pub fn finish(self) -> Result<Vec<u8>, PrintFault>
-        ensures ok { (o : Outgoing) → HasPrinted self o.header o.batches.now → IfOk result (λ text. (print_fault o ≡ None) × (text.items ≡ outgoing_text o)) }
-        ensures err { (o : Outgoing) → HasPrinted self o.header o.batches.now → IfErr result (λ f. TellsPrint f (print_fault o)) }
+        ensures ok { (o : Outgoing) → HasPrinted self o.header o.batches.now →
+            IfOk result (λ text. (print_fault o ≡ None) × (text.items ≡ outgoing_text o)) }
+        ensures err { (o : Outgoing) → HasPrinted self o.header o.batches.now →
+            IfErr result (λ f. TellsPrint f (print_fault o)) }
     {
         let Printer {
             text,

@@ -14,7 +14,8 @@ use ach_records::{
 };
 
 pub fn record_of(outcome: Result<(), FieldFault>, text: [u8; 94]) -> Option<[u8; 94]>
-    ensures { (old : List ℕ) (values : List Value) → Prints outcome old text values → IsText result values }
+    ensures { (old : List ℕ) (values : List Value) → Prints outcome old text values →
+        IsText result values }
 {
     match outcome {
         Ok(()) => Some(text),
@@ -65,7 +66,8 @@ pub fn entry_record(entry: &OutgoingEntry) -> Option<[u8; 94]>
 
 // The record after an entry's, and whether there is one.
 pub fn addenda_record(entry: &OutgoingEntry) -> Option<[u8; 94]>
-    ensures { (values : List Value) → addenda_rows entry.now.trace entry.now.addenda ≡ values ∷ [] → IsText result values }
+    ensures { (values : List Value) → addenda_rows entry.now.trace entry.now.addenda ≡ values ∷ [] →
+        IsText result values }
 {
     let mut record = [0; 94];
     let outcome = match &entry.addenda {

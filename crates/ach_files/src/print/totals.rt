@@ -19,7 +19,8 @@ fn add_up(a: u64, b: u64) -> u64
 
 #[tactic(auto, using(crate::proofs::Outgoings::kept_added))]
 pub fn add_sums(a: Sums, b: Sums) -> Sums
-    ensures { (x y : Sums) → a ≡ capped_sums x → b ≡ capped_sums y → result ≡ capped_sums (joint_sums x y) }
+    ensures { (x y : Sums) → a ≡ capped_sums x → b ≡ capped_sums y →
+        result ≡ capped_sums (joint_sums x y) }
 {
     Sums {
         count: add_up(a.count, b.count),

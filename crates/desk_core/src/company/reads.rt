@@ -1,8 +1,7 @@
 //! What a company reads: its returns, changes, submissions, statement, rates and exposure.
 ghost use Rattle.desk_history.specs.Request as request;
-ghost use Rattle.desk_store.specs.Words.{LeavesRead};
 ghost use Rattle.desk_core.specs.Answering.{Answers};
-ghost use Rattle.desk_book.specs.OnBook.{reply_on};
+ghost use Rattle.desk_core.specs.OverStores.{LeavesNoMore, RepliesAsked};
 
 use crate::company::report::report_or_none;
 use crate::company::statement::statement;
@@ -21,8 +20,8 @@ pub(crate) fn returns_of<S: Store>(
     company: Id,
 ) -> Result<Answer, StoreFault>
     ensures before { S.is_clean store.new → S.is_clean store.old }
-    ensures answers { S.is_clean store.new → Answers (S.holds store.old) result (λ b. reply_on b company request.Returns) (λ b. b) (S.holds store.new) }
-    ensures left { S.is_clean store.new → LeavesRead (S.may_leave store.old) (S.may_leave store.new) }
+    ensures answers { RepliesAsked S.Store store.old store.new result company request.Returns }
+    ensures left { LeavesNoMore S.Store store.old store.new }
 {
     if let Err(why) = company_limits(store, alloc, company)? {
         return Ok(refuse(why));
@@ -38,8 +37,8 @@ pub(crate) fn changes_of<S: Store>(
     company: Id,
 ) -> Result<Answer, StoreFault>
     ensures before { S.is_clean store.new → S.is_clean store.old }
-    ensures answers { S.is_clean store.new → Answers (S.holds store.old) result (λ b. reply_on b company request.Changes) (λ b. b) (S.holds store.new) }
-    ensures left { S.is_clean store.new → LeavesRead (S.may_leave store.old) (S.may_leave store.new) }
+    ensures answers { RepliesAsked S.Store store.old store.new result company request.Changes }
+    ensures left { LeavesNoMore S.Store store.old store.new }
 {
     if let Err(why) = company_limits(store, alloc, company)? {
         return Ok(refuse(why));
@@ -56,8 +55,9 @@ pub(crate) fn look_up<S: Store>(
     reference: Ref,
 ) -> Result<Answer, StoreFault>
     ensures before { S.is_clean store.new → S.is_clean store.old }
-    ensures answers { S.is_clean store.new → Answers (S.holds store.old) result (λ b. reply_on b company (request.LookUp reference)) (λ b. b) (S.holds store.new) }
-    ensures left { S.is_clean store.new → LeavesRead (S.may_leave store.old) (S.may_leave store.new) }
+    ensures answers { RepliesAsked S.Store store.old store.new result company
+        (request.LookUp reference) }
+    ensures left { LeavesNoMore S.Store store.old store.new }
 {
     if let Err(why) = company_limits(store, alloc, company)? {
         return Ok(refuse(why));
@@ -73,8 +73,8 @@ pub(crate) fn statement_of<S: Store>(
     company: Id,
 ) -> Result<Answer, StoreFault>
     ensures before { S.is_clean store.new → S.is_clean store.old }
-    ensures answers { S.is_clean store.new → Answers (S.holds store.old) result (λ b. reply_on b company request.Statement) (λ b. b) (S.holds store.new) }
-    ensures left { S.is_clean store.new → LeavesRead (S.may_leave store.old) (S.may_leave store.new) }
+    ensures answers { RepliesAsked S.Store store.old store.new result company request.Statement }
+    ensures left { LeavesNoMore S.Store store.old store.new }
 {
     desk_accounts::balances_by_day();
     if let Err(why) = company_limits(store, alloc, company)? {
@@ -97,8 +97,8 @@ pub(crate) fn rates_of<S: Store>(
     company: Id,
 ) -> Result<Answer, StoreFault>
     ensures before { S.is_clean store.new → S.is_clean store.old }
-    ensures answers { S.is_clean store.new → Answers (S.holds store.old) result (λ b. reply_on b company request.Rates) (λ b. b) (S.holds store.new) }
-    ensures left { S.is_clean store.new → LeavesRead (S.may_leave store.old) (S.may_leave store.new) }
+    ensures answers { RepliesAsked S.Store store.old store.new result company request.Rates }
+    ensures left { LeavesNoMore S.Store store.old store.new }
 {
     if let Err(why) = company_limits(store, alloc, company)? {
         return Ok(refuse(why));
@@ -118,8 +118,8 @@ pub(crate) fn exposure_of<S: Store>(
     company: Id,
 ) -> Result<Answer, StoreFault>
     ensures before { S.is_clean store.new → S.is_clean store.old }
-    ensures answers { S.is_clean store.new → Answers (S.holds store.old) result (λ b. reply_on b company request.Exposure) (λ b. b) (S.holds store.new) }
-    ensures left { S.is_clean store.new → LeavesRead (S.may_leave store.old) (S.may_leave store.new) }
+    ensures answers { RepliesAsked S.Store store.old store.new result company request.Exposure }
+    ensures left { LeavesNoMore S.Store store.old store.new }
 {
     let limits = match company_limits(store, alloc, company)? {
         Ok(limits) => limits,

@@ -27,7 +27,8 @@ fn reported_entries(
     entries: &[Entry],
     states: &[EntryState],
 ) -> Result<Vec<ReportedEntry>, AllocError>
-    ensures { IfOk result (λ v. v.items ≡ map reported_entry (enumerate_from 1 (zip entries.now states.now))) }
+    ensures { IfOk result
+        (λ v. v.items ≡ map reported_entry (enumerate_from 1 (zip entries.now states.now))) }
 {
     let mut found = Vec::new(alloc);
     let mut index = 0;

@@ -44,7 +44,12 @@ pub(crate) fn statement(
     sums: &[(Day, i128)],
     postings: Vec<Posting>,
 ) -> Result<Statement, StoreFault>
-    ensures { IfOk result (λ s. s ≡ record { balance = days_balance day sums.now; day = day; lines = map line_of postings.items }) }
+    ensures { IfOk result (λ s. s ≡
+        record {
+          balance = days_balance day sums.now;
+          day = day;
+          lines = map line_of postings.items;
+        }) }
 {
     let Some(balance) = balance_of_days(sums, day) else {
         return Err(StoreFault::Unavailable);

@@ -4,13 +4,8 @@ ghost use Rattle.desk_rules.specs.Submission.{submission_of};
 ghost use Rattle.desk_history.specs.Request as request;
 ghost use Rattle.desk_history.specs.Acceptance.{is_same_submission, new_content};
 ghost use Rattle.desk_book.specs.Standing.{facts_in};
-ghost use Rattle.desk_store.specs.Words.{Reads, LeavesRead};
-ghost use Rattle.desk_history.specs.Message.{Of};
-ghost use Rattle.desk_book.specs.Writes.{writes_on};
-ghost use Rattle.desk_core.specs.Answering.{Answers, LeavesCall};
 ghost use Rattle.desk_core.specs.Verdicts.{limits_and_day, verdict_of_fields, fresh_verdict, submission_on};
-ghost use Rattle.desk_book.specs.Requests.{added_row, with_added_row};
-ghost use Rattle.desk_book.specs.OnBook.{reply_on};
+ghost use Rattle.desk_core.specs.OverStores.{Gives, LeavesNoMore, RepliesAdding, LeavesAdding};
 
 use crate::company::limits::within_limits;
 use crate::company::requests::{
@@ -45,8 +40,10 @@ fn new_submission<S: Store>(
     content: Submission,
 ) -> Result<Verdict, StoreFault>
     ensures before { S.is_clean store.new → S.is_clean store.old }
-    ensures read { S.is_clean store.new → Reads (S.holds store.old) result (λ b. fresh_verdict (length (b.rows company) + 1) None (new_content (facts_in (b.rows company)) b.holidays limits.now today content)) (S.holds store.new) }
-    ensures left { S.is_clean store.new → LeavesRead (S.may_leave store.old) (S.may_leave store.new) }
+    ensures read { Gives S.Store store.old store.new result (λ b. fresh_verdict
+        (length (b.rows company) + 1) None
+        (new_content (facts_in (b.rows company)) b.holidays limits.now today content)) }
+    ensures left { LeavesNoMore S.Store store.old store.new }
 {
     let content = match SizedSubmission::new(content) {
         Ok(content) => content,
@@ -67,8 +64,9 @@ fn submission_on<S: Store>(
     content: Submission,
 ) -> Result<Verdict, StoreFault>
     ensures before { S.is_clean store.new → S.is_clean store.old }
-    ensures read { S.is_clean store.new → Reads (S.holds store.old) result (λ b. submission_on b company limits.now today content) (S.holds store.new) }
-    ensures left { S.is_clean store.new → LeavesRead (S.may_leave store.old) (S.may_leave store.new) }
+    ensures read { Gives S.Store store.old store.new result
+        (λ b. submission_on b company limits.now today content) }
+    ensures left { LeavesNoMore S.Store store.old store.new }
 {
     if let Some(row) = store.submission(alloc, company, content.reference)? {
         return Ok(known_verdict(&row, is_plain_row(&content, &row)));
@@ -84,8 +82,9 @@ fn submission_verdict<S: Store>(
     draft: &Draft,
 ) -> Result<Verdict, StoreFault>
     ensures before { S.is_clean store.new → S.is_clean store.old }
-    ensures read { S.is_clean store.new → Reads (S.holds store.old) result (λ b. verdict_of_fields (limits_and_day b company) (submission_of draft.now) (submission_on b company)) (S.holds store.new) }
-    ensures left { S.is_clean store.new → LeavesRead (S.may_leave store.old) (S.may_leave store.new) }
+    ensures read { Gives S.Store store.old store.new result (λ b. verdict_of_fields
+        (limits_and_day b company) (submission_of draft.now) (submission_on b company)) }
+    ensures left { LeavesNoMore S.Store store.old store.new }
 {
     let (limits, today) = match limits_and_day(store, alloc, company)? {
         Ok(asked) => asked,
@@ -107,8 +106,10 @@ pub(crate) fn submit<S: Store>(
     draft: &Draft,
 ) -> Result<Answer, StoreFault>
     ensures before { S.is_clean store.new → S.is_clean store.old }
-    ensures answers { S.is_clean store.new → Answers (S.holds store.old) result (λ b. reply_on b company (request.Submit draft.now)) (λ b. with_added_row company (added_row b company (request.Submit draft.now)) b) (S.holds store.new) }
-    ensures left { S.is_clean store.new → LeavesCall S.keeps (S.holds store.old) (S.may_leave store.old) result (λ b. writes_on b (Of company (request.Submit draft.now))) (λ b. with_added_row company (added_row b company (request.Submit draft.now)) b) (S.may_leave store.new) }
+    ensures answers { RepliesAdding S.Store store.old store.new result company
+        (request.Submit draft.now) }
+    ensures left { LeavesAdding S.Store store.old store.new result company
+        (request.Submit draft.now) }
 {
     let verdict = submission_verdict(store, alloc, company, draft)?;
     add(store, alloc, company, verdict)

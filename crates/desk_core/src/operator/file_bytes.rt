@@ -24,7 +24,8 @@ fn fault_of_bytes(fault: Fault) -> Result<Fault, StoreFault>
 
 /// Gives what the bytes are: a file, or the first fault of one.
 pub(crate) fn read_file(alloc: Global, bytes: &[u8]) -> Result<Result<Taken, Fault>, StoreFault>
-    ensures { IfOk result (λ read. (file : Result FileFacts Fault) → IsFileOf bytes.now (TakeFile file) → read ≡ file) }
+    ensures { IfOk result (λ read. (file : Result FileFacts Fault) →
+        IsFileOf bytes.now (TakeFile file) → read ≡ file) }
 {
     one_message();
     faults_stand();

@@ -1,10 +1,9 @@
 //! The entries that the items of an incoming file name.
 ghost use Rattle.std.specs.Prelude.{◌≡◌, map, option_map};
 ghost use Rattle.desk_history.specs.Resolve.{named_entry};
-ghost use Rattle.desk_store.specs.Words.{Reads, LeavesRead};
 ghost use Rattle.desk_book.specs.OnIntake.{is_returned_on, is_returned_state, named_entry_on};
 ghost use Rattle.desk_intake.specs.Resolutions.{found_item_as, named_entry_as};
-ghost use Rattle.desk_core.specs.Taking.{ReadsAs};
+ghost use Rattle.desk_core.specs.OverStores.{Gives, GivesAs, LeavesNoMore};
 
 use ach_fields::Trace;
 use ach_files::ItemFacts;
@@ -22,8 +21,9 @@ fn sent_entry<S: Store>(
     item: &ItemFacts,
 ) -> Result<Option<SentEntry>, StoreFault>
     ensures before { S.is_clean store.new → S.is_clean store.old }
-    ensures read { S.is_clean store.new → Reads (S.holds store.old) result (λ b. named_entry b.identity.odfi b.sent item.now) (S.holds store.new) }
-    ensures left { S.is_clean store.new → LeavesRead (S.may_leave store.old) (S.may_leave store.new) }
+    ensures read { Gives S.Store store.old store.new result
+        (λ b. named_entry b.identity.odfi b.sent item.now) }
+    ensures left { LeavesNoMore S.Store store.old store.new }
 {
     match Trace::parse(&item.original_trace) {
         Ok(trace) => store.sent_as(alloc, trace),
@@ -47,8 +47,8 @@ fn is_returned_on<S: Store>(
     entry: &SentEntry,
 ) -> Result<bool, StoreFault>
     ensures before { S.is_clean store.new → S.is_clean store.old }
-    ensures read { S.is_clean store.new → Reads (S.holds store.old) result (λ b. is_returned_on b entry.now) (S.holds store.new) }
-    ensures left { S.is_clean store.new → LeavesRead (S.may_leave store.old) (S.may_leave store.new) }
+    ensures read { Gives S.Store store.old store.new result (λ b. is_returned_on b entry.now) }
+    ensures left { LeavesNoMore S.Store store.old store.new }
 {
     match store.state_of(alloc, entry.company, entry.reference, entry.index)? {
         Some(state) => Ok(is_returned_state(state)),
@@ -63,8 +63,9 @@ fn named_entry_on<S: Store>(
     item: &ItemFacts,
 ) -> Result<Option<NamedEntry>, StoreFault>
     ensures before { S.is_clean store.new → S.is_clean store.old }
-    ensures read { S.is_clean store.new → ReadsAs (option_map named_entry_as) (S.holds store.old) result (λ b. named_entry_on b item.now) (S.holds store.new) }
-    ensures left { S.is_clean store.new → LeavesRead (S.may_leave store.old) (S.may_leave store.new) }
+    ensures read { GivesAs S.Store store.old store.new (option_map named_entry_as) result
+        (λ b. named_entry_on b item.now) }
+    ensures left { LeavesNoMore S.Store store.old store.new }
 {
     let Some(entry) = sent_entry(store, alloc, item)? else {
         return Ok(None);
@@ -80,8 +81,9 @@ pub(crate) fn found_items<S: Store>(
     items: &[ItemFacts],
 ) -> Result<Vec<FoundItem>, StoreFault>
     ensures before { S.is_clean store.new → S.is_clean store.old }
-    ensures read { S.is_clean store.new → ReadsAs (λ found. map found_item_as found.items) (S.holds store.old) result (λ b. map (λ item. (item, named_entry_on b item)) items.now) (S.holds store.new) }
-    ensures left { S.is_clean store.new → LeavesRead (S.may_leave store.old) (S.may_leave store.new) }
+    ensures read { GivesAs S.Store store.old store.new (λ found. map found_item_as found.items)
+        result (λ b. map (λ item. (item, named_entry_on b item)) items.now) }
+    ensures left { LeavesNoMore S.Store store.old store.new }
 {
     let mut found = Vec::new(alloc);
     for item in items {

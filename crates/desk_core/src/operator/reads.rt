@@ -2,9 +2,9 @@
 ghost use Rattle.std.specs.Prelude.{◌≡◌, map, IfOk};
 ghost use Rattle.desk_accounts.specs.Balance.{days_balance};
 ghost use Rattle.desk_history.specs.Postings.{day_sum};
-ghost use Rattle.desk_store.specs.Words.{LeavesRead};
 ghost use Rattle.desk_core.specs.Answering.{Answers};
 ghost use Rattle.desk_book.specs.OnOperator.{file_answer, settlement_answer, suspense_answer};
+ghost use Rattle.desk_core.specs.OverStores.{LeavesNoMore, AnswersAsked};
 
 use crate::guards::desk_day;
 use crate::refuse::refuse;
@@ -22,8 +22,8 @@ pub(crate) fn file_text<S: Store>(
     modifier: u8,
 ) -> Result<Answer, StoreFault>
     ensures before { S.is_clean store.new → S.is_clean store.old }
-    ensures answers { S.is_clean store.new → Answers (S.holds store.old) result (file_answer day modifier) (λ b. b) (S.holds store.new) }
-    ensures left { S.is_clean store.new → LeavesRead (S.may_leave store.old) (S.may_leave store.new) }
+    ensures answers { AnswersAsked S.Store store.old store.new result (file_answer day modifier) }
+    ensures left { LeavesNoMore S.Store store.old store.new }
 {
     let text = store.file(alloc, day, modifier)?;
     Ok(Answer::Done(Outcome::File(text)))
@@ -32,8 +32,8 @@ pub(crate) fn file_text<S: Store>(
 /// Answers with the operator's account on the desk day.
 pub(crate) fn settlement<S: Store>(store: &mut S, alloc: Global) -> Result<Answer, StoreFault>
     ensures before { S.is_clean store.new → S.is_clean store.old }
-    ensures answers { S.is_clean store.new → Answers (S.holds store.old) result (settlement_answer) (λ b. b) (S.holds store.new) }
-    ensures left { S.is_clean store.new → LeavesRead (S.may_leave store.old) (S.may_leave store.new) }
+    ensures answers { AnswersAsked S.Store store.old store.new result settlement_answer }
+    ensures left { LeavesNoMore S.Store store.old store.new }
 {
     desk_accounts::balances_by_day();
     let day = match desk_day(store, alloc)? {
@@ -47,7 +47,8 @@ pub(crate) fn settlement<S: Store>(store: &mut S, alloc: Global) -> Result<Answe
 
 // The settlement on a day, from the sums by value day.
 fn settlement_of(alloc: Global, rows: &[(Day, i128)], day: Day) -> Result<Settlement, StoreFault>
-    ensures { IfOk result (λ s. s ≡ record { balance = days_balance day rows.now; day = day; days = map day_sum rows.now }) }
+    ensures { IfOk result (λ s. s ≡
+        record { balance = days_balance day rows.now; day = day; days = map day_sum rows.now }) }
 {
     let Some(balance) = desk_accounts::balance_of_days(rows, day) else {
         return Err(StoreFault::Unavailable);
@@ -72,8 +73,8 @@ fn sums_of(alloc: Global, rows: &[(Day, i128)]) -> Result<Vec<DaySum>, AllocErro
 /// Answers with what stands in suspense.
 pub(crate) fn suspense_items<S: Store>(store: &mut S, alloc: Global) -> Result<Answer, StoreFault>
     ensures before { S.is_clean store.new → S.is_clean store.old }
-    ensures answers { S.is_clean store.new → Answers (S.holds store.old) result (suspense_answer) (λ b. b) (S.holds store.new) }
-    ensures left { S.is_clean store.new → LeavesRead (S.may_leave store.old) (S.may_leave store.new) }
+    ensures answers { AnswersAsked S.Store store.old store.new result suspense_answer }
+    ensures left { LeavesNoMore S.Store store.old store.new }
 {
     let items = store.suspense(alloc)?;
     Ok(Answer::Done(Outcome::Suspense(ListOf::new(items))))

@@ -2,9 +2,8 @@
 ghost use Rattle.std.specs.Prelude.{◌≡◌, Some};
 ghost use Rattle.bank_days.specs.HolidayList.{holidays_in};
 ghost use Rattle.desk_history.specs.Message.{SetDay, SetHolidays, PutCompany, PutLimits};
-ghost use Rattle.desk_book.specs.Writes.{writes_on};
-ghost use Rattle.desk_core.specs.Answering.{Answers, LeavesCall};
 ghost use Rattle.desk_book.specs.OnOperator.{new_day, day_answer, day_after, holidays_answer, holidays_after, company_answer, company_after, limits_answer, limits_after};
+ghost use Rattle.desk_core.specs.OverStores.{AnswersWith, LeavesAfter};
 
 use crate::guards::company_limits;
 use crate::refuse::refuse;
@@ -21,8 +20,10 @@ pub(crate) fn set_day<S: Store>(
     text: &Option<DraftText>,
 ) -> Result<Answer, StoreFault>
     ensures before { S.is_clean store.new → S.is_clean store.old }
-    ensures answers { S.is_clean store.new → Answers (S.holds store.old) result (day_answer text.now) (day_after text.now) (S.holds store.new) }
-    ensures left { S.is_clean store.new → LeavesCall S.keeps (S.holds store.old) (S.may_leave store.old) result (λ b. writes_on b (SetDay text.now)) (day_after text.now) (S.may_leave store.new) }
+    ensures answers { AnswersWith S.Store store.old store.new result (day_answer text.now)
+        (day_after text.now) }
+    ensures left { LeavesAfter S.Store store.old store.new result (SetDay text.now)
+        (day_after text.now) }
 {
     let day = store.day(alloc)?;
     let holidays = store.calendar(alloc)?;
@@ -62,8 +63,10 @@ pub(crate) fn set_holidays<S: Store>(
     text: &[u8],
 ) -> Result<Answer, StoreFault>
     ensures before { S.is_clean store.new → S.is_clean store.old }
-    ensures answers { S.is_clean store.new → Answers (S.holds store.old) result (holidays_answer (holidays_in text.now)) (holidays_after (holidays_in text.now)) (S.holds store.new) }
-    ensures left { S.is_clean store.new → LeavesCall S.keeps (S.holds store.old) (S.may_leave store.old) result (λ b. writes_on b (SetHolidays (holidays_in text.now))) (holidays_after (holidays_in text.now)) (S.may_leave store.new) }
+    ensures answers { AnswersWith S.Store store.old store.new result
+        (holidays_answer (holidays_in text.now)) (holidays_after (holidays_in text.now)) }
+    ensures left { LeavesAfter S.Store store.old store.new result
+        (SetHolidays (holidays_in text.now)) (holidays_after (holidays_in text.now)) }
 {
     match Calendar::read(alloc, text) {
         Ok(holidays) => {
@@ -83,8 +86,10 @@ pub(crate) fn put_company<S: Store>(
     draft: &CompanyDraft,
 ) -> Result<Answer, StoreFault>
     ensures before { S.is_clean store.new → S.is_clean store.old }
-    ensures answers { S.is_clean store.new → Answers (S.holds store.old) result (company_answer draft.now) (company_after draft.now) (S.holds store.new) }
-    ensures left { S.is_clean store.new → LeavesCall S.keeps (S.holds store.old) (S.may_leave store.old) result (λ b. writes_on b (PutCompany draft.now)) (company_after draft.now) (S.may_leave store.new) }
+    ensures answers { AnswersWith S.Store store.old store.new result (company_answer draft.now)
+        (company_after draft.now) }
+    ensures left { LeavesAfter S.Store store.old store.new result (PutCompany draft.now)
+        (company_after draft.now) }
 {
     let company = match desk_rules::check_company_fields(draft) {
         Ok(company) => company,
@@ -104,8 +109,10 @@ pub(crate) fn put_limits<S: Store>(
     draft: &LimitsDraft,
 ) -> Result<Answer, StoreFault>
     ensures before { S.is_clean store.new → S.is_clean store.old }
-    ensures answers { S.is_clean store.new → Answers (S.holds store.old) result (limits_answer draft.now) (limits_after draft.now) (S.holds store.new) }
-    ensures left { S.is_clean store.new → LeavesCall S.keeps (S.holds store.old) (S.may_leave store.old) result (λ b. writes_on b (PutLimits draft.now)) (limits_after draft.now) (S.may_leave store.new) }
+    ensures answers { AnswersWith S.Store store.old store.new result (limits_answer draft.now)
+        (limits_after draft.now) }
+    ensures left { LeavesAfter S.Store store.old store.new result (PutLimits draft.now)
+        (limits_after draft.now) }
 {
     let (id, limits) = match desk_rules::check_limits_fields(draft) {
         Ok(found) => found,

@@ -4,9 +4,9 @@ ghost use Rattle.desk_plan.specs.Modifiers.{modifiers};
 ghost use Rattle.desk_history.specs.Status.{modifiers_on};
 ghost use Rattle.desk_book.specs.OnStatus.{company_status, status_answer};
 ghost use Rattle.desk_book.specs.Reads.{waiting_of};
-ghost use Rattle.desk_store.specs.Words.{Reads, ReadsList, LeavesRead};
 ghost use Rattle.desk_core.specs.Answering.{Answers};
 ghost use Rattle.desk_core.specs.Status.{statuses};
+ghost use Rattle.desk_core.specs.OverStores.{Gives, GivesList, LeavesNoMore, AnswersAsked};
 
 use bank_days::{Calendar, Day};
 use desk_cut::company_status;
@@ -25,8 +25,9 @@ fn status_of<S: Store>(
     company: &Company,
 ) -> Result<CompanyStatus, StoreFault>
     ensures before { S.is_clean store.new → S.is_clean store.old }
-    ensures read { S.is_clean store.new → Reads (S.holds store.old) result (λ b. company_status day.now holidays.now company.now (waiting_of company.now b)) (S.holds store.new) }
-    ensures left { S.is_clean store.new → LeavesRead (S.may_leave store.old) (S.may_leave store.new) }
+    ensures read { Gives S.Store store.old store.new result
+        (λ b. company_status day.now holidays.now company.now (waiting_of company.now b)) }
+    ensures left { LeavesNoMore S.Store store.old store.new }
 {
     let waiting = store.waiting_of(alloc, *company)?;
     match company_status(alloc, *day, holidays, company, &waiting) {
@@ -44,8 +45,9 @@ fn statuses_of<S: Store>(
     companies: &[Company],
 ) -> Result<Vec<CompanyStatus>, StoreFault>
     ensures before { S.is_clean store.new → S.is_clean store.old }
-    ensures read { S.is_clean store.new → ReadsList (S.holds store.old) result (statuses day.now holidays.now companies.now) (S.holds store.new) }
-    ensures left { S.is_clean store.new → LeavesRead (S.may_leave store.old) (S.may_leave store.new) }
+    ensures read { GivesList S.Store store.old store.new result
+        (statuses day.now holidays.now companies.now) }
+    ensures left { LeavesNoMore S.Store store.old store.new }
 {
     let mut found = Vec::new(alloc);
     for company in companies {
@@ -79,8 +81,9 @@ fn files_of<S: Store>(
     day: &Option<RuleDay>,
 ) -> Result<Vec<u8>, StoreFault>
     ensures before { S.is_clean store.new → S.is_clean store.old }
-    ensures read { S.is_clean store.new → ReadsList (S.holds store.old) result (λ b. modifiers_on day.now b.files_on) (S.holds store.new) }
-    ensures left { S.is_clean store.new → LeavesRead (S.may_leave store.old) (S.may_leave store.new) }
+    ensures read { GivesList S.Store store.old store.new result
+        (λ b. modifiers_on day.now b.files_on) }
+    ensures left { LeavesNoMore S.Store store.old store.new }
 {
     match day {
         None => Ok(Vec::new(alloc)),
@@ -103,8 +106,8 @@ fn day_of(day: &Option<RuleDay>) -> Option<Day>
 /// Answers with how the desk stands.
 pub(crate) fn status<S: Store>(store: &mut S, alloc: Global) -> Result<Answer, StoreFault>
     ensures before { S.is_clean store.new → S.is_clean store.old }
-    ensures answers { S.is_clean store.new → Answers (S.holds store.old) result (status_answer) (λ b. b) (S.holds store.new) }
-    ensures left { S.is_clean store.new → LeavesRead (S.may_leave store.old) (S.may_leave store.new) }
+    ensures answers { AnswersAsked S.Store store.old store.new result status_answer }
+    ensures left { LeavesNoMore S.Store store.old store.new }
 {
     let day = store.day(alloc)?;
     let holidays = store.calendar(alloc)?;

@@ -50,7 +50,8 @@ pub(crate) fn state_at(row: &Row, index: u64) -> EntryState
 }
 
 fn push_attempt(tried: &mut Vec<Attempt>, state: EntryState) -> Result<(), AllocError>
-    ensures { OnOk result (tried.new.items ≡ tried.old.items ++ filter_map attempt_of (state ∷ [])) }
+    ensures { OnOk result
+        (tried.new.items ≡ tried.old.items ++ filter_map attempt_of (state ∷ [])) }
 {
     if let Some(attempt) = state.attempt() {
         tried.push(attempt)?;
@@ -59,7 +60,8 @@ fn push_attempt(tried: &mut Vec<Attempt>, state: EntryState) -> Result<(), Alloc
 }
 
 fn push_retries(tried: &mut Vec<Attempt>, retries: &[Row]) -> Result<(), AllocError>
-    ensures { OnOk result (tried.new.items ≡ tried.old.items ++ filter_map attempt_of (map (λ retry. state_at retry 1) retries.now)) }
+    ensures { OnOk result (tried.new.items ≡ tried.old.items ++ filter_map attempt_of
+        (map (λ retry. state_at retry 1) retries.now)) }
 {
     for retry in retries {
         push_attempt(tried, state_at(retry, 1))?;
@@ -113,7 +115,9 @@ pub(crate) fn first_of_attempts(
     today: Day,
     calendar: &Calendar,
 ) -> Result<Result<(), Refusal>, StoreFault>
-    ensures { IfOk result (λ verdict. verdict ≡ retry_verdict (attempts_of retries.now row.now retry.now.index) retry.now.day retry.now.authorized today calendar.now) }
+    ensures { IfOk result (λ verdict. verdict ≡ retry_verdict
+        (attempts_of retries.now row.now retry.now.index) retry.now.day retry.now.authorized today
+        calendar.now) }
 {
     let tried = attempts_of(alloc, retries, row, retry.index)?;
     if tried.is_empty() {

@@ -2,14 +2,9 @@
 ghost use Rattle.std.specs.Prelude.{◌+◌, length, Some};
 ghost use Rattle.desk_rules.specs.Retry.{retry_of};
 ghost use Rattle.desk_history.specs.Request as request;
-ghost use Rattle.desk_store.specs.Words.{Reads, LeavesRead};
-ghost use Rattle.desk_history.specs.Message.{Of};
-ghost use Rattle.desk_book.specs.Writes.{writes_on};
-ghost use Rattle.desk_core.specs.Answering.{Answers, LeavesCall};
 ghost use Rattle.desk_core.specs.Verdicts.{limits_and_day, verdict_of_fields, fresh_verdict, retry_on};
 ghost use Rattle.desk_book.specs.Standing.{retry_content_among};
-ghost use Rattle.desk_book.specs.Requests.{added_row, with_added_row};
-ghost use Rattle.desk_book.specs.OnBook.{reply_on};
+ghost use Rattle.desk_core.specs.OverStores.{Gives, LeavesNoMore, RepliesAdding, LeavesAdding};
 
 use crate::company::requests::{
     add, fresh_verdict, known_verdict, limits_and_day, next_order, refused_verdict,
@@ -33,8 +28,10 @@ fn new_retry<S: Store>(
     retry: &Retry,
 ) -> Result<Verdict, StoreFault>
     ensures before { S.is_clean store.new → S.is_clean store.old }
-    ensures read { S.is_clean store.new → Reads (S.holds store.old) result (λ b. fresh_verdict (length (b.rows company) + 1) (Some retry.now) (retry_content_among (b.rows company) b.holidays limits.now today retry.now)) (S.holds store.new) }
-    ensures left { S.is_clean store.new → LeavesRead (S.may_leave store.old) (S.may_leave store.new) }
+    ensures read { Gives S.Store store.old store.new result (λ b. fresh_verdict
+        (length (b.rows company) + 1) (Some retry.now)
+        (retry_content_among (b.rows company) b.holidays limits.now today retry.now)) }
+    ensures left { LeavesNoMore S.Store store.old store.new }
 {
     let content = retry_content(store, alloc, company, limits, today, retry)?;
     let order = next_order(store, alloc, company)?;
@@ -51,8 +48,9 @@ fn retry_on<S: Store>(
     retry: &Retry,
 ) -> Result<Verdict, StoreFault>
     ensures before { S.is_clean store.new → S.is_clean store.old }
-    ensures read { S.is_clean store.new → Reads (S.holds store.old) result (λ b. retry_on b company limits.now today retry.now) (S.holds store.new) }
-    ensures left { S.is_clean store.new → LeavesRead (S.may_leave store.old) (S.may_leave store.new) }
+    ensures read { Gives S.Store store.old store.new result
+        (λ b. retry_on b company limits.now today retry.now) }
+    ensures left { LeavesNoMore S.Store store.old store.new }
 {
     if let Some(row) = store.submission(alloc, company, retry.reference)? {
         return Ok(known_verdict(&row, is_same_retry(retry, row.retry)));
@@ -68,8 +66,9 @@ fn retry_verdict<S: Store>(
     draft: &RetryDraft,
 ) -> Result<Verdict, StoreFault>
     ensures before { S.is_clean store.new → S.is_clean store.old }
-    ensures read { S.is_clean store.new → Reads (S.holds store.old) result (λ b. verdict_of_fields (limits_and_day b company) (retry_of draft.now) (retry_on b company)) (S.holds store.new) }
-    ensures left { S.is_clean store.new → LeavesRead (S.may_leave store.old) (S.may_leave store.new) }
+    ensures read { Gives S.Store store.old store.new result (λ b. verdict_of_fields
+        (limits_and_day b company) (retry_of draft.now) (retry_on b company)) }
+    ensures left { LeavesNoMore S.Store store.old store.new }
 {
     let (limits, today) = match limits_and_day(store, alloc, company)? {
         Ok(asked) => asked,
@@ -89,8 +88,10 @@ pub(crate) fn retry<S: Store>(
     draft: &RetryDraft,
 ) -> Result<Answer, StoreFault>
     ensures before { S.is_clean store.new → S.is_clean store.old }
-    ensures answers { S.is_clean store.new → Answers (S.holds store.old) result (λ b. reply_on b company (request.Retry draft.now)) (λ b. with_added_row company (added_row b company (request.Retry draft.now)) b) (S.holds store.new) }
-    ensures left { S.is_clean store.new → LeavesCall S.keeps (S.holds store.old) (S.may_leave store.old) result (λ b. writes_on b (Of company (request.Retry draft.now))) (λ b. with_added_row company (added_row b company (request.Retry draft.now)) b) (S.may_leave store.new) }
+    ensures answers { RepliesAdding S.Store store.old store.new result company
+        (request.Retry draft.now) }
+    ensures left { LeavesAdding S.Store store.old store.new result company
+        (request.Retry draft.now) }
 {
     let verdict = retry_verdict(store, alloc, company, draft)?;
     add(store, alloc, company, verdict)

@@ -2,7 +2,7 @@
 ghost use Rattle.std.specs.Prelude.{◌≡◌};
 ghost use Rattle.desk_history.specs.Acceptance.{is_same_retry, retry_content};
 ghost use Rattle.desk_book.specs.Standing.{facts_in, attempts_at, retry_content_among};
-ghost use Rattle.desk_store.specs.Words.{Reads, LeavesRead};
+ghost use Rattle.desk_core.specs.OverStores.{Gives, LeavesNoMore};
 
 use crate::company::limits::within_limits;
 use crate::retry::attempts::{content_of, entry_named, first_of_attempts};
@@ -25,8 +25,10 @@ fn retry_content_of<S: Store>(
     entry: Entry,
 ) -> Result<Result<SizedSubmission, Refusal>, StoreFault>
     ensures before { S.is_clean store.new → S.is_clean store.old }
-    ensures read { S.is_clean store.new → Reads (S.holds store.old) result (λ b. retry_content (facts_in (b.rows company)) b.holidays limits.now today retry.now row.now.content entry (attempts_at (b.rows company) row.now retry.now.index)) (S.holds store.new) }
-    ensures left { S.is_clean store.new → LeavesRead (S.may_leave store.old) (S.may_leave store.new) }
+    ensures read { Gives S.Store store.old store.new result (λ b. retry_content
+        (facts_in (b.rows company)) b.holidays limits.now today retry.now row.now.content entry
+        (attempts_at (b.rows company) row.now retry.now.index)) }
+    ensures left { LeavesNoMore S.Store store.old store.new }
 {
     let original = row.content.submission();
     let retries = store.retries_of(alloc, company, original.reference, retry.index)?;
@@ -58,8 +60,9 @@ pub(crate) fn retry_content<S: Store>(
     retry: &Retry,
 ) -> Result<Result<SizedSubmission, Refusal>, StoreFault>
     ensures before { S.is_clean store.new → S.is_clean store.old }
-    ensures read { S.is_clean store.new → Reads (S.holds store.old) result (λ b. retry_content_among (b.rows company) b.holidays limits.now today retry.now) (S.holds store.new) }
-    ensures left { S.is_clean store.new → LeavesRead (S.may_leave store.old) (S.may_leave store.new) }
+    ensures read { Gives S.Store store.old store.new result
+        (λ b. retry_content_among (b.rows company) b.holidays limits.now today retry.now) }
+    ensures left { LeavesNoMore S.Store store.old store.new }
 {
     let Some(row) = store.submission(alloc, company, retry.of)? else {
         return Ok(Err(Refusal::NoEntry));

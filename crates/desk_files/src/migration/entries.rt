@@ -5,8 +5,7 @@ ghost use Rattle.sqlite.specs.State.{HasCleanDisk, Survives, KeepsCommit};
 ghost use Rattle.sql_statements.specs.Transactions.{Makes};
 ghost use Rattle.desk_files.specs.Migration.{put_number_edit, number_entries_edit, number_in, seen_layout, if_seen};
 
-use desk_queries::natural;
-use desk_records::read_only_column;
+use desk_records::{natural, read_only_column};
 use sql_statements::{RowBody, execute, number, query_inside, run_each};
 use sqlite::{Alter, Error, Row, Transaction};
 

@@ -101,7 +101,10 @@ impl FromRow for PlacedEntry {
 // The entry in eight columns, of which the first has this index.
 fn read_entry(row: &Row, first: usize) -> Option<Entry>
     requires { first ≤ 3 }
-    ensures { Reads entry_columns EntryFits (column row.now first ∷ column row.now (first + 1) ∷ column row.now (first + 2) ∷ column row.now (first + 3) ∷ column row.now (first + 4) ∷ column row.now (first + 5) ∷ column row.now (first + 6) ∷ column row.now (first + 7) ∷ []) result }
+    ensures { Reads entry_columns EntryFits (column row.now first ∷ column row.now (first + 1) ∷
+        column row.now (first + 2) ∷ column row.now (first + 3) ∷ column row.now (first + 4) ∷
+        column row.now (first + 5) ∷ column row.now (first + 6) ∷ column row.now (first + 7) ∷ [])
+        result }
 {
     let routing = read_column(row, first)?;
     let account = read_column(row, first + 1)?;

@@ -90,7 +90,8 @@ impl FromRow for SubmissionHead {
 
 // The entry that a retry tries again, out of the columns of_ref and of_index.
 fn read_retried(row: &Row) -> Option<Option<RetriedEntry>>
-    ensures { Reads retried_columns (FitsIfAny RetriedFits) (column row.now 7 ∷ column row.now 8 ∷ []) result }
+    ensures { Reads retried_columns (FitsIfAny RetriedFits)
+        (column row.now 7 ∷ column row.now 8 ∷ []) result }
 {
     match read_column(row, 7)? {
         None => match read_column::<Option<u64>>(row, 8)? {

@@ -105,8 +105,10 @@ impl TransactionBody for Nothing {
 /// Gives the number of the last line, 0 before the first.
 fn last_line<S: Alter>(tx: &mut Transaction<'_, S>) -> Result<i64, Error>
     ensures same_reference { tx.new.conn.ghost_name ≡ tx.old.conn.ghost_name }
-    ensures keeps { HasCleanDisk (state S.Store tx.new.conn.now) → KeepsCommit (state S.Store tx.old.conn.now) (state S.Store tx.new.conn.now) }
-    ensures survives { Survives (state S.Store tx.old.conn.now) (state S.Store tx.new.conn.now) (λ _. ⊥) }
+    ensures keeps { HasCleanDisk (state S.Store tx.new.conn.now) →
+        KeepsCommit (state S.Store tx.old.conn.now) (state S.Store tx.new.conn.now) }
+    ensures survives { Survives (state S.Store tx.old.conn.now) (state S.Store tx.new.conn.now)
+        (λ _. ⊥) }
 {
     match query_first_inside(tx, "SELECT no FROM lines ORDER BY no DESC LIMIT 1", &[])? {
         None => Ok(0),
@@ -117,8 +119,10 @@ fn last_line<S: Alter>(tx: &mut Transaction<'_, S>) -> Result<i64, Error>
 /// Gives the number of lines.
 fn line_count<S: Alter>(tx: &mut Transaction<'_, S>) -> Result<i64, Error>
     ensures same_reference { tx.new.conn.ghost_name ≡ tx.old.conn.ghost_name }
-    ensures keeps { HasCleanDisk (state S.Store tx.new.conn.now) → KeepsCommit (state S.Store tx.old.conn.now) (state S.Store tx.new.conn.now) }
-    ensures survives { Survives (state S.Store tx.old.conn.now) (state S.Store tx.new.conn.now) (λ _. ⊥) }
+    ensures keeps { HasCleanDisk (state S.Store tx.new.conn.now) →
+        KeepsCommit (state S.Store tx.old.conn.now) (state S.Store tx.new.conn.now) }
+    ensures survives { Survives (state S.Store tx.old.conn.now) (state S.Store tx.new.conn.now)
+        (λ _. ⊥) }
 {
     let rows = query_inside(tx, "SELECT no FROM lines ORDER BY no", &[])?;
     match i64::try_from(rows.len()) {
@@ -130,8 +134,10 @@ fn line_count<S: Alter>(tx: &mut Transaction<'_, S>) -> Result<i64, Error>
 /// Gives what `NextLine` writes.
 fn next_line<S: Alter>(tx: &mut Transaction<'_, S>) -> Result<(i64, i64), Error>
     ensures same_reference { tx.new.conn.ghost_name ≡ tx.old.conn.ghost_name }
-    ensures keeps { HasCleanDisk (state S.Store tx.new.conn.now) → KeepsCommit (state S.Store tx.old.conn.now) (state S.Store tx.new.conn.now) }
-    ensures survives { Survives (state S.Store tx.old.conn.now) (state S.Store tx.new.conn.now) (λ _. ⊥) }
+    ensures keeps { HasCleanDisk (state S.Store tx.new.conn.now) →
+        KeepsCommit (state S.Store tx.old.conn.now) (state S.Store tx.new.conn.now) }
+    ensures survives { Survives (state S.Store tx.old.conn.now) (state S.Store tx.new.conn.now)
+        (λ _. ⊥) }
 {
     let last = last_line(tx)?;
     let count = line_count(tx)?;

@@ -10,5 +10,5 @@ all_of-requires g c = postings_selects
 
 pub returns-clause-answer : goal.returns-clause-answer
 returns-clause-answer g c clean =
-    let lines = all_found _ posting_line_rows (postings_shown c.args.account) (rw (c.characters.ensures, c.deref.ensures.value, c.in_ok-text.ensures) at (c.in_ok-lines.ensures.answer clean)) in
+    let lines = all_found _ posting_line_rows (postings_shown c.args.account) (rw (c.characters.ensures, c.as_slice.ensures.value, c.account_text-text.ensures) at (c.in_ok-lines.ensures.answer clean)) in
     IfOk-weaker c.of_account.result _ _ (λ found are. postings_found lines are) c.of_account.ensures

@@ -11,4 +11,4 @@ all_of-requires g c = sums_selects
 
 pub returns-clause-answer : goal.returns-clause-answer
 returns-clause-answer g c clean =
-    together c.all_of.result _ _ _ (λ xs read fit. all_found_within day_sum_row DaySumFits day_sums_apart (sums_shown c.args.account) (rw (c.characters.ensures, c.deref.ensures.value, c.in_ok-text.ensures) at read) fit) (c.all_of.ensures.answer clean) c.all_of.ensures.fit
+    together c.all_of.result _ _ _ (λ xs read fit. all_found_within day_sum_row DaySumFits day_sums_apart (sums_shown c.args.account) (rw (c.characters.ensures, c.as_slice.ensures.value, c.account_text-text.ensures) at read) fit) (c.all_of.ensures.answer clean) c.all_of.ensures.fit

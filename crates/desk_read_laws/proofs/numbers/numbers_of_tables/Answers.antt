@@ -4,7 +4,7 @@ use Rattle.desk_book.specs.Reads.{last_sequence, sent_count, sent_as, latest_set
 use Rattle.desk_history.specs.declared.identity.Identity.{Identity}
 use Rattle.desk_history.specs.Resolve.{has_trace}
 use Rattle.desk_records.specs.Encodes.{AreYoungest}
-use Rattle.desk_read_laws.specs.Composed.{latest_in}
+use Rattle.desk_records.specs.Composed.{latest_in}
 use Rattle.desk_read_laws.proofs.LastNumbers.{last_is}
 use Rattle.desk_read_laws.proofs.ReadsAs.{reads_as}
 use Rattle.desk_read_laws.proofs.TracedFound.{traced_found, latest_found}

@@ -1,7 +1,7 @@
 use Rattle.std.specs.Prelude.{length}
 use Rattle.desk_accounts.specs.Balance.{lines_of, day_sums}
 use Rattle.desk_records.specs.TableReads.{number_of_last, lines_in, suspense_in, modifiers_in, text_in, taken_in}
-use Rattle.desk_read_laws.specs.Composed.{day_sums_in}
+use Rattle.desk_records.specs.Composed.{day_sums_in}
 use Rattle.desk_read_laws.proofs.DaySums.{sums_found}
 use Rattle.desk_read_laws.proofs.ReadsAs.{reads_as}
 use Rattle.desk_read_laws.proofs.RegistryFound.{lines_found, suspense_found, suspense_counted, files_found, text_found, taken_found}

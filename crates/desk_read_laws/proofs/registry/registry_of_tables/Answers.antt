@@ -1,7 +1,7 @@
 use Rattle.std.proofs.Common.{ap}
 use Rattle.desk_book.specs.Reads.{key_of, company}
 use Rattle.desk_records.specs.TableReads.{company_in}
-use Rattle.desk_read_laws.specs.Composed.{key_in}
+use Rattle.desk_records.specs.Composed.{key_in}
 use Rattle.desk_read_laws.proofs.ReadsAs.{reads_as}
 use Rattle.desk_read_laws.proofs.RegistryFound.{company_found, key_found}
 use Rattle.desk_read_laws.proofs.registry.registry_of_tables.Goals as goal

@@ -9,7 +9,7 @@ use Rattle.desk_read_laws.proofs.ReadsAs.{reads_as}
 use Rattle.desk_book.specs.Standing.{facts_in}
 use Rattle.desk_book.specs.Sums.{exposures_on, exposures_of, rates_of}
 use Rattle.desk_rules.specs.ReturnRates.{rates}
-use Rattle.desk_read_laws.specs.Composed.{exposures_in, rates_in, state_under_in, waiting_of_in, waiting_in}
+use Rattle.desk_records.specs.Composed.{exposures_in, rates_in, state_under_in, waiting_of_in, waiting_in}
 use Rattle.desk_read_laws.proofs.EntryStates.{state_found}
 use Rattle.desk_read_laws.proofs.ItemLines.{returns_found, changes_found, all_there}
 use Rattle.desk_read_laws.proofs.WaitingRows.{waiting_of_found, waiting_found}

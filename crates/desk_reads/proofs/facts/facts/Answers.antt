@@ -1,5 +1,5 @@
 use Rattle.std.proofs.Common.{◌∙◌, map}
-use Rattle.desk_read_laws.specs.Composed.{fact_among}
+use Rattle.desk_records.specs.Composed.{fact_among}
 use Rattle.desk_reads.proofs.Joined.{query, both, answered}
 use Rattle.desk_reads.proofs.RowFacts.{facts_are}
 use Rattle.desk_reads.proofs.facts.facts.Goals as goal

@@ -2,7 +2,7 @@ use Rattle.std.proofs.Common.{◌∙◌, ap, List}
 use Rattle.std.specs.List.{flat_map}
 use Rattle.desk_book.specs.declared.held_submission.HeldSubmission.{HeldSubmission}
 use Rattle.desk_rules.specs.declared.bodies.company.Company.{Company}
-use Rattle.desk_read_laws.specs.Composed.{waiting_of_in}
+use Rattle.desk_records.specs.Composed.{waiting_of_in}
 use Rattle.desk_records.specs.Tables.{Tables}
 use Rattle.desk_reads.proofs.Joined.{query, learnt, both, answered}
 use Rattle.desk_reads.proofs.ListReads.{flat_map_same}

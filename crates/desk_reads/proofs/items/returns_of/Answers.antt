@@ -1,5 +1,5 @@
 use Rattle.std.proofs.Common.{◌∙◌, ap, map}
-use Rattle.desk_read_laws.specs.Composed.{return_row_in}
+use Rattle.desk_records.specs.Composed.{return_row_in}
 use Rattle.desk_reads.proofs.Joined.{query, answered_last}
 use Rattle.desk_reads.proofs.items.returns_of.Goals as goal
 

@@ -1,5 +1,5 @@
 use Rattle.std.proofs.Common.{◌∙◌, ap, sym, Some}
-use Rattle.desk_read_laws.specs.Composed.{key_in}
+use Rattle.desk_records.specs.Composed.{key_in}
 use Rattle.desk_reads.proofs.Joined.{query, answered}
 use Rattle.desk_reads.proofs.key.key_of.Goals as goal
 

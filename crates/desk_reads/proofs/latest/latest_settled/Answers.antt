@@ -2,7 +2,7 @@ use Rattle.std.proofs.Common.{◌∙◌, ap, sym, map, max}
 use Rattle.std.specs.List.{reduce}
 use Rattle.std.specs.Prelude.{filter_map}
 use Rattle.desk_queries.proofs.Selects.{each_itself}
-use Rattle.desk_read_laws.specs.Composed.{settled_at}
+use Rattle.desk_records.specs.Composed.{settled_at}
 use Rattle.desk_records.specs.TableReads.{places_between}
 use Rattle.desk_reads.proofs.Joined.{query, learnt, both, answered}
 use Rattle.desk_reads.proofs.ListReads.{filter_map_all}

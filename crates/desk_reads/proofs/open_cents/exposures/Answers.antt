@@ -1,6 +1,6 @@
 use Rattle.std.proofs.Common.{◌∙◌, sym, ap}
 use Rattle.desk_queries.proofs.Selects.{each_itself}
-use Rattle.desk_read_laws.specs.Composed.{exposures_in}
+use Rattle.desk_records.specs.Composed.{exposures_in}
 use Rattle.desk_reads.proofs.Joined.{read, learnt, both, answered}
 use Rattle.desk_reads.proofs.OpenHeads.{exposures_summed}
 use Rattle.desk_reads.proofs.open_cents.exposures.Goals as goal

@@ -1,7 +1,7 @@
 use Rattle.std.proofs.Common.{◌∙◌, ◌≤◌, ap, sym, subst}
 use Rattle.ach_fields.specs.Routing.{dfi_of, most_dfi}
 use Rattle.desk_history.specs.declared.identity.Identity.{Identity}
-use Rattle.desk_read_laws.specs.Composed.{sent_in, sent_as_in}
+use Rattle.desk_records.specs.Composed.{sent_in, sent_as_in}
 use Rattle.desk_reads.proofs.Joined.{query, asked, answered, answered_last}
 use Rattle.desk_reads.proofs.TracesOfBank.{other_bank, own_bank}
 use Rattle.desk_reads.proofs.sent.sent_as.Goals as goal

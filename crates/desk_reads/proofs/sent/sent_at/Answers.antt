@@ -1,5 +1,5 @@
 use Rattle.std.proofs.Common.{◌∙◌, ap, sym, Option, option_and_then}
-use Rattle.desk_read_laws.specs.Composed.{sent_with}
+use Rattle.desk_records.specs.Composed.{sent_with}
 use Rattle.desk_records.specs.TableReads.{facts_in}
 use Rattle.desk_records.specs.declared.row.entries.PlacedEntry.{PlacedEntry}
 use Rattle.desk_reads.proofs.Joined.{query, asked, answered_last}

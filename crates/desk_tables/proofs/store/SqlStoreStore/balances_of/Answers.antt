@@ -1,5 +1,5 @@
 use Rattle.std.specs.Prelude.{◌≡◌}
-use Rattle.desk_read_laws.specs.Composed.{day_sums_in}
+use Rattle.desk_records.specs.Composed.{day_sums_in}
 use Rattle.desk_accounts.specs.Balance.{day_sums}
 use Rattle.desk_tables.proofs.Reading.{reads_list}
 use Rattle.desk_tables.proofs.store.SqlStoreStore.balances_of.Goals as goal

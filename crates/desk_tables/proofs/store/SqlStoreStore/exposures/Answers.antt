@@ -1,6 +1,6 @@
 use Rattle.std.specs.Prelude.{◌≡◌}
 use Rattle.desk_book.specs.Sums.{exposures_of}
-use Rattle.desk_read_laws.specs.Composed.{exposures_in}
+use Rattle.desk_records.specs.Composed.{exposures_in}
 use Rattle.desk_tables.proofs.Reading.{reads}
 use Rattle.desk_tables.proofs.store.SqlStoreStore.exposures.Goals as goal
 

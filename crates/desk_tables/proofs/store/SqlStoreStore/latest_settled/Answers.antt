@@ -1,5 +1,5 @@
 use Rattle.std.specs.Prelude.{◌≡◌}
-use Rattle.desk_read_laws.specs.Composed.{latest_in}
+use Rattle.desk_records.specs.Composed.{latest_in}
 use Rattle.desk_book.specs.Reads.{latest_settled}
 use Rattle.desk_tables.proofs.Reading.{reads}
 use Rattle.desk_tables.proofs.store.SqlStoreStore.latest_settled.Goals as goal

@@ -1,5 +1,5 @@
 use Rattle.std.specs.Prelude.{◌≡◌, ◌-◌, ◌+◌}
-use Rattle.desk_read_laws.specs.Composed.{state_under_in}
+use Rattle.desk_records.specs.Composed.{state_under_in}
 use Rattle.desk_book.specs.Reads.{state_of}
 use Rattle.desk_tables.proofs.Reading.{reads}
 use Rattle.desk_tables.proofs.store.SqlStoreStore.state_of.Goals as goal

@@ -1,5 +1,5 @@
 use Rattle.std.specs.Prelude.{◌≡◌}
-use Rattle.desk_read_laws.specs.Composed.{waiting_of_in}
+use Rattle.desk_records.specs.Composed.{waiting_of_in}
 use Rattle.desk_book.specs.Reads.{waiting_of}
 use Rattle.desk_tables.proofs.Reading.{reads_list}
 use Rattle.desk_tables.proofs.store.SqlStoreStore.waiting_of.Goals as goal
