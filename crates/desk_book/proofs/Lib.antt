@@ -32,6 +32,7 @@ pub mod Standings
 pub mod StatusAnswers
 pub mod Steps
 pub mod Turns
+pub mod Unauthorized
 pub mod Unreturned
 pub mod EqualParts
 pub mod Finds

@@ -19,4 +19,5 @@ pub mod Steps
 pub mod SumLaws
 pub mod Sums
 pub mod Requests
+pub mod Unauthorized
 pub mod Writes

@@ -1,6 +1,7 @@
 //! The laws of the book.
 ghost use Rattle.desk_book.specs.BookLaws.{TellsReplies, StepsOfMessages};
 ghost use Rattle.desk_book.specs.OperatorLaws.{StepsOfOperator, TellsOperator};
+ghost use Rattle.desk_book.specs.Unauthorized.{UnauthorizedBooks};
 
 use crate::row_laws::{row_steps, verdicts_on_rows};
 
@@ -34,4 +35,12 @@ pub fn steps_of_operator()
     ensures { StepsOfOperator }
 {
     steps_of_messages();
+}
+
+/// The book of a history without the key `authorized` of the retries has no retry that the receiver
+/// authorized again.
+pub fn unauthorized_books()
+    ensures { UnauthorizedBooks }
+{
+    desk_history::authorizations_left_out();
 }

@@ -20,7 +20,9 @@ mod status_laws;
 mod sum_laws;
 mod sums;
 
-pub use book_laws::{steps_of_messages, steps_of_operator, tells_operator, tells_replies};
+pub use book_laws::{
+    steps_of_messages, steps_of_operator, tells_operator, tells_replies, unauthorized_books,
+};
 pub use caller::Caller;
 pub use cut_laws::{entries_of_cuts, tells_cut};
 pub use flat_rows::{ChangedRow, FileRow, LapsedRow, ReturnedRow, SentRow};

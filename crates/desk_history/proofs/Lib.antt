@@ -14,6 +14,21 @@
 --   company_of_part        Lines, PartCompany
 --   served_alone           Alone
 --   first_answer_stands    Repeated
+--   one_message              OneMessage
+--   two_worlds               Equal
+--   accepted_in_order        Acceptance
+--   sent_are_accepted        Sent, SentEntries
+--   possible_parts           Sent, PartsPossible
+--   accepted_cuts            Traces, AcceptedCuts
+--   traces_name              Traces, NamedTraces
+--   traces_of_cuts           Traces, TracesOfCuts
+--   accounts_cancel          Accounts
+--   company_lines            Lines
+--   digest_of_part           Lines, PartCompany
+--   company_of_part          Lines, PartCompany
+--   served_alone             Alone
+--   first_answer_stands      Repeated
+--   authorizations_left_out  Unauthorized
 -- Basics are lemmas on lists and checks that several laws stand on.
 pub mod Basics
 mod OneMessage
@@ -25,3 +40,4 @@ pub mod Accounts
 pub mod Lines
 pub mod Alone
 pub mod Repeated
+pub mod Unauthorized

@@ -2,6 +2,7 @@ pub mod Acceptance
 pub mod Accepted
 pub mod AcceptedLaws
 pub mod Alone
+pub mod Authorizations
 pub mod Calls
 pub mod Cutting
 pub mod DayFiles

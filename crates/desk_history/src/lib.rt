@@ -23,7 +23,7 @@ mod sent_entry;
 mod sent_laws;
 mod status;
 
-pub use accepted_laws::accepted_in_order;
+pub use accepted_laws::{accepted_in_order, authorizations_left_out};
 pub use account_laws::accounts_cancel;
 pub use alone_laws::served_alone;
 pub use answer::{Answer, CallRefusal, Outcome};

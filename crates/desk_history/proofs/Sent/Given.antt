@@ -25,6 +25,28 @@ IsOther true Cut = ⊥
 IsOther true (TakeFile file) = ⊥
 IsOther ok m = ⊤
 
+-- what the operator set
+abbrev pub IsSetting : Event → Type 0
+IsSetting (DaySet d) = ⊤
+IsSetting (HolidaysSet days) = ⊤
+IsSetting (Registered name digest limits) = ⊤
+IsSetting (Limited limits) = ⊤
+IsSetting _ = ⊥
+
+-- no company's request, no accepted cut, and no accepted file
+abbrev pub MaySet : Bool → Message → Type 0
+MaySet ok (Of c r) = ⊥
+MaySet true Cut = ⊥
+MaySet true (TakeFile file) = ⊥
+MaySet ok m = ⊤
+
+setting_quiet : (e : Event) → IsSetting e → IsQuiet e
+setting_quiet (Asked r) set = absurd set
+setting_quiet CutMade set = absurd set
+setting_quiet (Returned reference index code information) set = absurd set
+setting_quiet (Changed reference index code text) set = absurd set
+setting_quiet e set = tt
+
 -- what holds of no event and of each quiet one holds of what a request gives
 pub asked_gives : (M : List Event → Type 0) → M [] → ((r : Request) → M (Asked r ∷ [])) → (b : Bool) (r : Request) → M (request_event b r)
 asked_gives M none one true (request.Submit d) = one (request.Submit d)
@@ -32,28 +54,36 @@ asked_gives M none one true (request.Retry d) = one (request.Retry d)
 asked_gives M none one true r = none
 asked_gives M none one false r = none
 
+-- of what the operator's messages give that are no cuts and no files
+pub settings_give : (M : List Event → Type 0) → M [] → ((e : Event) → IsSetting e → M (e ∷ []))
+    → (odfi : List ℕ) (es : List SentEntry) (new : Bool) (c : List ℕ) (ok : Bool) (m : Message) (P : List Event) → MaySet ok m → M (events_for odfi es new c ok m P)
+settings_give M none one odfi es new c ok (Of k r) P may = absurd may
+settings_give M none one odfi es new c true (SetDay text) P may = by (message_day (SetDay text)) where
+  by : (o : Option ℕ) → M (option_to_list (option_map DaySet o))
+  by None = none
+  by (Some d) = one (DaySet d) tt
+settings_give M none one odfi es new c true (SetHolidays days) P may = by (result_ok days) where
+  by : (o : Option (List ℕ)) → M (option_to_list (option_map HolidaysSet o))
+  by None = none
+  by (Some days) = one (HolidaysSet days) tt
+settings_give M none one odfi es new c true (PutCompany d) P may = by (result_ok (company_of d)) where
+  by : (o : Option Company) → M (company_event c o)
+  by None = none
+  by (Some k) = elim (bytes_eq k.id c) as (λ b. M (if b then Registered k.name k.digest k.limits ∷ [] else [])) [ true ↦ one (Registered k.name k.digest k.limits) tt | false ↦ none ]
+settings_give M none one odfi es new c true (PutLimits d) P may = by (result_ok (new_limits_of d)) where
+  by : (o : Option (List ℕ × Limits)) → M (limits_event c o)
+  by None = none
+  by (Some x) = elim (bytes_eq x.0 c) as (λ b. M (if b then Limited x.1 ∷ [] else [])) [ true ↦ one (Limited x.1) tt | false ↦ none ]
+settings_give M none one odfi es new c true Cut P may = absurd may
+settings_give M none one odfi es new c true (TakeFile file) P may = absurd may
+settings_give M none one odfi es true c false (TakeFile file) P may = none
+settings_give M none one odfi es false c false (TakeFile file) P may = none
+settings_give M none one odfi es new c ok m P may = none
+
 -- and of what any other message gives
 pub other_gives : (M : List Event → Type 0) → M [] → ((e : Event) → IsQuiet e → M (e ∷ []))
     → (odfi : List ℕ) (es : List SentEntry) (new : Bool) (c : List ℕ) (ok : Bool) (m : Message) (P : List Event) → IsOther ok m → M (events_for odfi es new c ok m P)
 other_gives M none one odfi es new c ok (Of k r) P other = asked_gives M none (λ r. one (Asked r) tt) (bytes_eq k c && is_registered P) r
-other_gives M none one odfi es new c true (SetDay text) P other = by (message_day (SetDay text)) where
-  by : (o : Option ℕ) → M (option_to_list (option_map DaySet o))
-  by None = none
-  by (Some d) = one (DaySet d) tt
-other_gives M none one odfi es new c true (SetHolidays days) P other = by (result_ok days) where
-  by : (o : Option (List ℕ)) → M (option_to_list (option_map HolidaysSet o))
-  by None = none
-  by (Some days) = one (HolidaysSet days) tt
-other_gives M none one odfi es new c true (PutCompany d) P other = by (result_ok (company_of d)) where
-  by : (o : Option Company) → M (company_event c o)
-  by None = none
-  by (Some k) = elim (bytes_eq k.id c) as (λ b. M (if b then Registered k.name k.digest k.limits ∷ [] else [])) [ true ↦ one (Registered k.name k.digest k.limits) tt | false ↦ none ]
-other_gives M none one odfi es new c true (PutLimits d) P other = by (result_ok (new_limits_of d)) where
-  by : (o : Option (List ℕ × Limits)) → M (limits_event c o)
-  by None = none
-  by (Some x) = elim (bytes_eq x.0 c) as (λ b. M (if b then Limited x.1 ∷ [] else [])) [ true ↦ one (Limited x.1) tt | false ↦ none ]
 other_gives M none one odfi es new c true Cut P other = absurd other
 other_gives M none one odfi es new c true (TakeFile file) P other = absurd other
-other_gives M none one odfi es true c false (TakeFile file) P other = none
-other_gives M none one odfi es false c false (TakeFile file) P other = none
-other_gives M none one odfi es new c ok m P other = none
+other_gives M none one odfi es new c ok m P other = settings_give M none (λ e set. one e (setting_quiet e set)) odfi es new c ok m P tt
