@@ -1,5 +1,5 @@
 -- What queries find of a company's rows.
-use Rattle.std.proofs.Common.{◌≡◌, ℕ, zero, suc, ◌+◌, Bool, true, false, ◌&&◌, ◌||◌, not, List, [], ◌∷◌, map, filter, find, length, reverse, slice_get, Option, Some, None, option_map, unwrap_or, refl, sym, subst, ap, ◌∙◌, arith, inl, inr}
+use Rattle.std.proofs.Common.{◌≡◌, ℕ, Bool, true, false, ◌&&◌, ◌||◌, not, List, [], ◌∷◌, map, filter, find, length, Option, Some, None, option_map, refl, sym, subst, ap, ◌∙◌, inl, inr}
 use Rattle.std.specs.Prelude.{is_none, bytes_eq}
 use Rattle.std.specs.List.{range_with_len, list_any, enumerate_from}
 use Rattle.std.proofs.lemmas.Bool.{cases_Bool}

@@ -1,7 +1,7 @@
 -- What each write of a desk makes of its tables, and what its statements tell of them.
-use Rattle.std.specs.Prelude.{◌≡◌, ⊤, ℕ, ◌+◌, ℤ, pos, ◌+ℤ◌, if◌then◌else◌, false, List, [], ◌∷◌, map, fold, find, reverse, slice_get, IsSome, Option, Some, None, option_map, option_and_then, unwrap_or}
+use Rattle.std.specs.Prelude.{◌≡◌, ⊤, ℕ, ◌+◌, ℤ, pos, ◌+ℤ◌, if◌then◌else◌, false, List, map, find, IsSome, Option, Some, None, option_map, option_and_then, unwrap_or}
 use Rattle.std.specs.Int.{IsInRange}
-use Rattle.std.specs.List.{enumerate_from, list_any}
+use Rattle.std.specs.List.{list_any}
 use Rattle.std.specs.Ordering.{nat_cmp, on}
 use Rattle.sqlite_keyed.specs.Lists.{insert_sorted, update_where}
 use Rattle.sql_statements.specs.Edits.{Edit, no_edit, then_edit, each_edit, each_edit_from}
@@ -29,14 +29,9 @@ use Rattle.desk_records.specs.Encodes.{retried_entry, AsksAs}
 use Rattle.desk_records.specs.KeyOrders.{company_cmp, submission_cmp, entry_cmp, file_cmp, taken_cmp, balance_cmp, authorization_cmp}
 use Rattle.desk_records.specs.TableReads.{number_of_last, company_in, is_under, is_return_at, sum_in, taken_in}
 use Rattle.desk_records.specs.Tables.{Tables}
-use Rattle.desk_records.specs.declared.records.AuthorizationRecord.{AuthorizationRecord}
 use Rattle.desk_records.specs.declared.records.BalanceRecord.{BalanceRecord}
-use Rattle.desk_records.specs.declared.records.ChangeRecord.{ChangeRecord}
 use Rattle.desk_records.specs.declared.records.EntryRecord.{EntryRecord}
-use Rattle.desk_records.specs.declared.records.PostingRecord.{PostingRecord}
-use Rattle.desk_records.specs.declared.records.ReturnRecord.{ReturnRecord}
 use Rattle.desk_records.specs.declared.records.SubmissionRecord.{SubmissionRecord}
-use Rattle.desk_records.specs.declared.records.SuspenseRecord.{SuspenseRecord}
 
 -- ---- the desk, its calendar and its companies
 
