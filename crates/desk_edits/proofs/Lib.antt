@@ -1,12 +1,13 @@
 -- The lemmas, by what is written:
 --   submissions               EntryInserts, SubmissionRows
---   many rows at once         ManyEdits, ManyInserts, ManyKeys, ValueRows
+--   many rows at once         ArrayLoops, ManyEdits, ManyInserts, ManyKeys, ValueRows
 --   days, companies, limits   Companies, Days, Holidays
 --   lines and balances        BalanceLists, BalanceUpserts, JoinedLines, LineSums, PendingSums, PostingInserts
 --   cuts                      EntryUpdates, FileInserts, KeyTests, NumberUpserts, SubmissionUpdates
 --   incoming files            ChangeInserts, NamedSubmissions, ReturnInserts, SuspenseInserts, TakenInserts
 -- Conditions, Keys, LastNumbers, Numbered, NumberedRows and OtherTables are lemmas on which several of these
 -- stand.
+mod ArrayLoops
 mod BalanceLists
 mod BalanceUpserts
 mod ChangeInserts

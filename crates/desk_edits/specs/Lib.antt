@@ -3,6 +3,7 @@ pub mod EntryEdits
 pub mod HolidayEdits
 pub mod IntakeTexts
 pub mod LineEdits
+pub mod LineRows
 pub mod LineTexts
 pub mod ManyRows
 pub mod Numbering
