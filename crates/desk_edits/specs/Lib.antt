@@ -9,5 +9,6 @@ pub mod ManyRows
 pub mod Numbering
 pub mod PendingBalances
 pub mod PlaceEdits
+pub mod ReturnRows
 pub mod RowEdits
 pub mod Texts
