@@ -52,7 +52,7 @@ records_put xs many old new count ran t h =
       put.2,
     )
 
-bound_flat : (vs : List (List ValueRef)) → bound (flat_map (λ v. v) vs) ≡ flat_map (λ v. v) (map bound vs)
+pub bound_flat : (vs : List (List ValueRef)) → bound (flat_map (λ v. v) vs) ≡ flat_map (λ v. v) (map bound vs)
 bound_flat [] = refl
 bound_flat (v ∷ vs) = map-append _ v (flat_map (λ v. v) vs) ∙ ap (λ l. bound v ++ l) (bound_flat vs)
 

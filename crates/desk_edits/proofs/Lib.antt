@@ -1,12 +1,13 @@
 -- The lemmas, by what is written:
 --   submissions               EntryInserts, SubmissionRows
---   many rows at once         ManyEdits, ManyInserts, ManyKeys, ValueRows
+--   many rows at once         ArrayLoops, ManyEdits, ManyFree, ManyInserts, ManyKeys, ValueRows
 --   days, companies, limits   Companies, Days, Holidays
 --   lines and balances        BalanceLists, BalanceUpserts, JoinedLines, LineSums, PendingSums, PostingInserts
 --   cuts                      EntryUpdates, FileInserts, KeyTests, NumberUpserts, SubmissionUpdates
---   incoming files            ChangeInserts, NamedSubmissions, ReturnInserts, SuspenseInserts, TakenInserts
+--   incoming files            ChangeInserts, FoundReturns, NamedSubmissions, ReturnInserts, SuspenseInserts, TakenInserts
 -- Conditions, Keys, LastNumbers, Numbered, NumberedRows and OtherTables are lemmas on which several of these
 -- stand.
+mod ArrayLoops
 mod BalanceLists
 mod BalanceUpserts
 mod ChangeInserts
@@ -16,6 +17,7 @@ mod Days
 mod EntryInserts
 mod EntryUpdates
 mod FileInserts
+mod FoundReturns
 mod Holidays
 mod JoinedLines
 mod KeyTests
@@ -23,6 +25,7 @@ mod Keys
 mod LastNumbers
 mod LineSums
 mod ManyEdits
+mod ManyFree
 mod ManyInserts
 mod ManyKeys
 mod NamedSubmissions

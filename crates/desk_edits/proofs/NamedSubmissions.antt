@@ -11,20 +11,18 @@ use Rattle.sql_statements.specs.Transactions.{Makes}
 use Rattle.desk_records.specs.Layout.{desk_layout}
 use Rattle.desk_records.specs.QueryRows.{order_and_settlement_row}
 use Rattle.desk_records.specs.Selected.{order_of}
-use Rattle.desk_records.specs.TableEdits.{order_there, put_return_edit, put_change_edit}
-use Rattle.desk_records.specs.TableReads.{is_under, is_return_at, order_in}
+use Rattle.desk_records.specs.TableEdits.{order_there, put_change_edit}
+use Rattle.desk_records.specs.TableReads.{is_under, order_in}
 use Rattle.desk_records.specs.Tables.{Tables}
 use Rattle.desk_book.specs.declared.flat_rows.ChangedRow.{ChangedRow}
-use Rattle.desk_book.specs.declared.flat_rows.ReturnedRow.{ReturnedRow}
 use Rattle.desk_records.specs.declared.records.ChangeRecord.{ChangeRecord}
-use Rattle.desk_records.specs.declared.records.ReturnRecord.{ReturnRecord}
 use Rattle.desk_records.specs.declared.records.SubmissionRecord.{SubmissionRecord}
 use Rattle.desk_records.specs.declared.row.submissions.OrderAndSettlement.{OrderAndSettlement}
 use Rattle.desk_queries.proofs.Found.{first_found}
 use Rattle.desk_queries.proofs.Injective.{order_and_settlement_rows}
 use Rattle.desk_queries.proofs.SubmissionsShown.{order_shown}
 use Rattle.desk_queries.specs.Texts.{order_text}
-use Rattle.desk_edits.specs.RowEdits.{find_order, insert_return_edit, insert_change_edit}
+use Rattle.desk_edits.specs.RowEdits.{find_order, insert_change_edit}
 
 -- the row that the query shows first is that of the submission under the reference
 pub order_found : (c reference : List ℕ) (found : OrderAndSettlement) (old new : State) → Shows old new old.now old.committed true
@@ -58,20 +56,8 @@ module _ (found : OrderAndSettlement) where
 
 -- ---- the row is put in under the number of the submission that was found
 
-abbrev return_under : (n : ℕ) → ReturnedRow → (order : ℕ) → ReturnRecord
-return_under n x order = record { number = n; company = x.company; order = order; index = x.row.index; code = x.row.code; day = x.row.day; late = x.row.late; info = x.row.info }
-
 abbrev change_under : (n : ℕ) → ChangedRow → (order : ℕ) → ChangeRecord
 change_under n x order = record { number = n; company = x.company; order = order; index = x.row.index; code = x.row.code; day = x.row.day; text = x.row.text }
-
-pub return_joined : (n : ℕ) (x : ReturnedRow) (found : OrderAndSettlement) → IsSome found.settled → (old mid new : State)
-    → Makes desk_layout (find_order x.company x.row.reference found) old mid → Makes desk_layout (insert_return_edit (return_under n x found.order)) mid new → Makes desk_layout (put_return_edit n x) old new
-return_joined n x found settles =
-    makes_both desk_layout (find_order x.company x.row.reference found) (insert_return_edit (return_under n x found.order)) (put_return_edit n x) (λ t told apart.
-    let order = order_told found x.company x.row.reference t told in (
-      ap (λ o. record t { returns = insert_sorted (on (λ r. r.number) nat_cmp) (return_under n x o) t.returns }) order,
-      (settles_told found x.company x.row.reference t told settles, subst (λ o. find (is_return_at x.company o x.row.index) t.returns ≡ None) (sym order) apart),
-    ))
 
 pub change_joined : (n : ℕ) (x : ChangedRow) (found : OrderAndSettlement) → (old mid new : State)
     → Makes desk_layout (find_order x.company x.row.reference found) old mid → Makes desk_layout (insert_change_edit (change_under n x found.order)) mid new → Makes desk_layout (put_change_edit n x) old new

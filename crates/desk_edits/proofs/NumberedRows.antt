@@ -1,5 +1,5 @@
 -- A row that is put in under its number stands where the number belongs.
-use Rattle.std.proofs.Common.{◌≡◌, ℕ, ℤ, Bool, true, false, ◌&&◌, ◌==◌, List, [], ◌∷◌, refl}
+use Rattle.std.proofs.Common.{◌≡◌, ℕ, ℤ, Bool, true, false, ◌&&◌, ◌==◌, List, [], ◌∷◌, ◌++◌, refl}
 use Rattle.std.specs.Cmp.{IsTotalOrder}
 use Rattle.std.specs.List.{AllByRecursion, list_any}
 use Rattle.std.specs.Ordering.{nat_cmp, on}
@@ -13,12 +13,14 @@ use Rattle.sqlite_trees.specs.Tree.{Trees, rowid}
 use Rattle.sqlite_value.specs.Keys.{first_key, plain}
 use Rattle.sqlite_value.specs.Order.{Row}
 use Rattle.sql_statements.specs.StoredRows.{row_of, Stores}
+use Rattle.sql_statements.proofs.StoredRows.{stores_in}
 use Rattle.desk_records.specs.Schema.{desk_schema}
 use Rattle.desk_records.specs.Columns.{number}
 use Rattle.desk_records.specs.KeyOrders.{IsInOrder}
 use Rattle.desk_records.specs.Tables.{IsTableOf}
 use Rattle.desk_edits.proofs.Conditions.{number_itself, equal_numbers}
-use Rattle.desk_edits.proofs.Keys.{key_free, put_in_order, key_number}
+use Rattle.desk_edits.proofs.Keys.{few_have, key_free, put_in_order, key_number}
+use Rattle.desk_edits.proofs.ManyKeys.{all_put, put_in_turn}
 
 -- the first column of the table has the number, and is its key
 module _ {X : Type 0} (no : X → ℕ) (rest : X → Row) (table : Table)
@@ -39,3 +41,11 @@ module _ {X : Type 0} (no : X → ℕ) (rest : X → Row) (table : Table)
       let test : X → Bool = λ y. no y == no x in
       let free = key_free encode desk_schema table (1 ∷ []) test (same_number (no x)) guards new x xs (number_itself (no x)) stored rules in
       put_in_order encode (on no nat_cmp) number_total test new table x xs (λ y. equal_numbers (no y) (no x)) free rise stored
+
+  -- the same of many rows that one statement puts in
+  pub all_in_order : (new : Trees) (ys xs : List X) → IsInOrder (on no nat_cmp) xs → Stores encode (new table.tree) (ys ++ xs) → AllByRecursion (λ row. obeys Unique desk_schema new table row ≡ true) (new table.tree)
+      → IsTableOf new table encode (on no nat_cmp) (all_put (on no nat_cmp) ys xs)
+  all_in_order new ys xs rise stored rules =
+      let few = λ (x : X). few_have encode desk_schema table (1 ∷ []) (λ y. no y == no x) (same_number (no x)) guards new (ys ++ xs) stored rules in
+      let put = put_in_turn (on no nat_cmp) (λ x y. no y == no x) number_total (λ x y. equal_numbers (no y) (no x)) (λ x. number_itself (no x)) ys xs few rise in
+      record { stored = stores_in encode _ _ _ put.0 stored; rise = put.1 }

@@ -1,5 +1,6 @@
--- The INSERT of a return, against the records of returns.
-use Rattle.std.proofs.Common.{◌≡◌, ℕ, ℤ, true, ◌&&◌, ◌==◌, List, [], ◌∷◌, find, None, Ok, refl, bytes_eq}
+-- The INSERTs of returns, of one and of sixteen, against the records of returns.
+use Rattle.std.proofs.Common.{◌≡◌, ℕ, ℤ, Bool, true, ◌&&◌, ◌==◌, List, [], ◌∷◌, ◌++◌, length, find, None, Ok, refl, bytes_eq, Ordering}
+use Rattle.std.specs.List.{flat_map}
 use Rattle.std.specs.Ordering.{nat_cmp, on}
 use Rattle.std.proofs.lemmas.Bool.{and_from, and_parts}
 use Rattle.sqlite_tied.specs.Compute.{everything}
@@ -23,11 +24,15 @@ use Rattle.desk_records.specs.TableReads.{is_return_at}
 use Rattle.desk_records.specs.Tables.{Tables}
 use Rattle.desk_records.specs.declared.records.ReturnRecord.{ReturnRecord}
 use Rattle.desk_edits.proofs.Conditions.{text_itself, number_itself, taken_first, taken_second}
-use Rattle.desk_edits.proofs.Keys.{find_none, key_free, key_text, key_number}
+use Rattle.desk_edits.proofs.Keys.{find_none, few_have, key_free, key_text, key_number}
+use Rattle.desk_edits.proofs.ManyFree.{free_in_turn}
+use Rattle.desk_edits.proofs.ManyInserts.{inserted_rows, rows_rules}
+use Rattle.desk_edits.proofs.ManyKeys.{all_put, AreFree}
 use Rattle.desk_edits.proofs.OtherTables.{returns_changed}
 use Rattle.desk_edits.proofs.SubmissionRows.{flag_kept}
-use Rattle.desk_edits.specs.IntakeTexts.{insert_return}
-use Rattle.desk_edits.proofs.NumberedRows.{numbered_in_order}
+use Rattle.desk_edits.specs.IntakeTexts.{insert_return, insert_returns}
+use Rattle.desk_edits.specs.ManyRows.{IsInsertOfRows}
+use Rattle.desk_edits.proofs.NumberedRows.{numbered_in_order, all_in_order}
 
 insert_return_is : IsInsert desk_schema insert_return 5 returns_table
 unfolding understood everything
@@ -54,4 +59,29 @@ return_put x old new count ran t h =
     let free = key_free return_row desk_schema s (2 ∷ 3 ∷ 4 ∷ []) test (same_entry x.company x.order x.index) (λ db row any. taken_second _ _ _ any) new.now.trees x t.returns (and_from _ _ (and_from _ _ (text_itself x.company) (number_itself x.order)) (number_itself x.index)) done.1 rules in (
       (done.0.schema_is, returns_changed old.now.trees new.now.trees t h.1 done.0.others _ (numbered_in_order (λ r. r.number) _ s (λ db row any. taken_first _ _ any) new.now.trees x t.returns h.1.returns.rise done.1 rules)),
       find_none test t.returns free,
+    )
+
+-- ---- sixteen returns
+
+insert_returns_is : IsInsertOfRows desk_schema insert_returns 5 returns_table 16
+unfolding understood everything
+insert_returns_is = record { is = refl; plain = (refl, refl) }
+
+abbrev pub number_cmp : ReturnRecord → ReturnRecord → Ordering
+number_cmp = on (λ r. r.number) nat_cmp
+
+-- is it of the same entry?
+abbrev pub is_of_entry : ReturnRecord → ReturnRecord → Bool
+is_of_entry x = is_return_at x.company x.order x.index
+
+pub returns_put : (xs : List ReturnRecord) → length xs ≡ 16 → (old new : State) (count : ℕ) → Executes insert_returns (flat_map return_row xs) old new (Ok count) → (t : Tables) → Holds desk_layout old.now t
+    → Holds desk_layout new.now (record t { returns = all_put number_cmp xs t.returns }) × AreFree number_cmp is_of_entry xs t.returns
+returns_put xs many old new count ran t h =
+    let s = returns_table in
+    let done = inserted_rows return_row desk_schema 5 11 s.name s.columns s.primary s.uniques s.orders insert_returns 16 insert_returns_is refl (λ olds news. refl) refl (λ x. refl) (λ x. row_kept s Null (return_row x) refl (return_kept x)) xs many old new count h.0 t.returns h.1.returns.stored ran in
+    let rules = (rows_rules desk_schema insert_returns 5 s 16 insert_returns_is (flat_map return_row xs) old new count h.0 done.0.schema_is ran).1.1.1.1.1.0 in
+    let few = λ (x : ReturnRecord). few_have return_row desk_schema s (2 ∷ 3 ∷ 4 ∷ []) (is_of_entry x) (same_entry x.company x.order x.index) (λ db row any. taken_second _ _ _ any) new.now.trees (xs ++ t.returns) done.1 rules in
+    let free = free_in_turn number_cmp is_of_entry (λ x. and_from _ _ (and_from _ _ (text_itself x.company) (number_itself x.order)) (number_itself x.index)) xs t.returns few in (
+      (done.0.schema_is, returns_changed old.now.trees new.now.trees t h.1 done.0.others _ (all_in_order (λ r. r.number) _ s (λ db row any. taken_first _ _ any) new.now.trees xs t.returns h.1.returns.rise done.1 rules)),
+      free,
     )

@@ -3,10 +3,12 @@ pub mod EntryEdits
 pub mod HolidayEdits
 pub mod IntakeTexts
 pub mod LineEdits
+pub mod LineRows
 pub mod LineTexts
 pub mod ManyRows
 pub mod Numbering
 pub mod PendingBalances
 pub mod PlaceEdits
+pub mod ReturnRows
 pub mod RowEdits
 pub mod Texts

@@ -1,24 +1,16 @@
--- What the INSERTs of returns and of changes make of the tables, and what the submission that a row names tells.
-use Rattle.std.specs.Prelude.{◌≡◌, ⊤, ℕ, List, find, Some, None}
+-- What the INSERT of a change makes of the tables, and what the submission that a row names tells.
+use Rattle.std.specs.Prelude.{◌≡◌, ⊤, ℕ, List, Some}
 use Rattle.std.specs.Ordering.{nat_cmp, on}
 use Rattle.sqlite_keyed.specs.Lists.{insert_sorted}
 use Rattle.sql_statements.specs.Edits.{Edit, only_tells}
-use Rattle.desk_records.specs.TableReads.{order_in, is_return_at}
+use Rattle.desk_records.specs.TableReads.{order_in}
 use Rattle.desk_records.specs.Tables.{Tables}
 use Rattle.desk_records.specs.declared.records.ChangeRecord.{ChangeRecord}
-use Rattle.desk_records.specs.declared.records.ReturnRecord.{ReturnRecord}
 use Rattle.desk_records.specs.declared.row.submissions.OrderAndSettlement.{OrderAndSettlement}
 
 -- SELECT ord, settled .. WHERE company = ? AND ref = ?: this is the submission of the company under the reference
 abbrev pub find_order : (company : List ℕ) → (reference : List ℕ) → OrderAndSettlement → Edit Tables
 find_order c reference found = only_tells (λ t. Some found ≡ order_in c reference t)
-
--- INSERT INTO returns; the entry was not returned before
-abbrev pub insert_return_edit : ReturnRecord → Edit Tables
-insert_return_edit x = record {
-  after = λ t. record t { returns = insert_sorted (on (λ r. r.number) nat_cmp) x t.returns };
-  Tells = λ t. find (is_return_at x.company x.order x.index) t.returns ≡ None;
-}
 
 -- INSERT INTO changes
 abbrev pub insert_change_edit : ChangeRecord → Edit Tables

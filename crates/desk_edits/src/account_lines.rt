@@ -5,5 +5,6 @@ mod accounts;
 mod balances;
 mod lines;
 mod pending;
+mod rows;
 
 pub(crate) use lines::put_lines;

@@ -1,12 +1,12 @@
 //! The entries of a new submission are written, sixteen by one statement as long as there are so many.
-ghost use Rattle.std.specs.Prelude.{◌≡◌, ◌+◌, ◌<◌, ◌^◌, pos, map, length, IfOk};
+ghost use Rattle.std.specs.Prelude.{◌≡◌, ◌+◌, ◌<◌, ◌^◌, map, length, IfOk};
 ghost use Rattle.sqlite.specs.Values.{bound};
 ghost use Rattle.desk_records.specs.Layout.{desk_layout};
 ghost use Rattle.desk_records.specs.TableEdits.{put_entry_edit};
 ghost use Rattle.desk_edits.specs.EntryEdits.{held_entry, held_rows, stored_values};
 
 use crate::batches::BatchBody;
-use crate::parameters::{optional_text, savings, switch};
+use crate::parameters::{column, optional_text, savings, switch};
 use ach_fields::Id;
 use desk_queries::characters;
 use desk_rules::Entry;
@@ -95,16 +95,6 @@ fn row_of(rows: &EntryRows, index: u64, entry: &Entry) -> Result<EntryRow, Error
         cents: column(entry.cents.get())?,
         entry: *entry,
     })
-}
-
-// A number as a column has it.
-fn column(n: u64) -> Result<i64, Error>
-    ensures { IfOk result (λ i. i ≡ pos n) }
-{
-    match i64::try_from(n) {
-        Ok(n) => Ok(n),
-        Err(_) => Err(Error::InvalidQuery),
-    }
 }
 
 // The rows of sixteen entries, of which the first has this number.

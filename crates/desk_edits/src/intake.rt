@@ -7,6 +7,7 @@
 mod changes;
 mod commit;
 mod orders;
+mod return_rows;
 mod returns;
 mod suspense;
 mod taken;

@@ -1,5 +1,5 @@
 //! Values of the desk are parameters of statements.
-ghost use Rattle.std.specs.Prelude.{◌≡◌};
+ghost use Rattle.std.specs.Prelude.{◌≡◌, pos, IfOk};
 ghost use Rattle.sqlite.specs.Values.{bound_value, or_null};
 ghost use Rattle.sqlite_value.specs.Value.{owned};
 ghost use Rattle.sqlite_value.specs.declared.value.Value.TheVariants.{Text};
@@ -11,7 +11,19 @@ use desk_accounts::Cause;
 use desk_history::SuspenseReason;
 use desk_queries::characters;
 use desk_rules::{AccountKind, Direction};
+use sqlite::Error;
 use sqlite::types::ValueRef;
+
+/// Gives a number as a column has it. `Error::InvalidQuery` says that it is past the last that a column
+/// has.
+pub(crate) fn column(n: u64) -> Result<i64, Error>
+    ensures { IfOk result (λ i. i ≡ pos n) }
+{
+    match i64::try_from(n) {
+        Ok(n) => Ok(n),
+        Err(_) => Err(Error::InvalidQuery),
+    }
+}
 
 /// Gives a flag as a parameter: 1 or 0.
 pub(crate) fn switch<'a>(is_set: bool) -> ValueRef<'a>

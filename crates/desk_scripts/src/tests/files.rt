@@ -127,6 +127,56 @@ fn a_file_returns_an_entry_twice(rt: HostRuntime) {
     );
 }
 
+// Seventeen returns of one file, with their lines: more than one statement writes.
+#[test]
+fn a_file_returns_seventeen_entries(rt: HostRuntime) {
+    holds(
+        &rt,
+        &[
+            MILL,
+            HOLIDAYS,
+            DAY,
+            (
+                "MILL01 submit PAY-1 debit 2025-01-10 091000019 \
+                 101 102 103 104 105 106 107 108 109 110 \
+                 111 112 113 114 115 116 117",
+                "PAY-1 order 1 entries 17 cents 1853",
+            ),
+            NINTH,
+            ("desk cut", "2025-01-09 sent 17 in [A], lapsed 0"),
+            FOURTEENTH,
+            (
+                "desk items B PPD \
+                 R01/1/101/26 R01/2/102/26 R01/3/103/26 R01/4/104/26 R01/5/105/26 \
+                 R01/6/106/26 R01/7/107/26 R01/8/108/26 R01/9/109/26 R01/10/110/26 \
+                 R01/11/111/26 R01/12/112/26 R01/13/113/26 R01/14/114/26 R01/15/115/26 \
+                 R01/16/116/26 R01/17/117/26",
+                "2025-01-14 returns 17 late 0 changes 0 suspense 0",
+            ),
+            (
+                "MILL01 returns",
+                "returns\
+                 ; R01 2025-01-14 1 PAY-1; R01 2025-01-14 2 PAY-1; R01 2025-01-14 3 PAY-1\
+                 ; R01 2025-01-14 4 PAY-1; R01 2025-01-14 5 PAY-1; R01 2025-01-14 6 PAY-1\
+                 ; R01 2025-01-14 7 PAY-1; R01 2025-01-14 8 PAY-1; R01 2025-01-14 9 PAY-1\
+                 ; R01 2025-01-14 10 PAY-1; R01 2025-01-14 11 PAY-1; R01 2025-01-14 12 PAY-1\
+                 ; R01 2025-01-14 13 PAY-1; R01 2025-01-14 14 PAY-1; R01 2025-01-14 15 PAY-1\
+                 ; R01 2025-01-14 16 PAY-1; R01 2025-01-14 17 PAY-1",
+            ),
+            (
+                "MILL01 statement",
+                "balance 0; 1853 2025-01-10 0 PAY-1\
+                 ; -101 2025-01-14 1 PAY-1; -102 2025-01-14 2 PAY-1; -103 2025-01-14 3 PAY-1\
+                 ; -104 2025-01-14 4 PAY-1; -105 2025-01-14 5 PAY-1; -106 2025-01-14 6 PAY-1\
+                 ; -107 2025-01-14 7 PAY-1; -108 2025-01-14 8 PAY-1; -109 2025-01-14 9 PAY-1\
+                 ; -110 2025-01-14 10 PAY-1; -111 2025-01-14 11 PAY-1; -112 2025-01-14 12 PAY-1\
+                 ; -113 2025-01-14 13 PAY-1; -114 2025-01-14 14 PAY-1; -115 2025-01-14 15 PAY-1\
+                 ; -116 2025-01-14 16 PAY-1; -117 2025-01-14 17 PAY-1",
+            ),
+        ],
+    );
+}
+
 // A return of two banking days, over a holiday: the third day is late.
 #[test]
 fn returns_in_time_and_late(rt: HostRuntime) {

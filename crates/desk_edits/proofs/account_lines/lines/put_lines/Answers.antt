@@ -12,8 +12,8 @@ pub returns-clause-makes : goal.returns-clause-makes
 returns-clause-makes g c clean =
     let s0 = state g.S.Store c.args.tx.now.conn.now in
     let s1 = state g.S.Store c.next_after.new.tx.conn.now in
-    let s2 = state g.S.Store c.run_each.new.tx.conn.now in
+    let s2 = state g.S.Store c.run_batches.new.tx.conn.now in
     let s3 = state g.S.Store c.add_lines.new.tx.conn.now in
     let clean2 : HasCleanDisk s2 = omega (arith, c.add_lines.ensures.survives.clean, clean) in
-    numbered_on (next_in tables.Postings) put_line_edit c.args.lines.now c.in_ok-first.first s0 s1 s3 (c.in_ok-first.ensures.makes (omega (arith, c.run_each.ensures.survives.clean, clean2)))
-    (lines_made c.in_ok-first.first c.args.lines.now s1 s2 s3 (c.in_ok-run_each.ensures.makes clean2) (c.in_ok-add_lines.ensures.makes clean))
+    numbered_on (next_in tables.Postings) put_line_edit c.args.lines.now c.in_ok-first.first s0 s1 s3 (c.in_ok-first.ensures.makes (omega (arith, c.run_batches.ensures.survives.clean, clean2)))
+    (lines_made c.in_ok-first.first c.args.lines.now s1 s2 s3 (c.in_ok-run_batches.ensures.makes clean2) (c.in_ok-add_lines.ensures.makes clean))

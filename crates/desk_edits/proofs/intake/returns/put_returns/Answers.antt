@@ -8,6 +8,6 @@ pub returns-clause-makes : goal.returns-clause-makes
 returns-clause-makes g c clean =
     let old = state g.S.Store c.args.tx.now.conn.now in
     let mid = state g.S.Store c.next_after.new.tx.conn.now in
-    let new = state g.S.Store c.run_each.new.tx.conn.now in
+    let new = state g.S.Store c.run_batches.new.tx.conn.now in
     numbered_on (λ t. next_number (λ r. r.number) t.returns) put_return_edit c.args.returned.now c.in_ok-first.first old mid new
-    (c.in_ok-first.ensures.makes (omega (arith, c.run_each.ensures.survives.clean, clean))) (c.in_ok-run_each.ensures.makes clean)
+    (c.in_ok-first.ensures.makes (omega (arith, c.run_batches.ensures.survives.clean, clean))) (c.in_ok-run_batches.ensures.makes clean)
