@@ -1,5 +1,6 @@
 pub mod CutTexts
 pub mod EntryEdits
+pub mod EntryRuns
 pub mod HolidayEdits
 pub mod IntakeTexts
 pub mod LineEdits
@@ -9,4 +10,5 @@ pub mod Numbering
 pub mod PendingBalances
 pub mod PlaceEdits
 pub mod RowEdits
+pub mod Runs
 pub mod Texts
