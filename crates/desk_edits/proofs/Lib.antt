@@ -3,9 +3,10 @@
 --   many rows at once         ArrayLoops, ManyEdits, ManyFree, ManyInserts, ManyKeys, ValueRows
 --   days, companies, limits   Companies, Days, Holidays
 --   lines and balances        BalanceLists, BalanceUpserts, JoinedLines, LineSums, PendingSums, PostingInserts
---   cuts                      EntryUpdates, FileInserts, KeyTests, NumberUpserts, SubmissionUpdates
+--   cuts                      EntryRuns, EntryUpdates, FileInserts, KeyTests, NumberUpserts, PlacedEntries,
+--                             PassingUpdates, RunUpdates, SubmissionUpdates
 --   incoming files            ChangeInserts, FoundReturns, NamedSubmissions, ReturnInserts, SuspenseInserts, TakenInserts
--- Conditions, Keys, LastNumbers, Numbered, NumberedRows and OtherTables are lemmas on which several of these
+-- Conditions, Keys, LastNumbers, Numbered, NumberedRows, OtherTables and Runs are lemmas on which several of these
 -- stand.
 mod ArrayLoops
 mod BalanceLists
@@ -15,6 +16,7 @@ mod Companies
 pub mod Conditions
 mod Days
 mod EntryInserts
+mod EntryRuns
 mod EntryUpdates
 mod FileInserts
 mod FoundReturns
@@ -33,9 +35,13 @@ mod NumberUpserts
 mod Numbered
 pub mod NumberedRows
 pub mod OtherTables
+mod PassingUpdates
 mod PendingSums
+mod PlacedEntries
 mod PostingInserts
 mod ReturnInserts
+mod RunUpdates
+mod Runs
 mod SubmissionRows
 mod SubmissionUpdates
 mod SuspenseInserts

@@ -10,6 +10,10 @@ update_lapsed = codes "UPDATE submissions SET lapsed = 1 WHERE company = ?1 AND 
 abbrev pub update_entry : List ℕ
 update_entry = codes "UPDATE entries SET seq = ?4 WHERE company = ?1 AND ord = ?2 AND idx = ?3 AND seq IS NULL"
 
+-- of entries that follow one another in one submission
+abbrev pub update_run : List ℕ
+update_run = codes "UPDATE entries SET seq = ?3 + idx WHERE company = ?1 AND ord = ?2 AND idx BETWEEN ?4 AND ?5 AND seq IS NULL"
+
 abbrev pub upsert_number : List ℕ
 upsert_number = codes "INSERT INTO numbers VALUES (?1, ?2) ON CONFLICT (sequence) DO UPDATE SET nth = ?2"
 

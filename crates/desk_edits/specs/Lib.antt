@@ -1,5 +1,6 @@
 pub mod CutTexts
 pub mod EntryEdits
+pub mod EntryRuns
 pub mod HolidayEdits
 pub mod IntakeTexts
 pub mod LineEdits
@@ -11,4 +12,5 @@ pub mod PendingBalances
 pub mod PlaceEdits
 pub mod ReturnRows
 pub mod RowEdits
+pub mod Runs
 pub mod Texts

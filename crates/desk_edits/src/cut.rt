@@ -4,6 +4,7 @@
 mod commit;
 mod entries;
 mod files;
+mod marks;
 mod submissions;
 
 pub use commit::CommitCut;

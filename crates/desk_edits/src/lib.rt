@@ -16,6 +16,7 @@ mod intake;
 mod numbering;
 mod parameters;
 mod registry;
+mod runs;
 mod submissions;
 
 pub use cell::cell_inside;

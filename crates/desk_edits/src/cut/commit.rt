@@ -4,7 +4,7 @@ ghost use Rattle.desk_records.specs.TableEdits.{commit_cut_edit};
 ghost use Rattle.desk_store.specs.Written.{cut_rows};
 
 use crate::account_lines::put_lines;
-use crate::cut::entries::PlaceEntries;
+use crate::cut::entries::place_entries;
 use crate::cut::files::PutFiles;
 use crate::cut::submissions::{LapseSubmissions, SendSubmissions};
 use desk_store::CutRows;
@@ -28,7 +28,7 @@ impl<'a> TransactionBody for CommitCut<'a> {
     fn run<S: Alter>(&self, tx: &mut Transaction<'_, S>) -> Result<(), Error> {
         run_each(tx, &SendSubmissions, 1, self.cut.sent)?;
         run_each(tx, &LapseSubmissions, 1, self.cut.lapsed)?;
-        run_each(tx, &PlaceEntries, self.first, self.cut.entries)?;
+        place_entries(tx, self.first, self.cut.entries)?;
         put_lines(tx, self.cut.postings)?;
         run_each(tx, &PutFiles, 1, self.cut.files)?;
         Ok(())

@@ -3,7 +3,7 @@ use Rattle.sql_statements.proofs.Edits.{makes_of}
 use Rattle.desk_records.specs.Layout.{desk_layout}
 use Rattle.desk_edits.specs.PlaceEdits.{mark_entry_edit}
 use Rattle.desk_edits.proofs.EntryUpdates.{entry_marked}
-use Rattle.desk_edits.proofs.cut.entries.mark_entry.Goals as goal
+use Rattle.desk_edits.proofs.cut.marks.MarkEntriesRowBody.run_row.Goals as goal
 
 pub returns-clause-makes : goal.returns-clause-makes
 returns-clause-makes g c clean =
