@@ -26,8 +26,10 @@ fn identities(rt: HostRuntime) -> Result<(), Fail> {
         (0, "'121042883'"),
         (1, "''"),
         (1, "' OUR BANK'"),
-        (3, "'ACH OPERATOR '"),
         (2, "61000146"),
+        (3, "''"),
+        (3, "'ACH OPERATOR '"),
+        (3, "'ACH\u{7f}OPERATOR'"),
         (3, "'A NAME OF 24 CHARACTERS.'"),
         (3, "'X', 'Y'"),
     ];
