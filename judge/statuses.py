@@ -5,6 +5,7 @@ The program runs as a process with each of its exit statuses, 0, 1, 2 and 3, and
 output alone. The last line counts the checks; the status is 1 where one failed.
 """
 
+import os
 import subprocess
 import sys
 import tempfile
@@ -33,6 +34,8 @@ def main():
     checks.that("a file that is not there is no desk", ended(program, "stdio", "no such file"), (b"NotADesk\n", b"", 1))
     said, errors, status = ended(program, "bogus")
     checks.that("a wrong word is told", (said[:6], errors, status), (b"error:", b"", 2))
+    unread = b"error: a word of the command line is not UTF-8\n"
+    checks.that("a word that is no text is told", ended(program, os.fsdecode(b"\xff")), (unread, b"", 2))
     said, errors, status = ended(program, "--help")
     checks.that("help is given", (said[:12], errors, status), (b"The ACH desk", b"", 0))
     checks.that("a file that cannot be read", ended(program, "check", "no such file"), (b"unavailable\n", b"", 3))

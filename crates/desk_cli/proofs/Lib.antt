@@ -3,3 +3,4 @@ mod InitLemmas
 mod KeptRunLemmas
 mod OpenFaultLemmas
 mod ServedLemmas
+mod StartedLemmas

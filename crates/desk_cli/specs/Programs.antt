@@ -1,5 +1,12 @@
 -- What the program does by its words.
-use Rattle.std.specs.Prelude.{◌≡◌, ◌≢◌, ℕ, List, Option, Result, Ok, Err}
+use Rattle.std.specs.Prelude.{◌≡◌, ◌≢◌, ℕ, ⊤, List, drop, map, Option, Result, Ok, Err, Vec, String, codes, string_bytes}
+use Rattle.std.specs.IoError.{error_kind}
+use Rattle.std.specs.Vec.Iter.{into_iter_items}
+use Rattle.std.specs.declared.alloc.Global.{Global}
+use Rattle.std.specs.declared.io.Error.{Error}
+use Rattle.std.specs.declared.io.ErrorKind.{ErrorKind}
+use Rattle.std.specs.declared.io.ErrorKind.TheVariants.{InvalidData}
+use Rattle.std.specs.declared.vec.IntoIter.{IntoIter}
 use Rattle.clap.specs.Words.{Text}
 use Rattle.desk_command_line.specs.CommandLine.{GivesAt}
 use Rattle.desk_cli.specs.Commands.{CarriesOut, FailsToCarryOut, PrintsLineFault, NoneKnown}
@@ -8,6 +15,7 @@ use Rattle.desk_commands.specs.declared.status.Status.{Status}
 use Rattle.desk_commands.specs.declared.status.Status.TheVariants.{Failed}
 use Rattle.desk_command_line.specs.declared.command.Command.{Command}
 use Rattle.desk_command_line.specs.declared.command.LineFault.{LineFault}
+use Rattle.desk_command_line.specs.declared.command.LineFault.TheVariants.{NoMemory, Usage}
 
 -- the command was carried out, or failed, and the exit status says which
 abbrev pub RunsCommand : Command → (input old new : Option (List ℕ)) → (code : ℕ) → Type 0
@@ -27,6 +35,31 @@ abbrev pub RunsWords : (words : List Text) → (input old new : Option (List ℕ
 RunsWords words input old new code =
     (read : Result Command LineFault) × GivesAt words read × DoesRead read input old new code
 
--- the same for some words, over some input and some output
-abbrev pub RunsProgram : (code : ℕ) → Type 0
-RunsProgram code = (read : Result Command LineFault) × (input : Option (List ℕ)) × (old : Option (List ℕ)) × (new : Option (List ℕ)) × DoesRead read input old new code
+-- The words that the program was started with are its name, which asks for nothing, and those that are run. Where they
+-- could not be had, why is printed.
+abbrev pub RunsStarted : Result (Vec (String Global) Global) LineFault → (input old new : Option (List ℕ)) → (code : ℕ) → Type 0
+RunsStarted (Ok words) input old new code = RunsWords (map string_bytes (drop 1 words.items)) input old new code
+RunsStarted (Err fault) input old new code = PrintsLineFault fault old new code
+
+-- ---- the words that the program was started with
+
+-- what is told where a word is not UTF-8
+abbrev pub not_text : List ℕ
+not_text = codes "error: a word of the command line is not UTF-8\n"
+
+-- usage that tells it, or memory ran out
+abbrev pub IsNotTextFault : LineFault → Type 0
+IsNotTextFault (Usage text) = string_bytes text ≡ not_text
+IsNotTextFault NoMemory = ⊤
+IsNotTextFault _ = ⊥
+
+-- where the system gives no words, a word is not UTF-8 exactly where it says that data are invalid
+abbrev pub IsFaultOfWords : ErrorKind → LineFault → Type 0
+IsFaultOfWords kind fault = (kind ≡ InvalidData → IsNotTextFault fault) × (kind ≢ InvalidData → fault ≡ NoMemory)
+
+-- the words are those that the system gives, in their order; or why they could not be had
+abbrev pub GivesStarted : Result (IntoIter (String Global) Global) Error → Result (Vec (String Global) Global) LineFault → Type 0
+GivesStarted (Ok words) (Ok found) = found.items ≡ into_iter_items words
+GivesStarted (Ok words) (Err fault) = fault ≡ NoMemory
+GivesStarted (Err error) (Ok found) = ⊥
+GivesStarted (Err error) (Err fault) = IsFaultOfWords (error_kind error) fault

@@ -22,5 +22,5 @@ pub use dispatch::{print_line_fault, run, run_from};
 pub use init_desk::make_desk;
 pub use kept_session::answer_by_file;
 pub use migrate_desk::migrate_by_file;
-pub use program::{run_program, run_words};
+pub use program::{run_program, run_started, run_words, started_words};
 pub use served_file::serve_by_file;

@@ -1,9 +1,12 @@
 //! The program: the words that it was started with, and what they ask for.
-ghost use Rattle.std.specs.Prelude.{map};
-ghost use Rattle.desk_cli.specs.Programs.{RunsProgram, RunsWords};
+ghost use Rattle.std.specs.Prelude.{◌≡◌, ◌≢◌, ◌≤◌, [], drop, map, IfOk, IfErr, OnErr, string_bytes};
+ghost use Rattle.std.specs.Vec.Iter.{into_iter_items};
+ghost use Rattle.desk_cli.specs.Programs.{GivesStarted, IsNotTextFault, RunsStarted, RunsWords};
 
 use crate::dispatch::{print_line_fault, run};
 use desk_command_line::{LineFault, command_of};
+use std::alloc::{AllocError, Global};
+use std::env::Args;
 use std::io::{ErrorKind, Read, Write};
 use std::{env, io};
 
@@ -24,39 +27,83 @@ pub fn run_words<R: Read + Drop, W: Write>(
     }
 }
 
-/// Does what the program's own words ask for, over standard input and output, and gives the exit
-/// status: that of what was done. No contract knows the words, nor what the two hold.
-pub fn run_program(rt: &HostRuntime) -> u8
-    ensures { RunsProgram result }
+/// Does what the words that the program was started with ask for, over this reader and writer, and
+/// gives the exit status. The first word is the program's name, and asks for nothing. Where the words
+/// could not be had, why is printed.
+pub fn run_started<R: Read + Drop, W: Write>(
+    rt: &HostRuntime,
+    started: Result<Vec<String>, LineFault>,
+    reader: R,
+    writer: &mut W,
+) -> u8
+    ensures { RunsStarted started
+        (R.remaining reader) (W.contents writer.old) (W.contents writer.new) result }
 {
-    let mut writer = io::writer(rt);
-    let words = match program_words(rt) {
+    let words = match started {
         Ok(words) => words,
-        Err(fault) => return print_line_fault(&mut writer, &fault),
+        Err(fault) => return print_line_fault(writer, &fault),
     };
-    let mut texts = Vec::new(rt.alloc());
-    for word in words.iter().skip(1) {
-        if texts.push(word.as_str()).is_err() {
-            return print_line_fault(&mut writer, &LineFault::NoMemory);
-        }
+    match texts_after_name(rt.alloc(), &words) {
+        Ok(texts) => run_words(rt, &texts, reader, writer),
+        Err(_) => print_line_fault(writer, &LineFault::NoMemory),
     }
-    run_words(rt, texts.as_slice(), rt.reader(), &mut writer)
 }
 
-// All words, the program's name first.
-fn program_words(rt: &HostRuntime) -> Result<Vec<String>, LineFault> {
-    match env::args(rt) {
-        Ok(words) => words.collect(rt.alloc()).map_err(|_| LineFault::NoMemory),
-        Err(error) if error.kind() == ErrorKind::InvalidData => Err(not_text_fault(rt)),
+// The texts of all words but the first. No such words take no memory.
+fn texts_after_name<'a>(alloc: Global, words: &'a [String]) -> Result<Vec<&'a str>, AllocError>
+    ensures texts { IfOk result (λ texts.
+        map (λ w. w.now) texts.items ≡ map string_bytes (drop 1 words.now)) }
+    ensures memory { OnErr result (drop 1 words.now ≢ []) }
+{
+    let mut texts = Vec::new(alloc);
+    let Some((_name, rest)) = words.split_first() else {
+        return Ok(texts);
+    };
+    for word in rest {
+        texts.push(word.as_str())?;
+    }
+    Ok(texts)
+}
+
+/// Does what the program's own words ask for, over standard input and output, and gives the exit
+/// status.
+///
+/// No contract knows the words, nor what the two hold: what is done with them is the promise of
+/// `started_words` and `run_started`, which this function joins.
+pub fn run_program(rt: &HostRuntime) -> u8
+    ensures { result ≤ 3 }
+{
+    let started = started_words(rt.alloc(), env::args(rt));
+    run_started(rt, started, rt.reader(), &mut io::writer(rt))
+}
+
+/// Gives the words that the program was started with, its name first, where the system gave them.
+///
+/// The words cannot be had where one is not UTF-8, which is wrong usage, or where memory runs out.
+pub fn started_words(alloc: Global, given: io::Result<Args>) -> Result<Vec<String>, LineFault>
+    ensures { GivesStarted given result }
+{
+    match given {
+        Ok(words) => collected(alloc, words),
+        Err(error) if error.kind() == ErrorKind::InvalidData => Err(not_text_fault(alloc)),
         Err(_) => Err(LineFault::NoMemory),
     }
 }
 
-fn not_text_fault(rt: &HostRuntime) -> LineFault {
-    match String::from_str(
-        rt.alloc(),
-        "error: a word of the command line is not UTF-8\n",
-    ) {
+fn collected(alloc: Global, words: Args) -> Result<Vec<String>, LineFault>
+    ensures words { IfOk result (λ found. found.items ≡ into_iter_items words) }
+    ensures memory { IfErr result (λ fault. fault ≡ LineFault.NoMemory) }
+{
+    match words.collect(alloc) {
+        Ok(found) => Ok(found),
+        Err(_) => Err(LineFault::NoMemory),
+    }
+}
+
+fn not_text_fault(alloc: Global) -> LineFault
+    ensures { IsNotTextFault result }
+{
+    match String::from_str(alloc, "error: a word of the command line is not UTF-8\n") {
         Ok(text) => LineFault::Usage(text),
         Err(_) => LineFault::NoMemory,
     }

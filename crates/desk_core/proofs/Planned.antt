@@ -82,6 +82,15 @@ planned_refused b x rs latest faults.ModifiersSpent why is taken settled plans r
 planned_refused b x rs latest faults.DaysSpent why is taken settled plans refuses = cc
 planned_refused b x rs latest faults.NoMemory why is taken settled plans refuses = cc
 
+-- where one would settle too far ahead, the cut is not refused
+pub planned_too_far : (b : Book) (x : CutFacts) (rs : List (ℕ × ℕ)) (latest : List (Option ℕ)) (fault : CutFault) → x ≡ cut_facts b x.day → IsTakenAs x rs → latest ≡ latest_of rs b
+    → Plans x latest (Err fault) → fault ≡ faults.DaysSpent → cut_on_day b x.day ≡ Ok (cut_facts b x.day)
+planned_too_far b x rs latest faults.DaysSpent is taken settled plans far =
+    made b x.day (may_take b x rs latest true is taken settled plans.0) (ap has_modifiers (sym is) ∙ plans.1)
+planned_too_far b x rs latest faults.TracesSpent is taken settled plans far = cc
+planned_too_far b x rs latest faults.ModifiersSpent is taken settled plans far = cc
+planned_too_far b x rs latest faults.NoMemory is taken settled plans far = cc
+
 -- ---- a plan, or the fault of one
 
 pub plans_or_tells : EntriesOfCuts → (old new : Book → Type 0) (x : CutFacts) (rs : List (ℕ × ℕ)) (latest : List (Option ℕ)) (planned : Result CutPlan CutFault) → IsTakenAs x rs
@@ -91,4 +100,4 @@ plans_or_tells law old new x rs latest (Ok p) taken read plans = λ b held is.
     (planned_cut b x rs latest p is taken seen.0 plans, (seen.1, planned_admitted law b x p is plans.2))
 plans_or_tells law old new x rs latest (Err fault) taken read plans = λ b held.
     let seen = read b held in
-    (seen.1, λ is why refuses. planned_refused b x rs latest fault why is taken seen.0 plans refuses)
+    (seen.1, λ is. (λ why refuses. planned_refused b x rs latest fault why is taken seen.0 plans refuses, planned_too_far b x rs latest fault is taken seen.0 plans))

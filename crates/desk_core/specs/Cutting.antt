@@ -49,9 +49,12 @@ refusal_of faults.ModifiersSpent = Ok ModifiersSpent
 refusal_of faults.DaysSpent = Err Unavailable
 refusal_of faults.NoMemory = Err Unavailable
 
--- where the fault refuses a cut, the cut of the book is refused so
+-- Where the fault refuses a cut, the cut of the book is refused so. Where it is that one would settle too far
+-- ahead, the cut of the book is not refused. So a cut that is refused has that fault, but for memory.
 abbrev pub RefusesOn : Book → CutFacts → CutFault → Type 0
-RefusesOn b x fault = (why : Refusal) → refusal_of fault ≡ Ok why → IsPlanned (Err why) (cut_on_day b x.day)
+RefusesOn b x fault =
+    ((why : Refusal) → refusal_of fault ≡ Ok why → IsPlanned (Err why) (cut_on_day b x.day))
+    × (fault ≡ faults.DaysSpent → cut_on_day b x.day ≡ Ok (cut_facts b x.day))
 
 -- The same with the fault of the plan in place of the refusal.
 abbrev pub PlansOrTells : (Book → Type 0) → CutFacts → Result (Result CutPlan CutFault) StoreFault → (Book → Type 0) → Type 0

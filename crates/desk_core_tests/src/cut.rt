@@ -124,16 +124,25 @@ fn two(rt: &(impl Abort + Alloc<A = Global>)) -> Result<Vec<HeldSubmission>, Fai
 }
 
 // The plan after the last sequence but one.
+fn plan_on(
+    rt: &(impl Abort + Alloc<A = Global>),
+    today: RuleDay,
+    made: u64,
+    latest: &[Option<Day>],
+    waiting: &[HeldSubmission],
+) -> Result<CutPlan, CutFault> {
+    let holidays = Calendar::empty(rt.alloc());
+    let numbered = number_cut(rt.alloc(), today, &holidays, LAST, waiting)?;
+    plan_cut(rt.alloc(), &identity(rt), numbered, made, latest)
+}
+
 fn plan(
     rt: &(impl Abort + Alloc<A = Global>),
     made: u64,
     latest: &[Option<Day>],
     waiting: &[HeldSubmission],
 ) -> Result<CutPlan, CutFault> {
-    let holidays = Calendar::empty(rt.alloc());
-    let today = rule_day(rt, b"2025-01-09");
-    let numbered = number_cut(rt.alloc(), today, &holidays, LAST, waiting)?;
-    plan_cut(rt.alloc(), &identity(rt), numbered, made, latest)
+    plan_on(rt, rule_day(rt, b"2025-01-09"), made, latest, waiting)
 }
 
 // The same of the credit and the debit.
@@ -405,11 +414,27 @@ fn the_largest_submission_is_printed(rt: HostRuntime) -> Result<(), Fail> {
     Ok(())
 }
 
-// On the last day that rules count from, the next day that a submission could settle is behind it.
+// On the last day that rules count from, 2100-01-31, the next day that a submission could settle is
+// behind it.
+fn fault_on_the_last_day(
+    rt: &(impl Abort + Alloc<A = Global>),
+    made: u64,
+    latest: &[Option<Day>],
+) -> Result<Option<CutFault>, Fail> {
+    let last = Day::from_number(47_512).expect(rt, "a day");
+    let last = RuleDay::new(last).expect(rt, "a day");
+    Ok(plan_on(rt, last, made, latest, &two(rt)?).err())
+}
+
+// A cut that is refused for another reason is refused for that one.
 #[test]
 fn no_submission_settles_after_january_2100(rt: HostRuntime) -> Result<(), Fail> {
-    let last = Day::from_number(47_512).expect(&rt, "a day");
-    let last = RuleDay::new(last).expect(&rt, "a day");
-    assert!(rt; ranges_of_two(&rt, last)?.err() == Some(CutFault::DaysSpent));
+    let recent = Day::from_number(47_512 - 365).expect(&rt, "a day");
+    let used = fault_on_the_last_day(&rt, 36, &[None, Some(recent)])?;
+    assert!(rt; used == Some(CutFault::TracesSpent));
+    let full = fault_on_the_last_day(&rt, 36, &[None, None])?;
+    assert!(rt; full == Some(CutFault::ModifiersSpent));
+    let far = fault_on_the_last_day(&rt, 0, &[None, None])?;
+    assert!(rt; far == Some(CutFault::DaysSpent));
     Ok(())
 }

@@ -1,6 +1,6 @@
 -- What is written of the numbered submissions of a cut is what the cut writes.
 use Rattle.std.proofs.Common.{◌≡◌, ◌∙◌, ℕ, ◌+◌, suc, Bool, true, false, List, [], ◌∷◌, ◌++◌, map, zip, length, drop, refl, sym, ap, length-append}
-use Rattle.std.specs.Prelude.{sum, sum_by, nat_le, if◌then◌else◌, Option, Some, None}
+use Rattle.std.specs.Prelude.{sum, sum_by, nat_le, if◌then◌else◌, Option, Some, None, Err}
 use Rattle.std.specs.List.{flat_map, list_all, enumerate_from}
 use Rattle.std.proofs.lemmas.List.{length-map}
 use Rattle.std.proofs.lemmas.List.FromFn.{length-enumerate_from}
@@ -20,10 +20,13 @@ use Rattle.desk_history.specs.Postings.{if_any, sending_line}
 use Rattle.desk_history.specs.Sendings.{Sending, NumberedBatch, is_debit_sending, plan_of, batch_of, entries_in, batch_entries}
 use Rattle.desk_book.specs.OnCut.{CutFacts, cut_sendings, batches, files, ranges_after, sent_rows, file_row}
 use Rattle.desk_cut.specs.declared.numbers.CutNumbers.{CutNumbers}
+use Rattle.desk_cut.specs.declared.fault.CutFault.{CutFault}
+use Rattle.desk_cut.specs.declared.fault.CutFault.TheVariants.{TracesSpent, ModifiersSpent, DaysSpent, NoMemory}
 use Rattle.desk_cut.specs.declared.plan.CutPlan.{CutPlan}
 use Rattle.desk_cut.specs.Numbers.{IsNumbered, line_by, batches_in, write_of, summary_of}
-use Rattle.desk_cut.specs.Sent.{sending_in}
-use Rattle.desk_cut.specs.Plan.{MayTake, IsPlan, has_modifiers, plan_write}
+use Rattle.desk_cut.specs.Sent.{due_in}
+use Rattle.desk_cut.specs.Faults.{IsUnsettled, settles_beyond}
+use Rattle.desk_cut.specs.Plan.{MayTake, IsPlan, Plans, has_modifiers, plan_write}
 
 -- these are the submissions of a cut, with their sequences
 abbrev pub IsOf : CutFacts → CutNumbers → Type 0
@@ -114,7 +117,7 @@ lines_told : (ss : List Sending) → flat_map line_by (zip ss (map plan_of ss)) 
 lines_told [] = refl
 lines_told (s ∷ ss) = λ i. line_told s i ++ lines_told ss i
 
-lines_are : (x : CutFacts) (n : CutNumbers) → IsOf x n → flat_map line_by (zip (map sending_in n.sent.items) n.loads.items) ≡ flat_map sending_line (cut_sendings x)
+lines_are : (x : CutFacts) (n : CutNumbers) → IsOf x n → flat_map line_by (zip (map due_in n.sent.items) n.loads.items) ≡ flat_map sending_line (cut_sendings x)
 lines_are x n h = (λ i. flat_map line_by (zip (h.sent i) (h.loads i))) ∙ lines_told (cut_sendings x)
 
 -- ---- the plan
@@ -143,6 +146,14 @@ is_plan x n sizes p h is written done =
         lapsed = length (h.lapsed i);
       });
     }
+
+-- a cut that is not refused is not planned where one would settle too far ahead
+pub days_spent : (x : CutFacts) (n : CutNumbers) (latest : List (Option ℕ)) (fault : CutFault) → IsOf x n → MayTake x latest true → has_modifiers x ≡ true
+    → IsUnsettled (map due_in n.sent.items) fault → Plans x latest (Err fault)
+days_spent x n latest DaysSpent h may has beyond = (may, has, ap settles_beyond (sym h.sent) ∙ beyond)
+days_spent x n latest NoMemory h may has beyond = tt
+days_spent x n latest TracesSpent h may has beyond = absurd beyond
+days_spent x n latest ModifiersSpent h may has beyond = absurd beyond
 
 -- ---- whether the day has modifiers
 

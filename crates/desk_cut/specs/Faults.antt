@@ -1,4 +1,4 @@
--- Why a cut does not decide what it sends.
+-- Why a cut does not say when what it sends settles.
 use Rattle.std.specs.Prelude.{◌≡◌, ⊤, Bool, true, List, nat_lt}
 use Rattle.std.specs.List.{list_any}
 use Rattle.desk_rules.specs.Deadlines.{last_rule_day}
@@ -11,7 +11,7 @@ abbrev pub settles_beyond : List Sending → Bool
 settles_beyond ss = list_any (λ s. nat_lt last_rule_day s.settled) ss
 
 -- One would settle too far ahead; or memory was refused.
-abbrev pub IsUndecided : List Sending → CutFault → Type 0
-IsUndecided ss DaysSpent = settles_beyond ss ≡ true
-IsUndecided ss NoMemory = ⊤
-IsUndecided ss fault = ⊥
+abbrev pub IsUnsettled : List Sending → CutFault → Type 0
+IsUnsettled ss DaysSpent = settles_beyond ss ≡ true
+IsUnsettled ss NoMemory = ⊤
+IsUnsettled ss fault = ⊥

@@ -17,15 +17,14 @@ use Rattle.desk_book.specs.declared.held_submission.HeldSubmission.{HeldSubmissi
 use Rattle.desk_book.specs.Steps.{CutWrite}
 use Rattle.desk_book.specs.OnCut.{sendings, lapses_among, ranges_after, sent_rows, file_row}
 use Rattle.desk_cut.specs.declared.fault.CutFault.{CutFault}
-use Rattle.desk_cut.specs.declared.fault.CutFault.TheVariants.{TracesSpent}
+use Rattle.desk_cut.specs.declared.fault.CutFault.TheVariants.{NoMemory, TracesSpent}
 use Rattle.desk_cut.specs.declared.numbers.CutNumbers.{CutNumbers}
-use Rattle.desk_cut.specs.Faults.{IsUndecided}
-use Rattle.desk_cut.specs.Sent.{sending_in}
+use Rattle.desk_cut.specs.Sent.{due_in}
 
 -- What is sent with its sequences, and what lapses. The cut may take them where those of each range may
 -- be used.
 pub record IsNumbered (holidays : List ℕ) (day last : ℕ) (waiting : List HeldSubmission) (n : CutNumbers) : Type 0 where
-  pub sent : map sending_in n.sent.items ≡ sendings holidays day waiting
+  pub sent : map due_in n.sent.items ≡ sendings holidays day waiting
   pub lapsed : n.lapsed.items ≡ lapses_among holidays day waiting
   pub loads : n.loads.items ≡ map plan_of (sendings holidays day waiting)
   pub ranges : n.ranges.items ≡ ranges_after last (sendings holidays day waiting)
@@ -35,15 +34,15 @@ pub record IsNumbered (holidays : List ℕ) (day last : ℕ) (waiting : List Hel
       → may_send day sent (map plan_of (sendings holidays day waiting))
       ≡ list_all (is_past day) (map (latest_settled sent) (ranges_of sent (map plan_of (sendings holidays day waiting))))
 
--- Two batches would have a sequence in common; or one would settle too far ahead, or memory was refused.
+-- Two batches would have a sequence in common; or memory was refused.
 abbrev pub HasNoRanges : (day : ℕ) → (last : ℕ) → List Sending → CutFault → Type 0
 HasNoRanges day last ss TracesSpent = (are_apart (ranges_after last ss) ≡ false) × ((sent : List SentSequence) → last_sequence sent ≡ last → may_send day sent (map plan_of ss) ≡ false)
-HasNoRanges day last ss fault = IsUndecided ss fault
+HasNoRanges day last ss fault = fault ≡ NoMemory
 
 -- ---- what is written of them
 
 abbrev pub sendings_in : CutNumbers → List Sending
-sendings_in n = map sending_in n.sent.items
+sendings_in n = map due_in n.sent.items
 
 -- the line of a submission, its total told by what it takes of a file
 abbrev pub line_by : Sending × plan.Batch → List Posting

@@ -1,5 +1,5 @@
 -- The outcome of planning a cut.
-use Rattle.std.specs.Prelude.{◌≡◌, ℕ, ◌+◌, Bool, true, false, nat_le, List, map, length, Option, Result, Ok, Err}
+use Rattle.std.specs.Prelude.{◌≡◌, ⊤, ℕ, ◌+◌, Bool, true, false, nat_le, List, map, length, Option, Result, Ok, Err}
 use Rattle.desk_plan.specs.Modifiers.{most_files}
 use Rattle.desk_plan.specs.Reuse.{may_send, latest_settled}
 use Rattle.desk_plan.specs.Sequences.{SentSequence, last_sequence, ranges_of}
@@ -9,10 +9,10 @@ use Rattle.desk_book.specs.declared.held_submission.HeldSubmission.{HeldSubmissi
 use Rattle.desk_book.specs.Steps.{CutWrite}
 use Rattle.desk_book.specs.OnCut.{CutFacts, cut_sendings, files, cut_write, cut_summary}
 use Rattle.desk_cut.specs.declared.fault.CutFault.{CutFault}
-use Rattle.desk_cut.specs.declared.fault.CutFault.TheVariants.{TracesSpent, ModifiersSpent}
+use Rattle.desk_cut.specs.declared.fault.CutFault.TheVariants.{TracesSpent, ModifiersSpent, DaysSpent, NoMemory}
 use Rattle.desk_cut.specs.declared.numbers.NumberedCut.{NumberedCut}
 use Rattle.desk_cut.specs.declared.plan.CutPlan.{CutPlan}
-use Rattle.desk_cut.specs.Faults.{IsUndecided}
+use Rattle.desk_cut.specs.Faults.{settles_beyond}
 
 -- the cut of these values
 abbrev pub cut_of : Identity → (day : ℕ) → (holidays : List ℕ) → (last : ℕ) → (made : ℕ) → List HeldSubmission → CutFacts
@@ -46,10 +46,11 @@ pub record IsPlan (x : CutFacts) (p : CutPlan) : Type 0 where
 abbrev pub MayTake : CutFacts → List (Option ℕ) → Bool → Type 0
 MayTake x latest may = (sent : List SentSequence) → IsTold x latest sent → may_send x.day sent (map plan_of (cut_sendings x)) ≡ may
 
--- The plan of a cut that is not refused, or the first of DaysSpent, TracesSpent and ModifiersSpent; or
+-- The plan of a cut that is not refused, or the first of TracesSpent, ModifiersSpent and DaysSpent; or
 -- memory was refused.
 abbrev pub Plans : CutFacts → List (Option ℕ) → Result CutPlan CutFault → Type 0
 Plans x latest (Ok p) = MayTake x latest true × (has_modifiers x ≡ true) × IsPlan x p
 Plans x latest (Err TracesSpent) = MayTake x latest false
 Plans x latest (Err ModifiersSpent) = MayTake x latest true × (has_modifiers x ≡ false)
-Plans x latest (Err fault) = IsUndecided (cut_sendings x) fault
+Plans x latest (Err DaysSpent) = MayTake x latest true × (has_modifiers x ≡ true) × (settles_beyond (cut_sendings x) ≡ true)
+Plans x latest (Err NoMemory) = ⊤

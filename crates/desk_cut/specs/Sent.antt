@@ -12,11 +12,15 @@ use Rattle.desk_history.specs.Sendings as history
 use Rattle.desk_book.specs.declared.held_submission.HeldSubmission.{HeldSubmission}
 use Rattle.desk_cut.specs.declared.batches.NumberedBatch.{NumberedBatch}
 use Rattle.desk_cut.specs.declared.files.File.{File}
+use Rattle.desk_cut.specs.declared.due.DueSubmission.{DueSubmission}
 use Rattle.desk_cut.specs.declared.due.Sending.{Sending}
 
 -- what waits, sent so that it settles on a day
 abbrev pub sending_on : ℕ → HeldSubmission → history.Sending
 sending_on settled w = record { company = w.company; order = w.row.order; content = w.row.content; settled = settled }
+
+abbrev pub due_in : DueSubmission → history.Sending
+due_in d = sending_on d.settled d.waiting.now
 
 abbrev pub sending_in : Sending → history.Sending
 sending_in s = sending_on s.settled s.waiting.now

@@ -3,14 +3,21 @@ ghost use Rattle.std.specs.Prelude.{◌≡◌, ◌<◌, IfOk, IfErr, map, Some, 
 ghost use Rattle.desk_rules.specs.LimitChecks.{is_debit};
 ghost use Rattle.desk_history.specs.State.{is_too_late};
 ghost use Rattle.desk_book.specs.OnCut.{is_due, settles, sendings, lapses_among};
-ghost use Rattle.desk_cut.specs.Faults.{IsUndecided};
-ghost use Rattle.desk_cut.specs.Sent.{sending_in};
+ghost use Rattle.desk_cut.specs.Faults.{IsUnsettled};
+ghost use Rattle.desk_cut.specs.Sent.{due_in, sending_in};
 
 use crate::fault::CutFault;
 use bank_days::{Calendar, Day};
 use desk_book::{HeldSubmission, LapsedRow};
 use desk_rules::{Direction, RuleDay};
-use std::alloc::Global;
+use std::alloc::{AllocError, Global};
+
+/// A `DueSubmission` is a submission that a cut would send, with the day on which it would settle.
+#[derive(Clone, Copy)]
+pub(crate) struct DueSubmission<'a> {
+    pub(crate) waiting: &'a HeldSubmission,
+    pub(crate) settled: Day,
+}
 
 /// A `Sending` is a submission that a cut sends, with the day on which it settles.
 #[derive(Clone, Copy)]
@@ -22,7 +29,7 @@ pub(crate) struct Sending<'a> {
 /// A `Decision` says what a cut sends, and what lapses.
 #[derive(Drop)]
 pub(crate) struct Decision<'a> {
-    pub(crate) sent: Vec<Sending<'a>>,
+    pub(crate) sent: Vec<DueSubmission<'a>>,
     pub(crate) lapsed: Vec<LapsedRow>,
 }
 
@@ -69,27 +76,23 @@ pub(crate) fn decide<'a>(
     day: RuleDay,
     holidays: &Calendar,
     waiting: &'a [HeldSubmission],
-) -> Result<Decision<'a>, CutFault>
-    ensures sent { IfOk result (λ d. map sending_in d.sent.items ≡ sendings holidays.now day waiting.now) }
+) -> Result<Decision<'a>, AllocError>
+    ensures sent { IfOk result (λ d. map due_in d.sent.items ≡ sendings holidays.now day waiting.now) }
     ensures later { IfOk result (λ d. All (λ s. day < s.settled) d.sent.items) }
     ensures lapsed { IfOk result (λ d. d.lapsed.items ≡ lapses_among holidays.now day waiting.now) }
-    ensures err { IfErr result (λ fault. IsUndecided (sendings holidays.now day waiting.now) fault) }
 {
     let mut sent = Vec::new(alloc);
     let mut lapsed = Vec::new(alloc);
     for one in waiting {
         if is_due(one, day, holidays) {
-            let settles = settles(one, day, holidays);
-            if is_too_late(settles, one.original_settled) {
+            let settled = settles(one, day, holidays);
+            if is_too_late(settled, one.original_settled) {
                 lapsed.push(LapsedRow {
                     company: one.company.id,
                     order: one.row.order,
                 })?;
             } else {
-                let Some(settled) = RuleDay::new(settles) else {
-                    return Err(CutFault::DaysSpent);
-                };
-                sent.extend_from_slice(&[Sending {
+                sent.extend_from_slice(&[DueSubmission {
                     waiting: one,
                     settled,
                 }])?;
@@ -97,4 +100,25 @@ pub(crate) fn decide<'a>(
         }
     }
     Ok(Decision { sent, lapsed })
+}
+
+/// Gives what is sent, each with a day from which rules count, unless one would settle after the last.
+pub(crate) fn settle<'a>(
+    alloc: Global,
+    due: &[DueSubmission<'a>],
+) -> Result<Vec<Sending<'a>>, CutFault>
+    ensures ok { IfOk result (λ sent. map sending_in sent.items ≡ map due_in due.now) }
+    ensures err { IfErr result (λ fault. IsUnsettled (map due_in due.now) fault) }
+{
+    let mut sent = Vec::new(alloc);
+    for one in due {
+        let Some(settled) = RuleDay::new(one.settled) else {
+            return Err(CutFault::DaysSpent);
+        };
+        sent.extend_from_slice(&[Sending {
+            waiting: one.waiting,
+            settled,
+        }])?;
+    }
+    Ok(sent)
 }

@@ -2,9 +2,9 @@
 ghost use Rattle.std.specs.Prelude.{◌≡◌, ◌≤◌, IfOk, All, length, map, sum_by, if◌then◌else◌};
 ghost use Rattle.desk_plan.specs.Batch.{IsBatch, IsEntryCount};
 ghost use Rattle.desk_history.specs.Sendings.{plan_of, records_of};
-ghost use Rattle.desk_cut.specs.Sent.{sending_in};
+ghost use Rattle.desk_cut.specs.Sent.{due_in};
 
-use crate::due::Sending;
+use crate::due::DueSubmission;
 use ach_fields::Cents;
 use desk_plan::Batch;
 use desk_rules::Entry;
@@ -33,19 +33,19 @@ fn cents_if(test: bool, cents: Cents) -> Cents
     Cents::new(0).unwrap()
 }
 
-fn load_of(sending: &Sending<'_>) -> Batch
-    ensures value { result ≡ plan_of (sending_in sending.now) }
+fn load_of(due: &DueSubmission<'_>) -> Batch
+    ensures value { result ≡ plan_of (due_in due.now) }
     ensures batch { IsBatch result }
 {
-    let sized = &sending.waiting.row.content;
+    let sized = &due.waiting.row.content;
     let content = sized.submission();
     let entries = content.entries.as_slice();
     let cents = sized.total();
     let debit = content.direction.is_debit();
     Batch {
-        company: sending.waiting.company.id,
-        order: sending.waiting.row.order,
-        settled: sending.settled.day(),
+        company: due.waiting.company.id,
+        order: due.waiting.row.order,
+        settled: due.settled,
         debits: cents_if(debit, cents),
         credits: cents_if(!debit, cents),
         entries: entries.len() as u32,
@@ -54,13 +54,13 @@ fn load_of(sending: &Sending<'_>) -> Batch
 }
 
 /// Gives the load of each submission, in order.
-pub(crate) fn loads_of(alloc: Global, sent: &[Sending<'_>]) -> Result<Vec<Batch>, AllocError>
-    ensures value { IfOk result (λ loads. loads.items ≡ map plan_of (map sending_in sent.now)) }
+pub(crate) fn loads_of(alloc: Global, sent: &[DueSubmission<'_>]) -> Result<Vec<Batch>, AllocError>
+    ensures value { IfOk result (λ loads. loads.items ≡ map plan_of (map due_in sent.now)) }
     ensures batches { IfOk result (λ loads. All IsBatch loads.items) }
 {
     let mut loads = Vec::new(alloc);
-    for sending in sent {
-        loads.push(load_of(sending))?;
+    for due in sent {
+        loads.push(load_of(due))?;
     }
     Ok(loads)
 }

@@ -6,23 +6,22 @@ ghost use Rattle.desk_plan.specs.Reuse.{is_past};
 ghost use Rattle.desk_plan.specs.Sequences.{are_apart};
 ghost use Rattle.desk_history.specs.Sendings.{plan_of};
 ghost use Rattle.desk_book.specs.OnCut.{sendings, lapses_among, ranges_after};
-ghost use Rattle.desk_cut.specs.Faults.{IsUndecided};
 ghost use Rattle.desk_cut.specs.Numbers.{IsNumbered, HasNoRanges};
-ghost use Rattle.desk_cut.specs.Sent.{sending_in};
+ghost use Rattle.desk_cut.specs.Sent.{due_in};
 
-use crate::due::{Decision, Sending, decide};
+use crate::due::{Decision, DueSubmission, decide};
 use crate::fault::CutFault;
 use crate::loads::{counts_of, loads_of};
 use bank_days::{Calendar, Day};
 use desk_book::{HeldSubmission, LapsedRow};
 use desk_plan::{Batch, NumberFault, is_past, plan_numbers};
 use desk_rules::RuleDay;
-use std::alloc::Global;
+use std::alloc::{AllocError, Global};
 
 // What a cut decides, and what each submission that it sends takes.
 #[derive(Drop)]
 struct LoadedCut<'a> {
-    sent: Vec<Sending<'a>>,
+    sent: Vec<DueSubmission<'a>>,
     lapsed: Vec<LapsedRow>,
     loads: Vec<Batch>,
 }
@@ -30,7 +29,7 @@ struct LoadedCut<'a> {
 /// `CutNumbers` have what a cut sends, with the first and the last sequence of each submission.
 #[derive(Drop)]
 pub(crate) struct CutNumbers<'a> {
-    pub(crate) sent: Vec<Sending<'a>>,
+    pub(crate) sent: Vec<DueSubmission<'a>>,
     pub(crate) lapsed: Vec<LapsedRow>,
     pub(crate) loads: Vec<Batch>,
     pub(crate) ranges: Vec<(u32, u32)>,
@@ -41,13 +40,12 @@ fn load<'a>(
     day: RuleDay,
     holidays: &Calendar,
     waiting: &'a [HeldSubmission],
-) -> Result<LoadedCut<'a>, CutFault>
-    ensures sent { IfOk result (λ l. map sending_in l.sent.items ≡ sendings holidays.now day waiting.now) }
+) -> Result<LoadedCut<'a>, AllocError>
+    ensures sent { IfOk result (λ l. map due_in l.sent.items ≡ sendings holidays.now day waiting.now) }
     ensures lapsed { IfOk result (λ l. l.lapsed.items ≡ lapses_among holidays.now day waiting.now) }
     ensures loads { IfOk result (λ l. l.loads.items ≡ map plan_of (sendings holidays.now day waiting.now)) }
     ensures batches { IfOk result (λ l. All IsBatch l.loads.items) }
     ensures later { IfOk result (λ l. All (λ b. day < b.settled) l.loads.items) }
-    ensures err { IfErr result (λ fault. IsUndecided (sendings holidays.now day waiting.now) fault) }
 {
     let Decision { sent, lapsed } = decide(alloc, day, holidays, waiting)?;
     let loads = loads_of(alloc, &sent)?;
@@ -114,9 +112,8 @@ impl<'a> NumberedCut<'a> {
 
 /// Numbers a cut on a day, after the sequence of the last entry that was sent.
 ///
-/// It is `DaysSpent` where a submission would settle after 2100-01-31, then `TracesSpent` where two
-/// batches would have a sequence in common. Whether the entries of earlier cuts leave the ranges free
-/// is for the caller to see, from the latest settlement of each.
+/// It is `TracesSpent` where two batches would have a sequence in common. Whether the entries of
+/// earlier cuts leave the ranges free is for the caller to see, from the latest settlement of each.
 pub fn number_cut<'a>(
     alloc: Global,
     day: RuleDay,

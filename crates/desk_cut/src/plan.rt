@@ -1,13 +1,15 @@
 //! The plan of a cut.
-ghost use Rattle.std.specs.Prelude.{◌≡◌, ◌≤◌, ◌+◌, All, IfOk, length, nat_le, sum, if◌then◌else◌, Some, None};
+ghost use Rattle.std.specs.Prelude.{◌≡◌, ◌≤◌, ◌+◌, All, IfOk, length, map, nat_le, sum, if◌then◌else◌, Some, None};
 ghost use Rattle.desk_plan.specs.Modifiers.{most_files};
 ghost use Rattle.desk_plan.specs.Runs.{in_runs};
 ghost use Rattle.desk_history.specs.Files.{files_from};
-ghost use Rattle.desk_cut.specs.Numbers.{batches_in, write_of, summary_of};
+ghost use Rattle.desk_cut.specs.Numbers.{batches_in, sendings_in, write_of, summary_of};
 ghost use Rattle.desk_cut.specs.Sendable.{IsSendable, AreSendable};
 ghost use Rattle.desk_cut.specs.Plan.{Plans, cut_in, plan_write};
+ghost use Rattle.desk_cut.specs.Sent.{sending_in};
 
 use crate::batches::{batches_of, entries_of};
+use crate::due::{Sending, settle};
 use crate::fault::CutFault;
 use crate::files::{files_of, modifiers_of, rows_of, texts_of};
 use crate::numbers::{CutNumbers, NumberedCut, are_past};
@@ -54,7 +56,9 @@ fn write(
     made: u32,
     sizes: &[usize],
     numbers: CutNumbers<'_>,
+    sent: &[Sending<'_>],
 ) -> Result<CutPlan, AllocError>
+    requires settled { map sending_in sent.now ≡ sendings_in numbers }
     requires made { made + length sizes.now ≤ most_files }
     requires sendable { All IsSendable (batches_in numbers) }
     requires runs { All AreSendable (in_runs sizes.now (batches_in numbers)) }
@@ -63,10 +67,10 @@ fn write(
     ensures done { IfOk result (λ plan. plan.done ≡ summary_of day (files_from day made (in_runs sizes.now (batches_in numbers.entry))) numbers.entry) }
 {
     desk_plan::modifiers_of_a_day();
-    let batches = batches_of(alloc, &numbers.sent, &numbers.ranges)?;
+    let batches = batches_of(alloc, sent, &numbers.ranges)?;
     let files = files_of(alloc, day, made, sizes, &batches)?;
     let entries = entries_of(alloc, &batches)?;
-    let postings = postings_of(alloc, &numbers.sent, &numbers.loads)?;
+    let postings = postings_of(alloc, sent, &numbers.loads)?;
     let done = CutSummary {
         day,
         entries: entries.len() as u64,
@@ -90,9 +94,10 @@ fn write(
 ///
 /// - `TracesSpent`: a batch would take a sequence of an entry that settled less than 366 days before
 ///   the day;
-/// - `ModifiersSpent`: the day has no modifiers left for the files.
+/// - `ModifiersSpent`: the day has no modifiers left for the files;
+/// - `DaysSpent`: a submission would settle after 2100-01-31.
 ///
-/// `NoMemory` may come in the place of either. Each field and each total of the files has a text.
+/// `NoMemory` may come in the place of each. Each field and each total of the files has a text.
 pub fn plan_cut(
     alloc: Global,
     identity: &Identity,
@@ -111,6 +116,10 @@ pub fn plan_cut(
     let Some(made) = made_before(made, sizes.len()) else {
         return Err(CutFault::ModifiersSpent);
     };
+    let sent = match settle(alloc, &numbers.sent) {
+        Ok(sent) => sent,
+        Err(fault) => return Err(fault),
+    };
     desk_plan::one_division();
-    Ok(write(alloc, identity, today, made, &sizes, numbers)?)
+    Ok(write(alloc, identity, today, made, &sizes, numbers, &sent)?)
 }

@@ -7,7 +7,7 @@ ghost use Rattle.desk_book.specs.OnStatus.{company_status};
 ghost use Rattle.desk_cut.specs.Sent.{sending_in};
 ghost use Rattle.desk_cut.specs.Sums.{with_one, with_submission};
 
-use crate::due::{Sending, decide};
+use crate::due::{Sending, decide, settle};
 use crate::fault::CutFault;
 use bank_days::{Calendar, Day};
 use desk_book::HeldSubmission;
@@ -124,7 +124,8 @@ fn due_on(
     ensures lapsing { IfOk result (λ found. found.1 ≡ length (lapses_among holidays.now day waiting.now)) }
 {
     let decision = decide(alloc, day, holidays, waiting)?;
-    let due = due_by_day(alloc, &decision.sent)?;
+    let sent = settle(alloc, &decision.sent)?;
+    let due = due_by_day(alloc, &sent)?;
     Ok((due, decision.lapsed.len() as u64))
 }
 
