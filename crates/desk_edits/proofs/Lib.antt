@@ -6,8 +6,8 @@
 --   cuts                      EntryRuns, EntryUpdates, FileInserts, KeyTests, NumberUpserts, PlacedEntries,
 --                             PassingUpdates, RunUpdates, SubmissionUpdates
 --   incoming files            ChangeInserts, NamedSubmissions, ReturnInserts, SuspenseInserts, TakenInserts
--- Conditions, Keys, LastNumbers, Numbered, NumberedRows, OtherTables and Runs are lemmas on which several of these
--- stand.
+-- Conditions, Keys, LastNumbers, Numbered, NumberedRows, OtherTables and RunLists are lemmas on which several
+-- of these stand.
 mod BalanceLists
 mod BalanceUpserts
 mod ChangeInserts
@@ -37,8 +37,8 @@ mod PendingSums
 mod PlacedEntries
 mod PostingInserts
 mod ReturnInserts
+mod RunLists
 mod RunUpdates
-mod Runs
 mod SubmissionRows
 mod SubmissionUpdates
 mod SuspenseInserts
