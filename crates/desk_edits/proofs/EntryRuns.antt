@@ -141,7 +141,7 @@ abbrev is_unsent_within : SentEntry → ℕ → ℕ → EntryRecord → Bool
 is_unsent_within first from to r = ((is_of first r && is_ge (int_cmp (pos r.index) (pos from))) && is_le (int_cmp (pos r.index) (pos to))) && is_none r.place
 
 module _ (first : SentEntry) (before last : ℕ) (room : before + last < 2 ^ 63) where
-  abbrev its_params : Row
+  abbrev pub its_params : Row
   its_params = Text first.company ∷ number first.order ∷ number before ∷ number first.index ∷ number last ∷ []
 
   -- the place of an entry comes after those before the submission, by its number there

@@ -6,8 +6,8 @@
 --   cuts                      EntryRuns, EntryUpdates, FileInserts, KeyTests, NumberUpserts, PlacedEntries,
 --                             PassingUpdates, RunUpdates, SubmissionUpdates
 --   incoming files            ChangeInserts, FoundReturns, NamedSubmissions, ReturnInserts, SuspenseInserts, TakenInserts
--- Conditions, Keys, LastNumbers, Numbered, NumberedRows, OtherTables and Runs are lemmas on which several of these
--- stand.
+-- Conditions, Keys, LastNumbers, Numbered, NumberedRows, OtherTables and RunLists are lemmas on which several
+-- of these stand.
 mod ArrayLoops
 mod BalanceLists
 mod BalanceUpserts
@@ -40,8 +40,8 @@ mod PendingSums
 mod PlacedEntries
 mod PostingInserts
 mod ReturnInserts
+mod RunLists
 mod RunUpdates
-mod Runs
 mod SubmissionRows
 mod SubmissionUpdates
 mod SuspenseInserts

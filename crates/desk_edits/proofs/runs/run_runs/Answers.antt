@@ -6,6 +6,7 @@ use Rattle.sql_statements.specs.Edits.{each_edit_from}
 use Rattle.sql_statements.specs.Transactions.{Makes}
 use Rattle.sql_statements.proofs.Edits.{makes_none}
 use Rattle.desk_edits.proofs.ManyEdits.{makes_all_from}
+use Rattle.desk_edits.proofs.RunLists.{none_left}
 use Rattle.desk_edits.proofs.runs.run_runs.Goals as goal
 
 pub runs-init : goal.runs-init
@@ -13,15 +14,15 @@ runs-init g c =
     let start = state g.S.Store c.args.tx.now.conn.now in
     record {
       same = search rules;
-      done = ([], search rules, search rules, λ clean. makes_none g.B.layout start);
+      done = ([], search rules, search rules, λ clean. makes_none g.B.RunBody.layout start);
       keeps = search rules;
       survives = search rules;
     }
 
 pub runs-preserved : goal.runs-preserved
 runs-preserved g c =
-    let layout = g.B.layout in
-    let edit = g.B.edit c.args.body.now in
+    let layout = g.B.RunBody.layout in
+    let edit = g.B.RunBody.edit c.args.body.now in
     let start = state g.S.Store c.args.tx.now.conn.now in
     let mid = state g.S.Store c.runs.tx.conn.now in
     let now = state g.S.Store c.run_rows.new.tx.conn.now in
@@ -42,10 +43,10 @@ runs-preserved g c =
 
 pub returns-clause-makes : goal.returns-clause-makes
 returns-clause-makes g c clean =
-    let layout = g.B.layout in
-    let edit = g.B.edit c.args.body.now in
+    let layout = g.B.RunBody.layout in
+    let edit = g.B.RunBody.edit c.args.body.now in
     let start = state g.S.Store c.args.tx.now.conn.now in
     let new = state g.S.Store c.runs.tx.conn.now in
     let before = c.runs.invariant.done in
-    let none : c.runs.rest.now ≡ [] = search rules in
+    let none = none_left c.runs.rest.now (search rules) in
     subst (λ l. Makes layout (each_edit_from edit c.args.first l) start new) (sym (before.1 ∙ ap (λ l. before.0 ++ l) none ∙ append-nil before.0)) (before.3 clean)

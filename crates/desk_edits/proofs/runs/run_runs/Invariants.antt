@@ -12,7 +12,7 @@ invariant-runs g l =
     let now = state g.S.Store l.tx.conn.now in
     record {
       same : l.tx.conn.ghost_name ≡ l.fn.tx.conn.ghost_name;
-      done : (done : List _) × (l.rows ≡ done ++ l.rest) × (l.number ≡ l.first + length done) × (HasCleanDisk now → Makes g.B.layout (each_edit_from (g.B.edit l.body) l.first done) start now);
+      done : (done : List _) × (l.rows ≡ done ++ l.rest) × (l.number ≡ l.first + length done) × (HasCleanDisk now → Makes g.B.RunBody.layout (each_edit_from (g.B.RunBody.edit l.body) l.first done) start now);
       keeps : HasCleanDisk now → KeepsCommit start now;
       survives : Survives start now (λ _. ⊥);
     }

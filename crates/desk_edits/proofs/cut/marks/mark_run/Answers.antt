@@ -1,4 +1,4 @@
-use Rattle.std.proofs.Common.{rules, ◌≡◌, ◌+◌, Ok, length, subst, arith}
+use Rattle.std.proofs.Common.{rules, ◌≡◌, ◌+◌, ◌-◌, Ok, length, subst, arith}
 use Rattle.sqlite.specs.Held.{state}
 use Rattle.sqlite.specs.State.{Executes}
 use Rattle.sql_statements.proofs.Edits.{makes_of}
@@ -13,7 +13,7 @@ pub returns-clause-makes : goal.returns-clause-makes
 returns-clause-makes g c clean =
     let first = c.args.first.now in
     let run = c.args.run.now in
-    let before = c.before in
+    let before = c.args.place - first.index in
     let last = c.in_ok-last.last in
     let old = state g.S.Store c.args.tx.now.conn.now in
     let new = state g.S.Store c.execute.new.tx.conn.now in

@@ -1,10 +1,19 @@
 -- Rows that follow one another, one more at a time, and what each of them is.
-use Rattle.std.proofs.Common.{◌≡◌, ◌+◌, ◌++◌, ◌∷◌, [], ℕ, suc, Bool, true, List, Some, take, length, slice_get, ap, ◌∙◌, refl, arith}
+use Rattle.std.proofs.Common.{◌≡◌, ◌<◌, ◌+◌, ◌++◌, ◌∷◌, [], ℕ, zero, suc, Bool, true, List, Some, take, length, slice_get, ap, ◌∙◌, refl, arith}
 use Rattle.std.specs.List.{enumerate_from, list_all}
 use Rattle.std.proofs.lemmas.Bool.{and_from}
 use Rattle.std.proofs.lemmas.List.Folds.{list_all-append}
 use Rattle.desk_records.proofs.KeptRows.{numbered_append}
 use Rattle.desk_edits.specs.Runs.{is_run}
+
+pub none_left : {X : Type 0} (xs : List X) → length xs ≡ 0 → xs ≡ []
+none_left [] none = refl
+none_left (x ∷ xs) none = absurd (omega (arith, none))
+
+pub first_taken : {X : Type 0} (n : ℕ) (xs : List X) (x : X) → 0 < n → slice_get xs 0 ≡ Some x → slice_get (take n xs) 0 ≡ Some x
+first_taken zero xs x some is = absurd (omega (arith, some))
+first_taken (suc n) [] x some is = is
+first_taken (suc n) (y ∷ ys) x some is = is
 
 module _ {X : Type 0} (stands_after : X → ℕ → X → Bool) where
   pub run_of_one : (xs : List X) → is_run stands_after (take 1 xs) ≡ true
