@@ -8,6 +8,7 @@ mod files;
 mod incoming;
 mod kinds;
 mod money;
+mod names;
 mod old_cut;
 mod rates;
 mod script;

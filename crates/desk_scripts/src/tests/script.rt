@@ -65,8 +65,8 @@ pub(super) fn new_lists(rt: &(impl Abort + Alloc<A = Global>)) -> ListStore {
     ListStore::new(rt.alloc(), identity(rt), OPERATOR_DIGEST)
 }
 
-// A new store of the sample bank, in tables.
-fn new_tables(rt: &(impl Abort + Alloc<A = Global>)) -> SqlStore<MemStore> {
+/// Makes the same store in tables.
+pub(super) fn new_tables(rt: &(impl Abort + Alloc<A = Global>)) -> SqlStore<MemStore> {
     SqlStore::in_memory(rt.alloc(), identity(rt), OPERATOR_DIGEST)
         .ok()
         .expect(rt, "tables")
