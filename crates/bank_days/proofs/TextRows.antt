@@ -9,6 +9,7 @@ use Rattle.csv.specs.declared.parser.State.{State}
 use Rattle.csv.specs.declared.parser.State.TheVariants as st
 use Rattle.bank_days.specs.Day.{day_of}
 use Rattle.bank_days.specs.declared.calendar_fault.CalendarFault.{CalendarFault}
+use Rattle.bank_days.specs.OnLiterals.{bank_days_on_literals}
 use Rattle.bank_days.specs.HolidayList.{row_day, rows_in, last_of, row_fault, holidays_of_rows, holidays_in}
 use Rattle.bank_days.proofs.CsvRecords.{records_go, records_end}
 use Rattle.bank_days.proofs.HolidayRows.{Taken, taken_more, fault_row, all_taken}
@@ -54,3 +55,8 @@ record_fault text done row s rest held fault reached t e =
 pub records_taken : (text : List ℕ) (done : List (List (List ℕ))) (s : State) (rest held : List ℕ) → Reached default_config st.StartRecord (strip_bom text) done s rest → next_record default_config s [] [] rest ≡ None
     → Taken (map row_day done) held → holidays_in text ≡ Ok held
 records_taken text done s rest held reached end t = rows_are text done (records_end (strip_bom text) done s rest reached end) ∙ all_taken (map row_day done) held t
+
+-- an empty text has no record
+pub no_rows : holidays_in [] ≡ Ok []
+unfolding bank_days_on_literals
+no_rows = refl

@@ -61,10 +61,6 @@ one_holiday : holidays_in (codes "2025-01-20\n") ≡ Ok (20_108 ∷ [])
 unfolding bank_days_on_literals
 one_holiday = refl
 
-no_holiday : holidays_in [] ≡ Ok []
-unfolding bank_days_on_literals
-no_holiday = refl
-
 same_again : holidays_in (codes "2025-01-20\n2025-01-20\n") ≡ Err (NotAscending 2)
 unfolding bank_days_on_literals
 same_again = refl

@@ -62,11 +62,16 @@ impl Calendar {
     /// Rows are what `csv` makes of the text: blank lines are none, a field may be quoted, and a
     /// byte order mark at the start is dropped. The first row at fault decides: it is `BadRow`
     /// where it is no day of the years 2000 to 2099, else `NotAscending` where its day is not after
-    /// that of the row before, else `TooMany` where it is the 401st.
+    /// that of the row before, else `TooMany` where it is the 401st. Memory runs out only on a row:
+    /// an empty text takes none.
     pub fn read(alloc: Global, text: &[u8]) -> Result<Calendar, CalendarFault>
         ensures value { Gives (holidays_in text.now) result }
+        ensures memory { OnErr result (text.now ≢ []) }
         ensures within { IfOk result (All (λ h. h ≤ last_read_day)) }
     {
+        if text.is_empty() {
+            return Ok(Calendar::empty(alloc));
+        }
         let reader = ReaderBuilder::new()
             .has_headers(false)
             .flexible(true)

@@ -1,10 +1,11 @@
-use Rattle.std.proofs.Common.{Bor, List, ℕ, ◌∙◌, ◌++◌, ◌∷◌, [], sym, ap, refl, inl, inr, true, Some, rules}
+use Rattle.std.proofs.Common.{◌≡◌, Bor, List, ℕ, ◌∙◌, ◌++◌, ◌∷◌, [], length, sym, ap, refl, inl, inr, true, Some, rules}
+use Rattle.std.proofs.lemmas.List.{nil_from_length}
 use Rattle.csv.specs.Reading.{Reached, default_config, strip_bom, with_flexible}
 use Rattle.csv.specs.Records.{fields_of}
 use Rattle.csv.specs.declared.parser.State.TheVariants as st
 use Rattle.csv.proofs.ReadFacts.{rows-end, rows-more}
 use Rattle.bank_days.proofs.HolidayRows.{taken_none}
-use Rattle.bank_days.proofs.TextRows.{record_more, record_fault, records_taken}
+use Rattle.bank_days.proofs.TextRows.{no_rows, record_more, record_fault, records_taken}
 use Rattle.bank_days.proofs.calendar.Calendar.read.Goals as goal
 use Rattle.bank_days.proofs.calendar.Calendar.read.Goals.{In-Ok}
 
@@ -68,3 +69,9 @@ returns-clause-value c =
     let s = rw c.in-None.is at ((c.next.ensures.steps inv.left inv.untrimmed).0 inv.ready) in
     let end = rows-end (λ (s : Bor (List ℕ)). Some s.now) c.loop-row.row-iterator.rdr c.next.new.self.rdr [] default_config inv.rest inv.config inv.source s in
     records_taken c.args.text.now inv.done c.loop-row.row-iterator.rdr.state inv.rest c.loop-row.days.items inv.reached end inv.taken
+
+pub returns-then-is_empty-clause-value : goal.returns-then-is_empty-clause-value
+returns-then-is_empty-clause-value c =
+    let long : length c.args.text.now ≡ 0 = search rules in
+    let none : c.args.text.now ≡ [] = nil_from_length c.args.text.now long in
+    rw (none, c.empty.ensures) no_rows
