@@ -1,5 +1,5 @@
 -- The statement of a cut that gives the entries of a run their places, against their records.
-use Rattle.std.proofs.Common.{◌≡◌, ◌<◌, ◌≤◌, ◌+◌, ◌^◌, ℕ, zero, suc, ℤ, pos, ◌+ℤ◌, Bool, true, false, is_none, ◌&&◌, ◌==◌, cond, List, [], ◌∷◌, find, length, slice_get, Some, None, Ok, bytes_eq, refl, sym, ap, ◌∙◌, subst, arith, is_ge, is_le, int_cmp}
+use Rattle.std.proofs.Common.{◌≡◌, ◌<◌, ◌≤◌, ◌+◌, ◌^◌, ℕ, zero, suc, ℤ, pos, Bool, true, false, is_none, ◌&&◌, ◌==◌, cond, List, [], ◌∷◌, find, length, slice_get, Some, None, Ok, bytes_eq, refl, sym, ap, ◌∙◌, subst, arith, is_ge, is_le, int_cmp}
 use Rattle.std.proofs.lemmas.Bool.{and_from, and_parts}
 use Rattle.std.proofs.lemmas.Int.{ints}
 use Rattle.std.specs.List.{list_all, enumerate_from}
@@ -31,14 +31,13 @@ use Rattle.desk_records.specs.CutTables.{is_entry_row, mark_entry}
 use Rattle.desk_records.specs.KeyOrders.{IsInOrder, entry_cmp, text_cmp}
 use Rattle.desk_records.specs.Layout.{desk_layout}
 use Rattle.desk_records.specs.RecordRows.{entry_row}
-use Rattle.desk_records.specs.TableEdits.{IsUnsent}
 use Rattle.desk_records.specs.Tables.{Tables}
 use Rattle.desk_records.specs.declared.records.EntryRecord.{EntryRecord}
 use Rattle.desk_edits.proofs.Conditions as conditions
 use Rattle.desk_edits.proofs.KeyTests.{and_joined, none_is, one_entry}
 use Rattle.desk_edits.proofs.OtherTables.{entries_changed}
 use Rattle.desk_edits.proofs.PassingUpdates.{updated_passing}
-use Rattle.desk_edits.proofs.RunUpdates.{in_run, inside, marks, AreThere, still_there, run_is_marks}
+use Rattle.desk_edits.proofs.RunUpdates.{inside, marks, AreThere, still_there, run_is_marks}
 use Rattle.desk_edits.proofs.SubmissionRows.{entry_kept}
 use Rattle.desk_edits.specs.CutTexts.{update_run}
 use Rattle.desk_edits.specs.EntryRuns.{is_numbered, stands_after}

@@ -1,5 +1,5 @@
-use Rattle.std.proofs.Common.{rules, ◌≡◌, ◌≤◌, ◌<◌, ◌+◌, ◌++◌, ◌∷◌, [], ℕ, Bool, true, List, Some, take, length, slice_get, ap, ◌∙◌, sym, subst, refl, arith}
-use Rattle.std.proofs.lemmas.List.{take_more, take_all}
+use Rattle.std.proofs.Common.{rules, ◌≡◌, ◌+◌, ◌++◌, ◌∷◌, [], true, take, length, ap, ◌∙◌, sym, subst, refl}
+use Rattle.std.proofs.lemmas.List.{take_more}
 use Rattle.std.proofs.lemmas.Option.{slice_get_read}
 use Rattle.desk_edits.specs.Runs.{is_run}
 use Rattle.desk_edits.proofs.RunLists.{first_taken, run_of_one, run_more}
