@@ -1,3 +1,4 @@
+pub mod ByNumber
 pub mod DigestRows
 pub mod Postings
 pub mod Shows

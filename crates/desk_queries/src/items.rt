@@ -1,10 +1,11 @@
 //! What came back of entries.
-ghost use Rattle.std.specs.Prelude.{◌≡◌, IfOk};
+ghost use Rattle.std.specs.Prelude.{◌≡◌, IfOk, IsPermutation, IsSorted};
 ghost use Rattle.sqlite.specs.Held.{state};
 ghost use Rattle.sqlite.specs.State.{HasCleanDisk, Survives};
 ghost use Rattle.sql_statements.specs.Queries.{Stays};
 ghost use Rattle.sql_statements.specs.Findings.{Finds};
 ghost use Rattle.desk_records.specs.Layout.{desk_layout};
+ghost use Rattle.desk_queries.specs.ByNumber.{by_line_number};
 ghost use Rattle.desk_records.specs.TableReads.{number_of_last, returns_in, return_at, orders_returned, return_lines_in, change_lines_in, suspense_in};
 
 use crate::parameter::{characters, natural};
@@ -86,12 +87,23 @@ pub fn return_lines<S: Alter>(
     ensures stays { HasCleanDisk (state S.Store conn.new) → Stays (state S.Store conn.old) (state S.Store conn.new) }
     ensures survives { Survives (state S.Store conn.old) (state S.Store conn.new) (λ _. ⊥) }
 {
-    all_of(
+    // No index gives them by their numbers, and the engine would hold all of them to sort them.
+    let lines = all_of(
         conn,
         alloc,
-        "SELECT ord, idx, code, day, late, info FROM returns WHERE company = ?1 ORDER BY no",
+        "SELECT no, ord, idx, code, day, late, info FROM returns WHERE company = ?1 ORDER BY day",
         &[characters(company.bytes())],
-    )
+    )?;
+    Ok(in_order(lines))
+}
+
+// The lines by their numbers, in the place that they have.
+fn in_order(mut lines: Vec<ReturnLine>) -> Vec<ReturnLine>
+    ensures same { IsPermutation lines.items result.items }
+    ensures sorted { IsSorted by_line_number result.items }
+{
+    lines.sort_unstable_by_key(|line| line.number);
+    lines
 }
 
 /// Gives the notifications of change of a company, in the order in which they came.
