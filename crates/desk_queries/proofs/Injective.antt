@@ -26,6 +26,7 @@ use Rattle.desk_records.specs.Columns.{number, flag, letter, line_reference, dir
 use Rattle.desk_records.specs.QueryRows.{submission_head_row, submission_facts_row, order_and_settlement_row, entry_amount_row, numbered_entry_row, placed_entry_row, entry_return_row, return_line_row, change_line_row, posting_line_row, suspense_line_row}
 use Rattle.desk_records.specs.RecordRows.{company_row, identity_row, taken_row, number_row, entry_columns}
 use Rattle.desk_records.specs.declared.row.items.EntryReturn.{EntryReturn}
+use Rattle.desk_records.specs.declared.row.items.ReturnLine.{ReturnLine}
 use Rattle.desk_records.specs.declared.row.lines.PostingLine.{PostingLine}
 use Rattle.desk_records.specs.declared.row.submissions.SubmissionFacts.{SubmissionFacts}
 use Rattle.desk_records.specs.declared.row.submissions.SubmissionHead.{SubmissionHead}
@@ -253,8 +254,11 @@ return_back b i = record b { code = code_back b.code i; late = flag_back b.late 
 pub entry_return_rows : IsInjective entry_return_row
 entry_return_rows = read_back entry_return_row (λ r. return_in r 0) return_back
 
-pub return_line_rows : IsInjective return_line_row
-return_line_rows = read_back return_line_row (λ r. record { order = number_in (column r 0); back = return_in r 1; info = text_in (column r 5) }) (λ l i. record l { back = return_back l.back i })
+abbrev pub return_line_in : Row → ReturnLine
+return_line_in r = record { number = number_in (column r 0); order = number_in (column r 1); back = return_in r 2; info = text_in (column r 6) }
+
+pub return_line_back : (l : ReturnLine) → return_line_in (return_line_row l) ≡ l
+return_line_back l i = record l { back = return_back l.back i }
 
 pub change_line_rows : IsInjective change_line_row
 change_line_rows =

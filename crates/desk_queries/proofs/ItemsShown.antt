@@ -4,15 +4,15 @@ use Rattle.sqlite_value.specs.declared.value.Value.TheVariants.{Text}
 use Rattle.sql_statements.proofs.Conditions.{text_is}
 use Rattle.sql_statements.specs.Statements.{column_is, at_least}
 use Rattle.desk_records.specs.Columns.{number}
-use Rattle.desk_records.specs.QueryRows.{entry_return_row, return_line_row, change_line_row, suspense_line_row}
-use Rattle.desk_records.specs.Selected.{return_of, return_line_of, change_line_of}
-use Rattle.desk_records.specs.TableReads.{is_return_in, returns_in, is_return_at, return_at, is_return_since, orders_returned, return_lines_in, change_lines_in, suspense_in}
+use Rattle.desk_records.specs.QueryRows.{entry_return_row, change_line_row, suspense_line_row}
+use Rattle.desk_records.specs.Selected.{return_of, change_line_of}
+use Rattle.desk_records.specs.TableReads.{is_return_in, returns_in, is_return_at, return_at, is_return_since, orders_returned, change_lines_in, suspense_in}
 use Rattle.desk_queries.proofs.Conditions.{one, two, three, number_is, number_least}
 use Rattle.desk_queries.proofs.Listings.{returns, changes, suspense}
 use Rattle.desk_queries.proofs.Selects.{all_selected, first_selected, all_pass}
-use Rattle.desk_queries.proofs.Texts.{places, returns_is, return_is, returned_orders_is, return_lines_is, change_lines_is, suspense_is}
+use Rattle.desk_queries.proofs.Texts.{places, returns_is, return_is, returned_orders_is, change_lines_is, suspense_is}
 use Rattle.desk_queries.specs.Shows.{ShowsAll, ShowsFirst}
-use Rattle.desk_queries.specs.Texts.{returns_text, return_text, returned_orders_text, return_lines_text, change_lines_text, suspense_text}
+use Rattle.desk_queries.specs.Texts.{returns_text, return_text, returned_orders_text, change_lines_text, suspense_text}
 
 pub returns_shown : (c : List ℕ) (order : ℕ) → ShowsAll returns_text (Text c ∷ number order ∷ []) entry_return_row (returns_in c order)
 returns_shown c order =
@@ -28,10 +28,6 @@ pub returned_orders_shown : (c : List ℕ) (since : ℕ) → ShowsAll returned_o
 returned_orders_shown c since =
     all_selected returns returned_orders_text (column_is 2 0 ∷ at_least 6 1 ∷ []) (places (3 ∷ [])) (Text c ∷ number since ∷ []) (is_return_since c since) (λ r. r.order) (λ n. number n ∷ [])
     returned_orders_is (λ i r. two (text_is r.company c) (number_least r.day since)) (λ i r. refl)
-
-pub return_lines_shown : (c : List ℕ) → ShowsAll return_lines_text (Text c ∷ []) return_line_row (return_lines_in c)
-return_lines_shown c =
-    all_selected returns return_lines_text (column_is 2 0 ∷ []) (places (3 ∷ 4 ∷ 5 ∷ 6 ∷ 7 ∷ 8 ∷ [])) (Text c ∷ []) (λ r. bytes_eq r.company c) return_line_of return_line_row return_lines_is (λ i r. one (text_is r.company c)) (λ i r. refl)
 
 pub change_lines_shown : (c : List ℕ) → ShowsAll change_lines_text (Text c ∷ []) change_line_row (change_lines_in c)
 change_lines_shown c =

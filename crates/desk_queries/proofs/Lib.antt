@@ -1,3 +1,4 @@
+pub mod AnyOrder
 pub mod Conditions
 pub mod EntriesShown
 pub mod FirstRows
@@ -10,6 +11,7 @@ pub mod LinesShown
 pub mod Listings
 pub mod OpenParts
 pub mod RegistryShown
+pub mod ReturnsShown
 pub mod Selects
 pub mod Sorting
 pub mod SumRows

@@ -119,7 +119,7 @@ pub returned_orders_is : IsSelect desk_schema returned_orders_text (query_from 1
 unfolding understood everything
 returned_orders_is = record { selects = refl; body = refl; alone = refl; unlisted = refl; plain = (refl, refl) }
 
-pub return_lines_is : IsSelect desk_schema return_lines_text (query_from 11 (column_is 2 0 ∷ []) (places (3 ∷ 4 ∷ 5 ∷ 6 ∷ 7 ∷ 8 ∷ [])) (by 1 ∷ []))
+pub return_lines_is : IsSelect desk_schema return_lines_text (query_from 11 (column_is 2 0 ∷ []) (places (1 ∷ 3 ∷ 4 ∷ 5 ∷ 6 ∷ 7 ∷ 8 ∷ [])) (by 6 ∷ []))
 unfolding understood everything
 return_lines_is = record { selects = refl; body = refl; alone = refl; unlisted = refl; plain = (refl, refl) }
 

@@ -91,7 +91,7 @@ abbrev pub returned_orders_text : List ℕ
 returned_orders_text = codes "SELECT ord FROM returns WHERE company = ?1 AND day >= ?2 ORDER BY no"
 
 abbrev pub return_lines_text : List ℕ
-return_lines_text = codes "SELECT ord, idx, code, day, late, info FROM returns WHERE company = ?1 ORDER BY no"
+return_lines_text = codes "SELECT no, ord, idx, code, day, late, info FROM returns WHERE company = ?1 ORDER BY day"
 
 abbrev pub change_lines_text : List ℕ
 change_lines_text = codes "SELECT ord, idx, code, day, text FROM changes WHERE company = ?1 ORDER BY no"

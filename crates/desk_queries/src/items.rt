@@ -1,6 +1,7 @@
 //! What came back of entries.
-ghost use Rattle.std.specs.Prelude.{◌≡◌};
+ghost use Rattle.std.specs.Prelude.{◌≡◌, IsPermutation, IsSorted};
 ghost use Rattle.sql_statements.specs.Findings.{Finds};
+ghost use Rattle.desk_queries.specs.ByNumber.{by_line_number};
 ghost use Rattle.desk_records.specs.TableReads.{number_of_last, returns_in, return_at, orders_returned, return_lines_in, change_lines_in, suspense_in};
 ghost use Rattle.desk_queries.specs.Asking.{Asks, SeesStill, LeavesNothingNew};
 
@@ -86,12 +87,23 @@ pub fn return_lines<S: Alter>(
     ensures stays { SeesStill S.Store conn.old conn.new }
     ensures survives { LeavesNothingNew S.Store conn.old conn.new }
 {
-    all_of(
+    // No index gives them by their numbers, and the engine would hold all of them to sort them.
+    let lines = all_of(
         conn,
         alloc,
-        "SELECT ord, idx, code, day, late, info FROM returns WHERE company = ?1 ORDER BY no",
+        "SELECT no, ord, idx, code, day, late, info FROM returns WHERE company = ?1 ORDER BY day",
         &[characters(company.bytes())],
-    )
+    )?;
+    Ok(in_order(lines))
+}
+
+// The lines by their numbers, in the place that they have.
+fn in_order(mut lines: Vec<ReturnLine>) -> Vec<ReturnLine>
+    ensures same { IsPermutation lines.items result.items }
+    ensures sorted { IsSorted by_line_number result.items }
+{
+    lines.sort_unstable_by_key(|line| line.number);
+    lines
 }
 
 /// Gives the notifications of change of a company, in the order in which they came.

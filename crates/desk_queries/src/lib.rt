@@ -2,8 +2,9 @@
 //! finds what `TableReads` of `desk_records` says of the tables.
 //!
 //! Each query names its rows by a key or by the first columns of an index, and gives them in the order
-//! of the table's key. What waits for a cut stands first in an index, and is read one row at a time, up
-//! to the first that does not wait. A row that stores no value within its ranges is `Error::InvalidQuery`.
+//! of the table's key: a company's returns come by their days, and are put in that order. What waits for
+//! a cut stands first in an index, and is read one row at a time, up to the first that does not wait. A
+//! row that stores no value within its ranges is `Error::InvalidQuery`.
 #![tactic(auto)]
 
 mod entries;

@@ -38,7 +38,7 @@ placed e = refl
 back : (r : ReturnRecord) → entry_return_row (return_of r) ≡ columns_in (return_row r) (3 ∷ 4 ∷ 5 ∷ 6 ∷ [])
 back r = refl
 
-return_line : (r : ReturnRecord) → return_line_row (return_line_of r) ≡ columns_in (return_row r) (2 ∷ 3 ∷ 4 ∷ 5 ∷ 6 ∷ 7 ∷ [])
+return_line : (r : ReturnRecord) → return_line_row (return_line_of r) ≡ columns_in (return_row r) (0 ∷ 2 ∷ 3 ∷ 4 ∷ 5 ∷ 6 ∷ 7 ∷ [])
 return_line r = refl
 
 change_line : (c : ChangeRecord) → change_line_row (change_line_of c) ≡ columns_in (change_row c) (2 ∷ 3 ∷ 4 ∷ 5 ∷ 6 ∷ [])

@@ -52,9 +52,9 @@ placed_entry_row e = Text e.company ∷ number e.order ∷ number e.index ∷ en
 abbrev pub entry_return_row : EntryReturn → Row
 entry_return_row r = number r.index ∷ Text (code_text r.code) ∷ number r.day ∷ flag r.late ∷ []
 
--- ord, idx, code, day, late, info
+-- no, ord, idx, code, day, late, info
 abbrev pub return_line_row : ReturnLine → Row
-return_line_row r = number r.order ∷ number r.back.index ∷ Text (code_text r.back.code) ∷ number r.back.day ∷ flag r.back.late ∷ Text r.info ∷ []
+return_line_row r = number r.number ∷ number r.order ∷ number r.back.index ∷ Text (code_text r.back.code) ∷ number r.back.day ∷ flag r.back.late ∷ Text r.info ∷ []
 
 -- ord, idx, code, day, text
 abbrev pub change_line_row : ChangeLine → Row

@@ -50,7 +50,7 @@ abbrev pub return_of : ReturnRecord → EntryReturn
 return_of r = record { index = r.index; code = r.code; day = r.day; late = r.late }
 
 abbrev pub return_line_of : ReturnRecord → ReturnLine
-return_line_of r = record { order = r.order; back = return_of r; info = r.info }
+return_line_of r = record { number = r.number; order = r.order; back = return_of r; info = r.info }
 
 abbrev pub change_line_of : ChangeRecord → ChangeLine
 change_line_of c = record { order = c.order; index = c.index; code = c.code; day = c.day; text = c.text }

@@ -191,7 +191,7 @@ IsLastNumber last t = (by_place : List NumberRecord) → IsPermutation t.numbers
 
 -- ---- items, lines and files
 
--- SELECT ord, idx, code, day, late, info FROM returns WHERE company = ? ORDER BY no
+-- SELECT no, ord, idx, code, day, late, info FROM returns WHERE company = ? ORDER BY no
 abbrev pub return_lines_in : (company : List ℕ) → Tables → List ReturnLine
 return_lines_in c t = map return_line_of (filter (λ r. bytes_eq r.company c) t.returns)
 

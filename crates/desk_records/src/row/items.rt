@@ -25,6 +25,8 @@ pub struct EntryReturn {
 /// A `ReturnLine` is a return of an entry of a company, with its information.
 #[derive(Clone, Copy, Debug, PartialEq, Eq, Drop)]
 pub struct ReturnLine {
+    /// The number of its row: they rise in the order in which returns came.
+    pub number: u64,
     /// The number of the entry's submission in the company.
     pub order: u64,
     pub back: EntryReturn,
@@ -71,16 +73,18 @@ impl FromRow for ReturnLine {
     ghost fits = { ReturnLineFits };
 
     fn from_row(row: &Row) -> Option<ReturnLine> {
-        if row.column_count() != 6 {
+        if row.column_count() != 7 {
             return None;
         }
-        let order = read_ordinal(row, 0)?;
-        let index = read_number(row, 1, 1, MOST_ENTRIES as u64)?;
-        let code = read_column(row, 2)?;
-        let day = read_column(row, 3)?;
-        let late = read_column(row, 4)?;
-        let info = read_column(row, 5)?;
+        let number = read_column(row, 0)?;
+        let order = read_ordinal(row, 1)?;
+        let index = read_number(row, 2, 1, MOST_ENTRIES as u64)?;
+        let code = read_column(row, 3)?;
+        let day = read_column(row, 4)?;
+        let late = read_column(row, 5)?;
+        let info = read_column(row, 6)?;
         Some(ReturnLine {
+            number,
             order,
             back: EntryReturn {
                 index,

@@ -35,6 +35,7 @@ fn returns(rt: HostRuntime) -> Result<(), Fail> {
         );
     }
     let columns = [
+        "7",
         "4",
         "1",
         "'R29'",
@@ -45,18 +46,20 @@ fn returns(rt: HostRuntime) -> Result<(), Fail> {
     let mut info = [b' '; 44];
     info[..4].copy_from_slice(b"GONE");
     let line = ReturnLine {
+        number: 7,
         order: 4,
         back: back(&rt),
         info,
     };
     assert!(rt; read(rt.alloc(), &columns)? == Some(line));
     for (at, value) in [
-        (0, "0"),
-        (1, "1001"),
-        (2, "'R00'"),
-        (3, "1"),
-        (4, "7"),
-        (5, "'GONE'"),
+        (0, "-1"),
+        (1, "0"),
+        (2, "1001"),
+        (3, "'R00'"),
+        (4, "1"),
+        (5, "7"),
+        (6, "'GONE'"),
     ] {
         assert!(rt;
             is_refused::<ReturnLine>(rt.alloc(), &columns, at, value)?,
