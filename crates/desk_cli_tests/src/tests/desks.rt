@@ -15,6 +15,16 @@ pub const SAMPLE_BANK: InitOptions<'static> = InitOptions {
 
 const NOBODY: &[u8] = b"";
 
+/// No bank and no operator can have one of these as its name.
+const NO_NAMES: [&str; 6] = [
+    "",
+    " OUR BANK",
+    "OUR BANK ",
+    "OUR\tBANK",
+    "OUR BÄNK",
+    "A NAME OF 24 CHARACTERS.",
+];
+
 /// Removes a desk's file and its log, where they are there.
 pub fn clear(rt: &HostRuntime, path: &str) -> Result<(), Fail> {
     let _ = fs::remove_file(rt, path);
@@ -100,8 +110,6 @@ fn the_first_bad_option_is_told(rt: HostRuntime) -> Result<(), Fail> {
     assert!(rt; says(&rt, path, options, Status::Refused, "bad odfi\n"));
     options.odfi = SAMPLE_BANK.odfi;
     assert!(rt; says(&rt, path, options, Status::Refused, "bad odfi-name\n"));
-    options.odfi_name = "";
-    assert!(rt; says(&rt, path, options, Status::Refused, "bad odfi-name\n"));
     options.odfi_name = SAMPLE_BANK.odfi_name;
     assert!(rt; says(&rt, path, options, Status::Refused, "bad destination\n"));
     options.destination = SAMPLE_BANK.destination;
@@ -114,14 +122,39 @@ fn the_first_bad_option_is_told(rt: HostRuntime) -> Result<(), Fail> {
             "bad destination-name\n"
         )
     );
-    options.destination_name = "";
-    let line = "bad destination-name\n";
-    assert!(rt; says(&rt, path, options, Status::Refused, line));
     options.destination_name = SAMPLE_BANK.destination_name;
     assert!(rt; says(&rt, path, options, Status::Refused, "bad key\n"));
     // No file was made meanwhile.
     assert!(rt; fs::metadata(&rt, path).is_err());
     Ok(())
+}
+
+#[test]
+fn a_desk_has_names(rt: HostRuntime) -> Result<(), Fail> {
+    let path = "named.db";
+    clear(&rt, path)?;
+    for name in NO_NAMES {
+        let mut options = SAMPLE_BANK;
+        options.odfi_name = name;
+        let is_told = says(&rt, path, options, Status::Refused, "bad odfi-name\n");
+        assert!(rt; is_told, "{name}");
+        options = SAMPLE_BANK;
+        options.destination_name = name;
+        let is_told = says(
+            &rt,
+            path,
+            options,
+            Status::Refused,
+            "bad destination-name\n",
+        );
+        assert!(rt; is_told, "{name}");
+    }
+    assert!(rt; fs::metadata(&rt, path).is_err());
+    let mut options = SAMPLE_BANK;
+    options.odfi_name = "A NAME OF 23 CHARACTERS";
+    options.destination_name = "~";
+    assert!(rt; says(&rt, path, options, Status::Done, "created\n"));
+    clear(&rt, path)
 }
 
 #[test]
