@@ -26,7 +26,8 @@ pub const BODY_ROOM: usize = 640;
 /// more on a day.
 pub fn write_answer(alloc: Global, text: &mut Vec<u8>, answer: Answer) -> Result<(), AllocError>
     requires { vec_len text.old + BODY_ROOM ≤ vec_capacity text.old }
-    ensures body { OnOk result (FitsRoom answer → text.new.items ≡ text.old.items ++ answer_body answer) }
+    ensures body { OnOk result
+        (FitsRoom answer → text.new.items ≡ text.old.items ++ answer_body answer) }
     ensures memory { OnErr result (is_command answer ≡ false) }
     ensures len { is_command answer ≡ true → vec_len text.new ≤ vec_len text.old + BODY_ROOM }
 {
@@ -62,7 +63,8 @@ fn is_of_command(outcome: &Outcome) -> bool
 
 fn write_outcome(alloc: Global, text: &mut Vec<u8>, outcome: Outcome) -> Result<(), AllocError>
     requires { vec_len text.old + BODY_ROOM ≤ vec_capacity text.old }
-    ensures body { OnOk result (IsShort outcome → text.new.items ≡ text.old.items ++ outcome_body outcome) }
+    ensures body { OnOk result
+        (IsShort outcome → text.new.items ≡ text.old.items ++ outcome_body outcome) }
     ensures memory { OnErr result (is_of_command outcome ≡ false) }
     ensures len { is_of_command outcome ≡ true → vec_len text.new ≤ vec_len text.old + BODY_ROOM }
 {
@@ -77,7 +79,8 @@ fn write_outcome(alloc: Global, text: &mut Vec<u8>, outcome: Outcome) -> Result<
 // What a command did, into the room.
 fn put_outcome(text: &mut Vec<u8>, outcome: &Outcome)
     requires { vec_len text.old + BODY_ROOM ≤ vec_capacity text.old }
-    ensures body { is_of_command outcome.now ≡ true → IsShort outcome.now → text.new.items ≡ text.old.items ++ outcome_body outcome.now }
+    ensures body { is_of_command outcome.now ≡ true → IsShort outcome.now →
+        text.new.items ≡ text.old.items ++ outcome_body outcome.now }
     ensures len { vec_len text.new ≤ vec_len text.old + BODY_ROOM }
 {
     match outcome {
@@ -93,7 +96,8 @@ fn put_outcome(text: &mut Vec<u8>, outcome: &Outcome)
 
 fn put_receipt(text: &mut Vec<u8>, receipt: &Receipt)
     requires { vec_len text.old + BODY_ROOM ≤ vec_capacity text.old }
-    ensures body { text.new.items ≡ text.old.items ++ outcome_body (outcomes.Submitted receipt.now) }
+    ensures body { text.new.items ≡ text.old.items ++ outcome_body
+        (outcomes.Submitted receipt.now) }
     ensures len { vec_len text.new ≤ vec_len text.old + BODY_ROOM }
 {
     put_acceptance(
@@ -107,7 +111,8 @@ fn put_receipt(text: &mut Vec<u8>, receipt: &Receipt)
 
 // What was looked up, with growth.
 fn add_outcome(alloc: Global, text: &mut Vec<u8>, outcome: Outcome) -> Result<(), AllocError>
-    ensures { OnOk result (is_of_command outcome ≡ false → text.new.items ≡ text.old.items ++ outcome_body outcome) }
+    ensures { OnOk result
+        (is_of_command outcome ≡ false → text.new.items ≡ text.old.items ++ outcome_body outcome) }
 {
     match outcome {
         Outcome::Found(report) => add_found(alloc, text, report),
@@ -129,7 +134,8 @@ fn add_found(
     text: &mut Vec<u8>,
     report: Option<SubmissionReport>,
 ) -> Result<(), AllocError>
-    ensures { OnOk result (text.new.items ≡ text.old.items ++ outcome_body (outcomes.Found report)) }
+    ensures { OnOk result
+        (text.new.items ≡ text.old.items ++ outcome_body (outcomes.Found report)) }
 {
     match report {
         Some(report) => add_report(text, report),
@@ -138,7 +144,8 @@ fn add_found(
 }
 
 fn add_file(alloc: Global, text: &mut Vec<u8>, file: &Option<ListOf<u8>>) -> Result<(), AllocError>
-    ensures { OnOk result (text.new.items ≡ text.old.items ++ outcome_body (outcomes.File file.now)) }
+    ensures { OnOk result
+        (text.new.items ≡ text.old.items ++ outcome_body (outcomes.File file.now)) }
 {
     match file {
         Some(bytes) => text.extend_from_slice(bytes.as_slice()),

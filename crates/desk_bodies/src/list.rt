@@ -41,7 +41,8 @@ pub(crate) fn add_list<R: Row + Drop>(
     rows: ListOf<R>,
 ) -> Result<(), AllocError>
     requires { length key.now ≤ 32 }
-    ensures { OnOk result (text.new.items ≡ text.old.items ++ member_text later key.now (array (items_of (map R.body rows)))) }
+    ensures { OnOk result (text.new.items ≡ text.old.items ++ member_text later key.now
+        (array (items_of (map R.body rows)))) }
 {
     // A long text has a block of its own from the start, which then grows without a copy.
     text.reserve(rows.as_slice().len().saturating_mul(ROW_LENGTH))?;
@@ -53,7 +54,8 @@ pub(crate) fn add_list<R: Row + Drop>(
 
 // With the closing bracket.
 fn add_rows<R: Row + Drop>(text: &mut Vec<u8>, rows: EmptyingList<R>) -> Result<(), AllocError>
-    ensures { OnOk result (text.new.items ≡ text.old.items ++ items_text false (items_of (map R.body rows))) }
+    ensures { OnOk result
+        (text.new.items ≡ text.old.items ++ items_text false (items_of (map R.body rows))) }
 {
     let mut left = rows;
     let mut later = false;
@@ -66,7 +68,8 @@ fn add_rows<R: Row + Drop>(text: &mut Vec<u8>, rows: EmptyingList<R>) -> Result<
 }
 
 fn add_row<R: Row>(text: &mut Vec<u8>, later: bool, row: &R) -> Result<(), AllocError>
-    ensures { OnOk result (text.new.items ≡ text.old.items ++ (comma_if later ++ compact_text (R.body row.now))) }
+    ensures { OnOk result
+        (text.new.items ≡ text.old.items ++ (comma_if later ++ compact_text (R.body row.now))) }
 {
     text.reserve(ROW_ROOM + 1)?;
     put_comma(text, later);
@@ -81,7 +84,8 @@ pub(crate) fn add_list_alone<R: Row + Drop>(
     rows: ListOf<R>,
 ) -> Result<(), AllocError>
     requires { length key.now ≤ 32 }
-    ensures { OnOk result (text.new.items ≡ text.old.items ++ compact_text (object_of ((key.now, array (items_of (map R.body rows))) ∷ []))) }
+    ensures { OnOk result (text.new.items ≡ text.old.items ++ compact_text
+        (object_of ((key.now, array (items_of (map R.body rows))) ∷ []))) }
 {
     text.push(b'{')?;
     add_list(text, false, key, rows)?;

@@ -27,7 +27,9 @@ pub(crate) fn batches_of<'a>(
     sent: &[Sending<'a>],
     ranges: &[(u32, u32)],
 ) -> Result<Vec<NumberedBatch<'a>>, AllocError>
-    ensures { IfOk result (λ batches. map batch_in batches.items ≡ map batch_of (zip ranges.now (map sending_in sent.now))) }
+    ensures { IfOk result
+        (λ batches. map batch_in batches.items ≡ map batch_of
+        (zip ranges.now (map sending_in sent.now))) }
 {
     let mut batches = Vec::new(alloc);
     for (range, sending) in ranges.iter().zip(sent) {
@@ -97,7 +99,8 @@ pub(crate) fn entries_of(
     batches: &[NumberedBatch<'_>],
 ) -> Result<Vec<SentEntry>, AllocError>
     requires { All (λ b. IsSendable (batch_in b)) batches.now }
-    ensures { IfOk result (λ entries. entries.items ≡ flat_map batch_entries (map batch_in batches.now)) }
+    ensures { IfOk result
+        (λ entries. entries.items ≡ flat_map batch_entries (map batch_in batches.now)) }
 {
     let mut entries = Vec::with_capacity(alloc, count_of(batches))?;
     for batch in batches {

@@ -34,7 +34,9 @@ pub(crate) fn files_of<'a>(
 ) -> Result<Vec<File<'a>>, AllocError>
     requires made { made + length sizes.now ≤ most_files }
     requires whole { sum sizes.now ≡ length batches.now }
-    ensures files { IfOk result (λ files. map file_in files.items ≡ files_from day made (in_runs sizes.now (map batch_in batches.now))) }
+    ensures files { IfOk result
+        (λ files. map file_in files.items ≡ files_from day made
+        (in_runs sizes.now (map batch_in batches.now))) }
 {
     desk_plan::modifiers_of_a_day();
     let mut files = Vec::new(alloc);
@@ -89,7 +91,8 @@ pub(crate) fn texts_of(
     files: &[File<'_>],
 ) -> Result<Vec<FileRow>, AllocError>
     requires { All (λ f. IsPrintable (file_in f)) files.now }
-    ensures { IfOk result (λ rows. rows.items ≡ map (file_row identity.now) (map file_in files.now)) }
+    ensures { IfOk result
+        (λ rows. rows.items ≡ map (file_row identity.now) (map file_in files.now)) }
 {
     let mut rows = Vec::new(alloc);
     for file in files {
@@ -105,7 +108,8 @@ pub(crate) fn texts_of(
 
 /// Gives the modifiers of the files, in order.
 pub(crate) fn modifiers_of(alloc: Global, files: &[File<'_>]) -> Result<Vec<u8>, AllocError>
-    ensures { IfOk result (λ modifiers. modifiers.items ≡ map (λ f. f.modifier) (map file_in files.now)) }
+    ensures { IfOk result
+        (λ modifiers. modifiers.items ≡ map (λ f. f.modifier) (map file_in files.now)) }
 {
     let mut modifiers = Vec::new(alloc);
     for file in files {

@@ -16,7 +16,8 @@ fn push_lines(
     sending: &Sending<'_>,
     load: &Batch,
 ) -> Result<(), AllocError>
-    ensures { OnOk result (postings.new.items ≡ postings.old.items ++ pairs (line_by (sending_in sending.now, load.now))) }
+    ensures { OnOk result (postings.new.items ≡ postings.old.items ++ pairs
+        (line_by (sending_in sending.now, load.now))) }
 {
     let company = sending.waiting.company.id;
     let content = sending.waiting.row.content.submission();
@@ -35,7 +36,9 @@ pub(crate) fn postings_of(
     sent: &[Sending<'_>],
     loads: &[Batch],
 ) -> Result<Vec<Posting>, AllocError>
-    ensures { IfOk result (λ postings. postings.items ≡ pairs (flat_map line_by (zip (map sending_in sent.now) loads.now))) }
+    ensures { IfOk result
+        (λ postings. postings.items ≡ pairs
+        (flat_map line_by (zip (map sending_in sent.now) loads.now))) }
 {
     let mut postings = Vec::new(alloc);
     for (sending, load) in sent.iter().zip(loads) {

@@ -42,7 +42,8 @@ fn transaction_of(debit: bool, entry: &Entry) -> u8
 
 fn payment(information: &Option<ShortText<80>>) -> Addenda<'_>
     ensures value { plain_addenda result ≡ payment information.now }
-    ensures fits { (trace : List ℕ) → sequence_in trace ≤ most_sequence → AllFit (addenda_rows trace result) }
+    ensures fits { (trace : List ℕ) → sequence_in trace ≤ most_sequence →
+        AllFit (addenda_rows trace result) }
 {
     match information {
         Some(information) => Addenda::Payment(information.bytes()),
@@ -106,7 +107,8 @@ fn outgoing_entries<'a>(
     batch: &NumberedBatch<'a>,
 ) -> Result<Vec<OutgoingEntry<'a>>, AllocError>
     requires { IsSendable (batch_in batch.now) }
-    ensures value { IfOk result (λ out. map plain_entry out.items ≡ outgoing_entries odfi (batch_in batch.now)) }
+    ensures value { IfOk result
+        (λ out. map plain_entry out.items ≡ outgoing_entries odfi (batch_in batch.now)) }
     ensures fits { IfOk result (λ out. list_all entry_fits out.items ≡ true) }
 {
     let entries = batch.waiting.row.content.submission().entries.as_slice();
@@ -130,7 +132,8 @@ fn date_of(day: Day) -> Ymd
 // The header of a batch with its number: 220 for credits, 225 for debits.
 fn batch_header<'a>(odfi: Routing, number: u32, batch: &NumberedBatch<'a>) -> BatchHeaderText<'a>
     requires { number ≤ most_batches }
-    ensures value { plain_batch_header result ≡ (outgoing_batch odfi (number, batch_in batch.now)).header }
+    ensures value { plain_batch_header result ≡
+        (outgoing_batch odfi (number, batch_in batch.now)).header }
     ensures fits { row_fits (batch_header_row result) ≡ true }
 {
     let waiting = batch.waiting;
@@ -174,7 +177,9 @@ fn print_batch<'a>(
     requires sendable { IsSendable (batch_in batch.now) }
     requires entries { map plain_entry entries.now ≡ outgoing_entries odfi (batch_in batch.now) }
     requires fits { list_all entry_fits entries.now ≡ true }
-    ensures { (header : FileHeaderText) (before : List OutgoingBatch) → HasPrinted printer.old header before → OnOk result (HasPrinted printer.new header (before ++ outgoing_batch odfi (number, batch_in batch.now) ∷ [])) }
+    ensures { (header : FileHeaderText) (before : List OutgoingBatch) →
+        HasPrinted printer.old header before → OnOk result (HasPrinted printer.new header
+        (before ++ outgoing_batch odfi (number, batch_in batch.now) ∷ [])) }
 {
     let header: BatchHeaderText<'a> = batch_header(odfi, number, batch);
     match printer.put(&OutgoingBatch { header, entries }) {
@@ -193,7 +198,9 @@ fn put_batch(
 ) -> Result<(), AllocError>
     requires number { number ≤ most_batches }
     requires sendable { IsSendable (batch_in batch.now) }
-    ensures { (header : FileHeaderText) (before : List OutgoingBatch) → HasPrinted printer.old header before → OnOk result (HasPrinted printer.new header (before ++ outgoing_batch odfi (number, batch_in batch.now) ∷ [])) }
+    ensures { (header : FileHeaderText) (before : List OutgoingBatch) →
+        HasPrinted printer.old header before → OnOk result (HasPrinted printer.new header
+        (before ++ outgoing_batch odfi (number, batch_in batch.now) ∷ [])) }
 {
     let entries = outgoing_entries(alloc, odfi, batch)?;
     // Lent again, since the entries live shorter than what the batch lends.
@@ -209,7 +216,9 @@ fn put_batches(
 ) -> Result<(), AllocError>
     requires few { length batches.now ≤ most_batches }
     requires sendable { All (λ b. IsSendable (batch_in b)) batches.now }
-    ensures { (header : FileHeaderText) → HasPrinted printer.old header [] → OnOk result (HasPrinted printer.new header (map (outgoing_batch odfi) (enumerate_from 1 (map batch_in batches.now)))) }
+    ensures { (header : FileHeaderText) → HasPrinted printer.old header [] →
+        OnOk result (HasPrinted printer.new header
+        (map (outgoing_batch odfi) (enumerate_from 1 (map batch_in batches.now)))) }
 {
     for (index, batch) in batches.iter().enumerate() {
         put_batch(alloc, printer, odfi, index as u32 + 1, batch)?;
@@ -244,8 +253,11 @@ pub(crate) fn text_of(
     modifier: u8,
     batches: &[NumberedBatch<'_>],
 ) -> Result<Vec<u8>, AllocError>
-    requires { IsPrintable (record { day = day; modifier = modifier; batches = map batch_in batches.now }) }
-    ensures { IfOk result (λ text. text.items ≡ text_of identity.now (record { day = day; modifier = modifier; batches = map batch_in batches.now })) }
+    requires { IsPrintable
+        (record { day = day; modifier = modifier; batches = map batch_in batches.now }) }
+    ensures { IfOk result
+        (λ text. text.items ≡ text_of identity.now
+        (record { day = day; modifier = modifier; batches = map batch_in batches.now })) }
 {
     let modifiers = [modifier];
     let header = file_header(identity, day, &modifiers);

@@ -31,9 +31,13 @@ pub fn answer<S: Store>(
     message: Message<'_>,
 ) -> Result<Vec<u8>, Unavailable>
     ensures before { S.is_clean desk.new → S.is_clean desk.old }
-    ensures goes { S.is_clean desk.new → GoesBytes (S.holds desk.old) (message_value message.entry) result (S.holds desk.new) }
-    ensures replies { S.is_clean desk.new → RepliesBytes (S.holds desk.old) (message_value message.entry) result }
-    ensures left { S.is_clean desk.new → LeavesBytes S.keeps (S.holds desk.old) (S.may_leave desk.old) (message_value message.entry) result (S.may_leave desk.new) }
+    ensures goes { S.is_clean desk.new →
+        GoesBytes (S.holds desk.old) (message_value message.entry) result (S.holds desk.new) }
+    ensures replies { S.is_clean desk.new →
+        RepliesBytes (S.holds desk.old) (message_value message.entry) result }
+    ensures left { S.is_clean desk.new →
+        LeavesBytes S.keeps (S.holds desk.old) (S.may_leave desk.old) (message_value message.entry)
+        result (S.may_leave desk.new) }
 {
     desk_bytes::one_meaning();
     desk_bytes::own_text();

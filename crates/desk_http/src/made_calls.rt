@@ -18,8 +18,11 @@ pub(crate) fn carry_out<S: Store>(
     closes: bool,
 ) -> Result<Vec<u8>, Unavailable>
     ensures before { S.is_clean desk.new → S.is_clean desk.old }
-    ensures goes { S.is_clean desk.new → GoesCall (S.holds desk.old) call closes result (S.holds desk.new) }
-    ensures left { S.is_clean desk.new → LeavesCall S.keeps (S.holds desk.old) (S.may_leave desk.old) call result (S.may_leave desk.new) }
+    ensures goes { S.is_clean desk.new →
+        GoesCall (S.holds desk.old) call closes result (S.holds desk.new) }
+    ensures left { S.is_clean desk.new →
+        LeavesCall S.keeps (S.holds desk.old) (S.may_leave desk.old) call result
+        (S.may_leave desk.new) }
 {
     desk_core::book_tells();
     desk_core::reads_leave();

@@ -28,7 +28,9 @@ pub(crate) fn verdict_of<S: Store>(
     message: Message<'_>,
 ) -> Result<Result<Call, MessageFault>, StoreFault>
     ensures before { S.is_clean desk.new → S.is_clean desk.old }
-    ensures read { S.is_clean desk.new → Reads (S.holds desk.old) result (λ b. verdict_on b (message_value message.entry)) (S.holds desk.new) }
+    ensures read { S.is_clean desk.new →
+        Reads (S.holds desk.old) result (λ b. verdict_on b (message_value message.entry))
+        (S.holds desk.new) }
     ensures left { S.is_clean desk.new → LeavesRead (S.may_leave desk.old) (S.may_leave desk.new) }
 {
     match message {
@@ -44,7 +46,9 @@ fn request_verdict<S: Store>(
     request: Request<'_>,
 ) -> Result<Result<Call, MessageFault>, StoreFault>
     ensures before { S.is_clean desk.new → S.is_clean desk.old }
-    ensures read { S.is_clean desk.new → Reads (S.holds desk.old) result (λ b. verdict_on b (asked (request_value request.entry))) (S.holds desk.new) }
+    ensures read { S.is_clean desk.new →
+        Reads (S.holds desk.old) result (λ b. verdict_on b (asked (request_value request.entry)))
+        (S.holds desk.new) }
     ensures left { S.is_clean desk.new → LeavesRead (S.may_leave desk.old) (S.may_leave desk.new) }
 {
     match route_of(routes, &request) {
@@ -56,7 +60,8 @@ fn request_verdict<S: Store>(
 
 // The route of a request, or the fault that its head alone tells.
 fn route_of(routes: &Routes, request: &Request<'_>) -> Result<Route, MessageFault>
-    ensures { addressee_of (asked (request_value request.now)) ≡ addressee_with (request_value request.now) result }
+    ensures { addressee_of (asked (request_value request.now)) ≡ addressee_with
+        (request_value request.now) result }
 {
     match framing_of(request.method, request.fields) {
         Framing::BadLength => Err(MessageFault::BadHead),

@@ -10,7 +10,8 @@ use std::alloc::AllocError;
 
 /// Appends the body of a company's exposure and limits.
 pub(crate) fn add_exposure(text: &mut Vec<u8>, exposure: &Exposure) -> Result<(), AllocError>
-    ensures { OnOk result (text.new.items ≡ text.old.items ++ compact_text (exposure_body exposure.now)) }
+    ensures { OnOk result
+        (text.new.items ≡ text.old.items ++ compact_text (exposure_body exposure.now)) }
 {
     text.reserve(ROW_ROOM)?;
     put(text, b"{");

@@ -28,7 +28,8 @@ pub(crate) fn add_rates(text: &mut Vec<u8>, rates: &DayRates) -> Result<(), Allo
 #[tactic(auto, unfolding(desk_members::specs::Members::member_text))]
 fn put_rate(text: &mut Vec<u8>, later: bool, key: &[u8], rate: &Rate)
     requires { vec_len text.old + (6 * length key.now + 104) ≤ vec_capacity text.old }
-    ensures items { text.new.items ≡ text.old.items ++ member_text later key.now (rate_body rate.now) }
+    ensures items { text.new.items ≡ text.old.items ++ member_text later key.now
+        (rate_body rate.now) }
     ensures len { vec_len text.new ≤ vec_len text.old + (6 * length key.now + 104) }
     ensures capacity { vec_capacity text.old ≤ vec_capacity text.new }
 {

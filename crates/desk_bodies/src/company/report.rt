@@ -48,7 +48,8 @@ fn direction_text(direction: Direction) -> &'static str
 // The entry that a retry tries again.
 fn put_retried(text: &mut Vec<u8>, retried: &Option<RetriedEntry>)
     requires { vec_len text.old + 220 ≤ vec_capacity text.old }
-    ensures items { text.new.items ≡ text.old.items ++ more_members_text (retried_members retried.now) }
+    ensures items { text.new.items ≡ text.old.items ++ more_members_text
+        (retried_members retried.now) }
     ensures len { vec_len text.new ≤ vec_len text.old + 220 }
     ensures capacity { vec_capacity text.old ≤ vec_capacity text.new }
 {

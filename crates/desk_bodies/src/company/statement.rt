@@ -11,7 +11,8 @@ use std::alloc::AllocError;
 
 /// Appends the body of a company's statement.
 pub(crate) fn add_statement(text: &mut Vec<u8>, statement: Statement) -> Result<(), AllocError>
-    ensures { OnOk result (text.new.items ≡ text.old.items ++ compact_text (statement_body statement)) }
+    ensures { OnOk result
+        (text.new.items ≡ text.old.items ++ compact_text (statement_body statement)) }
 {
     text.reserve(ROW_ROOM)?;
     put(text, b"{");

@@ -15,7 +15,8 @@ const MOST_FILES: usize = 36;
 /// Appends the body of a cut that made at most 36 files, which is the most that a day has.
 pub(crate) fn put_cut(text: &mut Vec<u8>, cut: &CutSummary)
     requires { vec_len text.old + 640 ≤ vec_capacity text.old }
-    ensures items { length cut.now.files ≤ 36 → text.new.items ≡ text.old.items ++ compact_text (cut_body cut.now) }
+    ensures items { length cut.now.files ≤ 36 →
+        text.new.items ≡ text.old.items ++ compact_text (cut_body cut.now) }
     ensures len { vec_len text.new ≤ vec_len text.old + 640 }
 {
     put(text, b"{");
@@ -41,7 +42,8 @@ fn first_files(files: &[u8]) -> &[u8]
 #[tactic(auto, unfolding(desk_members::specs::Members::member_text))]
 fn put_files(text: &mut Vec<u8>, files: &[u8])
     requires { vec_len text.old + (9 * length files.now + 36) ≤ vec_capacity text.old }
-    ensures items { text.new.items ≡ text.old.items ++ member_text true (codes "files") (array (items_of (map modifier_body files.now))) }
+    ensures items { text.new.items ≡ text.old.items ++ member_text true (codes "files")
+        (array (items_of (map modifier_body files.now))) }
     ensures len { vec_len text.new ≤ vec_len text.old + (9 * length files.now + 36) }
     ensures capacity { vec_capacity text.old ≤ vec_capacity text.new }
 {
@@ -53,7 +55,8 @@ fn put_files(text: &mut Vec<u8>, files: &[u8])
 // With the closing bracket.
 fn put_modifiers(text: &mut Vec<u8>, files: &[u8])
     requires { vec_len text.old + (9 * length files.now + 1) ≤ vec_capacity text.old }
-    ensures items { text.new.items ≡ text.old.items ++ items_text false (items_of (map modifier_body files.now)) }
+    ensures items { text.new.items ≡ text.old.items ++ items_text false
+        (items_of (map modifier_body files.now)) }
     ensures len { vec_len text.new ≤ vec_len text.old + (9 * length files.now + 1) }
     ensures capacity { vec_capacity text.old ≤ vec_capacity text.new }
 {
@@ -67,7 +70,8 @@ fn put_modifiers(text: &mut Vec<u8>, files: &[u8])
 
 fn put_modifier(text: &mut Vec<u8>, later: bool, modifier: u8)
     requires { vec_len text.old + 9 ≤ vec_capacity text.old }
-    ensures items { text.new.items ≡ text.old.items ++ (comma_if later ++ compact_text (modifier_body modifier)) }
+    ensures items { text.new.items ≡ text.old.items ++
+        (comma_if later ++ compact_text (modifier_body modifier)) }
     ensures len { vec_len text.new ≤ vec_len text.old + 9 }
     ensures capacity { vec_capacity text.old ≤ vec_capacity text.new }
 {

@@ -10,7 +10,8 @@ use std::alloc::AllocError;
 
 /// Appends the body of the operator's account.
 pub(crate) fn add_settlement(text: &mut Vec<u8>, settlement: Settlement) -> Result<(), AllocError>
-    ensures { OnOk result (text.new.items ≡ text.old.items ++ compact_text (settlement_body settlement)) }
+    ensures { OnOk result
+        (text.new.items ≡ text.old.items ++ compact_text (settlement_body settlement)) }
 {
     text.reserve(ROW_ROOM)?;
     put(text, b"{");

@@ -35,7 +35,8 @@ pub(crate) fn add_status(text: &mut Vec<u8>, status: DeskStatus) -> Result<(), A
 #[tactic(auto, unfolding(desk_members::specs::Members::member_text))]
 fn put_desk_day(text: &mut Vec<u8>, day: Option<Day>)
     requires { vec_len text.old + 100 ≤ vec_capacity text.old }
-    ensures items { text.new.items ≡ text.old.items ++ member_text true (codes "day") (day_or_null day) }
+    ensures items { text.new.items ≡ text.old.items ++ member_text true (codes "day")
+        (day_or_null day) }
 {
     match day {
         Some(day) => put_text(text, true, b"day", &day.text()),
@@ -57,7 +58,8 @@ impl Row for u8 {
 
 #[tactic(auto, unfolding(desk_members::specs::Members::member_text))]
 fn add_companies(text: &mut Vec<u8>, companies: ListOf<CompanyStatus>) -> Result<(), AllocError>
-    ensures { OnOk result (text.new.items ≡ text.old.items ++ member_text false (codes "companies") (array (items_of (map company_status_body companies)))) }
+    ensures { OnOk result (text.new.items ≡ text.old.items ++ member_text false (codes "companies")
+        (array (items_of (map company_status_body companies)))) }
 {
     text.reserve(ROW_ROOM)?;
     put_key(text, false, b"companies");
@@ -67,7 +69,8 @@ fn add_companies(text: &mut Vec<u8>, companies: ListOf<CompanyStatus>) -> Result
 
 // With the closing bracket.
 fn add_each(text: &mut Vec<u8>, companies: EmptyingList<CompanyStatus>) -> Result<(), AllocError>
-    ensures { OnOk result (text.new.items ≡ text.old.items ++ items_text false (items_of (map company_status_body companies))) }
+    ensures { OnOk result (text.new.items ≡ text.old.items ++ items_text false
+        (items_of (map company_status_body companies))) }
 {
     let mut left = companies;
     let mut later = false;
@@ -84,7 +87,8 @@ fn add_company_behind(
     later: bool,
     company: CompanyStatus,
 ) -> Result<(), AllocError>
-    ensures { OnOk result (text.new.items ≡ text.old.items ++ (comma_if later ++ compact_text (company_status_body company))) }
+    ensures { OnOk result (text.new.items ≡ text.old.items ++
+        (comma_if later ++ compact_text (company_status_body company))) }
 {
     text.reserve(ROW_ROOM)?;
     put_comma(text, later);
@@ -92,7 +96,8 @@ fn add_company_behind(
 }
 
 fn add_company(text: &mut Vec<u8>, company: CompanyStatus) -> Result<(), AllocError>
-    ensures { OnOk result (text.new.items ≡ text.old.items ++ compact_text (company_status_body company)) }
+    ensures { OnOk result
+        (text.new.items ≡ text.old.items ++ compact_text (company_status_body company)) }
 {
     text.push(b'{')?;
     add_list(text, false, b"due", company.due)?;
@@ -109,7 +114,8 @@ fn add_company(text: &mut Vec<u8>, company: CompanyStatus) -> Result<(), AllocEr
 #[tactic(auto, unfolding(desk_members::specs::Members::member_text))]
 fn put_held(text: &mut Vec<u8>, held: &Tallies)
     requires { vec_len text.old + 1_024 ≤ vec_capacity text.old }
-    ensures { text.new.items ≡ text.old.items ++ member_text true (codes "held") (tallies_body held.now) }
+    ensures { text.new.items ≡ text.old.items ++ member_text true (codes "held")
+        (tallies_body held.now) }
 {
     put_key(text, true, b"held");
     put_tallies(text, held);
@@ -129,7 +135,8 @@ fn put_tallies(text: &mut Vec<u8>, sums: &Tallies)
 #[tactic(auto, unfolding(desk_members::specs::Members::member_text))]
 fn put_tally(text: &mut Vec<u8>, later: bool, key: &[u8], tally: &Tally)
     requires { vec_len text.old + (6 * length key.now + 372) ≤ vec_capacity text.old }
-    ensures items { text.new.items ≡ text.old.items ++ member_text later key.now (tally_body tally.now) }
+    ensures items { text.new.items ≡ text.old.items ++ member_text later key.now
+        (tally_body tally.now) }
     ensures len { vec_len text.new ≤ vec_len text.old + (6 * length key.now + 372) }
     ensures capacity { vec_capacity text.old ≤ vec_capacity text.new }
 {

@@ -26,7 +26,9 @@ pub(crate) fn company_verdict<S: Store>(
     request: &Request<'_>,
 ) -> Result<Result<Call, MessageFault>, StoreFault>
     ensures before { S.is_clean desk.new → S.is_clean desk.old }
-    ensures read { S.is_clean desk.new → Reads (S.holds desk.old) result (company_path_verdict route (request_value request.now)) (S.holds desk.new) }
+    ensures read { S.is_clean desk.new →
+        Reads (S.holds desk.old) result (company_path_verdict route (request_value request.now))
+        (S.holds desk.new) }
     ensures left { S.is_clean desk.new → LeavesRead (S.may_leave desk.old) (S.may_leave desk.new) }
 {
     let Ok(id) = Id::new(piece_of(path_of(request.target), 2)) else {
@@ -52,7 +54,8 @@ fn route_call(
     id: Id,
     request: &Request<'_>,
 ) -> Result<Result<Call, MessageFault>, AllocError>
-    ensures { IfOk result (λ v. v ≡ company_verdict id (request_on route (request_value request.now))) }
+    ensures { IfOk result
+        (λ v. v ≡ company_verdict id (request_on route (request_value request.now))) }
 {
     match route {
         CompanyRoute::Submit => submission_call(alloc, id, &request.body),

@@ -45,7 +45,8 @@ pub(crate) fn retry_call(
 }
 
 pub(crate) fn day_call(alloc: Global, body: &[u8]) -> Result<Result<Call, MessageFault>, AllocError>
-    ensures { IfOk result (λ v. v ≡ with_object (object_of body.now) (λ d. calls.SetDay (text_at field.Day d))) }
+    ensures { IfOk result
+        (λ v. v ≡ with_object (object_of body.now) (λ d. calls.SetDay (text_at field.Day d))) }
 {
     match read_object(alloc, body)? {
         Some(object) => Ok(Ok(Call::SetDay(day_draft(alloc, &object)?))),
@@ -57,7 +58,9 @@ pub(crate) fn company_call(
     alloc: Global,
     body: &[u8],
 ) -> Result<Result<Call, MessageFault>, AllocError>
-    ensures { IfOk result (λ v. v ≡ with_object (object_of body.now) (λ d. calls.PutCompany (company_with_digest d))) }
+    ensures { IfOk result
+        (λ v. v ≡ with_object (object_of body.now)
+        (λ d. calls.PutCompany (company_with_digest d))) }
 {
     match read_object(alloc, body)? {
         Some(object) => Ok(Ok(Call::PutCompany(draft_with_digest(alloc, &object)?))),
@@ -80,7 +83,8 @@ pub(crate) fn limits_call(
     alloc: Global,
     body: &[u8],
 ) -> Result<Result<Call, MessageFault>, AllocError>
-    ensures { IfOk result (λ v. v ≡ with_object (object_of body.now) (λ d. calls.PutLimits (limits_draft_of d))) }
+    ensures { IfOk result
+        (λ v. v ≡ with_object (object_of body.now) (λ d. calls.PutLimits (limits_draft_of d))) }
 {
     match read_object(alloc, body)? {
         Some(object) => Ok(Ok(Call::PutLimits(limits_draft(alloc, &object)?))),
