@@ -1,4 +1,11 @@
 //! A store that keeps lists in memory answers these calls.
+//!
+//! A call that takes no memory always answers. What a read copies takes some, unless there is nothing to
+//! copy; what finds a row by an index may have the index grow.
+ghost use Rattle.std.specs.Prelude.{◌≢◌, [], None, IsOk, OnErr, find};
+ghost use Rattle.desk_book.specs.Steps.{is_file};
+ghost use Rattle.desk_lists.specs.Kept.{rows_in};
+
 use crate::balances::day_sums_of;
 use crate::cut::write_cut;
 use crate::entries::{RowFilter, row_of, rows_passing, state_of, submission_among};
@@ -36,11 +43,15 @@ impl Store for ListStore {
 
     ghost is_clean = { λ _. ⊤ };
 
-    fn identity(&mut self, _alloc: Global) -> Result<Identity, StoreFault> {
+    fn identity(&mut self, _alloc: Global) -> Result<Identity, StoreFault>
+        ensures ok { IsOk result }
+    {
         Ok(self.identity)
     }
 
-    fn key_of(&mut self, _alloc: Global, caller: Caller) -> Result<Option<[u8; 32]>, StoreFault> {
+    fn key_of(&mut self, _alloc: Global, caller: Caller) -> Result<Option<[u8; 32]>, StoreFault>
+        ensures ok { IsOk result }
+    {
         let company = match caller {
             Caller::Operator => return Ok(Some(self.operator_key)),
             Caller::Company(company) => company,
@@ -51,19 +62,27 @@ impl Store for ListStore {
         }
     }
 
-    fn day(&mut self, _alloc: Global) -> Result<Option<RuleDay>, StoreFault> {
+    fn day(&mut self, _alloc: Global) -> Result<Option<RuleDay>, StoreFault>
+        ensures ok { IsOk result }
+    {
         Ok(self.day)
     }
 
-    fn calendar(&mut self, alloc: Global) -> Result<Calendar, StoreFault> {
+    fn calendar(&mut self, alloc: Global) -> Result<Calendar, StoreFault>
+        ensures memory { OnErr result ((rows_in self.old).holidays ≢ []) }
+    {
         Ok(self.holidays.try_clone(alloc)?)
     }
 
-    fn company(&mut self, _alloc: Global, id: Id) -> Result<Option<Company>, StoreFault> {
+    fn company(&mut self, _alloc: Global, id: Id) -> Result<Option<Company>, StoreFault>
+        ensures ok { IsOk result }
+    {
         Ok(company_among(&self.companies, id))
     }
 
-    fn companies(&mut self, alloc: Global) -> Result<Vec<Company>, StoreFault> {
+    fn companies(&mut self, alloc: Global) -> Result<Vec<Company>, StoreFault>
+        ensures memory { OnErr result ((rows_in self.old).companies ≢ []) }
+    {
         Ok(copy_of(alloc, &self.companies)?)
     }
 
@@ -157,11 +176,15 @@ impl Store for ListStore {
         Ok(all_waiting(alloc, &self.companies, kept, index, &places.references)?)
     }
 
-    fn last_sequence(&mut self, _alloc: Global) -> Result<u32, StoreFault> {
+    fn last_sequence(&mut self, _alloc: Global) -> Result<u32, StoreFault>
+        ensures ok { IsOk result }
+    {
         Ok(last_of(&self.sent))
     }
 
-    fn sent_count(&mut self, _alloc: Global) -> Result<u64, StoreFault> {
+    fn sent_count(&mut self, _alloc: Global) -> Result<u64, StoreFault>
+        ensures ok { IsOk result }
+    {
         Ok(self.sent.len() as u64)
     }
 
@@ -175,7 +198,9 @@ impl Store for ListStore {
         Ok(self.settlements.latest(from, to))
     }
 
-    fn files_on(&mut self, _alloc: Global, day: Day) -> Result<u64, StoreFault> {
+    fn files_on(&mut self, _alloc: Global, day: Day) -> Result<u64, StoreFault>
+        ensures ok { IsOk result }
+    {
         Ok(count_on(&self.files, day))
     }
 
@@ -205,11 +230,15 @@ impl Store for ListStore {
         day_sums_of(alloc, &self.postings, account)
     }
 
-    fn suspense(&mut self, alloc: Global) -> Result<Vec<SuspenseRow>, StoreFault> {
+    fn suspense(&mut self, alloc: Global) -> Result<Vec<SuspenseRow>, StoreFault>
+        ensures memory { OnErr result ((rows_in self.old).suspense ≢ []) }
+    {
         Ok(copy_of(alloc, &self.suspense)?)
     }
 
-    fn suspense_count(&mut self, _alloc: Global) -> Result<u64, StoreFault> {
+    fn suspense_count(&mut self, _alloc: Global) -> Result<u64, StoreFault>
+        ensures ok { IsOk result }
+    {
         Ok(self.suspense.len() as u64)
     }
 
@@ -218,20 +247,28 @@ impl Store for ListStore {
         alloc: Global,
         day: Day,
         modifier: u8,
-    ) -> Result<Option<ListOf<u8>>, StoreFault> {
+    ) -> Result<Option<ListOf<u8>>, StoreFault>
+        ensures memory { OnErr result (find (is_file day modifier) (rows_in self.old).files ≢ None) }
+    {
         Ok(text_at(alloc, &self.files, day, modifier)?)
     }
 
-    fn taken(&mut self, _alloc: Global, key: [u8; 21]) -> Result<Option<TakenFile>, StoreFault> {
+    fn taken(&mut self, _alloc: Global, key: [u8; 21]) -> Result<Option<TakenFile>, StoreFault>
+        ensures ok { IsOk result }
+    {
         Ok(taken_file(&self.taken, key))
     }
 
-    fn set_day(&mut self, _alloc: Global, day: RuleDay) -> Result<(), StoreFault> {
+    fn set_day(&mut self, _alloc: Global, day: RuleDay) -> Result<(), StoreFault>
+        ensures ok { IsOk result }
+    {
         self.day = Some(day);
         Ok(())
     }
 
-    fn set_holidays(&mut self, _alloc: Global, holidays: Calendar) -> Result<(), StoreFault> {
+    fn set_holidays(&mut self, _alloc: Global, holidays: Calendar) -> Result<(), StoreFault>
+        ensures ok { IsOk result }
+    {
         self.holidays = holidays;
         Ok(())
     }
@@ -242,12 +279,9 @@ impl Store for ListStore {
         Ok(())
     }
 
-    fn put_limits(
-        &mut self,
-        _alloc: Global,
-        company: Id,
-        limits: Limits,
-    ) -> Result<(), StoreFault> {
+    fn put_limits(&mut self, _alloc: Global, company: Id, limits: Limits) -> Result<(), StoreFault>
+        ensures ok { IsOk result }
+    {
         limit_company(&mut self.companies, company, limits);
         Ok(())
     }

@@ -1,5 +1,5 @@
 //! The lists in memory have returns, changes, lines and files.
-ghost use Rattle.std.specs.Prelude.{◌≡◌, map, filter, find, count_by, option_map, bytes_eq, ◌==◌, IfOk};
+ghost use Rattle.std.specs.Prelude.{◌≡◌, ◌≢◌, None, map, filter, find, count_by, option_map, bytes_eq, ◌==◌, IfOk, OnErr};
 ghost use Rattle.desk_accounts.specs.Balance.{lines_of};
 ghost use Rattle.desk_history.specs.Intake.{has_key};
 ghost use Rattle.desk_book.specs.Steps.{is_file};
@@ -76,14 +76,15 @@ pub(crate) fn count_on(files: &[FileRow], day: Day) -> u64
     count
 }
 
-/// Copies the text of a file.
+/// Copies the text of a file. Where there is no such file it takes no memory.
 pub(crate) fn text_at(
     alloc: Global,
     files: &[FileRow],
     day: Day,
     modifier: u8,
 ) -> Result<Option<ListOf<u8>>, AllocError>
-    ensures { IfOk result (λ text. text ≡ option_map (λ f. f.text) (find (is_file day modifier) files.now)) }
+    ensures text { IfOk result (λ text. text ≡ option_map (λ f. f.text) (find (is_file day modifier) files.now)) }
+    ensures memory { OnErr result (find (is_file day modifier) files.now ≢ None) }
 {
     for file in files {
         if file.day == day && file.modifier == modifier {

@@ -1,5 +1,5 @@
 //! The lists in memory have companies and their submissions.
-ghost use Rattle.std.specs.Prelude.{◌≡◌, find, bytes_eq, ◌&&◌, IfOk};
+ghost use Rattle.std.specs.Prelude.{◌≡◌, ◌≢◌, [], find, bytes_eq, ◌&&◌, IfOk, OnErr};
 ghost use Rattle.desk_history.specs.Operator.{has_id};
 ghost use Rattle.desk_lists.specs.Finds.{rows_for};
 ghost use Rattle.desk_lists.specs.Kept.{row_in};
@@ -23,9 +23,10 @@ pub(crate) fn company_among(companies: &[Company], id: Id) -> Option<Company>
     None
 }
 
-/// Copies a list.
+/// Copies a list. The copy of an empty one takes no memory.
 pub(crate) fn copy_of<T: Copy>(alloc: Global, items: &[T]) -> Result<Vec<T>, AllocError>
-    ensures { IfOk result (λ copy. copy.items ≡ items.now) }
+    ensures copy { IfOk result (λ copy. copy.items ≡ items.now) }
+    ensures memory { OnErr result (items.now ≢ []) }
 {
     let mut copy = Vec::new(alloc);
     copy.extend_from_slice(items)?;
