@@ -18,8 +18,8 @@ use Rattle.desk_records.specs.declared.records.DeskRecord.{DeskRecord}
 use Rattle.desk_setup.specs.Checked.{IsDesk}
 use Rattle.desk_setup.specs.Refusals.{IsDropped, IsUnmade}
 use Rattle.desk_setup.specs.Setup.{HasNewDesk}
-use Rattle.desk_files.specs.FirstVersion.{first_version, first_schema, versioned_row, KeepsFirst}
-use Rattle.desk_files.specs.Migration.{HasMigrated}
+use Rattle.desk_migration.specs.FirstVersion.{first_version, first_schema, versioned_row, KeepsFirst}
+use Rattle.desk_migration.specs.Migration.{HasMigrated}
 use Rattle.desk_setup.specs.Versions.{IsOfVersion}
 use Rattle.desk_setup.specs.declared.fault.OpenFault.{OpenFault}
 use Rattle.desk_files.specs.Opened.{IsFoundIn, IsMadeIn, IsMigratedIn, IsOpenedOn, RefusesIn, UnmadeIn}

@@ -19,8 +19,8 @@ use Rattle.desk_setup.specs.Refusals.{IsDropped, IsUnmade}
 use Rattle.desk_setup.specs.Setup.{HasNewDesk}
 use Rattle.desk_setup.specs.declared.fault.OpenFault.{OpenFault}
 use Rattle.desk_setup.specs.declared.fault.OpenFault.TheVariants.{Unavailable}
-use Rattle.desk_files.specs.FirstVersion.{first_version, versioned_row, KeepsFirst}
-use Rattle.desk_files.specs.Migration.{HasMigrated}
+use Rattle.desk_migration.specs.FirstVersion.{first_version, versioned_row, KeepsFirst}
+use Rattle.desk_migration.specs.Migration.{HasMigrated}
 
 module _ {D : Type 0} {g : Ghosts D} where
   -- it has just been opened, and what is committed is what the files held
