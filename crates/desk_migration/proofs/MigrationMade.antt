@@ -8,6 +8,7 @@ use Rattle.sql_statements.specs.Queries.{Stays}
 use Rattle.sql_statements.specs.Layouts.{Holds}
 use Rattle.sql_statements.specs.Transactions.{Makes, Commits, Leaves}
 use Rattle.desk_book.specs.Book.{Book}
+use Rattle.desk_book.specs.Unauthorized.{UnauthorizedBooks}
 use Rattle.desk_records.specs.Schema.{desk_schema}
 use Rattle.desk_records.specs.TableDefinitions.{numbers_text, authorizations_text}
 use Rattle.desk_records.specs.Layout.{desk_layout, Keeps, Sees}
@@ -17,7 +18,7 @@ use Rattle.desk_migration.specs.Migrated.{migrated}
 use Rattle.desk_migration.specs.Migration.{number_entries_edit, Version, First, Second, migration_layout, migration_edit, migrated_version, IsFirst, IsFirstSeen, HasMigrated, seen_layout, if_seen}
 use Rattle.desk_migration.specs.MigrationTexts.{update_version}
 use Rattle.desk_migration.proofs.AddedTables.{table_added}
-use Rattle.desk_migration.proofs.KeptBooks.{book_kept}
+use Rattle.desk_migration.proofs.KeptBooks.{book_kept, first_kept}
 use Rattle.desk_migration.proofs.NewTables.{creates_numbers, creates_authorizations, numbered_schema, written_numbers, written_authorizations, not_second}
 use Rattle.desk_migration.proofs.SecondTables.{second_tables, desk_stays, version_set, schema_stays, with_no_numbers}
 
@@ -66,8 +67,8 @@ module _ (old mid new : State) (settled : IsTrue old.is_open → old.now ≡ old
   kept_first : HasCleanDisk mid → IsTrue mid.is_open → (b : Book) (k : KeepsFirst old.committed.trees b) → Holds migration_layout mid.now (First (Some k.0))
   kept_first clean is_open b k = began clean is_open (Some k.0) (subst (λ (d : Database). IsFirstStored d.trees k.0) (sym (settled (stays clean is_open).0)) k.1)
 
-  pub has_migrated : HasCleanDisk mid → Commits migration_layout migration_edit mid new → HasMigrated old new
-  has_migrated clean done =
+  pub has_migrated : UnauthorizedBooks → HasCleanDisk mid → Commits migration_layout migration_edit mid new → HasMigrated old new
+  has_migrated law clean done =
       let first = λ (b : Book) (k : KeepsFirst old.committed.trees b). (done.holds (First (Some k.0)) (kept_first clean done.was_open b k)).0 in
       let sees : (b : Book) → KeepsFirst old.committed.trees b → Sees new b = λ b k _. (migrated k.0, first b k, book_kept k.0 b k.2) in
       let keeps : (b : Book) → KeepsFirst old.committed.trees b → (trees : Trees) → new.may_leave trees → Keeps trees b =
@@ -82,7 +83,9 @@ module _ (old mid new : State) (settled : IsTrue old.is_open → old.now ≡ old
         committed = done.committed;
         left = done.left;
         keeps = keeps;
-        stands = λ identity key H stood. record { history = stood.history; sees = sees _ stood.book; keeps = keeps _ stood.book };
+        stands = λ identity key H stood.
+            let kept = first_kept law old.committed.trees identity key H stood.book in
+            record { history = stood.history; sees = sees _ kept; keeps = keeps _ kept };
       }
 
   -- once the commit has begun a crash may leave version 2's tables

@@ -7,6 +7,7 @@ use Rattle.sql_statements.specs.StoredRows.{Stores}
 use Rattle.sql_statements.specs.Books.{keeps}
 use Rattle.sql_statements.specs.Layouts.{Layout}
 use Rattle.desk_book.specs.Book.{Book}
+use Rattle.desk_book.specs.Unauthorized.{AuthorizesNothing}
 use Rattle.desk_store.specs.Rows.{Rows, flat_book}
 use Rattle.desk_records.specs.TableDefinitions.{desk_table, holidays_table, companies_table, submissions_table, entries_table, returns_table, changes_table, postings_table, suspense_table, files_table, taken_table, balances_table}
 use Rattle.desk_records.specs.Beside.{Beside}
@@ -14,6 +15,7 @@ use Rattle.desk_records.specs.Encodes.{Encodes}
 use Rattle.desk_records.specs.KeyOrders.{company_cmp, submission_cmp, entry_cmp, file_cmp, taken_cmp, balance_cmp}
 use Rattle.desk_records.specs.RecordRows.{holiday_row, company_row, submission_row, entry_row, return_row, change_row, posting_row, suspense_row, file_row, taken_row, balance_row}
 use Rattle.desk_records.specs.Tables.{Tables, IsTableOf}
+use Rattle.desk_records.specs.declared.records.AuthorizationRecord.{AuthorizationRecord}
 use Rattle.desk_records.specs.declared.records.NumberRecord.{NumberRecord}
 pub use Rattle.desk_setup.specs.Versions.{first_schema, versioned_row}
 
@@ -40,16 +42,26 @@ pub record IsFirstStored (trees : Trees) (t : Tables) : Type 0 where
 abbrev pub first_layout : Layout
 first_layout = record { Tables = Tables; schema = λ _. first_schema; IsStored = IsFirstStored }
 
--- The tables are those of the flat rows that the book is, all but the two that version 2 adds: no retry was authorized
--- again, and no sequence was used again, so that each sent entry's sequence is its place from 1 among all of them.
-pub record IsFirstBookIn (t : Tables) (b : Book) : Type 0 where
+-- The tables are those of the flat rows that the book is, all but the two that version 2 adds. No sequence was used again,
+-- so each sent entry's sequence is its place from 1 among all of them. Which retries were authorized again they don't tell.
+pub record AreFirstTablesOf (t : Tables) (b : Book) : Type 0 where
   pub rows : Rows
   pub numbers : List NumberRecord
-  pub encodes : Encodes (record t { numbers = numbers; authorizations = [] }) rows
+  pub authorizations : List AuthorizationRecord
+  pub encodes : Encodes (record t { numbers = numbers; authorizations = authorizations }) rows
   pub beside : Beside t rows
   pub unused : All (λ p. p.1.sequence ≡ p.0) (enumerate_from 1 rows.sent)
   pub book : b ≡ flat_book rows
 
+-- Where no retry was authorized again, they tell the book whole.
+pub record IsFirstBookIn (t : Tables) (b : Book) : Type 0 where
+  pub tables : AreFirstTablesOf t b
+  pub unauthorized : AuthorizesNothing b
+
 -- these trees are version 1's tables of the book
+abbrev pub HasFirstTables : Trees → Book → Type 0
+HasFirstTables = keeps first_layout AreFirstTablesOf
+
+-- and they tell it whole
 abbrev pub KeepsFirst : Trees → Book → Type 0
 KeepsFirst = keeps first_layout IsFirstBookIn

@@ -1,5 +1,5 @@
+pub mod FirstHistory
 pub mod FirstVersion
 pub mod Migrated
 pub mod Migration
 pub mod MigrationTexts
-pub mod StruckHistory

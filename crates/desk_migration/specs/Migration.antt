@@ -16,7 +16,7 @@ use Rattle.desk_records.specs.Layout.{Keeps, Sees}
 use Rattle.desk_records.specs.Tables.{Tables, IsStored}
 use Rattle.desk_migration.specs.FirstVersion.{first_schema, IsFirstStored, KeepsFirst}
 use Rattle.desk_migration.specs.Migrated.{migrated, places_of, with_own_number}
-use Rattle.desk_migration.specs.StruckHistory.{FirstStandsFor, StandsStruck}
+use Rattle.desk_migration.specs.FirstHistory.{FirstStandsFor, StandsForFirst}
 
 -- ---- sent entries are numbered
 
@@ -85,7 +85,7 @@ migration_edit = record { after = migrated_version; Tells = IsFirst }
 -- ---- what is then said of the connection
 
 -- The schema was version 1's, and is version 2's. Each book that they kept is seen, is committed, and is all that a
--- crash may leave. What stood for a history stands for it with the key `authorized` struck from the bodies of its retries.
+-- crash may leave. What stood for a history, but for the key `authorized` of its retries, stands for it so.
 pub record HasMigrated (old new : State) : Type 0 where
   pub was_open : IsTrue old.is_open
   pub is_open : IsTrue new.is_open
@@ -96,4 +96,4 @@ pub record HasMigrated (old new : State) : Type 0 where
   pub committed : new.committed ≡ new.now
   pub left : (trees : Trees) → new.may_leave trees → trees ≡ new.now.trees
   pub keeps : (b : Book) → KeepsFirst old.committed.trees b → (trees : Trees) → new.may_leave trees → Keeps trees b
-  pub stands : (identity : Identity) (key : List ℕ) (H : List Pair) → FirstStandsFor old.committed.trees identity key H → StandsStruck new identity key H
+  pub stands : (identity : Identity) (key : List ℕ) (H : List Pair) → FirstStandsFor old.committed.trees identity key H → StandsForFirst new identity key H

@@ -13,6 +13,7 @@ ghost use Rattle.desk_migration.specs.Migration.{migration_layout, migration_edi
 
 use crate::check::check_first;
 use crate::entries::number_entries;
+use desk_book::unauthorized_books;
 use desk_setup::OpenFault;
 use sql_statements::{TransactionBody, commit, execute};
 use sqlite::{Alter, Connection, Error, Transaction};
@@ -47,8 +48,8 @@ impl TransactionBody for Migration {
 /// Makes a desk's tables of version 1 those of version 2, in one transaction: every book that they kept
 /// is kept. A crash leaves the tables of version 1 or those of version 2, whole.
 ///
-/// A desk of version 1 did not read the key `authorized` of a retry. The history that its tables stood
-/// for is the one that they then stand for, with that key struck from the bodies of its retries.
+/// A desk of version 1 did not read the key `authorized` of a retry. What its tables stood for is its
+/// history without that key, in whose book no retry was authorized again: they stand for it afterwards.
 ///
 /// Where there is no table `desk`, or no row in it, it is `OpenFault::NotADesk`. Where its row says
 /// another version it is `OpenFault::WrongVersion`, whatever else the schema is. Every other schema, and
@@ -68,6 +69,7 @@ pub fn migrate<S: Alter>(alloc: Global, conn: &mut Connection<S>) -> Result<(), 
         return Err(OpenFault::Unavailable);
     }
     check_first(alloc, conn)?;
+    unauthorized_books();
     match commit(conn, &Migration) {
         Ok(()) => Ok(()),
         Err(_) => Err(OpenFault::Unavailable),

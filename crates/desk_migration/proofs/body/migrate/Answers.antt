@@ -13,7 +13,7 @@ returns-in-Ok-clause-migrated g c clean =
     let new = state g.S.Store c.commit.new.conn in
     let free : IsTrue c.is_autocommit.result = search rules in
     let before : HasCleanDisk mid = omega (arith, c.commit.ensures.survives.clean, clean) in
-    has_migrated old mid new (c.is_autocommit.ensures.settled free) c.in_ok-check_first.ensures.stays c.in_ok-check_first.ensures.checked before (c.in-Ok.ensures.done clean)
+    has_migrated old mid new (c.is_autocommit.ensures.settled free) c.in_ok-check_first.ensures.stays c.in_ok-check_first.ensures.checked c.unauthorized_books.ensures before (c.in-Ok.ensures.done clean)
 
 pub returns-in-Ok-clause-first : goal.returns-in-Ok-clause-first
 returns-in-Ok-clause-first g c clean =
