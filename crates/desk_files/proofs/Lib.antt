@@ -1,11 +1,1 @@
-mod AddedTables
-mod FirstSchemas
-mod KeptBooks
-mod KeptSchemas
-mod MigrationMade
-mod NewTables
-mod NumberInserts
 mod Openings
-mod OwnNumbers
-mod SecondTables
-mod SentPlaces

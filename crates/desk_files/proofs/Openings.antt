@@ -18,8 +18,9 @@ use Rattle.desk_records.specs.declared.records.DeskRecord.{DeskRecord}
 use Rattle.desk_setup.specs.Checked.{IsDesk}
 use Rattle.desk_setup.specs.Refusals.{IsDropped, IsUnmade}
 use Rattle.desk_setup.specs.Setup.{HasNewDesk}
-use Rattle.desk_files.specs.FirstVersion.{first_version, first_schema, versioned_row, KeepsFirst}
-use Rattle.desk_files.specs.Migration.{HasMigrated}
+use Rattle.desk_migration.specs.FirstHistory.{FirstStandsFor}
+use Rattle.desk_migration.specs.FirstVersion.{first_version, first_schema, versioned_row, KeepsFirst}
+use Rattle.desk_migration.specs.Migration.{HasMigrated}
 use Rattle.desk_setup.specs.Versions.{IsOfVersion}
 use Rattle.desk_setup.specs.declared.fault.OpenFault.{OpenFault}
 use Rattle.desk_files.specs.Opened.{IsFoundIn, IsMadeIn, IsMigratedIn, IsOpenedOn, RefusesIn, UnmadeIn}
@@ -50,6 +51,7 @@ module _ {D : Type 0} {g : Ghosts D} (held : Image) (was : Held (FileStore D g))
         version = λ db n row is_held stored. first_one n (seen_version early db n row is_held desk.was_first stored);
         sees = λ db b is_held keeps. desk.sees b (first db b is_held keeps);
         keeps = λ db b is_held keeps. desk.keeps b (first db b is_held keeps);
+        stands = λ db identity key H is_held stood. desk.stands identity key H (subst (λ (trees : Trees). FirstStandsFor trees identity key H) (sym (early.found.holds db is_held)) stood);
       }
 
   module _ {E : Type 0} where

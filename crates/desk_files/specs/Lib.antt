@@ -1,6 +1,1 @@
-pub mod FirstVersion
-pub mod Migrated
-pub mod Migration
-pub mod MigrationTexts
 pub mod Opened
-pub mod StruckHistory

@@ -10,6 +10,7 @@ use Rattle.sqlite.specs.Start.{FindsIn}
 use Rattle.sqlite.specs.State.{State, HasCleanDisk}
 use Rattle.sql_statements.specs.StoredRows.{Stores}
 use Rattle.desk_book.specs.Book.{Book}
+use Rattle.desk_history.specs.Message.{Pair}
 use Rattle.desk_history.specs.declared.identity.Identity.{Identity}
 use Rattle.desk_records.specs.TableDefinitions.{desk_table}
 use Rattle.desk_records.specs.Layout.{Keeps, Sees}
@@ -19,8 +20,9 @@ use Rattle.desk_setup.specs.Refusals.{IsDropped, IsUnmade}
 use Rattle.desk_setup.specs.Setup.{HasNewDesk}
 use Rattle.desk_setup.specs.declared.fault.OpenFault.{OpenFault}
 use Rattle.desk_setup.specs.declared.fault.OpenFault.TheVariants.{Unavailable}
-use Rattle.desk_files.specs.FirstVersion.{first_version, versioned_row, KeepsFirst}
-use Rattle.desk_files.specs.Migration.{HasMigrated}
+use Rattle.desk_migration.specs.FirstHistory.{FirstStandsFor, StandsForFirst}
+use Rattle.desk_migration.specs.FirstVersion.{first_version, versioned_row, KeepsFirst}
+use Rattle.desk_migration.specs.Migration.{HasMigrated}
 
 module _ {D : Type 0} {g : Ghosts D} where
   -- it has just been opened, and what is committed is what the files held
@@ -42,7 +44,7 @@ module _ {D : Type 0} {g : Ghosts D} where
     pub sees : (db : Trees) (b : Book) → HoldsDatabase held db → Keeps db b → Sees (file_state now) b
 
   -- It was opened on these files, and then version 1's tables became version 2's. The row of the desk said version 1; each
-  -- book that the files kept is seen, and is kept by whatever a crash may leave.
+  -- book that the files kept is seen, and is kept by whatever a crash may leave. What the files stood for is stood for.
   pub record IsMigratedIn (held : Image) (now : Held (FileStore D g)) : Type 0 where
     pub was : Held (FileStore D g)
     pub opened : IsOpenedOn held was
@@ -50,6 +52,7 @@ module _ {D : Type 0} {g : Ghosts D} where
     pub version : (db : Trees) (n : ℕ) (row : DeskRecord) → HoldsDatabase held db → Stores (versioned_row n) (db desk_table.tree) (row ∷ []) → n ≡ first_version
     pub sees : (db : Trees) (b : Book) → HoldsDatabase held db → KeepsFirst db b → Sees (file_state now) b
     pub keeps : (db : Trees) (b : Book) → HoldsDatabase held db → KeepsFirst db b → (trees : Trees) → (file_state now).may_leave trees → Keeps trees b
+    pub stands : (db : Trees) (identity : Identity) (key : List ℕ) (H : List Pair) → HoldsDatabase held db → FirstStandsFor db identity key H → StandsForFirst (file_state now) identity key H
 
 -- It was opened on these files, and refused where a desk of this version was asked for, and then dropped. Nothing had
 -- changed, and what a crash leaves it left before, or is one of these.

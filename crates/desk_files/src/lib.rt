@@ -1,5 +1,5 @@
-//! This crate makes a desk's database file, opens one, and migrates one of version 1, by its path; and it
-//! migrates the tables of version 1 that a connection sees.
+//! This crate makes a desk's database file, opens one, and migrates one of version 1, by its path. It
+//! passes on the migration of the tables that a connection sees.
 //!
 //! A database file `PATH` has its log beside it, in `PATH-wal`: what was written last may stand there
 //! alone, so the two are kept together.
@@ -8,14 +8,13 @@
 mod connect;
 mod found_file;
 mod migrated_file;
-mod migration;
 mod new_file;
 mod presence;
 mod private_file;
 
+pub use desk_migration::migrate;
 pub use desk_setup::OpenFault;
 pub use found_file::open;
 pub use migrated_file::migrate_file;
-pub use migration::migrate;
 pub use new_file::create;
 pub use sqlite::{Connection, FileFrom, FileStore, Start, Unknown, Wary};

@@ -6,13 +6,13 @@ ghost use Rattle.sqlite.specs.State.{HasCleanDisk};
 ghost use Rattle.sqlite_wal.specs.Files.{image_at};
 ghost use Rattle.desk_setup.specs.Refusals.{IsDropped};
 ghost use Rattle.desk_setup.specs.Versions.{IsOfVersion};
-ghost use Rattle.desk_files.specs.FirstVersion.{first_version};
-ghost use Rattle.desk_files.specs.Migration.{HasMigrated};
+ghost use Rattle.desk_migration.specs.FirstVersion.{first_version};
+ghost use Rattle.desk_migration.specs.Migration.{HasMigrated};
 ghost use Rattle.desk_files.specs.Opened.{IsMigratedIn, RefusesIn, leaves_migrated};
 
 use crate::connect::connect;
-use crate::migration::migrate;
 use crate::presence::check_presence;
+use desk_migration::migrate;
 use desk_setup::OpenFault;
 use sqlite::{Alter, Connection, FileFrom, FileStore, Start};
 use std::alloc::Global;

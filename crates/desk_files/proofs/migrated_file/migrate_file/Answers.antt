@@ -1,5 +1,5 @@
 use Rattle.sqlite_wal.specs.Files.{image_at}
-use Rattle.desk_files.specs.FirstVersion.{first_version}
+use Rattle.desk_migration.specs.FirstVersion.{first_version}
 use Rattle.desk_files.specs.Opened.{leaves_migrated}
 use Rattle.desk_files.proofs.Openings.{migrated_in, refused_in}
 use Rattle.desk_files.proofs.migrated_file.migrate_file.Goals as goal

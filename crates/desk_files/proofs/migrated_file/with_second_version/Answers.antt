@@ -1,7 +1,7 @@
 use Rattle.std.proofs.Common.{rules, ◌≡◌, Err, IfErr, sym, subst}
 use Rattle.sqlite.specs.Held.{state}
 use Rattle.desk_setup.specs.Refusals.{IsDropped}
-use Rattle.desk_files.specs.FirstVersion.{first_version}
+use Rattle.desk_migration.specs.FirstVersion.{first_version}
 use Rattle.desk_files.specs.Opened.{leaves_migrated}
 use Rattle.desk_files.proofs.migrated_file.with_second_version.Goals as goal
 

@@ -1,0 +1,10 @@
+mod AddedTables
+mod FirstSchemas
+mod KeptBooks
+mod KeptSchemas
+mod MigrationMade
+mod NewTables
+mod NumberInserts
+mod OwnNumbers
+mod SecondTables
+mod SentPlaces

@@ -1,0 +1,5 @@
+pub mod FirstHistory
+pub mod FirstVersion
+pub mod Migrated
+pub mod Migration
+pub mod MigrationTexts
