@@ -10,6 +10,6 @@ trap 'rm -rf "$work"' EXIT
 cp -R "$top/crates" "$top/crates.txt" "$top/HANDLES" "$work/"
 mkdir -p "$work/crates/desk_bench/src"
 cp "$top/bench/desk/main.rt.txt" "$work/crates/desk_bench/src/main.rt"
-echo "desk_bench: ach_fields ach_records ach_files desk_rules desk_core desk_lists" >>"$work/crates.txt"
+echo "desk_bench: ach_fields ach_records ach_files desk_rules desk_core" >>"$work/crates.txt"
 cd "$work/crates/desk_bench"
 rt run

@@ -10,6 +10,6 @@ trap 'rm -rf "$work"' EXIT
 cp -R "$top/crates" "$top/crates.txt" "$top/HANDLES" "$work/"
 mkdir -p "$work/crates/http_bench/src"
 cp "$top/bench/http/main.rt.txt" "$work/crates/http_bench/src/main.rt"
-echo "http_bench: ach_fields desk_core desk_lists desk_session desk_routes desk_http itoa sha2" >>"$work/crates.txt"
+echo "http_bench: ach_fields desk_core http_session http_routes desk_http itoa sha2" >>"$work/crates.txt"
 (cd "$work/crates/http_bench" && rt run)
 python3 "$top/bench/http/rival.py"

@@ -11,7 +11,7 @@ trap 'rm -rf "$work"' EXIT
 cp -R "$top/crates" "$top/crates.txt" "$top/HANDLES" "$work/"
 mkdir -p "$work/crates/open_bench/src"
 cp "$top/bench/open/main.rt.txt" "$work/crates/open_bench/src/main.rt"
-echo "open_bench: ach_fields bank_days desk_queries desk_setup sqlite" >>"$work/crates.txt"
+echo "open_bench: ach_fields bank_days sql_queries sql_setup sqlite" >>"$work/crates.txt"
 cd "$work/crates/open_bench"
 rt run
 python3 "$top/bench/open/stock.py" "$top/achdesk"

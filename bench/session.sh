@@ -10,6 +10,6 @@ trap 'rm -rf "$work"' EXIT
 cp -R "$top/crates" "$top/crates.txt" "$top/HANDLES" "$work/"
 mkdir -p "$work/crates/session_bench/src"
 cp "$top/bench/session/main.rt.txt" "$work/crates/session_bench/src/main.rt"
-echo "session_bench: desk_message desk_session" >>"$work/crates.txt"
+echo "session_bench: http_message http_session" >>"$work/crates.txt"
 cd "$work/crates/session_bench"
 rt run

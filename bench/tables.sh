@@ -10,6 +10,6 @@ trap 'rm -rf "$work"' EXIT
 cp -R "$top/crates" "$top/crates.txt" "$top/HANDLES" "$work/"
 mkdir -p "$work/crates/tables_bench/src"
 cp "$top/bench/tables/main.rt.txt" "$work/crates/tables_bench/src/main.rt"
-echo "tables_bench: ach_fields ach_records ach_files bank_days desk_accounts desk_rules desk_core desk_tables sqlite" >>"$work/crates.txt"
+echo "tables_bench: ach_fields ach_records ach_files bank_days desk_accounts desk_rules desk_core sql_store sqlite" >>"$work/crates.txt"
 (cd "$work/crates/tables_bench" && rt run -- "$work/first.db" make </dev/null >/dev/null)
 python3 "$top/bench/tables/measure.py" "$work/crates/tables_bench/out/tables_bench" "${1:-5}"

@@ -31,7 +31,7 @@ from pathlib import Path
 from helpers.returned import file_of_returns
 from helpers.running import TOP, Checks, Serving, body_of, built, connect, make_desk, message, plain, program_of, read_answer, rows_of, status_of
 
-LIST_OF_USES = "ach_fields desk_core desk_lists desk_session desk_routes desk_http sha2"
+LIST_OF_USES = "ach_fields desk_core http_session http_routes desk_http sha2"
 FIRST_DAY = datetime.date(2025, 1, 8)
 LARGE, MANY, QUIET = "LARGE01", "MANY01", "QUIET01"  # in the order in which a cut takes them
 KEY = "a-company-key"

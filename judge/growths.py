@@ -21,7 +21,7 @@ from helpers.answered_days import DAYS, KEYS
 from helpers.running import TOP, built
 
 HERE = TOP / "judge" / "growths"
-USES = "ach_fields desk_core desk_lists desk_tables desk_session desk_routes desk_http sha2"
+USES = "ach_fields desk_core sql_store http_session http_routes desk_http sha2"
 
 # what each status of the program says
 TOLD = {100: "before the desk was made", 1: "were answered 503 once", 0: "were not needed"}

@@ -2,7 +2,7 @@
 """Sends every example of docs/openapi.yaml to the desk: `python3 judge/openapi.py [PROGRAM..]`.
 
 `PROGRAM stdio`, which is ./achdesk where none is given, answers each script of the page with a new desk, and each
-answer has to be that of the page, to the byte. Its paths have to be those of the routes in crates/desk_routes,
+answer has to be that of the page, to the byte. Its paths have to be those of the routes in crates/http_routes,
 and its refusals and faults those of docs/BODIES.md, each with an example that is sent or with the reason why none
 can be. Then the schemas are judged: a body is a bad field to the desk exactly where it does not fit its schema.
 
@@ -130,7 +130,7 @@ def closed_answers(page):
 
 
 def differing_routes(page):
-    source = (TOP / "crates/desk_routes/src/routes.rt").read_text()
+    source = (TOP / "crates/http_routes/src/routes.rt").read_text()
     routes = {(method.upper(), path) for method, path in re.findall(r'\b(Get|Post) "(/[^"]*)" =>', source)}
     shown = {(it.method, it.path) for it in page.operations.values()}
     return [f"{method} {path} is in one of the two alone" for method, path in sorted(routes ^ shown)]
@@ -295,7 +295,7 @@ def judge_page(page, report):
         report.tell(f"page: OpenAPI {page.tree['openapi']}, {len(page.operations)} operations", faults_of_page(page))
         report.tell("schemas: each example fits, but for bodies with a bad field", list(misfits(page)))
         report.tell("schemas: an answer with members more fits", list(closed_answers(page)))
-    report.tell("routes: those of crates/desk_routes", differing_routes(page))
+    report.tell("routes: those of crates/http_routes", differing_routes(page))
 
 
 def judge_names(page, report):

@@ -2,13 +2,13 @@
 use Rattle.std.proofs.Common.{◌≡◌, ◌⊎◌, ℕ, Bool, false, List, codes, Option, Some, None, IfSome, MatchOption, inl, inr, sym, ap, ◌∙◌, subst}
 use Rattle.io_retries.specs.Prefixes.{AppendsPrefix}
 use Rattle.desk_history.specs.declared.identity.Identity.{Identity}
-use Rattle.desk_setup.specs.declared.fault.OpenFault.{OpenFault}
-use Rattle.desk_setup.specs.declared.fault.OpenFault.TheVariants.{Exists, Unavailable}
-use Rattle.desk_command_line.specs.InitOptions.{InitTexts}
+use Rattle.sql_setup.specs.declared.fault.OpenFault.{OpenFault}
+use Rattle.sql_setup.specs.declared.fault.OpenFault.TheVariants.{Exists, Unavailable}
+use Rattle.cli_words.specs.InitOptions.{InitTexts}
 use Rattle.desk_cli.specs.InitRuns.{AreGood, FailsToSayUncreated}
 use Rattle.desk_cli.specs.NewDesks.{FailsAs, IsMade}
 use Rattle.desk_cli.specs.OpenFaults.{fault_text, FailsToSayFault}
-use Rattle.desk_commands.specs.Printing.{with_line_feed}
+use Rattle.cli_commands.specs.Printing.{with_line_feed}
 use Rattle.desk_cli.specs.declared.init_file.InitFault.{InitFault}
 use Rattle.desk_cli.specs.declared.init_file.InitFault.TheVariants.{File}
 

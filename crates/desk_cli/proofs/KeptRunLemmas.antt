@@ -6,18 +6,18 @@ use Rattle.sqlite.specs.Held.{Held}
 use Rattle.sqlite_disk.specs.declared.Disk.{Ghosts}
 use Rattle.sqlite_store.specs.declared.store.FileStore.{FileStore}
 use Rattle.sqlite_wal.specs.Recovery.{Image}
-use Rattle.desk_records.specs.Layout.{Sees}
-use Rattle.desk_bytes.specs.History.{book_behind}
-use Rattle.desk_files.specs.Opened.{IsFoundIn}
-use Rattle.desk_session.specs.declared.sessions.Ended.{Ended}
-use Rattle.desk_session.specs.declared.sessions.SessionFault.{SessionFault}
+use Rattle.sql_tables.specs.Layout.{Sees}
+use Rattle.http_history.specs.History.{book_behind}
+use Rattle.sql_files.specs.Opened.{IsFoundIn}
+use Rattle.http_session.specs.declared.sessions.Ended.{Ended}
+use Rattle.http_session.specs.declared.sessions.SessionFault.{SessionFault}
 use Rattle.desk_http.specs.Answering.{DeskHistory, StandsBehind}
-use Rattle.desk_commands.specs.StoreRuns.{BreaksOffFrom, HasAnsweredFrom, RanFrom}
-use Rattle.desk_command_line.specs.declared.command.Command.{Command}
-use Rattle.desk_command_line.specs.declared.command.Command.TheVariants.{AnswerByFile, AnswerMessages, AnswerSubmission, Check, Init, Migrate, Serve, Submit}
+use Rattle.cli_commands.specs.StoreRuns.{BreaksOffFrom, HasAnsweredFrom, RanFrom}
+use Rattle.cli_words.specs.declared.command.Command.{Command}
+use Rattle.cli_words.specs.declared.command.Command.TheVariants.{AnswerByFile, AnswerMessages, AnswerSubmission, Check, Init, Migrate, Serve, Submit}
 use Rattle.desk_cli.specs.Commands.{CarriesOut, FailsToCarryOut, NoneKnown}
 use Rattle.desk_cli.specs.KeptRuns.{IsKeptIn}
-use Rattle.desk_commands.specs.declared.status.Status.{Status}
+use Rattle.cli_commands.specs.declared.status.Status.{Status}
 
 module _ (clean was_clean : Type 0) (kept stood stands fewer : DeskHistory → Type 0) (before : clean → was_clean)
     (stands_first : clean → (h : DeskHistory) → kept h → stood h) (within : (h : DeskHistory) → stands h → fewer h) where

@@ -2,10 +2,10 @@
 use Rattle.std.proofs.Common.{ℕ, Bool, List, Option, Some, None, IfSome, inl, inr, ap, ◌∙◌, subst, Vec, Global}
 use Rattle.std.specs.Io.KnownBytes.{Appends}
 use Rattle.io_retries.specs.Prefixes.{AppendsPrefix}
-use Rattle.desk_setup.specs.declared.fault.OpenFault.{OpenFault}
+use Rattle.sql_setup.specs.declared.fault.OpenFault.{OpenFault}
 use Rattle.desk_cli.specs.OpenFaults.{IsFaultAnswer, FailsToSayFault, SaysFault}
-use Rattle.desk_commands.specs.Printing.{PrintsLine, PrintsPrefixOf, status_of}
-use Rattle.desk_commands.specs.declared.status.Status.{Status}
+use Rattle.cli_commands.specs.Printing.{PrintsLine, PrintsPrefixOf, status_of}
+use Rattle.cli_commands.specs.declared.status.Status.{Status}
 
 pub says_fault : (fault : OpenFault) (old new : Option (List ℕ)) (given : Option (Bool × Vec ℕ Global)) (status : Status)
     → IfSome given (IsFaultAnswer fault) → PrintsLine old new given status → SaysFault fault old new status

@@ -4,13 +4,13 @@ use Rattle.std.specs.Prelude.{Result, String, Vec}
 use Rattle.std.specs.Option.{option_map_or}
 use Rattle.std.specs.declared.alloc.Global.{Global}
 use Rattle.clap.specs.Words.{Text}
-use Rattle.desk_command_line.specs.CommandLine.{GivesAt, help_topic, spelled_out}
-use Rattle.desk_command_line.specs.declared.command.Command.{Command}
-use Rattle.desk_command_line.specs.declared.command.LineFault.{LineFault}
-use Rattle.desk_command_line.specs.declared.command.LineFault.TheVariants.{Help, Version, Usage, NoMemory}
-use Rattle.desk_commands.specs.ExitCodes.{code_of}
-use Rattle.desk_commands.specs.declared.status.Status.{Status}
-use Rattle.desk_commands.specs.declared.status.Status.TheVariants.{Done, Refused, Failed}
+use Rattle.cli_words.specs.CommandLine.{GivesAt, help_topic, spelled_out}
+use Rattle.cli_words.specs.declared.command.Command.{Command}
+use Rattle.cli_words.specs.declared.command.LineFault.{LineFault}
+use Rattle.cli_words.specs.declared.command.LineFault.TheVariants.{Help, Version, Usage, NoMemory}
+use Rattle.cli_commands.specs.ExitCodes.{code_of}
+use Rattle.cli_commands.specs.declared.status.Status.{Status}
+use Rattle.cli_commands.specs.declared.status.Status.TheVariants.{Done, Refused, Failed}
 use Rattle.desk_cli.specs.Commands.{PrintsLineFault}
 use Rattle.desk_cli.specs.Programs.{DoesRead, RunsStarted}
 

@@ -1,26 +1,26 @@
 -- What each command prints, and how it ends.
 use Rattle.std.specs.Prelude.{◌≡◌, ◌⊎◌, ℕ, List, Option, None, string_bytes}
 use Rattle.std.specs.Io.KnownBytes.{Appends}
-use Rattle.desk_command_line.specs.declared.command.Command.{Command}
-use Rattle.desk_command_line.specs.declared.command.Command.TheVariants.{AnswerByFile, AnswerMessages, AnswerSubmission, Check, Init, Migrate, Serve, Submit}
-use Rattle.desk_command_line.specs.declared.command.LineFault.{LineFault}
-use Rattle.desk_command_line.specs.declared.command.LineFault.TheVariants.{Help, Version, Usage, NoMemory}
-use Rattle.desk_command_line.specs.declared.version_line.TheConstants.{VERSION_LINE}
-use Rattle.desk_submit.specs.Options.{texts_of}
-use Rattle.desk_commands.specs.FileChecks.{HasChecked, IsFailedCheck}
-use Rattle.desk_command_line.specs.InitOptions.{init_texts_of}
+use Rattle.cli_words.specs.declared.command.Command.{Command}
+use Rattle.cli_words.specs.declared.command.Command.TheVariants.{AnswerByFile, AnswerMessages, AnswerSubmission, Check, Init, Migrate, Serve, Submit}
+use Rattle.cli_words.specs.declared.command.LineFault.{LineFault}
+use Rattle.cli_words.specs.declared.command.LineFault.TheVariants.{Help, Version, Usage, NoMemory}
+use Rattle.cli_words.specs.declared.version_line.TheConstants.{VERSION_LINE}
+use Rattle.cli_submit.specs.Options.{texts_of}
+use Rattle.cli_commands.specs.FileChecks.{HasChecked, IsFailedCheck}
+use Rattle.cli_words.specs.InitOptions.{init_texts_of}
 use Rattle.desk_cli.specs.InitRuns.{HasInitialized, IsFailedInit}
-use Rattle.desk_commands.specs.InputRuns.{HasAnswered, IsFailedRun}
+use Rattle.cli_commands.specs.InputRuns.{HasAnswered, IsFailedRun}
 use Rattle.desk_http.specs.Answering.{DeskHistory}
 use Rattle.desk_cli.specs.KeptRuns.{HasAnsweredKept, HasBrokenOffKept}
-use Rattle.desk_commands.specs.ListRuns.{list_answer}
-use Rattle.desk_commands.specs.MessageRuns.{HasAnsweredMessages, HasBrokenOff}
+use Rattle.cli_commands.specs.ListRuns.{list_answer}
+use Rattle.cli_commands.specs.MessageRuns.{HasAnsweredMessages, HasBrokenOff}
 use Rattle.desk_cli.specs.MigrationRuns.{FailsToMigrateFile, HasMigratedFile}
-use Rattle.desk_commands.specs.Printing.{unavailable}
+use Rattle.cli_commands.specs.Printing.{unavailable}
 use Rattle.desk_cli.specs.ServedFiles.{FailsToServeFile, HasServedFile}
 use Rattle.io_retries.specs.Prefixes.{AppendsPrefix}
-use Rattle.desk_commands.specs.SubmissionRuns.{first_run_line}
-use Rattle.desk_commands.specs.declared.status.Status.{Status}
+use Rattle.cli_commands.specs.SubmissionRuns.{first_run_line}
+use Rattle.cli_commands.specs.declared.status.Status.{Status}
 
 -- Of a file of which nothing is known, no history is known whose book it keeps.
 abbrev pub NoneKnown : DeskHistory → Type 0

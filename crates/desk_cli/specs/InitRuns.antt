@@ -2,11 +2,11 @@
 use Rattle.std.specs.Prelude.{◌≡◌, ◌⊎◌, ℕ, Bool, true, false, List, codes, Option, Ok, Err}
 use Rattle.io_retries.specs.Prefixes.{AppendsPrefix}
 use Rattle.desk_history.specs.declared.identity.Identity.{Identity}
-use Rattle.desk_command_line.specs.InitOptions.{InitTexts}
-use Rattle.desk_commands.specs.NewIdentities.{fault_line, identity_of}
-use Rattle.desk_commands.specs.Printing.{unavailable, with_line_feed, PrintsAnswer}
-use Rattle.desk_commands.specs.declared.new_identity.OptionFault.{OptionFault}
-use Rattle.desk_commands.specs.declared.status.Status.{Status}
+use Rattle.cli_words.specs.InitOptions.{InitTexts}
+use Rattle.cli_commands.specs.NewIdentities.{fault_line, identity_of}
+use Rattle.cli_commands.specs.Printing.{unavailable, with_line_feed, PrintsAnswer}
+use Rattle.cli_commands.specs.declared.new_identity.OptionFault.{OptionFault}
+use Rattle.cli_commands.specs.declared.status.Status.{Status}
 
 abbrev pub created_answer : Bool × List ℕ
 created_answer = with_line_feed (true, codes "created")

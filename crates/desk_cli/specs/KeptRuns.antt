@@ -4,11 +4,11 @@ use Rattle.sqlite.specs.Files.{HoldsDatabase}
 use Rattle.sqlite_trees.specs.Tree.{Trees}
 use Rattle.sqlite_trees.specs.View.{doubt}
 use Rattle.sqlite_wal.specs.Recovery.{Image}
-use Rattle.desk_records.specs.Layout.{Keeps}
+use Rattle.sql_tables.specs.Layout.{Keeps}
 use Rattle.desk_http.specs.Answering.{DeskHistory, StandsBehind}
-use Rattle.desk_setup.specs.declared.fault.OpenFault.{OpenFault}
-use Rattle.desk_commands.specs.StoreRuns.{BreaksOffFrom, HasAnsweredFrom}
-use Rattle.desk_commands.specs.declared.status.Status.{Status}
+use Rattle.sql_setup.specs.declared.fault.OpenFault.{OpenFault}
+use Rattle.cli_commands.specs.StoreRuns.{BreaksOffFrom, HasAnsweredFrom}
+use Rattle.cli_commands.specs.declared.status.Status.{Status}
 use Rattle.desk_cli.specs.OpenFaults.{FailsToSayFault, SaysFault}
 
 -- the files kept the book of this history

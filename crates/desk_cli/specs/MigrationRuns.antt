@@ -1,11 +1,11 @@
 -- What a command prints that makes a desk's file of version 1 one of version 2.
 use Rattle.std.specs.Prelude.{◌≢◌, ◌⊎◌, ℕ, Bool, true, List, codes, Option}
 use Rattle.io_retries.specs.Prefixes.{AppendsPrefix}
-use Rattle.desk_setup.specs.declared.fault.OpenFault.{OpenFault}
-use Rattle.desk_setup.specs.declared.fault.OpenFault.TheVariants.{Exists}
+use Rattle.sql_setup.specs.declared.fault.OpenFault.{OpenFault}
+use Rattle.sql_setup.specs.declared.fault.OpenFault.TheVariants.{Exists}
 use Rattle.desk_cli.specs.OpenFaults.{FailsToSayFault, SaysFault}
-use Rattle.desk_commands.specs.Printing.{with_line_feed, PrintsAnswer}
-use Rattle.desk_commands.specs.declared.status.Status.{Status}
+use Rattle.cli_commands.specs.Printing.{with_line_feed, PrintsAnswer}
+use Rattle.cli_commands.specs.declared.status.Status.{Status}
 
 abbrev pub migrated_answer : Bool × List ℕ
 migrated_answer = with_line_feed (true, codes "migrated 1 to 2")

@@ -2,9 +2,9 @@
 use Rattle.std.specs.Prelude.{◌≡◌, ◌⊎◌, ℕ, List, Ok, Err}
 use Rattle.sha2.specs.Sha256.{sha256}
 use Rattle.desk_history.specs.declared.identity.Identity.{Identity}
-use Rattle.desk_setup.specs.declared.fault.OpenFault.TheVariants.{Exists, Unavailable}
-use Rattle.desk_command_line.specs.InitOptions.{InitTexts}
-use Rattle.desk_commands.specs.NewIdentities.{identity_of}
+use Rattle.sql_setup.specs.declared.fault.OpenFault.TheVariants.{Exists, Unavailable}
+use Rattle.cli_words.specs.InitOptions.{InitTexts}
+use Rattle.cli_commands.specs.NewIdentities.{identity_of}
 use Rattle.desk_cli.specs.declared.init_file.InitFault.{InitFault}
 use Rattle.desk_cli.specs.declared.init_file.InitFault.TheVariants.{Bad, File}
 

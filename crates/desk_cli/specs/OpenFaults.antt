@@ -3,11 +3,11 @@ use Rattle.std.specs.Prelude.{◌≡◌, ◌⊎◌, ℕ, Bool, false, List, ◌+
 use Rattle.std.specs.declared.alloc.Global.{Global}
 use Rattle.std.specs.Fmt.{signed_decimal}
 use Rattle.io_retries.specs.Prefixes.{AppendsPrefix}
-use Rattle.desk_setup.specs.declared.fault.OpenFault.{OpenFault}
-use Rattle.desk_setup.specs.declared.fault.OpenFault.TheVariants.{NotADesk, WrongVersion, Unavailable, Exists}
-use Rattle.desk_commands.specs.BodyAnswers.{IsAnswer}
-use Rattle.desk_commands.specs.Printing.{unavailable, with_line_feed, PrintsAnswer}
-use Rattle.desk_commands.specs.declared.status.Status.{Status}
+use Rattle.sql_setup.specs.declared.fault.OpenFault.{OpenFault}
+use Rattle.sql_setup.specs.declared.fault.OpenFault.TheVariants.{NotADesk, WrongVersion, Unavailable, Exists}
+use Rattle.cli_commands.specs.BodyAnswers.{IsAnswer}
+use Rattle.cli_commands.specs.Printing.{unavailable, with_line_feed, PrintsAnswer}
+use Rattle.cli_commands.specs.declared.status.Status.{Status}
 
 -- its line, without its end, where it is a fault of what the file holds
 abbrev pub fault_text : OpenFault → Option (List ℕ)

@@ -8,14 +8,14 @@ use Rattle.std.specs.declared.io.ErrorKind.{ErrorKind}
 use Rattle.std.specs.declared.io.ErrorKind.TheVariants.{InvalidData}
 use Rattle.std.specs.declared.vec.IntoIter.{IntoIter}
 use Rattle.clap.specs.Words.{Text}
-use Rattle.desk_command_line.specs.CommandLine.{GivesAt}
+use Rattle.cli_words.specs.CommandLine.{GivesAt}
 use Rattle.desk_cli.specs.Commands.{CarriesOut, FailsToCarryOut, PrintsLineFault, NoneKnown}
-use Rattle.desk_commands.specs.ExitCodes.{code_of}
-use Rattle.desk_commands.specs.declared.status.Status.{Status}
-use Rattle.desk_commands.specs.declared.status.Status.TheVariants.{Failed}
-use Rattle.desk_command_line.specs.declared.command.Command.{Command}
-use Rattle.desk_command_line.specs.declared.command.LineFault.{LineFault}
-use Rattle.desk_command_line.specs.declared.command.LineFault.TheVariants.{NoMemory, Usage}
+use Rattle.cli_commands.specs.ExitCodes.{code_of}
+use Rattle.cli_commands.specs.declared.status.Status.{Status}
+use Rattle.cli_commands.specs.declared.status.Status.TheVariants.{Failed}
+use Rattle.cli_words.specs.declared.command.Command.{Command}
+use Rattle.cli_words.specs.declared.command.LineFault.{LineFault}
+use Rattle.cli_words.specs.declared.command.LineFault.TheVariants.{NoMemory, Usage}
 
 -- the command was carried out, or failed, and the exit status says which
 abbrev pub RunsCommand : Command → (input old new : Option (List ℕ)) → (code : ℕ) → Type 0

@@ -1,7 +1,7 @@
 -- What a command prints that serves the desk in a file on a port, and whose file is closed as it ends.
 use Rattle.std.specs.Prelude.{◌⊎◌, ℕ, List, Option}
-use Rattle.desk_commands.specs.ServedRuns.{FailsToServe, HasServedConnections}
-use Rattle.desk_commands.specs.declared.status.Status.{Status}
+use Rattle.cli_commands.specs.ServedRuns.{FailsToServe, HasServedConnections}
+use Rattle.cli_commands.specs.declared.status.Status.{Status}
 use Rattle.desk_cli.specs.KeptRuns.{BreaksOffUnopened, SaysUnopened}
 
 abbrev pub HasServedFile : (port : ℕ) → (old new : Option (List ℕ)) → Status → Type 0

@@ -8,12 +8,12 @@ use crate::init_desk::make_desk;
 use crate::kept_session::answer_by_file;
 use crate::migrate_desk::migrate_by_file;
 use crate::served_file::serve_by_file;
-use desk_command_line::{Command, LineFault, VERSION_LINE};
-use desk_commands::{
+use cli_commands::{
     Status, answer_messages, check_path, first_run, print_unavailable, submit_path, write_line,
 };
-use desk_files::{Connection, FileFrom, FileStore, Start, Wary};
+use cli_words::{Command, LineFault, VERSION_LINE};
 use io_retries::Tries;
+use sql_files::{Connection, FileFrom, FileStore, Start, Wary};
 use std::io::{Read, Write};
 
 /// Carries out a command, which reads what it needs of the reader and prints to the writer.

@@ -3,16 +3,16 @@ ghost use Rattle.std.specs.Prelude.{◌≡◌, ◌≢◌, IfSome, MatchOption};
 ghost use Rattle.sqlite.specs.Files.{file_state};
 ghost use Rattle.sqlite.specs.State.{HasCleanDisk};
 ghost use Rattle.sqlite_wal.specs.Files.{image_at};
-ghost use Rattle.desk_files.specs.Opened.{IsMadeIn};
-ghost use Rattle.desk_command_line.specs.InitOptions.{init_texts_of};
+ghost use Rattle.sql_files.specs.Opened.{IsMadeIn};
+ghost use Rattle.cli_words.specs.InitOptions.{init_texts_of};
 ghost use Rattle.desk_cli.specs.NewDesks.{IsMade};
 ghost use Rattle.desk_cli.specs.InitRuns.{SaysCreated, SaysUncreated, FailsToSayCreated, FailsToSayUncreated};
 
 use crate::init_file::{InitFault, new_desk};
 use crate::open_fault::print_open_fault;
-use desk_command_line::InitOptions;
-use desk_commands::{Status, print_line};
-use desk_files::{Connection, FileFrom, FileStore, Start};
+use cli_commands::{Status, print_line};
+use cli_words::InitOptions;
+use sql_files::{Connection, FileFrom, FileStore, Start};
 use std::io::Write;
 
 /// This line is printed of a new desk.

@@ -3,14 +3,14 @@ ghost use Rattle.std.specs.Prelude.{◌≡◌, IfErr, IfOk};
 ghost use Rattle.sqlite.specs.Files.{file_state};
 ghost use Rattle.sqlite.specs.State.{HasCleanDisk};
 ghost use Rattle.sqlite_wal.specs.Files.{image_at};
-ghost use Rattle.desk_files.specs.Opened.{IsMadeIn};
-ghost use Rattle.desk_command_line.specs.InitOptions.{init_texts_of};
+ghost use Rattle.sql_files.specs.Opened.{IsMadeIn};
+ghost use Rattle.cli_words.specs.InitOptions.{init_texts_of};
 ghost use Rattle.desk_cli.specs.NewDesks.{FailsAs, IsMade};
 
-use desk_command_line::InitOptions;
-use desk_commands::{OptionFault, identity_of};
-use desk_files::{Connection, FileFrom, FileStore, OpenFault, Start};
+use cli_commands::{OptionFault, identity_of};
+use cli_words::InitOptions;
 use sha2::{Digest, Sha256};
+use sql_files::{Connection, FileFrom, FileStore, OpenFault, Start};
 
 /// A fault says why there is no new desk.
 #[derive(Clone, Copy, Debug, PartialEq, Eq)]
@@ -38,7 +38,7 @@ pub fn new_desk<S: Start>(
         Err(fault) => return Err(InitFault::Bad(fault)),
     };
     let key = Sha256::digest(options.key.as_bytes());
-    match desk_files::create(rt, path, start, identity, key) {
+    match sql_files::create(rt, path, start, identity, key) {
         Ok(conn) => Ok(conn),
         Err(fault) => Err(InitFault::File(fault)),
     }

@@ -4,15 +4,15 @@ ghost use Rattle.sqlite.specs.Files.{file_state};
 ghost use Rattle.sqlite.specs.Held.{state};
 ghost use Rattle.sqlite.specs.State.{HasCleanDisk};
 ghost use Rattle.sqlite_wal.specs.Files.{image_at};
-ghost use Rattle.desk_records.specs.Layout.{Sees};
+ghost use Rattle.sql_tables.specs.Layout.{Sees};
 ghost use Rattle.desk_http.specs.Answering.{StandsBehind};
-ghost use Rattle.desk_commands.specs.StoreRuns.{BreaksOffFrom, HasAnsweredFrom};
+ghost use Rattle.cli_commands.specs.StoreRuns.{BreaksOffFrom, HasAnsweredFrom};
 ghost use Rattle.desk_cli.specs.KeptRuns.{IsKeptIn, BreaksOffUnopened, SaysUnopened};
 
 use crate::open_fault::print_open_fault;
-use desk_commands::{Status, answer_remembering};
-use desk_files::{FileFrom, FileStore, Start};
-use desk_tables::SqlStore;
+use cli_commands::{Status, answer_remembering};
+use sql_files::{FileFrom, FileStore, Start};
+use sql_store::SqlStore;
 use sqlite::{Alter, Connection};
 use std::alloc::Global;
 use std::io::{Read, Write};
@@ -42,7 +42,7 @@ pub fn answer_by_file<S: Start, R: Read + Drop, W: Write>(
         (λ c. BreaksOffFrom (HasCleanDisk (file_state c)) (IsKeptIn (image_at S.Start)) (StandsBehind (Sees (file_state c)))
         (R.remaining reader) (W.contents writer.old) (W.contents writer.new)) }
 {
-    match desk_files::open(rt, path, start) {
+    match sql_files::open(rt, path, start) {
         Ok(conn) => {
             let (status, conn) = answer_by_tables(rt.alloc(), conn, reader, writer);
             (status, Some(conn))

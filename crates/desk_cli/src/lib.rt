@@ -12,12 +12,10 @@ mod open_fault;
 mod program;
 mod served_file;
 
-pub use desk_command_line::{
-    Command, InitOptions, LineFault, ServeOptions, VERSION_LINE, command_of,
-};
-pub use desk_commands::{
+pub use cli_commands::{
     NoMemory, Status, answer_messages, check_file, first_run, submission_answer, submit_list,
 };
+pub use cli_words::{Command, InitOptions, LineFault, ServeOptions, VERSION_LINE, command_of};
 pub use dispatch::{print_line_fault, run, run_from};
 pub use init_desk::make_desk;
 pub use kept_session::answer_by_file;

@@ -3,12 +3,12 @@ ghost use Rattle.std.specs.Prelude.{◌≡◌, ◌≢◌, IfSome, MatchOption};
 ghost use Rattle.sqlite.specs.Files.{file_state};
 ghost use Rattle.sqlite.specs.State.{HasCleanDisk};
 ghost use Rattle.sqlite_wal.specs.Files.{image_at};
-ghost use Rattle.desk_files.specs.Opened.{IsMigratedIn};
+ghost use Rattle.sql_files.specs.Opened.{IsMigratedIn};
 ghost use Rattle.desk_cli.specs.MigrationRuns.{SaysMigrated, SaysUnmigrated, FailsToSayMigrated, FailsToSayUnmigrated};
 
 use crate::open_fault::print_open_fault;
-use desk_commands::{Status, print_line};
-use desk_files::{FileFrom, FileStore, Start, migrate_file};
+use cli_commands::{Status, print_line};
+use sql_files::{FileFrom, FileStore, Start, migrate_file};
 use sqlite::Connection;
 use std::io::Write;
 

@@ -2,9 +2,9 @@
 ghost use Rattle.std.specs.Prelude.{◌≡◌, ◌≢◌, IfOk, IfSome, Some, string_bytes};
 ghost use Rattle.desk_cli.specs.OpenFaults.{fault_text, IsFaultAnswer, SaysFault, FailsToSayFault};
 
-use desk_commands::{Status, end_line, print_answer};
-use desk_files::OpenFault;
+use cli_commands::{Status, end_line, print_answer};
 use io_retries::Tries;
+use sql_files::OpenFault;
 use std::alloc::{AllocError, Global};
 use std::io::Write;
 

@@ -4,7 +4,7 @@ ghost use Rattle.std.specs.Vec.Iter.{into_iter_items};
 ghost use Rattle.desk_cli.specs.Programs.{GivesStarted, IsNotTextFault, RunsStarted, RunsWords};
 
 use crate::dispatch::{print_line_fault, run};
-use desk_command_line::{LineFault, command_of};
+use cli_words::{LineFault, command_of};
 use std::alloc::{AllocError, Global};
 use std::env::Args;
 use std::io::{ErrorKind, Read, Write};

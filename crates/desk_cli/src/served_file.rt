@@ -4,17 +4,17 @@ ghost use Rattle.sqlite.specs.Files.{file_state};
 ghost use Rattle.sqlite.specs.Held.{state};
 ghost use Rattle.sqlite.specs.State.{HasCleanDisk};
 ghost use Rattle.sqlite_wal.specs.Files.{image_at};
-ghost use Rattle.desk_records.specs.Layout.{Sees};
-ghost use Rattle.desk_server.specs.Serving.{HasServed};
+ghost use Rattle.sql_tables.specs.Layout.{Sees};
+ghost use Rattle.http_session.specs.Serving.{HasServed};
 ghost use Rattle.desk_http.specs.Answering.{IsAnswered, StandsBehind};
-ghost use Rattle.desk_commands.specs.ServedRuns.{HasServedConnections, FailsToServe};
+ghost use Rattle.cli_commands.specs.ServedRuns.{HasServedConnections, FailsToServe};
 ghost use Rattle.desk_cli.specs.KeptRuns.{BreaksOffUnopened, IsKeptIn, SaysUnopened};
 
 use crate::open_fault::print_open_fault;
-use desk_command_line::ServeOptions;
-use desk_commands::{Status, serve_remembering};
-use desk_files::{FileFrom, FileStore, Start};
-use desk_tables::SqlStore;
+use cli_commands::{Status, serve_remembering};
+use cli_words::ServeOptions;
+use sql_files::{FileFrom, FileStore, Start};
+use sql_store::SqlStore;
 use sqlite::{Alter, Connection};
 use std::io::Write;
 
@@ -43,7 +43,7 @@ pub fn serve_by_file<S: Start, W: Write>(
         (BreaksOffUnopened (W.contents writer.old) (W.contents writer.new))
         (λ _. FailsToServe options.port (W.contents writer.old) (W.contents writer.new)) }
 {
-    match desk_files::open(rt, path, start) {
+    match sql_files::open(rt, path, start) {
         Ok(conn) => {
             let (status, conn) = serve_by_tables(rt, conn, options, writer);
             (status, Some(conn))

@@ -1,26 +1,18 @@
-//! This crate is the desk: its calls and their answers, over any store.
+//! This crate has the names under which a desk is built on: its calls and their answers, over any store,
+//! and the two stores in memory, of which the one refuses a call, for tests.
 //!
-//! What the desk means stands in `desk_history`, what it keeps in `desk_store`, and what its book
-//! tells in `desk_book`; their public names are this crate's too.
+//! What the desk means stands in `desk_history`, what it keeps in `desk_store`, what its book tells in
+//! `desk_book`, and how it answers in `desk_calls`. No crate of the desk stands on this one, so that none
+//! waits for what it does not use.
 #![tactic(auto)]
 
-mod allow;
-mod company;
-mod desk;
-mod guards;
-mod laws;
-mod operator;
-mod refuse;
-mod respond;
-mod retry;
-
-pub use desk::Desk;
 pub use desk_book::{
     Caller, ChangedRow, FileRow, HeldSubmission, LapsedRow, ReturnedRow, ReturnsAndChanges, Row,
     SentRow, book_tells, entries_of_cuts, reads_leave, row_steps, rows_of_part, steps_of_messages,
     steps_of_operator, tells_cut, tells_intake, tells_operator, tells_replies, tells_status,
     twice_acts_once, verdicts_on_rows,
 };
+pub use desk_calls::{Desk, crashes_leave, desk_alone, two_desks};
 pub use desk_cut::{CutFault, CutPlan, NumberedCut, company_status, number_cut, plan_cut};
 pub use desk_history::{
     Answer, Call, CallRefusal, ChangeRow, CompanyStatus, CutSummary, DayRates, DaySum, DeskStatus,
@@ -34,4 +26,5 @@ pub use desk_history::{
 pub use desk_intake::{FoundItem, IntakePlan, NamedEntry, plan_intake};
 pub use desk_plan::{NumberFault, plan_numbers};
 pub use desk_store::{CutRows, IntakeRows, Store, StoreFault};
-pub use laws::{crashes_leave, desk_alone, two_desks};
+pub use faulty_store::FaultyStore;
+pub use memory_store::ListStore;

@@ -13,16 +13,16 @@ use Rattle.desk_book.specs.OnMessages.{answer_on, BookTells}
 use Rattle.desk_book.specs.Writes.{is_quiet, is_read, writes_on, ReadsLeave}
 use Rattle.desk_store.specs.declared.store.StoreFault.{StoreFault}
 use Rattle.desk_store.specs.Words.{LeavesRead}
-use Rattle.desk_response.specs.Response.{response_text}
-use Rattle.desk_bodies.specs.declared.statuses.CallKind.{CallKind}
-use Rattle.desk_bodies.specs.Answers.{answer_body, is_command, FitsRoom}
-use Rattle.desk_bodies.specs.Statuses.{kind_of, kind_of_call, status_of, content_of, OneKind}
-use Rattle.desk_core.specs.Answering.{IsLeft}
-use Rattle.desk_core.specs.Applying.{Goes, IsReadCall, LeavesBook, book_after}
-use Rattle.desk_session.specs.declared.answers.Unavailable.{Unavailable}
-use Rattle.desk_bytes.specs.Texts.{call_text}
+use Rattle.http_response.specs.Response.{response_text}
+use Rattle.http_answers.specs.declared.statuses.CallKind.{CallKind}
+use Rattle.http_answers.specs.Answers.{answer_body, is_command, FitsRoom}
+use Rattle.http_answers.specs.Statuses.{kind_of, kind_of_call, status_of, content_of, OneKind}
+use Rattle.desk_calls.specs.Answering.{IsLeft}
+use Rattle.desk_calls.specs.Applying.{Goes, IsReadCall, LeavesBook, book_after}
+use Rattle.http_session.specs.declared.answers.Unavailable.{Unavailable}
+use Rattle.http_history.specs.Texts.{call_text}
 use Rattle.desk_http.specs.MadeCalls.{GoesCall, LeavesCall}
-use Rattle.desk_core.proofs.ReadCalls.{read_call}
+use Rattle.desk_calls.proofs.ReadCalls.{read_call}
 use Rattle.desk_http.proofs.Short.{short_on}
 
 -- the bytes of an answer to a call of this kind

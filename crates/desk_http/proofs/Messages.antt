@@ -10,18 +10,18 @@ use Rattle.desk_history.specs.Operator.{answer_to, next_pair}
 use Rattle.desk_book.specs.Book.{Book, book_of}
 use Rattle.desk_book.specs.Writes.{is_read, writes_on}
 use Rattle.desk_store.specs.Words.{LeavesRead}
-use Rattle.desk_core.specs.Answering.{IsLeft}
-use Rattle.desk_core.specs.Applying as calls
-use Rattle.desk_message.specs.Message as messages
-use Rattle.desk_message.specs.Message.{MessageValue}
-use Rattle.desk_session.specs.declared.answers.Unavailable.{Unavailable}
-use Rattle.desk_bodies.specs.declared.faults.MessageFault.{MessageFault}
-use Rattle.desk_bytes.specs.Verdict.{Verdict, verdict_on, Means}
-use Rattle.desk_bytes.specs.Texts.{call_text, fault_text}
-use Rattle.desk_bytes.specs.History.{from_message, Pair, calls_of, text, book_behind}
-use Rattle.desk_bytes.specs.Laws.{OneMeaning, OwnText, CallsAreHistory}
-use Rattle.desk_bytes.proofs.Answered.{right_answer}
-use Rattle.desk_bytes.proofs.Calls.{right_pair, none_pair}
+use Rattle.desk_calls.specs.Answering.{IsLeft}
+use Rattle.desk_calls.specs.Applying as calls
+use Rattle.http_message.specs.Message as messages
+use Rattle.http_message.specs.Message.{MessageValue}
+use Rattle.http_session.specs.declared.answers.Unavailable.{Unavailable}
+use Rattle.http_answers.specs.declared.faults.MessageFault.{MessageFault}
+use Rattle.http_history.specs.Verdict.{Verdict, verdict_on, Means}
+use Rattle.http_history.specs.Texts.{call_text, fault_text}
+use Rattle.http_history.specs.History.{from_message, Pair, calls_of, text, book_behind}
+use Rattle.http_history.specs.Laws.{OneMeaning, OwnText, CallsAreHistory}
+use Rattle.http_history.proofs.Answered.{right_answer}
+use Rattle.http_history.proofs.Calls.{right_pair, none_pair}
 use Rattle.desk_http.specs.MadeCalls as made_calls
 use Rattle.desk_http.specs.MadeCalls.{GoesCall, LeavesCall}
 use Rattle.desk_http.specs.Answering.{IsAsked, answered_pair, GoesOn, GoesBytes, RepliesBytes, LeavesOn, LeavesBytes}

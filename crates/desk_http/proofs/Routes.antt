@@ -3,12 +3,12 @@ use Rattle.std.proofs.Common.{◌≡◌, ℕ, List, Bool, true, false, ◌<◌, 
 use Rattle.std.specs.Prelude.{All, Result, Err, if◌then◌else◌}
 use Rattle.std.specs.Str.{IsUtf8, is_utf8}
 use Rattle.std.proofs.lemmas.Str.{IsUtf8-from_is_utf8, is_utf8-from_IsUtf8}
-use Rattle.desk_routes.specs.declared.route.Route.{Route}
-use Rattle.desk_routes.specs.declared.routes.RouteFault.{RouteFault}
-use Rattle.desk_routes.specs.declared.routes.RouteFault.TheVariants.{NotFound}
-use Rattle.desk_routes.specs.Finding.{route_at, route_verdict}
-use Rattle.desk_routes.specs.Pieces.{FoundByPieces, service_at}
-use Rattle.desk_bytes.specs.Addressee.{route_of_path}
+use Rattle.http_routes.specs.declared.route.Route.{Route}
+use Rattle.http_routes.specs.declared.routes.RouteFault.{RouteFault}
+use Rattle.http_routes.specs.declared.routes.RouteFault.TheVariants.{NotFound}
+use Rattle.http_routes.specs.Finding.{route_at, route_verdict}
+use Rattle.http_routes.specs.Pieces.{FoundByPieces, service_at}
+use Rattle.http_history.specs.Addressee.{route_of_path}
 
 not_both : {b : Bool} → b ≡ true → b ≡ false → ⊥
 not_both is other = cc

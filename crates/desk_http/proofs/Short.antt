@@ -25,7 +25,7 @@ use Rattle.desk_book.specs.OnIntake.{Taking, New, Again, Refused, taking, taking
 use Rattle.desk_book.specs.OnMessages.{answer_on}
 use Rattle.desk_book.specs.OnOperator.{new_day, new_company, new_limits, done_as}
 use Rattle.desk_book.specs.Standing.{submission_row, retry_row}
-use Rattle.desk_bodies.specs.Answers.{IsShort, FitsRoom}
+use Rattle.http_answers.specs.Answers.{IsShort, FitsRoom}
 
 bind_short : {A : Type 0} (r : Result A rules.Refusal) (f : A → Result Outcome rules.Refusal) → ((x : A) → FitsRoom (answer_of (f x))) → FitsRoom (answer_of (r >>= f))
 bind_short (Ok x) f short = short x

@@ -3,12 +3,12 @@ use Rattle.std.proofs.Common.{ℕ, ◌∷◌, refl}
 use Rattle.std.specs.Prelude.{Ok, Err, Result, Vec}
 use Rattle.std.specs.declared.alloc.Global.{Global}
 use Rattle.desk_book.specs.Book.{Book}
-use Rattle.desk_message.specs.Message.{MessageValue}
-use Rattle.desk_session.specs.declared.answers.Unavailable.{Unavailable}
-use Rattle.desk_session.specs.Exchanges.{Answered}
-use Rattle.desk_bytes.specs.Verdict.{verdict_on}
-use Rattle.desk_bytes.specs.History.{book_behind}
-use Rattle.desk_bytes.specs.Laws.{OneMeaning}
+use Rattle.http_message.specs.Message.{MessageValue}
+use Rattle.http_session.specs.declared.answers.Unavailable.{Unavailable}
+use Rattle.http_session.specs.Exchanges.{Answered}
+use Rattle.http_history.specs.Verdict.{verdict_on}
+use Rattle.http_history.specs.History.{book_behind}
+use Rattle.http_history.specs.Laws.{OneMeaning}
 use Rattle.desk_http.specs.Answering.{answered_pair, GoesBytes, DeskHistory, StandsBehind, IsAnswered}
 
 pub step : OneMeaning → (old new : Book → Type 0) (v : MessageValue) (result : Result (Vec ℕ Global) Unavailable) → GoesBytes old v result new

@@ -1,15 +1,15 @@
 -- To whom a request goes, as the program tells it step by step.
 use Rattle.std.specs.Prelude.{Result, Ok, Err}
-use Rattle.desk_message.specs.Message.{RequestValue}
-use Rattle.desk_routes.specs.declared.route.CompanyRoute.{CompanyRoute}
-use Rattle.desk_routes.specs.declared.route.Route.{Route}
-use Rattle.desk_routes.specs.Finding.{piece_of}
+use Rattle.http_message.specs.Message.{RequestValue}
+use Rattle.http_routes.specs.declared.route.CompanyRoute.{CompanyRoute}
+use Rattle.http_routes.specs.declared.route.Route.{Route}
+use Rattle.http_routes.specs.Finding.{piece_of}
 use Rattle.desk_book.specs.declared.caller.Caller.TheVariants as callers
 use Rattle.desk_book.specs.Book.{Book}
 use Rattle.desk_book.specs.Reads.{key_of}
-use Rattle.desk_bodies.specs.declared.faults.MessageFault.{MessageFault}
-use Rattle.desk_bytes.specs.Addressee.{Addressee, to_nobody, addressee_by_route, request_path}
-use Rattle.desk_bytes.specs.Verdict.{Verdict, company_verdict, company_request}
+use Rattle.http_answers.specs.declared.faults.MessageFault.{MessageFault}
+use Rattle.http_history.specs.Addressee.{Addressee, to_nobody, addressee_by_route, request_path}
+use Rattle.http_history.specs.Verdict.{Verdict, company_verdict, company_request}
 
 -- the addressee of a request with this route, or with the fault that its head alone tells
 abbrev pub addressee_with : RequestValue → Result Route MessageFault → Addressee

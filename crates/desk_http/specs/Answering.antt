@@ -5,13 +5,13 @@ use Rattle.desk_history.specs.declared.identity.Identity.{Identity}
 use Rattle.desk_history.specs.Message.{Message}
 use Rattle.desk_book.specs.Book.{Book}
 use Rattle.desk_book.specs.Writes.{is_read, writes_on}
-use Rattle.desk_core.specs.Answering.{IsLeft}
-use Rattle.desk_message.specs.Message.{MessageValue}
-use Rattle.desk_session.specs.declared.answers.Unavailable.{Unavailable}
-use Rattle.desk_bytes.specs.Verdict.{verdict_on, Means}
-use Rattle.desk_bytes.specs.History.{from_message, Pair, text, book_behind, StandsFor}
-use Rattle.desk_bytes.specs.Part.{part}
-use Rattle.desk_bytes.specs.Reply.{reply, IsToCompany}
+use Rattle.desk_calls.specs.Answering.{IsLeft}
+use Rattle.http_message.specs.Message.{MessageValue}
+use Rattle.http_session.specs.declared.answers.Unavailable.{Unavailable}
+use Rattle.http_history.specs.Verdict.{verdict_on, Means}
+use Rattle.http_history.specs.History.{from_message, Pair, text, book_behind, StandsFor}
+use Rattle.http_history.specs.Part.{part}
+use Rattle.http_history.specs.Reply.{reply, IsToCompany}
 
 -- a history over bytes for which the desk stands, and what a message means after it
 pub record IsAsked (holds : Book → Type 0) (identity : Identity) (key : List ℕ) (H : List Pair) (v : MessageValue) (means : Option Message) : Type 0 where

@@ -7,10 +7,10 @@ use Rattle.desk_history.specs.Message.{Message, Pair}
 use Rattle.desk_history.specs.Operator.{answer_to}
 use Rattle.desk_book.specs.Book.{Book, book_of}
 use Rattle.desk_book.specs.Writes.{is_read, writes_on}
-use Rattle.desk_core.specs.Answering.{IsLeft}
-use Rattle.desk_core.specs.Applying.{IsAsked, book_after}
-use Rattle.desk_session.specs.declared.answers.Unavailable.{Unavailable}
-use Rattle.desk_bytes.specs.Texts.{call_text}
+use Rattle.desk_calls.specs.Answering.{IsLeft}
+use Rattle.desk_calls.specs.Applying.{IsAsked, book_after}
+use Rattle.http_session.specs.declared.answers.Unavailable.{Unavailable}
+use Rattle.http_history.specs.Texts.{call_text}
 
 -- The bytes are the text of the definitions' answer, and the store holds the book after the call; or the
 -- desk could not act, and the book is as it was.

@@ -1,14 +1,15 @@
 //! The bytes of the answer to a message.
-ghost use Rattle.desk_message.specs.Message.{message_value};
+ghost use Rattle.http_message.specs.Message.{message_value};
 ghost use Rattle.desk_http.specs.Answering.{GoesBytes, RepliesBytes, LeavesBytes};
 
 use crate::made_calls::carry_out;
 use crate::print::answer_fault;
 use crate::verdict::verdict_of;
-use desk_core::{Desk, Store};
-use desk_message::{Message, closes};
-use desk_routes::Routes;
-use desk_session::Unavailable;
+use desk_calls::Desk;
+use desk_store::Store;
+use http_message::{Message, closes};
+use http_routes::Routes;
+use http_session::Unavailable;
 use std::alloc::Global;
 
 /// Answers a message, with the one call of the desk that it makes: gives the bytes of the answer, from
@@ -39,9 +40,9 @@ pub fn answer<S: Store>(
         LeavesBytes S.keeps (S.holds desk.old) (S.may_leave desk.old) (message_value message.entry)
         result (S.may_leave desk.new) }
 {
-    desk_bytes::one_meaning();
-    desk_bytes::own_text();
-    desk_bytes::calls_are_history();
+    http_history::one_meaning();
+    http_history::own_text();
+    http_history::calls_are_history();
     let closes = closes(&message);
     match verdict_of(alloc, desk, routes, message) {
         Ok(Ok(call)) => carry_out(alloc, desk, call, closes),

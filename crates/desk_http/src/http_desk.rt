@@ -3,10 +3,11 @@ ghost use Rattle.std.specs.Prelude.{◌≡◌};
 ghost use Rattle.desk_http.specs.Answering.{DeskHistory, StandsBehind, IsAnswered};
 
 use crate::answers::answer;
-use desk_core::{Desk, Store};
-use desk_message::Message;
-use desk_routes::Routes;
-use desk_session::{Answers, Unavailable};
+use desk_calls::Desk;
+use desk_store::Store;
+use http_message::Message;
+use http_routes::Routes;
+use http_session::{Answers, Unavailable};
 use std::alloc::Global;
 
 /// An `HttpDesk` is a desk with the routes by which it answers messages.
@@ -43,7 +44,7 @@ impl<S: Store> Answers for HttpDesk<S> {
     ghost step = { IsAnswered };
 
     fn answer(&mut self, alloc: Global, message: Message<'_>) -> Result<Vec<u8>, Unavailable> {
-        desk_bytes::one_meaning();
+        http_history::one_meaning();
         answer(alloc, &mut self.desk, &self.routes, message)
     }
 }

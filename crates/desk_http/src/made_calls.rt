@@ -3,10 +3,12 @@ ghost use Rattle.std.specs.Prelude.{◌≡◌};
 ghost use Rattle.desk_http.specs.MadeCalls.{GoesCall, LeavesCall};
 
 use crate::print::print_answer;
-use desk_bodies::{BODY_ROOM, kind_of_call};
-use desk_core::{Call, Desk, Store};
-use desk_response::take_room;
-use desk_session::Unavailable;
+use desk_calls::Desk;
+use desk_history::Call;
+use desk_store::Store;
+use http_answers::{BODY_ROOM, kind_of_call};
+use http_response::take_room;
+use http_session::Unavailable;
 use std::alloc::Global;
 
 /// Makes the call, and gives the bytes of its answer. Room for what a command did is taken before the
@@ -24,9 +26,9 @@ pub(crate) fn carry_out<S: Store>(
         LeavesCall S.keeps (S.holds desk.old) (S.may_leave desk.old) call result
         (S.may_leave desk.new) }
 {
-    desk_core::book_tells();
-    desk_core::reads_leave();
-    desk_bodies::one_kind();
+    desk_book::book_tells();
+    desk_book::reads_leave();
+    http_answers::one_kind();
     let kind = kind_of_call(&call);
     let Ok(body) = Vec::with_capacity(alloc, BODY_ROOM) else {
         return Err(Unavailable);

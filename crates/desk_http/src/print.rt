@@ -1,18 +1,18 @@
 //! The bytes of answers.
 ghost use Rattle.std.specs.Prelude.{◌≡◌, ◌≤◌, [], true, false, IfOk, IsOk, OnErr, Err, vec_capacity};
-ghost use Rattle.desk_bodies.specs.Answers.{answer_body, is_command, FitsRoom};
-ghost use Rattle.desk_bodies.specs.Statuses.{status_of, content_of};
-ghost use Rattle.desk_response.specs.Response.{response_text};
-ghost use Rattle.desk_bytes.specs.Texts.{fault_text};
+ghost use Rattle.http_answers.specs.Answers.{answer_body, is_command, FitsRoom};
+ghost use Rattle.http_answers.specs.Statuses.{status_of, content_of};
+ghost use Rattle.http_response.specs.Response.{response_text};
+ghost use Rattle.http_history.specs.Texts.{fault_text};
 
-use desk_bodies::{
+use desk_history::{Answer, Outcome};
+use http::StatusCode;
+use http_answers::{
     BODY_ROOM, CallKind, MessageFault, content_of, is_command, message_fault_text, status_of,
     write_answer,
 };
-use desk_core::{Answer, Outcome};
-use desk_response::{Content, ROOM, Response, print_response, put_response, wrap_response};
-use desk_session::Unavailable;
-use http::StatusCode;
+use http_response::{Content, ROOM, Response, print_response, put_response, wrap_response};
+use http_session::Unavailable;
 use std::alloc::{AllocError, Global};
 
 /// Gives the bytes of the answer to a call of this kind. What a command did is printed into the room
@@ -103,7 +103,7 @@ pub(crate) fn answer_fault(
     }
 }
 
-#[tactic(auto, unfolding(desk_bytes::specs::Texts::fault_text))]
+#[tactic(auto, unfolding(http_history::specs::Texts::fault_text))]
 fn print_fault(alloc: Global, fault: MessageFault, closes: bool) -> Result<Vec<u8>, AllocError>
     ensures { IfOk result (λ bytes. bytes.items ≡ fault_text closes (Err fault)) }
 {

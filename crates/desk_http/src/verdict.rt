@@ -1,9 +1,9 @@
 //! What a message comes to: a call of the desk, or a fault.
 ghost use Rattle.std.specs.Prelude.{◌≡◌};
-ghost use Rattle.desk_message.specs.Message.{asked, message_value, request_value};
+ghost use Rattle.http_message.specs.Message.{asked, message_value, request_value};
 ghost use Rattle.desk_store.specs.Words.{Reads, LeavesRead};
-ghost use Rattle.desk_bytes.specs.Addressee.{addressee_of, addressee_by_framing, route_of_path};
-ghost use Rattle.desk_bytes.specs.Verdict.{verdict_on};
+ghost use Rattle.http_history.specs.Addressee.{addressee_of, addressee_by_framing, route_of_path};
+ghost use Rattle.http_history.specs.Verdict.{verdict_on};
 ghost use Rattle.desk_http.specs.Addressing.{addressee_with};
 
 mod company;
@@ -11,10 +11,12 @@ mod object;
 mod operator;
 
 use company::company_verdict;
-use desk_bodies::MessageFault;
-use desk_core::{Call, Desk, Store, StoreFault};
-use desk_message::{Framing, Message, Request, framing_of, path_of};
-use desk_routes::{Route, RouteFault, Routes};
+use desk_calls::Desk;
+use desk_history::Call;
+use desk_store::{Store, StoreFault};
+use http_answers::MessageFault;
+use http_message::{Framing, Message, Request, framing_of, path_of};
+use http_routes::{Route, RouteFault, Routes};
 use operator::operator_verdict;
 use std::alloc::Global;
 
@@ -86,6 +88,6 @@ fn find_route(routes: &Routes, request: &Request<'_>) -> Result<Route, MessageFa
 fn route_of_path(routes: &Routes, method: &[u8], path: &[u8]) -> Result<Route, RouteFault>
     ensures { result ≡ route_of_path method.now path.now }
 {
-    desk_routes::found_by_pieces();
+    http_routes::found_by_pieces();
     routes.find(method, path)
 }

@@ -1,14 +1,14 @@
 //! Bodies. That of a submission is answered as the program answers it; the others are read and checked.
 use crate::commands::add_lines;
 use bank_days::{Calendar, CalendarFault};
+use cli_submit::SubmitOptions;
 use desk_cli::{first_run, submit_list};
-use desk_json::{
-    company_draft, day_draft, fault_text, limits_draft, read_object, refusal_text, retry_draft,
-};
 use desk_rules::{
     Refusal, check_company_fields, check_day_field, check_limits_fields, check_retry_fields,
 };
-use desk_submit::SubmitOptions;
+use http_json::{
+    company_draft, day_draft, fault_text, limits_draft, read_object, refusal_text, retry_draft,
+};
 use serde_json::Value;
 use std::alloc::{AllocError, Global};
 

@@ -1,8 +1,7 @@
 //! The library in use, as docs/USING.md shows it.
 use ach_fields::{FieldFault, Id, Routing};
-use desk_core::{Answer, Call, Desk, Identity, Outcome, PartyName, StoreFault};
-use desk_json::{company_draft, day_draft, read_object, submission_draft};
-use desk_lists::ListStore;
+use desk_core::{Answer, Call, Desk, Identity, ListStore, Outcome, PartyName, StoreFault};
+use http_json::{company_draft, day_draft, read_object, submission_draft};
 use serde_json::Value;
 use std::alloc::{AllocError, Global};
 use std::io;

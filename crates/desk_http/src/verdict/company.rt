@@ -2,18 +2,21 @@
 ghost use Rattle.std.specs.Prelude.{◌≡◌, IfOk};
 ghost use Rattle.std.specs.Result.{result_ok};
 ghost use Rattle.ach_fields.specs.Names.{reference_of};
-ghost use Rattle.desk_message.specs.Message.{request_value};
-ghost use Rattle.desk_routes.specs.Finding.{piece_of};
+ghost use Rattle.http_message.specs.Message.{request_value};
+ghost use Rattle.http_routes.specs.Finding.{piece_of};
 ghost use Rattle.desk_store.specs.Words.{Reads, LeavesRead};
-ghost use Rattle.desk_bytes.specs.Verdict.{company_verdict, request_on, look_up};
+ghost use Rattle.http_history.specs.Verdict.{company_verdict, request_on, look_up};
 ghost use Rattle.desk_http.specs.Addressing.{company_path_verdict};
 
 use super::object::{retry_call, submission_call};
 use ach_fields::{Id, Ref};
-use desk_bodies::MessageFault;
-use desk_core::{Call, Caller, Desk, Store, StoreFault};
-use desk_message::{Request, path_of, value_of};
-use desk_routes::{CompanyRoute, piece_of};
+use desk_book::Caller;
+use desk_calls::Desk;
+use desk_history::Call;
+use desk_store::{Store, StoreFault};
+use http_answers::MessageFault;
+use http_message::{Request, path_of, value_of};
+use http_routes::{CompanyRoute, piece_of};
 use sha2::{Digest, Sha256};
 use std::alloc::{AllocError, Global};
 

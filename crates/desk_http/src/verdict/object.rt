@@ -1,19 +1,19 @@
 //! The calls that the JSON objects of bodies make.
 ghost use Rattle.std.specs.Prelude.{◌≡◌, IfOk};
-ghost use Rattle.desk_json.specs.Drafts.{text_at, limits_draft_of};
-ghost use Rattle.desk_json.specs.Read.{object_of};
+ghost use Rattle.http_json.specs.Drafts.{text_at, limits_draft_of};
+ghost use Rattle.http_json.specs.Read.{object_of};
 ghost use Rattle.desk_rules.specs.declared.refusals.refusal.Field.TheVariants as field;
 ghost use Rattle.serde_json.specs.View.{view};
 ghost use Rattle.desk_history.specs.declared.call.Call.TheVariants as calls;
-ghost use Rattle.desk_bytes.specs.Verdict.{with_object, submission_in, retry_in, company_verdict, company_with_digest};
+ghost use Rattle.http_history.specs.Verdict.{with_object, submission_in, retry_in, company_verdict, company_with_digest};
 
 use ach_fields::Id;
-use desk_bodies::MessageFault;
-use desk_core::Call;
-use desk_json::{
+use desk_history::Call;
+use desk_rules::CompanyDraft;
+use http_answers::MessageFault;
+use http_json::{
     company_draft, day_draft, limits_draft, read_object, retry_draft, submission_draft,
 };
-use desk_rules::CompanyDraft;
 use serde_json::Value;
 use sha2::{Digest, Sha256};
 use std::alloc::{AllocError, Global};

@@ -1,19 +1,22 @@
 //! What the operator asks.
 ghost use Rattle.std.specs.Prelude.{◌≡◌, IfOk};
 ghost use Rattle.bank_days.specs.Day.{day_of};
-ghost use Rattle.desk_routes.specs.Finding.{piece_of};
-ghost use Rattle.desk_message.specs.Message.{request_value};
+ghost use Rattle.http_routes.specs.Finding.{piece_of};
+ghost use Rattle.http_message.specs.Message.{request_value};
 ghost use Rattle.desk_book.specs.declared.caller.Caller.TheVariants as callers;
 ghost use Rattle.desk_book.specs.Reads.{key_of};
 ghost use Rattle.desk_store.specs.Words.{Reads, LeavesRead};
-ghost use Rattle.desk_bytes.specs.Verdict.{operator_verdict, operator_call, file_text};
+ghost use Rattle.http_history.specs.Verdict.{operator_verdict, operator_call, file_text};
 
 use super::object::{company_call, day_call, limits_call};
 use bank_days::Day;
-use desk_bodies::MessageFault;
-use desk_core::{Call, Caller, Desk, ListOf, Store, StoreFault};
-use desk_message::{Request, path_of, value_of};
-use desk_routes::{OperatorRoute, piece_of};
+use desk_book::Caller;
+use desk_calls::Desk;
+use desk_history::{Call, ListOf};
+use desk_store::{Store, StoreFault};
+use http_answers::MessageFault;
+use http_message::{Request, path_of, value_of};
+use http_routes::{OperatorRoute, piece_of};
 use sha2::{Digest, Sha256};
 use std::alloc::{AllocError, Global};
 

@@ -1,10 +1,10 @@
 use Rattle.sqlite.specs.Files.{file_state}
 use Rattle.sqlite.specs.State.{HasCleanDisk}
 use Rattle.sqlite_wal.specs.Files.{image_at}
-use Rattle.desk_records.specs.Layout.{Sees}
-use Rattle.desk_files.specs.Opened.{IsMadeIn}
+use Rattle.sql_tables.specs.Layout.{Sees}
+use Rattle.sql_files.specs.Opened.{IsMadeIn}
 use Rattle.desk_http.specs.Answering.{StandsBehind}
-use Rattle.desk_command_line.specs.InitOptions.{init_texts_of}
+use Rattle.cli_words.specs.InitOptions.{init_texts_of}
 use Rattle.desk_cli.proofs.ClosedFiles.{closed}
 use Rattle.desk_cli.proofs.InitLemmas.{closed_desk}
 use Rattle.desk_cli.proofs.KeptRunLemmas.{closed_answered, closed_broken_off}

@@ -1,4 +1,4 @@
-use Rattle.desk_command_line.specs.InitOptions.{init_texts_of}
+use Rattle.cli_words.specs.InitOptions.{init_texts_of}
 use Rattle.desk_cli.proofs.InitLemmas.{file_is_cut}
 use Rattle.desk_cli.proofs.init_desk.make_desk.Goals as goal
 

@@ -1,7 +1,7 @@
 use Rattle.sqlite.specs.Files.{file_state}
 use Rattle.sqlite.specs.State.{HasCleanDisk}
 use Rattle.sqlite_wal.specs.Files.{image_at}
-use Rattle.desk_records.specs.Layout.{Sees}
+use Rattle.sql_tables.specs.Layout.{Sees}
 use Rattle.desk_http.specs.Answering.{StandsBehind}
 use Rattle.desk_cli.specs.KeptRuns.{IsKeptIn}
 use Rattle.desk_cli.proofs.KeptRunLemmas.{breaks_off_from, has_answered_from, kept_stands}

@@ -1,7 +1,7 @@
 use Rattle.std.proofs.Common.{◌≢◌, List, [], drop, map, Err, subst}
 use Rattle.std.specs.Prelude.{String, string_bytes}
 use Rattle.std.specs.declared.alloc.Global.{Global}
-use Rattle.desk_command_line.specs.declared.command.LineFault.TheVariants.{NoMemory}
+use Rattle.cli_words.specs.declared.command.LineFault.TheVariants.{NoMemory}
 use Rattle.desk_cli.proofs.StartedLemmas.{gives_no_memory, some_mapped}
 use Rattle.desk_cli.proofs.program.run_started.Goals as goal
 

@@ -1,8 +1,8 @@
 use Rattle.std.proofs.Common.{◌≡◌, subst}
 use Rattle.std.specs.Prelude.{Bool, IfOk, Err}
-use Rattle.desk_message.specs.Message.{message_value}
-use Rattle.desk_bytes.specs.Verdict.{Verdict}
-use Rattle.desk_bytes.specs.Texts.{fault_text}
+use Rattle.http_message.specs.Message.{message_value}
+use Rattle.http_history.specs.Verdict.{Verdict}
+use Rattle.http_history.specs.Texts.{fault_text}
 use Rattle.desk_http.specs.MadeCalls.{GoesCall}
 use Rattle.desk_http.proofs.Messages.{IsRead, faulted, made, made_left, replied}
 use Rattle.desk_http.proofs.answers.answer.Goals as goal

@@ -1,4 +1,4 @@
-use Rattle.desk_message.specs.Message.{message_value}
+use Rattle.http_message.specs.Message.{message_value}
 use Rattle.desk_http.proofs.Steps.{step}
 use Rattle.desk_http.proofs.http_desk.HttpDeskAnswers.answer.Goals as goal
 

@@ -1,0 +1,26 @@
+-- What the reader of files has taken when its pieces end, or why they stop.
+use Rattle.std.specs.Prelude.{◌≡◌, ℕ, List, ◌++◌, Option, Result, Ok, Err}
+use Rattle.ach_files.specs.Has.{HasRead}
+use Rattle.ach_files.specs.FirstFault.{fault, Tells}
+use Rattle.ach_files.specs.declared.fault.FileFault.TheVariants.{NoMemory}
+use Rattle.ach_files.specs.declared.reader.Reader.{Reader}
+use Rattle.cli_commands.specs.Inputs.{MayHave}
+use Rattle.cli_commands.specs.declared.file_feed.Stop.{Stop}
+use Rattle.cli_commands.specs.declared.file_feed.Stop.TheVariants.{Failed, Faulty}
+
+-- the fault is that of the bytes, or memory ran out
+abbrev pub StopsBy : (bytes : List ℕ) → Stop → Type 0
+StopsBy bytes Failed = Unit {0}
+StopsBy bytes (Faulty f) = Tells f (fault bytes)
+
+-- the reader stops for a read that failed or for memory, and not for a fault of the file
+abbrev pub GivesUp : Stop → Type 0
+GivesUp Failed = Unit {0}
+GivesUp (Faulty f) = f.kind ≡ NoMemory
+
+-- the reader has taken all that the input had after what it took before, or has stopped at the fault of it all
+abbrev pub HasFed : {A : Type 0} → (input : Option (List ℕ)) → (before after : Reader) → Result A Stop → Type 0
+HasFed input before after (Ok _) =
+    (bytes : List ℕ) → HasRead before bytes → (rest : List ℕ) × MayHave input rest × HasRead after (bytes ++ rest)
+HasFed input before after (Err stop) =
+    (bytes : List ℕ) → HasRead before bytes → (rest : List ℕ) × MayHave input rest × StopsBy (bytes ++ rest) stop

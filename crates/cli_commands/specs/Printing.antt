@@ -1,0 +1,33 @@
+-- What a command prints of its answer, and the status that it ends with.
+use Rattle.std.specs.Prelude.{◌≡◌, Option, None, Some, ℕ, Bool, List, [], ◌∷◌, ◌++◌, if◌then◌else◌, codes, Vec}
+use Rattle.std.specs.declared.alloc.Global.{Global}
+use Rattle.std.specs.Io.KnownBytes.{Appends}
+use Rattle.io_retries.specs.Prefixes.{AppendsPrefix}
+use Rattle.cli_commands.specs.declared.status.Status.{Status}
+use Rattle.cli_commands.specs.declared.status.Status.TheVariants.{Done, Refused}
+
+-- an answer with its line ended
+abbrev pub with_line_feed : (answer : Bool × List ℕ) → Bool × List ℕ
+with_line_feed answer = (answer.0, answer.1 ++ 10 ∷ [])
+
+-- how a command ends that printed its answer
+abbrev pub status_of : (is_accepted : Bool) → Status
+status_of is_accepted = if is_accepted then Done else Refused
+
+-- what is printed where a read failed or memory ran out
+abbrev pub unavailable : List ℕ
+unavailable = codes "unavailable" ++ 10 ∷ []
+
+-- the answer stands after what the writer held, and the command ended as it says
+abbrev pub PrintsAnswer : (old new : Option (List ℕ)) → (answer : Bool × List ℕ) → Status → Type 0
+PrintsAnswer old new answer status = (status ≡ status_of answer.0) × Appends old new answer.1
+
+-- the line that a call gave stands after what the writer held, and the command ended as it says
+abbrev pub PrintsLine : (old new : Option (List ℕ)) → (given : Option (Bool × Vec ℕ Global)) → Status → Type 0
+PrintsLine old new None status = ⊥
+PrintsLine old new (Some given) status = (status ≡ status_of given.0) × Appends old new given.1.items
+
+-- the writer took a prefix of that line, or of `unavailable` where there was none
+abbrev pub PrintsPrefixOf : (old new : Option (List ℕ)) → (given : Option (Bool × Vec ℕ Global)) → Type 0
+PrintsPrefixOf old new None = AppendsPrefix old new unavailable
+PrintsPrefixOf old new (Some given) = AppendsPrefix old new given.1.items

@@ -1,0 +1,59 @@
+//! The command that reads one submission's body and answers it.
+ghost use Rattle.std.specs.Prelude.{◌≡◌, ◌≢◌, IfSome, IfOk};
+ghost use Rattle.cli_commands.specs.BodyAnswers.{IsAnswer};
+ghost use Rattle.cli_commands.specs.InputRuns.{HasAnswered, IsFailedRun, IsInputAnswer};
+ghost use Rattle.cli_commands.specs.SubmissionRuns.{first_run_answer, first_run_line};
+
+use crate::body_answer::{NoMemory, submission_answer};
+use crate::input::{MOST_INPUT, read_input};
+use crate::output::{end_line, print_answer};
+use crate::status::Status;
+use http_json::fault_text;
+use io_retries::Tries;
+use std::alloc::Global;
+use std::io::{Read, Write};
+
+/// Reads a submission's body, and prints its answer as the first order of a desk with no limits.
+///
+/// At most 4,194,304 bytes are read; one more is `{"error":"TooLarge"}`. Where a read fails or memory
+/// runs out, `unavailable` is printed; where a write fails, nothing more is printed.
+pub fn first_run<R: Read + Drop, W: Write>(alloc: Global, reader: R, writer: &mut W) -> Status
+    ensures answered { result ≢ Status.Failed →
+        HasAnswered first_run_line (R.remaining reader) (W.contents writer.old) (W.contents writer.new) result }
+    ensures failed { result ≡ Status.Failed →
+        IsFailedRun first_run_line (R.remaining reader) (W.contents writer.old) (W.contents writer.new) }
+{
+    let (answer, tries) = input_answer(alloc, reader);
+    print_answer(writer, &answer, tries)
+}
+
+// The answer to an input, if it could be had, and the tries that are left.
+fn input_answer<R: Read + Drop>(alloc: Global, reader: R) -> (Option<(bool, Vec<u8>)>, Tries)
+    ensures { IfSome result.0 (IsInputAnswer first_run_line (R.remaining reader)) }
+{
+    let (body, tries) = read_input(alloc, reader);
+    let Some(body) = body else {
+        return (None, tries);
+    };
+    (answer_line(alloc, body.as_slice()), tries)
+}
+
+// Whether a body is accepted, and the line that says so.
+fn answer_line(alloc: Global, body: &[u8]) -> Option<(bool, Vec<u8>)>
+    ensures { IfSome result (IsAnswer (first_run_line body.now)) }
+{
+    match first_run_answer(alloc, body) {
+        Ok((is_accepted, line)) => end_line(is_accepted, line),
+        Err(_) => None,
+    }
+}
+
+fn first_run_answer(alloc: Global, body: &[u8]) -> Result<(bool, Vec<u8>), NoMemory>
+    ensures { IfOk result (IsAnswer (first_run_answer body.now)) }
+{
+    if body.len() as u64 > MOST_INPUT {
+        Ok((false, fault_text(alloc, "TooLarge")?))
+    } else {
+        submission_answer(alloc, body)
+    }
+}

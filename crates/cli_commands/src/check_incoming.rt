@@ -1,0 +1,101 @@
+//! The command that checks an incoming file.
+ghost use Rattle.std.specs.Prelude.{◌≡◌, ◌≢◌, IfSome, IfOk, None, string_bytes};
+ghost use Rattle.cli_commands.specs.BodyAnswers.{IsAnswer};
+ghost use Rattle.cli_commands.specs.FileChecks.{fault_line, counts_line, verdict_answer, IsCheckAnswer, HasChecked, IsFailedCheck};
+ghost use Rattle.cli_commands.specs.Printing.{with_line_feed};
+
+use crate::file_verdict::{Verdict, verdict_of};
+use crate::input::bounded_input;
+use crate::output::{end_line, print_answer, print_unavailable};
+use crate::status::Status;
+use ach_files::{Fault, faults_stand, file_or_fault, long_bytes_have_faults};
+use io_retries::Tries;
+use std::alloc::{AllocError, Global};
+use std::fs::File;
+use std::io::{Read, Write};
+
+/// Reads an incoming file, at most 4,194,305 bytes of it in pieces of at most 65,536, and prints what
+/// it has, as `ok 2 returns 1 changes`, or its first fault, as `BadHash at record 5`.
+///
+/// Where a read fails or memory runs out, `unavailable` is printed; where a write fails, nothing more
+/// is printed.
+pub fn check_file<R: Read + Drop, W: Write>(alloc: Global, reader: R, writer: &mut W) -> Status
+    ensures answered { result ≢ Status.Failed →
+        HasChecked (R.remaining reader) (W.contents writer.old) (W.contents writer.new) result }
+    ensures failed { result ≡ Status.Failed →
+        IsFailedCheck (R.remaining reader) (W.contents writer.old) (W.contents writer.new) }
+{
+    let (answer, tries) = file_answer(alloc, reader);
+    print_answer(writer, &answer, tries)
+}
+
+/// Checks the incoming file at a path. Where it cannot be opened, `unavailable` is printed.
+pub fn check_path<W: Write>(rt: &HostRuntime, path: &str, writer: &mut W) -> Status
+    ensures answered { result ≢ Status.Failed →
+        HasChecked None (W.contents writer.old) (W.contents writer.new) result }
+    ensures failed { result ≡ Status.Failed →
+        IsFailedCheck None (W.contents writer.old) (W.contents writer.new) }
+{
+    match File::open(rt, path) {
+        Ok(file) => check_file(rt.alloc(), file, writer),
+        Err(_) => print_unavailable(writer, Tries::new()),
+    }
+}
+
+// The answer to an input, if it could be had, and the tries that are left.
+fn file_answer<R: Read + Drop>(alloc: Global, reader: R) -> (Option<(bool, Vec<u8>)>, Tries)
+    ensures { IfSome result.0 (IsCheckAnswer (R.remaining reader)) }
+{
+    file_or_fault();
+    faults_stand();
+    long_bytes_have_faults();
+    let mut input = bounded_input(reader);
+    let verdict = verdict_of(alloc, &mut input);
+    let tries = input.into_inner().tries;
+    match verdict {
+        Some(verdict) => (verdict_answer(alloc, &verdict), tries),
+        None => (None, tries),
+    }
+}
+
+fn verdict_answer(alloc: Global, verdict: &Verdict) -> Option<(bool, Vec<u8>)>
+    ensures { IfSome result (IsAnswer (with_line_feed (verdict_answer verdict.now))) }
+{
+    match verdict_text(alloc, verdict) {
+        Ok(text) => end_line(is_fine(verdict), text.into_bytes()),
+        Err(_) => None,
+    }
+}
+
+fn is_fine(verdict: &Verdict) -> bool
+    ensures { result ≡ (verdict_answer verdict.now).0 }
+{
+    match *verdict {
+        Verdict::Fine { .. } => true,
+        Verdict::Faulty(_) => false,
+    }
+}
+
+// The line of a verdict, without its end.
+fn verdict_text(alloc: Global, verdict: &Verdict) -> Result<String, AllocError>
+    ensures { IfOk result (λ line. string_bytes line ≡ (verdict_answer verdict.now).1) }
+{
+    match *verdict {
+        Verdict::Fine { returns, changes } => counts_text(alloc, returns, changes),
+        Verdict::Faulty(fault) => fault_text(alloc, fault),
+    }
+}
+
+fn counts_text(alloc: Global, returns: usize, changes: usize) -> Result<String, AllocError>
+    ensures { IfOk result (λ line. string_bytes line ≡ counts_line returns changes) }
+{
+    format!(in alloc; "ok {returns} returns {changes} changes")
+}
+
+fn fault_text(alloc: Global, fault: Fault) -> Result<String, AllocError>
+    ensures { IfOk result (λ line. string_bytes line ≡ fault_line fault) }
+{
+    let name = fault.kind.name();
+    let at = fault.at;
+    format!(in alloc; "{name} at record {at}")
+}

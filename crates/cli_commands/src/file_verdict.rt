@@ -1,0 +1,108 @@
+//! The verdict on an incoming file.
+ghost use Rattle.std.specs.Prelude.{◌≡◌, IfNone, IfSome, List, ℕ};
+ghost use Rattle.std.specs.Io.Take.{take_remaining};
+ghost use Rattle.ach_files.specs.Has.{HasRead};
+ghost use Rattle.ach_files.specs.FirstFault.{Tells, fault};
+ghost use Rattle.cli_commands.specs.FileChecks.{return_count, change_count, is_change, IsVerdict, IsVerdictOn};
+ghost use Rattle.cli_commands.specs.Feeding.{GivesUp, HasFed, StopsBy};
+
+use crate::file_feed::{Stop, feed_all};
+use ach_files::{Fault, FileFault, ItemFacts, Reader, ReturnOrChange};
+use std::alloc::{AllocError, Global};
+use std::io::{Read, Take};
+
+/// At most so many bytes are read at once.
+const PIECE: usize = 65_536;
+
+/// A verdict says what an incoming file has.
+#[derive(Clone, Copy, Debug, PartialEq, Eq)]
+pub enum Verdict {
+    /// The file has so many returns and changes.
+    Fine { returns: usize, changes: usize },
+    /// The file has this fault.
+    Faulty(Fault),
+}
+
+/// Reads an input to its end, or to the first fault of the file that it should be. It gives `None`
+/// where a read failed or memory ran out.
+pub fn verdict_of<R: Read>(alloc: Global, input: &mut Take<R>) -> Option<Verdict>
+    ensures { IfSome result (IsVerdictOn (take_remaining R.remaining input.old)) }
+{
+    let mut reader = Reader::new(alloc);
+    match feed_input(alloc, input, &mut reader) {
+        Ok(()) => end_verdict(&mut reader),
+        Err(stop) => stop_verdict(stop),
+    }
+}
+
+fn is_change(item: &ItemFacts) -> bool
+    ensures { result ≡ is_change item.now.return_or_change }
+{
+    match item.return_or_change {
+        ReturnOrChange::Return(_) => false,
+        ReturnOrChange::Change(_) => true,
+    }
+}
+
+fn items_verdict(items: &[ItemFacts]) -> Verdict
+    ensures { result ≡ Verdict.Fine (return_count items.now) (change_count items.now) }
+{
+    Verdict::Fine {
+        returns: return_count(items),
+        changes: change_count(items),
+    }
+}
+
+fn return_count(items: &[ItemFacts]) -> usize
+    ensures { result ≡ return_count items.now }
+{
+    items.iter().filter(|item| !is_change(item)).count()
+}
+
+fn change_count(items: &[ItemFacts]) -> usize
+    ensures { result ≡ change_count items.now }
+{
+    items.iter().filter(|item| is_change(item)).count()
+}
+
+fn feed_input<R: Read>(alloc: Global, input: &mut Take<R>, reader: &mut Reader) -> Result<(), Stop>
+    ensures { HasFed (take_remaining R.remaining input.old) reader.old reader.new result }
+{
+    match vec![in alloc; 0; PIECE] {
+        Ok(mut piece) => feed_all(input, &mut piece, reader),
+        Err(AllocError) => Err(Stop::Failed),
+    }
+}
+
+fn stop_verdict(stop: Stop) -> Option<Verdict>
+    ensures memory { IfNone result (GivesUp stop) }
+    ensures verdict { (bytes : List ℕ) → StopsBy bytes stop →
+        IfSome result (λ verdict. IsVerdict bytes verdict) }
+{
+    match stop {
+        Stop::Failed => None,
+        Stop::Faulty(found) => fault_verdict(found),
+    }
+}
+
+// A reader that is out of memory has found no fault of the file.
+fn fault_verdict(found: Fault) -> Option<Verdict>
+    ensures memory { IfNone result (found.kind ≡ FileFault.NoMemory) }
+    ensures verdict { (bytes : List ℕ) → Tells found (fault bytes) →
+        IfSome result (λ verdict. IsVerdict bytes verdict) }
+{
+    match found.kind {
+        FileFault::NoMemory => None,
+        _ => Some(Verdict::Faulty(found)),
+    }
+}
+
+fn end_verdict(reader: &mut Reader) -> Option<Verdict>
+    ensures { (bytes : List ℕ) → HasRead reader.old bytes →
+        IfSome result (λ verdict. IsVerdict bytes verdict) }
+{
+    match reader.finish() {
+        Ok(incoming) => Some(items_verdict(incoming.items())),
+        Err(found) => fault_verdict(found),
+    }
+}

@@ -1,0 +1,40 @@
+//! The input of a command, of which no more is read than decides.
+ghost use Rattle.std.specs.Prelude.{◌≡◌, option_map, take, IfSome};
+ghost use Rattle.std.specs.Io.Take.{take_inner, take_limit};
+ghost use Rattle.cli_commands.specs.Inputs.{most_read, MayHave};
+
+use io_retries::{RetryingReader, Tries};
+use std::alloc::Global;
+use std::io::{Read, Take};
+
+/// A body, a list and a file have at most so many bytes.
+pub const MOST_INPUT: u64 = 4_194_304;
+
+/// Reads an input to its end, or to one byte more than it may have, and gives the tries that are left.
+/// It gives no bytes where a read failed or memory ran out.
+pub fn read_input<R: Read + Drop>(alloc: Global, reader: R) -> (Option<Vec<u8>>, Tries)
+    ensures { IfSome result.0
+        (λ bytes. MayHave (option_map (take most_read) (R.remaining reader)) bytes.items) }
+{
+    let mut input = bounded_input(reader);
+    let mut bytes = Vec::new(alloc);
+    let read = input.read_to_end(&mut bytes);
+    let tries = input.into_inner().tries;
+    match read {
+        Ok(_) => (Some(bytes), tries),
+        Err(_) => (None, tries),
+    }
+}
+
+/// Gives an input of which at most 4,194,305 bytes are read, one more than it may have, and whose
+/// interrupted reads are made again by the tries of a new run.
+pub fn bounded_input<R: Read>(reader: R) -> Take<RetryingReader<R>>
+    ensures inner { (take_inner result).inner ≡ reader }
+    ensures limit { take_limit result ≡ most_read }
+{
+    let retrying = RetryingReader {
+        inner: reader,
+        tries: Tries::new(),
+    };
+    retrying.take(MOST_INPUT + 1)
+}

@@ -1,0 +1,44 @@
+//! The command that answers messages of HTTP/1.1.
+ghost use Rattle.std.specs.Prelude.{◌≡◌, ◌≢◌};
+ghost use Rattle.cli_commands.specs.MessageRuns.{status_of_session, HasAnsweredMessages, HasBrokenOff};
+
+use crate::output::print_unavailable;
+use crate::sample_bank::sample_desk;
+use crate::status::Status;
+use desk_http::HttpDesk;
+use http_routes::Routes;
+use http_session::{Ended, SessionFault, session};
+use io_retries::Tries;
+use std::alloc::Global;
+use std::io::{Read, Write};
+
+/// Answers the messages that a reader's bytes spell, in one session, by a new desk of the sample bank.
+///
+/// The command is done where the input ends between messages, where a message closes the session, and
+/// after 1,000 messages; it is refused where the input ends inside a message, and has failed where a
+/// read or a write fails. A session prints its answers alone. Where memory runs out before it begins,
+/// `unavailable` is printed, and the command has failed.
+pub fn answer_messages<R: Read + Drop, W: Write>(alloc: Global, reader: R, writer: &mut W) -> Status
+    ensures answered { result ≢ Status.Failed →
+        HasAnsweredMessages (R.remaining reader) (W.contents writer.old) (W.contents writer.new) result }
+    ensures failed { result ≡ Status.Failed →
+        HasBrokenOff (R.remaining reader) (W.contents writer.old) (W.contents writer.new) }
+{
+    let Ok(routes) = Routes::new(alloc) else {
+        return print_unavailable(writer, Tries::new());
+    };
+    let mut reader = reader;
+    let mut desk = HttpDesk::new(sample_desk(alloc), routes);
+    status_of_session(session(alloc, &mut desk, &mut reader, writer, &mut Tries::new()))
+}
+
+/// Gives how a session ends the command.
+pub fn status_of_session(ended: Result<Ended, SessionFault>) -> Status
+    ensures { result ≡ status_of_session ended }
+{
+    match ended {
+        Ok(Ended::Closed | Ended::Full) => Status::Done,
+        Ok(Ended::Cut) => Status::Refused,
+        Err(_) => Status::Failed,
+    }
+}

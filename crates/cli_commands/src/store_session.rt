@@ -1,0 +1,46 @@
+//! Messages of HTTP/1.1 are answered by the desk of a store.
+ghost use Rattle.std.specs.Prelude.{◌≡◌, ◌≢◌};
+ghost use Rattle.desk_http.specs.Answering.{StandsBehind};
+ghost use Rattle.cli_commands.specs.StoreRuns.{BreaksOffFrom, HasAnsweredFrom};
+
+use crate::message_session::status_of_session;
+use crate::output::print_unavailable;
+use crate::status::Status;
+use desk_calls::Desk;
+use desk_http::HttpDesk;
+use desk_store::Store;
+use http_routes::Routes;
+use http_session::session;
+use io_retries::Tries;
+use std::alloc::Global;
+use std::io::{Read, Write};
+
+/// Answers the messages that a reader's bytes spell, in one session, by the desk of a store, and gives the
+/// store back.
+///
+/// The command ends as `answer_messages` says. By the clauses each answer is the text of its message after
+/// those before it, for every history for which the store stood, and the store given back stands for that
+/// history with these messages and no other, where it is clean in the end.
+pub fn answer_by_store<S: Store + Drop, R: Read + Drop, W: Write>(
+    alloc: Global,
+    store: S,
+    reader: R,
+    writer: &mut W,
+) -> (Status, S)
+    ensures before { S.is_clean result.1 → S.is_clean store }
+    ensures answered { result.0 ≢ Status.Failed →
+        HasAnsweredFrom (S.is_clean result.1) (StandsBehind (S.holds store)) (StandsBehind (S.holds result.1))
+        (R.remaining reader) (W.contents writer.old) (W.contents writer.new) result.0 }
+    ensures failed { result.0 ≡ Status.Failed →
+        BreaksOffFrom (S.is_clean result.1) (StandsBehind (S.holds store)) (StandsBehind (S.holds result.1))
+        (R.remaining reader) (W.contents writer.old) (W.contents writer.new) }
+{
+    let Ok(routes) = Routes::new(alloc) else {
+        return (print_unavailable(writer, Tries::new()), store);
+    };
+    let mut reader = reader;
+    let mut desk = HttpDesk::new(Desk::new(store), routes);
+    let mut tries = Tries::new();
+    let status = status_of_session(session(alloc, &mut desk, &mut reader, writer, &mut tries));
+    (status, desk.into_desk().into_store())
+}

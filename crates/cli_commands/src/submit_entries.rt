@@ -1,0 +1,91 @@
+//! The command that makes the message of a list of entries.
+ghost use Rattle.std.specs.Prelude.{◌≡◌, ◌≢◌, IfSome, Err, None};
+ghost use Rattle.cli_submit.specs.Options.{texts_of};
+ghost use Rattle.cli_commands.specs.BodyAnswers.{IsAnswer};
+ghost use Rattle.cli_commands.specs.InputRuns.{HasAnswered, IsFailedRun, IsInputAnswer};
+ghost use Rattle.cli_commands.specs.ListRuns.{list_answer, outcome_text};
+
+use crate::input::read_input;
+use crate::output::{end_line, print_answer, print_unavailable};
+use crate::status::Status;
+use cli_submit::{InputFault, SubmitFault, SubmitOptions, submit_message};
+use io_retries::Tries;
+use std::alloc::Global;
+use std::fs::File;
+use std::io::{Read, Write};
+
+/// Reads a list of entries in CSV, and prints the message that hands it to a desk, with nothing after
+/// it; or the line of the first fault of the options and the list, as `row 3: bad cents`.
+///
+/// At most 4,194,304 bytes are read; one more is `too large`. Where a read fails or memory runs out,
+/// `unavailable` is printed; where a write fails, nothing more is printed.
+pub fn submit_list<R: Read + Drop, W: Write>(
+    alloc: Global,
+    options: &SubmitOptions<'_>,
+    reader: R,
+    writer: &mut W,
+) -> Status
+    ensures answered { result ≢ Status.Failed →
+        HasAnswered (list_answer (texts_of options.now)) (R.remaining reader)
+        (W.contents writer.old) (W.contents writer.new) result }
+    ensures failed { result ≡ Status.Failed →
+        IsFailedRun (list_answer (texts_of options.now)) (R.remaining reader)
+        (W.contents writer.old) (W.contents writer.new) }
+{
+    let (answer, tries) = input_answer(alloc, options, reader);
+    print_answer(writer, &answer, tries)
+}
+
+/// Makes the message of the list at a path. Where it cannot be opened, `unavailable` is printed.
+pub fn submit_path<W: Write>(
+    rt: &HostRuntime,
+    path: &str,
+    options: &SubmitOptions<'_>,
+    writer: &mut W,
+) -> Status
+    ensures answered { result ≢ Status.Failed →
+        HasAnswered (list_answer (texts_of options.now)) None (W.contents writer.old) (W.contents writer.new) result }
+    ensures failed { result ≡ Status.Failed →
+        IsFailedRun (list_answer (texts_of options.now)) None (W.contents writer.old) (W.contents writer.new) }
+{
+    match File::open(rt, path) {
+        Ok(file) => submit_list(rt.alloc(), options, file, writer),
+        Err(_) => print_unavailable(writer, Tries::new()),
+    }
+}
+
+// What is to be printed of an input, if it could be had, and the tries that are left.
+fn input_answer<R: Read + Drop>(
+    alloc: Global,
+    options: &SubmitOptions<'_>,
+    reader: R,
+) -> (Option<(bool, Vec<u8>)>, Tries)
+    ensures { IfSome result.0
+        (IsInputAnswer (list_answer (texts_of options.now)) (R.remaining reader)) }
+{
+    let (list, tries) = read_input(alloc, reader);
+    let Some(list) = list else {
+        return (None, tries);
+    };
+    (list_answer(alloc, options, list.as_slice()), tries)
+}
+
+// Whether a list has a message, and the message or the line of the first fault.
+fn list_answer(alloc: Global, options: &SubmitOptions<'_>, list: &[u8]) -> Option<(bool, Vec<u8>)>
+    ensures { IfSome result (IsAnswer (list_answer (texts_of options.now) list.now)) }
+{
+    match submit_message(alloc, options, list) {
+        Ok(message) => Some((true, message)),
+        Err(SubmitFault::Input(fault)) => fault_answer(alloc, fault),
+        Err(SubmitFault::NoMemory) => None,
+    }
+}
+
+fn fault_answer(alloc: Global, fault: InputFault) -> Option<(bool, Vec<u8>)>
+    ensures { IfSome result (IsAnswer (outcome_text (Err fault))) }
+{
+    match fault.line(alloc) {
+        Ok(line) => end_line(false, line.into_bytes()),
+        Err(_) => None,
+    }
+}

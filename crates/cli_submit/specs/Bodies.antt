@@ -1,0 +1,46 @@
+-- The submission that a message's body is, in JSON. Keys stand in byte order.
+use Rattle.std.specs.Prelude.{ℕ, Bool, true, false, List, Option, Some, None, codes, map}
+use Rattle.serde_json.specs.Data.{Data, Items, Members, array, boolean, member, no_members, number, object, string, unsigned}
+use Rattle.serde_json.specs.View.{items_of}
+use Rattle.cli_submit.specs.Options.{OptionTexts}
+use Rattle.cli_submit.specs.Rows.{EntryTexts}
+
+-- the information under its key, if there is any
+abbrev pub with_info : Option (List ℕ) → Members → Members
+with_info None ms = ms
+with_info (Some info) ms = member (codes "info") (string info) ms
+
+-- the mark of a prenote, where it is one
+abbrev pub with_prenote : Bool → Members → Members
+with_prenote false ms = ms
+with_prenote true ms = member (codes "prenote") (boolean true) ms
+
+-- an entry
+abbrev pub entry_data : EntryTexts → Data
+entry_data e = object
+    (member (codes "account") (string e.account)
+    (member (codes "cents") (number (unsigned e.cents))
+    (member (codes "id") (string e.id)
+    (with_info e.info
+    (member (codes "kind") (string e.kind)
+    (member (codes "name") (string e.name)
+    (with_prenote e.is_prenote
+    (member (codes "routing") (string e.routing) no_members))))))))
+
+-- the list of entries
+abbrev pub entry_items : List EntryTexts → Items
+entry_items entries = items_of (map entry_data entries)
+
+-- the submission of these items
+abbrev pub body_with : OptionTexts → (entries : Items) → Data
+body_with o entries = object
+    (member (codes "day") (string o.day)
+    (member (codes "description") (string o.description)
+    (member (codes "direction") (string o.direction)
+    (member (codes "entries") (array entries)
+    (member (codes "ref") (string o.reference)
+    (member (codes "sec") (string o.sec) no_members))))))
+
+-- the submission of these entries
+abbrev pub body_data : OptionTexts → List EntryTexts → Data
+body_data o entries = body_with o (entry_items entries)

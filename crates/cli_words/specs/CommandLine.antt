@@ -1,0 +1,245 @@
+-- The command that words name, by `clap`'s rules for the command's arguments, or why they name none.
+use Rattle.std.specs.Prelude.{◌≡◌, ◌≢◌, ◌⊎◌, ◌&&◌, ℕ, nat_le, not, Bool, true, false, if◌then◌else◌, List, [], ◌∷◌, Option, Some, None, codes, unwrap_or, Result, Ok, Err, OnErr}
+use Rattle.std.specs.Option.{option_map_or}
+use Rattle.std.specs.Str.{bytes_eq}
+use Rattle.std.specs.Str.Parse.{digits_value, without_leading_plus}
+use Rattle.clap.specs.Words.{App, IsUnsignedIn, Row, Text, fault_of, first_of, found_of, matches_of, one_of, rows_of}
+use Rattle.clap.specs.Kinds.{HasKind, IsAmong, Kinds}
+use Rattle.clap.specs.declared.error.kind.ErrorKind.{ErrorKind}
+use Rattle.clap.specs.declared.error.kind.ErrorKind.TheVariants as kind
+use Rattle.clap.specs.declared.error.Error.{Error}
+use Rattle.clap.specs.declared.parser.matches.ArgMatches.{ArgMatches}
+use Rattle.cli_submit.specs.Options.{OptionTexts, texts_of}
+use Rattle.cli_words.specs.Arguments.{check_app, init_app, migrate_app, program_app, serve_app, stdio_app, submit_app}
+use Rattle.cli_words.specs.InitOptions.{InitTexts, init_texts_of}
+use Rattle.cli_words.specs.declared.command.Command.{Command}
+use Rattle.cli_words.specs.declared.command.Command.TheVariants as command
+use Rattle.cli_words.specs.declared.command.LineFault.{LineFault}
+use Rattle.cli_words.specs.declared.command.LineFault.TheVariants.{Help, Version, Usage, NoMemory}
+
+-- the words that name a command
+abbrev pub is_check : (name : Text) → Bool
+is_check name = bytes_eq name (codes "check")
+
+abbrev pub is_submit : (name : Text) → Bool
+is_submit name = bytes_eq name (codes "submit")
+
+abbrev pub is_stdio : (name : Text) → Bool
+is_stdio name = bytes_eq name (codes "stdio")
+
+abbrev pub is_init : (name : Text) → Bool
+is_init name = bytes_eq name (codes "init")
+
+abbrev pub is_serve : (name : Text) → Bool
+is_serve name = bytes_eq name (codes "serve")
+
+abbrev pub is_migrate : (name : Text) → Bool
+is_migrate name = bytes_eq name (codes "migrate")
+
+-- the word that asks for help
+abbrev pub is_help : (word : Text) → Bool
+is_help word = bytes_eq word (codes "help")
+
+-- the rules for words of which this is the first
+abbrev pub app_named : (name : Text) → App
+app_named name =
+    if is_check name then check_app
+    else (if is_submit name then submit_app
+    else (if is_stdio name then stdio_app
+    else (if is_init name then init_app
+    else (if is_serve name then serve_app else (if is_migrate name then migrate_app else program_app)))))
+
+-- the kinds of error that `clap` may give at the words: none where they name a command
+unfoldable pub kinds_at : (words : List Text) → Kinds
+kinds_at [] = []
+kinds_at (name ∷ rest) = fault_of (app_named name) (name ∷ rest)
+
+-- `clap` takes the words where no kind of error is left
+abbrev pub has_no_kind : Kinds → Bool
+has_no_kind [] = true
+has_no_kind (k ∷ ks) = false
+
+-- the text that an argument was given
+abbrev pub text_in : (id : Text) → List Row → Text
+text_in id rows = unwrap_or (first_of id rows) []
+
+-- the number that a text names, by its decimal digits
+abbrev pub number_of : (text : Text) → ℕ
+number_of text = digits_value 10 (without_leading_plus text)
+
+-- the number that an argument was given, or has where it was left out
+abbrev pub number_in : (id : Text) → List Row → ℕ
+number_in id rows = number_of (unwrap_or (one_of id rows) [])
+
+-- an argument has a number from low to high
+abbrev pub HasNumber : (low high : ℕ) → (id : Text) → List Row → Type 0
+HasNumber low high id rows = (text : Text) × (one_of id rows ≡ Some text) × IsUnsignedIn low high text
+
+-- the arguments of `serve` have a port, a number of connections, and a number of seconds
+abbrev pub HasPort : List Row → Type 0
+HasPort rows = HasNumber 1 65535 (codes "PORT") rows
+
+abbrev pub HasConnections : List Row → Type 0
+HasConnections rows = HasNumber 1 1000000 (codes "N") rows
+
+abbrev pub HasPatience : List Row → Type 0
+HasPatience rows = HasNumber 1 3600 (codes "SECONDS") rows
+
+-- the options of a message
+abbrev pub options_in : List Row → OptionTexts
+options_in rows = record {
+  company = text_in (codes "COMPANY") rows;
+  key = text_in (codes "KEY") rows;
+  reference = text_in (codes "REF") rows;
+  sec = text_in (codes "SEC") rows;
+  direction = text_in (codes "DIRECTION") rows;
+  description = text_in (codes "TEXT") rows;
+  day = text_in (codes "DAY") rows;
+}
+
+-- the options of a new desk
+abbrev pub init_texts_in : List Row → InitTexts
+init_texts_in rows = record {
+  odfi = text_in (codes "ODFI") rows;
+  odfi_name = text_in (codes "ODFI_NAME") rows;
+  destination = text_in (codes "DESTINATION") rows;
+  destination_name = text_in (codes "DESTINATION_NAME") rows;
+  key = text_in (codes "KEY") rows;
+}
+
+-- a command as words name it
+pub data NamedCommand : Type 0 where
+  AnswerSubmission : NamedCommand
+  Check : (file : Text) → NamedCommand
+  Submit : (list : Text) → OptionTexts → NamedCommand
+  AnswerMessages : NamedCommand
+  AnswerByFile : (path : Text) → NamedCommand
+  Init : (path : Text) → InitTexts → NamedCommand
+  Serve : (path : Text) → (port connections patience : ℕ) → NamedCommand
+  Migrate : (path : Text) → NamedCommand
+
+-- the command that words after `check` name
+unfoldable pub named_check : (words : List Text) → Option NamedCommand
+named_check words =
+    if has_no_kind (fault_of check_app words) then Some (Check (text_in (codes "FILE") (matches_of check_app words))) else None
+
+-- the command of these matches of `submit`
+abbrev pub submit_of : List Row → NamedCommand
+submit_of rows = Submit (text_in (codes "FILE") rows) (options_in rows)
+
+-- the command that words after `submit` name
+unfoldable pub named_submit : (words : List Text) → Option NamedCommand
+named_submit words =
+    if has_no_kind (fault_of submit_app words) then Some (submit_of (matches_of submit_app words)) else None
+
+-- a session with the desk in the file that is named, or with a new one
+abbrev pub session_with : (path : Option Text) → NamedCommand
+session_with (Some path) = AnswerByFile path
+session_with None = AnswerMessages
+
+-- the command of these matches of `stdio`
+abbrev pub stdio_of : List Row → NamedCommand
+stdio_of rows = session_with (first_of (codes "DB") rows)
+
+-- the command that words after `stdio` name
+unfoldable pub named_stdio : (words : List Text) → Option NamedCommand
+named_stdio words = if has_no_kind (fault_of stdio_app words) then Some (stdio_of (matches_of stdio_app words)) else None
+
+-- the command of these matches of `init`
+abbrev pub init_of : List Row → NamedCommand
+init_of rows = Init (text_in (codes "DB") rows) (init_texts_in rows)
+
+-- the command that words after `init` name
+unfoldable pub named_init : (words : List Text) → Option NamedCommand
+named_init words = if has_no_kind (fault_of init_app words) then Some (init_of (matches_of init_app words)) else None
+
+-- a number from low to high
+abbrev pub is_between : (low high n : ℕ) → Bool
+is_between low high n = nat_le low n && nat_le n high
+
+-- a server, where its port is 1 to 65,535, its connections are 1 to 1,000,000, and its patience is 1 to 3,600
+abbrev pub server : (path : Text) (port connections patience : ℕ) → Option NamedCommand
+server path port connections patience =
+    if is_between 1 65535 port && is_between 1 1000000 connections && is_between 1 3600 patience
+    then Some (Serve path port connections patience) else None
+
+-- the command of these matches of `serve`
+abbrev pub serve_of : List Row → Option NamedCommand
+serve_of rows = server (text_in (codes "DB") rows) (number_in (codes "PORT") rows) (number_in (codes "N") rows) (number_in (codes "SECONDS") rows)
+
+-- the command that words after `serve` name
+unfoldable pub named_serve : (words : List Text) → Option NamedCommand
+named_serve words = if has_no_kind (fault_of serve_app words) then serve_of (matches_of serve_app words) else None
+
+-- the command that words after `migrate` name
+unfoldable pub named_migrate : (words : List Text) → Option NamedCommand
+named_migrate words =
+    if has_no_kind (fault_of migrate_app words) then Some (Migrate (text_in (codes "DB") (matches_of migrate_app words))) else None
+
+-- the command that words name
+abbrev pub named_command : (words : List Text) → Option NamedCommand
+named_command [] = Some AnswerSubmission
+named_command (name ∷ rest) =
+    if is_check name then named_check (name ∷ rest)
+    else (if is_submit name then named_submit (name ∷ rest)
+    else (if is_stdio name then named_stdio (name ∷ rest)
+    else (if is_init name then named_init (name ∷ rest)
+    else (if is_serve name then named_serve (name ∷ rest)
+    else (if is_migrate name then named_migrate (name ∷ rest) else None)))))
+
+-- the matches are those of the app, or the error has one of its kinds, or memory ran out
+abbrev pub Parses : App → (words : List Text) → Result ArgMatches Error → Type 0
+Parses app words (Ok m) = (fault_of app words ≡ []) × (rows_of (found_of m) ≡ matches_of app words)
+Parses app words (Err e) = HasKind (fault_of app words) e
+
+-- a command with the texts of its path and its options
+abbrev pub command_value : Command → NamedCommand
+command_value command.AnswerSubmission = AnswerSubmission
+command_value (command.Check file) = Check file.now
+command_value (command.Submit list options) = Submit list.now (texts_of options)
+command_value command.AnswerMessages = AnswerMessages
+command_value (command.AnswerByFile path) = AnswerByFile path.now
+command_value (command.Init path options) = Init path.now (init_texts_of options)
+command_value (command.Serve path options) = Serve path.now options.port options.connections options.patience
+command_value (command.Migrate path) = Migrate path.now
+
+-- the fault is help or the version where `clap`'s error is that, and usage where it is another
+abbrev pub IsFaultOf : ErrorKind → LineFault → Type 0
+IsFaultOf k (Help text) = k ≡ kind.DisplayHelp
+IsFaultOf k Version = k ≡ kind.DisplayVersion
+IsFaultOf k (Usage text) = (k ≢ kind.DisplayHelp) × (k ≢ kind.DisplayVersion) × (k ≢ kind.OutOfMemory)
+IsFaultOf k NoMemory = Unit {0}
+
+-- The fault is help, or the version, only where `clap` may give that, and usage only where it may give another error.
+-- So where words have one kind, the fault is help, or the version, exactly where that kind is.
+abbrev pub IsFaultAmong : Kinds → LineFault → Type 0
+IsFaultAmong kinds (Help text) = IsAmong kind.DisplayHelp kinds
+IsFaultAmong kinds Version = IsAmong kind.DisplayVersion kinds
+IsFaultAmong kinds (Usage text) = (kinds ≢ kind.DisplayHelp ∷ []) × (kinds ≢ kind.DisplayVersion ∷ [])
+IsFaultAmong kinds NoMemory = Unit {0}
+
+-- The words name the command that is given. Or they name none, or memory ran out, and the fault is among these kinds.
+abbrev pub Gives : (wanted : Option NamedCommand) → Kinds → Result Command LineFault → Type 0
+Gives wanted kinds (Ok c) = wanted ≡ Some (command_value c)
+Gives wanted kinds (Err fault) = ((fault ≡ NoMemory) ⊎ (wanted ≡ None)) × IsFaultAmong kinds fault
+
+-- what the words give; where there are none, a command
+abbrev pub GivesBy : (words : List Text) → Result Command LineFault → Type 0
+GivesBy words given = Gives (named_command words) (kinds_at words) given × OnErr given (words ≢ [])
+
+-- the words name no command
+abbrev pub NamesNone : (words : List Text) → Type 0
+NamesNone words = named_command words ≡ None
+
+-- the command whose help the words ask for by `help COMMAND`; `help help` asks for none
+abbrev pub help_topic : (words : List Text) → Option Text
+help_topic (first ∷ topic ∷ []) = if is_help first && not (is_help topic) then Some topic else None
+help_topic _ = None
+
+-- `help COMMAND` is read as `COMMAND --help`
+abbrev pub spelled_out : (words : List Text) → List Text
+spelled_out words = option_map_or (λ topic. topic ∷ codes "--help" ∷ []) (help_topic words) words
+
+-- what the program's words give
+abbrev pub GivesAt : (words : List Text) → Result Command LineFault → Type 0
+GivesAt words given = GivesBy (spelled_out words) given

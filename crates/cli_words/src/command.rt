@@ -1,0 +1,161 @@
+//! The command that words name.
+ghost use Rattle.std.specs.Prelude.{◌≡◌, map};
+ghost use Rattle.clap.specs.Words.{fault_of, found_of, kind_of, rows_of};
+ghost use Rattle.cli_submit.specs.Options.{texts_of};
+ghost use Rattle.cli_words.specs.Arguments.{check_app, program_app, submit_app};
+ghost use Rattle.cli_words.specs.CommandLine.{Gives, GivesAt, GivesBy, IsFaultAmong, IsFaultOf, NamesNone, named_check, named_submit, options_in};
+
+use crate::file_commands::{init_command, migrate_command, serve_command, stdio_command};
+use crate::given_values::argument_text;
+use crate::help_words::help_topic;
+use crate::init_options::InitOptions;
+use crate::plain_arguments::{check_matches, submit_matches};
+use crate::program_arguments::program_matches;
+use crate::serve_options::ServeOptions;
+use clap::error::ErrorKind;
+use clap::{ArgMatches, Error};
+use cli_submit::SubmitOptions;
+use std::alloc::Global;
+
+/// A command says what the program is asked to do.
+#[derive(Clone, Copy, Debug, PartialEq, Eq, Drop)]
+pub enum Command<'a> {
+    /// The program answers one submission body.
+    AnswerSubmission,
+    /// The program checks the incoming file at this path.
+    Check(&'a str),
+    /// The program makes the message that hands in the list of entries at this path, with these
+    /// options.
+    Submit(&'a str, SubmitOptions<'a>),
+    /// The program answers the messages of one session, by a new desk of the sample bank.
+    AnswerMessages,
+    /// The program answers the messages of one session, by the desk in the file at this path.
+    AnswerByFile(&'a str),
+    /// The program makes a new desk in the file at this path, with these options.
+    Init(&'a str, InitOptions<'a>),
+    /// The program answers the messages of connections, by the desk in the file at this path, with
+    /// these options.
+    Serve(&'a str, ServeOptions),
+    /// The program brings the desk in the file at this path to the tables of today.
+    Migrate(&'a str),
+}
+
+/// A fault says why the words name no command.
+#[derive(Debug, Drop)]
+pub enum LineFault {
+    /// The words ask for help, which is this text.
+    Help(String),
+    /// The words ask for the version.
+    Version,
+    /// The words are no command's, as this text says.
+    Usage(String),
+    /// The program is out of memory.
+    NoMemory,
+}
+
+/// Reads the words after the program's name as a command.
+///
+/// No words ask for the answer to a submission. `help COMMAND` is read as `COMMAND --help`. Else the
+/// first word names a command, and the words after it are read by the rules that `clap` has for that
+/// command's arguments.
+pub fn command_of<'a>(alloc: Global, words: &'a [&'a str]) -> Result<Command<'a>, LineFault>
+    ensures { GivesAt (map (λ w. w.now) words.now) result }
+{
+    match help_topic(words) {
+        Some(name) => Err(help_fault(alloc, &[name, "--help"])),
+        None => command_by_name(alloc, words),
+    }
+}
+
+// What is told of words that name no command.
+fn help_fault(alloc: Global, words: &[&str]) -> LineFault
+    requires { NamesNone (map (λ w. w.now) words.now) }
+    ensures { GivesBy (map (λ w. w.now) words.now) (Err result) }
+{
+    match command_by_name(alloc, words) {
+        Ok(_) => LineFault::Usage(String::new(alloc)),
+        Err(fault) => fault,
+    }
+}
+
+// Reads words as they stand.
+fn command_by_name<'a>(alloc: Global, words: &'a [&'a str]) -> Result<Command<'a>, LineFault>
+    ensures { GivesBy (map (λ w. w.now) words.now) result }
+{
+    let Some(name) = words.first() else {
+        return Ok(Command::AnswerSubmission);
+    };
+    match *name {
+        "check" => check_command(alloc, words),
+        "submit" => submit_command(alloc, words),
+        "stdio" => stdio_command(alloc, words),
+        "init" => init_command(alloc, words),
+        "serve" => serve_command(alloc, words),
+        "migrate" => migrate_command(alloc, words),
+        _ => Err(unknown_command_fault(alloc, words)),
+    }
+}
+
+fn check_command<'a>(alloc: Global, words: &'a [&'a str]) -> Result<Command<'a>, LineFault>
+    ensures { Gives (named_check (map (λ w. w.now) words.now))
+        (fault_of check_app (map (λ w. w.now) words.now)) result }
+{
+    match check_matches(alloc, words) {
+        Ok(matches) => Ok(Command::Check(argument_text(&matches, "FILE"))),
+        Err(error) => Err(line_fault(alloc, &error)),
+    }
+}
+
+fn submit_command<'a>(alloc: Global, words: &'a [&'a str]) -> Result<Command<'a>, LineFault>
+    ensures { Gives (named_submit (map (λ w. w.now) words.now))
+        (fault_of submit_app (map (λ w. w.now) words.now)) result }
+{
+    match submit_matches(alloc, words) {
+        Ok(matches) => {
+            let list = argument_text(&matches, "FILE");
+            Ok(Command::Submit(list, submit_options(&matches)))
+        }
+        Err(error) => Err(line_fault(alloc, &error)),
+    }
+}
+
+fn submit_options<'a>(matches: &ArgMatches<'a>) -> SubmitOptions<'a>
+    ensures { texts_of result ≡ options_in (rows_of (found_of matches.now)) }
+{
+    SubmitOptions {
+        company: argument_text(matches, "COMPANY"),
+        key: argument_text(matches, "KEY"),
+        reference: argument_text(matches, "REF"),
+        sec: argument_text(matches, "SEC"),
+        direction: argument_text(matches, "DIRECTION"),
+        description: argument_text(matches, "TEXT"),
+        day: argument_text(matches, "DAY"),
+    }
+}
+
+/// Gives `clap`'s error as a fault.
+pub fn line_fault(alloc: Global, error: &Error) -> LineFault
+    ensures { IsFaultOf (kind_of error.now) result }
+{
+    if error.kind() == ErrorKind::OutOfMemory {
+        return LineFault::NoMemory;
+    }
+    let Ok(text) = format!(in alloc; "{error}") else {
+        return LineFault::NoMemory;
+    };
+    match error.kind() {
+        ErrorKind::DisplayHelp => LineFault::Help(text),
+        ErrorKind::DisplayVersion => LineFault::Version,
+        _ => LineFault::Usage(text),
+    }
+}
+
+// `clap`'s help or usage where the first word names no command.
+fn unknown_command_fault(alloc: Global, words: &[&str]) -> LineFault
+    ensures { IsFaultAmong (fault_of program_app (map (λ w. w.now) words.now)) result }
+{
+    match program_matches(alloc, words) {
+        Ok(_) => LineFault::Usage(String::new(alloc)),
+        Err(error) => line_fault(alloc, &error),
+    }
+}

@@ -1,0 +1,101 @@
+//! The arguments of the commands that take a desk's file, by `clap`'s rules.
+ghost use Rattle.std.specs.Prelude.{◌≡◌, map, IfOk};
+ghost use Rattle.clap.specs.Words.{app_of, found_of, rows_of};
+ghost use Rattle.cli_words.specs.Arguments.{init_app, migrate_app, serve_app};
+ghost use Rattle.cli_words.specs.CommandLine.{HasConnections, HasPatience, HasPort, Parses};
+
+use crate::plain_arguments::{HELP_REQUIRED, add_argument, add_options, new_command};
+use crate::serve_arguments::{connections_option, patience_option, port_argument};
+use clap::{ArgMatches, Command as ClapCommand, Error};
+use std::alloc::{AllocError, Global};
+
+/// The help says this of `init`.
+pub const ABOUT_INIT: &str = "Makes a new desk in a file";
+
+/// The help says this of `serve`.
+pub const ABOUT_SERVE: &str =
+    "Answers HTTP/1.1 messages on connections to a port of this machine, by a desk's file";
+
+/// The help says this of `migrate`.
+pub const ABOUT_MIGRATE: &str = "Brings a desk's file of version 1 to version 2";
+
+/// The help says this of the argument of commands that work by a desk.
+const HELP_DESK: &str = "The path of the desk's file";
+
+/// The help says this of the arguments of `init`.
+const HELP_ODFI: &str = "The bank's routing number: nine digits";
+
+const HELP_ODFI_NAME: &str = "The bank's name: 1 to 23 characters";
+
+const HELP_DESTINATION: &str = "The ACH operator's routing number: nine digits";
+
+const HELP_DESTINATION_NAME: &str = "The ACH operator's name: 1 to 23 characters";
+
+const HELP_OPERATOR_KEY: &str = "The desk operator's key: 8 to 64 characters, no blanks";
+
+/// The options of `init`, as `add_options` takes them.
+const INIT_OPTIONS: [(&str, &str, &str); 5] = [
+    ("ODFI", "odfi", HELP_ODFI),
+    ("ODFI_NAME", "odfi-name", HELP_ODFI_NAME),
+    ("DESTINATION", "destination", HELP_DESTINATION),
+    (
+        "DESTINATION_NAME",
+        "destination-name",
+        HELP_DESTINATION_NAME,
+    ),
+    ("KEY", "key", HELP_OPERATOR_KEY),
+];
+
+/// Parses the words of `init DB` with its options.
+pub fn init_matches<'a>(alloc: Global, words: &'a [&'a str]) -> Result<ArgMatches<'a>, Error>
+    ensures { Parses init_app (map (λ w. w.now) words.now) result }
+{
+    let command = init_command(alloc)?;
+    command.try_get_matches_from(words)
+}
+
+fn init_command<'a>(alloc: Global) -> Result<ClapCommand<'a>, AllocError>
+    ensures { IfOk result (λ command. app_of command ≡ init_app) }
+{
+    let command = new_command(alloc, "achdesk init", ABOUT_INIT)?;
+    let command = add_argument(alloc, command, "DB", "The path of the new desk's file")?;
+    add_options(alloc, command.after_help(HELP_REQUIRED), &INIT_OPTIONS)
+}
+
+/// Parses the words of `serve DB PORT` with its options. Matches have all three numbers, each in its
+/// range.
+pub fn serve_matches<'a>(alloc: Global, words: &'a [&'a str]) -> Result<ArgMatches<'a>, Error>
+    ensures parses { Parses serve_app (map (λ w. w.now) words.now) result }
+    ensures port { IfOk result (λ m. HasPort (rows_of (found_of m))) }
+    ensures connections { IfOk result (λ m. HasConnections (rows_of (found_of m))) }
+    ensures patience { IfOk result (λ m. HasPatience (rows_of (found_of m))) }
+{
+    let command = serve_command(alloc)?;
+    command.try_get_matches_from(words)
+}
+
+fn serve_command<'a>(alloc: Global) -> Result<ClapCommand<'a>, AllocError>
+    ensures { IfOk result (λ command. app_of command ≡ serve_app) }
+{
+    let command = new_command(alloc, "achdesk serve", ABOUT_SERVE)?;
+    let command = add_argument(alloc, command, "DB", HELP_DESK)?;
+    let command = command.arg(port_argument(alloc))?;
+    let command = command.arg(connections_option(alloc))?;
+    let command = command.arg(patience_option(alloc))?;
+    Ok(command)
+}
+
+/// Parses the words of `migrate DB`.
+pub fn migrate_matches<'a>(alloc: Global, words: &'a [&'a str]) -> Result<ArgMatches<'a>, Error>
+    ensures { Parses migrate_app (map (λ w. w.now) words.now) result }
+{
+    let command = migrate_command(alloc)?;
+    command.try_get_matches_from(words)
+}
+
+fn migrate_command<'a>(alloc: Global) -> Result<ClapCommand<'a>, AllocError>
+    ensures { IfOk result (λ command. app_of command ≡ migrate_app) }
+{
+    let command = new_command(alloc, "achdesk migrate", ABOUT_MIGRATE)?;
+    add_argument(alloc, command, "DB", HELP_DESK)
+}

@@ -1,0 +1,104 @@
+//! The commands that work by a desk's file.
+ghost use Rattle.std.specs.Prelude.{◌≡◌, codes, map, option_map};
+ghost use Rattle.clap.specs.Words.{fault_of, found_of, rows_of};
+ghost use Rattle.cli_words.specs.InitOptions.{init_texts_of};
+ghost use Rattle.cli_words.specs.Arguments.{init_app, migrate_app, serve_app, stdio_app};
+ghost use Rattle.cli_words.specs.CommandLine.{Gives, HasConnections, HasPatience, HasPort, command_value, init_texts_in, named_init, named_migrate, named_serve, named_stdio, number_in, session_with};
+
+use crate::command::{Command, LineFault, line_fault};
+use crate::desk_arguments::{init_matches, migrate_matches, serve_matches};
+use crate::given_values::{argument_text, connections_of, patience_of, port_of};
+use crate::init_options::InitOptions;
+use crate::plain_arguments::stdio_matches;
+use crate::serve_options::ServeOptions;
+use clap::ArgMatches;
+use std::alloc::Global;
+
+/// Reads the words of `stdio [DB]`.
+pub fn stdio_command<'a>(alloc: Global, words: &'a [&'a str]) -> Result<Command<'a>, LineFault>
+    ensures { Gives (named_stdio (map (λ w. w.now) words.now))
+        (fault_of stdio_app (map (λ w. w.now) words.now)) result }
+{
+    match stdio_matches(alloc, words) {
+        Ok(matches) => Ok(session_with(matches.get_str("DB"))),
+        Err(error) => Err(line_fault(alloc, &error)),
+    }
+}
+
+// A session with the desk in the file that is named, or with a new one.
+fn session_with<'a>(path: Option<&'a str>) -> Command<'a>
+    ensures { command_value result ≡ session_with (option_map (λ p. p.now) path.entry) }
+{
+    match path {
+        Some(path) => Command::AnswerByFile(path),
+        None => Command::AnswerMessages,
+    }
+}
+
+/// Reads the words of `init DB` with its options.
+pub fn init_command<'a>(alloc: Global, words: &'a [&'a str]) -> Result<Command<'a>, LineFault>
+    ensures { Gives (named_init (map (λ w. w.now) words.now))
+        (fault_of init_app (map (λ w. w.now) words.now)) result }
+{
+    match init_matches(alloc, words) {
+        Ok(matches) => {
+            let path = argument_text(&matches, "DB");
+            Ok(Command::Init(path, init_options(&matches)))
+        }
+        Err(error) => Err(line_fault(alloc, &error)),
+    }
+}
+
+fn init_options<'a>(matches: &ArgMatches<'a>) -> InitOptions<'a>
+    ensures { init_texts_of result ≡ init_texts_in (rows_of (found_of matches.now)) }
+{
+    InitOptions {
+        odfi: argument_text(matches, "ODFI"),
+        odfi_name: argument_text(matches, "ODFI_NAME"),
+        destination: argument_text(matches, "DESTINATION"),
+        destination_name: argument_text(matches, "DESTINATION_NAME"),
+        key: argument_text(matches, "KEY"),
+    }
+}
+
+/// Reads the words of `serve DB PORT` with its options.
+pub fn serve_command<'a>(alloc: Global, words: &'a [&'a str]) -> Result<Command<'a>, LineFault>
+    ensures { Gives (named_serve (map (λ w. w.now) words.now))
+        (fault_of serve_app (map (λ w. w.now) words.now)) result }
+{
+    match serve_matches(alloc, words) {
+        Ok(matches) => {
+            let path = argument_text(&matches, "DB");
+            Ok(Command::Serve(path, serve_options(&matches)))
+        }
+        Err(error) => Err(line_fault(alloc, &error)),
+    }
+}
+
+fn serve_options(matches: &ArgMatches<'_>) -> ServeOptions
+    requires port { HasPort (rows_of (found_of matches.now)) }
+    requires connections { HasConnections (rows_of (found_of matches.now)) }
+    requires patience { HasPatience (rows_of (found_of matches.now)) }
+    ensures port { result.port ≡ number_in (codes "PORT") (rows_of (found_of matches.now)) }
+    ensures connections { result.connections ≡ number_in (codes "N")
+        (rows_of (found_of matches.now)) }
+    ensures patience { result.patience ≡ number_in (codes "SECONDS")
+        (rows_of (found_of matches.now)) }
+{
+    ServeOptions {
+        port: port_of(matches),
+        connections: connections_of(matches),
+        patience: patience_of(matches),
+    }
+}
+
+/// Reads the words of `migrate DB`.
+pub fn migrate_command<'a>(alloc: Global, words: &'a [&'a str]) -> Result<Command<'a>, LineFault>
+    ensures { Gives (named_migrate (map (λ w. w.now) words.now))
+        (fault_of migrate_app (map (λ w. w.now) words.now)) result }
+{
+    match migrate_matches(alloc, words) {
+        Ok(matches) => Ok(Command::Migrate(argument_text(&matches, "DB"))),
+        Err(error) => Err(line_fault(alloc, &error)),
+    }
+}

@@ -1,0 +1,22 @@
+//! This crate reads the words of the command line: the command that they name, with its options,
+//! or why they name none.
+//!
+//! A file `.._arguments` says what the program or a command takes, and `.._options` what it was given.
+#![tactic(auto)]
+
+mod command;
+mod desk_arguments;
+mod file_commands;
+mod given_values;
+mod help_words;
+mod init_options;
+mod plain_arguments;
+mod program_arguments;
+mod serve_arguments;
+mod serve_options;
+mod version_line;
+
+pub use command::{Command, LineFault, command_of};
+pub use init_options::InitOptions;
+pub use serve_options::ServeOptions;
+pub use version_line::VERSION_LINE;

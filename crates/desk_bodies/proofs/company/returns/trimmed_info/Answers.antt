@@ -1,6 +1,0 @@
-use Rattle.std.proofs.Common.{rules}
-use Rattle.desk_bodies.proofs.Blanks.{length-without_blanks_after}
-use Rattle.desk_bodies.proofs.company.returns.trimmed_info.Goals as goal
-
-pub returns-clause-short : goal.returns-clause-short
-returns-clause-short c = search (rules, length-without_blanks_after)

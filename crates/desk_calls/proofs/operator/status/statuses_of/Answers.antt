@@ -1,0 +1,32 @@
+use Rattle.std.proofs.Common.{◌≡◌, ◌∙◌, ◌+◌, ◌++◌, List, [], ◌∷◌, ap, sym, drop, append_assoc}
+use Rattle.std.proofs.lemmas.List.{drop_more}
+use Rattle.desk_rules.specs.declared.bodies.company.Company.{Company}
+use Rattle.desk_history.specs.declared.status.CompanyStatus.{CompanyStatus}
+use Rattle.desk_calls.specs.Status.{statuses}
+use Rattle.desk_calls.proofs.operator.status.statuses_of.Goals as goal
+
+pub loop-company-preserved : goal.loop-company-preserved
+loop-company-preserved g c =
+    let day = c.args.day.now in
+    let holidays = c.args.holidays.now in
+    let companies = c.args.companies.now in
+    let at = c.loop-company.company-index in
+    let found = c.loop-company.found.items in
+    let k = c.company-item.result in
+    let later = drop (at + 1) companies in
+    let split : drop at companies ≡ k ∷ later = drop_more companies at k c.loop-company-test.true ∙ ap (λ (one : Company). one ∷ later) (sym c.company-item.is) in
+    record {
+      before = λ clean. c.loop-company.invariant.before (c.status_of.ensures.before clean);
+      read = λ clean b held.
+          let so_far = c.loop-company.invariant.read (c.status_of.ensures.before clean) b held in
+          let read = c.in_ok-status.ensures.read clean b so_far.1 in
+          let rest = statuses day holidays later b in (
+            ap (λ (xs : List CompanyStatus). xs ++ rest) c.in_ok-push.ensures.items
+                ∙ append_assoc found (c.in_ok-status.status ∷ []) rest
+                ∙ ap (λ (s : CompanyStatus). found ++ s ∷ rest) read.0
+                ∙ ap (λ (ks : List Company). found ++ statuses day holidays ks b) (sym split)
+                ∙ so_far.0,
+            read.1,
+          );
+      left = λ clean kept may. c.loop-company.invariant.left (c.status_of.ensures.before clean) kept (c.status_of.ensures.left clean kept may);
+    }

@@ -1,0 +1,63 @@
+-- What the desk reads for a cut, and its outcome.
+use Rattle.std.specs.Prelude.{◌≡◌, ℕ, List, map, Option, Result, Ok, Err}
+use Rattle.desk_rules.specs.declared.refusals.refusal.Refusal.{Refusal}
+use Rattle.desk_rules.specs.declared.refusals.refusal.Refusal.TheVariants.{TracesSpent, ModifiersSpent}
+use Rattle.desk_book.specs.Book.{Book}
+use Rattle.desk_store.specs.declared.store.StoreFault.{StoreFault}
+use Rattle.desk_store.specs.declared.store.StoreFault.TheVariants.{Unavailable}
+use Rattle.desk_book.specs.Reads.{latest_settled}
+use Rattle.desk_book.specs.OnCut.{CutFacts, cut_facts, cut_on_day}
+use Rattle.desk_book.specs.Steps.{commit_cut}
+use Rattle.desk_cut.specs.declared.fault.CutFault.{CutFault}
+use Rattle.desk_cut.specs.declared.fault.CutFault.TheVariants as faults
+use Rattle.desk_cut.specs.declared.plan.CutPlan.{CutPlan}
+use Rattle.desk_cut.specs.Plan.{IsPlan, plan_write}
+use Rattle.desk_calls.specs.declared.operator.cut.CutReads.{CutReads}
+
+abbrev pub facts_in : CutReads → CutFacts
+facts_in x = record { identity = x.identity; day = x.day; holidays = x.holidays; last = x.last; made = x.made; waiting = x.waiting.items }
+
+-- for each range of sequences, the latest day on which a youngest entry with one of them settled
+abbrev pub latest_of : List (ℕ × ℕ) → Book → List (Option ℕ)
+latest_of ranges b = map (λ r. latest_settled r.0 r.1 b) ranges
+
+-- the plan of the cut that is made, or its refusal
+abbrev pub IsPlanned : Result CutPlan Refusal → Result CutFacts Refusal → Type 0
+IsPlanned (Ok p) (Ok x) = IsPlan x p
+IsPlanned (Err why) (Err first) = why ≡ first
+IsPlanned _ _ = ⊥
+
+-- it holds the book, and what was planned may be written to it
+abbrev pub HoldsFor : (holds : Book → Type 0) → CutPlan → Book → Type 0
+HoldsFor holds p b = holds b × (commit_cut (plan_write p)).Admits b
+
+abbrev pub HoldsPlanned : (holds : Book → Type 0) → Result CutPlan Refusal → Book → Type 0
+HoldsPlanned holds (Ok p) b = HoldsFor holds p b
+HoldsPlanned holds (Err why) b = holds b
+
+-- What was planned for these facts is the cut of each book that has them, and may be written; or the store
+-- could not act.
+abbrev pub Plans : (Book → Type 0) → CutFacts → Result (Result CutPlan Refusal) StoreFault → (Book → Type 0) → Type 0
+Plans old x (Ok planned) new = (b : Book) → old b → x ≡ cut_facts b x.day → IsPlanned planned (cut_on_day b x.day) × HoldsPlanned new planned b
+Plans old x (Err fault) new = (b : Book) → old b → new b
+
+-- why a cut is refused; a settlement after the last day from which rules count refuses nothing, nor does
+-- being out of memory
+abbrev pub refusal_of : CutFault → Result Refusal StoreFault
+refusal_of faults.TracesSpent = Ok TracesSpent
+refusal_of faults.ModifiersSpent = Ok ModifiersSpent
+refusal_of faults.DaysSpent = Err Unavailable
+refusal_of faults.NoMemory = Err Unavailable
+
+-- Where the fault refuses a cut, the cut of the book is refused so. Where it is that one would settle too far
+-- ahead, the cut of the book is not refused. So a cut that is refused has that fault, but for memory.
+abbrev pub RefusesOn : Book → CutFacts → CutFault → Type 0
+RefusesOn b x fault =
+    ((why : Refusal) → refusal_of fault ≡ Ok why → IsPlanned (Err why) (cut_on_day b x.day))
+    × (fault ≡ faults.DaysSpent → cut_on_day b x.day ≡ Ok (cut_facts b x.day))
+
+-- The same with the fault of the plan in place of the refusal.
+abbrev pub PlansOrTells : (Book → Type 0) → CutFacts → Result (Result CutPlan CutFault) StoreFault → (Book → Type 0) → Type 0
+PlansOrTells old x (Ok (Ok p)) new = (b : Book) → old b → x ≡ cut_facts b x.day → IsPlanned (Ok p) (cut_on_day b x.day) × HoldsFor new p b
+PlansOrTells old x (Ok (Err fault)) new = (b : Book) → old b → new b × (x ≡ cut_facts b x.day → RefusesOn b x fault)
+PlansOrTells old x (Err fault) new = (b : Book) → old b → new b

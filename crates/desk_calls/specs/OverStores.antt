@@ -1,0 +1,71 @@
+-- What a function over a store promises where the store is clean as the function ends: what it tells of the book
+-- and makes of it, and what a crash may leave then. `g` says which books a store holds and what a crash leaves of it.
+use Rattle.std.specs.Prelude.{ℕ, Bool, List, Result, Vec}
+use Rattle.std.specs.declared.alloc.Global.{Global}
+use Rattle.desk_history.specs.declared.answer.Answer.{Answer}
+use Rattle.desk_history.specs.Message.{Message, Of}
+use Rattle.desk_history.specs.Request.{Request}
+use Rattle.desk_book.specs.Book.{Book}
+use Rattle.desk_book.specs.OnBook.{reply_on}
+use Rattle.desk_book.specs.Requests.{added_row, with_added_row}
+use Rattle.desk_book.specs.Writes.{writes_on}
+use Rattle.desk_store.specs.Words.{Reads, ReadsList, LeavesRead}
+use Rattle.desk_store.specs.declared.store.Store.{Ghosts}
+use Rattle.desk_store.specs.declared.store.StoreFault.{StoreFault}
+use Rattle.desk_calls.specs.Answering.{Answers, LeavesCall}
+use Rattle.desk_calls.specs.Taking.{ReadsAs}
+
+module _ {S : Type 0} (g : Ghosts S) where
+  -- ---- what only reads
+
+  -- The result is this value of the book, or the store could not act; it holds the same book.
+  abbrev pub Gives : {A : Type 0} → (old new : S) → Result A StoreFault → (Book → A) → Type 0
+  Gives old new result value = g.is_clean new → Reads (g.holds old) result value (g.holds new)
+
+  -- the same of a list
+  abbrev pub GivesList : {A : Type 0} → (old new : S) → Result (Vec A Global) StoreFault → (Book → List A) → Type 0
+  GivesList old new result value = g.is_clean new → ReadsList (g.holds old) result value (g.holds new)
+
+  -- the same, where contracts see the result as another value
+  abbrev pub GivesAs : {A B : Type 0} → (old new : S) → (A → B) → Result A StoreFault → (Book → B) → Type 0
+  GivesAs old new view result value = g.is_clean new → ReadsAs view (g.holds old) result value (g.holds new)
+
+  -- A crash leaves nothing that it could not leave before.
+  abbrev pub LeavesNoMore : (old new : S) → Type 0
+  LeavesNoMore old new = g.is_clean new → LeavesRead (g.may_leave old) (g.may_leave new)
+
+  -- ---- answers of the desk
+
+  -- The answer is this one of the book, and the store then holds that book; or the store could not act, and holds
+  -- the same one.
+  abbrev pub AnswersWith : (old new : S) → Result Answer StoreFault → (Book → Answer) → (after : Book → Book) → Type 0
+  AnswersWith old new result answer after = g.is_clean new → Answers (g.holds old) result answer after (g.holds new)
+
+  -- the answer to what only asks
+  abbrev pub AnswersAsked : (old new : S) → Result Answer StoreFault → (Book → Answer) → Type 0
+  AnswersAsked old new result answer = AnswersWith old new result answer (λ b. b)
+
+  -- the reply to a company that only asks
+  abbrev pub RepliesAsked : (old new : S) → Result Answer StoreFault → (company : List ℕ) → Request → Type 0
+  RepliesAsked old new result company r = AnswersAsked old new result (λ b. reply_on b company r)
+
+  -- the reply to a submission or retry, which may add a row
+  abbrev pub RepliesAdding : (old new : S) → Result Answer StoreFault → (company : List ℕ) → Request → Type 0
+  RepliesAdding old new result company r =
+      AnswersWith old new result (λ b. reply_on b company r) (λ b. with_added_row company (added_row b company r) b)
+
+  -- ---- what a crash leaves then
+
+  -- Where the call wrote, a crash leaves what keeps the book that it made, and where it wrote nothing, nothing new;
+  -- where the store could not act, either.
+  abbrev pub LeavesWith : (old new : S) → Result Answer StoreFault → (writes : Book → Bool) → (after : Book → Book) → Type 0
+  LeavesWith old new result writes after = g.is_clean new → LeavesCall g.keeps (g.holds old) (g.may_leave old) result writes after (g.may_leave new)
+
+  -- after a message
+  abbrev pub LeavesAfter : (old new : S) → Result Answer StoreFault → Message → (after : Book → Book) → Type 0
+  LeavesAfter old new result m after = LeavesWith old new result (λ b. writes_on b m) after
+
+  -- after a submission or retry
+  abbrev pub LeavesAdding : (old new : S) → Result Answer StoreFault → (company : List ℕ) → Request → Type 0
+  LeavesAdding old new result company r =
+      LeavesAfter old new result (Of company r) (λ b. with_added_row company (added_row b company r) b)

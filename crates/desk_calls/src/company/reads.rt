@@ -1,0 +1,139 @@
+//! What a company reads: its returns, changes, submissions, statement, rates and exposure.
+ghost use Rattle.desk_history.specs.Request as request;
+ghost use Rattle.desk_calls.specs.Answering.{Answers};
+ghost use Rattle.desk_calls.specs.OverStores.{LeavesNoMore, RepliesAsked};
+
+use crate::company::report::report_or_none;
+use crate::company::statement::statement;
+use crate::guards::{company_limits, desk_day};
+use crate::refuse::refuse;
+use ach_fields::{Id, Ref};
+use desk_accounts::Account;
+use desk_history::{Answer, DayRates, Exposure, Outcome};
+use desk_store::{Store, StoreFault};
+use std::alloc::Global;
+
+/// Answers with the returns of a company's entries.
+pub(crate) fn returns_of<S: Store>(
+    store: &mut S,
+    alloc: Global,
+    company: Id,
+) -> Result<Answer, StoreFault>
+    ensures before { S.is_clean store.new → S.is_clean store.old }
+    ensures answers { RepliesAsked S.Store store.old store.new result company request.Returns }
+    ensures left { LeavesNoMore S.Store store.old store.new }
+{
+    if let Err(why) = company_limits(store, alloc, company)? {
+        return Ok(refuse(why));
+    }
+    let items = store.items_of(alloc, company)?;
+    Ok(Answer::Done(Outcome::Returns(items.returns)))
+}
+
+/// Answers with the changes of a company's entries.
+pub(crate) fn changes_of<S: Store>(
+    store: &mut S,
+    alloc: Global,
+    company: Id,
+) -> Result<Answer, StoreFault>
+    ensures before { S.is_clean store.new → S.is_clean store.old }
+    ensures answers { RepliesAsked S.Store store.old store.new result company request.Changes }
+    ensures left { LeavesNoMore S.Store store.old store.new }
+{
+    if let Err(why) = company_limits(store, alloc, company)? {
+        return Ok(refuse(why));
+    }
+    let items = store.items_of(alloc, company)?;
+    Ok(Answer::Done(Outcome::Changes(items.changes)))
+}
+
+/// Answers with a company's submission or retry, by its reference.
+pub(crate) fn look_up<S: Store>(
+    store: &mut S,
+    alloc: Global,
+    company: Id,
+    reference: Ref,
+) -> Result<Answer, StoreFault>
+    ensures before { S.is_clean store.new → S.is_clean store.old }
+    ensures answers { RepliesAsked S.Store store.old store.new result company
+        (request.LookUp reference) }
+    ensures left { LeavesNoMore S.Store store.old store.new }
+{
+    if let Err(why) = company_limits(store, alloc, company)? {
+        return Ok(refuse(why));
+    }
+    let row = store.submission(alloc, company, reference)?;
+    Ok(Answer::Done(Outcome::Found(report_or_none(alloc, &row)?)))
+}
+
+/// Answers with a company's statement on the desk day.
+pub(crate) fn statement_of<S: Store>(
+    store: &mut S,
+    alloc: Global,
+    company: Id,
+) -> Result<Answer, StoreFault>
+    ensures before { S.is_clean store.new → S.is_clean store.old }
+    ensures answers { RepliesAsked S.Store store.old store.new result company request.Statement }
+    ensures left { LeavesNoMore S.Store store.old store.new }
+{
+    desk_accounts::balances_by_day();
+    if let Err(why) = company_limits(store, alloc, company)? {
+        return Ok(refuse(why));
+    }
+    let day = match desk_day(store, alloc)? {
+        Ok(day) => day,
+        Err(why) => return Ok(refuse(why)),
+    };
+    let sums = store.balances_of(alloc, Account::Company(company))?;
+    let postings = store.postings_of(alloc, Account::Company(company))?;
+    let statement = statement(alloc, day, &sums, postings)?;
+    Ok(Answer::Done(Outcome::Statement(statement)))
+}
+
+/// Answers with a company's return rates on the desk day.
+pub(crate) fn rates_of<S: Store>(
+    store: &mut S,
+    alloc: Global,
+    company: Id,
+) -> Result<Answer, StoreFault>
+    ensures before { S.is_clean store.new → S.is_clean store.old }
+    ensures answers { RepliesAsked S.Store store.old store.new result company request.Rates }
+    ensures left { LeavesNoMore S.Store store.old store.new }
+{
+    if let Err(why) = company_limits(store, alloc, company)? {
+        return Ok(refuse(why));
+    }
+    let day = match desk_day(store, alloc)? {
+        Ok(day) => day,
+        Err(why) => return Ok(refuse(why)),
+    };
+    let rates = store.rates(alloc, company, day)?;
+    Ok(Answer::Done(Outcome::Rates(DayRates { day, rates })))
+}
+
+/// Answers with a company's exposures on the desk day, and its limits.
+pub(crate) fn exposure_of<S: Store>(
+    store: &mut S,
+    alloc: Global,
+    company: Id,
+) -> Result<Answer, StoreFault>
+    ensures before { S.is_clean store.new → S.is_clean store.old }
+    ensures answers { RepliesAsked S.Store store.old store.new result company request.Exposure }
+    ensures left { LeavesNoMore S.Store store.old store.new }
+{
+    let limits = match company_limits(store, alloc, company)? {
+        Ok(limits) => limits,
+        Err(why) => return Ok(refuse(why)),
+    };
+    let day = match desk_day(store, alloc)? {
+        Ok(day) => day,
+        Err(why) => return Ok(refuse(why)),
+    };
+    let (credit, debit) = store.exposures(alloc, company, day)?;
+    Ok(Answer::Done(Outcome::Exposure(Exposure {
+        credit,
+        debit,
+        day,
+        limits,
+    })))
+}

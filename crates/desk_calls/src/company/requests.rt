@@ -1,0 +1,118 @@
+//! A submission and a retry share what is asked first, the verdict, and its write.
+ghost use Rattle.std.specs.Prelude.{◌≡◌, ◌+◌, length, IfOk};
+ghost use Rattle.desk_calls.specs.Verdicts.{limits_and_day, refused_verdict, known_verdict, fresh_verdict, Adds, LeavesAdded};
+ghost use Rattle.desk_calls.specs.OverStores.{Gives, LeavesNoMore};
+
+use crate::company::receipt::receipt;
+use crate::company::verdict::{NewRow, Verdict};
+use crate::guards::{company_limits, desk_day};
+use crate::refuse::refuse;
+use ach_fields::Id;
+use bank_days::Day;
+use desk_book::Row;
+use desk_history::{Answer, Outcome};
+use desk_rules::{Limits, Refusal, Retry, SizedSubmission};
+use desk_store::{Store, StoreFault};
+use std::alloc::Global;
+
+/// Gives the limits of a registered company, and the desk day.
+pub(crate) fn limits_and_day<S: Store>(
+    store: &mut S,
+    alloc: Global,
+    company: Id,
+) -> Result<Result<(Limits, Day), Refusal>, StoreFault>
+    ensures before { S.is_clean store.new → S.is_clean store.old }
+    ensures read { Gives S.Store store.old store.new result (λ b. limits_and_day b company) }
+    ensures left { LeavesNoMore S.Store store.old store.new }
+{
+    let limits = match company_limits(store, alloc, company)? {
+        Ok(limits) => limits,
+        Err(why) => return Ok(Err(why)),
+    };
+    match desk_day(store, alloc)? {
+        Ok(today) => Ok(Ok((limits, today))),
+        Err(why) => Ok(Err(why)),
+    }
+}
+
+/// Gives the order number that a company's next submission or retry gets.
+pub(crate) fn next_order<S: Store>(
+    store: &mut S,
+    alloc: Global,
+    company: Id,
+) -> Result<u64, StoreFault>
+    ensures before { S.is_clean store.new → S.is_clean store.old }
+    ensures read { Gives S.Store store.old store.new result (λ b. length (b.rows company) + 1) }
+    ensures left { LeavesNoMore S.Store store.old store.new }
+{
+    let count = store.submission_count(alloc, company)?;
+    match count.checked_add(1) {
+        Some(order) => Ok(order),
+        None => Err(StoreFault::Unavailable),
+    }
+}
+
+/// Gives the verdict of a refusal.
+pub(crate) fn refused_verdict(why: Refusal) -> Verdict
+    ensures { result ≡ refused_verdict why }
+{
+    Verdict {
+        answer: refuse(why),
+        added: None,
+    }
+}
+
+/// Gives the verdict where a row has the reference: what is the same is answered as it was the
+/// first time.
+pub(crate) fn known_verdict(row: &Row, same: bool) -> Verdict
+    ensures { result ≡ known_verdict same row.now }
+{
+    if !same {
+        return refused_verdict(Refusal::RefReused);
+    }
+    Verdict {
+        answer: Answer::Done(Outcome::Submitted(receipt(&row.content, row.order))),
+        added: None,
+    }
+}
+
+/// Gives the verdict where no row has the reference.
+pub(crate) fn fresh_verdict(
+    order: u64,
+    retry: Option<Retry>,
+    content: Result<SizedSubmission, Refusal>,
+) -> Verdict
+    ensures { result ≡ fresh_verdict order retry content }
+{
+    match content {
+        Err(why) => refused_verdict(why),
+        Ok(content) => Verdict {
+            answer: Answer::Done(Outcome::Submitted(receipt(&content, order))),
+            added: Some(NewRow {
+                order,
+                content,
+                retry,
+            }),
+        },
+    }
+}
+
+/// Adds what a verdict adds, and answers.
+pub(crate) fn add<S: Store>(
+    store: &mut S,
+    alloc: Global,
+    company: Id,
+    verdict: Verdict,
+) -> Result<Answer, StoreFault>
+    ensures before { S.is_clean store.new → S.is_clean store.old }
+    ensures answers { S.is_clean store.new →
+        Adds (S.holds store.old) result company verdict (S.holds store.new) }
+    ensures left { S.is_clean store.new →
+        LeavesAdded S.keeps (S.holds store.old) (S.may_leave store.old) result company verdict
+        (S.may_leave store.new) }
+{
+    if let Some(new) = &verdict.added {
+        store.add_submission(alloc, company, new.order, &new.content, new.retry)?;
+    }
+    Ok(verdict.answer)
+}

@@ -1,0 +1,94 @@
+ghost use Rattle.std.specs.Prelude.{◌≡◌};
+ghost use Rattle.desk_store.specs.Words.{LeavesRead};
+ghost use Rattle.desk_calls.specs.Answering.{Allows};
+ghost use Rattle.desk_calls.specs.Applying.{AnswersCall, IsReadCall, LeavesMessage, HasBook, Goes, Replies, LeavesBook};
+ghost use Rattle.desk_calls.specs.OverStores.{LeavesNoMore};
+
+use crate::allow::allow;
+use crate::respond::respond;
+use desk_book::Caller;
+use desk_history::{Answer, Call};
+use desk_store::{Store, StoreFault};
+use std::alloc::Global;
+use std::marker::Model;
+
+/// A `Desk` is a desk over its store. Clauses see the store.
+#[derive(Drop)]
+pub struct Desk<S> {
+    store: S,
+}
+
+impl<S> Model for Desk<S> {
+    ghost Value = { S };
+
+    ghost view = { λ d. d.store };
+
+    ghost inverse = { λ s. record { store = s } };
+}
+
+impl<S> Desk<S> {
+    /// Makes the desk of a store.
+    pub fn new(store: S) -> Desk<S>
+        ensures { result ≡ store }
+    {
+        Desk { store }
+    }
+
+    /// Gives its store.
+    pub fn into_store(self) -> S
+        ensures { result ≡ self }
+    {
+        self.store
+    }
+}
+
+impl<S: Store> Desk<S> {
+    /// Answers a call, with the one write that it makes. A refusal by a rule is an answer too, and
+    /// writes nothing; nor does what was accepted before and is sent again.
+    ///
+    /// The error `Unavailable` says that the desk is out of memory or the store could not act: the store
+    /// holds the book that it held, and the call may be made again. The answer is made before the
+    /// write, so that what was written is answered.
+    ///
+    /// By the clauses `answers`, `leaves` and `book` it is so of whatever book the store holds, and by
+    /// the others of the history that the book stands for. By `read` a call that only asks, answered or
+    /// not, changes nothing that a crash may leave.
+    pub fn apply(&mut self, alloc: Global, call: Call) -> Result<Answer, StoreFault>
+        ensures before { S.is_clean self.new → S.is_clean self.old }
+        ensures answers { S.is_clean self.new →
+            AnswersCall (S.holds self.old) call result (S.holds self.new) }
+        ensures leaves { S.is_clean self.new →
+            LeavesMessage S.keeps (S.holds self.old) (S.may_leave self.old) call result
+            (S.may_leave self.new) }
+        ensures book { S.is_clean self.new → HasBook (S.holds self.old) →
+            HasBook (S.holds self.new) }
+        ensures goes { S.is_clean self.new →
+            Goes (S.holds self.old) call result (S.holds self.new) }
+        ensures replies { S.is_clean self.new → Replies (S.holds self.old) call result }
+        ensures left { S.is_clean self.new →
+            LeavesBook S.keeps (S.holds self.old) (S.may_leave self.old) call result
+            (S.may_leave self.new) }
+        ensures read { S.is_clean self.new → IsReadCall call →
+            LeavesRead (S.may_leave self.old) (S.may_leave self.new) }
+    {
+        desk_history::one_message();
+        desk_book::book_tells();
+        respond(&mut self.store, alloc, call)
+    }
+
+    /// Is this the digest of the caller's key? The operator has one, and each registered company.
+    /// The error is `Unavailable`, where the store could not act.
+    pub fn allow(
+        &mut self,
+        alloc: Global,
+        caller: Caller,
+        digest: [u8; 32],
+    ) -> Result<bool, StoreFault>
+        ensures before { S.is_clean self.new → S.is_clean self.old }
+        ensures allows { S.is_clean self.new →
+            Allows (S.holds self.old) result caller digest (S.holds self.new) }
+        ensures left { LeavesNoMore S.Store self.old self.new }
+    {
+        allow(&mut self.store, alloc, caller, digest)
+    }
+}

@@ -1,0 +1,81 @@
+//! What the operator reads: files, the settlement account and suspense.
+ghost use Rattle.std.specs.Prelude.{◌≡◌, map, IfOk};
+ghost use Rattle.desk_accounts.specs.Balance.{days_balance};
+ghost use Rattle.desk_history.specs.Postings.{day_sum};
+ghost use Rattle.desk_calls.specs.Answering.{Answers};
+ghost use Rattle.desk_book.specs.OnOperator.{file_answer, settlement_answer, suspense_answer};
+ghost use Rattle.desk_calls.specs.OverStores.{LeavesNoMore, AnswersAsked};
+
+use crate::guards::desk_day;
+use crate::refuse::refuse;
+use bank_days::Day;
+use desk_accounts::Account;
+use desk_history::{Answer, DaySum, ListOf, Outcome, Settlement};
+use desk_store::{Store, StoreFault};
+use std::alloc::{AllocError, Global};
+
+/// Answers with the text of a file that a cut made.
+pub(crate) fn file_text<S: Store>(
+    store: &mut S,
+    alloc: Global,
+    day: Day,
+    modifier: u8,
+) -> Result<Answer, StoreFault>
+    ensures before { S.is_clean store.new → S.is_clean store.old }
+    ensures answers { AnswersAsked S.Store store.old store.new result (file_answer day modifier) }
+    ensures left { LeavesNoMore S.Store store.old store.new }
+{
+    let text = store.file(alloc, day, modifier)?;
+    Ok(Answer::Done(Outcome::File(text)))
+}
+
+/// Answers with the operator's account on the desk day.
+pub(crate) fn settlement<S: Store>(store: &mut S, alloc: Global) -> Result<Answer, StoreFault>
+    ensures before { S.is_clean store.new → S.is_clean store.old }
+    ensures answers { AnswersAsked S.Store store.old store.new result settlement_answer }
+    ensures left { LeavesNoMore S.Store store.old store.new }
+{
+    desk_accounts::balances_by_day();
+    let day = match desk_day(store, alloc)? {
+        Ok(day) => day,
+        Err(why) => return Ok(refuse(why)),
+    };
+    let rows = store.balances_of(alloc, Account::Operator)?;
+    let settlement = settlement_of(alloc, &rows, day)?;
+    Ok(Answer::Done(Outcome::Settlement(settlement)))
+}
+
+// The settlement on a day, from the sums by value day.
+fn settlement_of(alloc: Global, rows: &[(Day, i128)], day: Day) -> Result<Settlement, StoreFault>
+    ensures { IfOk result (λ s. s ≡
+        record { balance = days_balance day rows.now; day = day; days = map day_sum rows.now }) }
+{
+    let Some(balance) = desk_accounts::balance_of_days(rows, day) else {
+        return Err(StoreFault::Unavailable);
+    };
+    let days = ListOf::new(sums_of(alloc, rows)?);
+    Ok(Settlement { balance, day, days })
+}
+
+fn sums_of(alloc: Global, rows: &[(Day, i128)]) -> Result<Vec<DaySum>, AllocError>
+    ensures { IfOk result (λ sums. sums.items ≡ map day_sum rows.now) }
+{
+    let mut sums = Vec::new(alloc);
+    for row in rows {
+        sums.push(DaySum {
+            cents: row.1,
+            day: row.0,
+        })?;
+    }
+    Ok(sums)
+}
+
+/// Answers with what stands in suspense.
+pub(crate) fn suspense_items<S: Store>(store: &mut S, alloc: Global) -> Result<Answer, StoreFault>
+    ensures before { S.is_clean store.new → S.is_clean store.old }
+    ensures answers { AnswersAsked S.Store store.old store.new result suspense_answer }
+    ensures left { LeavesNoMore S.Store store.old store.new }
+{
+    let items = store.suspense(alloc)?;
+    Ok(Answer::Done(Outcome::Suspense(ListOf::new(items))))
+}

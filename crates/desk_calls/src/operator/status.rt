@@ -1,0 +1,127 @@
+//! The operator reads how the desk stands.
+ghost use Rattle.std.specs.Prelude.{◌≡◌, take, IfOk};
+ghost use Rattle.desk_plan.specs.Modifiers.{modifiers};
+ghost use Rattle.desk_history.specs.Status.{modifiers_on};
+ghost use Rattle.desk_book.specs.OnStatus.{company_status, status_answer};
+ghost use Rattle.desk_book.specs.Reads.{waiting_of};
+ghost use Rattle.desk_calls.specs.Answering.{Answers};
+ghost use Rattle.desk_calls.specs.Status.{statuses};
+ghost use Rattle.desk_calls.specs.OverStores.{Gives, GivesList, LeavesNoMore, AnswersAsked};
+
+use bank_days::{Calendar, Day};
+use desk_cut::company_status;
+use desk_history::{Answer, CompanyStatus, DeskStatus, ListOf, Outcome};
+use desk_plan::modifier;
+use desk_rules::{Company, RuleDay};
+use desk_store::{Store, StoreFault};
+use std::alloc::Global;
+
+// What a company has waiting. What could not be summed is answered as what a store could not read.
+fn status_of<S: Store>(
+    store: &mut S,
+    alloc: Global,
+    day: &Option<RuleDay>,
+    holidays: &Calendar,
+    company: &Company,
+) -> Result<CompanyStatus, StoreFault>
+    ensures before { S.is_clean store.new → S.is_clean store.old }
+    ensures read { Gives S.Store store.old store.new result
+        (λ b. company_status day.now holidays.now company.now (waiting_of company.now b)) }
+    ensures left { LeavesNoMore S.Store store.old store.new }
+{
+    let waiting = store.waiting_of(alloc, *company)?;
+    match company_status(alloc, *day, holidays, company, &waiting) {
+        Ok(status) => Ok(status),
+        Err(_) => Err(StoreFault::Unavailable),
+    }
+}
+
+// What each of these companies has waiting.
+fn statuses_of<S: Store>(
+    store: &mut S,
+    alloc: Global,
+    day: &Option<RuleDay>,
+    holidays: &Calendar,
+    companies: &[Company],
+) -> Result<Vec<CompanyStatus>, StoreFault>
+    ensures before { S.is_clean store.new → S.is_clean store.old }
+    ensures read { GivesList S.Store store.old store.new result
+        (statuses day.now holidays.now companies.now) }
+    ensures left { LeavesNoMore S.Store store.old store.new }
+{
+    let mut found = Vec::new(alloc);
+    for company in companies {
+        let status = status_of(store, alloc, day, holidays, company)?;
+        found.push(status)?;
+    }
+    Ok(found)
+}
+
+// The modifiers of the first files of a day.
+fn first_modifiers(alloc: Global, made: u64) -> Result<Vec<u8>, StoreFault>
+    ensures { IfOk result (λ found. found.items ≡ take made modifiers) }
+{
+    let Ok(made) = u32::try_from(made) else {
+        return Err(StoreFault::Unavailable);
+    };
+    let mut found = Vec::new(alloc);
+    for before in 0..made {
+        let Some(modifier) = modifier(before) else {
+            return Err(StoreFault::Unavailable);
+        };
+        found.push(modifier)?;
+    }
+    Ok(found)
+}
+
+// The modifiers of the day's files.
+fn files_of<S: Store>(
+    store: &mut S,
+    alloc: Global,
+    day: &Option<RuleDay>,
+) -> Result<Vec<u8>, StoreFault>
+    ensures before { S.is_clean store.new → S.is_clean store.old }
+    ensures read { GivesList S.Store store.old store.new result
+        (λ b. modifiers_on day.now b.files_on) }
+    ensures left { LeavesNoMore S.Store store.old store.new }
+{
+    match day {
+        None => Ok(Vec::new(alloc)),
+        Some(day) => {
+            let made = store.files_on(alloc, day.day())?;
+            first_modifiers(alloc, made)
+        }
+    }
+}
+
+fn day_of(day: &Option<RuleDay>) -> Option<Day>
+    ensures { result ≡ day.now }
+{
+    match day {
+        Some(day) => Some(day.day()),
+        None => None,
+    }
+}
+
+/// Answers with how the desk stands.
+pub(crate) fn status<S: Store>(store: &mut S, alloc: Global) -> Result<Answer, StoreFault>
+    ensures before { S.is_clean store.new → S.is_clean store.old }
+    ensures answers { AnswersAsked S.Store store.old store.new result status_answer }
+    ensures left { LeavesNoMore S.Store store.old store.new }
+{
+    let day = store.day(alloc)?;
+    let holidays = store.calendar(alloc)?;
+    let companies = store.companies(alloc)?;
+    let statuses = statuses_of(store, alloc, &day, &holidays, &companies)?;
+    let files = files_of(store, alloc, &day)?;
+    let sent = store.sent_count(alloc)?;
+    let suspense = store.suspense_count(alloc)?;
+    Ok(Answer::Done(Outcome::Status(DeskStatus {
+        companies: ListOf::new(statuses),
+        day: day_of(&day),
+        files: ListOf::new(files),
+        holidays: holidays.holidays().len() as u64,
+        sent,
+        suspense,
+    })))
+}

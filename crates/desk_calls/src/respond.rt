@@ -1,0 +1,52 @@
+//! A call is answered by the book.
+ghost use Rattle.desk_store.specs.Words.{LeavesRead};
+ghost use Rattle.desk_calls.specs.Applying.{AnswersCall, IsReadCall, LeavesMessage};
+
+use crate::company::reads::{changes_of, exposure_of, look_up, rates_of, returns_of, statement_of};
+use crate::company::submission::submit;
+use crate::operator::cut::cut;
+use crate::operator::intake::take_file;
+use crate::operator::reads::{file_text, settlement, suspense_items};
+use crate::operator::settings::{put_company, put_limits, set_day, set_holidays};
+use crate::operator::status::status;
+use crate::retry::call::retry;
+use desk_history::{Answer, Call};
+use desk_store::{Store, StoreFault};
+use std::alloc::Global;
+
+/// Gives the answer to a call, with the one write that it makes.
+pub(crate) fn respond<S: Store>(
+    store: &mut S,
+    alloc: Global,
+    call: Call,
+) -> Result<Answer, StoreFault>
+    ensures before { S.is_clean store.new → S.is_clean store.old }
+    ensures answers { S.is_clean store.new →
+        AnswersCall (S.holds store.old) call result (S.holds store.new) }
+    ensures left { S.is_clean store.new →
+        LeavesMessage S.keeps (S.holds store.old) (S.may_leave store.old) call result
+        (S.may_leave store.new) }
+    ensures read { S.is_clean store.new → IsReadCall call →
+        LeavesRead (S.may_leave store.old) (S.may_leave store.new) }
+{
+    match call {
+        Call::PutCompany(draft) => put_company(store, alloc, &draft),
+        Call::PutLimits(draft) => put_limits(store, alloc, &draft),
+        Call::SetDay(text) => set_day(store, alloc, &text),
+        Call::SetHolidays(text) => set_holidays(store, alloc, text.as_slice()),
+        Call::Cut => cut(store, alloc),
+        Call::TakeFile(bytes) => take_file(store, alloc, bytes.as_slice()),
+        Call::FileText(day, modifier) => file_text(store, alloc, day, modifier),
+        Call::Settlement => settlement(store, alloc),
+        Call::SuspenseItems => suspense_items(store, alloc),
+        Call::Status => status(store, alloc),
+        Call::Submit(company, draft) => submit(store, alloc, company, &draft),
+        Call::Retry(company, draft) => retry(store, alloc, company, &draft),
+        Call::LookUp(company, reference) => look_up(store, alloc, company, reference),
+        Call::ReturnsOf(company) => returns_of(store, alloc, company),
+        Call::ChangesOf(company) => changes_of(store, alloc, company),
+        Call::StatementOf(company) => statement_of(store, alloc, company),
+        Call::RatesOf(company) => rates_of(store, alloc, company),
+        Call::ExposureOf(company) => exposure_of(store, alloc, company),
+    }
+}

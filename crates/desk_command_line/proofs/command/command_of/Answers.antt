@@ -1,5 +1,0 @@
-use Rattle.desk_command_line.proofs.HelpLemmas.{help_names_none}
-use Rattle.desk_command_line.proofs.command.command_of.Goals as goal
-
-pub help_fault-requires : goal.help_fault-requires
-help_fault-requires c = help_names_none c.in-Some.name.now

@@ -1,8 +1,0 @@
-use Rattle.desk_command_line.proofs.CommandLineLemmas.{parses_as, init_simple, init_free}
-use Rattle.desk_command_line.specs.Arguments.{init_app}
-use Rattle.desk_command_line.proofs.desk_arguments.init_matches.Goals as goal
-
-pub returns : goal.returns
-returns c =
-    let parse = c.try_get_matches_from in
-    parses_as init_app _ _ parse.result c.in_ok-command.ensures init_simple init_free parse.ensures.matches parse.ensures.kinds

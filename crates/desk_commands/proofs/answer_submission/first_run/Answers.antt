@@ -1,9 +1,0 @@
-use Rattle.desk_commands.specs.SubmissionRuns.{first_run_line}
-use Rattle.desk_commands.proofs.PrintingLemmas.{has_answered, is_failed_run}
-use Rattle.desk_commands.proofs.answer_submission.first_run.Goals as goal
-
-pub returns : goal.returns
-returns g c = record {
-  answered = λ fine. has_answered first_run_line _ _ _ _ _ c.input_answer-answer.ensures (c.print_answer.ensures.printed fine);
-  failed = λ failed. is_failed_run first_run_line _ _ _ _ c.input_answer-answer.ensures (c.print_answer.ensures.failed failed);
-}

@@ -1,8 +1,0 @@
-use Rattle.desk_commands.proofs.FileCheckLemmas.{checked, check_failed}
-use Rattle.desk_commands.proofs.check_incoming.check_file.Goals as goal
-
-pub returns : goal.returns
-returns g c = record {
-  answered = λ fine. checked _ _ _ _ _ c.file_answer-answer.ensures (c.print_answer.ensures.printed fine);
-  failed = λ failed. check_failed _ _ _ _ c.file_answer-answer.ensures (c.print_answer.ensures.failed failed);
-}

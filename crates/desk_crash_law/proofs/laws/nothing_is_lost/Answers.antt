@@ -1,5 +1,0 @@
-use Rattle.desk_crash_law.proofs.Kept.{nothing_is_lost}
-use Rattle.desk_crash_law.proofs.laws.nothing_is_lost.Goals as goal
-
-pub returns : goal.returns
-returns c = nothing_is_lost

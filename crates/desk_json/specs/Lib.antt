@@ -1,5 +1,0 @@
-pub mod Acceptance
-pub mod Drafts
-pub mod FieldKeys
-pub mod Read
-pub mod Refusals

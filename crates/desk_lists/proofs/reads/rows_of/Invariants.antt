@@ -1,6 +1,0 @@
-use Rattle.std.proofs.Common.{◌≡◌, ◌++◌, drop}
-use Rattle.desk_lists.specs.Finds.{rows_for}
-use Rattle.desk_lists.proofs.reads.rows_of.Given as goal
-
-abbrev pub invariant-loop-one : goal.invariant-loop-one
-invariant-loop-one l = l.rows.items ++ rows_for (drop l.one-index l.kept) l.company ≡ rows_for l.kept l.company

@@ -1,4 +1,0 @@
-use Rattle.desk_lists.proofs.row_places.RowPlaces.cover_references.Goals as goal
-
-pub returns-clause-whole : goal.returns-clause-whole
-returns-clause-whole c = λ held. c.in_ok-cover.ensures.whole held.references

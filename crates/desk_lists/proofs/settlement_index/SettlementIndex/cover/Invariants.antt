@@ -1,9 +1,0 @@
-use Rattle.std.proofs.Common.{◌≡◌}
-use Rattle.desk_lists.specs.Indexed.{AreSettled}
-use Rattle.desk_lists.proofs.settlement_index.SettlementIndex.cover.Given as goal
-
-abbrev pub invariant-loop-at : goal.invariant-loop-at
-invariant-loop-at l = record {
-  covered : l.self.indexed ≡ l.at;
-  right : AreSettled l.sent l.fn.self → AreSettled l.sent l.self;
-}

@@ -1,6 +1,0 @@
-use Rattle.std.proofs.Common.{rules}
-use Rattle.std.proofs.lemmas.List.Sorted.{answers_always}
-use Rattle.desk_queries.proofs.items.in_order.Goals as goal
-
-pub returns-clause-sorted : goal.returns-clause-sorted
-returns-clause-sorted c = c.sort_unstable_by_key.ensures.sorted (λ l. l.number) (answers_always _ _ _ (λ f a r g h. search rules))

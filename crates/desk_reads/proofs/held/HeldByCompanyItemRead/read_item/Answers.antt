@@ -1,5 +1,0 @@
-use Rattle.desk_reads.proofs.Joined.{asked}
-use Rattle.desk_reads.proofs.held.HeldByCompanyItemRead.read_item.Goals as goal
-
-pub returns : goal.returns
-returns g c = asked c.waiting_of.ensures

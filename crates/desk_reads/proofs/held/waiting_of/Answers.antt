@@ -1,9 +1,0 @@
-use Rattle.desk_reads.proofs.HeldRows.{held_of_heads}
-use Rattle.desk_reads.proofs.Joined.{query, learnt, both, answered}
-use Rattle.desk_reads.proofs.held.waiting_of.Goals as goal
-
-pub returns : goal.returns
-returns g c =
-    let heads = query (rw c.in_ok-heads.ensures at c.waiting_submissions.ensures.answer) c.waiting_submissions.ensures.stays c.waiting_submissions.ensures.survives in
-    answered (both heads (learnt c.read_each.ensures c.in_ok-found.was))
-    (λ t told. held_of_heads c.args.company.now t c.in_ok-found.found.items c.in_ok-heads.heads.items told.0 told.1)

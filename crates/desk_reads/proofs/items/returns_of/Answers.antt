@@ -1,9 +1,0 @@
-use Rattle.std.proofs.Common.{◌∙◌, ap, map}
-use Rattle.desk_records.specs.Composed.{return_row_in}
-use Rattle.desk_reads.proofs.Joined.{query, answered_last}
-use Rattle.desk_reads.proofs.items.returns_of.Goals as goal
-
-pub returns : goal.returns
-returns g c =
-    let lines = query (rw c.in_ok-lines.ensures at c.return_lines.ensures.answer) c.return_lines.ensures.stays c.return_lines.ensures.survives in
-    answered_last lines c.read_each.ensures (λ found t are these. these ∙ ap (map (return_row_in c.args.company t)) are)

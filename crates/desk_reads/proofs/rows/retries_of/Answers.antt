@@ -1,9 +1,0 @@
-use Rattle.std.proofs.Common.{◌∙◌, ap, map}
-use Rattle.desk_records.specs.TableReads.{whole_row}
-use Rattle.desk_reads.proofs.Joined.{query, answered_last}
-use Rattle.desk_reads.proofs.rows.retries_of.Goals as goal
-
-pub returns : goal.returns
-returns g c =
-    let heads = query (rw c.in_ok-heads.ensures at c.retries.ensures.answer) c.retries.ensures.stays c.retries.ensures.survives in
-    answered_last heads c.rows.ensures (λ found t are these. these ∙ ap (map (whole_row t)) are)

@@ -1,7 +1,0 @@
-use Rattle.std.proofs.Common.{◌∙◌, sym}
-use Rattle.desk_queries.proofs.Selects.{each_itself}
-use Rattle.desk_reads.proofs.Joined.{learnt, learned}
-use Rattle.desk_reads.proofs.rows.rows.Goals as goal
-
-pub returns : goal.returns
-returns g c = learned (learnt c.read_each.ensures c.in_ok-found.was) (λ t are. sym (each_itself c.in_ok-found.found.items) ∙ are)

@@ -1,9 +1,0 @@
-use Rattle.std.proofs.Common.{◌∙◌, ap, sym, Some, option_map}
-use Rattle.desk_records.specs.TableReads.{whole_row}
-use Rattle.desk_reads.proofs.Joined.{query, read, both, answered}
-use Rattle.desk_reads.proofs.rows.submission.Goals as goal
-
-pub returns-in_ok-row-in-Some : goal.returns-in_ok-row-in-Some
-returns-in_ok-row-in-Some g c =
-    let head = query (rw c.in_ok-head.ensures at c.submission.ensures.answer) c.submission.ensures.stays c.submission.ensures.survives in
-    answered (both head (read c.row.ensures c.in_ok-row-in-Some.was).so) (λ t told. ap Some told.1 ∙ ap (option_map (whole_row t)) (sym c.in-Some.is ∙ told.0))

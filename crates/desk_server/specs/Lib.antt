@@ -1,2 +1,0 @@
-pub mod Lingering
-pub mod Serving

@@ -1,4 +1,0 @@
-pub mod Causes
-pub mod Exchanges
-pub mod Session
-pub mod Turns

@@ -1,9 +1,0 @@
-use Rattle.sqlite.specs.Held.{state}
-use Rattle.desk_setup.proofs.DeskRows.{desk_put}
-use Rattle.desk_setup.proofs.new_desk.put_desk.Goals as goal
-
-pub returns-clause-makes : goal.returns-clause-makes
-returns-clause-makes g c clean blank =
-    let row = c.args.row.now in
-    let ran = rw (c.number.ensures, c.number-2.ensures, c.requires.0, c.bytes.ensures.value, c.requires.1, c.bytes-2.ensures.value, c.blob.ensures) at (c.in_ok-execute.ensures.ran clean) in
-    desk_put row.identity row.operator_key (state g.S.Store c.args.tx.now.conn.now) (state g.S.Store c.execute.new.tx.conn.now) c.in_ok-execute.field-0 ran blank

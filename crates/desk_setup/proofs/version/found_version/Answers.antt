@@ -1,5 +1,0 @@
-use Rattle.desk_setup.proofs.VersionShown.{version_selects}
-use Rattle.desk_setup.proofs.version.found_version.Goals as goal
-
-pub version_of-requires : goal.version_of-requires
-version_of-requires g c = version_selects

@@ -1,9 +1,0 @@
-use Rattle.std.specs.Prelude.{◌≡◌}
-use Rattle.desk_records.specs.Composed.{day_sums_in}
-use Rattle.desk_accounts.specs.Balance.{day_sums}
-use Rattle.desk_tables.proofs.Reading.{reads_list}
-use Rattle.desk_tables.proofs.store.SqlStoreStore.balances_of.Goals as goal
-
-pub returns-clause-read : goal.returns-clause-read
-returns-clause-read g c clean =
-    reads_list (λ x t. x ≡ day_sums_in c.args.account t) (λ b. day_sums c.args.account b.postings) (c.files_of_tables.ensures.balances c.args.account) c.balances_of.result c.balances_of.ensures clean

@@ -1,8 +1,0 @@
-use Rattle.std.specs.Prelude.{◌≡◌, length}
-use Rattle.desk_records.specs.TableReads.{modifiers_in}
-use Rattle.desk_tables.proofs.Reading.{reads}
-use Rattle.desk_tables.proofs.store.SqlStoreStore.files_on.Goals as goal
-
-pub returns-clause-read : goal.returns-clause-read
-returns-clause-read g c clean =
-    reads (λ x t. x ≡ length (modifiers_in c.args.day t)) (λ b. b.files_on c.args.day) (c.files_of_tables.ensures.files_on c.args.day) c.files_on.result c.files_on.ensures clean

@@ -1,9 +1,0 @@
-use Rattle.std.specs.Prelude.{◌≡◌}
-use Rattle.desk_records.specs.Composed.{latest_in}
-use Rattle.desk_book.specs.Reads.{latest_settled}
-use Rattle.desk_tables.proofs.Reading.{reads}
-use Rattle.desk_tables.proofs.store.SqlStoreStore.latest_settled.Goals as goal
-
-pub returns-clause-read : goal.returns-clause-read
-returns-clause-read g c clean =
-    reads (λ x t. x ≡ latest_in c.args.from c.args.to t) (latest_settled c.args.from c.args.to) (c.numbers_of_tables.ensures.latest_settled c.args.from c.args.to) c.latest_settled.result c.latest_settled.ensures clean

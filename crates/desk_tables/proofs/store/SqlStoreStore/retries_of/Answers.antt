@@ -1,9 +1,0 @@
-use Rattle.std.specs.Prelude.{◌≡◌}
-use Rattle.desk_records.specs.TableReads.{rows_in, is_retry_of}
-use Rattle.desk_book.specs.Reads.{retries_of}
-use Rattle.desk_tables.proofs.Reading.{reads_list}
-use Rattle.desk_tables.proofs.store.SqlStoreStore.retries_of.Goals as goal
-
-pub returns-clause-read : goal.returns-clause-read
-returns-clause-read g c clean =
-    reads_list (λ x t. x ≡ rows_in (is_retry_of c.args.company c.args.of c.args.index) t) (retries_of c.args.company c.args.of c.args.index) (c.rows_of_tables.ensures.retries_of c.args.company c.args.of c.args.index) c.retries_of.result c.retries_of.ensures clean

@@ -1,8 +1,0 @@
-use Rattle.std.specs.Prelude.{◌≡◌}
-use Rattle.desk_records.specs.TableReads.{suspense_in}
-use Rattle.desk_tables.proofs.Reading.{answers, reads_list}
-use Rattle.desk_tables.proofs.store.SqlStoreStore.suspense.Goals as goal
-
-pub returns-clause-read : goal.returns-clause-read
-returns-clause-read g c clean =
-    reads_list (λ x t. x ≡ suspense_in t) (λ b. b.suspense) (c.files_of_tables.ensures.suspense) c.or_unavailable.result (answers _ _ _ _ _ c.or_unavailable.ensures c.suspense.ensures.answer c.suspense.ensures.stays c.suspense.ensures.survives) clean

@@ -1,8 +1,0 @@
-use Rattle.std.specs.Prelude.{◌≡◌}
-use Rattle.desk_records.specs.TableReads.{taken_in}
-use Rattle.desk_tables.proofs.Reading.{answers, reads}
-use Rattle.desk_tables.proofs.store.SqlStoreStore.taken.Goals as goal
-
-pub returns-clause-read : goal.returns-clause-read
-returns-clause-read g c clean =
-    reads (λ x t. x ≡ taken_in c.args.key t) (λ b. b.taken c.args.key) (c.files_of_tables.ensures.taken c.args.key) c.or_unavailable.result (answers _ _ _ _ _ c.or_unavailable.ensures c.taken_file.ensures.answer c.taken_file.ensures.stays c.taken_file.ensures.survives) clean

@@ -1,9 +1,0 @@
-use Rattle.std.specs.Prelude.{◌≡◌}
-use Rattle.desk_records.specs.Composed.{waiting_in}
-use Rattle.desk_book.specs.Reads.{waiting}
-use Rattle.desk_tables.proofs.Reading.{reads_list}
-use Rattle.desk_tables.proofs.store.SqlStoreStore.waiting.Goals as goal
-
-pub returns-clause-read : goal.returns-clause-read
-returns-clause-read g c clean =
-    reads_list (λ x t. x ≡ waiting_in t) (waiting) (c.rows_of_tables.ensures.waiting) c.waiting.result c.waiting.ensures clean

@@ -1,5 +1,0 @@
-use Rattle.desk_write_laws.proofs.intake.intake_follows.Goals as goal
-use Rattle.desk_write_laws.proofs.IntakeMade.{intake_made}
-
-pub returns : goal.returns
-returns c = intake_made

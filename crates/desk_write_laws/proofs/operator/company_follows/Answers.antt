@@ -1,5 +1,0 @@
-use Rattle.desk_write_laws.proofs.operator.company_follows.Goals as goal
-use Rattle.desk_write_laws.proofs.Desk.{company_made}
-
-pub returns : goal.returns
-returns c = company_made

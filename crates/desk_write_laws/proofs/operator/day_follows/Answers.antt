@@ -1,5 +1,0 @@
-use Rattle.desk_write_laws.proofs.operator.day_follows.Goals as goal
-use Rattle.desk_write_laws.proofs.Desk.{day_made}
-
-pub returns : goal.returns
-returns c = day_made

@@ -1,0 +1,94 @@
+//! Lists of objects.
+ghost use Rattle.std.specs.Prelude.{◌≡◌, ◌≤◌, ◌++◌, ◌∷◌, [], length, map, false, OnOk};
+ghost use Rattle.serde_json.specs.Data.{array};
+ghost use Rattle.serde_json.specs.View.{items_of};
+ghost use Rattle.serde_json.specs.Written.{comma_if, compact_text, items_text};
+ghost use Rattle.http_json.specs.Members.{member_text, object_of};
+
+use desk_history::ListOf;
+use emptying_lists::EmptyingList;
+use http_json::{put, put_comma, put_key};
+use std::alloc::AllocError;
+
+/// The room that is taken for an object of a list, or for the members around a list.
+pub(crate) const ROW_ROOM: usize = 1_024;
+
+/// About so many bytes a long list has for each object.
+const ROW_LENGTH: usize = 128;
+
+/// A `Row` is an object in a list of a body.
+pub(crate) trait Row {
+    ghost use Rattle.std.specs.Prelude.{◌≡◌, ◌≤◌, ◌+◌, ◌++◌, vec_len, vec_capacity};
+    ghost use Rattle.serde_json.specs.Data.{Data};
+    ghost use Rattle.serde_json.specs.Written.{compact_text};
+
+    /// What it is in JSON.
+    ghost body: { Self → Data };
+
+    /// Appends it.
+    fn put(&self, text: &mut Vec<u8>)
+        requires { vec_len text.old + 1_024 ≤ vec_capacity text.old }
+        ensures { text.new.items ≡ text.old.items ++ compact_text (body self.now) };
+}
+
+/// Appends a member whose value is a list. The objects are let go as they are written, so that the text
+/// comes into their place.
+#[tactic(auto, unfolding(http_json::specs::Members::member_text))]
+pub(crate) fn add_list<R: Row + Drop>(
+    text: &mut Vec<u8>,
+    later: bool,
+    key: &[u8],
+    rows: ListOf<R>,
+) -> Result<(), AllocError>
+    requires { length key.now ≤ 32 }
+    ensures { OnOk result (text.new.items ≡ text.old.items ++ member_text later key.now
+        (array (items_of (map R.body rows)))) }
+{
+    // A long text has a block of its own from the start, which then grows without a copy.
+    text.reserve(rows.as_slice().len().saturating_mul(ROW_LENGTH))?;
+    text.reserve(ROW_ROOM)?;
+    put_key(text, later, key);
+    put(text, b"[");
+    add_rows(text, EmptyingList::new(rows.into_vec()))
+}
+
+// With the closing bracket.
+fn add_rows<R: Row + Drop>(text: &mut Vec<u8>, rows: EmptyingList<R>) -> Result<(), AllocError>
+    ensures { OnOk result
+        (text.new.items ≡ text.old.items ++ items_text false (items_of (map R.body rows))) }
+{
+    let mut left = rows;
+    let mut later = false;
+    while let Some(row) = left.take_first() {
+        add_row(text, later, &row)?;
+        later = true;
+    }
+    text.push(b']')?;
+    Ok(())
+}
+
+fn add_row<R: Row>(text: &mut Vec<u8>, later: bool, row: &R) -> Result<(), AllocError>
+    ensures { OnOk result
+        (text.new.items ≡ text.old.items ++ (comma_if later ++ compact_text (R.body row.now))) }
+{
+    text.reserve(ROW_ROOM + 1)?;
+    put_comma(text, later);
+    row.put(text);
+    Ok(())
+}
+
+/// Appends an object that has a list as its only member.
+pub(crate) fn add_list_alone<R: Row + Drop>(
+    text: &mut Vec<u8>,
+    key: &[u8],
+    rows: ListOf<R>,
+) -> Result<(), AllocError>
+    requires { length key.now ≤ 32 }
+    ensures { OnOk result (text.new.items ≡ text.old.items ++ compact_text
+        (object_of ((key.now, array (items_of (map R.body rows))) ∷ []))) }
+{
+    text.push(b'{')?;
+    add_list(text, false, key, rows)?;
+    text.push(b'}')?;
+    Ok(())
+}

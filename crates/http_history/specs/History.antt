@@ -1,0 +1,99 @@
+-- The history of a desk over bytes, the newest pair first, and the history of calls that it is.
+use Rattle.std.specs.Prelude.{◌≡◌, ⊤, ℕ, Bool, true, false, not, ◌&&◌, List, [], ◌∷◌, Option, Some, None, Ok}
+use Rattle.desk_rules.specs.declared.refusals.refusal.Refusal.TheVariants.{NoDay}
+use Rattle.desk_history.specs.declared.answer.Answer.{Answer}
+use Rattle.desk_history.specs.declared.answer.Answer.TheVariants as answers
+use Rattle.desk_history.specs.declared.answer.CallRefusal.TheVariants.{Rule}
+use Rattle.desk_history.specs.declared.identity.Identity.{Identity}
+use Rattle.desk_history.specs.Message as core
+use Rattle.desk_history.specs.Message.{Message, TakeFile}
+use Rattle.desk_history.specs.Operator.{answer_to}
+use Rattle.desk_book.specs.Book.{Book, book_of}
+use Rattle.http_message.specs.Message as messages
+use Rattle.http_message.specs.Message.{MessageValue}
+use Rattle.http_history.specs.Verdict.{verdict_on, Means}
+use Rattle.http_history.specs.Texts.{call_text, fault_text, is_success, is_unavailable}
+
+-- what a pair came from: a message, or the facts of a file alone, of which no bytes were made
+pub data Origin : Type 0 where
+  from_message : MessageValue → Origin
+  from_facts : Origin
+
+-- what came, its answer, and the message of the history of calls that it was read as
+pub record Pair : Type 0 where
+  pub origin : Origin
+  pub answer : List ℕ
+  pub means : Option Message
+
+-- whether the connection ends after the answer
+abbrev pub closes : Origin → Bool
+closes (from_message v) = messages.closes v
+closes from_facts = false
+
+-- ---- the history of calls
+
+-- the definitions' answer; or a refusal, where the desk did not accept what it could have accepted
+abbrev pub unless_lost : (lost : Bool) → Answer → Answer
+unless_lost true a = answers.Refused (Rule NoDay)
+unless_lost false a = a
+
+abbrev pub is_lost : Identity → List core.Pair → Pair → Message → Bool
+is_lost identity G x m = is_success (call_text (closes x.origin) m (answer_to identity G m)) && not (is_success x.answer)
+
+abbrev pub call_pair : Identity → List core.Pair → Pair → Message → core.Pair
+call_pair identity G x m = record { message = m; answer = unless_lost (is_lost identity G x m) (answer_to identity G m) }
+
+abbrev pub with_call : Identity → Pair → Option Message → List core.Pair → List core.Pair
+with_call identity x None G = G
+with_call identity x (Some m) G = call_pair identity G x m ∷ G
+
+-- the calls that the messages made, with their answers
+unfoldable pub calls_of : Identity → List Pair → List core.Pair
+calls_of identity [] = []
+calls_of identity (x ∷ H) = with_call identity x x.means (calls_of identity H)
+
+-- the book of a history over bytes
+abbrev pub book_behind : Identity → (key : List ℕ) → List Pair → Book
+book_behind identity key H = book_of identity key (calls_of identity H)
+
+-- ---- which lists are histories
+
+-- the answer to what came, after a history of calls
+abbrev pub text_in : Identity → (key : List ℕ) → List core.Pair → Origin → Option Message → List ℕ
+text_in identity key G origin (Some m) = call_text (closes origin) m (answer_to identity G m)
+text_in identity key G (from_message v) None = fault_text (messages.closes v) (verdict_on (book_of identity key G) v)
+text_in identity key G from_facts None = []
+
+-- the answer to what came, after a history
+unfoldable pub text : Identity → (key : List ℕ) → List Pair → Origin → Option Message → List ℕ
+text identity key H origin means = text_in identity key (calls_of identity H) origin means
+
+abbrev pub IsFile : Message → Type 0
+IsFile (TakeFile (Ok f)) = ⊤
+IsFile m = ⊥
+
+-- it was read as this
+abbrev pub IsReadAs : Identity → (key : List ℕ) → List core.Pair → Origin → Option Message → Type 0
+IsReadAs identity key G (from_message v) means = Means (verdict_on (book_of identity key G) v) means
+IsReadAs identity key G from_facts None = ⊥
+IsReadAs identity key G from_facts (Some m) = IsFile m
+
+-- None has the status 503, of a command or of a read: what was answered so stands in no history. One with
+-- status 200 or 201 is the text. Others change nothing, and are not bound.
+pub record IsAnswer (text answer : List ℕ) : Type 0 where
+  pub answered : is_unavailable answer ≡ false
+  pub said : is_success answer ≡ true → answer ≡ text
+
+-- Each answer is one after the pairs before it. A command of which a crash kept what it wrote stands there too,
+-- with its text.
+abbrev pub IsHistory : Identity → (key : List ℕ) → List Pair → Type 0
+IsHistory identity key [] = ⊤
+IsHistory identity key (x ∷ H) =
+    IsReadAs identity key (calls_of identity H) x.origin x.means
+    × IsAnswer (text identity key H x.origin x.means) x.answer
+    × IsHistory identity key H
+
+-- A history, and the book that a store holds is its book.
+pub record StandsFor (holds : Book → Type 0) (identity : Identity) (key : List ℕ) (H : List Pair) : Type 0 where
+  pub history : IsHistory identity key H
+  pub book : holds (book_behind identity key H)

@@ -1,0 +1,4 @@
+pub mod Json
+pub mod Members
+pub mod Objects
+pub mod Plain

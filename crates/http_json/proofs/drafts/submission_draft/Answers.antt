@@ -1,0 +1,15 @@
+use Rattle.std.proofs.Common.{arith, refl, rules}
+use Rattle.serde_json.specs.View.{view}
+use Rattle.desk_rules.specs.declared.refusals.refusal.Field.TheVariants as field
+use Rattle.http_json.specs.Drafts.{HasText, submission_texts}
+use Rattle.http_json.proofs.drafts.submission_draft.Goals as goal
+
+pub returns-in_err-direction-clause-memory : goal.returns-in_err-direction-clause-memory
+returns-in_err-direction-clause-memory c =
+    let known : HasText submission_texts (view c.args.value.now) = (2, field.Direction, omega arith, refl, c.in_err-direction.ensures.memory) in
+    search rules
+
+pub returns-in_err-description-clause-memory : goal.returns-in_err-description-clause-memory
+returns-in_err-description-clause-memory c =
+    let known : HasText submission_texts (view c.args.value.now) = (3, field.Description, omega arith, refl, c.in_err-description.ensures.memory) in
+    search rules

@@ -1,0 +1,207 @@
+//! The drafts that JSON objects are. A key that is not named here is not looked at.
+ghost use Rattle.std.specs.Prelude.{◌≡◌, ◌≢◌, ◌⊎◌, [], IfOk, IsSome, OnErr};
+ghost use Rattle.serde_json.specs.Find.{as_bool, as_str};
+ghost use Rattle.serde_json.specs.View.{view, items_view};
+ghost use Rattle.http_json.specs.Drafts.{value_at, text_at, number_at, given_or_wrong, optional_from, entry_draft_of, entry_drafts_of, submission_draft_of, retry_draft_of, company_draft_of, limits_draft_of, limit_drafts_of, entries_at, HasEntry, HasText, submission_texts, retry_texts, company_texts};
+
+use crate::field_keys::key_of;
+use desk_rules::{
+    CompanyDraft, Draft, DraftText, EntryDraft, EntryDrafts, Field, LimitDrafts, LimitsDraft,
+    Optional, RetryDraft,
+};
+use serde_json::Value;
+use std::alloc::{AllocError, Global};
+
+/// Gives the draft of a submission that a JSON object is. Its keys are `ref`, `sec`, `direction`,
+/// `description`, `day` and `entries`. Each call here runs out of memory only where there is a text or
+/// an entry that it has to copy.
+pub fn submission_draft(alloc: Global, value: &Value) -> Result<Draft, AllocError>
+    ensures draft { IfOk result (λ d. d ≡ submission_draft_of (view value.now)) }
+    ensures memory { OnErr result
+        (HasText submission_texts (view value.now) ⊎ HasEntry (view value.now)) }
+{
+    let reference = text_at(alloc, value, Field::Reference)?;
+    let sec = text_at(alloc, value, Field::Sec)?;
+    let direction = text_at(alloc, value, Field::Direction)?;
+    let description = text_at(alloc, value, Field::Description)?;
+    let day = text_at(alloc, value, Field::Day)?;
+    let entries = entries_at(alloc, value)?;
+    Ok(Draft {
+        reference,
+        sec,
+        direction,
+        description,
+        day,
+        entries,
+    })
+}
+
+fn entries_at(alloc: Global, value: &Value) -> Result<Option<EntryDrafts>, AllocError>
+    ensures drafts { IfOk result (λ d. d ≡ entries_at (view value.now)) }
+    ensures memory { OnErr result (HasEntry (view value.now)) }
+{
+    match value.get(key_of(Field::Entries)).and_then(Value::as_array) {
+        Some(values) => Ok(Some(entry_drafts(alloc, values.as_slice())?)),
+        None => Ok(None),
+    }
+}
+
+fn entry_drafts(alloc: Global, values: &[Value]) -> Result<EntryDrafts, AllocError>
+    ensures drafts { IfOk result (λ d. d ≡ entry_drafts_of (items_view values.now)) }
+    ensures memory { OnErr result (entry_drafts_of (items_view values.now) ≢ []) }
+{
+    let mut drafts = Vec::new(alloc);
+    for value in values {
+        drafts.push(entry_draft(alloc, value)?)?;
+    }
+    Ok(EntryDrafts::new(drafts))
+}
+
+// Its keys are `routing`, `account`, `kind`, `prenote`, `cents`, `id`, `name` and `info`.
+fn entry_draft(alloc: Global, value: &Value) -> Result<Option<EntryDraft>, AllocError>
+    ensures { IfOk result (λ d. d ≡ entry_draft_of (view value.now)) }
+{
+    if !value.is_object() {
+        return Ok(None);
+    }
+    let routing = text_at(alloc, value, Field::Routing)?;
+    let account = text_at(alloc, value, Field::Account)?;
+    let kind = text_at(alloc, value, Field::Kind)?;
+    let prenote = flag_at(value, Field::Prenote);
+    let cents = number_at(value, Field::Cents);
+    let id = text_at(alloc, value, Field::Id)?;
+    let name = text_at(alloc, value, Field::Name)?;
+    let info = optional_text_at(alloc, value, Field::Info)?;
+    Ok(Some(EntryDraft {
+        routing,
+        account,
+        kind,
+        prenote,
+        cents,
+        id,
+        name,
+        info,
+    }))
+}
+
+/// Gives the draft of a retry that a JSON object is. Its keys are `ref`, `of`, `index`, `day` and
+/// `authorized`.
+pub fn retry_draft(alloc: Global, value: &Value) -> Result<RetryDraft, AllocError>
+    ensures draft { IfOk result (λ d. d ≡ retry_draft_of (view value.now)) }
+    ensures memory { OnErr result (HasText retry_texts (view value.now)) }
+{
+    let reference = text_at(alloc, value, Field::Reference)?;
+    let of = text_at(alloc, value, Field::Of)?;
+    let index = number_at(value, Field::Index);
+    let day = text_at(alloc, value, Field::Day)?;
+    let authorized = optional_text_at(alloc, value, Field::Authorized)?;
+    Ok(RetryDraft {
+        reference,
+        of,
+        index,
+        day,
+        authorized,
+    })
+}
+
+/// Gives the draft of a desk day that a JSON object is. Its key is `day`.
+pub fn day_draft(alloc: Global, value: &Value) -> Result<Option<DraftText>, AllocError>
+    ensures draft { IfOk result (λ d. d ≡ text_at Field.Day (view value.now)) }
+    ensures memory { OnErr result (IsSome (text_at Field.Day (view value.now))) }
+{
+    text_at(alloc, value, Field::Day)
+}
+
+/// Gives the draft of a company that a JSON object is, with the SHA-256 digest of its key. Its keys
+/// are `id`, `name`, `key`, `entry_limit`, `credit_limit` and `debit_limit`, the limits in cents.
+pub fn company_draft(
+    alloc: Global,
+    value: &Value,
+    digest: [u8; 32],
+) -> Result<CompanyDraft, AllocError>
+    ensures draft { IfOk result (λ d. d ≡ company_draft_of digest (view value.now)) }
+    ensures memory { OnErr result (HasText company_texts (view value.now)) }
+{
+    let id = text_at(alloc, value, Field::Id)?;
+    let name = text_at(alloc, value, Field::Name)?;
+    let key = text_at(alloc, value, Field::Key)?;
+    Ok(CompanyDraft {
+        id,
+        name,
+        key,
+        limits: limit_drafts(value),
+        digest,
+    })
+}
+
+/// Gives the draft of a company's new limits that a JSON object is. Its keys are `id`, `entry_limit`,
+/// `credit_limit` and `debit_limit`, the limits in cents.
+pub fn limits_draft(alloc: Global, value: &Value) -> Result<LimitsDraft, AllocError>
+    ensures draft { IfOk result (λ d. d ≡ limits_draft_of (view value.now)) }
+    ensures memory { OnErr result (IsSome (text_at Field.Id (view value.now))) }
+{
+    let id = text_at(alloc, value, Field::Id)?;
+    Ok(LimitsDraft {
+        id,
+        limits: limit_drafts(value),
+    })
+}
+
+fn limit_drafts(value: &Value) -> LimitDrafts
+    ensures { result ≡ limit_drafts_of (view value.now) }
+{
+    LimitDrafts {
+        entry: number_at(value, Field::EntryLimit),
+        credit: number_at(value, Field::CreditLimit),
+        debit: number_at(value, Field::DebitLimit),
+    }
+}
+
+fn text_at(alloc: Global, value: &Value, field: Field) -> Result<Option<DraftText>, AllocError>
+    ensures text { IfOk result (λ t. t ≡ text_at field (view value.now)) }
+    ensures memory { OnErr result (IsSome (text_at field (view value.now))) }
+{
+    match value.get(key_of(field)).and_then(Value::as_str) {
+        Some(text) => Ok(Some(DraftText::from_slice(alloc, text.as_bytes())?)),
+        None => Ok(None),
+    }
+}
+
+fn number_at(value: &Value, field: Field) -> Option<u64>
+    ensures { result ≡ number_at field (view value.now) }
+{
+    value.get(key_of(field)).and_then(Value::as_u64)
+}
+
+fn flag_at(value: &Value, field: Field) -> Optional<bool>
+    ensures { result ≡ optional_from as_bool (value_at field (view value.now)) }
+{
+    match value.get(key_of(field)) {
+        Some(found) => given_or_wrong(found.as_bool()),
+        None => Optional::Absent,
+    }
+}
+
+fn optional_text_at(
+    alloc: Global,
+    value: &Value,
+    field: Field,
+) -> Result<Optional<DraftText>, AllocError>
+    ensures text { IfOk result (λ t. t ≡ optional_from as_str (value_at field (view value.now))) }
+    ensures memory { OnErr result (IsSome (text_at field (view value.now))) }
+{
+    match value.get(key_of(field)) {
+        Some(_) => Ok(given_or_wrong(text_at(alloc, value, field)?)),
+        None => Ok(Optional::Absent),
+    }
+}
+
+// A value that is there, if it was read, or one of another kind.
+fn given_or_wrong<T: Drop>(read: Option<T>) -> Optional<T>
+    ensures { result ≡ given_or_wrong read }
+{
+    match read {
+        Some(value) => Optional::Given(value),
+        None => Optional::Wrong,
+    }
+}

@@ -1,0 +1,13 @@
+use Rattle.std.proofs.Common.{◌≡◌, ◌-◌, ◌≤◌, length, take}
+use Rattle.std.specs.Io.KnownBytes.{Consumes}
+use Rattle.http_message.proofs.reading.read_whole.Given as goal
+
+abbrev pub invariant-loop-filled : goal.invariant-loop-filled
+invariant-loop-filled g l = record {
+  within : l.filled ≤ length l.room;
+  takes : Consumes (g.R.Read.remaining l.initial.reader) (g.R.Read.remaining l.reader) (take l.filled l.room);
+  unmarked : l.tries.failed ≡ l.initial.tries.failed;
+}
+
+abbrev pub decreases-loop-filled : goal.decreases-loop-filled
+decreases-loop-filled g l = length l.room - l.filled

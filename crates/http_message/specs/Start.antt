@@ -1,0 +1,21 @@
+-- What stands at the start of the bytes that came, as the program tells it.
+use Rattle.std.specs.Prelude.{ℕ, ◌<◌, List, length, drop}
+use Rattle.httparse.specs.Grammar.{RequestHead, HasNoRequest}
+use Rattle.httparse.specs.Spans.{IsRequestAt, IsRequestWithin}
+use Rattle.httparse.specs.declared.spans.HeaderSpan.{HeaderSpan}
+use Rattle.httparse.specs.declared.spans.RequestSpans.{RequestSpans}
+use Rattle.http_message.specs.Heads.{Opens, NeverOpens}
+use Rattle.http_message.specs.declared.head.Start.{Start}
+use Rattle.http_message.specs.declared.head.Start.TheVariants.{Unfinished, Bad, Head}
+
+-- the head at the start of the bytes, whose parts lie where the spans say
+pub record IsHeadAt (bytes : List ℕ) (fields : List HeaderSpan) (spans : RequestSpans) (head : RequestHead) : Type 0 where
+  pub opens : Opens bytes head (drop spans.len bytes)
+  pub parts : IsRequestAt bytes fields spans head
+  pub within : IsRequestWithin bytes fields spans
+
+-- what stands at the start of the bytes
+abbrev pub IsStart : List ℕ → List HeaderSpan → Start → Type 0
+IsStart bytes fields Unfinished = (length bytes < 16384) × HasNoRequest bytes
+IsStart bytes fields Bad = NeverOpens bytes
+IsStart bytes fields (Head spans) = (head : RequestHead) × IsHeadAt bytes fields spans head

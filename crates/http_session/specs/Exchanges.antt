@@ -1,0 +1,46 @@
+-- Messages with their answers.
+use Rattle.std.specs.Prelude.{◌≡◌, ℕ, ◌||◌, Bool, List, [], ◌∷◌, flat_map, map, Option, Some, None, is_none, unwrap_or, IsFalse, Result, Ok, Err, Vec}
+use Rattle.std.specs.declared.alloc.Global.{Global}
+use Rattle.http_message.specs.Message.{MessageValue, closes}
+use Rattle.http_response.specs.Response.{unavailable_text}
+use Rattle.http_session.specs.declared.answers.Unavailable.{Unavailable}
+
+-- a message and its answer, or none where it was answered 503
+pub record Exchange : Type 0 where
+  pub message : MessageValue
+  pub answer : Option (List ℕ)
+
+-- what is written for the answer
+abbrev pub response_of : Option (List ℕ) → List ℕ
+response_of answer = unwrap_or answer unavailable_text
+
+-- what is written for the answers, in their order
+abbrev pub responses_of : List Exchange → List ℕ
+responses_of exchanges = flat_map (λ x. response_of x.answer) exchanges
+
+abbrev pub messages_of : List Exchange → List MessageValue
+messages_of exchanges = map (λ x. x.message) exchanges
+
+-- whether the session ends after a message with this answer
+abbrev pub ends_after : MessageValue → Option (List ℕ) → Bool
+ends_after message answer = is_none answer || closes message
+
+-- the session goes on after the exchange
+abbrev pub GoesOn : Exchange → Type 0
+GoesOn x = IsFalse (ends_after x.message x.answer)
+
+-- What stands behind an answerer makes a step with the answer; without one it stays.
+abbrev pub StepsWith : {B : Type 0} → (B → MessageValue → List ℕ → B → Type 0) → B → MessageValue → Option (List ℕ) → B → Type 0
+StepsWith step before message None after = after ≡ before
+StepsWith step before message (Some answer) after = step before message answer after
+
+-- what stands behind an answerer makes the steps of the exchanges, in their order
+abbrev pub Follows : {B : Type 0} → (B → MessageValue → List ℕ → B → Type 0) → B → List Exchange → B → Type 0
+Follows step before [] after = after ≡ before
+Follows {B} step before (x ∷ xs) after = (mid : B) × StepsWith step before x.message x.answer mid × Follows step mid xs after
+
+-- The answer is a step from what stands behind the answerer, and it then stands for what is after; or it
+-- could not answer, and stands for what it stood for.
+abbrev pub Answered : {B : Type 0} → (B → MessageValue → List ℕ → B → Type 0) → B → MessageValue → (B → Type 0) → Result (Vec ℕ Global) Unavailable → Type 0
+Answered {B} step before message stands (Ok bytes) = (after : B) × step before message bytes.items after × stands after
+Answered step before message stands (Err fault) = stands before

@@ -1,0 +1,6 @@
+pub mod Causes
+pub mod Exchanges
+pub mod Lingering
+pub mod Serving
+pub mod Session
+pub mod Turns

@@ -1,0 +1,34 @@
+//! What answers messages.
+ghost use Rattle.http_message.specs.Message.{message_value};
+ghost use Rattle.http_session.specs.Exchanges.{Answered};
+
+use http_message::Message;
+use std::alloc::Global;
+
+/// Memory was refused, or the answerer could not act, and nothing changed.
+#[derive(Clone, Copy, PartialEq, Eq, Debug, Drop)]
+pub struct Unavailable;
+
+/// What answers messages, such as a desk.
+pub trait Answers {
+    ghost use Rattle.std.specs.Prelude.{ℕ, List};
+    ghost use Rattle.http_message.specs.Message.{MessageValue};
+
+    /// What stands behind an answerer, such as the messages that it answered with their answers.
+    ghost Behind: { Type 0 };
+
+    /// Nothing else acted on what the answerer keeps.
+    ghost is_clean: { Self → Type 0 };
+
+    /// The answerer stands for this.
+    ghost stands_for: { Self → Behind → Type 0 };
+
+    /// Which answers a message may have, and what each makes of what stands behind the answerer.
+    ghost step: { Behind → MessageValue → List ℕ → Behind → Type 0 };
+
+    /// The answer to a message, whole with its head. The answerer may keep the message's body.
+    fn answer(&mut self, alloc: Global, message: Message<'_>) -> Result<Vec<u8>, Unavailable>
+        ensures before { is_clean self.new → is_clean self.old }
+        ensures answers { is_clean self.new → (w : Behind) → stands_for self.old w
+            → Answered step w (message_value message.entry) (stands_for self.new) result };
+}

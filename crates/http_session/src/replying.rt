@@ -1,0 +1,91 @@
+//! Answering one message.
+ghost use Rattle.std.specs.Prelude.{◌≡◌, length};
+ghost use Rattle.httparse.specs.Grammar.{RequestHead};
+ghost use Rattle.httparse.specs.Spans.{IsRequestAt, IsRequestWithin};
+ghost use Rattle.http_message.specs.Heads.{request_of};
+ghost use Rattle.http_message.specs.Message.{asked, message_value};
+ghost use Rattle.http_response.specs.Response.{unavailable_text};
+ghost use Rattle.http_session.specs.Causes.{HasCause};
+ghost use Rattle.http_session.specs.Turns.{Replied, Sends};
+
+use crate::answers::Answers;
+use crate::sessions::SessionFault;
+use http_message::{EMPTY_FIELD, MAX_FIELDS, Message, closes, request_at};
+use http_response::UNAVAILABLE;
+use httparse::spans::{HeaderSpan, RequestSpans};
+use io_retries::{Tries, write_all_with_retries};
+use std::alloc::Global;
+use std::io::Write;
+
+/// Writes all the bytes.
+fn send<W: Write>(writer: &mut W, tries: &mut Tries, bytes: &[u8]) -> Result<(), SessionFault>
+    ensures sends { Sends result (W.contents writer.old) (W.contents writer.new) bytes.now }
+    ensures cause { HasCause result tries.old tries.new }
+{
+    match write_all_with_retries(writer, bytes, tries) {
+        Ok(()) => Ok(()),
+        Err(_) => Err(SessionFault::Write),
+    }
+}
+
+/// Writes the constant text for being out of memory.
+pub(crate) fn send_unavailable<W: Write>(
+    writer: &mut W,
+    tries: &mut Tries,
+) -> Result<(), SessionFault>
+    ensures sends { Sends result (W.contents writer.old) (W.contents writer.new) unavailable_text }
+    ensures cause { HasCause result tries.old tries.new }
+{
+    send(writer, tries, UNAVAILABLE)
+}
+
+/// Answers a message, and tells whether the session goes on.
+pub(crate) fn reply<D: Answers, W: Write>(
+    alloc: Global,
+    desk: &mut D,
+    writer: &mut W,
+    tries: &mut Tries,
+    message: Message<'_>,
+) -> Result<bool, SessionFault>
+    ensures before { D.is_clean desk.new → D.is_clean desk.old }
+    ensures replied { Replied D.step (D.is_clean desk.new) (D.stands_for desk.old) (D.stands_for desk.new)
+        (message_value message.entry) (W.contents writer.old) (W.contents writer.new) result }
+    ensures cause { HasCause result tries.old tries.new }
+{
+    let closes = closes(&message);
+    match desk.answer(alloc, message) {
+        Ok(bytes) => match send(writer, tries, &bytes) {
+            Ok(()) => Ok(!closes),
+            Err(fault) => Err(fault),
+        },
+        Err(_) => match send_unavailable(writer, tries) {
+            Ok(()) => Ok(false),
+            Err(fault) => Err(fault),
+        },
+    }
+}
+
+/// Answers the request at the start of the bytes, which has this body.
+pub(crate) fn reply_to_request<D: Answers, W: Write>(
+    alloc: Global,
+    desk: &mut D,
+    writer: &mut W,
+    tries: &mut Tries,
+    bytes: &[u8],
+    fields: &[HeaderSpan],
+    head: &RequestSpans,
+    body: Vec<u8>,
+    is_last: bool,
+) -> Result<bool, SessionFault>
+    requires within { IsRequestWithin bytes.now fields.now head.now }
+    requires fits { length fields.now ≡ MAX_FIELDS }
+    ensures before { D.is_clean desk.new → D.is_clean desk.old }
+    ensures replied { (h : RequestHead) → IsRequestAt bytes.now fields.now head.now h
+        → Replied D.step (D.is_clean desk.new) (D.stands_for desk.old) (D.stands_for desk.new)
+        (asked (request_of h body.items is_last)) (W.contents writer.old) (W.contents writer.new) result }
+    ensures cause { HasCause result tries.old tries.new }
+{
+    let mut room = [EMPTY_FIELD; MAX_FIELDS];
+    let request = request_at(bytes, fields, head, &mut room, body, is_last);
+    reply(alloc, desk, writer, tries, Message::Asked(request))
+}

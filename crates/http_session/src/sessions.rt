@@ -1,0 +1,148 @@
+//! Sessions.
+ghost use Rattle.std.specs.Prelude.{◌≡◌, ◌<◌, ℕ, List, Option, length};
+ghost use Rattle.http_message.specs.Stream.{is_last_after};
+ghost use Rattle.io_retries.specs.Marks.{IsUnused};
+ghost use Rattle.http_session.specs.Causes.{HasCause};
+ghost use Rattle.http_session.specs.Session.{SessionRan};
+ghost use Rattle.http_session.specs.Turns.{SoFar, Turned, turn_of};
+
+use crate::answers::Answers;
+use crate::replying::{reply, reply_to_request, send_unavailable};
+use http_message::{Arrival, MAX_FIELDS, MAX_MESSAGES, Message, Unread, read_message};
+use httparse::spans::{EMPTY_HEADER_SPAN, HeaderSpan};
+use io_retries::Tries;
+use std::alloc::Global;
+use std::io::{Read, Write};
+
+/// How a session ended.
+#[derive(Clone, Copy, PartialEq, Eq, Debug)]
+pub enum Ended {
+    /// The input ended between messages, or the connection was to close.
+    Closed,
+    /// The input ended inside a message.
+    Cut,
+    /// The session had all its messages.
+    Full,
+}
+
+/// What a session failed at.
+#[derive(Clone, Copy, PartialEq, Eq, Debug)]
+pub enum SessionFault {
+    /// A read failed.
+    Read,
+    /// A write failed.
+    Write,
+}
+
+/// What a turn tells, from what the reply told.
+fn turn_of(told: Result<bool, SessionFault>, is_last: bool) -> Result<Option<Ended>, SessionFault>
+    ensures { result ≡ turn_of told is_last }
+{
+    match told {
+        Ok(true) => Ok(None),
+        Ok(false) => {
+            if is_last {
+                Ok(Some(Ended::Full))
+            } else {
+                Ok(Some(Ended::Closed))
+            }
+        }
+        Err(fault) => Err(fault),
+    }
+}
+
+/// Reads a message and answers it, or tells how the session ends.
+fn turn<D: Answers, R: Read, W: Write>(
+    alloc: Global,
+    desk: &mut D,
+    reader: &mut R,
+    writer: &mut W,
+    tries: &mut Tries,
+    unread: &mut Unread,
+    fields: &mut [HeaderSpan],
+    is_last: bool,
+) -> Result<Option<Ended>, SessionFault>
+    requires { length fields.old ≡ MAX_FIELDS }
+    ensures before { D.is_clean desk.new → D.is_clean desk.old }
+    ensures turned { (start : D) (before old : Option (List ℕ)) (count : ℕ) → is_last ≡ is_last_after count
+        → SoFar D.step (D.is_clean desk.old) (D.stands_for start) (D.stands_for desk.old)
+        before (R.remaining reader.old) old (W.contents writer.old) count unread.old
+        → Turned D.step (D.is_clean desk.new) (D.stands_for start) (D.stands_for desk.new)
+        before (R.remaining reader.new) old (W.contents writer.new) count unread.new result }
+    ensures cause { HasCause result tries.old tries.new }
+{
+    match read_message(alloc, reader, tries, unread, fields) {
+        Arrival::Fault => Err(SessionFault::Read),
+        Arrival::NoRoom => match send_unavailable(writer, tries) {
+            Ok(()) => Ok(Some(Ended::Closed)),
+            Err(fault) => Err(fault),
+        },
+        Arrival::End => Ok(Some(Ended::Closed)),
+        Arrival::Cut => Ok(Some(Ended::Cut)),
+        Arrival::BadHead => {
+            let told = reply(alloc, desk, writer, tries, Message::BadHead);
+            turn_of(told, is_last)
+        }
+        Arrival::Request(head, body) => {
+            let size = body.len();
+            let told = reply_to_request(
+                alloc,
+                desk,
+                writer,
+                tries,
+                unread.bytes(),
+                fields,
+                &head,
+                body,
+                is_last,
+            );
+            unread.skip(head.len);
+            unread.skip(size);
+            turn_of(told, is_last)
+        }
+    }
+}
+
+/// Answers the messages that a reader's bytes spell, in their order, to a writer.
+///
+/// At most 1,000 messages are answered. A message that the answerer cannot answer, and one for whose body
+/// there is no room, is answered by the constant text with status 503, and the session ends. An interrupted
+/// read or write is tried again, at most 1,000 times in the session. No more is kept than one head, one
+/// body, and one answer.
+///
+/// The tries are those of a new run. By the clause `cause` a session tells `Read` and `Write` only where a
+/// call of the reader or of the writer failed, as these tries are marked then.
+pub fn session<D: Answers, R: Read, W: Write>(
+    alloc: Global,
+    desk: &mut D,
+    reader: &mut R,
+    writer: &mut W,
+    tries: &mut Tries,
+) -> Result<Ended, SessionFault>
+    requires unused { IsUnused tries.old }
+    ensures before { D.is_clean desk.new → D.is_clean desk.old }
+    ensures ran { SessionRan D.step (D.is_clean desk.new) (D.stands_for desk.old) (D.stands_for desk.new)
+        (R.remaining reader.old) (R.remaining reader.new) (W.contents writer.old) (W.contents writer.new) result }
+    ensures cause { HasCause result tries.old tries.new }
+{
+    let mut unread = Unread::new();
+    let mut fields = [EMPTY_HEADER_SPAN; MAX_FIELDS];
+    for count in 0..MAX_MESSAGES {
+        let is_last = count + 1 == MAX_MESSAGES;
+        match turn(
+            alloc,
+            desk,
+            reader,
+            writer,
+            tries,
+            &mut unread,
+            &mut fields,
+            is_last,
+        ) {
+            Ok(None) => {}
+            Ok(Some(ended)) => return Ok(ended),
+            Err(fault) => return Err(fault),
+        }
+    }
+    Ok(Ended::Full)
+}

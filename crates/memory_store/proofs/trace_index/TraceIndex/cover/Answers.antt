@@ -1,0 +1,15 @@
+use Rattle.std.proofs.Common.{◌≡◌, ℕ, ◌+◌, ◌<◌, ap, sym, get_or, length, subst, refl}
+use Rattle.memory_store.proofs.Indexed.{covers_more}
+use Rattle.memory_store.proofs.trace_index.TraceIndex.cover.Goals as goal
+
+pub loop-at-preserved : goal.loop-at-preserved
+loop-at-preserved c = record {
+  covered = refl;
+  right = λ held.
+      let sent = c.args.sent.now in
+      let entry = c.index-sent-at.result in
+      let here = c.loop-at.invariant.covered in
+      let some : c.loop-at.self.indexed < length sent = subst (λ (n : ℕ). n < length sent) (sym here) c.loop-at-test.true in
+      let is : entry ≡ get_or sent c.loop-at.self.indexed entry = cc in
+      covers_more sent c.loop-at.self _ entry some is c.in_ok-insert.ensures.updates (ap (λ (n : ℕ). n + 1) (sym here)) (c.loop-at.invariant.right held);
+}

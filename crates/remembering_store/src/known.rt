@@ -1,0 +1,156 @@
+//! What is remembered of companies stands in a map.
+ghost use Rattle.std.specs.Prelude.{◌≡◌, ℕ, List, false, IfSome, bytes_eq, option_and_then};
+ghost use Rattle.desk_book.specs.Book.{Book};
+ghost use Rattle.desk_book.specs.Sums.{exposures_of, rates_of};
+ghost use Rattle.remembering_store.specs.Remembered.{Grows, HasSame, IsRight, KnowsNothing, KnowsRight, kept_with};
+
+use crate::company_key::CompanyKey;
+use ach_fields::Id;
+use bank_days::Day;
+use desk_rules::Rates;
+use std::alloc::Global;
+use std::collections::BTreeMap;
+
+/// Exposures with more cents than this are not kept, so that they can always be added to.
+const MOST_KEPT: u128 = 1_000_000_000_000_000_000_000_000;
+
+/// A `CompanySums` has what is known of a company on a day.
+#[derive(Clone, Copy, Drop)]
+pub(crate) struct CompanySums {
+    pub(crate) day: Day,
+    /// Its credit exposure and its debit exposure.
+    pub(crate) exposures: Option<(u128, u128)>,
+    pub(crate) rates: Option<Rates>,
+}
+
+/// A `Known` has the sums of some companies.
+#[derive(Drop)]
+pub(crate) struct Known {
+    companies: BTreeMap<CompanyKey, CompanySums>,
+}
+
+// Gives exposures with more cents in a direction, where they are kept.
+fn with_cents(sums: (u128, u128), debit: bool, cents: u128) -> Option<(u128, u128)>
+    ensures { result ≡ kept_with debit cents sums }
+{
+    if sums.0 > MOST_KEPT || sums.1 > MOST_KEPT || cents > MOST_KEPT {
+        return None;
+    }
+    if debit {
+        Some((sums.0, sums.1 + cents))
+    } else {
+        Some((sums.0 + cents, sums.1))
+    }
+}
+
+// The same, where exposures are known.
+fn grown(exposures: Option<(u128, u128)>, debit: bool, cents: u128) -> Option<(u128, u128)>
+    ensures { result ≡ option_and_then (kept_with debit cents) exposures }
+{
+    match exposures {
+        Some(sums) => with_cents(sums, debit, cents),
+        None => None,
+    }
+}
+
+impl Known {
+    /// Knows none.
+    pub(crate) fn new(alloc: Global) -> Known
+        ensures { KnowsNothing result }
+    {
+        Known {
+            companies: BTreeMap::new(alloc),
+        }
+    }
+
+    /// Forgets all.
+    pub(crate) fn forget(&mut self)
+        ensures { KnowsNothing self.new }
+    {
+        self.companies.clear();
+    }
+
+    // Puts what is known of a company now; where there is no room, all is forgotten.
+    fn put(&mut self, company: Id, sums: CompanySums)
+        ensures { (before after : Book) → IsRight after company sums →
+            ((of : List ℕ) → bytes_eq company of ≡ false → HasSame before after of) → KnowsRight
+            self.old before → KnowsRight self.new after }
+    {
+        if self.companies.insert(CompanyKey { company }, sums).is_err() {
+            self.companies.clear();
+        }
+    }
+
+    // Gives what is known of a company on a day: of another day nothing is.
+    fn on(&self, company: Id, day: Day) -> CompanySums
+        ensures day { result.day ≡ day }
+        ensures right { (b : Book) → KnowsRight self.now b → IsRight b company result }
+    {
+        match self.companies.get(&CompanyKey { company }) {
+            Some(known) if known.day == day => *known,
+            _ => CompanySums {
+                day,
+                exposures: None,
+                rates: None,
+            },
+        }
+    }
+
+    /// Gives a company's exposures on a day, where they are known.
+    pub(crate) fn exposures(&self, company: Id, day: Day) -> Option<(u128, u128)>
+        ensures { IfSome result
+            (λ sums. (b : Book) → KnowsRight self.now b → sums ≡ exposures_of company day b) }
+    {
+        self.on(company, day).exposures
+    }
+
+    /// Gives a company's return rates on a day, where they are known.
+    pub(crate) fn rates(&self, company: Id, day: Day) -> Option<Rates>
+        ensures { IfSome result
+            (λ rates. (b : Book) → KnowsRight self.now b → rates ≡ rates_of company day b) }
+    {
+        self.on(company, day).rates
+    }
+
+    /// Remembers a company's exposures on a day.
+    pub(crate) fn remember_exposures(&mut self, company: Id, day: Day, exposures: (u128, u128))
+        ensures { (b : Book) → exposures ≡ exposures_of company day b → KnowsRight self.old b →
+            KnowsRight self.new b }
+    {
+        let known = self.on(company, day);
+        self.put(
+            company,
+            CompanySums {
+                exposures: Some(exposures),
+                ..known
+            },
+        );
+    }
+
+    /// Remembers a company's return rates on a day.
+    pub(crate) fn remember_rates(&mut self, company: Id, day: Day, rates: Rates)
+        ensures { (b : Book) → rates ≡ rates_of company day b → KnowsRight self.old b →
+            KnowsRight self.new b }
+    {
+        let known = self.on(company, day);
+        self.put(
+            company,
+            CompanySums {
+                rates: Some(rates),
+                ..known
+            },
+        );
+    }
+
+    /// Adds cents to a company's exposure of a direction, where it is known.
+    pub(crate) fn grow(&mut self, company: Id, debit: bool, cents: u128)
+        ensures { (before after : Book) → Grows company debit cents before after →
+            KnowsRight self.old before → KnowsRight self.new after }
+    {
+        let Some(known) = self.companies.get(&CompanyKey { company }).copied() else {
+            return;
+        };
+        let exposures = grown(known.exposures, debit, cents);
+        self.put(company, CompanySums { exposures, ..known });
+    }
+}

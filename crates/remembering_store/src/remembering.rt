@@ -1,0 +1,267 @@
+//! A store remembers what companies are asked about most.
+ghost use Rattle.std.specs.Prelude.{◌≡◌};
+ghost use Rattle.remembering_store.specs.Remembered.{KnowsNothing};
+
+use crate::known::Known;
+use ach_fields::{Id, Ref, Trace};
+use bank_days::{Calendar, Day};
+use desk_accounts::{Account, Posting};
+use desk_book::{Caller, HeldSubmission, ReturnsAndChanges, Row, exposures_grow, rates_stay};
+use desk_history::{Identity, ListOf, SentEntry, SuspenseRow, TakenFile};
+use desk_rules::{Company, EntryState, Limits, Rates, Retry, RuleDay, SizedSubmission};
+use desk_store::{CutRows, IntakeRows, Store, StoreFault};
+use std::alloc::Global;
+
+/// A `Remembering` is a store that remembers the exposures and the return rates of companies.
+#[derive(Drop)]
+pub struct Remembering<S> {
+    store: S,
+    known: Known,
+}
+
+impl<S> Remembering<S> {
+    /// Remembers nothing yet of a store.
+    pub fn new(alloc: Global, store: S) -> Remembering<S>
+        ensures store { result.store ≡ store }
+        ensures known { KnowsNothing result.known }
+    {
+        Remembering {
+            store,
+            known: Known::new(alloc),
+        }
+    }
+
+    /// Gives the store.
+    pub fn into_inner(self) -> S
+        ensures { result ≡ self.store }
+    {
+        self.store
+    }
+}
+
+impl<S: Store> Store for Remembering<S> {
+    ghost use Rattle.remembering_store.specs.Remembered.{HoldsKnown};
+
+    ghost holds = { λ r. HoldsKnown (S.holds r.store) r.known };
+
+    ghost Kept = { S.Kept };
+
+    ghost keeps = { S.keeps };
+
+    ghost may_leave = { λ r. S.may_leave r.store };
+
+    ghost is_clean = { λ r. S.is_clean r.store };
+
+    fn identity(&mut self, alloc: Global) -> Result<Identity, StoreFault> {
+        self.store.identity(alloc)
+    }
+
+    fn key_of(&mut self, alloc: Global, caller: Caller) -> Result<Option<[u8; 32]>, StoreFault> {
+        self.store.key_of(alloc, caller)
+    }
+
+    fn day(&mut self, alloc: Global) -> Result<Option<RuleDay>, StoreFault> {
+        self.store.day(alloc)
+    }
+
+    fn calendar(&mut self, alloc: Global) -> Result<Calendar, StoreFault> {
+        self.store.calendar(alloc)
+    }
+
+    fn company(&mut self, alloc: Global, id: Id) -> Result<Option<Company>, StoreFault> {
+        self.store.company(alloc, id)
+    }
+
+    fn companies(&mut self, alloc: Global) -> Result<Vec<Company>, StoreFault> {
+        self.store.companies(alloc)
+    }
+
+    fn submission(
+        &mut self,
+        alloc: Global,
+        company: Id,
+        reference: Ref,
+    ) -> Result<Option<Row>, StoreFault> {
+        self.store.submission(alloc, company, reference)
+    }
+
+    fn submission_count(&mut self, alloc: Global, company: Id) -> Result<u64, StoreFault> {
+        self.store.submission_count(alloc, company)
+    }
+
+    fn open_rows(
+        &mut self,
+        alloc: Global,
+        company: Id,
+        since: Day,
+    ) -> Result<Vec<Row>, StoreFault> {
+        self.store.open_rows(alloc, company, since)
+    }
+
+    fn exposures(
+        &mut self,
+        alloc: Global,
+        company: Id,
+        today: Day,
+    ) -> Result<(u128, u128), StoreFault> {
+        if let Some(exposures) = self.known.exposures(company, today) {
+            return Ok(exposures);
+        }
+        let exposures = self.store.exposures(alloc, company, today)?;
+        self.known.remember_exposures(company, today, exposures);
+        Ok(exposures)
+    }
+
+    fn rates(&mut self, alloc: Global, company: Id, today: Day) -> Result<Rates, StoreFault> {
+        if let Some(rates) = self.known.rates(company, today) {
+            return Ok(rates);
+        }
+        let rates = self.store.rates(alloc, company, today)?;
+        self.known.remember_rates(company, today, rates);
+        Ok(rates)
+    }
+
+    fn retries_of(
+        &mut self,
+        alloc: Global,
+        company: Id,
+        of: Ref,
+        index: u64,
+    ) -> Result<Vec<Row>, StoreFault> {
+        self.store.retries_of(alloc, company, of, index)
+    }
+
+    fn state_of(
+        &mut self,
+        alloc: Global,
+        company: Id,
+        reference: Ref,
+        index: u64,
+    ) -> Result<Option<EntryState>, StoreFault> {
+        self.store.state_of(alloc, company, reference, index)
+    }
+
+    fn entries_of(&mut self, alloc: Global, company: Id) -> Result<Vec<Row>, StoreFault> {
+        self.store.entries_of(alloc, company)
+    }
+
+    fn waiting_of(
+        &mut self,
+        alloc: Global,
+        company: Company,
+    ) -> Result<Vec<HeldSubmission>, StoreFault> {
+        self.store.waiting_of(alloc, company)
+    }
+
+    fn waiting(&mut self, alloc: Global) -> Result<Vec<HeldSubmission>, StoreFault> {
+        self.store.waiting(alloc)
+    }
+
+    fn last_sequence(&mut self, alloc: Global) -> Result<u32, StoreFault> {
+        self.store.last_sequence(alloc)
+    }
+
+    fn sent_count(&mut self, alloc: Global) -> Result<u64, StoreFault> {
+        self.store.sent_count(alloc)
+    }
+
+    fn latest_settled(
+        &mut self,
+        alloc: Global,
+        from: u32,
+        to: u32,
+    ) -> Result<Option<Day>, StoreFault> {
+        self.store.latest_settled(alloc, from, to)
+    }
+
+    fn files_on(&mut self, alloc: Global, day: Day) -> Result<u64, StoreFault> {
+        self.store.files_on(alloc, day)
+    }
+
+    fn sent_as(&mut self, alloc: Global, trace: Trace) -> Result<Option<SentEntry>, StoreFault> {
+        self.store.sent_as(alloc, trace)
+    }
+
+    fn items_of(&mut self, alloc: Global, company: Id) -> Result<ReturnsAndChanges, StoreFault> {
+        self.store.items_of(alloc, company)
+    }
+
+    fn postings_of(&mut self, alloc: Global, account: Account) -> Result<Vec<Posting>, StoreFault> {
+        self.store.postings_of(alloc, account)
+    }
+
+    fn balances_of(
+        &mut self,
+        alloc: Global,
+        account: Account,
+    ) -> Result<Vec<(Day, i128)>, StoreFault> {
+        self.store.balances_of(alloc, account)
+    }
+
+    fn suspense(&mut self, alloc: Global) -> Result<Vec<SuspenseRow>, StoreFault> {
+        self.store.suspense(alloc)
+    }
+
+    fn suspense_count(&mut self, alloc: Global) -> Result<u64, StoreFault> {
+        self.store.suspense_count(alloc)
+    }
+
+    fn file(
+        &mut self,
+        alloc: Global,
+        day: Day,
+        modifier: u8,
+    ) -> Result<Option<ListOf<u8>>, StoreFault> {
+        self.store.file(alloc, day, modifier)
+    }
+
+    fn taken(&mut self, alloc: Global, key: [u8; 21]) -> Result<Option<TakenFile>, StoreFault> {
+        self.store.taken(alloc, key)
+    }
+
+    fn set_day(&mut self, alloc: Global, day: RuleDay) -> Result<(), StoreFault> {
+        self.known.forget(); // what is known is of a day that is over
+        self.store.set_day(alloc, day)
+    }
+
+    fn set_holidays(&mut self, alloc: Global, holidays: Calendar) -> Result<(), StoreFault> {
+        self.known.forget(); // banking days are others
+        self.store.set_holidays(alloc, holidays)
+    }
+
+    fn put_company(&mut self, alloc: Global, company: Company) -> Result<(), StoreFault> {
+        self.store.put_company(alloc, company)
+    }
+
+    fn put_limits(&mut self, alloc: Global, company: Id, limits: Limits) -> Result<(), StoreFault> {
+        self.store.put_limits(alloc, company, limits)
+    }
+
+    fn add_submission(
+        &mut self,
+        alloc: Global,
+        company: Id,
+        order: u64,
+        content: &SizedSubmission,
+        retry: Option<Retry>,
+    ) -> Result<(), StoreFault> {
+        exposures_grow();
+        rates_stay();
+        self.store
+            .add_submission(alloc, company, order, content, retry)?;
+        let debit = content.submission().direction.is_debit();
+        let cents = u128::from(content.total().get());
+        self.known.grow(company, debit, cents);
+        Ok(())
+    }
+
+    fn commit_cut(&mut self, alloc: Global, cut: &CutRows<'_>) -> Result<(), StoreFault> {
+        self.known.forget(); // what was held settles or lapses
+        self.store.commit_cut(alloc, cut)
+    }
+
+    fn commit_intake(&mut self, alloc: Global, intake: &IntakeRows<'_>) -> Result<(), StoreFault> {
+        self.known.forget(); // what was sent comes back
+        self.store.commit_intake(alloc, intake)
+    }
+}

@@ -1,0 +1,138 @@
+-- The statements that add tables and set the version make version 2's tables.
+use Rattle.std.proofs.Common.{◌≡◌, ◌≢◌, ℕ, ℤ, List, [], ◌∷◌, map, Option, None, Some, Ok, true, refl, sym, ap, ◌∙◌, subst, arith, pos, IsPermutation, Ordering}
+use Rattle.std.specs.List.{AllByRecursion}
+use Rattle.std.proofs.lemmas.List.Sorted.{IsPermutation-refl, IsPermutation-sym, length_permutation}
+use Rattle.sqlite_tied.specs.Compute.{everything}
+use Rattle.sqlite.specs.Effect.{Database}
+use Rattle.sqlite.specs.Listing.{understood}
+use Rattle.std.proofs.Common.{slice_get, true≢false}
+use Rattle.std.proofs.lemmas.Bool.{eqb-true}
+use Rattle.sqlite_schema.specs.declared.command.Command.{Command}
+use Rattle.sqlite_schema.specs.declared.command.Command.TheVariants.{Update}
+use Rattle.sqlite_schema.specs.declared.schema.Keys.TheVariants.{Enforced}
+use Rattle.sqlite.proofs.Callers.{command_of, runs_as, statement_of}
+use Rattle.sqlite.specs.Does.{Does}
+use Rattle.sqlite.specs.State.{State, Executes, Runs, mode_of}
+use Rattle.sql_migration.proofs.KeptSchemas.{rows_schema}
+use Rattle.sqlite.specs.Table.{Table}
+use Rattle.sqlite.specs.declared.types.Value.TheVariants.{Int}
+use Rattle.sqlite_sql.specs.Term.{col, lit}
+use Rattle.sqlite_trees.specs.Tree.{Trees}
+use Rattle.sqlite_trees.proofs.ListLemmas.{all-permutation}
+use Rattle.sqlite_value.specs.Order.{Row}
+use Rattle.sql_statements.proofs.Casts.{row_kept, are_kept}
+use Rattle.sql_statements.proofs.Changes.{updated}
+use Rattle.sql_statements.proofs.Conditions.{int_is, and_true}
+use Rattle.sql_statements.specs.Statements.{IsUpdate, is_update, number_is as is_number}
+use Rattle.sql_statements.specs.StoredRows.{row_of, Stores}
+use Rattle.sql_statements.specs.Layouts.{Holds}
+use Rattle.sql_tables.specs.Schema.{desk_schema}
+use Rattle.sql_tables.specs.TableDefinitions.{desk_table}
+use Rattle.sql_tables.specs.Layout.{desk_layout}
+use Rattle.sql_tables.specs.RecordRows.{desk_row}
+use Rattle.sql_tables.specs.Tables.{Tables, IsTableOf}
+use Rattle.sql_tables.specs.declared.records.DeskRecord.{DeskRecord}
+use Rattle.sql_migration.specs.FirstVersion.{first_schema, versioned_row, IsFirstStored}
+use Rattle.sql_migration.specs.MigrationTexts.{update_version}
+use Rattle.sql_migration.proofs.AddedTables.{Adds}
+use Rattle.sql_migration.proofs.NewTables.{numbered_schema, written_numbers, written_authorizations}
+
+-- ---- a table of one row
+
+one_row : {X : Type 0} (row : X → Row) (rows : List Row) (x : X) → Stores row rows (x ∷ []) → (i : ℤ) × (rows ≡ (Int i ∷ row x) ∷ [])
+one_row {X = X} row rows x h = go h.numbered h.are h.same
+  where
+    go : (ps : List (ℤ × X)) → rows ≡ map (row_of row) ps → IsPermutation (map (λ (p : ℤ × X). p.1) ps) (x ∷ []) → (i : ℤ) × (rows ≡ (Int i ∷ row x) ∷ [])
+    go [] are same = absurd (let n = length_permutation _ _ same in omega (arith, n))
+    go (p ∷ []) are same =
+        let its : p.1 ≡ x = (all-permutation (λ y. y ≡ x) (x ∷ []) (p.1 ∷ []) (IsPermutation-sym (p.1 ∷ []) (x ∷ []) same) (refl, tt)).0 in
+        (p.0, are ∙ ap (λ y. (Int p.0 ∷ row y) ∷ []) its)
+    go (p ∷ q ∷ ps) are same = absurd (let n = length_permutation _ _ same in omega (arith, n))
+
+-- it is also a row of something else
+row_as : {X Y : Type 0} (row : X → Row) (other : Y → Row) (rows : List Row) (x : X) (y : Y) → row x ≡ other y → Stores row rows (x ∷ []) → Stores other rows (y ∷ [])
+row_as {Y = Y} row other rows x y same h =
+    let it = one_row row rows x h in
+    record { numbered = (it.0, y) ∷ []; are = it.1 ∙ ap (λ r. (Int it.0 ∷ r) ∷ []) same; rise = (tt, tt); same = IsPermutation-refl (y ∷ []) }
+
+-- ---- the version is set
+
+abbrev Versioned : Type 0
+Versioned = ℕ × DeskRecord
+
+abbrev its_row : Versioned → Row
+its_row v = versioned_row v.0 v.1
+
+update_version_is : IsUpdate desk_schema update_version 0 0 (is_number 1 (pos 1) ∷ []) (col 1 1 ∷ lit (Int (pos 2)) ∷ col 1 3 ∷ col 1 4 ∷ col 1 5 ∷ col 1 6 ∷ col 1 7 ∷ col 1 8 ∷ [])
+unfolding understood everything
+update_version_is = record { updates = refl; body = refl; alone = refl; plain = (refl, refl) }
+
+versioned_kept : (v : Versioned) → are_kept desk_table.columns (its_row v) ≡ true
+versioned_kept v = go v.1.day
+  where
+    go : (o : Option ℕ) → are_kept desk_table.columns (its_row (v.0, record v.1 { day = o })) ≡ true
+    go None = refl
+    go (Some n) = refl
+
+pub record SetsVersion (d : DeskRecord) (old new : Database) : Type 0 where
+  pub schema_is : new.schema ≡ desk_schema
+  pub others : AllByRecursion (λ t. t.tree ≢ 0 → new.trees t.tree ≡ old.trees t.tree) desk_schema.tables
+  pub row : Stores desk_row (new.trees 0) (d ∷ [])
+
+pub version_set : (d : DeskRecord) (old new : State) (count : ℕ) → old.now.schema ≡ desk_schema → Stores (versioned_row 1) (old.now.trees 0) (d ∷ []) → Executes update_version [] old new (Ok count) → SetsVersion d old.now new.now
+version_set d old new count has stored ran =
+    let s = desk_table in
+    let was : Stores its_row (old.now.trees 0) ((1, d) ∷ []) = row_as (versioned_row 1) its_row (old.now.trees 0) d (1, d) refl stored in
+    let done = updated its_row desk_schema 0 0 s.name s.columns s.primary s.uniques s.orders update_version (is_number 1 (pos 1) ∷ [])
+    (col 1 1 ∷ lit (Int (pos 2)) ∷ col 1 3 ∷ col 1 4 ∷ col 1 5 ∷ col 1 6 ∷ col 1 7 ∷ col 1 8 ∷ []) update_version_is refl (λ olds news. refl) [] (λ _. true) (λ v. (2, v.1))
+    (λ i v. and_true _ ∙ int_is (pos 1) (pos 1)) (λ i v. refl) (λ i v. row_kept s (Int i) (its_row v) refl (versioned_kept v)) old new count has ((1, d) ∷ []) was ran in
+    record { schema_is = done.0.schema_is; others = done.0.others; row = row_as its_row desk_row (new.now.trees 0) (2, d) d refl done.1 }
+
+-- the schema stays, whatever rows there are
+pub schema_stays : (old new : State) (count : ℕ) → old.now.schema ≡ desk_schema → Executes update_version [] old new (Ok count) → new.now.schema ≡ desk_schema
+schema_stays old new count has ran =
+    run (command_of (understood desk_schema update_version)) update_version_is.updates (runs_as update_version [] old new desk_schema has (command_of (understood desk_schema update_version)) refl update_version_is.plain count ran)
+  where
+    run : (c : Command) → is_update 0 c ≡ true → Runs old new None c (statement_of update_version (understood desk_schema update_version)) [] count → new.now.schema ≡ desk_schema
+    run (Update place q) picks w =
+        let all = subst (λ s. Does old.step_limit (mode_of old) [] (record old.now { schema = s }) (statement_of update_version (understood desk_schema update_version)) None (Update place q) (Ok (w.tally, new.now))) has w.changed in
+        let here : place ≡ 0 = sym (eqb-true 0 place picks) in
+        let listed : slice_get desk_schema.tables place ≡ Some desk_table = rw here refl in
+        rows_schema (record { limit = old.step_limit; keys = Enforced; schema = desk_schema; table = desk_table; params = [] }) old (Update place q) old.now.trees w.tally new.now (rw listed at all)
+    run _ picks w = absurd (true≢false (sym picks))
+
+-- ---- all tables
+
+moved : {X : Type 0} {from to : Trees} {table : Table} {row : X → Row} {cmp : X → X → Ordering} {xs : List X} → to table.tree ≡ from table.tree → IsTableOf from table row cmp xs → IsTableOf to table row cmp xs
+moved {row = row} {xs = xs} same h = record { stored = subst (λ l. Stores row l xs) (sym same) h.stored; rise = h.rise }
+
+no_rows : {X : Type 0} {row : X → Row} {cmp : X → X → Ordering} (trees : Trees) (table : Table) → trees table.tree ≡ [] → IsTableOf trees table row cmp []
+no_rows trees table none = record { stored = record { numbered = []; are = none; rise = tt; same = IsPermutation-refl [] }; rise = tt }
+
+abbrev pub with_no_numbers : Tables → Tables
+with_no_numbers t = record t { numbers = []; authorizations = [] }
+
+pub second_tables : (t : Tables) (s0 s1 s2 s3 : Database) → IsFirstStored s0.trees t → Adds first_schema written_numbers s0 s1 → Adds numbered_schema written_authorizations s1 s2 → SetsVersion t.desk s2 s3 → Holds desk_layout s3 (with_no_numbers t)
+second_tables t s0 s1 s2 s3 h n a v = (
+  v.schema_is,
+  record {
+    desk = v.row;
+    holidays = moved (v.others.1.0 (λ e. omega (arith, e)) ∙ a.others.1.0 ∙ n.others.1.0) h.holidays;
+    companies = moved (v.others.1.1.0 (λ e. omega (arith, e)) ∙ a.others.1.1.0 ∙ n.others.1.1.0) h.companies;
+    submissions = moved (v.others.1.1.1.0 (λ e. omega (arith, e)) ∙ a.others.1.1.1.0 ∙ n.others.1.1.1.0) h.submissions;
+    entries = moved (v.others.1.1.1.1.0 (λ e. omega (arith, e)) ∙ a.others.1.1.1.1.0 ∙ n.others.1.1.1.1.0) h.entries;
+    returns = moved (v.others.1.1.1.1.1.0 (λ e. omega (arith, e)) ∙ a.others.1.1.1.1.1.0 ∙ n.others.1.1.1.1.1.0) h.returns;
+    changes = moved (v.others.1.1.1.1.1.1.0 (λ e. omega (arith, e)) ∙ a.others.1.1.1.1.1.1.0 ∙ n.others.1.1.1.1.1.1.0) h.changes;
+    postings = moved (v.others.1.1.1.1.1.1.1.0 (λ e. omega (arith, e)) ∙ a.others.1.1.1.1.1.1.1.0 ∙ n.others.1.1.1.1.1.1.1.0) h.postings;
+    suspense = moved (v.others.1.1.1.1.1.1.1.1.0 (λ e. omega (arith, e)) ∙ a.others.1.1.1.1.1.1.1.1.0 ∙ n.others.1.1.1.1.1.1.1.1.0) h.suspense;
+    files = moved (v.others.1.1.1.1.1.1.1.1.1.0 (λ e. omega (arith, e)) ∙ a.others.1.1.1.1.1.1.1.1.1.0 ∙ n.others.1.1.1.1.1.1.1.1.1.0) h.files;
+    taken = moved (v.others.1.1.1.1.1.1.1.1.1.1.0 (λ e. omega (arith, e)) ∙ a.others.1.1.1.1.1.1.1.1.1.1.0 ∙ n.others.1.1.1.1.1.1.1.1.1.1.0) h.taken;
+    balances = moved (v.others.1.1.1.1.1.1.1.1.1.1.1.0 (λ e. omega (arith, e)) ∙ a.others.1.1.1.1.1.1.1.1.1.1.1.0 ∙ n.others.1.1.1.1.1.1.1.1.1.1.1.0) h.balances;
+    numbers = no_rows s3.trees _ (v.others.1.1.1.1.1.1.1.1.1.1.1.1.0 (λ e. omega (arith, e)) ∙ a.others.1.1.1.1.1.1.1.1.1.1.1.1.0 ∙ n.empty);
+    authorizations = no_rows s3.trees _ (v.others.1.1.1.1.1.1.1.1.1.1.1.1.1.0 (λ e. omega (arith, e)) ∙ a.empty);
+  },
+)
+
+-- the row of the desk is as it was while tables are added
+pub desk_stays : (t : Tables) (s0 s1 s2 : Database) → IsFirstStored s0.trees t → Adds first_schema written_numbers s0 s1 → Adds numbered_schema written_authorizations s1 s2 → Stores (versioned_row 1) (s2.trees 0) (t.desk ∷ [])
+desk_stays t s0 s1 s2 h n a = subst (λ l. Stores (versioned_row 1) l (t.desk ∷ [])) (sym (a.others.0 ∙ n.others.0)) h.desk

@@ -1,0 +1,67 @@
+-- The tables of version 1, which has no table of numbers and none of authorizations, and which book they hold.
+use Rattle.std.specs.Prelude.{◌≡◌, ℕ, List, [], ◌∷◌, All}
+use Rattle.std.specs.List.{enumerate_from}
+use Rattle.std.specs.Ordering.{nat_cmp, on}
+use Rattle.sqlite_trees.specs.Tree.{Trees}
+use Rattle.sql_statements.specs.StoredRows.{Stores}
+use Rattle.sql_statements.specs.Books.{keeps}
+use Rattle.sql_statements.specs.Layouts.{Layout}
+use Rattle.desk_book.specs.Book.{Book}
+use Rattle.desk_book.specs.Unauthorized.{AuthorizesNothing}
+use Rattle.desk_store.specs.Rows.{Rows, flat_book}
+use Rattle.sql_tables.specs.TableDefinitions.{desk_table, holidays_table, companies_table, submissions_table, entries_table, returns_table, changes_table, postings_table, suspense_table, files_table, taken_table, balances_table}
+use Rattle.sql_tables.specs.Beside.{Beside}
+use Rattle.sql_tables.specs.Encodes.{Encodes}
+use Rattle.sql_tables.specs.KeyOrders.{company_cmp, submission_cmp, entry_cmp, file_cmp, taken_cmp, balance_cmp}
+use Rattle.sql_tables.specs.RecordRows.{holiday_row, company_row, submission_row, entry_row, return_row, change_row, posting_row, suspense_row, file_row, taken_row, balance_row}
+use Rattle.sql_tables.specs.Tables.{Tables, IsTableOf}
+use Rattle.sql_tables.specs.declared.records.AuthorizationRecord.{AuthorizationRecord}
+use Rattle.sql_tables.specs.declared.records.NumberRecord.{NumberRecord}
+pub use Rattle.sql_setup.specs.Versions.{first_schema, versioned_row}
+
+abbrev pub first_version : ℕ
+first_version = 1
+
+-- The trees store these records, but for the tables that version 1 has not.
+pub record IsFirstStored (trees : Trees) (t : Tables) : Type 0 where
+  pub desk : Stores (versioned_row first_version) (trees desk_table.tree) (t.desk ∷ [])
+  pub holidays : IsTableOf trees holidays_table holiday_row nat_cmp t.holidays
+  pub companies : IsTableOf trees companies_table company_row company_cmp t.companies
+  pub submissions : IsTableOf trees submissions_table submission_row submission_cmp t.submissions
+  pub entries : IsTableOf trees entries_table entry_row entry_cmp t.entries
+  pub returns : IsTableOf trees returns_table return_row (on (λ r. r.number) nat_cmp) t.returns
+  pub changes : IsTableOf trees changes_table change_row (on (λ c. c.number) nat_cmp) t.changes
+  pub postings : IsTableOf trees postings_table posting_row (on (λ p. p.number) nat_cmp) t.postings
+  pub suspense : IsTableOf trees suspense_table suspense_row (on (λ s. s.number) nat_cmp) t.suspense
+  pub files : IsTableOf trees files_table file_row file_cmp t.files
+  pub taken : IsTableOf trees taken_table taken_row taken_cmp t.taken
+  pub balances : IsTableOf trees balances_table balance_row balance_cmp t.balances
+  pub numbers : t.numbers ≡ []
+  pub authorizations : t.authorizations ≡ []
+
+abbrev pub first_layout : Layout
+first_layout = record { Tables = Tables; schema = λ _. first_schema; IsStored = IsFirstStored }
+
+-- The tables are those of the flat rows that the book is, all but the two that version 2 adds. No sequence was used again,
+-- so each sent entry's sequence is its place from 1 among all of them. Which retries were authorized again they don't tell.
+pub record AreFirstTablesOf (t : Tables) (b : Book) : Type 0 where
+  pub rows : Rows
+  pub numbers : List NumberRecord
+  pub authorizations : List AuthorizationRecord
+  pub encodes : Encodes (record t { numbers = numbers; authorizations = authorizations }) rows
+  pub beside : Beside t rows
+  pub unused : All (λ p. p.1.sequence ≡ p.0) (enumerate_from 1 rows.sent)
+  pub book : b ≡ flat_book rows
+
+-- Where no retry was authorized again, they tell the book whole.
+pub record IsFirstBookIn (t : Tables) (b : Book) : Type 0 where
+  pub tables : AreFirstTablesOf t b
+  pub unauthorized : AuthorizesNothing b
+
+-- these trees are version 1's tables of the book
+abbrev pub HasFirstTables : Trees → Book → Type 0
+HasFirstTables = keeps first_layout AreFirstTablesOf
+
+-- and they tell it whole
+abbrev pub KeepsFirst : Trees → Book → Type 0
+KeepsFirst = keeps first_layout IsFirstBookIn

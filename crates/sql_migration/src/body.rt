@@ -1,0 +1,77 @@
+//! Version 1's tables become version 2's.
+ghost use Rattle.std.specs.Prelude.{◌≡◌, ◌≢◌, ℕ, false, Err, IfErr, OnErr, OnOk};
+ghost use Rattle.sqlite.specs.Held.{state};
+ghost use Rattle.sqlite.specs.State.{HasCleanDisk, Survives};
+ghost use Rattle.sql_statements.specs.Queries.{Stays};
+ghost use Rattle.desk_book.specs.Book.{Book};
+ghost use Rattle.sql_tables.specs.Layout.{Keeps};
+ghost use Rattle.sql_setup.specs.Refusals.{IsRefused};
+ghost use Rattle.sql_setup.specs.Setup.{HasDesk};
+ghost use Rattle.sql_setup.specs.Versions.{IsOfVersion};
+ghost use Rattle.sql_migration.specs.FirstVersion.{first_version, KeepsFirst};
+ghost use Rattle.sql_migration.specs.Migration.{migration_layout, migration_edit, HasMigrated};
+
+use crate::check::check_first;
+use crate::entries::number_entries;
+use desk_book::unauthorized_books;
+use sql_setup::OpenFault;
+use sql_statements::{TransactionBody, commit, execute};
+use sqlite::{Alter, Connection, Error, Transaction};
+use std::alloc::Global;
+
+// The tables that version 2 adds are made, the version is set, and sent entries are numbered.
+#[derive(Clone, Copy)]
+struct Migration;
+
+impl TransactionBody for Migration {
+    ghost layout = { migration_layout };
+
+    ghost edit = { λ _. migration_edit };
+
+    fn run<S: Alter>(&self, tx: &mut Transaction<'_, S>) -> Result<(), Error> {
+        execute(
+            tx,
+            "CREATE TABLE numbers (sequence INT NOT NULL, nth INT NOT NULL, PRIMARY KEY (sequence), UNIQUE (nth)) STRICT",
+            &[],
+        )?;
+        execute(
+            tx,
+            "CREATE TABLE authorizations (company TEXT NOT NULL, ord INT NOT NULL, day INT NOT NULL, PRIMARY KEY (company, ord)) STRICT",
+            &[],
+        )?;
+        execute(tx, "UPDATE desk SET version = 2 WHERE id = 1", &[])?;
+        number_entries(tx)?;
+        Ok(())
+    }
+}
+
+/// Makes a desk's tables of version 1 those of version 2, in one transaction: every book that they kept
+/// is kept. A crash leaves the tables of version 1 or those of version 2, whole.
+///
+/// A desk of version 1 did not read the key `authorized` of a retry. What its tables stood for is its
+/// history without that key, in whose book no retry was authorized again: they stand for it afterwards.
+///
+/// Where there is no table `desk`, or no row in it, it is `OpenFault::NotADesk`. Where its row says
+/// another version it is `OpenFault::WrongVersion`, whatever else the schema is. Every other schema, and
+/// a connection that is inside a transaction, is `OpenFault::Unavailable`. After an error the tables are
+/// as they were.
+pub fn migrate<S: Alter>(alloc: Global, conn: &mut Connection<S>) -> Result<(), OpenFault>
+    ensures migrated { HasCleanDisk (state S.Store conn.new) → OnOk result (HasMigrated (state S.Store conn.old) (state S.Store conn.new)) }
+    ensures absent { conn.old.in_transaction ≡ false → ¬ HasDesk (state S.Store conn.old).now.schema → result ≡ Err OpenFault.NotADesk }
+    ensures first { HasCleanDisk (state S.Store conn.new) → OnOk result ((n : ℕ) → IsOfVersion (state S.Store conn.old).now n → n ≡ first_version) }
+    ensures refused { IfErr result (IsRefused S.Store first_version conn.old conn.new) }
+    ensures otherwise { IfErr result (λ fault. fault ≢ OpenFault.Exists) }
+    ensures unmigrated { HasCleanDisk (state S.Store conn.new) → OnErr result (Stays (state S.Store conn.old) (state S.Store conn.new)) }
+    ensures survives { Survives (state S.Store conn.old) (state S.Store conn.new) (λ trees. (b : Book) → KeepsFirst (state S.Store conn.old).committed.trees b → Keeps trees b) }
+    ensures ended { conn.old.in_transaction ≡ false → conn.new.in_transaction ≡ false }
+{
+    if !conn.is_autocommit() {
+        return Err(OpenFault::Unavailable);
+    }
+    check_first(alloc, conn)?;
+    unauthorized_books();
+    match commit(conn, &Migration) {
+        Ok(()) => Ok(()),
+        Err(_) => Err(OpenFault::Unavailable),
+    }
+}

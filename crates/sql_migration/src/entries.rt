@@ -1,0 +1,63 @@
+//! Each sent entry's place becomes the number of the sequence that it has.
+ghost use Rattle.std.specs.Prelude.{◌≡◌, OnOk};
+ghost use Rattle.sqlite.specs.Held.{state};
+ghost use Rattle.sqlite.specs.State.{HasCleanDisk, Survives, KeepsCommit};
+ghost use Rattle.sql_statements.specs.Transactions.{Makes};
+ghost use Rattle.sql_migration.specs.Migration.{put_number_edit, number_entries_edit, number_in, seen_layout, if_seen};
+
+use sql_statements::{RowBody, execute, number, query_inside, run_each};
+use sql_tables::{natural, read_only_column};
+use sqlite::{Alter, Error, Row, Transaction};
+
+/// Writes a number for each entry that was sent: its sequence was used once, and is its place.
+pub(crate) fn number_entries<S: Alter>(tx: &mut Transaction<'_, S>) -> Result<(), Error>
+    ensures same_reference { tx.new.conn.ghost_name ≡ tx.old.conn.ghost_name }
+    ensures makes { HasCleanDisk (state S.Store tx.new.conn.now) → OnOk result (Makes seen_layout (if_seen number_entries_edit) (state S.Store tx.old.conn.now) (state S.Store tx.new.conn.now)) }
+    ensures keeps { HasCleanDisk (state S.Store tx.new.conn.now) → KeepsCommit (state S.Store tx.old.conn.now) (state S.Store tx.new.conn.now) }
+    ensures survives { Survives (state S.Store tx.old.conn.now) (state S.Store tx.new.conn.now) (λ _. ⊥) }
+{
+    let rows = query_inside(
+        tx,
+        "SELECT seq FROM entries WHERE seq >= ?1 ORDER BY company, ord, idx",
+        &[number(1)],
+    )?;
+    run_each(tx, &NumberEntries, 1, &rows)?;
+    Ok(())
+}
+
+// A row of the query has the place of an entry.
+#[derive(Clone, Copy)]
+struct NumberEntries;
+
+impl RowBody for NumberEntries {
+    type Row = Row;
+
+    ghost layout = { seen_layout };
+
+    ghost edit = { λ _ _ row. if_seen (put_number_edit (number_in row)) };
+
+    fn run_row<S: Alter>(
+        &self,
+        tx: &mut Transaction<'_, S>,
+        _number: u64,
+        row: &Row,
+    ) -> Result<(), Error> {
+        match read_only_column(row) {
+            Some(place) => put_number(tx, place),
+            None => Err(Error::InvalidQuery),
+        }
+    }
+}
+
+// Writes the place of the one entry that has a sequence, which is the sequence.
+fn put_number<S: Alter>(tx: &mut Transaction<'_, S>, place: u64) -> Result<(), Error>
+    ensures same_reference { tx.new.conn.ghost_name ≡ tx.old.conn.ghost_name }
+    ensures makes { HasCleanDisk (state S.Store tx.new.conn.now) → OnOk result (Makes seen_layout (if_seen (put_number_edit place)) (state S.Store tx.old.conn.now) (state S.Store tx.new.conn.now)) }
+    ensures keeps { HasCleanDisk (state S.Store tx.new.conn.now) → KeepsCommit (state S.Store tx.old.conn.now) (state S.Store tx.new.conn.now) }
+    ensures survives { Survives (state S.Store tx.old.conn.now) (state S.Store tx.new.conn.now) (λ _. ⊥) }
+{
+    let sequence = natural(place)?;
+    let at = natural(place)?;
+    execute(tx, "INSERT INTO numbers VALUES (?1, ?2)", &[sequence, at])?;
+    Ok(())
+}

@@ -1,0 +1,10 @@
+use Rattle.sql_queries.proofs.ReturnsShown.{return_lines_found}
+use Rattle.sql_queries.proofs.TextsAnywhere.{return_lines_selects}
+use Rattle.sql_queries.proofs.items.return_lines.Goals as goal
+
+pub all_of-requires : goal.all_of-requires
+all_of-requires g c = return_lines_selects
+
+pub returns-clause-answer : goal.returns-clause-answer
+returns-clause-answer g c clean =
+    return_lines_found (rw (c.characters.ensures, c.bytes.ensures.value) at (c.in_ok-lines.ensures.answer clean)) c.in_order.ensures.same c.in_order.ensures.sorted

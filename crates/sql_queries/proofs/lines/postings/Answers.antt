@@ -1,0 +1,14 @@
+use Rattle.std.proofs.lemmas.Result.{IfOk-weaker}
+use Rattle.sql_queries.proofs.Found.{all_found}
+use Rattle.sql_queries.proofs.Injective.{posting_line_rows}
+use Rattle.sql_queries.proofs.LinesShown.{postings_shown, postings_found}
+use Rattle.sql_queries.proofs.TextsAnywhere.{postings_selects}
+use Rattle.sql_queries.proofs.lines.postings.Goals as goal
+
+pub all_of-requires : goal.all_of-requires
+all_of-requires g c = postings_selects
+
+pub returns-clause-answer : goal.returns-clause-answer
+returns-clause-answer g c clean =
+    let lines = all_found _ posting_line_rows (postings_shown c.args.account) (rw (c.characters.ensures, c.as_slice.ensures.value, c.account_text-text.ensures) at (c.in_ok-lines.ensures.answer clean)) in
+    IfOk-weaker c.of_account.result _ _ (λ found are. postings_found lines are) c.of_account.ensures

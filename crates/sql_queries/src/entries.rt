@@ -1,0 +1,155 @@
+//! Entries, and the places of those that were sent.
+ghost use Rattle.std.specs.Prelude.{◌≡◌};
+ghost use Rattle.sql_statements.specs.Findings.{Finds};
+ghost use Rattle.sql_tables.specs.TableReads.{entries_in, amounts_in, cents_in, entry_at, entry_at_place, place_in, places_between, IsLastNumber};
+ghost use Rattle.sql_queries.specs.Asking.{Asks, SeesStill, LeavesNothingNew};
+
+use crate::rows::{all_of, cell_of, column_of, first_of};
+use ach_fields::Id;
+use sql_tables::{EntryAmount, NumberRecord, NumberedEntry, PlacedEntry, characters, natural};
+use sqlite::{Alter, Connection, Error};
+use std::alloc::Global;
+
+/// Gives the entries of the submission with a number in its company.
+pub fn entries_of<S: Alter>(
+    conn: &mut Connection<S>,
+    alloc: Global,
+    company: Id,
+    order: u64,
+) -> Result<Vec<NumberedEntry>, Error>
+    ensures answer { Asks S.Store conn.old conn.new result
+        (λ found t. found.items ≡ entries_in company order t) }
+    ensures stays { SeesStill S.Store conn.old conn.new }
+    ensures survives { LeavesNothingNew S.Store conn.old conn.new }
+{
+    all_of(
+        conn,
+        alloc,
+        "SELECT idx, routing, account, savings, prenote, cents, ident, name, info FROM entries WHERE company = ?1 AND ord = ?2 ORDER BY company, ord, idx",
+        &[characters(company.bytes()), natural(order)?],
+    )
+}
+
+/// Gives what the entries of the submission with a number in its company count for.
+pub fn amounts_of<S: Alter>(
+    conn: &mut Connection<S>,
+    alloc: Global,
+    company: Id,
+    order: u64,
+) -> Result<Vec<EntryAmount>, Error>
+    ensures answer { Asks S.Store conn.old conn.new result
+        (λ found t. found.items ≡ amounts_in company order t) }
+    ensures stays { SeesStill S.Store conn.old conn.new }
+    ensures survives { LeavesNothingNew S.Store conn.old conn.new }
+{
+    all_of(
+        conn,
+        alloc,
+        "SELECT idx, prenote, cents FROM entries WHERE company = ?1 AND ord = ?2 ORDER BY company, ord, idx",
+        &[characters(company.bytes()), natural(order)?],
+    )
+}
+
+/// Gives the sum of their cents. `Error::InvalidQuery` says that it is past 2^63 - 1.
+pub fn cents_of<S: Alter>(conn: &mut Connection<S>, company: Id, order: u64) -> Result<u64, Error>
+    ensures answer { Asks S.Store conn.old conn.new result
+        (λ found t. found ≡ cents_in company order t) }
+    ensures stays { SeesStill S.Store conn.old conn.new }
+    ensures survives { LeavesNothingNew S.Store conn.old conn.new }
+{
+    match cell_of(
+        conn,
+        "SELECT coalesce(sum(cents), 0) FROM entries WHERE company = ?1 AND ord = ?2",
+        &[characters(company.bytes()), natural(order)?],
+    )? {
+        Some(cents) => Ok(cents),
+        None => Err(Error::InvalidQuery),
+    }
+}
+
+/// Finds the entry with a number in the submission with a number in its company.
+pub fn entry<S: Alter>(
+    conn: &mut Connection<S>,
+    company: Id,
+    order: u64,
+    index: u64,
+) -> Result<Option<NumberedEntry>, Error>
+    ensures answer { Asks S.Store conn.old conn.new result
+        (λ found t. found ≡ entry_at company order index t) }
+    ensures stays { SeesStill S.Store conn.old conn.new }
+    ensures survives { LeavesNothingNew S.Store conn.old conn.new }
+{
+    first_of(
+        conn,
+        "SELECT idx, routing, account, savings, prenote, cents, ident, name, info FROM entries WHERE company = ?1 AND ord = ?2 AND idx = ?3 ORDER BY company, ord, idx",
+        &[
+            characters(company.bytes()),
+            natural(order)?,
+            natural(index)?,
+        ],
+    )
+}
+
+/// Finds the entry that has a place among all sent entries.
+pub fn sent_entry<S: Alter>(
+    conn: &mut Connection<S>,
+    place: u64,
+) -> Result<Option<PlacedEntry>, Error>
+    ensures answer { Asks S.Store conn.old conn.new result
+        (λ found t. found ≡ entry_at_place place t) }
+    ensures stays { SeesStill S.Store conn.old conn.new }
+    ensures survives { LeavesNothingNew S.Store conn.old conn.new }
+{
+    first_of(
+        conn,
+        "SELECT company, ord, idx, routing, account, savings, prenote, cents, ident, name, info FROM entries WHERE seq = ?1 ORDER BY company, ord, idx",
+        &[natural(place)?],
+    )
+}
+
+/// Finds the place of the youngest sent entry that has a sequence.
+pub fn place<S: Alter>(conn: &mut Connection<S>, sequence: u32) -> Result<Option<u64>, Error>
+    ensures answer { Asks S.Store conn.old conn.new result
+        (λ found t. found ≡ place_in sequence t) }
+    ensures stays { SeesStill S.Store conn.old conn.new }
+    ensures survives { LeavesNothingNew S.Store conn.old conn.new }
+{
+    cell_of(
+        conn,
+        "SELECT nth FROM numbers WHERE sequence = ?1 ORDER BY sequence",
+        &[natural(u64::from(sequence))?],
+    )
+}
+
+/// Gives the places of the youngest sent entries that have the sequences of a range.
+pub fn places<S: Alter>(
+    conn: &mut Connection<S>,
+    alloc: Global,
+    from: u32,
+    to: u32,
+) -> Result<Vec<u64>, Error>
+    ensures answer { Asks S.Store conn.old conn.new result
+        (λ found t. found.items ≡ places_between from to t) }
+    ensures stays { SeesStill S.Store conn.old conn.new }
+    ensures survives { LeavesNothingNew S.Store conn.old conn.new }
+{
+    column_of(
+        conn,
+        alloc,
+        "SELECT nth FROM numbers WHERE sequence >= ?1 AND sequence <= ?2 ORDER BY sequence",
+        &[natural(u64::from(from))?, natural(u64::from(to))?],
+    )
+}
+
+/// Finds the sequence of the last place among all sent entries, with that place.
+pub fn last_number<S: Alter>(conn: &mut Connection<S>) -> Result<Option<NumberRecord>, Error>
+    ensures answer { Asks S.Store conn.old conn.new result IsLastNumber }
+    ensures stays { SeesStill S.Store conn.old conn.new }
+    ensures survives { LeavesNothingNew S.Store conn.old conn.new }
+{
+    first_of(
+        conn,
+        "SELECT sequence, nth FROM numbers ORDER BY nth DESC LIMIT 1",
+        &[],
+    )
+}

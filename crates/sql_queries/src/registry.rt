@@ -1,0 +1,117 @@
+//! The desk, its calendar and its companies.
+ghost use Rattle.std.specs.Prelude.{◌≡◌, length};
+ghost use Rattle.sql_statements.specs.Findings.{Finds};
+ghost use Rattle.sql_tables.specs.TableReads.{company_in};
+ghost use Rattle.sql_queries.specs.DigestRows.{key_digest_row};
+ghost use Rattle.sql_queries.specs.Asking.{Asks, SeesStill, LeavesNothingNew};
+
+use crate::rows::{all_of, cell_of, column_of, first_of};
+use ach_fields::Id;
+use bank_days::Day;
+use desk_history::Identity;
+use desk_rules::{Company, RuleDay};
+use sql_tables::{FromRow, characters, read_digest};
+use sqlite::{Alter, Connection, Error, Row};
+use std::alloc::Global;
+
+/// Gives the identity of the desk: whose files it makes, and for whom.
+pub fn identity<S: Alter>(conn: &mut Connection<S>) -> Result<Identity, Error>
+    ensures answer { Asks S.Store conn.old conn.new result (λ found t. found ≡ t.desk.identity) }
+    ensures stays { SeesStill S.Store conn.old conn.new }
+    ensures survives { LeavesNothingNew S.Store conn.old conn.new }
+{
+    match first_of(
+        conn,
+        "SELECT odfi, odfi_name, destination, destination_name FROM desk WHERE id = 1 ORDER BY id",
+        &[],
+    )? {
+        Some(found) => Ok(found),
+        None => Err(Error::InvalidQuery),
+    }
+}
+
+// The digest of a key, in a row of its own.
+#[derive(Drop)]
+struct KeyDigest {
+    bytes: [u8; 32],
+}
+
+impl FromRow for KeyDigest {
+    ghost stored_row = { key_digest_row };
+
+    ghost fits = { λ k. length k.bytes ≡ 32 };
+
+    fn from_row(row: &Row) -> Option<KeyDigest> {
+        if row.column_count() != 1 {
+            return None;
+        }
+        let bytes = read_digest(row, 0)?;
+        Some(KeyDigest { bytes })
+    }
+}
+
+/// Gives the SHA-256 digest of the operator's key.
+pub fn operator_key<S: Alter>(conn: &mut Connection<S>) -> Result<[u8; 32], Error>
+    ensures answer { Asks S.Store conn.old conn.new result
+        (λ found t. found ≡ t.desk.operator_key) }
+    ensures stays { SeesStill S.Store conn.old conn.new }
+    ensures survives { LeavesNothingNew S.Store conn.old conn.new }
+{
+    let found: Option<KeyDigest> = first_of(
+        conn,
+        "SELECT operator_key FROM desk WHERE id = 1 ORDER BY id",
+        &[],
+    )?;
+    match found {
+        Some(key) => Ok(key.bytes),
+        None => Err(Error::InvalidQuery),
+    }
+}
+
+/// Gives the desk day, once one was set.
+pub fn day<S: Alter>(conn: &mut Connection<S>) -> Result<Option<RuleDay>, Error>
+    ensures answer { Asks S.Store conn.old conn.new result (λ found t. found ≡ t.desk.day) }
+    ensures stays { SeesStill S.Store conn.old conn.new }
+    ensures survives { LeavesNothingNew S.Store conn.old conn.new }
+{
+    match cell_of(conn, "SELECT day FROM desk WHERE id = 1 ORDER BY id", &[])? {
+        Some(found) => Ok(found),
+        None => Err(Error::InvalidQuery),
+    }
+}
+
+/// Gives the holidays of the calendar, from the first.
+pub fn holidays<S: Alter>(conn: &mut Connection<S>, alloc: Global) -> Result<Vec<Day>, Error>
+    ensures answer { Asks S.Store conn.old conn.new result (λ found t. found.items ≡ t.holidays) }
+    ensures stays { SeesStill S.Store conn.old conn.new }
+    ensures survives { LeavesNothingNew S.Store conn.old conn.new }
+{
+    column_of(conn, alloc, "SELECT day FROM holidays ORDER BY day", &[])
+}
+
+/// Gives the companies, by their identification.
+pub fn companies<S: Alter>(conn: &mut Connection<S>, alloc: Global) -> Result<Vec<Company>, Error>
+    ensures answer { Asks S.Store conn.old conn.new result (λ found t. found.items ≡ t.companies) }
+    ensures stays { SeesStill S.Store conn.old conn.new }
+    ensures survives { LeavesNothingNew S.Store conn.old conn.new }
+{
+    all_of(
+        conn,
+        alloc,
+        "SELECT id, name, key_digest, entry_limit, credit_limit, debit_limit FROM companies ORDER BY id",
+        &[],
+    )
+}
+
+/// Finds a company.
+pub fn company<S: Alter>(conn: &mut Connection<S>, id: Id) -> Result<Option<Company>, Error>
+    ensures answer { Asks S.Store conn.old conn.new result (λ found t. found ≡ company_in id t) }
+    ensures stays { SeesStill S.Store conn.old conn.new }
+    ensures survives { LeavesNothingNew S.Store conn.old conn.new }
+{
+    first_of(
+        conn,
+        "SELECT id, name, key_digest, entry_limit, credit_limit, debit_limit FROM companies WHERE id = ?1 ORDER BY id",
+        &[characters(id.bytes())],
+    )
+}

@@ -1,0 +1,206 @@
+//! The rows of a query are read back.
+ghost use Rattle.std.specs.Prelude.{◌≡◌, ◌⊎◌, [], ◌∷◌, map, slice_get, Option, option_map, IfOk, IfErr, OnOk};
+ghost use Rattle.std.specs.List.{AllByRecursion};
+ghost use Rattle.sqlite.specs.Given.{Advances};
+ghost use Rattle.sqlite.specs.Held.{state};
+ghost use Rattle.sqlite.specs.State.{HasCleanDisk, IsUnchanged, Fails};
+ghost use Rattle.sqlite.specs.Values.{bound};
+ghost use Rattle.sqlite_value.specs.declared.value.Value.TheVariants.{Blob};
+ghost use Rattle.sql_statements.specs.SelectTexts.{IsSelectText};
+ghost use Rattle.sql_tables.specs.Ranges.{FitsIfAny};
+ghost use Rattle.sql_queries.specs.Shows.{ReadsAll, ReadsFirst};
+ghost use Rattle.sql_queries.specs.Asking.{SeesStill, LeavesNothingNew};
+
+use sql_statements::query;
+use sql_tables::{FromColumn, FromRow, read_only_column};
+use sqlite::types::ValueRef;
+use sqlite::{Alter, Connection, Error, Row, Rows};
+use std::alloc::Global;
+
+/// Gives the value that the next row stores, and `None` behind the last row.
+pub(crate) fn next_of<S: Alter, T: FromRow>(rows: &mut Rows<'_, S>) -> Result<Option<T>, Error>
+    ensures same_reference { rows.new.conn.ghost_name ≡ rows.old.conn.ghost_name }
+    ensures advances { HasCleanDisk (state S.Store rows.new.conn.now) →
+        IfOk result (λ value. Advances S.Store rows.old.conn.now rows.new.conn.now
+        (option_map T.FromRow.stored_row value)) }
+    ensures fits { IfOk result (FitsIfAny T.FromRow.fits) }
+    ensures same { HasCleanDisk (state S.Store rows.new.conn.now) →
+        OnOk result
+        (IsUnchanged (state S.Store rows.old.conn.now) (state S.Store rows.new.conn.now)) }
+    ensures kept { HasCleanDisk (state S.Store rows.new.conn.now) →
+        IfErr result (λ e. Fails (state S.Store rows.old.conn.now) (state S.Store rows.new.conn.now)
+        ⊥ e ⊎ IsUnchanged (state S.Store rows.old.conn.now) (state S.Store rows.new.conn.now)) }
+    ensures survives { LeavesNothingNew S.Store rows.old.conn.now rows.new.conn.now }
+{
+    rows.advance()?;
+    let Some(row) = rows.get() else {
+        return Ok(None);
+    };
+    match T::from_row(row) {
+        Some(value) => Ok(Some(value)),
+        None => Err(Error::InvalidQuery),
+    }
+}
+
+// The value that the first row stores.
+fn read_first<T: FromRow>(rows: &[Row]) -> Result<Option<T>, Error>
+    ensures { IfOk result (λ x. option_map T.FromRow.stored_row x ≡ slice_get rows.now 0) }
+{
+    let Some(row) = rows.first() else {
+        return Ok(None);
+    };
+    match T::from_row(row) {
+        Some(value) => Ok(Some(value)),
+        None => Err(Error::InvalidQuery),
+    }
+}
+
+/// Gives the values of all rows of a query, of which one is there at a time. The text has to be a SELECT.
+pub(crate) fn all_of<S: Alter, T: FromRow>(
+    conn: &mut Connection<S>,
+    alloc: Global,
+    sql: &str,
+    params: &[ValueRef<'_>],
+) -> Result<Vec<T>, Error>
+    requires { IsSelectText sql.now }
+    ensures answer { HasCleanDisk (state S.Store conn.new) →
+        IfOk result (λ xs. ReadsAll sql.now (bound params.now) T.FromRow.stored_row
+        (state S.Store conn.old) (state S.Store conn.new) xs.items) }
+    ensures fit { IfOk result (λ xs. AllByRecursion T.FromRow.fits xs.items) }
+    ensures stays { SeesStill S.Store conn.old conn.new }
+    ensures survives { LeavesNothingNew S.Store conn.old conn.new }
+{
+    if !conn.is_autocommit() {
+        return Err(Error::InvalidQuery);
+    }
+    let mut values = Vec::new(alloc);
+    let mut rows = conn.query(sql, params)?;
+    'rows: for _ in 0..u64::MAX {
+        let Some(value) = next_of(&mut rows)? else {
+            return Ok(values);
+        };
+        values.push(value)?;
+    }
+    // No memory has so many.
+    Err(Error::InvalidQuery)
+}
+
+/// Gives the value of the first row of a query, and `None` where it shows no row. The text has to be a
+/// SELECT.
+pub(crate) fn first_of<S: Alter, T: FromRow>(
+    conn: &mut Connection<S>,
+    sql: &str,
+    params: &[ValueRef<'_>],
+) -> Result<Option<T>, Error>
+    requires { IsSelectText sql.now }
+    ensures answer { HasCleanDisk (state S.Store conn.new) →
+        IfOk result (λ x. ReadsFirst sql.now (bound params.now) T.FromRow.stored_row
+        (state S.Store conn.old) (state S.Store conn.new) x) }
+    ensures stays { SeesStill S.Store conn.old conn.new }
+    ensures survives { LeavesNothingNew S.Store conn.old conn.new }
+{
+    let rows = query(conn, sql, params)?;
+    read_first(&rows)
+}
+
+// The values that rows of one column store.
+fn read_column_of_all<T: FromColumn>(alloc: Global, rows: &[Row]) -> Result<Vec<T>, Error>
+    ensures { IfOk result (λ xs. map (λ x. T.FromColumn.stored x ∷ []) xs.items ≡ rows.now) }
+{
+    let mut values = Vec::new(alloc);
+    for row in rows {
+        let Some(value) = read_only_column(row) else {
+            return Err(Error::InvalidQuery);
+        };
+        values.push(value)?;
+    }
+    Ok(values)
+}
+
+// The value that the first of rows of one column stores.
+fn read_first_cell<T: FromColumn>(rows: &[Row]) -> Result<Option<T>, Error>
+    ensures is { IfOk result
+        (λ x. option_map (λ x. T.FromColumn.stored x ∷ []) x ≡ slice_get rows.now 0) }
+    ensures fits { IfOk result (FitsIfAny T.FromColumn.fits) }
+{
+    let Some(row) = rows.first() else {
+        return Ok(None);
+    };
+    match read_only_column(row) {
+        Some(value) => Ok(Some(value)),
+        None => Err(Error::InvalidQuery),
+    }
+}
+
+/// Gives the values in all rows of a query of one column. The text has to be a SELECT.
+pub(crate) fn column_of<S: Alter, T: FromColumn>(
+    conn: &mut Connection<S>,
+    alloc: Global,
+    sql: &str,
+    params: &[ValueRef<'_>],
+) -> Result<Vec<T>, Error>
+    requires { IsSelectText sql.now }
+    ensures answer { HasCleanDisk (state S.Store conn.new) →
+        IfOk result (λ xs. ReadsAll sql.now (bound params.now) (λ x. T.FromColumn.stored x ∷ [])
+        (state S.Store conn.old) (state S.Store conn.new) xs.items) }
+    ensures stays { SeesStill S.Store conn.old conn.new }
+    ensures survives { LeavesNothingNew S.Store conn.old conn.new }
+{
+    let rows = query(conn, sql, params)?;
+    read_column_of_all(alloc, &rows)
+}
+
+/// Gives the value in the first row of a query of one column, and `None` where it shows no row. The
+/// text has to be a SELECT.
+pub(crate) fn cell_of<S: Alter, T: FromColumn>(
+    conn: &mut Connection<S>,
+    sql: &str,
+    params: &[ValueRef<'_>],
+) -> Result<Option<T>, Error>
+    requires { IsSelectText sql.now }
+    ensures answer { HasCleanDisk (state S.Store conn.new) →
+        IfOk result (λ x. ReadsFirst sql.now (bound params.now) (λ x. T.FromColumn.stored x ∷ [])
+        (state S.Store conn.old) (state S.Store conn.new) x) }
+    ensures fits { IfOk result (FitsIfAny T.FromColumn.fits) }
+    ensures stays { SeesStill S.Store conn.old conn.new }
+    ensures survives { LeavesNothingNew S.Store conn.old conn.new }
+{
+    let rows = query(conn, sql, params)?;
+    read_first_cell(&rows)
+}
+
+// The bytes in the first of rows of one column.
+fn read_first_blob(alloc: Global, rows: &[Row]) -> Result<Option<Vec<u8>>, Error>
+    ensures { IfOk result
+        (λ x. option_map (λ b. Blob b ∷ []) (option_map (λ v. v.items) x) ≡ slice_get rows.now 0) }
+{
+    let Some(row) = rows.first() else {
+        return Ok(None);
+    };
+    if row.column_count() != 1 {
+        return Err(Error::InvalidQuery);
+    }
+    match row.get_ref(0) {
+        Ok(ValueRef::Blob(bytes)) => Ok(Some(Vec::from_slice(alloc, bytes)?)),
+        _ => Err(Error::InvalidQuery),
+    }
+}
+
+/// Gives the bytes in the first row of a query of one column, and `None` where it shows no row. The
+/// text has to be a SELECT.
+pub(crate) fn blob_of<S: Alter>(
+    conn: &mut Connection<S>,
+    alloc: Global,
+    sql: &str,
+    params: &[ValueRef<'_>],
+) -> Result<Option<Vec<u8>>, Error>
+    requires { IsSelectText sql.now }
+    ensures answer { HasCleanDisk (state S.Store conn.new) →
+        IfOk result (λ x. ReadsFirst sql.now (bound params.now) (λ b. Blob b ∷ [])
+        (state S.Store conn.old) (state S.Store conn.new) (option_map (λ v. v.items) x)) }
+    ensures stays { SeesStill S.Store conn.old conn.new }
+    ensures survives { LeavesNothingNew S.Store conn.old conn.new }
+{
+    let rows = query(conn, sql, params)?;
+    read_first_blob(alloc, &rows)
+}

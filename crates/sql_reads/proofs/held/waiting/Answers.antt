@@ -1,0 +1,22 @@
+use Rattle.std.proofs.Common.{◌∙◌, ap, List}
+use Rattle.std.specs.List.{flat_map}
+use Rattle.desk_book.specs.declared.held_submission.HeldSubmission.{HeldSubmission}
+use Rattle.desk_rules.specs.declared.bodies.company.Company.{Company}
+use Rattle.sql_tables.specs.Composed.{waiting_of_in}
+use Rattle.sql_tables.specs.Tables.{Tables}
+use Rattle.sql_reads.proofs.Joined.{query, learnt, both, answered}
+use Rattle.sql_reads.proofs.ListReads.{flat_map_same}
+use Rattle.sql_reads.proofs.held.waiting.Goals as goal
+
+-- those of one company
+abbrev held : Tables → Company → List HeldSubmission
+held t k = waiting_of_in k t
+
+pub returns : goal.returns
+returns g c =
+    let companies = query (rw c.in_ok-companies.ensures at c.companies.ensures.answer) c.companies.ensures.stays c.companies.ensures.survives in
+    answered (both companies (learnt c.read_each.ensures c.in_ok-lists.was))
+    (λ t told.
+    c.in_ok-all.ensures
+    ∙ flat_map_same (λ list. list.items) (held t) c.in_ok-lists.lists.items c.in_ok-companies.companies.items told.1
+    ∙ ap (flat_map (held t)) told.0)

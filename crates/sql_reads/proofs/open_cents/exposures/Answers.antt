@@ -1,0 +1,19 @@
+use Rattle.std.proofs.Common.{◌∙◌, sym, ap}
+use Rattle.sql_queries.proofs.Selects.{each_itself}
+use Rattle.sql_tables.specs.Composed.{exposures_in}
+use Rattle.sql_reads.proofs.Joined.{read, learnt, both, answered}
+use Rattle.sql_reads.proofs.OpenHeads.{exposures_summed}
+use Rattle.sql_reads.proofs.open_cents.exposures.Goals as goal
+
+pub returns : goal.returns
+returns g c =
+    let calendar = read c.calendar.ensures c.in_ok-calendar.was in
+    let heads = read c.exposed_submissions.ensures c.in_ok-heads.was in
+    let credit = rw c.deref.ensures.value at c.credits_of.ensures in
+    let debit = rw c.deref-2.ensures.value at c.debits_of.ensures in
+    answered (both (both calendar heads.so) (learnt c.read_each.ensures c.in_ok-pairs.was))
+    (λ t told.
+    (λ i. (credit i, debit i))
+    ∙ exposures_summed t c.args.today c.in_ok-calendar.calendar c.in_ok-pairs.pairs.items c.in_ok-heads.heads.items (sym (each_itself c.in_ok-pairs.pairs.items) ∙ told.1)
+    ∙ told.0.1
+    ∙ ap (λ days. exposures_in c.args.company c.args.today days t) told.0.0)

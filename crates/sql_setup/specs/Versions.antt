@@ -1,0 +1,44 @@
+-- What the row of the desk says of the version of the tables.
+use Rattle.std.specs.Prelude.{◌≡◌, ◌⊎◌, ◌++◌, ℕ, ℤ, List, [], ◌∷◌, codes, drop, Some}
+use Rattle.sqlite.specs.Effect.{Database}
+use Rattle.sqlite.specs.State.{State}
+use Rattle.sqlite_schema.specs.declared.schema.Schema.{Schema}
+use Rattle.sqlite_value.specs.declared.value.Value.TheVariants.{Int}
+use Rattle.sqlite_value.specs.Order.{Row}
+use Rattle.sql_statements.specs.StoredRows.{Stores}
+use Rattle.sql_tables.specs.Columns.{number}
+use Rattle.sql_tables.specs.RecordRows.{desk_row}
+use Rattle.sql_tables.specs.Schema.{desk_schema, schema_of, registry_definitions, submission_definitions, posting_definitions, file_definitions, submission_index_definitions, line_index_definitions}
+use Rattle.sql_tables.specs.TableDefinitions.{desk_table}
+use Rattle.sql_tables.specs.declared.records.DeskRecord.{DeskRecord}
+use Rattle.sql_queries.specs.Shows.{ReadsFirst}
+
+abbrev pub version_text : List ℕ
+version_text = codes "SELECT version FROM desk WHERE id = 1 ORDER BY id"
+
+-- it shows whether the table has a row, whatever its columns are
+abbrev pub row_text : List ℕ
+row_text = codes "SELECT 1 FROM desk LIMIT 1"
+
+abbrev pub version_row : (version : ℤ) → Row
+version_row n = Int n ∷ []
+
+-- the query of the version shows this one
+abbrev pub ShowsVersion : (old new : State) → (version : ℤ) → Type 0
+ShowsVersion old new n = ReadsFirst version_text [] version_row old new (Some n)
+
+-- ---- a database of a desk whose row says a version
+
+-- version 1 has twelve tables and five indexes, as in version 2
+abbrev pub first_schema : Schema
+first_schema = schema_of (registry_definitions ++ submission_definitions ++ posting_definitions ++ file_definitions ++ submission_index_definitions ++ line_index_definitions)
+
+-- the row of a desk whose tables have this version
+abbrev pub versioned_row : (version : ℕ) → DeskRecord → Row
+versioned_row version d = number 1 ∷ number version ∷ drop 2 (desk_row d)
+
+-- the tables are those of version 1 or of version 2, and the row of the desk has this version
+pub record IsOfVersion (db : Database) (version : ℕ) : Type 0 where
+  pub schema : (db.schema ≡ first_schema) ⊎ (db.schema ≡ desk_schema)
+  pub desk : DeskRecord
+  pub row : Stores (versioned_row version) (db.trees desk_table.tree) (desk ∷ [])

@@ -1,0 +1,81 @@
+//! A connection is told to have a desk's tables.
+ghost use Rattle.std.specs.Prelude.{◌≡◌, ◌≢◌, ◌⊎◌, false, pos, Err, IfErr, OnOk};
+ghost use Rattle.sqlite.specs.Held.{state};
+ghost use Rattle.sqlite.specs.State.{HasCleanDisk, Survives};
+ghost use Rattle.sql_statements.specs.Queries.{Stays};
+ghost use Rattle.sql_tables.specs.Schema.{desk_schema};
+ghost use Rattle.sql_tables.specs.RecordRows.{version};
+ghost use Rattle.sql_setup.specs.Checked.{IsDesk};
+ghost use Rattle.sql_setup.specs.Refusals.{IsRefused};
+ghost use Rattle.sql_setup.specs.Setup.{HasDesk};
+ghost use Rattle.sql_setup.specs.Versions.{ShowsVersion};
+
+use crate::fault::OpenFault;
+use crate::pattern::empty_tables;
+use crate::row::unread_fault;
+use crate::same::is_same_schema;
+use crate::version::{VERSION, found_version};
+use sqlite::{Alter, Connection};
+use sqlite_schema::schema::Schema;
+use std::alloc::Global;
+
+// Tells that the row of the desk has the version of this crate's tables, whatever the other columns and
+// tables are.
+fn check_version<S: Alter>(conn: &mut Connection<S>) -> Result<(), OpenFault>
+    ensures version { HasCleanDisk (state S.Store conn.new) → OnOk result (ShowsVersion (state S.Store conn.old) (state S.Store conn.new) (pos version)) }
+    ensures refused { IfErr result (IsRefused S.Store version conn.old conn.new) }
+    ensures otherwise { IfErr result (λ fault. fault ≢ OpenFault.Exists) }
+    ensures stays { HasCleanDisk (state S.Store conn.new) → Stays (state S.Store conn.old) (state S.Store conn.new) }
+    ensures survives { Survives (state S.Store conn.old) (state S.Store conn.new) (λ _. ⊥) }
+{
+    let Ok(Some(found)) = found_version(conn) else {
+        return Err(unread_fault(conn));
+    };
+    if found != VERSION {
+        return Err(OpenFault::WrongVersion(found));
+    }
+    Ok(())
+}
+
+// Tells that the tables and indexes are those of a desk, by a schema that is a desk's, where the row of
+// the desk has its version.
+fn check_tables<S: Alter>(conn: &mut Connection<S>, pattern: &Schema) -> Result<(), OpenFault>
+    requires { pattern.now ≡ desk_schema }
+    ensures checked { HasCleanDisk (state S.Store conn.new) → OnOk result (ShowsVersion (state S.Store conn.old) (state S.Store conn.new) (pos version) × ((state S.Store conn.new).now.schema ≡ desk_schema)) }
+    ensures refused { IfErr result (IsRefused S.Store version conn.old conn.new) }
+    ensures otherwise { IfErr result (λ fault. fault ≢ OpenFault.Exists) }
+    ensures stays { HasCleanDisk (state S.Store conn.new) → Stays (state S.Store conn.old) (state S.Store conn.new) }
+    ensures survives { Survives (state S.Store conn.old) (state S.Store conn.new) (λ _. ⊥) }
+{
+    check_version(conn)?;
+    if !is_same_schema(pattern, conn.schema()) {
+        return Err(OpenFault::Unavailable);
+    }
+    Ok(())
+}
+
+/// Tells that a connection has a desk's tables: their version, and that all tables and indexes are those
+/// that `make_desk` makes. It changes nothing.
+///
+/// Where there is no table `desk`, or no row in it, it is `OpenFault::NotADesk`. Where its row says
+/// another version it is `OpenFault::WrongVersion`, whatever else the schema is. Every other schema, and
+/// a connection that is inside a transaction, is `OpenFault::Unavailable`.
+pub fn check_desk<S: Alter>(alloc: Global, conn: &mut Connection<S>) -> Result<(), OpenFault>
+    ensures checked { HasCleanDisk (state S.Store conn.new) → OnOk result (IsDesk (state S.Store conn.old) (state S.Store conn.new)) }
+    ensures absent { conn.old.in_transaction ≡ false → ¬ HasDesk (state S.Store conn.old).now.schema → result ≡ Err OpenFault.NotADesk }
+    ensures refused { IfErr result (IsRefused S.Store version conn.old conn.new) }
+    ensures otherwise { IfErr result (λ fault. fault ≢ OpenFault.Exists) }
+    ensures stays { HasCleanDisk (state S.Store conn.new) → Stays (state S.Store conn.old) (state S.Store conn.new) }
+    ensures survives { Survives (state S.Store conn.old) (state S.Store conn.new) (λ _. ⊥) }
+{
+    if !conn.is_autocommit() {
+        return Err(OpenFault::Unavailable);
+    }
+    if conn.schema().table_named(b"desk").is_none() {
+        return Err(OpenFault::NotADesk);
+    }
+    let Ok(pattern) = empty_tables(alloc) else {
+        return Err(OpenFault::Unavailable);
+    };
+    check_tables(conn, pattern.schema())
+}

@@ -1,0 +1,134 @@
+//! A new desk is made in a blank database.
+ghost use Rattle.std.specs.Prelude.{◌≡◌, ◌⊎◌, ◌↔◌, [], true, false, Err, IsTrue, OnOk, OnErr, IfErr};
+ghost use Rattle.sqlite.specs.Held.{state};
+ghost use Rattle.sqlite.specs.State.{HasCleanDisk, Survives, KeepsCommit, Shows};
+ghost use Rattle.sql_statements.specs.Definitions.{IsBlank};
+ghost use Rattle.sql_statements.specs.Queries.{Stays};
+ghost use Rattle.sql_statements.specs.Layouts.{Holds};
+ghost use Rattle.desk_book.specs.Book.{book_of};
+ghost use Rattle.sql_tables.specs.Schema.{desk_schema, schema_of};
+ghost use Rattle.sql_tables.specs.Layout.{desk_layout, Keeps};
+ghost use Rattle.sql_setup.specs.Setup.{new_tables, HasDesk, setup_layout, new_desk_edit, HasNewDesk};
+
+use crate::blank::{check_name, is_blank};
+use crate::create::create_tables;
+use crate::fault::OpenFault;
+use crate::version::VERSION;
+use desk_history::Identity;
+use sql_statements::{TransactionBody, blob, commit, execute, number};
+use sqlite::types::ValueRef;
+use sqlite::{Alter, Connection, Error, Transaction};
+
+// What the row of a new desk says, beside the digits of its routing numbers, so that the row borrows
+// from one value.
+#[derive(Clone, Copy)]
+struct NewRow {
+    identity: Identity,
+    operator_key: [u8; 32],
+    odfi: [u8; 9],
+    destination: [u8; 9],
+}
+
+// Writes the row of the desk into tables that have no rows.
+fn put_desk<S: Alter>(tx: &mut Transaction<'_, S>, row: &NewRow) -> Result<(), Error>
+    requires { (row.now.odfi ≡ row.now.identity.odfi) × (row.now.destination ≡ row.now.identity.destination) }
+    ensures same_reference { tx.new.conn.ghost_name ≡ tx.old.conn.ghost_name }
+    ensures makes { HasCleanDisk (state S.Store tx.new.conn.now) → OnOk result (IsBlank desk_schema (state S.Store tx.old.conn.now).now → Holds desk_layout (state S.Store tx.new.conn.now).now (new_tables row.now.identity row.now.operator_key)) }
+    ensures shown { HasCleanDisk (state S.Store tx.new.conn.now) → OnOk result (Shows (state S.Store tx.old.conn.now) (state S.Store tx.new.conn.now) (state S.Store tx.new.conn.now).now (state S.Store tx.old.conn.now).committed true) }
+    ensures keeps { HasCleanDisk (state S.Store tx.new.conn.now) → KeepsCommit (state S.Store tx.old.conn.now) (state S.Store tx.new.conn.now) }
+    ensures survives { Survives (state S.Store tx.old.conn.now) (state S.Store tx.new.conn.now) (λ _. ⊥) }
+{
+    execute(
+        tx,
+        "INSERT INTO desk VALUES (?1, ?2, ?3, ?4, ?5, ?6, ?7, ?8)",
+        &[
+            number(1),
+            number(VERSION),
+            ValueRef::Text(&row.odfi),
+            ValueRef::Text(row.identity.odfi_name.bytes()),
+            ValueRef::Text(&row.destination),
+            ValueRef::Text(row.identity.destination_name.bytes()),
+            blob(&row.operator_key),
+            ValueRef::Null,
+        ],
+    )?;
+    Ok(())
+}
+
+// The tables are made, with the row of the desk.
+#[derive(Clone, Copy)]
+struct NewDesk {
+    identity: Identity,
+    operator_key: [u8; 32],
+}
+
+impl TransactionBody for NewDesk {
+    ghost layout = { setup_layout };
+
+    ghost edit = { λ b. new_desk_edit b.identity b.operator_key };
+
+    fn run<S: Alter>(&self, tx: &mut Transaction<'_, S>) -> Result<(), Error> {
+        let row = NewRow {
+            identity: self.identity,
+            operator_key: self.operator_key,
+            odfi: self.identity.odfi.text(),
+            destination: self.identity.destination.text(),
+        };
+        check_name(tx)?;
+        create_tables(tx)?;
+        put_desk(tx, &row)?;
+        Ok(())
+    }
+}
+
+// Makes a desk in a database in which nothing is defined.
+fn set_up<S: Alter>(
+    conn: &mut Connection<S>,
+    identity: Identity,
+    operator_key: [u8; 32],
+) -> Result<(), Error>
+    requires { (state S.Store conn.old).now.schema ≡ schema_of [] }
+    ensures made { HasCleanDisk (state S.Store conn.new) → OnOk result (HasNewDesk identity operator_key (state S.Store conn.old) (state S.Store conn.new)) }
+    ensures unmade { HasCleanDisk (state S.Store conn.new) → OnErr result (Stays (state S.Store conn.old) (state S.Store conn.new)) }
+    ensures survives { Survives (state S.Store conn.old) (state S.Store conn.new) (λ trees. Keeps trees (book_of identity operator_key [])) }
+    ensures ended { conn.old.in_transaction ≡ false → conn.new.in_transaction ≡ false }
+{
+    let body = NewDesk {
+        identity,
+        operator_key,
+    };
+    commit(conn, &body)
+}
+
+/// Makes a new desk on a connection, with the SHA-256 digest of the operator's key: all tables and
+/// indexes and the row of the desk, in one transaction. A crash leaves the database as it was, or the
+/// whole desk.
+///
+/// Where a table `desk` is there already, it is `OpenFault::Exists`. The database has to be blank, and
+/// the connection outside of a transaction.
+pub fn make_desk<S: Alter>(
+    conn: &mut Connection<S>,
+    identity: Identity,
+    operator_key: [u8; 32],
+) -> Result<(), OpenFault>
+    ensures exists { (result ≡ Err OpenFault.Exists) ↔ HasDesk (state S.Store conn.old).now.schema }
+    ensures untouched { result ≡ Err OpenFault.Exists → conn.new ≡ conn.old }
+    ensures otherwise { IfErr result (λ fault. (fault ≡ OpenFault.Exists) ⊎ (fault ≡ OpenFault.Unavailable)) }
+    ensures blank { OnOk result ((state S.Store conn.old).now.schema ≡ schema_of []) }
+    ensures made { HasCleanDisk (state S.Store conn.new) → OnOk result (HasNewDesk identity operator_key (state S.Store conn.old) (state S.Store conn.new)) }
+    ensures unmade { HasCleanDisk (state S.Store conn.new) → OnErr result (Stays (state S.Store conn.old) (state S.Store conn.new)) }
+    ensures survives { Survives (state S.Store conn.old) (state S.Store conn.new) (λ trees. Keeps trees (book_of identity operator_key [])) }
+    ensures ended { conn.old.in_transaction ≡ false → conn.new.in_transaction ≡ false }
+{
+    let schema = conn.schema();
+    if schema.table_named(b"desk").is_some() {
+        return Err(OpenFault::Exists);
+    }
+    if !is_blank(schema) {
+        return Err(OpenFault::Unavailable);
+    }
+    match set_up(conn, identity, operator_key) {
+        Ok(()) => Ok(()),
+        Err(_) => Err(OpenFault::Unavailable),
+    }
+}

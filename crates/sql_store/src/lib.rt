@@ -1,0 +1,14 @@
+//! This crate has the store of a desk over SQL tables.
+//!
+//! A `SqlStore` reads by the queries of `sql_queries` and `sql_reads`, and makes each write in one
+//! transaction of the statements of `sql_writes`. That the tables say what the book says stands in the
+//! laws of `sql_read_laws`, `sql_write_laws` and `sql_cut_law`.
+#![tactic(auto)]
+
+mod last_number;
+mod open;
+mod store;
+mod whole_write;
+
+pub use sql_setup::OpenFault;
+pub use store::SqlStore;

@@ -1,0 +1,100 @@
+//! A store over tables begins with a new desk, or with one that is there.
+ghost use Rattle.std.specs.Prelude.{◌≡◌, ◌≢◌, ◌⊎◌, [], IfOk, IfErr};
+ghost use Rattle.sqlite.specs.Held.{state};
+ghost use Rattle.sqlite.specs.State.{HasCleanDisk};
+ghost use Rattle.sqlite.specs.Steps.{over_memory};
+ghost use Rattle.desk_book.specs.Book.{book_of};
+ghost use Rattle.sql_tables.specs.Layout.{Keeps, Sees};
+ghost use Rattle.sql_tables.specs.RecordRows.{version};
+ghost use Rattle.sql_setup.specs.Checked.{IsDesk};
+ghost use Rattle.sql_setup.specs.Refusals.{IsDropped, IsUnmade};
+ghost use Rattle.sql_setup.specs.Setup.{HasNewDesk};
+
+use crate::store::SqlStore;
+use desk_history::Identity;
+use sql_setup::{OpenFault, check_desk, make_desk};
+use sqlite::{Alter, Connection, MemStore};
+use std::alloc::Global;
+
+impl<S: Alter> SqlStore<S> {
+    /// Keeps the books that the tables of a connection keep, as they are: none where they are no desk's.
+    /// `adopt` looks at them first.
+    pub fn new(conn: Connection<S>) -> SqlStore<S>
+        ensures { result.conn ≡ conn }
+    {
+        SqlStore { conn }
+    }
+}
+
+impl<S: Alter + Drop> SqlStore<S> {
+    /// Makes a new desk in a blank database, with the SHA-256 digest of the operator's key: all tables
+    /// and the row of the desk, in one transaction.
+    ///
+    /// Where a table `desk` is there already, it is `OpenFault::Exists`. A database that has something
+    /// else in it, and a connection that is inside a transaction, are `OpenFault::Unavailable`. A
+    /// refused call changes nothing, and drops the connection.
+    pub fn create_on(
+        conn: Connection<S>,
+        identity: Identity,
+        operator_key: [u8; 32],
+    ) -> Result<SqlStore<S>, OpenFault>
+        ensures created { IfOk result
+            (λ s. HasCleanDisk (state S.Store s.conn) → HasNewDesk identity operator_key
+            (state S.Store conn) (state S.Store s.conn)) }
+        ensures before { IfOk result
+            (λ s. HasCleanDisk (state S.Store s.conn) → HasCleanDisk (state S.Store conn)) }
+        ensures unmade { IfErr result
+            (IsUnmade S.Store (λ trees. Keeps trees (book_of identity operator_key [])) conn) }
+        ensures otherwise { IfErr result
+            (λ fault. (fault ≡ OpenFault.Exists) ⊎ (fault ≡ OpenFault.Unavailable)) }
+    {
+        let mut conn = conn;
+        make_desk(&mut conn, identity, operator_key)?;
+        Ok(SqlStore::new(conn))
+    }
+
+    /// Takes over the desk that is in a database: the store holds each book that the tables keep.
+    ///
+    /// Where there is no table `desk`, or no row in it, it is `OpenFault::NotADesk`. Where its row says
+    /// another version it is `OpenFault::WrongVersion`, whatever else the schema is. Every other schema,
+    /// and a connection that is inside a transaction, is `OpenFault::Unavailable`. A refused call
+    /// changes nothing, and drops the connection.
+    pub fn adopt(alloc: Global, conn: Connection<S>) -> Result<SqlStore<S>, OpenFault>
+        ensures before { IfOk result
+            (λ s. HasCleanDisk (state S.Store s.conn) → HasCleanDisk (state S.Store conn)) }
+        ensures adopted { IfOk result
+            (λ s. HasCleanDisk (state S.Store s.conn) → IsDesk (state S.Store conn)
+            (state S.Store s.conn)) }
+        ensures refused { IfErr result (IsDropped S.Store version (λ _. ⊥) conn) }
+        ensures otherwise { IfErr result (λ fault. fault ≢ OpenFault.Exists) }
+    {
+        let mut conn = conn;
+        check_desk(alloc, &mut conn)?;
+        Ok(SqlStore::new(conn))
+    }
+
+    /// Gives the connection back, so that its file may be closed.
+    pub fn into_connection(self) -> Connection<S>
+        ensures { result ≡ self.conn }
+    {
+        self.conn
+    }
+}
+
+impl SqlStore<MemStore> {
+    /// Makes a new desk in memory, with the SHA-256 digest of the operator's key. Want of memory is
+    /// `OpenFault::Unavailable`.
+    pub fn in_memory(
+        alloc: Global,
+        identity: Identity,
+        operator_key: [u8; 32],
+    ) -> Result<SqlStore<MemStore>, OpenFault>
+        ensures { IfOk result
+            (λ s. Sees (state over_memory s.conn) (book_of identity operator_key [])) }
+    {
+        let Ok(conn) = Connection::open_in_memory(alloc) else {
+            return Err(OpenFault::Unavailable);
+        };
+        SqlStore::create_on(conn, identity, operator_key)
+    }
+}

@@ -1,0 +1,97 @@
+-- The INSERT of sixteen entries, against their records.
+use Rattle.std.proofs.Common.{◌≡◌, ◌+◌, ℕ, suc, Bool, List, [], ◌∷◌, ◌++◌, map, length, None, Ok, refl, sym, ap, ◌∙◌, subst}
+use Rattle.std.specs.List.{flat_map, enumerate_from}
+use Rattle.std.proofs.lemmas.List.{length-map, map-append}
+use Rattle.sqlite_tied.specs.Compute.{everything}
+use Rattle.sqlite.specs.Listing.{understood}
+use Rattle.sqlite.specs.State.{State, Executes}
+use Rattle.sqlite.specs.Values.{bound}
+use Rattle.sqlite.specs.declared.types.Value.TheVariants.{Null}
+use Rattle.sqlite_keyed.specs.Lists.{insert_sorted}
+use Rattle.sqlite_value.specs.declared.value.ValueRef.{ValueRef}
+use Rattle.sql_statements.proofs.Casts.{row_kept}
+use Rattle.sql_statements.proofs.StoredRows.{stores_in}
+use Rattle.sql_statements.specs.Edits.{Edit, each_edit, each_edit_from}
+use Rattle.sql_statements.specs.Layouts.{Holds}
+use Rattle.desk_rules.specs.declared.bodies.submission.Entry.{Entry}
+use Rattle.sql_tables.specs.CutTables.{is_entry_row}
+use Rattle.sql_tables.specs.KeyOrders.{entry_cmp}
+use Rattle.sql_tables.specs.Layout.{desk_layout}
+use Rattle.sql_tables.specs.RecordRows.{entry_row}
+use Rattle.sql_tables.specs.Schema.{desk_schema}
+use Rattle.sql_tables.specs.TableDefinitions.{entries_table}
+use Rattle.sql_tables.specs.TableEdits.{put_entry_edit}
+use Rattle.sql_tables.specs.Tables.{Tables}
+use Rattle.sql_tables.specs.declared.records.EntryRecord.{EntryRecord}
+use Rattle.sql_writes.specs.EntryEdits.{held_entry, held_rows, stored_values}
+use Rattle.sql_writes.specs.ManyRows.{IsInsertOfRows}
+use Rattle.sql_writes.specs.Texts.{insert_entries}
+use Rattle.sql_writes.proofs.Conditions.{taken_first}
+use Rattle.sql_writes.proofs.Keys.{find_none, few_have}
+use Rattle.sql_writes.proofs.ManyInserts.{inserted_rows, rows_rules}
+use Rattle.sql_writes.proofs.ManyKeys.{all_put, AreFree, put_in_turn}
+use Rattle.sql_writes.proofs.OtherTables.{entries_changed}
+use Rattle.sql_writes.proofs.SubmissionRows.{entry_kept, entry_total, same_entry, same_entry_key, entry_itself}
+
+insert_entries_is : IsInsertOfRows desk_schema insert_entries 4 entries_table 16
+unfolding understood everything
+insert_entries_is = record { is = refl; plain = (refl, refl) }
+
+abbrev has_key_of : EntryRecord → EntryRecord → Bool
+has_key_of x = is_entry_row x.company x.order x.index
+
+records_put : (xs : List EntryRecord) → length xs ≡ 16 → (old new : State) (count : ℕ) → Executes insert_entries (flat_map entry_row xs) old new (Ok count) → (t : Tables) → Holds desk_layout old.now t
+    → Holds desk_layout new.now (record t { entries = all_put entry_cmp xs t.entries }) × AreFree entry_cmp has_key_of xs t.entries
+records_put xs many old new count ran t h =
+    let s = entries_table in
+    let done = inserted_rows entry_row desk_schema 4 9 s.name s.columns s.primary s.uniques s.orders insert_entries 16 insert_entries_is refl (λ olds news. refl) refl (λ x. refl) (λ x. row_kept s Null (entry_row x) refl (entry_kept x)) xs many old new count h.0 t.entries h.1.entries.stored ran in
+    let rules = rows_rules desk_schema insert_entries 4 s 16 insert_entries_is (flat_map entry_row xs) old new count h.0 done.0.schema_is ran in
+    let few = λ (x : EntryRecord). few_have entry_row desk_schema s (1 ∷ 2 ∷ 3 ∷ []) (has_key_of x) (same_entry x.company x.order x.index) (λ db row any. taken_first _ _ any) new.now.trees (xs ++ t.entries) done.1 rules.1.1.1.1.0 in
+    let put = put_in_turn entry_cmp has_key_of entry_total same_entry_key entry_itself xs t.entries few h.1.entries.rise in (
+      (done.0.schema_is, entries_changed old.now.trees new.now.trees t h.1 done.0.others _ (record { stored = stores_in entry_row _ _ _ put.0 done.1; rise = put.1 })),
+      put.2,
+    )
+
+pub bound_flat : (vs : List (List ValueRef)) → bound (flat_map (λ v. v) vs) ≡ flat_map (λ v. v) (map bound vs)
+bound_flat [] = refl
+bound_flat (v ∷ vs) = map-append _ v (flat_map (λ v. v) vs) ∙ ap (λ l. bound v ++ l) (bound_flat vs)
+
+-- ---- entries that are numbered on
+
+module _ (company : List ℕ) (order : ℕ) where
+  -- the record of an entry under its number; it was not sent
+  abbrev pub numbered_record : ℕ × Entry → EntryRecord
+  numbered_record p = record { company = company; order = order; index = p.0; entry = p.1; place = None }
+
+  abbrev numbered_edit : ℕ × Entry → Edit Tables
+  numbered_edit p = put_entry_edit company order p.0 p.1
+
+  each_put : (ps : List (ℕ × Entry)) (t : Tables) → AreFree entry_cmp has_key_of (map numbered_record ps) t.entries
+      → ((each_edit numbered_edit ps).after t ≡ record t { entries = all_put entry_cmp (map numbered_record ps) t.entries }) × (each_edit numbered_edit ps).Tells t
+  each_put [] t free = (refl, tt)
+  each_put (p ∷ ps) t free =
+      let more = each_put ps (record t { entries = insert_sorted entry_cmp (numbered_record p) t.entries }) free.1 in
+      (more.0, (find_none (has_key_of (numbered_record p)) t.entries free.0, more.1))
+
+  -- it is as if each entry had been put in by a statement of its own
+  pub entries_put : (first : ℕ) (es : List Entry) → length es ≡ 16 → (old new : State) (count : ℕ) → Executes insert_entries (flat_map entry_row (map numbered_record (enumerate_from first es))) old new (Ok count)
+      → (t : Tables) → Holds desk_layout old.now t → Holds desk_layout new.now ((each_edit_from (put_entry_edit company order) first es).after t) × (each_edit_from (put_entry_edit company order) first es).Tells t
+  entries_put first es many old new count ran t h =
+      let ps = enumerate_from first es in
+      let put = records_put (map numbered_record ps) (length-map ps numbered_record ∙ counted first es ∙ many) old new count ran t h in
+      let each = each_put ps t put.1 in
+      (subst (Holds desk_layout new.now) (sym each.0) put.0, each.1)
+    where
+      counted : (first : ℕ) (es : List Entry) → length (enumerate_from first es) ≡ length es
+      counted first [] = refl
+      counted first (e ∷ es) = ap suc (counted (first + 1) es)
+
+  -- ---- the parameters of a statement of many rows
+
+  flat_rows : (ps : List (ℕ × Entry)) → flat_map (λ v. v) (map stored_values (map (λ p. held_entry company order p.0 p.1) ps)) ≡ flat_map entry_row (map numbered_record ps)
+  flat_rows [] = refl
+  flat_rows (p ∷ ps) = ap (λ l. entry_row (numbered_record p) ++ l) (flat_rows ps)
+
+  pub bound_rows : (first : ℕ) (es : List Entry) (vs : List (List ValueRef)) → map bound vs ≡ map stored_values (held_rows company order first es)
+      → bound (flat_map (λ v. v) vs) ≡ flat_map entry_row (map numbered_record (enumerate_from first es))
+  bound_rows first es vs are = bound_flat vs ∙ ap (flat_map (λ v. v)) are ∙ flat_rows (enumerate_from first es)

@@ -1,0 +1,61 @@
+-- The statement of a cut that keeps a file, against the records of files.
+use Rattle.std.proofs.Common.{◌≡◌, ℕ, ℤ, true, ◌&&◌, ◌==◌, [], ◌∷◌, find, None, Ok, refl, ap₂, ◌∙◌}
+use Rattle.std.specs.Cmp.{IsTotalOrder}
+use Rattle.std.specs.Ordering.{nat_cmp}
+use Rattle.std.proofs.lemmas.Bool.{and_parts, and_from}
+use Rattle.std.proofs.lemmas.Cmp.{on_total, then_total, nat_cmp_total}
+use Rattle.sqlite_tied.specs.Compute.{everything}
+use Rattle.sqlite.specs.Listing.{understood}
+use Rattle.sqlite.specs.State.{State, Executes}
+use Rattle.sqlite.specs.declared.types.Value.TheVariants.{Null}
+use Rattle.sqlite_keyed.specs.Lists.{insert_sorted}
+use Rattle.sqlite_schema.specs.Rules.{agree}
+use Rattle.sqlite_value.specs.Keys.{first_key, plain}
+use Rattle.sql_statements.specs.Statements.{IsInsert}
+use Rattle.sql_statements.specs.StoredRows.{row_of}
+use Rattle.sql_statements.proofs.Casts.{row_kept}
+use Rattle.sql_statements.proofs.FreeKeys.{insert_rules}
+use Rattle.sql_statements.proofs.Inserts.{inserted}
+use Rattle.sql_statements.specs.Layouts.{Holds}
+use Rattle.sql_tables.specs.Schema.{desk_schema}
+use Rattle.sql_tables.specs.TableDefinitions.{files_table}
+use Rattle.desk_book.specs.declared.flat_rows.FileRow.{FileRow}
+use Rattle.desk_book.specs.Steps.{is_file}
+use Rattle.sql_tables.specs.KeyOrders.{file_cmp}
+use Rattle.sql_tables.specs.Layout.{desk_layout}
+use Rattle.sql_tables.specs.RecordRows.{file_row}
+use Rattle.sql_tables.specs.Tables.{Tables}
+use Rattle.sql_writes.proofs.Conditions.{number_itself, equal_numbers, equal_both, taken_first}
+use Rattle.sql_writes.proofs.Keys.{find_none, key_free, key_letter, key_number, put_in_order}
+use Rattle.sql_writes.proofs.OtherTables.{files_changed}
+use Rattle.sql_writes.specs.CutTexts.{insert_file}
+
+insert_file_is : IsInsert desk_schema insert_file 9 files_table
+unfolding understood everything
+insert_file_is = record { is = refl; plain = (refl, refl) }
+
+file_total : IsTotalOrder file_cmp
+file_total = then_total (on_total (λ (f : FileRow). f.day) nat_cmp_total) (on_total (λ (f : FileRow). f.modifier) nat_cmp_total)
+
+same_file : (day modifier : ℕ) (a b : ℤ × FileRow) → is_file day modifier a.1 ≡ true → is_file day modifier b.1 ≡ true → agree plain (1 ∷ 2 ∷ []) (row_of file_row b) (1 ∷ 2 ∷ []) (row_of file_row a) ≡ true
+unfolding first_key
+same_file day modifier a b here there =
+    let x = and_parts (a.1.day == day) (a.1.modifier == modifier) here in
+    let y = and_parts (b.1.day == day) (b.1.modifier == modifier) there in
+    and_from _ _ (key_number a.1.day b.1.day day x.0 y.0) (and_from _ _ (key_letter a.1.modifier b.1.modifier modifier x.1 y.1) refl)
+
+pub file_put : (f : FileRow) (old new : State) (count : ℕ) → Executes insert_file (file_row f) old new (Ok count) → (t : Tables) → Holds desk_layout old.now t
+    → Holds desk_layout new.now (record t { files = insert_sorted file_cmp f t.files }) × (find (is_file f.day f.modifier) t.files ≡ None)
+file_put f old new count ran t h =
+    let s = files_table in
+    let test = is_file f.day f.modifier in
+    let done = inserted file_row desk_schema 9 20 s.name s.columns s.primary s.uniques s.orders insert_file insert_file_is refl (λ olds news. refl) f refl (row_kept s Null (file_row f) refl refl) old new count h.0 t.files h.1.files.stored ran in
+    let rules = insert_rules desk_schema insert_file 9 s insert_file_is (file_row f) old new count h.0 done.0.schema_is ran in
+    let free = key_free file_row desk_schema s (1 ∷ 2 ∷ []) test (same_file f.day f.modifier) (λ db row any. taken_first _ _ any) new.now.trees f t.files (and_from _ _ (number_itself f.day) (number_itself f.modifier)) done.1 rules.1.1.1.1.1.1.1.1.1.0 in
+    let same = λ (g : FileRow). equal_both (nat_cmp g.day f.day) (nat_cmp g.modifier f.modifier) ∙ ap₂ (λ p q. p && q) (equal_numbers g.day f.day) (equal_numbers g.modifier f.modifier) in (
+      (
+        done.0.schema_is,
+        files_changed old.now.trees new.now.trees t h.1 done.0.others _ (put_in_order file_row file_cmp file_total test new.now.trees s f t.files same free h.1.files.rise done.1),
+      ),
+      find_none test t.files free,
+    )

@@ -1,0 +1,97 @@
+-- The statements that put in lines, one and sixteen, against the records of lines.
+use Rattle.std.proofs.Common.{◌≡◌, ℕ, true, List, [], ◌∷◌, map, length, Option, None, Some, Ok, refl, sym, ap, ◌∙◌, subst, Ordering}
+use Rattle.std.specs.List.{flat_map, enumerate_from}
+use Rattle.std.proofs.lemmas.List.{length-map}
+use Rattle.std.proofs.lemmas.List.FromFn.{length-enumerate_from}
+use Rattle.std.specs.Ordering.{nat_cmp, on}
+use Rattle.sqlite_tied.specs.Compute.{everything}
+use Rattle.sqlite.specs.Listing.{understood}
+use Rattle.sqlite.specs.State.{State, Executes}
+use Rattle.sqlite.specs.Values.{bound}
+use Rattle.sqlite.specs.declared.types.Value.TheVariants.{Null}
+use Rattle.sqlite_keyed.specs.Lists.{insert_sorted}
+use Rattle.sqlite_value.specs.declared.value.ValueRef.{ValueRef}
+use Rattle.sql_statements.specs.Edits.{Edit, each_edit, each_edit_from}
+use Rattle.sql_statements.specs.Statements.{IsInsert}
+use Rattle.sql_statements.proofs.Casts.{row_kept, are_kept}
+use Rattle.sql_statements.proofs.FreeKeys.{insert_rules}
+use Rattle.sql_statements.proofs.Inserts.{inserted}
+use Rattle.sql_statements.specs.Layouts.{Holds}
+use Rattle.desk_accounts.specs.declared.posting.Posting.{Posting}
+use Rattle.sql_tables.specs.Schema.{desk_schema}
+use Rattle.sql_tables.specs.TableDefinitions.{postings_table}
+use Rattle.sql_tables.specs.Layout.{desk_layout}
+use Rattle.sql_tables.specs.RecordRows.{posting_row}
+use Rattle.sql_tables.specs.Tables.{Tables}
+use Rattle.sql_tables.specs.declared.records.PostingRecord.{PostingRecord}
+use Rattle.sql_writes.proofs.ArrayLoops.{bound_rows}
+use Rattle.sql_writes.proofs.Conditions.{taken_first}
+use Rattle.sql_writes.proofs.ManyInserts.{inserted_rows, rows_rules}
+use Rattle.sql_writes.proofs.ManyKeys.{all_put}
+use Rattle.sql_writes.proofs.NumberedRows.{numbered_in_order, all_in_order}
+use Rattle.sql_writes.proofs.OtherTables.{postings_changed}
+use Rattle.sql_writes.specs.LineEdits.{put_posting_edit}
+use Rattle.sql_writes.specs.LineRows.{held_line, held_lines, stored_line}
+use Rattle.sql_writes.specs.LineTexts.{insert_posting, insert_postings}
+use Rattle.sql_writes.specs.ManyRows.{IsInsertOfRows}
+
+insert_posting_is : IsInsert desk_schema insert_posting 7 postings_table
+unfolding understood everything
+insert_posting_is = record { is = refl; plain = (refl, refl) }
+
+posting_kept : (p : PostingRecord) → are_kept postings_table.columns (posting_row p) ≡ true
+posting_kept p = at_reference p.posting.reference
+  where
+    at_reference : (o : Option (List ℕ)) → are_kept postings_table.columns (posting_row (record p { posting = record p.posting { reference = o } })) ≡ true
+    at_reference None = refl
+    at_reference (Some []) = refl
+    at_reference (Some (c ∷ s)) = refl
+
+pub posting_put : (p : PostingRecord) (old new : State) (count : ℕ) → Executes insert_posting (posting_row p) old new (Ok count) → (t : Tables) → Holds desk_layout old.now t
+    → Holds desk_layout new.now (record t { postings = insert_sorted (on (λ x. x.number) nat_cmp) p t.postings })
+posting_put p old new count ran t h =
+    let s = postings_table in
+    let done = inserted posting_row desk_schema 7 16 s.name s.columns s.primary s.uniques s.orders insert_posting insert_posting_is refl (λ olds news. refl) p refl (row_kept s Null (posting_row p) refl (posting_kept p)) old new count h.0 t.postings h.1.postings.stored ran in
+    let rules = (insert_rules desk_schema insert_posting 7 s insert_posting_is (posting_row p) old new count h.0 done.0.schema_is ran).1.1.1.1.1.1.1.0 in
+    (done.0.schema_is, postings_changed old.now.trees new.now.trees t h.1 done.0.others _ (numbered_in_order (λ y. y.number) _ s (λ db row any. taken_first _ _ any) new.now.trees p t.postings h.1.postings.rise done.1 rules))
+
+-- ---- sixteen lines
+
+insert_postings_is : IsInsertOfRows desk_schema insert_postings 7 postings_table 16
+unfolding understood everything
+insert_postings_is = record { is = refl; plain = (refl, refl) }
+
+abbrev line_cmp : PostingRecord → PostingRecord → Ordering
+line_cmp = on (λ x. x.number) nat_cmp
+
+records_put : (xs : List PostingRecord) → length xs ≡ 16 → (old new : State) (count : ℕ) → Executes insert_postings (flat_map posting_row xs) old new (Ok count) → (t : Tables) → Holds desk_layout old.now t
+    → Holds desk_layout new.now (record t { postings = all_put line_cmp xs t.postings })
+records_put xs many old new count ran t h =
+    let s = postings_table in
+    let done = inserted_rows posting_row desk_schema 7 16 s.name s.columns s.primary s.uniques s.orders insert_postings 16 insert_postings_is refl (λ olds news. refl) refl (λ x. refl) (λ x. row_kept s Null (posting_row x) refl (posting_kept x)) xs many old new count h.0 t.postings h.1.postings.stored ran in
+    let rules = (rows_rules desk_schema insert_postings 7 s 16 insert_postings_is (flat_map posting_row xs) old new count h.0 done.0.schema_is ran).1.1.1.1.1.1.1.0 in
+    (done.0.schema_is, postings_changed old.now.trees new.now.trees t h.1 done.0.others _ (all_in_order (λ y. y.number) _ s (λ db row any. taken_first _ _ any) new.now.trees xs t.postings h.1.postings.rise done.1 rules))
+
+-- the record of a line under its number
+abbrev pub numbered_line : ℕ × Posting → PostingRecord
+numbered_line p = record { number = p.0; posting = p.1 }
+
+abbrev numbered_edit : ℕ × Posting → Edit Tables
+numbered_edit p = put_posting_edit p.0 p.1
+
+each_put : (ps : List (ℕ × Posting)) (t : Tables) → ((each_edit numbered_edit ps).after t ≡ record t { postings = all_put line_cmp (map numbered_line ps) t.postings }) × (each_edit numbered_edit ps).Tells t
+each_put [] t = (refl, tt)
+each_put (p ∷ ps) t = let more = each_put ps (record t { postings = insert_sorted line_cmp (numbered_line p) t.postings }) in (more.0, (tt, more.1))
+
+-- it is as if each line had been put in by a statement of its own
+pub postings_put : (first : ℕ) (lines : List Posting) → length lines ≡ 16 → (old new : State) (count : ℕ) → Executes insert_postings (flat_map posting_row (map numbered_line (enumerate_from first lines))) old new (Ok count)
+    → (t : Tables) → Holds desk_layout old.now t → Holds desk_layout new.now ((each_edit_from put_posting_edit first lines).after t) × (each_edit_from put_posting_edit first lines).Tells t
+postings_put first lines many old new count ran t h =
+    let ps = enumerate_from first lines in
+    let put = records_put (map numbered_line ps) (length-map ps numbered_line ∙ length-enumerate_from first lines ∙ many) old new count ran t h in
+    let each = each_put ps t in
+    (subst (Holds desk_layout new.now) (sym each.0) put, each.1)
+
+-- the parameters of the statement
+pub bound_lines : (first : ℕ) (lines : List Posting) (vs : List (List ValueRef)) → map bound vs ≡ map stored_line (held_lines first lines) → bound (flat_map (λ v. v) vs) ≡ flat_map posting_row (map numbered_line (enumerate_from first lines))
+bound_lines first lines = bound_rows stored_line (λ p. held_line p.0 p.1) posting_row numbered_line (λ p. refl) (enumerate_from first lines)

@@ -1,0 +1,178 @@
+-- The INSERTs of a submission, its entries and its authorization, against their records.
+use Rattle.std.proofs.Common.{◌≡◌, ℕ, ℤ, Bool, true, false, not, ◌&&◌, ◌==◌, cond, List, [], ◌∷◌, find, Option, None, Some, Ok, refl, sym, ap, ◌∙◌, subst, bytes_eq, is_eq}
+use Rattle.std.specs.Cmp.{IsTotalOrder}
+use Rattle.std.specs.Ordering.{nat_cmp, on}
+use Rattle.std.proofs.lemmas.Bool.{and_from, and_parts}
+use Rattle.std.proofs.lemmas.Cmp.{on_total, then_total, nat_list_cmp_total, nat_cmp_total}
+use Rattle.std.proofs.lemmas.Map.Text.{is_eq-slice_cmp}
+use Rattle.sqlite_tied.specs.Compute.{everything}
+use Rattle.sqlite.specs.Listing.{understood}
+use Rattle.sqlite.specs.State.{State, Executes}
+use Rattle.sqlite.specs.declared.types.Value.TheVariants.{Null, Int, Text}
+use Rattle.sqlite_keyed.specs.Lists.{insert_sorted}
+use Rattle.sqlite_schema.specs.Rules.{agree}
+use Rattle.sqlite_value.specs.Keys.{first_key, plain}
+use Rattle.sql_statements.proofs.Casts.{row_kept, are_kept}
+use Rattle.sql_statements.proofs.FreeKeys.{insert_rules}
+use Rattle.sql_statements.proofs.Inserts.{inserted}
+use Rattle.sql_statements.specs.Statements.{IsInsert}
+use Rattle.sql_statements.specs.StoredRows.{row_of}
+use Rattle.sql_statements.specs.Layouts.{Holds}
+use Rattle.sql_tables.specs.Schema.{desk_schema}
+use Rattle.sql_tables.specs.Layout.{desk_layout}
+use Rattle.sql_tables.specs.Tables.{Tables}
+use Rattle.sql_writes.proofs.Conditions.{text_itself, number_itself, equal_numbers, equal_both, taken_first, taken_second}
+use Rattle.sql_writes.proofs.Keys.{find_none, key_free, put_in_order, key_text, key_number}
+use Rattle.sql_tables.specs.TableDefinitions.{submissions_table, entries_table, authorizations_table}
+use Rattle.sqlite.specs.Values.{or_null}
+use Rattle.sqlite.specs.Kind.TheVariants as kind
+use Rattle.sql_statements.proofs.Casts.{is_kept}
+use Rattle.desk_history.specs.Resolve.{is_savings}
+use Rattle.sql_tables.specs.Columns.{number, flag}
+use Rattle.sql_tables.specs.CutTables.{is_row, is_entry_row}
+use Rattle.sql_tables.specs.KeyOrders.{submission_cmp, entry_cmp, authorization_cmp}
+use Rattle.sql_tables.specs.RecordRows.{submission_row, entry_row, authorization_row}
+use Rattle.sql_tables.specs.TableReads.{is_under, is_authorization_of}
+use Rattle.sql_tables.specs.declared.records.AuthorizationRecord.{AuthorizationRecord}
+use Rattle.sql_tables.specs.declared.records.EntryRecord.{EntryRecord}
+use Rattle.sql_tables.specs.declared.records.SubmissionRecord.{SubmissionRecord}
+use Rattle.sql_writes.specs.Texts.{insert_submission, insert_entry, insert_authorization}
+use Rattle.sql_writes.proofs.OtherTables.{submissions_changed, entries_changed, authorizations_changed}
+
+-- ---- submissions
+
+pub submission_kept : (r : SubmissionRecord) → are_kept submissions_table.columns (submission_row r) ≡ true
+submission_kept r = at_lapsed r.lapsed
+  where
+    at_printed : (o : _) → are_kept submissions_table.columns (submission_row (record r { lapsed = true; retried = None; settled = None; printed = o })) ≡ true
+    at_printed None = refl
+    at_printed (Some p) = refl
+
+    at_settled : (o : Option ℕ) → are_kept submissions_table.columns (submission_row (record r { lapsed = true; retried = None; settled = o })) ≡ true
+    at_settled None = at_printed r.printed
+    at_settled (Some d) = at_printed r.printed
+
+    at_retried : (o : _) → are_kept submissions_table.columns (submission_row (record r { lapsed = true; retried = o })) ≡ true
+    at_retried None = at_settled r.settled
+    at_retried (Some t) = at_settled r.settled
+
+    at_lapsed : (b : Bool) → are_kept submissions_table.columns (submission_row (record r { lapsed = b })) ≡ true
+    at_lapsed true = at_retried r.retried
+    at_lapsed false = at_retried r.retried
+
+insert_submission_is : IsInsert desk_schema insert_submission 3 submissions_table
+unfolding understood everything
+insert_submission_is = record { is = refl; plain = (refl, refl) }
+
+pub submission_total : IsTotalOrder submission_cmp
+submission_total = then_total (on_total (λ (r : SubmissionRecord). r.company) nat_list_cmp_total) (on_total (λ (r : SubmissionRecord). r.order) nat_cmp_total)
+
+same_row : (c : List ℕ) (n : ℕ) (a b : ℤ × SubmissionRecord) → is_row c n a.1 ≡ true → is_row c n b.1 ≡ true → agree plain (1 ∷ 2 ∷ []) (row_of submission_row b) (1 ∷ 2 ∷ []) (row_of submission_row a) ≡ true
+unfolding first_key
+same_row c n a b h k =
+    let x = and_parts (bytes_eq a.1.company c) (a.1.order == n) h in let y = and_parts (bytes_eq b.1.company c) (b.1.order == n) k in
+    and_from _ _ (key_text a.1.company b.1.company c x.0 y.0) (and_from _ _ (key_number a.1.order b.1.order n x.1 y.1) refl)
+
+same_under : (c reference : List ℕ) (a b : ℤ × SubmissionRecord) → is_under c reference a.1 ≡ true → is_under c reference b.1 ≡ true → agree plain (1 ∷ 3 ∷ []) (row_of submission_row b) (1 ∷ 3 ∷ []) (row_of submission_row a) ≡ true
+unfolding first_key
+same_under c reference a b h k =
+    let x = and_parts (bytes_eq a.1.company c) (bytes_eq a.1.reference reference) h in let y = and_parts (bytes_eq b.1.company c) (bytes_eq b.1.reference reference) k in
+    and_from _ _ (key_text a.1.company b.1.company c x.0 y.0) (and_from _ _ (key_text a.1.reference b.1.reference reference x.1 y.1) refl)
+
+pub submission_put : (x : SubmissionRecord) (old new : State) (count : ℕ) → Executes insert_submission (submission_row x) old new (Ok count) → (t : Tables) → Holds desk_layout old.now t
+    → Holds desk_layout new.now (record t { submissions = insert_sorted submission_cmp x t.submissions }) × (find (is_row x.company x.order) t.submissions ≡ None) × (find (is_under x.company x.reference) t.submissions ≡ None)
+submission_put x old new count ran t h =
+    let s = submissions_table in
+    let done = inserted submission_row desk_schema 3 6 s.name s.columns s.primary s.uniques s.orders insert_submission insert_submission_is refl (λ olds news. refl) x refl (row_kept s Null (submission_row x) refl (submission_kept x)) old new count h.0 t.submissions h.1.submissions.stored ran in
+    let rules = insert_rules desk_schema insert_submission 3 s insert_submission_is (submission_row x) old new count h.0 done.0.schema_is ran in
+    let free = key_free submission_row desk_schema s (1 ∷ 2 ∷ []) (is_row x.company x.order) (same_row x.company x.order) (λ db row any. taken_first _ _ any) new.now.trees x t.submissions (and_from _ _ (text_itself x.company) (number_itself x.order)) done.1 rules.1.1.1.0 in
+    let other = key_free submission_row desk_schema s (1 ∷ 3 ∷ []) (is_under x.company x.reference) (same_under x.company x.reference) (λ db row any. taken_second _ _ _ any) new.now.trees x t.submissions (and_from _ _ (text_itself x.company) (text_itself x.reference)) done.1 rules.1.1.1.0 in (
+      (
+        done.0.schema_is,
+        submissions_changed old.now.trees new.now.trees t h.1 done.0.others _ (put_in_order submission_row submission_cmp submission_total (is_row x.company x.order) new.now.trees s x t.submissions (λ y. equal_both _ _ ∙ (let c = is_eq-slice_cmp y.company x.company in let n = equal_numbers y.order x.order in λ i. c i && n i)) free h.1.submissions.rise done.1),
+      ),
+      find_none (is_row x.company x.order) t.submissions free,
+      find_none (is_under x.company x.reference) t.submissions other,
+    )
+
+-- ---- entries
+
+pub flag_kept : (b : Bool) → is_kept kind.Integer (flag b) ≡ true
+flag_kept true = refl
+flag_kept false = refl
+
+number_kept : (o : Option ℕ) → is_kept kind.Integer (or_null number o) ≡ true
+number_kept None = refl
+number_kept (Some n) = refl
+
+text_kept : (o : Option (List ℕ)) → is_kept kind.Text (or_null Text o) ≡ true
+text_kept None = refl
+text_kept (Some t) = refl
+
+pub entry_kept : (r : EntryRecord) → are_kept entries_table.columns (entry_row r) ≡ true
+entry_kept r = rw (flag_kept (is_savings r.entry.kind), flag_kept r.entry.prenote, text_kept r.entry.info, number_kept r.place) refl
+
+insert_entry_is : IsInsert desk_schema insert_entry 4 entries_table
+unfolding understood everything
+insert_entry_is = record { is = refl; plain = (refl, refl) }
+
+pub entry_total : IsTotalOrder entry_cmp
+entry_total = then_total (then_total (on_total (λ (r : EntryRecord). r.company) nat_list_cmp_total) (on_total (λ (r : EntryRecord). r.order) nat_cmp_total)) (on_total (λ (r : EntryRecord). r.index) nat_cmp_total)
+
+pub same_entry : (c : List ℕ) (n i : ℕ) (a b : ℤ × EntryRecord) → is_entry_row c n i a.1 ≡ true → is_entry_row c n i b.1 ≡ true → agree plain (1 ∷ 2 ∷ 3 ∷ []) (row_of entry_row b) (1 ∷ 2 ∷ 3 ∷ []) (row_of entry_row a) ≡ true
+unfolding first_key
+same_entry c n i a b h k =
+    let x = and_parts (bytes_eq a.1.company c && (a.1.order == n)) (a.1.index == i) h in let y = and_parts (bytes_eq b.1.company c && (b.1.order == n)) (b.1.index == i) k in
+    let v = and_parts (bytes_eq a.1.company c) (a.1.order == n) x.0 in let w = and_parts (bytes_eq b.1.company c) (b.1.order == n) y.0 in
+    and_from _ _ (key_text a.1.company b.1.company c v.0 w.0) (and_from _ _ (key_number a.1.order b.1.order n v.1 w.1) (and_from _ _ (key_number a.1.index b.1.index i x.1 y.1) refl))
+
+pub same_entry_key : (x y : EntryRecord) → is_eq (entry_cmp y x) ≡ is_entry_row x.company x.order x.index y
+same_entry_key x y =
+    equal_both _ _
+    ∙ (let f = equal_both _ _ ∙ (let c = is_eq-slice_cmp y.company x.company in let n = equal_numbers y.order x.order in λ i. c i && n i) in let m = equal_numbers y.index x.index in λ i. f i && m i)
+
+pub entry_itself : (x : EntryRecord) → is_entry_row x.company x.order x.index x ≡ true
+entry_itself x = and_from _ _ (and_from _ _ (text_itself x.company) (number_itself x.order)) (number_itself x.index)
+
+pub entry_put : (x : EntryRecord) (old new : State) (count : ℕ) → Executes insert_entry (entry_row x) old new (Ok count) → (t : Tables) → Holds desk_layout old.now t
+    → Holds desk_layout new.now (record t { entries = insert_sorted entry_cmp x t.entries }) × (find (is_entry_row x.company x.order x.index) t.entries ≡ None)
+entry_put x old new count ran t h =
+    let s = entries_table in
+    let done = inserted entry_row desk_schema 4 9 s.name s.columns s.primary s.uniques s.orders insert_entry insert_entry_is refl (λ olds news. refl) x refl (row_kept s Null (entry_row x) refl (entry_kept x)) old new count h.0 t.entries h.1.entries.stored ran in
+    let rules = insert_rules desk_schema insert_entry 4 s insert_entry_is (entry_row x) old new count h.0 done.0.schema_is ran in
+    let free = key_free entry_row desk_schema s (1 ∷ 2 ∷ 3 ∷ []) (is_entry_row x.company x.order x.index) (same_entry x.company x.order x.index) (λ db row any. taken_first _ _ any) new.now.trees x t.entries (entry_itself x) done.1 rules.1.1.1.1.0 in (
+      (
+        done.0.schema_is,
+        entries_changed old.now.trees new.now.trees t h.1 done.0.others _ (put_in_order entry_row entry_cmp entry_total (is_entry_row x.company x.order x.index) new.now.trees s x t.entries (same_entry_key x) free h.1.entries.rise done.1),
+      ),
+      find_none (is_entry_row x.company x.order x.index) t.entries free,
+    )
+
+-- ---- authorizations
+
+insert_authorization_is : IsInsert desk_schema insert_authorization 13 authorizations_table
+unfolding understood everything
+insert_authorization_is = record { is = refl; plain = (refl, refl) }
+
+pub authorization_total : IsTotalOrder authorization_cmp
+authorization_total = then_total (on_total (λ (r : AuthorizationRecord). r.company) nat_list_cmp_total) (on_total (λ (r : AuthorizationRecord). r.order) nat_cmp_total)
+
+same_authorization : (c : List ℕ) (n : ℕ) (a b : ℤ × AuthorizationRecord) → is_authorization_of c n a.1 ≡ true → is_authorization_of c n b.1 ≡ true → agree plain (1 ∷ 2 ∷ []) (row_of authorization_row b) (1 ∷ 2 ∷ []) (row_of authorization_row a) ≡ true
+unfolding first_key
+same_authorization c n a b h k =
+    let x = and_parts (bytes_eq a.1.company c) (a.1.order == n) h in let y = and_parts (bytes_eq b.1.company c) (b.1.order == n) k in
+    and_from _ _ (key_text a.1.company b.1.company c x.0 y.0) (and_from _ _ (key_number a.1.order b.1.order n x.1 y.1) refl)
+
+pub authorization_put : (x : AuthorizationRecord) (old new : State) (count : ℕ) → Executes insert_authorization (authorization_row x) old new (Ok count) → (t : Tables) → Holds desk_layout old.now t
+    → Holds desk_layout new.now (record t { authorizations = insert_sorted authorization_cmp x t.authorizations }) × (find (is_authorization_of x.company x.order) t.authorizations ≡ None)
+authorization_put x old new count ran t h =
+    let s = authorizations_table in
+    let done = inserted authorization_row desk_schema 13 35 s.name s.columns s.primary s.uniques s.orders insert_authorization insert_authorization_is refl (λ olds news. refl) x refl (row_kept s Null (authorization_row x) refl refl) old new count h.0 t.authorizations h.1.authorizations.stored ran in
+    let rules = insert_rules desk_schema insert_authorization 13 s insert_authorization_is (authorization_row x) old new count h.0 done.0.schema_is ran in
+    let free = key_free authorization_row desk_schema s (1 ∷ 2 ∷ []) (is_authorization_of x.company x.order) (same_authorization x.company x.order) (λ db row any. taken_first _ _ any) new.now.trees x t.authorizations (and_from _ _ (text_itself x.company) (number_itself x.order)) done.1 rules.1.1.1.1.1.1.1.1.1.1.1.1.1.0 in (
+      (
+        done.0.schema_is,
+        authorizations_changed old.now.trees new.now.trees t h.1 done.0.others _ (put_in_order authorization_row authorization_cmp authorization_total (is_authorization_of x.company x.order) new.now.trees s x t.authorizations (λ y. equal_both _ _ ∙ (let c = is_eq-slice_cmp y.company x.company in let n = equal_numbers y.order x.order in λ i. c i && n i)) free h.1.authorizations.rise done.1),
+      ),
+      find_none (is_authorization_of x.company x.order) t.authorizations free,
+    )

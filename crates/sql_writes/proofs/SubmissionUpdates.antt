@@ -1,0 +1,107 @@
+-- The statements of a cut that write submissions, against their records.
+use Rattle.std.proofs.Common.{◌≡◌, ℕ, ℤ, pos, Bool, true, false, not, is_none, ◌&&◌, ◌==◌, cond, List, [], ◌∷◌, Some, None, Ok, bytes_eq, refl, sym, ◌∙◌, subst}
+use Rattle.std.proofs.lemmas.Bool.{and_parts}
+use Rattle.std.specs.List.{list_all}
+use Rattle.std.specs.Ordering.{nat_cmp, ordering_then}
+use Rattle.sqlite_tied.specs.Compute.{everything}
+use Rattle.sqlite.specs.Listing.{understood}
+use Rattle.sqlite.specs.State.{State, Executes}
+use Rattle.sqlite_keyed.specs.Lists.{update_where}
+use Rattle.sqlite_sql.specs.Term.{Term, lit, col, holds, eval_all}
+use Rattle.sqlite_value.specs.Order.{Row}
+use Rattle.sqlite_value.specs.declared.value.Value.TheVariants.{Int, Text}
+use Rattle.sql_statements.specs.Statements.{IsUpdate, column_is, number_is, null_at}
+use Rattle.sql_statements.specs.StoredRows.{row_of, Stores}
+use Rattle.sql_statements.proofs.Casts.{row_kept}
+use Rattle.sql_statements.proofs.Changes.{updated_counted}
+use Rattle.sql_statements.proofs.Conditions.{text_is, and_true}
+use Rattle.sql_statements.proofs.KeyOrder.{rises_updated}
+use Rattle.sql_statements.proofs.OneRow.{one_of, one_found, updates_agree}
+use Rattle.sql_statements.specs.Layouts.{Holds}
+use Rattle.sql_tables.specs.Schema.{desk_schema}
+use Rattle.sql_tables.specs.TableDefinitions.{submissions_table}
+use Rattle.desk_book.specs.declared.flat_rows.LapsedRow.{LapsedRow}
+use Rattle.desk_book.specs.declared.flat_rows.SentRow.{SentRow}
+use Rattle.sql_tables.specs.Columns.{number, letter}
+use Rattle.sql_tables.specs.CutTables.{is_row, mark_sent, mark_lapsed}
+use Rattle.sql_tables.specs.KeyOrders.{submission_cmp, text_cmp}
+use Rattle.sql_tables.specs.Layout.{desk_layout}
+use Rattle.sql_tables.specs.RecordRows.{submission_row}
+use Rattle.sql_tables.specs.TableEdits.{Waits}
+use Rattle.sql_tables.specs.TableReads.{is_waiting}
+use Rattle.sql_tables.specs.Tables.{Tables}
+use Rattle.sql_tables.specs.declared.records.SubmissionRecord.{SubmissionRecord}
+use Rattle.sql_writes.proofs.Conditions as conditions
+use Rattle.sql_writes.proofs.OtherTables.{submissions_changed}
+use Rattle.sql_writes.proofs.SubmissionRows.{submission_kept}
+use Rattle.sql_writes.specs.CutTexts.{update_sent, update_lapsed}
+use Rattle.sql_writes.proofs.KeyTests.{and_joined, none_is, not_is, one_row}
+
+update_sent_is : IsUpdate desk_schema update_sent 3 6 (column_is 1 0 ∷ column_is 2 1 ∷ null_at 11 ∷ number_is 10 (pos 0) ∷ [])
+    (col 1 1 ∷ col 1 2 ∷ col 1 3 ∷ col 1 4 ∷ col 1 5 ∷ col 1 6 ∷ col 1 7 ∷ col 1 8 ∷ col 1 9 ∷ col 1 10 ∷ col 0 2 ∷ col 0 3 ∷ col 0 4 ∷ col 0 5 ∷ [])
+unfolding understood everything
+update_sent_is = record { updates = refl; body = refl; alone = refl; plain = (refl, refl) }
+
+update_lapsed_is : IsUpdate desk_schema update_lapsed 3 6 (column_is 1 0 ∷ column_is 2 1 ∷ null_at 11 ∷ number_is 10 (pos 0) ∷ [])
+    (col 1 1 ∷ col 1 2 ∷ col 1 3 ∷ col 1 4 ∷ col 1 5 ∷ col 1 6 ∷ col 1 7 ∷ col 1 8 ∷ col 1 9 ∷ lit (Int (pos 1)) ∷ col 1 11 ∷ col 1 12 ∷ col 1 13 ∷ col 1 14 ∷ [])
+unfolding understood everything
+update_lapsed_is = record { updates = refl; body = refl; alone = refl; plain = (refl, refl) }
+
+-- WHERE company = ? AND ord = ? AND settled IS NULL AND lapsed = 0
+abbrev waits_at : List ℕ → ℕ → SubmissionRecord → Bool
+waits_at c o r = is_row c o r && is_waiting r
+
+waits_parts : (c : List ℕ) (o : ℕ) (r : SubmissionRecord) → waits_at c o r ≡ true → (is_row c o r ≡ true) × (r.settled ≡ None) × (r.lapsed ≡ false)
+waits_parts c o r h =
+    let one = and_parts (is_row c o r) (is_waiting r) h in
+    let two = and_parts (is_none r.settled) (not r.lapsed) one.1 in
+    (one.0, none_is r.settled two.0, not_is r.lapsed two.1)
+
+-- an UPDATE of the submission of a number, where it waits
+module _ (c : List ℕ) (o : ℕ) (rest : Row) (sql : List ℕ) (sets : List Term) (is : IsUpdate desk_schema sql 3 6 (column_is 1 0 ∷ column_is 2 1 ∷ null_at 11 ∷ number_is 10 (pos 0) ∷ []) sets)
+    (set : SubmissionRecord → SubmissionRecord) (same_company : (r : SubmissionRecord) → (set r).company ≡ r.company) (same_order : (r : SubmissionRecord) → (set r).order ≡ r.order)
+    (made : (i : ℤ) (r : SubmissionRecord) → eval_all sets ((Text c ∷ number o ∷ rest) ∷ row_of submission_row (i, r) ∷ []) ≡ submission_row (set r)) where
+  tested : (i : ℤ) (r : SubmissionRecord) → list_all (holds ((Text c ∷ number o ∷ rest) ∷ row_of submission_row (i, r) ∷ [])) (column_is 1 0 ∷ column_is 2 1 ∷ null_at 11 ∷ number_is 10 (pos 0) ∷ []) ≡ waits_at c o r
+  tested i r =
+      let a = text_is r.company c in
+      let b = conditions.number_is r.order o in
+      let d = conditions.unset_is r.settled in
+      let e = and_true _ ∙ conditions.unflagged_is r.lapsed in
+      (λ j. a j && (b j && (d j && e j))) ∙ and_joined (bytes_eq r.company c) (r.order == o) (is_waiting r)
+
+  keeps_order : (a b : SubmissionRecord) → submission_cmp (cond (is_row c o a) (set a) a) (cond (is_row c o b) (set b) b) ≡ submission_cmp a b
+  keeps_order a b = λ i. ordering_then (text_cmp (company a i) (company b i)) (nat_cmp (order a i) (order b i))
+    where
+      company : (d : SubmissionRecord) → (cond (is_row c o d) (set d) d).company ≡ d.company
+      company d = elim (is_row c o d) as (λ q. (cond q (set d) d).company ≡ d.company) [ true ↦ same_company d | false ↦ refl ]
+
+      order : (d : SubmissionRecord) → (cond (is_row c o d) (set d) d).order ≡ d.order
+      order d = elim (is_row c o d) as (λ q. (cond q (set d) d).order ≡ d.order) [ true ↦ same_order d | false ↦ refl ]
+
+  submission_updated : (old new : State) → Executes sql (Text c ∷ number o ∷ rest) old new (Ok 1) → (t : Tables) → Holds desk_layout old.now t
+      → Holds desk_layout new.now (record t { submissions = update_where (is_row c o) set t.submissions }) × Waits c o t
+  submission_updated old new ran t h =
+      let s = submissions_table in
+      let done = updated_counted submission_row desk_schema 3 6 s.name s.columns s.primary s.uniques s.orders sql (column_is 1 0 ∷ column_is 2 1 ∷ null_at 11 ∷ number_is 10 (pos 0) ∷ []) sets is refl (λ olds news. refl)
+      (Text c ∷ number o ∷ rest) (waits_at c o) set tested made (λ i r. row_kept s (Int i) (submission_row r) refl (submission_kept r)) old new 1 h.0 t.submissions h.1.submissions.stored ran in
+      let it = one_found (waits_at c o) (is_row c o) (λ r here. (waits_parts c o r here).0) t.submissions (one_of _ (is_row c o) (one_row c o) t.submissions h.1.submissions.rise) (sym done.2) in
+      let parts = waits_parts c o it.row it.passes in (
+        (
+          done.0.schema_is,
+          submissions_changed old.now.trees new.now.trees t h.1 done.0.others _ (record {
+            stored = subst (Stores submission_row (new.now.trees 6)) (updates_agree (waits_at c o) (is_row c o) set t.submissions it.same) done.1;
+            rise = rises_updated submission_cmp (is_row c o) set keeps_order t.submissions h.1.submissions.rise;
+          }),
+        ),
+        record { submission = it.row; found = it.found; unsettled = parts.1; lasts = parts.2 },
+      )
+
+pub submission_sent : (s : SentRow) (old new : State) → Executes update_sent (Text s.company ∷ number s.order ∷ number s.settled ∷ number s.printed.day ∷ letter s.printed.modifier ∷ number s.printed.batch ∷ []) old new (Ok 1)
+    → (t : Tables) → Holds desk_layout old.now t → Holds desk_layout new.now (record t { submissions = mark_sent s t.submissions }) × Waits s.company s.order t
+submission_sent s =
+    submission_updated s.company s.order (number s.settled ∷ number s.printed.day ∷ letter s.printed.modifier ∷ number s.printed.batch ∷ []) update_sent _ update_sent_is
+    (λ r. record r { settled = Some s.settled; printed = Some s.printed }) (λ r. refl) (λ r. refl) (λ i r. refl)
+
+pub submission_lapsed : (l : LapsedRow) (old new : State) → Executes update_lapsed (Text l.company ∷ number l.order ∷ []) old new (Ok 1)
+    → (t : Tables) → Holds desk_layout old.now t → Holds desk_layout new.now (record t { submissions = mark_lapsed l t.submissions }) × Waits l.company l.order t
+submission_lapsed l = submission_updated l.company l.order [] update_lapsed _ update_lapsed_is (λ r. record r { lapsed = true }) (λ r. refl) (λ r. refl) (λ i r. refl)

@@ -1,0 +1,14 @@
+use Rattle.sqlite.specs.Held.{state}
+use Rattle.sql_statements.proofs.Edits.{makes_of}
+use Rattle.sql_tables.specs.Layout.{desk_layout}
+use Rattle.sql_writes.specs.RowEdits.{insert_change_edit}
+use Rattle.sql_writes.proofs.ChangeInserts.{change_put}
+use Rattle.sql_writes.proofs.intake.changes.put_change.Goals as goal
+
+pub returns-clause-makes : goal.returns-clause-makes
+returns-clause-makes g c clean =
+    let x = c.args.change.now in
+    let old = state g.S.Store c.args.tx.now.conn.now in
+    let new = state g.S.Store c.execute.new.tx.conn.now in
+    let ran = rw (c.in_ok-number.ensures, c.characters.ensures, c.bytes.ensures.value, c.in_ok-order.ensures, c.in_ok-index.ensures, c.characters-2.ensures, c.date.ensures, c.characters-3.ensures) at (c.in_ok-execute.ensures.ran clean) in
+    makes_of desk_layout (insert_change_edit x) old new (c.in_ok-execute.ensures.shown clean) (λ t h. (change_put x old new c.in_ok-execute.field-0 ran t h, tt))

@@ -1,0 +1,42 @@
+-- Balances to which lines were added in memory, and whose rows do not have these lines yet.
+use Rattle.std.specs.Prelude.{◌≡◌, true, IsTrue, ℕ, ℤ, Bool, ◌&&◌, ◌==◌, List, find, Option, option_map}
+use Rattle.std.specs.Option.{option_or}
+use Rattle.sqlite.specs.State.{State, Shows}
+use Rattle.sql_statements.specs.Layouts.{Holds}
+use Rattle.desk_accounts.specs.declared.account.Account.{Account}
+use Rattle.desk_accounts.specs.declared.posting.Posting.{Posting}
+use Rattle.desk_accounts.specs.Posting.{same_account}
+use Rattle.sql_tables.specs.Beside.{balance_of}
+use Rattle.sql_tables.specs.KeyOrders.{IsInOrder, balance_cmp}
+use Rattle.sql_tables.specs.Layout.{desk_layout}
+use Rattle.sql_tables.specs.Tables.{Tables}
+use Rattle.sql_tables.specs.declared.records.BalanceRecord.{BalanceRecord}
+use Rattle.sql_writes.specs.LineEdits.{with_line}
+use Rattle.sql_writes.specs.declared.account_lines.pending.PendingBalance.{PendingBalance}
+
+abbrev pub is_pending_of : Account → (value_day : ℕ) → PendingBalance → Bool
+is_pending_of account day b = same_account b.account account && b.value_day == day
+
+-- the pending sum of an account and value day: of the first such balance
+abbrev pub pending_of : List PendingBalance → Account → (value_day : ℕ) → Option ℤ
+pending_of pending account day = option_map (λ b. b.cents) (find (is_pending_of account day) pending)
+
+-- in these balances the pending ones stand in place of the rows
+pub record StandsFor (pending : List PendingBalance) (rows balances : List BalanceRecord) : Type 0 where
+  pub rise : IsInOrder balance_cmp balances
+  pub found : (account : Account) (day : ℕ) → balance_of balances account day ≡ option_or (pending_of pending account day) (balance_of rows account day)
+
+-- the line is added to a pending balance
+abbrev pub AddsLine : Posting → (before after : List PendingBalance) → Type 0
+AddsLine p before after = (rows balances : List BalanceRecord) → StandsFor before rows balances → StandsFor after rows (with_line p balances)
+
+-- Inside a transaction the balances become these, but for what is pending: in the rows before it these balances were
+-- missing, and those are missing after it.
+pub record IsMadeBut (before after : List PendingBalance) (become : List BalanceRecord → List BalanceRecord) (old new : State) : Type 0 where
+  pub shown : Shows old new new.now old.committed true
+  pub holds : (t : Tables) (balances : List BalanceRecord) → Holds desk_layout old.now t → StandsFor before t.balances balances
+      → (rows : List BalanceRecord) × Holds desk_layout new.now (record t { balances = rows }) × StandsFor after rows (become balances)
+
+-- the same, of whatever runs inside a transaction of an open store
+abbrev pub MakesBut : (before after : List PendingBalance) → (become : List BalanceRecord → List BalanceRecord) → State → State → Type 0
+MakesBut before after become old new = IsTrue old.in_transaction → IsTrue old.is_open → IsMadeBut before after become old new

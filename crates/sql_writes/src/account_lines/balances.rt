@@ -1,0 +1,63 @@
+//! Balances: the sums of the lines of an account and a value day.
+ghost use Rattle.std.specs.Prelude.{◌≡◌, IfOk, OnOk};
+ghost use Rattle.sqlite.specs.Held.{state};
+ghost use Rattle.sqlite.specs.State.{HasCleanDisk, Survives, KeepsCommit};
+ghost use Rattle.sql_statements.specs.Transactions.{Makes};
+ghost use Rattle.sql_tables.specs.Layout.{desk_layout};
+ghost use Rattle.sql_writes.specs.LineEdits.{put_balance_edit, sum_is};
+
+use crate::account_lines::accounts::account_text;
+use crate::cell::cell_inside;
+use bank_days::Day;
+use desk_accounts::Account;
+use itoa::Buffer;
+use sql_queries::{characters, date};
+use sql_statements::execute;
+use sqlite::{Alter, Error, Transaction};
+
+/// Finds the sum of an account's lines of a value day, as the transaction sees it.
+pub(crate) fn sum_inside<S: Alter>(
+    tx: &mut Transaction<'_, S>,
+    account: &Account,
+    value_day: Day,
+) -> Result<Option<i128>, Error>
+    ensures same_reference { tx.new.conn.ghost_name ≡ tx.old.conn.ghost_name }
+    ensures makes { HasCleanDisk (state S.Store tx.new.conn.now) → IfOk result (λ sum. Makes desk_layout (sum_is account.now value_day sum) (state S.Store tx.old.conn.now) (state S.Store tx.new.conn.now)) }
+    ensures keeps { HasCleanDisk (state S.Store tx.new.conn.now) → KeepsCommit (state S.Store tx.old.conn.now) (state S.Store tx.new.conn.now) }
+    ensures survives { Survives (state S.Store tx.old.conn.now) (state S.Store tx.new.conn.now) (λ _. ⊥) }
+{
+    let text = account_text(account);
+    let sum = cell_inside(
+        tx,
+        "SELECT cents FROM balances WHERE account = ?1 AND value_day = ?2 ORDER BY account, value_day",
+        &[characters(text.as_slice()), date(value_day)],
+    )?;
+    Ok(sum)
+}
+
+/// Writes the sum of an account's lines of a value day, in place of the sum before.
+pub(crate) fn put_balance<S: Alter>(
+    tx: &mut Transaction<'_, S>,
+    account: &Account,
+    value_day: Day,
+    cents: i128,
+) -> Result<(), Error>
+    ensures same_reference { tx.new.conn.ghost_name ≡ tx.old.conn.ghost_name }
+    ensures makes { HasCleanDisk (state S.Store tx.new.conn.now) → OnOk result (Makes desk_layout (put_balance_edit account.now value_day cents) (state S.Store tx.old.conn.now) (state S.Store tx.new.conn.now)) }
+    ensures keeps { HasCleanDisk (state S.Store tx.new.conn.now) → KeepsCommit (state S.Store tx.old.conn.now) (state S.Store tx.new.conn.now) }
+    ensures survives { Survives (state S.Store tx.old.conn.now) (state S.Store tx.new.conn.now) (λ _. ⊥) }
+{
+    let text = account_text(account);
+    let mut digits = Buffer::new();
+    let cents = digits.format(cents);
+    execute(
+        tx,
+        "INSERT INTO balances VALUES (?1, ?2, ?3) ON CONFLICT (account, value_day) DO UPDATE SET cents = ?3",
+        &[
+            characters(text.as_slice()),
+            date(value_day),
+            characters(cents.as_bytes()),
+        ],
+    )?;
+    Ok(())
+}

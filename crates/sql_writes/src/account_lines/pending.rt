@@ -1,0 +1,209 @@
+//! Lines are added to balances in memory, so that the row of a balance is read and written once for
+//! many lines.
+ghost use Rattle.std.specs.Prelude.{◌≡◌, ◌-◌, ◌<◌, ◌+ℤ◌, ℕ, pos, [], take, IfOk, OnOk, unwrap_or};
+ghost use Rattle.std.specs.List.{position_or_len};
+ghost use Rattle.arrayvec.specs.ArrayVec.{array_vec_len};
+ghost use Rattle.sqlite.specs.Held.{state};
+ghost use Rattle.sqlite.specs.State.{HasCleanDisk, Survives, KeepsCommit};
+ghost use Rattle.sql_statements.specs.Transactions.{Makes};
+ghost use Rattle.sql_tables.specs.Layout.{desk_layout};
+ghost use Rattle.sql_writes.specs.LineEdits.{with_line, add_lines_edit};
+ghost use Rattle.sql_writes.specs.PendingBalances.{is_pending_of, AddsLine, MakesBut};
+
+use crate::account_lines::balances::{put_balance, sum_inside};
+use arrayvec::ArrayVec;
+use bank_days::Day;
+use desk_accounts::{Account, Posting};
+use sqlite::{Alter, Error, ErrorCode, Transaction};
+
+/// So many balances are pending at most.
+const MOST_PENDING: usize = 64;
+
+/// The number of any day.
+const ANY_DAY: i64 = 20_000;
+
+/// A `PendingBalance` is the sum of an account's lines of a value day, some of which its row does not
+/// have yet.
+#[derive(Clone, Copy, Drop)]
+pub(crate) struct PendingBalance {
+    account: Account,
+    value_day: Day,
+    cents: i128,
+}
+
+// An unused place of a list has it, and nothing reads it there.
+impl Default for PendingBalance {
+    fn default() -> PendingBalance {
+        PendingBalance {
+            account: Account::Operator,
+            value_day: Day::from_number(ANY_DAY).unwrap(),
+            cents: 0,
+        }
+    }
+}
+
+type PendingBalances = ArrayVec<PendingBalance, MOST_PENDING>;
+
+/// Adds lines to the balances of their accounts and value days. Where a balance has no sum with a line,
+/// it ends with `ErrorCode::IntegerOverflow`.
+pub(crate) fn add_lines<S: Alter>(
+    tx: &mut Transaction<'_, S>,
+    lines: &[Posting],
+) -> Result<(), Error>
+    ensures same_reference { tx.new.conn.ghost_name ≡ tx.old.conn.ghost_name }
+    ensures makes { HasCleanDisk (state S.Store tx.new.conn.now) → OnOk result (Makes desk_layout (add_lines_edit lines.now) (state S.Store tx.old.conn.now) (state S.Store tx.new.conn.now)) }
+    ensures keeps { HasCleanDisk (state S.Store tx.new.conn.now) → KeepsCommit (state S.Store tx.old.conn.now) (state S.Store tx.new.conn.now) }
+    ensures survives { Survives (state S.Store tx.old.conn.now) (state S.Store tx.new.conn.now) (λ _. ⊥) }
+{
+    let mut pending: PendingBalances = ArrayVec::new();
+    for line in lines {
+        add_line(tx, &mut pending, line)?;
+    }
+    write_all(tx, &mut pending)?;
+    Ok(())
+}
+
+// Adds a line to the balance of its account and value day, which is pending then.
+fn add_line<S: Alter>(
+    tx: &mut Transaction<'_, S>,
+    pending: &mut PendingBalances,
+    line: &Posting,
+) -> Result<(), Error>
+    ensures same_reference { tx.new.conn.ghost_name ≡ tx.old.conn.ghost_name }
+    ensures makes { HasCleanDisk (state S.Store tx.new.conn.now) → OnOk result (MakesBut pending.old.items pending.new.items (with_line line.now) (state S.Store tx.old.conn.now) (state S.Store tx.new.conn.now)) }
+    ensures keeps { HasCleanDisk (state S.Store tx.new.conn.now) → KeepsCommit (state S.Store tx.old.conn.now) (state S.Store tx.new.conn.now) }
+    ensures survives { Survives (state S.Store tx.old.conn.now) (state S.Store tx.new.conn.now) (λ _. ⊥) }
+{
+    let at = place_of(pending.as_slice(), line);
+    if at < pending.len() {
+        add_there(pending, at, line)?;
+        return Ok(());
+    }
+    add_new(tx, pending, line)?;
+    Ok(())
+}
+
+// The place of the balance of a line's account and value day, or after the last where there is none.
+fn place_of(pending: &[PendingBalance], line: &Posting) -> usize
+    ensures { result ≡ position_or_len (is_pending_of line.now.account line.now.value_day) pending.now }
+{
+    let mut at = 0;
+    for balance in pending {
+        if is_of(balance, line) {
+            break;
+        }
+        at += 1;
+    }
+    at
+}
+
+// Is it the balance of the line's account and value day?
+fn is_of(balance: &PendingBalance, line: &Posting) -> bool
+    ensures { result ≡ is_pending_of line.now.account line.now.value_day balance.now }
+{
+    balance.account.is(&line.account) && balance.value_day == line.value_day
+}
+
+// Adds a line to a pending balance, the first of its account and value day.
+fn add_there(pending: &mut PendingBalances, at: usize, line: &Posting) -> Result<(), Error>
+    requires first { at ≡ position_or_len (is_pending_of line.now.account line.now.value_day) pending.old.items }
+    requires within { at < array_vec_len pending.old }
+    ensures { OnOk result (AddsLine line.now pending.old.items pending.new.items) }
+{
+    let sum = sum_with(Some(pending[at].cents), line.cents)?;
+    pending[at] = with_sum(line, sum);
+    Ok(())
+}
+
+// The sum of an account and value day, with a line.
+fn sum_with(before: Option<i128>, cents: i64) -> Result<i128, Error>
+    ensures { IfOk result (λ sum. sum ≡ unwrap_or before (pos 0) +ℤ cents) }
+{
+    match before.unwrap_or(0).checked_add(i128::from(cents)) {
+        Some(sum) => Ok(sum),
+        None => Err(Error::SqliteFailure(ErrorCode::IntegerOverflow)),
+    }
+}
+
+// The balance of a line's account and value day, with this sum.
+fn with_sum(line: &Posting, cents: i128) -> PendingBalance
+    ensures { result ≡ record { account = line.now.account; value_day = line.now.value_day; cents = cents } }
+{
+    PendingBalance {
+        account: line.account,
+        value_day: line.value_day,
+        cents,
+    }
+}
+
+// Adds a line to a balance that is not pending yet.
+fn add_new<S: Alter>(
+    tx: &mut Transaction<'_, S>,
+    pending: &mut PendingBalances,
+    line: &Posting,
+) -> Result<(), Error>
+    requires { array_vec_len pending.old ≡ position_or_len (is_pending_of line.now.account line.now.value_day) pending.old.items }
+    ensures same_reference { tx.new.conn.ghost_name ≡ tx.old.conn.ghost_name }
+    ensures makes { HasCleanDisk (state S.Store tx.new.conn.now) → OnOk result (MakesBut pending.old.items pending.new.items (with_line line.now) (state S.Store tx.old.conn.now) (state S.Store tx.new.conn.now)) }
+    ensures keeps { HasCleanDisk (state S.Store tx.new.conn.now) → KeepsCommit (state S.Store tx.old.conn.now) (state S.Store tx.new.conn.now) }
+    ensures survives { Survives (state S.Store tx.old.conn.now) (state S.Store tx.new.conn.now) (λ _. ⊥) }
+{
+    make_room(tx, pending)?;
+    let before = sum_inside(tx, &line.account, line.value_day)?;
+    let sum = sum_with(before, line.cents)?;
+    pending.push(with_sum(line, sum));
+    Ok(())
+}
+
+// Makes room for a balance: where there is none, it writes the last one.
+fn make_room<S: Alter>(
+    tx: &mut Transaction<'_, S>,
+    pending: &mut PendingBalances,
+) -> Result<(), Error>
+    ensures room { OnOk result (array_vec_len pending.new < MOST_PENDING) }
+    ensures front { (count : ℕ) × (pending.new.items ≡ take count pending.old.items) }
+    ensures same_reference { tx.new.conn.ghost_name ≡ tx.old.conn.ghost_name }
+    ensures makes { HasCleanDisk (state S.Store tx.new.conn.now) → OnOk result (MakesBut pending.old.items pending.new.items (λ balances. balances) (state S.Store tx.old.conn.now) (state S.Store tx.new.conn.now)) }
+    ensures keeps { HasCleanDisk (state S.Store tx.new.conn.now) → KeepsCommit (state S.Store tx.old.conn.now) (state S.Store tx.new.conn.now) }
+    ensures survives { Survives (state S.Store tx.old.conn.now) (state S.Store tx.new.conn.now) (λ _. ⊥) }
+{
+    if !pending.is_full() {
+        return Ok(());
+    }
+    write_last(tx, pending)?;
+    Ok(())
+}
+
+// Writes all that are pending, the last one first.
+fn write_all<S: Alter>(
+    tx: &mut Transaction<'_, S>,
+    pending: &mut PendingBalances,
+) -> Result<(), Error>
+    ensures same_reference { tx.new.conn.ghost_name ≡ tx.old.conn.ghost_name }
+    ensures makes { HasCleanDisk (state S.Store tx.new.conn.now) → OnOk result (MakesBut pending.old.items [] (λ balances. balances) (state S.Store tx.old.conn.now) (state S.Store tx.new.conn.now)) }
+    ensures keeps { HasCleanDisk (state S.Store tx.new.conn.now) → KeepsCommit (state S.Store tx.old.conn.now) (state S.Store tx.new.conn.now) }
+    ensures survives { Survives (state S.Store tx.old.conn.now) (state S.Store tx.new.conn.now) (λ _. ⊥) }
+{
+    'writes: while !pending.is_empty() {
+        write_last(tx, pending)?;
+    }
+    Ok(())
+}
+
+// Writes the last balance that is pending, if there is one.
+fn write_last<S: Alter>(
+    tx: &mut Transaction<'_, S>,
+    pending: &mut PendingBalances,
+) -> Result<(), Error>
+    ensures rest { pending.new.items ≡ take (array_vec_len pending.old - 1) pending.old.items }
+    ensures same_reference { tx.new.conn.ghost_name ≡ tx.old.conn.ghost_name }
+    ensures makes { HasCleanDisk (state S.Store tx.new.conn.now) → OnOk result (MakesBut pending.old.items pending.new.items (λ balances. balances) (state S.Store tx.old.conn.now) (state S.Store tx.new.conn.now)) }
+    ensures keeps { HasCleanDisk (state S.Store tx.new.conn.now) → KeepsCommit (state S.Store tx.old.conn.now) (state S.Store tx.new.conn.now) }
+    ensures survives { Survives (state S.Store tx.old.conn.now) (state S.Store tx.new.conn.now) (λ _. ⊥) }
+{
+    let Some(last) = pending.pop() else {
+        return Ok(());
+    };
+    put_balance(tx, &last.account, last.value_day, last.cents)?;
+    Ok(())
+}

@@ -1,0 +1,38 @@
+//! One value is read inside a transaction.
+ghost use Rattle.std.specs.Prelude.{◌≡◌, true, [], ◌∷◌, IfOk, OnOk};
+ghost use Rattle.sqlite.specs.Held.{state};
+ghost use Rattle.sqlite.specs.State.{HasCleanDisk, Survives, KeepsCommit, Shows};
+ghost use Rattle.sqlite.specs.Values.{bound};
+ghost use Rattle.sql_statements.specs.SelectTexts.{IsSelectText};
+ghost use Rattle.sql_tables.specs.Ranges.{FitsIfAny};
+ghost use Rattle.sql_queries.specs.Shows.{ReadsFirst};
+
+use sql_statements::query_first_inside;
+use sql_tables::{FromColumn, read_only_column};
+use sqlite::types::ValueRef;
+use sqlite::{Alter, Error, Transaction};
+
+/// Gives the value in the first row of a query of one column, as the transaction sees it, and `None`
+/// where it shows no row. A row that stores no value within its range is `Error::InvalidQuery`. The
+/// text has to be a SELECT.
+pub fn cell_inside<S: Alter, T: FromColumn>(
+    tx: &mut Transaction<'_, S>,
+    sql: &str,
+    params: &[ValueRef<'_>],
+) -> Result<Option<T>, Error>
+    requires { IsSelectText sql.now }
+    ensures same_reference { tx.new.conn.ghost_name ≡ tx.old.conn.ghost_name }
+    ensures answer { HasCleanDisk (state S.Store tx.new.conn.now) → IfOk result (λ x. ReadsFirst sql.now (bound params.now) (λ x. T.FromColumn.stored x ∷ []) (state S.Store tx.old.conn.now) (state S.Store tx.new.conn.now) x) }
+    ensures fits { IfOk result (FitsIfAny T.FromColumn.fits) }
+    ensures same { HasCleanDisk (state S.Store tx.new.conn.now) → OnOk result (Shows (state S.Store tx.old.conn.now) (state S.Store tx.new.conn.now) (state S.Store tx.old.conn.now).now (state S.Store tx.old.conn.now).committed true) }
+    ensures keeps { HasCleanDisk (state S.Store tx.new.conn.now) → KeepsCommit (state S.Store tx.old.conn.now) (state S.Store tx.new.conn.now) }
+    ensures survives { Survives (state S.Store tx.old.conn.now) (state S.Store tx.new.conn.now) (λ _. ⊥) }
+{
+    let Some(row) = query_first_inside(tx, sql, params)? else {
+        return Ok(None);
+    };
+    match read_only_column(&row) {
+        Some(value) => Ok(Some(value)),
+        None => Err(Error::InvalidQuery),
+    }
+}

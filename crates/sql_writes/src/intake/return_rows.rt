@@ -1,0 +1,160 @@
+//! The rows of returns are written, sixteen by one statement as long as there are so many.
+ghost use Rattle.std.specs.Prelude.{◌≡◌, ◌+◌, ◌<◌, ◌^◌, map, length, IfOk};
+ghost use Rattle.sqlite.specs.Held.{state};
+ghost use Rattle.sqlite.specs.State.{HasCleanDisk, Survives, KeepsCommit};
+ghost use Rattle.sqlite.specs.Values.{bound};
+ghost use Rattle.sql_statements.specs.Transactions.{Makes};
+ghost use Rattle.sql_tables.specs.Layout.{desk_layout};
+ghost use Rattle.sql_tables.specs.TableEdits.{put_return_edit};
+ghost use Rattle.sql_writes.specs.ReturnRows.{held_return, stored_return, finds_return, finds_returns};
+
+use crate::batches::BatchBody;
+use crate::intake::orders::order_under;
+use crate::parameters::{column, switch};
+use desk_book::ReturnedRow;
+use sql_queries::{characters, date};
+use sql_statements::{RowBody, execute, number};
+use sqlite::types::ValueRef;
+use sqlite::{Alter, Error, Transaction};
+
+/// `ReturnRows` are the rows of returns, each under its number. A return that names no submission of its
+/// company, or one that does not settle, is refused with `Error::InvalidQuery`, and one of an entry that
+/// was returned before by the key of the table.
+#[derive(Clone, Copy)]
+pub(crate) struct ReturnRows;
+
+impl RowBody for ReturnRows {
+    type Row = ReturnedRow;
+
+    ghost layout = { desk_layout };
+
+    ghost edit = { λ _. put_return_edit };
+
+    fn run_row<S: Alter>(
+        &self,
+        tx: &mut Transaction<'_, S>,
+        number: u64,
+        returned: &ReturnedRow,
+    ) -> Result<(), Error> {
+        let row = row_under(tx, number, returned)?;
+        let values = values_of(&row);
+        execute(
+            tx,
+            "INSERT INTO returns VALUES (?1, ?2, ?3, ?4, ?5, ?6, ?7, ?8)",
+            &values,
+        )?;
+        Ok(())
+    }
+}
+
+impl BatchBody for ReturnRows {
+    fn run_batch<S: Alter>(
+        &self,
+        tx: &mut Transaction<'_, S>,
+        first: u64,
+        returned: &[ReturnedRow],
+    ) -> Result<(), Error> {
+        let rows = rows_under(tx, first, returned)?;
+        let values = values_of_all(&rows);
+        execute(
+            tx,
+            "INSERT INTO returns VALUES \
+             (?, ?, ?, ?, ?, ?, ?, ?), (?, ?, ?, ?, ?, ?, ?, ?), (?, ?, ?, ?, ?, ?, ?, ?), (?, ?, ?, ?, ?, ?, ?, ?), \
+             (?, ?, ?, ?, ?, ?, ?, ?), (?, ?, ?, ?, ?, ?, ?, ?), (?, ?, ?, ?, ?, ?, ?, ?), (?, ?, ?, ?, ?, ?, ?, ?), \
+             (?, ?, ?, ?, ?, ?, ?, ?), (?, ?, ?, ?, ?, ?, ?, ?), (?, ?, ?, ?, ?, ?, ?, ?), (?, ?, ?, ?, ?, ?, ?, ?), \
+             (?, ?, ?, ?, ?, ?, ?, ?), (?, ?, ?, ?, ?, ?, ?, ?), (?, ?, ?, ?, ?, ?, ?, ?), (?, ?, ?, ?, ?, ?, ?, ?)",
+            values.as_flattened(),
+        )?;
+        Ok(())
+    }
+}
+
+// What a row stores, beside the return whose text it borrows.
+#[derive(Clone, Copy)]
+struct ReturnRow {
+    number: i64,
+    order: i64,
+    index: i64,
+    code: [u8; 3],
+    returned: ReturnedRow,
+}
+
+// The row of the return that has this number, of an entry of the submission with this order number.
+// `Error::InvalidQuery` says that a number is past the last that a column has.
+fn row_of(number: u64, order: u64, returned: &ReturnedRow) -> Result<ReturnRow, Error>
+    ensures { IfOk result (λ row. row ≡ held_return number order returned.now) }
+{
+    Ok(ReturnRow {
+        number: column(number)?,
+        order: column(order)?,
+        index: column(returned.row.index)?,
+        code: returned.row.code.text(),
+        returned: *returned,
+    })
+}
+
+// The row of a return, with the submission that it names, as the transaction sees it.
+fn row_under<S: Alter>(
+    tx: &mut Transaction<'_, S>,
+    number: u64,
+    returned: &ReturnedRow,
+) -> Result<ReturnRow, Error>
+    ensures same_reference { tx.new.conn.ghost_name ≡ tx.old.conn.ghost_name }
+    ensures makes { HasCleanDisk (state S.Store tx.new.conn.now) → IfOk result (λ row. Makes desk_layout (finds_return number returned.now row) (state S.Store tx.old.conn.now) (state S.Store tx.new.conn.now)) }
+    ensures keeps { HasCleanDisk (state S.Store tx.new.conn.now) → KeepsCommit (state S.Store tx.old.conn.now) (state S.Store tx.new.conn.now) }
+    ensures survives { Survives (state S.Store tx.old.conn.now) (state S.Store tx.new.conn.now) (λ _. ⊥) }
+{
+    let found = order_under(tx, &returned.company, &returned.row.reference)?;
+    if found.settled.is_none() {
+        return Err(Error::InvalidQuery);
+    }
+    let row = row_of(number, found.order, returned)?;
+    Ok(row)
+}
+
+// The rows of sixteen returns, of which the first has this number.
+fn rows_under<S: Alter>(
+    tx: &mut Transaction<'_, S>,
+    first: u64,
+    returned: &[ReturnedRow],
+) -> Result<[ReturnRow; 16], Error>
+    requires many { length returned.now ≡ 16 }
+    requires numbers { first + 16 < 2 ^ 64 }
+    ensures same_reference { tx.new.conn.ghost_name ≡ tx.old.conn.ghost_name }
+    ensures makes { HasCleanDisk (state S.Store tx.new.conn.now) → IfOk result (λ rows. Makes desk_layout (finds_returns first returned.now rows) (state S.Store tx.old.conn.now) (state S.Store tx.new.conn.now)) }
+    ensures keeps { HasCleanDisk (state S.Store tx.new.conn.now) → KeepsCommit (state S.Store tx.old.conn.now) (state S.Store tx.new.conn.now) }
+    ensures survives { Survives (state S.Store tx.old.conn.now) (state S.Store tx.new.conn.now) (λ _. ⊥) }
+{
+    let mut held = [row_of(first, 0, &returned[0])?; 16];
+    for at in 0..16 {
+        held[at] = row_under(tx, first + at as u64, &returned[at])?;
+    }
+    Ok(held)
+}
+
+// The values of a row.
+fn values_of<'a>(row: &'a ReturnRow) -> [ValueRef<'a>; 8]
+    ensures { bound result ≡ stored_return row.now }
+{
+    [
+        number(row.number),
+        characters(row.returned.company.bytes()),
+        number(row.order),
+        number(row.index),
+        characters(&row.code),
+        date(row.returned.row.day),
+        switch(row.returned.row.late),
+        characters(&row.returned.row.info),
+    ]
+}
+
+// The values of each of sixteen rows.
+fn values_of_all<'a>(rows: &'a [ReturnRow; 16]) -> [[ValueRef<'a>; 8]; 16]
+    ensures { map bound result ≡ map stored_return rows.now }
+{
+    let mut values = [[ValueRef::Null; 8]; 16];
+    for at in 0..16 {
+        values[at] = values_of(&rows[at]);
+    }
+    values
+}

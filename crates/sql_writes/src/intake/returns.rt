@@ -1,0 +1,30 @@
+//! The returns of an incoming file are written.
+ghost use Rattle.std.specs.Prelude.{◌≡◌, OnOk};
+ghost use Rattle.sqlite.specs.Held.{state};
+ghost use Rattle.sqlite.specs.State.{HasCleanDisk, Survives, KeepsCommit};
+ghost use Rattle.sql_statements.specs.Transactions.{Makes};
+ghost use Rattle.sql_tables.specs.Layout.{desk_layout};
+ghost use Rattle.sql_tables.specs.TableEdits.{put_return_edit, each_edit_on, next_number};
+
+use crate::batches::run_batches;
+use crate::intake::return_rows::ReturnRows;
+use crate::numbering::{NumberedTable, next_after};
+use desk_book::ReturnedRow;
+use sqlite::{Alter, Error, Transaction};
+
+/// Writes the returns of a file, numbered on from the last of the table. A return that names no
+/// submission of its company, or one that does not settle, is refused with `Error::InvalidQuery`, and
+/// one of an entry that was returned before by the key of the table.
+pub(crate) fn put_returns<S: Alter>(
+    tx: &mut Transaction<'_, S>,
+    returned: &[ReturnedRow],
+) -> Result<(), Error>
+    ensures same_reference { tx.new.conn.ghost_name ≡ tx.old.conn.ghost_name }
+    ensures makes { HasCleanDisk (state S.Store tx.new.conn.now) → OnOk result (Makes desk_layout (each_edit_on (λ t. next_number (λ r. r.number) t.returns) put_return_edit returned.now) (state S.Store tx.old.conn.now) (state S.Store tx.new.conn.now)) }
+    ensures keeps { HasCleanDisk (state S.Store tx.new.conn.now) → KeepsCommit (state S.Store tx.old.conn.now) (state S.Store tx.new.conn.now) }
+    ensures survives { Survives (state S.Store tx.old.conn.now) (state S.Store tx.new.conn.now) (λ _. ⊥) }
+{
+    let first = next_after(tx, NumberedTable::Returns)?;
+    run_batches(tx, &ReturnRows, first, returned)?;
+    Ok(())
+}

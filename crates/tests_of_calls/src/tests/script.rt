@@ -1,0 +1,160 @@
+//! Scripts of calls, each with the answer that it must have, and how they are run.
+use super::answers::words_of;
+use super::calls::call_of;
+use super::old_cut::put_old_cut;
+use ach_fields::Routing;
+use desk_core::{Desk, FaultyStore, Identity, ListStore, PartyName, Store};
+use remembering_store::Remembering;
+use sql_store::SqlStore;
+use sqlite::MemStore;
+use std::alloc::Global;
+use std::process::Abort;
+
+/// This is the digest of the operator's key.
+pub(super) const OPERATOR_DIGEST: [u8; 32] = [7; 32];
+
+// Lines of most scripts, with their answers.
+pub(super) const MILL: (&str, &str) = (
+    "desk company MILL01 9999999999 999999999999999 999999999999999",
+    "MILL01",
+);
+
+pub(super) const BAKE: (&str, &str) = (
+    "desk company BAKE01 9999999999 999999999999999 999999999999999",
+    "BAKE01",
+);
+
+pub(super) const HOLIDAYS: (&str, &str) = ("desk holidays 2025-01-20", "holidays 1");
+
+pub(super) const DAY: (&str, &str) = ("desk day 2025-01-08", "2025-01-08");
+
+pub(super) const PAY_1: (&str, &str) = (
+    "MILL01 submit PAY-1 credit 2025-01-10 091000019 150000",
+    "PAY-1 order 1 entries 1 cents 150000",
+);
+
+pub(super) const PAY_2: (&str, &str) = (
+    "MILL01 submit PAY-2 debit 2025-01-10 091000019 2500",
+    "PAY-2 order 1 entries 1 cents 2500",
+);
+
+/// A script makes fewer calls of the store.
+pub(super) const MOST_CALLS: u64 = 1_000;
+
+fn name(rt: &impl Abort, text: &[u8]) -> PartyName {
+    PartyName::new(text).ok().expect(rt, "a name")
+}
+
+fn routing(rt: &impl Abort, text: &[u8]) -> Routing {
+    Routing::parse(text).ok().expect(rt, "a routing number")
+}
+
+fn identity(rt: &impl Abort) -> Identity {
+    Identity {
+        odfi: routing(rt, b"121042882"),
+        odfi_name: name(rt, b"OUR BANK"),
+        destination: routing(rt, b"061000146"),
+        destination_name: name(rt, b"ACH OPERATOR"),
+    }
+}
+
+/// Makes a new store of the sample bank, in lists.
+pub(super) fn new_lists(rt: &(impl Abort + Alloc<A = Global>)) -> ListStore {
+    ListStore::new(rt.alloc(), identity(rt), OPERATOR_DIGEST)
+}
+
+/// Makes the same store in tables.
+pub(super) fn new_tables(rt: &(impl Abort + Alloc<A = Global>)) -> SqlStore<MemStore> {
+    SqlStore::in_memory(rt.alloc(), identity(rt), OPERATOR_DIGEST)
+        .ok()
+        .expect(rt, "tables")
+}
+
+/// Each call of a script is answered as beside it. What the store could not act on is asked once more:
+/// was that so?
+pub(super) fn follow<S: Store>(
+    rt: &(impl Abort + Alloc<A = Global>),
+    desk: &mut Desk<S>,
+    script: &[(&str, &str)],
+) -> bool {
+    let mut asked_again = false;
+    for (line, wanted) in script {
+        let mut given = desk.apply(rt.alloc(), call_of(rt, line));
+        if given.is_err() {
+            asked_again = true;
+            given = desk.apply(rt.alloc(), call_of(rt, line));
+        }
+        let answer = given.ok().expect(rt, "an answer");
+        let words = words_of(rt, &answer);
+        assert!(rt; words.as_str() == *wanted, "{line}");
+    }
+    asked_again
+}
+
+// The store, which has sent entries with these sequences; as it is where there are none.
+fn after<S: Store>(rt: &(impl Abort + Alloc<A = Global>), store: S, sequences: &[u32]) -> S {
+    let mut store = store;
+    if !sequences.is_empty() {
+        put_old_cut(rt, &mut store, sequences);
+    }
+    store
+}
+
+// Runs a script over a store that refuses nothing.
+fn follow_once<S: Store + Drop>(
+    rt: &(impl Abort + Alloc<A = Global>),
+    store: S,
+    script: &[(&str, &str)],
+) {
+    assert!(rt; !follow(rt, &mut Desk::new(store), script));
+}
+
+// A store that remembers.
+fn remembering<S: Store>(rt: &(impl Abort + Alloc<A = Global>), store: S) -> Remembering<S> {
+    Remembering::new(rt.alloc(), store)
+}
+
+/// Runs a script over tables and over lists, over the same where they remember, and with each call of
+/// the store refused in turn, until none is; the store has sent entries with these sequences before.
+pub(super) fn holds_after(
+    rt: &(impl Abort + Alloc<A = Global>),
+    sequences: &[u32],
+    script: &[(&str, &str)],
+) {
+    follow_once(rt, after(rt, new_tables(rt), sequences), script);
+    follow_once(rt, after(rt, new_lists(rt), sequences), script);
+    follow_once(
+        rt,
+        remembering(rt, after(rt, new_tables(rt), sequences)),
+        script,
+    );
+    follow_once(
+        rt,
+        remembering(rt, after(rt, new_lists(rt), sequences)),
+        script,
+    );
+    for call in 1..MOST_CALLS {
+        let store = FaultyStore::new(after(rt, new_lists(rt), sequences), call);
+        if !follow(rt, &mut Desk::new(store), script) {
+            return;
+        }
+    }
+    assert!(rt; false, "the script makes more calls of the store");
+}
+
+/// Runs a script over a store that remembers, with each call of the one that it stands around refused
+/// in turn, until none is.
+pub(super) fn holds_remembering(rt: &(impl Abort + Alloc<A = Global>), script: &[(&str, &str)]) {
+    for call in 1..MOST_CALLS {
+        let store = remembering(rt, FaultyStore::new(new_lists(rt), call));
+        if !follow(rt, &mut Desk::new(store), script) {
+            return;
+        }
+    }
+    assert!(rt; false, "the script makes more calls of the store");
+}
+
+/// Does the same over the store of a new desk.
+pub(super) fn holds(rt: &(impl Abort + Alloc<A = Global>), script: &[(&str, &str)]) {
+    holds_after(rt, &[], script);
+}

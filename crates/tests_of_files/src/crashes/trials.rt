@@ -1,0 +1,234 @@
+//! What is tried: a session, a new desk and a migration, each from the files that it begins with; and what
+//! has to be found in files where it was cut off.
+use super::exchanges::{add, add_answers, add_requests, add_second_answers};
+use super::images::Image;
+use super::limits::Both;
+use super::scripts::{DAYS, Exchange, Script};
+use super::tasks::Task;
+use super::visits::{Visited, free_visit, visit};
+use sql_setup::OpenFault;
+use std::alloc::Global;
+use std::process::Abort;
+
+// Version 1 has neither table.
+const TO_FIRST_VERSION: &str =
+    "DROP TABLE authorizations; DROP TABLE numbers; UPDATE desk SET version = 1 WHERE id = 1";
+
+/// What is tried.
+#[derive(Clone, Copy)]
+pub(super) enum Kind {
+    /// A desk answers the messages.
+    Session,
+    /// A desk is made.
+    NewDesk,
+    /// A desk of version 1, after all messages, becomes one of version 2.
+    Migration,
+}
+
+/// What is tried, and on which files.
+#[derive(Drop)]
+pub(super) struct Trial {
+    pub kind: Kind,
+    pub script: Script,
+    /// The files before.
+    pub image: Image,
+    /// The tables of a desk after each number of messages.
+    pub tables: Vec<Vec<u8>>,
+}
+
+// What the tasks tell, all of which are done.
+fn output_of(rt: &(impl Abort + Alloc<A = Global>), image: &Image, tasks: &[Task<'_>]) -> Vec<u8> {
+    let seen = free_visit(rt, image, tasks);
+    assert!(rt; seen.fault.is_none());
+    seen.told
+}
+
+// The files that the tasks leave, all of which are done.
+fn image_after(rt: &(impl Abort + Alloc<A = Global>), image: &Image, tasks: &[Task<'_>]) -> Image {
+    let seen = free_visit(rt, image, tasks);
+    assert!(rt; seen.is_closed);
+    seen.written
+}
+
+fn add_tables(rt: &(impl Abort + Alloc<A = Global>), all: &mut Vec<Vec<u8>>, image: &Image) {
+    let tables = output_of(rt, image, &[Task::Read]);
+    all.push(tables).ok().expect(rt, "memory");
+}
+
+/// The bytes of the messages.
+pub(super) fn requests(rt: &(impl Abort + Alloc<A = Global>), messages: &[Exchange]) -> Vec<u8> {
+    let mut out = Vec::new(rt.alloc());
+    add_requests(rt, &mut out, messages);
+    out
+}
+
+// The tables of the desk in the files, and after each message.
+fn course_of(
+    rt: &(impl Abort + Alloc<A = Global>),
+    image: &Image,
+    messages: &[Exchange],
+) -> Vec<Vec<u8>> {
+    let mut all = Vec::new(rt.alloc());
+    let mut image = image.copy(rt);
+    add_tables(rt, &mut all, &image);
+    for message in messages {
+        let input = requests(rt, &[*message]);
+        image = image_after(rt, &image, &[Task::Answer(&input)]);
+        add_tables(rt, &mut all, &image);
+    }
+    all
+}
+
+/// A new desk answers the messages.
+pub(super) fn session_of(rt: &(impl Abort + Alloc<A = Global>), script: Script) -> Trial {
+    let image = image_after(rt, &Image::empty(rt), &[Task::Make]);
+    let tables = course_of(rt, &image, script.messages);
+    Trial {
+        kind: Kind::Session,
+        script,
+        image,
+        tables,
+    }
+}
+
+/// A desk is made where there is none.
+pub(super) fn new_desk(rt: &(impl Abort + Alloc<A = Global>)) -> Trial {
+    let mut trial = session_of(
+        rt,
+        Script {
+            messages: &[],
+            accepted: &[],
+            changes: 0,
+        },
+    );
+    trial.kind = Kind::NewDesk;
+    trial.image = Image::empty(rt);
+    trial
+}
+
+/// A desk of version 1 is migrated.
+pub(super) fn migration(rt: &(impl Abort + Alloc<A = Global>)) -> Trial {
+    let mut trial = session_of(rt, DAYS);
+    let input = requests(rt, trial.script.messages);
+    let tasks = [Task::Answer(&input), Task::Run(TO_FIRST_VERSION)];
+    trial.kind = Kind::Migration;
+    trial.image = image_after(rt, &trial.image, &tasks);
+    let told = free_visit(rt, &trial.image, &[Task::Check]).fault;
+    assert!(rt; told == Some(OpenFault::WrongVersion(1)));
+    trial
+}
+
+/// What is tried is done on files of which some calls fail.
+pub(super) fn attempt(
+    rt: &(impl Abort + Alloc<A = Global>),
+    trial: &Trial,
+    limits: Both,
+) -> Visited {
+    match trial.kind {
+        Kind::Session => {
+            let input = requests(rt, trial.script.messages);
+            visit(rt, &trial.image, limits, &[Task::Answer(&input)])
+        }
+        Kind::NewDesk => visit(rt, &trial.image, limits, &[Task::Make]),
+        Kind::Migration => visit(rt, &trial.image, limits, &[Task::Migrate]),
+    }
+}
+
+fn tables_at(trial: &Trial, count: usize) -> &[u8] {
+    match trial.tables.get(count) {
+        Some(tables) => tables,
+        None => &[],
+    }
+}
+
+// What a desk has to tell that did so many of the messages, of which so many were answered: its tables, the
+// answers to the other messages and once more to all that was accepted, and the tables after that.
+fn expected_output(
+    rt: &(impl Abort + Alloc<A = Global>),
+    trial: &Trial,
+    answered: usize,
+    done: usize,
+) -> Vec<u8> {
+    let messages = trial.script.messages;
+    let mut out = Vec::new(rt.alloc());
+    add(rt, &mut out, tables_at(trial, done));
+    add_second_answers(rt, &mut out, messages.get(answered..done).unwrap_or(&[]));
+    add_answers(rt, &mut out, messages.get(done..).unwrap_or(&[]));
+    add_answers(rt, &mut out, trial.script.accepted);
+    add(rt, &mut out, tables_at(trial, messages.len()));
+    out
+}
+
+// What a desk tells that gets the messages that were not answered, and then once more all that was accepted.
+fn output_after(
+    rt: &(impl Abort + Alloc<A = Global>),
+    trial: &Trial,
+    image: &Image,
+    answered: usize,
+) -> Vec<u8> {
+    let mut input = requests(rt, trial.script.messages.get(answered..).unwrap_or(&[]));
+    add_requests(rt, &mut input, trial.script.accepted);
+    output_of(rt, image, &[Task::Read, Task::Answer(&input), Task::Read])
+}
+
+/// The files have the tables after the messages that were answered, or after one more. From there on the
+/// desk answers the messages that are left, and then once more, as the first time, all that it accepted.
+/// Its tables are then those of a run in which nothing failed.
+///
+/// Was one message more done than answered?
+pub(super) fn goes_on(
+    rt: &(impl Abort + Alloc<A = Global>),
+    trial: &Trial,
+    image: &Image,
+    answered: usize,
+) -> bool {
+    let found = output_after(rt, trial, image, answered);
+    let is_ahead = found != expected_output(rt, trial, answered, answered);
+    let next = answered.saturating_add(1);
+    assert!(rt;
+        !is_ahead || found == expected_output(rt, trial, answered, next),
+        "{answered}"
+    );
+    is_ahead
+}
+
+// The one visit found the tables of a new desk, and the other this fault.
+fn is_new_desk(trial: &Trial, one: &Visited, other: &Visited, fault: OpenFault) -> bool {
+    one.fault.is_none() && one.told.as_slice() == tables_at(trial, 0) && other.fault == Some(fault)
+}
+
+// Is there a desk in the files? It has the tables of a new one; and so has one that is made there where
+// there is none.
+fn has_desk(rt: &(impl Abort + Alloc<A = Global>), trial: &Trial, image: &Image) -> bool {
+    let found = free_visit(rt, image, &[Task::Check, Task::Read]);
+    let made = free_visit(rt, image, &[Task::Make, Task::Read]);
+    let is_there = is_new_desk(trial, &found, &made, OpenFault::Exists);
+    assert!(rt; is_there || is_new_desk(trial, &made, &found, OpenFault::NotADesk));
+    is_there
+}
+
+// The files have version 1 whole, and are migrated now, or version 2 whole. The desk then goes on. Was it
+// version 2?
+fn is_second(rt: &(impl Abort + Alloc<A = Global>), trial: &Trial, image: &Image) -> bool {
+    let first = free_visit(rt, image, &[Task::Migrate]);
+    let again = free_visit(rt, &first.written, &[Task::Migrate]).fault;
+    assert!(rt; again == Some(OpenFault::WrongVersion(2)));
+    assert!(rt; first.fault.is_none() || first.fault == again);
+    assert!(rt; !goes_on(rt, trial, &first.written, trial.script.messages.len()));
+    first.fault.is_some()
+}
+
+/// The files are as they have to be after so many messages were answered, or a call failed. Was more done
+/// than answered?
+pub(super) fn is_ahead(
+    rt: &(impl Abort + Alloc<A = Global>),
+    trial: &Trial,
+    image: &Image,
+    answered: usize,
+) -> bool {
+    match trial.kind {
+        Kind::Session => goes_on(rt, trial, image, answered),
+        Kind::NewDesk => has_desk(rt, trial, image),
+        Kind::Migration => is_second(rt, trial, image),
+    }
+}

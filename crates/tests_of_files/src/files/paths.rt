@@ -1,0 +1,177 @@
+//! Desks in files of the system.
+use super::bank::{OPERATOR_DIGEST, identity};
+use super::commands::{ACCEPTED, COMMANDS, give, is_done};
+use crate::tables::add_tables;
+use desk_core::Desk;
+use sql_files::{FileStore, OpenFault, Wary, create, migrate_file, open};
+use sql_store::SqlStore;
+use sqlite::{Alter, Connection, Error};
+use sqlite_disk::Disk;
+use std::alloc::Global;
+use std::fs;
+use std::process::Abort;
+use std::test::Fail;
+
+/// What is done with the file at a path.
+#[derive(Clone, Copy)]
+pub(crate) enum Way {
+    Create,
+    Migrate,
+    Open,
+}
+
+// The first of these speak of any store or disk, since the type of a connection to files is so long that
+// each function which passes one on or drops it takes the prover half a minute. None has a clause, so that
+// the proof of a test does not carry the state of each call.
+
+fn change<P: Alter + Drop>(
+    rt: &impl Abort,
+    opened: Option<Connection<P>>,
+    sql: &str,
+) -> Result<Connection<P>, Error> {
+    let mut conn = opened.expect(rt, "a database");
+    conn.execute_batch(sql)?;
+    Ok(conn)
+}
+
+fn fault<D: Disk + Drop>(opened: Result<Connection<FileStore<D>>, OpenFault>) -> Option<OpenFault> {
+    opened.err()
+}
+
+fn close<D: Disk + Drop>(conn: Connection<FileStore<D>>) -> Result<(), Error> {
+    conn.close()
+}
+
+// Gives the commands from this number on, and once more what is accepted again. The rows of all tables are
+// then these. The files are left as a program leaves them that ends at once.
+fn go_on<P: Alter + Drop>(
+    rt: &(impl Abort + Alloc<A = Global>),
+    opened: Option<Connection<P>>,
+    from: usize,
+) -> Result<Vec<u8>, Fail> {
+    let conn = opened.expect(rt, "a desk");
+    let store = SqlStore::adopt(rt.alloc(), conn).ok().expect(rt, "a desk");
+    let mut desk = Desk::new(store);
+    assert!(rt; give(rt, &mut desk, from) == COMMANDS);
+    for number in &ACCEPTED {
+        assert!(rt; is_done(rt, &mut desk, *number));
+    }
+    let mut rows = Vec::new(rt.alloc());
+    add_tables(&mut desk.into_store().into_connection(), &mut rows)?;
+    Ok(rows)
+}
+
+/// Makes a desk in the file, and gives it the commands of some days. Its rows are then these.
+pub(super) fn go_on_with_new(
+    host: &HostRuntime,
+    rt: &(impl Abort + Alloc<A = Global>),
+    path: &str,
+) -> Result<Vec<u8>, Fail> {
+    let opened = create(host, path, Wary, identity(rt), OPERATOR_DIGEST);
+    go_on(rt, opened.ok(), 0)
+}
+
+fn go_on_with_found(
+    host: &HostRuntime,
+    rt: &(impl Abort + Alloc<A = Global>),
+    path: &str,
+) -> Result<Vec<u8>, Fail> {
+    go_on(rt, open(host, path, Wary).ok(), COMMANDS)
+}
+
+/// Opens a desk, runs these statements, and closes it: then the file has all that its log had.
+pub(super) fn change_desk(
+    host: &HostRuntime,
+    rt: &impl Abort,
+    path: &str,
+    sql: &str,
+) -> Result<(), Error> {
+    close(change(rt, open(host, path, Wary).ok(), sql)?)
+}
+
+fn change_database(
+    host: &HostRuntime,
+    rt: &impl Abort,
+    path: &str,
+    sql: &str,
+) -> Result<(), Error> {
+    close(change(rt, Connection::open(host, path).ok(), sql)?)
+}
+
+/// Tells why a desk is not made, migrated or opened in the file.
+pub(crate) fn fault_of(
+    host: &HostRuntime,
+    rt: &impl Abort,
+    path: &str,
+    way: Way,
+) -> Option<OpenFault> {
+    let opened = match way {
+        Way::Create => create(host, path, Wary, identity(rt), OPERATOR_DIGEST),
+        Way::Migrate => migrate_file(host, path, Wary),
+        Way::Open => open(host, path, Wary),
+    };
+    fault(opened)
+}
+
+// Tells why an open desk is not opened a second time meanwhile.
+fn second_fault(host: &HostRuntime, rt: &impl Abort, path: &str) -> Option<OpenFault> {
+    let _first = open(host, path, Wary);
+    fault_of(host, rt, path, Way::Open)
+}
+
+fn log_of(rt: &HostRuntime, path: &str) -> Result<String, Fail> {
+    Ok(format!(in rt.alloc(); "{path}-wal")?)
+}
+
+/// Removes the file and its log, where they are there.
+pub(super) fn clear(rt: &HostRuntime, path: &str) -> Result<(), Fail> {
+    let _ = fs::remove_file(rt, path);
+    let _ = fs::remove_file(rt, log_of(rt, path)?.as_str());
+    Ok(())
+}
+
+#[test]
+fn a_desk_stays_in_its_file(rt: HostRuntime) -> Result<(), Fail> {
+    let path = "desk_that_stays.db";
+    clear(&rt, path)?;
+    let before = go_on_with_new(&rt, &rt, path)?;
+    assert!(rt; second_fault(&rt, &rt, path) == Some(OpenFault::Unavailable));
+    assert!(rt; fault_of(&rt, &rt, path, Way::Create) == Some(OpenFault::Exists));
+    assert!(rt; go_on_with_found(&rt, &rt, path)? == before);
+    change_desk(&rt, &rt, path, "")?;
+    assert!(rt; go_on_with_found(&rt, &rt, path)? == before);
+    change_desk(&rt, &rt, path, "UPDATE desk SET version = 9")?;
+    assert!(rt; fault_of(&rt, &rt, path, Way::Open) == Some(OpenFault::WrongVersion(9)));
+    assert!(rt; fault_of(&rt, &rt, path, Way::Create) == Some(OpenFault::Exists));
+    clear(&rt, path)
+}
+
+#[test]
+fn what_is_not_there_is_not_made(rt: HostRuntime) -> Result<(), Fail> {
+    let path = "desk_that_is_not_there.db";
+    clear(&rt, path)?;
+    assert!(rt; fault_of(&rt, &rt, path, Way::Open) == Some(OpenFault::NotADesk));
+    assert!(rt; !fs::exists(&rt, path)? && !fs::exists(&rt, log_of(&rt, path)?.as_str())?);
+    fs::write(&rt, path, b"".as_slice())?;
+    assert!(rt; fault_of(&rt, &rt, path, Way::Open) == Some(OpenFault::NotADesk));
+    assert!(rt; fs::metadata(&rt, path)?.len() == 0);
+    assert!(rt; fault_of(&rt, &rt, path, Way::Create).is_none());
+    assert!(rt; fault_of(&rt, &rt, path, Way::Open).is_none());
+    clear(&rt, path)
+}
+
+#[test]
+fn other_files_are_no_desks(rt: HostRuntime) -> Result<(), Fail> {
+    let path = "notes_of_others.db";
+    clear(&rt, path)?;
+    change_database(&rt, &rt, path, "CREATE TABLE notes (id INT)")?;
+    assert!(rt; fault_of(&rt, &rt, path, Way::Open) == Some(OpenFault::NotADesk));
+    assert!(rt; fault_of(&rt, &rt, path, Way::Create) == Some(OpenFault::Unavailable));
+    clear(&rt, path)?;
+    let text = b"routing,account,cents\n091000019,123456789,150000\n".as_slice();
+    fs::write(&rt, path, text)?;
+    assert!(rt; fault_of(&rt, &rt, path, Way::Open) == Some(OpenFault::Unavailable));
+    assert!(rt; fault_of(&rt, &rt, path, Way::Create) == Some(OpenFault::Unavailable));
+    assert!(rt; fs::read(&rt, path)?.as_slice() == text);
+    clear(&rt, path)
+}

@@ -1,0 +1,259 @@
+//! Connections to a desk.
+use super::exchanges::{UNAVAILABLE, follow, http_desk};
+use super::samples::{MILL, new_lists};
+use desk_core::Store;
+use desk_http::HttpDesk;
+use http_session::{CountedListener, ServeFault, serve};
+use std::alloc::Global;
+use std::io;
+use std::io::{Read, Write};
+use std::net::{Net, OpenListener, OpenStream, Shutdown, SocketAddr, TcpListener, TcpStream};
+use std::process::Abort;
+use std::time::Duration;
+
+// So long a client is waited for.
+fn patience() -> Duration {
+    Duration::from_millis(100)
+}
+
+// How a service of so many connections ends.
+fn serve_all<S: Store, L: OpenListener + Drop>(
+    rt: &impl Alloc<A = Global>,
+    desk: &mut HttpDesk<S>,
+    listener: L,
+    connections: u64,
+) -> Result<(), ServeFault>
+where
+    L::Stream: Read + Write + OpenStream,
+{
+    let mut listener = CountedListener::new(listener);
+    serve(rt.alloc(), desk, &mut listener, connections, patience())
+}
+
+const ASKED: &[u8] =
+    b"GET /c/MILL01/exposure HTTP/1.1\r\nX-Desk-Key: mill-street-key\r\nConnection: close\r\n\r\n";
+
+const NO_DAY: &[u8] =
+    b"HTTP/1.1 409 Conflict\r\nContent-Type: application/json\r\nContent-Length: 28\r\nConnection: close\r\n\r\n{\"error\":\"NoDay\",\"number\":1}";
+
+#[test]
+fn a_connection_is_answered(rt: HostRuntime) {
+    let mut desk = http_desk(&rt, new_lists(&rt));
+    follow(&rt, &mut desk, &[MILL]);
+    let listener = TcpListener::bind(&rt, "127.0.0.1:0")
+        .ok()
+        .expect(&rt, "a port");
+    let address = listener.local_addr().ok().expect(&rt, "an address");
+    let mut client = TcpStream::connect(&rt, address)
+        .ok()
+        .expect(&rt, "a connection");
+    client.write_all(ASKED).ok().expect(&rt, "a message sent");
+    assert!(rt; serve_all(&rt, &mut desk, listener, 1) == Ok(()));
+    let mut out = Vec::new(rt.alloc());
+    client.read_to_end(&mut out).ok().expect(&rt, "an answer");
+    assert!(rt; out.as_slice() == NO_DAY);
+}
+
+#[test]
+fn a_client_that_goes_away_ends_its_own_connection(rt: HostRuntime) {
+    let mut desk = http_desk(&rt, new_lists(&rt));
+    follow(&rt, &mut desk, &[MILL]);
+    let listener = TcpListener::bind(&rt, "127.0.0.1:0")
+        .ok()
+        .expect(&rt, "a port");
+    let address = listener.local_addr().ok().expect(&rt, "an address");
+    let mut first = TcpStream::connect(&rt, address)
+        .ok()
+        .expect(&rt, "a connection");
+    first
+        .write_all(&ASKED[..20])
+        .ok()
+        .expect(&rt, "a part of a message sent");
+    drop(first);
+    let mut second = TcpStream::connect(&rt, address)
+        .ok()
+        .expect(&rt, "a connection");
+    second.write_all(ASKED).ok().expect(&rt, "a message sent");
+    assert!(rt; serve_all(&rt, &mut desk, listener, 2) == Ok(()));
+    let mut out = Vec::new(rt.alloc());
+    second.read_to_end(&mut out).ok().expect(&rt, "an answer");
+    assert!(rt; out.as_slice() == NO_DAY);
+}
+
+#[test]
+fn a_silent_client_ends_its_own_connection(rt: HostRuntime) {
+    let mut desk = http_desk(&rt, new_lists(&rt));
+    follow(&rt, &mut desk, &[MILL]);
+    let listener = TcpListener::bind(&rt, "127.0.0.1:0")
+        .ok()
+        .expect(&rt, "a port");
+    let address = listener.local_addr().ok().expect(&rt, "an address");
+    // It stops inside its head, and stays.
+    let mut silent = TcpStream::connect(&rt, address)
+        .ok()
+        .expect(&rt, "a connection");
+    silent
+        .write_all(&ASKED[..20])
+        .ok()
+        .expect(&rt, "a part of a message sent");
+    let mut next = TcpStream::connect(&rt, address)
+        .ok()
+        .expect(&rt, "a connection");
+    next.write_all(ASKED).ok().expect(&rt, "a message sent");
+    assert!(rt; serve_all(&rt, &mut desk, listener, 2) == Ok(()));
+    let mut out = Vec::new(rt.alloc());
+    next.read_to_end(&mut out).ok().expect(&rt, "an answer");
+    assert!(rt; out.as_slice() == NO_DAY);
+    out.clear();
+    silent.read_to_end(&mut out).ok().expect(&rt, "the end");
+    assert!(rt; out.is_empty());
+}
+
+// A POST without a length, and what its client sends before it reads.
+const UNREAD: &[u8] = b"POST /ops/returns HTTP/1.1\r\n\r\n";
+
+const LENGTH_REQUIRED: &[u8] =
+    b"HTTP/1.1 411 Length Required\r\nContent-Type: application/json\r\nContent-Length: 26\r\nConnection: close\r\n\r\n{\"error\":\"LengthRequired\"}";
+
+#[test]
+fn a_client_that_sends_before_it_reads_gets_its_answer(rt: HostRuntime) {
+    let mut desk = http_desk(&rt, new_lists(&rt));
+    let listener = TcpListener::bind(&rt, "127.0.0.1:0")
+        .ok()
+        .expect(&rt, "a port");
+    let address = listener.local_addr().ok().expect(&rt, "an address");
+    let mut client = TcpStream::connect(&rt, address)
+        .ok()
+        .expect(&rt, "a connection");
+    client.write_all(UNREAD).ok().expect(&rt, "a head sent");
+    let piece = [b'9'; 1_000];
+    for _ in 0..100 {
+        client.write_all(&piece).ok().expect(&rt, "a piece sent");
+    }
+    client
+        .shutdown(Shutdown::Write)
+        .ok()
+        .expect(&rt, "the end sent");
+    assert!(rt; serve_all(&rt, &mut desk, listener, 1) == Ok(()));
+    let mut out = Vec::new(rt.alloc());
+    client.read_to_end(&mut out).ok().expect(&rt, "an answer");
+    assert!(rt; out.as_slice() == LENGTH_REQUIRED);
+}
+
+// A connection that can do less: its waiting is bounded or not, and it has no second handle.
+#[derive(Drop)]
+struct Bare {
+    stream: TcpStream,
+    waits_at_most: bool,
+}
+
+impl Read for Bare {
+    fn read(&mut self, buf: &mut [u8]) -> io::Result<usize> {
+        self.stream.read(buf)
+    }
+}
+
+impl Write for Bare {
+    fn write(&mut self, buf: &[u8]) -> io::Result<usize> {
+        self.stream.write(buf)
+    }
+
+    fn flush(&mut self) -> io::Result<()> {
+        self.stream.flush()
+    }
+}
+
+impl OpenStream for Bare {
+    fn shutdown(&self, how: Shutdown) -> io::Result<()> {
+        self.stream.shutdown(how)
+    }
+
+    fn set_read_timeout(&self, dur: Option<Duration>) -> io::Result<()> {
+        self.stream.set_read_timeout(dur)
+    }
+
+    fn set_write_timeout(&self, dur: Option<Duration>) -> io::Result<()> {
+        if !self.waits_at_most {
+            return Err(io::Error::from(io::ErrorKind::Unsupported));
+        }
+        self.stream.set_write_timeout(dur)
+    }
+}
+
+// Its connections are bare.
+#[derive(Drop)]
+struct BareListener {
+    listener: TcpListener,
+    waits_at_most: bool,
+}
+
+impl OpenListener for BareListener {
+    type Stream = Bare;
+
+    fn accept(&self) -> io::Result<(Bare, SocketAddr)> {
+        let (stream, address) = self.listener.accept()?;
+        let waits_at_most = self.waits_at_most;
+        Ok((
+            Bare {
+                stream,
+                waits_at_most,
+            },
+            address,
+        ))
+    }
+}
+
+// What a client gets that sends a message over a bare connection, which is counted.
+fn answer_over(
+    rt: &(impl Abort + Alloc<A = Global> + Net<Listener = TcpListener, Stream = TcpStream>),
+    waits_at_most: bool,
+) -> Vec<u8> {
+    let mut desk = http_desk(rt, new_lists(rt));
+    let listener = TcpListener::bind(rt, "127.0.0.1:0")
+        .ok()
+        .expect(rt, "a port");
+    let address = listener.local_addr().ok().expect(rt, "an address");
+    let mut client = TcpStream::connect(rt, address)
+        .ok()
+        .expect(rt, "a connection");
+    client
+        .shutdown(Shutdown::Write)
+        .ok()
+        .expect(rt, "the end sent");
+    let listener = BareListener {
+        listener,
+        waits_at_most,
+    };
+    assert!(rt; serve_all(rt, &mut desk, listener, 1) == Ok(()));
+    let mut out = Vec::new(rt.alloc());
+    client.read_to_end(&mut out).ok().expect(rt, "an answer");
+    out
+}
+
+#[test]
+fn a_connection_of_one_handle_is_told_that_nothing_can_be_answered(rt: HostRuntime) {
+    assert!(rt; answer_over(&rt, true).as_slice() == UNAVAILABLE);
+}
+
+#[test]
+fn a_connection_that_would_wait_for_ever_is_closed(rt: HostRuntime) {
+    assert!(rt; answer_over(&rt, false).is_empty());
+}
+
+#[test]
+fn what_cannot_be_accepted_ends_the_service(rt: HostRuntime) {
+    let mut desk = http_desk(&rt, new_lists(&rt));
+    let listener = TcpListener::bind(&rt, "127.0.0.1:0")
+        .ok()
+        .expect(&rt, "a port");
+    let address = listener.local_addr().ok().expect(&rt, "an address");
+    listener
+        .set_nonblocking(true)
+        .ok()
+        .expect(&rt, "a listener that waits for none");
+    let client = TcpStream::connect(&rt, address)
+        .ok()
+        .expect(&rt, "a connection");
+    drop(client);
+    assert!(rt; serve_all(&rt, &mut desk, listener, 2) == Err(ServeFault::Accept(1)));
+}

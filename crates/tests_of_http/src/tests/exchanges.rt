@@ -1,0 +1,117 @@
+//! Messages and answers as bytes, and sessions over them.
+use super::samples::{Exchange, new_lists, new_tables};
+use desk_core::{Desk, Store};
+use desk_http::HttpDesk;
+use http_routes::Routes;
+use http_session::{Ended, Tries, session};
+use itoa::Buffer;
+use std::alloc::Global;
+use std::process::Abort;
+
+pub(super) const UNAVAILABLE: &[u8] =
+    b"HTTP/1.1 503 Service Unavailable\r\nContent-Type: application/json\r\nContent-Length: 23\r\nConnection: close\r\n\r\n{\"error\":\"Unavailable\"}";
+
+// The word with this number; empty where there are fewer.
+fn word(line: &str, number: usize) -> &str {
+    line.split(' ').nth(number).unwrap_or("")
+}
+
+fn key_of(caller: &str) -> &str {
+    match caller {
+        "desk" => "operator-key",
+        "MILL01" => "mill-street-key",
+        "BAKE01" => "bakery-key",
+        other => other,
+    }
+}
+
+fn add(rt: &impl Abort, out: &mut Vec<u8>, text: &str) {
+    out.extend_from_slice(text.as_bytes())
+        .ok()
+        .expect(rt, "memory");
+}
+
+/// Appends the message: `CALLER METHOD PATH`, and its body.
+pub(super) fn add_request(rt: &impl Abort, out: &mut Vec<u8>, asks: &str, body: &str) {
+    let mut digits = Buffer::new();
+    add(rt, out, word(asks, 1));
+    add(rt, out, " ");
+    add(rt, out, word(asks, 2));
+    add(rt, out, " HTTP/1.1\r\nX-Desk-Key: ");
+    add(rt, out, key_of(word(asks, 0)));
+    add(rt, out, "\r\nContent-Length: ");
+    add(rt, out, digits.format(body.len()));
+    add(rt, out, "\r\n\r\n");
+    add(rt, out, body);
+}
+
+/// Appends the answer to it.
+pub(super) fn add_response(
+    rt: &impl Abort,
+    out: &mut Vec<u8>,
+    asks: &str,
+    status: &str,
+    body: &str,
+) {
+    let mut digits = Buffer::new();
+    let is_file = asks.contains("/ops/files/") && status == "200 OK";
+    add(rt, out, "HTTP/1.1 ");
+    add(rt, out, status);
+    add(rt, out, "\r\nContent-Type: ");
+    add(
+        rt,
+        out,
+        if is_file {
+            "text/plain"
+        } else {
+            "application/json"
+        },
+    );
+    add(rt, out, "\r\nContent-Length: ");
+    add(rt, out, digits.format(body.len()));
+    add(rt, out, "\r\nConnection: keep-alive\r\n\r\n");
+    add(rt, out, body);
+}
+
+/// A desk over the store that answers messages.
+pub(super) fn http_desk<S>(rt: &(impl Abort + Alloc<A = Global>), store: S) -> HttpDesk<S> {
+    let routes = Routes::new(rt.alloc()).ok().expect(rt, "memory");
+    HttpDesk::new(Desk::new(store), routes)
+}
+
+/// The bytes that a session writes which has these bytes to read.
+pub(super) fn run<S: Store>(
+    rt: &(impl Abort + Alloc<A = Global>),
+    desk: &mut HttpDesk<S>,
+    input: &[u8],
+) -> Vec<u8> {
+    let mut reader = input;
+    let mut out = Vec::new(rt.alloc());
+    let ended = session(rt.alloc(), desk, &mut reader, &mut out, &mut Tries::new());
+    assert!(rt; ended == Ok(Ended::Closed));
+    out
+}
+
+/// Sends the messages in one session, and looks whether each is answered as beside it.
+pub(super) fn follow<S: Store>(
+    rt: &(impl Abort + Alloc<A = Global>),
+    desk: &mut HttpDesk<S>,
+    script: &[Exchange],
+) {
+    let mut input = Vec::new(rt.alloc());
+    let mut wanted = Vec::new(rt.alloc());
+    for (asks, body, status, answer) in script {
+        add_request(rt, &mut input, asks, body);
+        add_response(rt, &mut wanted, asks, status, answer);
+    }
+    let out = run(rt, desk, &input);
+    assert!(rt; out.as_slice() == wanted.as_slice());
+}
+
+/// Does so over lists and over tables, each the store of a new desk of the sample bank.
+pub(super) fn holds(rt: &(impl Abort + Alloc<A = Global>), script: &[Exchange]) {
+    let mut over_lists = http_desk(rt, new_lists(rt));
+    follow(rt, &mut over_lists, script);
+    let mut over_tables = http_desk(rt, new_tables(rt));
+    follow(rt, &mut over_tables, script);
+}
