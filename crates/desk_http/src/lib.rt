@@ -3,8 +3,8 @@
 //! What a message comes to, which bytes answer it and what a company's bytes are made of is said in
 //! `http_history`. Here the desk does it: it looks at the key, makes the one call of the route, and
 //! prints the answer. Room for the answer to a command is taken before the command, so that what was
-//! written is answered. The public names of a session, of a server and of the JSON of bodies, and the
-//! laws of `http_history` on what a company is answered, are this crate's too.
+//! written is answered. The public names of a session, of a server, of the routes and of the JSON of
+//! bodies, and the laws of `http_history` on what a company is answered, are this crate's too.
 #![tactic(auto)]
 
 mod answers;
@@ -26,4 +26,7 @@ pub use http_json::{
 };
 pub use http_message::Message;
 pub use http_response::UNAVAILABLE;
-pub use http_session::{Ended, ServeFault, SessionFault, Tries, Unavailable, serve, session};
+pub use http_routes::{RouteFault, Routes};
+pub use http_session::{
+    Answers, CountedListener, Ended, ServeFault, SessionFault, Tries, Unavailable, serve, session,
+};
