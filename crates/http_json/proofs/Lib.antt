@@ -1,4 +1,4 @@
+pub mod Acceptances
 pub mod Json
-pub mod Members
 pub mod Objects
 pub mod Plain

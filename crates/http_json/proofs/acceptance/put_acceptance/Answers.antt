@@ -1,5 +1,5 @@
 use Rattle.std.proofs.Common.{◌≡◌, append_assoc}
-use Rattle.http_json.proofs.Members.{acceptance_text}
+use Rattle.http_json.proofs.Acceptances.{acceptance_text}
 use Rattle.http_json.proofs.acceptance.put_acceptance.Goals as goal
 
 pub returns-clause-items : goal.returns-clause-items
