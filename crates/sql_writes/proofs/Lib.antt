@@ -3,8 +3,8 @@
 --   many rows at once         ArrayLoops, ManyEdits, ManyFree, ManyInserts, ManyKeys, ValueRows
 --   days, companies, limits   Companies, Days, Holidays
 --   lines and balances        BalanceLists, BalanceUpserts, JoinedLines, LineSums, PendingSums, PostingInserts
---   cuts                      EntryRuns, EntryUpdates, FileInserts, KeyTests, NumberUpserts, PlacedEntries,
---                             PassingUpdates, RunUpdates, SubmissionUpdates
+--   cuts                      EntryRuns, EntryUpdates, FileInserts, KeyTests, NumberRanges, PassingUpdates,
+--                             PlacedEntries, RangePuts, RunUpdates, SubmissionUpdates
 --   incoming files            ChangeInserts, FoundReturns, NamedSubmissions, ReturnInserts, SuspenseInserts, TakenInserts
 -- Conditions, Keys, LastNumbers, Numbered, NumberedRows, OtherTables and RunLists are lemmas on which several
 -- of these stand.
@@ -31,7 +31,7 @@ mod ManyFree
 mod ManyInserts
 mod ManyKeys
 mod NamedSubmissions
-mod NumberUpserts
+mod NumberRanges
 mod Numbered
 pub mod NumberedRows
 pub mod OtherTables
@@ -39,6 +39,7 @@ mod PassingUpdates
 mod PendingSums
 mod PlacedEntries
 mod PostingInserts
+mod RangePuts
 mod ReturnInserts
 mod RunLists
 mod RunUpdates

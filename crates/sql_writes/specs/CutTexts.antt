@@ -14,8 +14,15 @@ update_entry = codes "UPDATE entries SET seq = ?4 WHERE company = ?1 AND ord = ?
 abbrev pub update_run : List ℕ
 update_run = codes "UPDATE entries SET seq = ?3 + idx WHERE company = ?1 AND ord = ?2 AND idx BETWEEN ?4 AND ?5 AND seq IS NULL"
 
-abbrev pub upsert_number : List ℕ
-upsert_number = codes "INSERT INTO numbers VALUES (?1, ?2) ON CONFLICT (sequence) DO UPDATE SET nth = ?2"
+abbrev pub delete_numbers : List ℕ
+delete_numbers = codes "DELETE FROM numbers WHERE sequence BETWEEN ?1 AND ?2"
+
+abbrev pub insert_number : List ℕ
+insert_number = codes "INSERT INTO numbers VALUES (?1, ?2)"
+
+-- of sixteen entries
+abbrev pub insert_numbers : List ℕ
+insert_numbers = codes "INSERT INTO numbers VALUES (?, ?), (?, ?), (?, ?), (?, ?), (?, ?), (?, ?), (?, ?), (?, ?), (?, ?), (?, ?), (?, ?), (?, ?), (?, ?), (?, ?), (?, ?), (?, ?)"
 
 abbrev pub insert_file : List ℕ
 insert_file = codes "INSERT INTO files VALUES (?1, ?2, ?3)"

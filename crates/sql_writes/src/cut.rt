@@ -5,6 +5,7 @@ mod commit;
 mod entries;
 mod files;
 mod marks;
+mod numbers;
 mod submissions;
 
 pub use commit::CommitCut;

@@ -14,6 +14,6 @@ returns-clause-makes g c clean =
     let entries = c.args.entries.now in
     let old = state g.S.Store c.args.tx.now.conn.now in
     let mid = state g.S.Store c.run_runs.new.tx.conn.now in
-    let new = state g.S.Store c.run_each.new.tx.conn.now in
+    let new = state g.S.Store c.run_runs-2.new.tx.conn.now in
     makes_both desk_layout (each_edit_from mark_entry_edit first entries) (each_edit_from put_number_edit first entries) (each_edit_from place_edit first entries) (entries_placed first entries) old mid new
-    (c.in_ok-run_runs.ensures.makes (omega (arith, c.run_each.ensures.survives.clean, clean))) (c.in_ok-run_each.ensures.makes clean)
+    (c.in_ok-run_runs.ensures.makes (omega (arith, c.run_runs-2.ensures.survives.clean, clean))) (c.in_ok-run_runs-2.ensures.makes clean)

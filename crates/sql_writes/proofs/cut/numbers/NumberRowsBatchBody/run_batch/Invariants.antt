@@ -1,0 +1,12 @@
+use Rattle.std.proofs.Common.{◌≡◌, map, take, length}
+use Rattle.sqlite.specs.Values.{bound}
+use Rattle.sql_tables.specs.RecordRows.{number_row}
+use Rattle.sql_writes.specs.PlaceEdits.{numbers_from}
+use Rattle.sql_writes.proofs.cut.numbers.NumberRowsBatchBody.run_batch.Given as goal
+
+-- those so far are the values of their numbers
+abbrev pub invariant-loop-at : goal.invariant-loop-at
+invariant-loop-at g l = record {
+  long : length l.values ≡ 16;
+  made : map bound (take l.at l.values) ≡ map number_row (numbers_from l.first (take l.at l.entries));
+}

@@ -1,0 +1,131 @@
+//! A cut writes the place of the youngest entry that has each sequence: the numbers of a range of
+//! sequences are taken out by one statement, and the new ones put in, sixteen by one as long as there are
+//! so many.
+ghost use Rattle.std.specs.Prelude.{◌≡◌, ◌≤◌, ◌<◌, ◌+◌, IfOk, OnOk};
+ghost use Rattle.ach_fields.specs.Trace.{most_sequence};
+ghost use Rattle.sqlite.specs.Held.{state};
+ghost use Rattle.sqlite.specs.State.{HasCleanDisk, Survives, KeepsCommit};
+ghost use Rattle.sql_statements.specs.Transactions.{Makes};
+ghost use Rattle.sql_tables.specs.Layout.{desk_layout};
+ghost use Rattle.sql_writes.specs.PlaceEdits.{put_number_edit, follows_in_sequence, clear_numbers_edit, insert_number_edit};
+
+use crate::batches::{BatchBody, run_batches};
+use crate::runs::RunBody;
+use ach_fields::MOST_SEQUENCE;
+use desk_history::SentEntry;
+use sql_queries::natural;
+use sql_statements::{RowBody, execute};
+use sqlite::types::ValueRef;
+use sqlite::{Alter, Error, Transaction};
+
+/// `PutNumbers` gives the sequence of each entry of a list its place. A sequence that is not from 1 to
+/// 9,999,999 is refused with `Error::InvalidQuery`.
+#[derive(Clone, Copy)]
+pub(crate) struct PutNumbers;
+
+impl RunBody for PutNumbers {
+    type Row = SentEntry;
+
+    ghost layout = { desk_layout };
+
+    ghost edit = { λ _ place e. put_number_edit place e };
+
+    ghost stands_after = { λ _ first after e. follows_in_sequence first after e };
+
+    fn follows(&self, first: &SentEntry, after: u64, entry: &SentEntry) -> bool {
+        match u64::from(first.sequence).checked_add(after) {
+            None => false,
+            Some(sequence) => u64::from(entry.sequence) == sequence,
+        }
+    }
+
+    fn run_rows<S: Alter>(
+        &self,
+        tx: &mut Transaction<'_, S>,
+        place: u64,
+        run: &[SentEntry],
+    ) -> Result<(), Error> {
+        let from = u64::from(run[0].sequence);
+        let to = last_sequence(from, run.len())?;
+        clear_numbers(tx, from, to)?;
+        run_batches(tx, &NumberRows, place, run)?;
+        Ok(())
+    }
+}
+
+// The last of so many sequences. `Error::InvalidQuery` says that they are not from 1 to 9,999,999.
+fn last_sequence(from: u64, many: usize) -> Result<u64, Error>
+    requires { 0 < many }
+    ensures last { IfOk result (λ last. last + 1 ≡ from + many) }
+    ensures low { OnOk result (1 ≤ from) }
+    ensures high { IfOk result (λ last. last ≤ most_sequence) }
+{
+    match from.checked_add(many as u64 - 1) {
+        Some(last) if from >= 1 && last <= u64::from(MOST_SEQUENCE) => Ok(last),
+        _ => Err(Error::InvalidQuery),
+    }
+}
+
+// Takes out the numbers of a range of sequences.
+fn clear_numbers<S: Alter>(tx: &mut Transaction<'_, S>, from: u64, to: u64) -> Result<(), Error>
+    ensures same_reference { tx.new.conn.ghost_name ≡ tx.old.conn.ghost_name }
+    ensures makes { HasCleanDisk (state S.Store tx.new.conn.now) → OnOk result (Makes desk_layout (clear_numbers_edit from to) (state S.Store tx.old.conn.now) (state S.Store tx.new.conn.now)) }
+    ensures keeps { HasCleanDisk (state S.Store tx.new.conn.now) → KeepsCommit (state S.Store tx.old.conn.now) (state S.Store tx.new.conn.now) }
+    ensures survives { Survives (state S.Store tx.old.conn.now) (state S.Store tx.new.conn.now) (λ _. ⊥) }
+{
+    let first = natural(from)?;
+    let last = natural(to)?;
+    execute(
+        tx,
+        "DELETE FROM numbers WHERE sequence BETWEEN ?1 AND ?2",
+        &[first, last],
+    )?;
+    Ok(())
+}
+
+// The number of a sequence that has none is written.
+#[derive(Clone, Copy)]
+struct NumberRows;
+
+impl RowBody for NumberRows {
+    type Row = SentEntry;
+
+    ghost layout = { desk_layout };
+
+    ghost edit = { λ _ place e. insert_number_edit place e };
+
+    fn run_row<S: Alter>(
+        &self,
+        tx: &mut Transaction<'_, S>,
+        place: u64,
+        entry: &SentEntry,
+    ) -> Result<(), Error> {
+        let digits = natural(u64::from(entry.sequence))?;
+        let at = natural(place)?;
+        execute(tx, "INSERT INTO numbers VALUES (?1, ?2)", &[digits, at])?;
+        Ok(())
+    }
+}
+
+impl BatchBody for NumberRows {
+    fn run_batch<S: Alter>(
+        &self,
+        tx: &mut Transaction<'_, S>,
+        first: u64,
+        entries: &[SentEntry],
+    ) -> Result<(), Error> {
+        let mut values = [[ValueRef::Null; 2]; 16];
+        for at in 0..16 {
+            let digits = natural(u64::from(entries[at].sequence))?;
+            let place = natural(first + at as u64)?;
+            values[at] = [digits, place];
+        }
+        execute(
+            tx,
+            "INSERT INTO numbers VALUES (?, ?), (?, ?), (?, ?), (?, ?), (?, ?), (?, ?), (?, ?), (?, ?), \
+             (?, ?), (?, ?), (?, ?), (?, ?), (?, ?), (?, ?), (?, ?), (?, ?)",
+            values.as_flattened(),
+        )?;
+        Ok(())
+    }
+}
