@@ -157,7 +157,7 @@ pub record IsUnsent (e : SentEntry) (t : Tables) : Type 0 where
   pub found : find (is_entry_row e.company e.order e.index) t.entries ≡ Some record_of
   pub unplaced : record_of.place ≡ None
 
--- UPDATE entries SET seq = ? WHERE company = ? AND ord = ? AND idx = ? AND seq IS NULL, and its number by upsert
+-- UPDATE entries SET seq = ? WHERE company = ? AND ord = ? AND idx = ? AND seq IS NULL, and its number in place of the one before
 abbrev pub place_edit : (place : ℕ) → SentEntry → Edit Tables
 place_edit place e = record {
   after = λ t. record t { entries = mark_entry place e t.entries; numbers = with_number e.sequence place t.numbers };
