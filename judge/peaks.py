@@ -7,9 +7,9 @@ more into one table as make a body of so many megabytes: lines of the company's 
 or the text of a file. Each of these files is served by a new process, which is asked for that body twice. Its peak is the most
 memory that was resident while it answered (VmHWM, which /proc/PID/clear_refs sets back), without what was resident before.
 
-At the first answer the engine also takes the memory that it keeps for later queries, as copies of a text, and the C library
-may keep a list of up to 32 MB that the desk gave back, as it does of changes and of the items in suspense. The second answer shows what a GET
-takes each time.
+The desk is started with the environment of the unit of systemd in docs/OPERATING.md: without it the C library may keep a list
+of up to 32 MB that the desk gave back. At the first answer the engine also takes the memory that it keeps for later queries, as
+copies of a text. The second answer shows what a GET takes each time.
 
 It prints a line for each answer: the size of its body, the peak, and how many times the body that is. The status is 1 where a
 body is not of the size that its rows have, or where a peak is past its bound.
@@ -26,7 +26,8 @@ from helpers.first_version import write_copy
 from helpers.running import MILL, MILL_KEY, OPERATOR_KEY, Serving, connect, make_desk, message, program_of, read_answer, status_of
 
 # The most that an answer may take, in bodies: the first one, and each later one
-BOUNDS = {"statement": (1.2, 1.2), "returns": (1.2, 1.2), "changes": (1.5, 1.2), "suspense": (1.5, 1.2), "file": (6.1, 2.1)}
+BOUNDS = {"statement": (1.2, 1.2), "returns": (1.2, 1.2), "changes": (1.2, 1.2), "suspense": (1.2, 1.2), "file": (6.1, 2.1)}
+ENVIRONMENT = {"MALLOC_MMAP_THRESHOLD_": "1048576"}
 ENTRY = '{"routing":"091000019","account":"123456789","kind":"checking","cents":100,"id":"E1","name":"ANN LEE"}'
 PAY = f'{{"ref":"PAY-1","sec":"PPD","direction":"credit","description":"PAYROLL","day":"2025-01-10","entries":[{ENTRY}]}}'
 SETUP = [
@@ -134,7 +135,7 @@ def measured(program, work, name, size):
     desk_in(program, path)
     asks = filled(path, name, size)
     passed = True
-    with Serving(program, path).listen() as serving:
+    with Serving(program, path, environment=ENVIRONMENT).listen() as serving:
         for time, bound in zip(("first", "second"), BOUNDS[name]):
             came, peak = peak_of(serving, asks)
             body = len(came) / 1e6
