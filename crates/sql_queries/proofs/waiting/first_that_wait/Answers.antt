@@ -57,6 +57,7 @@ returns-then-not-waits-clause-answer g c clean =
     let more = subst (λ o. Advances g.S.Store mid new (option_map submission_head_row o)) c.in-Some.is (c.in_ok-head.ensures.advances late) in
     let fails : waits c.in-Some.head ≡ false = search rules in
     let read = while_stopped g.S.Store submission_head_row c.args.sql.now (bound c.args.params.now) (state g.S.Store c.args.conn.now) mid new _ was (c.in_ok-head.ensures.same late) waits c.rows.invariant.pass c.in-Some.head fails more in
+    let same = (c.next_of.ensures.same_reference ∙ c.rows.invariant.same_reference) ∙ c.in_ok-rows.ensures.same_reference in
     subst (λ s. ReadsWhile c.args.sql.now (bound c.args.params.now) submission_head_row waits (state g.S.Store c.args.conn.now) s c.rows.waiting.items) (search rules) read
 
 pub returns-then-not-waits-clause-survives : goal.returns-then-not-waits-clause-survives
