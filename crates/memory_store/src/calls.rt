@@ -2,9 +2,6 @@
 //!
 //! A call that takes no memory always answers. What a read copies takes some, unless there is nothing to
 //! copy; what finds a row by an index may have the index grow.
-ghost use Rattle.std.specs.Prelude.{◌≢◌, [], None, IsOk, OnErr, find};
-ghost use Rattle.desk_book.specs.Steps.{is_file};
-ghost use Rattle.memory_store.specs.Kept.{rows_in};
 
 use crate::balances::day_sums_of;
 use crate::cut::write_cut;
@@ -43,15 +40,11 @@ impl Store for ListStore {
 
     ghost is_clean = { λ _. ⊤ };
 
-    fn identity(&mut self, _alloc: Global) -> Result<Identity, StoreFault>
-        ensures ok { IsOk result }
-    {
+    fn identity(&mut self, _alloc: Global) -> Result<Identity, StoreFault> {
         Ok(self.identity)
     }
 
-    fn key_of(&mut self, _alloc: Global, caller: Caller) -> Result<Option<[u8; 32]>, StoreFault>
-        ensures ok { IsOk result }
-    {
+    fn key_of(&mut self, _alloc: Global, caller: Caller) -> Result<Option<[u8; 32]>, StoreFault> {
         let company = match caller {
             Caller::Operator => return Ok(Some(self.operator_key)),
             Caller::Company(company) => company,
@@ -62,27 +55,19 @@ impl Store for ListStore {
         }
     }
 
-    fn day(&mut self, _alloc: Global) -> Result<Option<RuleDay>, StoreFault>
-        ensures ok { IsOk result }
-    {
+    fn day(&mut self, _alloc: Global) -> Result<Option<RuleDay>, StoreFault> {
         Ok(self.day)
     }
 
-    fn calendar(&mut self, alloc: Global) -> Result<Calendar, StoreFault>
-        ensures memory { OnErr result ((rows_in self.old).holidays ≢ []) }
-    {
+    fn calendar(&mut self, alloc: Global) -> Result<Calendar, StoreFault> {
         Ok(self.holidays.try_clone(alloc)?)
     }
 
-    fn company(&mut self, _alloc: Global, id: Id) -> Result<Option<Company>, StoreFault>
-        ensures ok { IsOk result }
-    {
+    fn company(&mut self, _alloc: Global, id: Id) -> Result<Option<Company>, StoreFault> {
         Ok(company_among(&self.companies, id))
     }
 
-    fn companies(&mut self, alloc: Global) -> Result<Vec<Company>, StoreFault>
-        ensures memory { OnErr result ((rows_in self.old).companies ≢ []) }
-    {
+    fn companies(&mut self, alloc: Global) -> Result<Vec<Company>, StoreFault> {
         Ok(copy_of(alloc, &self.companies)?)
     }
 
@@ -176,15 +161,11 @@ impl Store for ListStore {
         Ok(all_waiting(alloc, &self.companies, kept, index, &places.references)?)
     }
 
-    fn last_sequence(&mut self, _alloc: Global) -> Result<u32, StoreFault>
-        ensures ok { IsOk result }
-    {
+    fn last_sequence(&mut self, _alloc: Global) -> Result<u32, StoreFault> {
         Ok(last_of(&self.sent))
     }
 
-    fn sent_count(&mut self, _alloc: Global) -> Result<u64, StoreFault>
-        ensures ok { IsOk result }
-    {
+    fn sent_count(&mut self, _alloc: Global) -> Result<u64, StoreFault> {
         Ok(self.sent.len() as u64)
     }
 
@@ -198,9 +179,7 @@ impl Store for ListStore {
         Ok(self.settlements.latest(from, to))
     }
 
-    fn files_on(&mut self, _alloc: Global, day: Day) -> Result<u64, StoreFault>
-        ensures ok { IsOk result }
-    {
+    fn files_on(&mut self, _alloc: Global, day: Day) -> Result<u64, StoreFault> {
         Ok(count_on(&self.files, day))
     }
 
@@ -230,15 +209,11 @@ impl Store for ListStore {
         day_sums_of(alloc, &self.postings, account)
     }
 
-    fn suspense(&mut self, alloc: Global) -> Result<Vec<SuspenseRow>, StoreFault>
-        ensures memory { OnErr result ((rows_in self.old).suspense ≢ []) }
-    {
+    fn suspense(&mut self, alloc: Global) -> Result<Vec<SuspenseRow>, StoreFault> {
         Ok(copy_of(alloc, &self.suspense)?)
     }
 
-    fn suspense_count(&mut self, _alloc: Global) -> Result<u64, StoreFault>
-        ensures ok { IsOk result }
-    {
+    fn suspense_count(&mut self, _alloc: Global) -> Result<u64, StoreFault> {
         Ok(self.suspense.len() as u64)
     }
 
@@ -247,28 +222,20 @@ impl Store for ListStore {
         alloc: Global,
         day: Day,
         modifier: u8,
-    ) -> Result<Option<ListOf<u8>>, StoreFault>
-        ensures memory { OnErr result (find (is_file day modifier) (rows_in self.old).files ≢ None) }
-    {
+    ) -> Result<Option<ListOf<u8>>, StoreFault> {
         Ok(text_at(alloc, &self.files, day, modifier)?)
     }
 
-    fn taken(&mut self, _alloc: Global, key: [u8; 21]) -> Result<Option<TakenFile>, StoreFault>
-        ensures ok { IsOk result }
-    {
+    fn taken(&mut self, _alloc: Global, key: [u8; 21]) -> Result<Option<TakenFile>, StoreFault> {
         Ok(taken_file(&self.taken, key))
     }
 
-    fn set_day(&mut self, _alloc: Global, day: RuleDay) -> Result<(), StoreFault>
-        ensures ok { IsOk result }
-    {
+    fn set_day(&mut self, _alloc: Global, day: RuleDay) -> Result<(), StoreFault> {
         self.day = Some(day);
         Ok(())
     }
 
-    fn set_holidays(&mut self, _alloc: Global, holidays: Calendar) -> Result<(), StoreFault>
-        ensures ok { IsOk result }
-    {
+    fn set_holidays(&mut self, _alloc: Global, holidays: Calendar) -> Result<(), StoreFault> {
         self.holidays = holidays;
         Ok(())
     }
@@ -279,9 +246,12 @@ impl Store for ListStore {
         Ok(())
     }
 
-    fn put_limits(&mut self, _alloc: Global, company: Id, limits: Limits) -> Result<(), StoreFault>
-        ensures ok { IsOk result }
-    {
+    fn put_limits(
+        &mut self,
+        _alloc: Global,
+        company: Id,
+        limits: Limits,
+    ) -> Result<(), StoreFault> {
         limit_company(&mut self.companies, company, limits);
         Ok(())
     }
