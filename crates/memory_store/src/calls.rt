@@ -2,6 +2,11 @@
 //!
 //! A call that takes no memory always answers. What a read copies takes some, unless there is nothing to
 //! copy; what finds a row by an index may have the index grow.
+ghost use Rattle.std.specs.Prelude.{◌≡◌, ◌≢◌, [], None, IsOk, OnErr, find, length};
+ghost use Rattle.desk_book.specs.Reads.{key_of, company, last_sequence, sent_count};
+ghost use Rattle.desk_book.specs.Steps.{is_file, set_day, set_holidays, put_limits};
+ghost use Rattle.desk_store.specs.Words.{Reads, ReadsList, Writes, LeavesRead, LeavesWrite};
+ghost use Rattle.memory_store.specs.Kept.{IsBookOf, IsHeld, rows_in};
 
 use crate::balances::day_sums_of;
 use crate::cut::write_cut;
@@ -40,11 +45,19 @@ impl Store for ListStore {
 
     ghost is_clean = { λ _. ⊤ };
 
-    fn identity(&mut self, _alloc: Global) -> Result<Identity, StoreFault> {
+    fn identity(&mut self, _alloc: Global) -> Result<Identity, StoreFault>
+        ensures ok { IsOk result }
+        ensures read { Reads (IsHeld self.old) result (λ b. b.identity) (IsHeld self.new) }
+        ensures left { LeavesRead (IsBookOf self.old) (IsBookOf self.new) }
+    {
         Ok(self.identity)
     }
 
-    fn key_of(&mut self, _alloc: Global, caller: Caller) -> Result<Option<[u8; 32]>, StoreFault> {
+    fn key_of(&mut self, _alloc: Global, caller: Caller) -> Result<Option<[u8; 32]>, StoreFault>
+        ensures ok { IsOk result }
+        ensures read { Reads (IsHeld self.old) result (key_of caller) (IsHeld self.new) }
+        ensures left { LeavesRead (IsBookOf self.old) (IsBookOf self.new) }
+    {
         let company = match caller {
             Caller::Operator => return Ok(Some(self.operator_key)),
             Caller::Company(company) => company,
@@ -55,19 +68,35 @@ impl Store for ListStore {
         }
     }
 
-    fn day(&mut self, _alloc: Global) -> Result<Option<RuleDay>, StoreFault> {
+    fn day(&mut self, _alloc: Global) -> Result<Option<RuleDay>, StoreFault>
+        ensures ok { IsOk result }
+        ensures read { Reads (IsHeld self.old) result (λ b. b.day) (IsHeld self.new) }
+        ensures left { LeavesRead (IsBookOf self.old) (IsBookOf self.new) }
+    {
         Ok(self.day)
     }
 
-    fn calendar(&mut self, alloc: Global) -> Result<Calendar, StoreFault> {
+    fn calendar(&mut self, alloc: Global) -> Result<Calendar, StoreFault>
+        ensures memory { OnErr result ((rows_in self.old).holidays ≢ []) }
+        ensures read { Reads (IsHeld self.old) result (λ b. b.holidays) (IsHeld self.new) }
+        ensures left { LeavesRead (IsBookOf self.old) (IsBookOf self.new) }
+    {
         Ok(self.holidays.try_clone(alloc)?)
     }
 
-    fn company(&mut self, _alloc: Global, id: Id) -> Result<Option<Company>, StoreFault> {
+    fn company(&mut self, _alloc: Global, id: Id) -> Result<Option<Company>, StoreFault>
+        ensures ok { IsOk result }
+        ensures read { Reads (IsHeld self.old) result (company id) (IsHeld self.new) }
+        ensures left { LeavesRead (IsBookOf self.old) (IsBookOf self.new) }
+    {
         Ok(company_among(&self.companies, id))
     }
 
-    fn companies(&mut self, alloc: Global) -> Result<Vec<Company>, StoreFault> {
+    fn companies(&mut self, alloc: Global) -> Result<Vec<Company>, StoreFault>
+        ensures memory { OnErr result ((rows_in self.old).companies ≢ []) }
+        ensures read { ReadsList (IsHeld self.old) result (λ b. b.companies) (IsHeld self.new) }
+        ensures left { LeavesRead (IsBookOf self.old) (IsBookOf self.new) }
+    {
         Ok(copy_of(alloc, &self.companies)?)
     }
 
@@ -161,11 +190,19 @@ impl Store for ListStore {
         Ok(all_waiting(alloc, &self.companies, kept, index, &places.references)?)
     }
 
-    fn last_sequence(&mut self, _alloc: Global) -> Result<u32, StoreFault> {
+    fn last_sequence(&mut self, _alloc: Global) -> Result<u32, StoreFault>
+        ensures ok { IsOk result }
+        ensures read { Reads (IsHeld self.old) result (last_sequence) (IsHeld self.new) }
+        ensures left { LeavesRead (IsBookOf self.old) (IsBookOf self.new) }
+    {
         Ok(last_of(&self.sent))
     }
 
-    fn sent_count(&mut self, _alloc: Global) -> Result<u64, StoreFault> {
+    fn sent_count(&mut self, _alloc: Global) -> Result<u64, StoreFault>
+        ensures ok { IsOk result }
+        ensures read { Reads (IsHeld self.old) result (sent_count) (IsHeld self.new) }
+        ensures left { LeavesRead (IsBookOf self.old) (IsBookOf self.new) }
+    {
         Ok(self.sent.len() as u64)
     }
 
@@ -179,7 +216,11 @@ impl Store for ListStore {
         Ok(self.settlements.latest(from, to))
     }
 
-    fn files_on(&mut self, _alloc: Global, day: Day) -> Result<u64, StoreFault> {
+    fn files_on(&mut self, _alloc: Global, day: Day) -> Result<u64, StoreFault>
+        ensures ok { IsOk result }
+        ensures read { Reads (IsHeld self.old) result (λ b. b.files_on day) (IsHeld self.new) }
+        ensures left { LeavesRead (IsBookOf self.old) (IsBookOf self.new) }
+    {
         Ok(count_on(&self.files, day))
     }
 
@@ -209,11 +250,19 @@ impl Store for ListStore {
         day_sums_of(alloc, &self.postings, account)
     }
 
-    fn suspense(&mut self, alloc: Global) -> Result<Vec<SuspenseRow>, StoreFault> {
+    fn suspense(&mut self, alloc: Global) -> Result<Vec<SuspenseRow>, StoreFault>
+        ensures memory { OnErr result ((rows_in self.old).suspense ≢ []) }
+        ensures read { ReadsList (IsHeld self.old) result (λ b. b.suspense) (IsHeld self.new) }
+        ensures left { LeavesRead (IsBookOf self.old) (IsBookOf self.new) }
+    {
         Ok(copy_of(alloc, &self.suspense)?)
     }
 
-    fn suspense_count(&mut self, _alloc: Global) -> Result<u64, StoreFault> {
+    fn suspense_count(&mut self, _alloc: Global) -> Result<u64, StoreFault>
+        ensures ok { IsOk result }
+        ensures read { Reads (IsHeld self.old) result (λ b. length b.suspense) (IsHeld self.new) }
+        ensures left { LeavesRead (IsBookOf self.old) (IsBookOf self.new) }
+    {
         Ok(self.suspense.len() as u64)
     }
 
@@ -222,20 +271,38 @@ impl Store for ListStore {
         alloc: Global,
         day: Day,
         modifier: u8,
-    ) -> Result<Option<ListOf<u8>>, StoreFault> {
+    ) -> Result<Option<ListOf<u8>>, StoreFault>
+        ensures memory { OnErr result (find (is_file day modifier) (rows_in self.old).files ≢ None) }
+        ensures read { Reads (IsHeld self.old) result (λ b. b.file day modifier) (IsHeld self.new) }
+        ensures left { LeavesRead (IsBookOf self.old) (IsBookOf self.new) }
+    {
         Ok(text_at(alloc, &self.files, day, modifier)?)
     }
 
-    fn taken(&mut self, _alloc: Global, key: [u8; 21]) -> Result<Option<TakenFile>, StoreFault> {
+    fn taken(&mut self, _alloc: Global, key: [u8; 21]) -> Result<Option<TakenFile>, StoreFault>
+        ensures ok { IsOk result }
+        ensures read { Reads (IsHeld self.old) result (λ b. b.taken key) (IsHeld self.new) }
+        ensures left { LeavesRead (IsBookOf self.old) (IsBookOf self.new) }
+    {
         Ok(taken_file(&self.taken, key))
     }
 
-    fn set_day(&mut self, _alloc: Global, day: RuleDay) -> Result<(), StoreFault> {
+    fn set_day(&mut self, _alloc: Global, day: RuleDay) -> Result<(), StoreFault>
+        ensures ok { IsOk result }
+        ensures write { Writes (IsHeld self.old) result (set_day day) (IsHeld self.new) }
+        ensures left { LeavesWrite (λ k b. k ≡ b) (IsHeld self.old) (IsBookOf self.old) result (set_day day)
+            (IsBookOf self.new) }
+    {
         self.day = Some(day);
         Ok(())
     }
 
-    fn set_holidays(&mut self, _alloc: Global, holidays: Calendar) -> Result<(), StoreFault> {
+    fn set_holidays(&mut self, _alloc: Global, holidays: Calendar) -> Result<(), StoreFault>
+        ensures ok { IsOk result }
+        ensures write { Writes (IsHeld self.old) result (set_holidays holidays) (IsHeld self.new) }
+        ensures left { LeavesWrite (λ k b. k ≡ b) (IsHeld self.old) (IsBookOf self.old) result (set_holidays holidays)
+            (IsBookOf self.new) }
+    {
         self.holidays = holidays;
         Ok(())
     }
@@ -246,12 +313,12 @@ impl Store for ListStore {
         Ok(())
     }
 
-    fn put_limits(
-        &mut self,
-        _alloc: Global,
-        company: Id,
-        limits: Limits,
-    ) -> Result<(), StoreFault> {
+    fn put_limits(&mut self, _alloc: Global, company: Id, limits: Limits) -> Result<(), StoreFault>
+        ensures ok { IsOk result }
+        ensures write { Writes (IsHeld self.old) result (put_limits company limits) (IsHeld self.new) }
+        ensures left { LeavesWrite (λ k b. k ≡ b) (IsHeld self.old) (IsBookOf self.old) result
+            (put_limits company limits) (IsBookOf self.new) }
+    {
         limit_company(&mut self.companies, company, limits);
         Ok(())
     }
