@@ -1,4 +1,4 @@
-pub mod Routes
+pub mod FoundRoutes
 pub mod Short
 pub mod Calls
 pub mod Messages

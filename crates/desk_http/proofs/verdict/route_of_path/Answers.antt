@@ -1,6 +1,6 @@
 use Rattle.std.proofs.Common.{◌<◌, arith}
 use Rattle.std.proofs.lemmas.List.Elements.{All-from_get_or}
-use Rattle.desk_http.proofs.Routes.{found_is}
+use Rattle.desk_http.proofs.FoundRoutes.{found_is}
 use Rattle.desk_http.proofs.verdict.route_of_path.Goals as goal
 
 pub returns : goal.returns
