@@ -58,6 +58,7 @@ record_on : CompanyRow → Option ℕ → Option AuthorizationRecord
 record_on x day = option_map (λ day. record { company = x.company; order = x.row.order; day = day }) day
 
 none_authorized : (xs : List CompanyRow) → ((c : List ℕ) → All IsPlain (rows_in xs c)) → filter_map authorization_record xs ≡ []
+unfolding record_on
 none_authorized [] all = refl
 none_authorized (x ∷ xs) all =
     ap (λ (day : Option ℕ). cons_option (record_on x day) (filter_map authorization_record xs)) (first_plain x xs (all x.company))
