@@ -8,4 +8,4 @@ returns-in_ok-state-in-Some g c =
     let head = query (rw c.in_ok-head.ensures at c.submission.ensures.answer) c.submission.ensures.stays c.submission.ensures.survives in
     answered (both head (read c.state_at.ensures c.in_ok-state-in-Some.was).so)
     (λ t told. ap Some (subst (λ n. c.in_ok-state-in-Some.state ≡ state_in c.in-Some.head (n + 1) t) c.saturating_sub.ensures told.1)
-        ∙ ap (option_map (λ head. state_in head (c.args.index - 1 + 1) t)) (sym c.in-Some.is ∙ told.0))
+    ∙ ap (option_map (λ head. state_in head (c.args.index - 1 + 1) t)) (sym c.in-Some.is ∙ told.0))
