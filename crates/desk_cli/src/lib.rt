@@ -15,6 +15,7 @@ mod served_file;
 pub use cli_commands::{
     NoMemory, Status, answer_messages, check_file, first_run, submission_answer, submit_list,
 };
+pub use cli_submit::{InputFault, RowFault, SubmitFault, SubmitOptions, submit_message};
 pub use cli_words::{Command, InitOptions, LineFault, ServeOptions, VERSION_LINE, command_of};
 pub use dispatch::{print_line_fault, run, run_from};
 pub use init_desk::make_desk;

@@ -13,13 +13,12 @@ ghost use Rattle.desk_cli.specs.KeptRuns.{BreaksOffUnopened, IsKeptIn, SaysUnope
 use crate::open_fault::print_open_fault;
 use cli_commands::{Status, serve_remembering};
 use cli_words::ServeOptions;
-use sql_files::{FileFrom, FileStore, Start};
-use sql_store::SqlStore;
-use sqlite::{Alter, Connection};
+use desk_tables::{FileFrom, FileStore, SqlStore, Start, open};
+use sqlite::Alter;
 use std::io::Write;
 
 /// Serves the desk in the file at a path on a port of 127.0.0.1, one connection after another, each a
-/// session of its own, and gives the connection, where there is one, so that the file may be closed.
+/// session of its own, and gives the store, where there is one, so that the file may be closed.
 ///
 /// Once it listens it prints `listening on 127.0.0.1:8080`. It is done after as many connections as the
 /// options say. Where the file is not opened as a desk, `NotADesk`, `WrongVersion 9` or `unavailable` is
@@ -33,9 +32,9 @@ pub fn serve_by_file<S: Start, W: Write>(
     start: S,
     options: ServeOptions,
     writer: &mut W,
-) -> (Status, Option<Connection<FileStore<FileFrom<S>>>>)
-    ensures served { IfSome result.1 (λ c.
-        HasServed IsAnswered (HasCleanDisk (file_state c)) (IsKeptIn (image_at S.Start)) (StandsBehind (Sees (file_state c)))) }
+) -> (Status, Option<SqlStore<FileStore<FileFrom<S>>>>)
+    ensures served { IfSome result.1 (λ s.
+        HasServed IsAnswered (HasCleanDisk (file_state s.conn)) (IsKeptIn (image_at S.Start)) (StandsBehind (Sees (file_state s.conn)))) }
     ensures answered { result.0 ≢ Status.Failed → MatchOption result.1
         (SaysUnopened (W.contents writer.old) (W.contents writer.new) result.0)
         (λ _. HasServedConnections options.port (W.contents writer.old) (W.contents writer.new) result.0) }
@@ -43,10 +42,10 @@ pub fn serve_by_file<S: Start, W: Write>(
         (BreaksOffUnopened (W.contents writer.old) (W.contents writer.new))
         (λ _. FailsToServe options.port (W.contents writer.old) (W.contents writer.new)) }
 {
-    match sql_files::open(rt, path, start) {
-        Ok(conn) => {
-            let (status, conn) = serve_by_tables(rt, conn, options, writer);
-            (status, Some(conn))
+    match open(rt, path, start) {
+        Ok(store) => {
+            let (status, store) = serve_by_tables(rt, store, options, writer);
+            (status, Some(store))
         }
         Err(fault) => (print_open_fault(rt.alloc(), writer, fault), None),
     }
@@ -55,18 +54,17 @@ pub fn serve_by_file<S: Start, W: Write>(
 // The same by the desk of SQL tables, whichever files they are in.
 fn serve_by_tables<P: Alter + Drop, W: Write>(
     rt: &HostRuntime,
-    conn: Connection<P>,
+    store: SqlStore<P>,
     options: ServeOptions,
     writer: &mut W,
-) -> (Status, Connection<P>)
-    ensures before { HasCleanDisk (state P.Store result.1) → HasCleanDisk (state P.Store conn) }
-    ensures served { HasServed IsAnswered (HasCleanDisk (state P.Store result.1))
-        (StandsBehind (Sees (state P.Store conn))) (StandsBehind (Sees (state P.Store result.1))) }
+) -> (Status, SqlStore<P>)
+    ensures before { HasCleanDisk (state P.Store result.1.conn) → HasCleanDisk (state P.Store store.conn) }
+    ensures served { HasServed IsAnswered (HasCleanDisk (state P.Store result.1.conn))
+        (StandsBehind (Sees (state P.Store store.conn))) (StandsBehind (Sees (state P.Store result.1.conn))) }
     ensures answered { result.0 ≢ Status.Failed →
         HasServedConnections options.port (W.contents writer.old) (W.contents writer.new) result.0 }
     ensures failed { result.0 ≡ Status.Failed →
         FailsToServe options.port (W.contents writer.old) (W.contents writer.new) }
 {
-    let (status, store) = serve_remembering(rt, SqlStore::new(conn), options, writer);
-    (status, store.into_connection())
+    serve_remembering(rt, store, options, writer)
 }

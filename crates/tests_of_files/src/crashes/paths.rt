@@ -2,7 +2,7 @@
 use super::images::Image;
 use super::trials::{goes_on, migration};
 use crate::files::paths::{Way, fault_of};
-use sql_files::OpenFault;
+use desk_tables::OpenFault;
 use std::{fs, io};
 
 const PATH: &str = "desk_of_version_1.db";

@@ -3,8 +3,7 @@ use super::bank::{OPERATOR_DIGEST, identity};
 use super::commands::{ACCEPTED, COMMANDS, give, is_done};
 use crate::tables::add_tables;
 use desk_core::Desk;
-use sql_files::{FileStore, OpenFault, Wary, create, migrate_file, open};
-use sql_store::SqlStore;
+use desk_tables::{FileStore, OpenFault, SqlStore, Wary, create, migrate_file, open};
 use sqlite::{Alter, Connection, Error};
 use sqlite_disk::Disk;
 use std::alloc::Global;
@@ -20,8 +19,8 @@ pub(crate) enum Way {
     Open,
 }
 
-// The first of these speak of any store or disk, since the type of a connection to files is so long that
-// each function which passes one on or drops it takes the prover half a minute. None has a clause, so that
+// The first of these speak of any tables or disk, since the type of a store in files is so long that each
+// function which passes one on or drops it takes the prover half a minute. None has a clause, so that
 // the proof of a test does not carry the state of each call.
 
 fn change<P: Alter + Drop>(
@@ -34,7 +33,11 @@ fn change<P: Alter + Drop>(
     Ok(conn)
 }
 
-fn fault<D: Disk + Drop>(opened: Result<Connection<FileStore<D>>, OpenFault>) -> Option<OpenFault> {
+fn connection<P: Alter + Drop>(opened: Result<SqlStore<P>, OpenFault>) -> Option<Connection<P>> {
+    Some(opened.ok()?.into_connection())
+}
+
+fn fault<D: Disk + Drop>(opened: Result<SqlStore<FileStore<D>>, OpenFault>) -> Option<OpenFault> {
     opened.err()
 }
 
@@ -46,12 +49,10 @@ fn close<D: Disk + Drop>(conn: Connection<FileStore<D>>) -> Result<(), Error> {
 // then these. The files are left as a program leaves them that ends at once.
 fn go_on<P: Alter + Drop>(
     rt: &(impl Abort + Alloc<A = Global>),
-    opened: Option<Connection<P>>,
+    opened: Option<SqlStore<P>>,
     from: usize,
 ) -> Result<Vec<u8>, Fail> {
-    let conn = opened.expect(rt, "a desk");
-    let store = SqlStore::adopt(rt.alloc(), conn).ok().expect(rt, "a desk");
-    let mut desk = Desk::new(store);
+    let mut desk = Desk::new(opened.expect(rt, "a desk"));
     assert!(rt; give(rt, &mut desk, from) == COMMANDS);
     for number in &ACCEPTED {
         assert!(rt; is_done(rt, &mut desk, *number));
@@ -86,7 +87,7 @@ pub(super) fn change_desk(
     path: &str,
     sql: &str,
 ) -> Result<(), Error> {
-    close(change(rt, open(host, path, Wary).ok(), sql)?)
+    close(change(rt, connection(open(host, path, Wary)), sql)?)
 }
 
 fn change_database(
