@@ -29,9 +29,11 @@ pub fn run<R: Read + Drop, W: Write>(
     writer: &mut W,
 ) -> Status
     ensures answered { result ≢ Status.Failed →
-        CarriesOut NoneKnown command.now (R.remaining reader) (W.contents writer.old) (W.contents writer.new) result }
+        CarriesOut NoneKnown command.now (R.remaining reader) (W.contents writer.old)
+        (W.contents writer.new) result }
     ensures failed { result ≡ Status.Failed →
-        FailsToCarryOut NoneKnown command.now (R.remaining reader) (W.contents writer.old) (W.contents writer.new) }
+        FailsToCarryOut NoneKnown command.now (R.remaining reader) (W.contents writer.old)
+        (W.contents writer.new) }
 {
     run_from(rt, Wary, command, reader, writer)
 }
@@ -46,9 +48,11 @@ pub fn run_from<S: Start, R: Read + Drop, W: Write>(
     writer: &mut W,
 ) -> Status
     ensures answered { result ≢ Status.Failed →
-        CarriesOut (IsKeptIn (image_at S.Start)) command.now (R.remaining reader) (W.contents writer.old) (W.contents writer.new) result }
+        CarriesOut (IsKeptIn (image_at S.Start)) command.now (R.remaining reader)
+        (W.contents writer.old) (W.contents writer.new) result }
     ensures failed { result ≡ Status.Failed →
-        FailsToCarryOut (IsKeptIn (image_at S.Start)) command.now (R.remaining reader) (W.contents writer.old) (W.contents writer.new) }
+        FailsToCarryOut (IsKeptIn (image_at S.Start)) command.now (R.remaining reader)
+        (W.contents writer.old) (W.contents writer.new) }
 {
     let (status, _opened) = carry_out(rt, start, command, reader, writer);
     status
@@ -64,9 +68,11 @@ fn carry_out<S: Start, R: Read + Drop, W: Write>(
     writer: &mut W,
 ) -> (Status, Option<SqlStore<FileStore<FileFrom<S>>>>)
     ensures answered { result.0 ≢ Status.Failed →
-        CarriesOut (IsKeptIn (image_at S.Start)) command.now (R.remaining reader) (W.contents writer.old) (W.contents writer.new) result.0 }
+        CarriesOut (IsKeptIn (image_at S.Start)) command.now (R.remaining reader)
+        (W.contents writer.old) (W.contents writer.new) result.0 }
     ensures failed { result.0 ≡ Status.Failed →
-        FailsToCarryOut (IsKeptIn (image_at S.Start)) command.now (R.remaining reader) (W.contents writer.old) (W.contents writer.new) }
+        FailsToCarryOut (IsKeptIn (image_at S.Start)) command.now (R.remaining reader)
+        (W.contents writer.old) (W.contents writer.new) }
 {
     match *command {
         Command::AnswerSubmission => (first_run(rt.alloc(), reader, writer), None),

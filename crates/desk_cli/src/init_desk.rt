@@ -31,13 +31,16 @@ pub fn make_desk<S: Start, W: Write>(
     options: &InitOptions<'_>,
     writer: &mut W,
 ) -> (Status, Option<SqlStore<FileStore<FileFrom<S>>>>)
-    ensures made { IfSome result.1 (λ s. IsMade (init_texts_of options.now) (λ identity key. HasCleanDisk (file_state s.conn)
+    ensures made { IfSome result.1
+        (λ s. IsMade (init_texts_of options.now) (λ identity key. HasCleanDisk (file_state s.conn)
         → IsMadeIn (image_at S.Start) identity key s.conn)) }
     ensures answered { result.0 ≢ Status.Failed → MatchOption result.1
-        (SaysUncreated (init_texts_of options.now) (W.contents writer.old) (W.contents writer.new) result.0)
+        (SaysUncreated (init_texts_of options.now) (W.contents writer.old)
+        (W.contents writer.new) result.0)
         (λ _. SaysCreated (W.contents writer.old) (W.contents writer.new) result.0) }
     ensures failed { result.0 ≡ Status.Failed → MatchOption result.1
-        (FailsToSayUncreated (init_texts_of options.now) (W.contents writer.old) (W.contents writer.new))
+        (FailsToSayUncreated (init_texts_of options.now) (W.contents writer.old)
+        (W.contents writer.new))
         (λ _. FailsToSayCreated (W.contents writer.old) (W.contents writer.new)) }
 {
     match new_desk(rt, path, start, options) {

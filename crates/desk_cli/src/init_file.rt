@@ -29,7 +29,8 @@ pub fn new_desk<S: Start>(
     start: S,
     options: &InitOptions<'_>,
 ) -> Result<SqlStore<FileStore<FileFrom<S>>>, InitFault>
-    ensures made { IfOk result (λ s. IsMade (init_texts_of options.now) (λ identity key. HasCleanDisk (file_state s.conn)
+    ensures made { IfOk result
+        (λ s. IsMade (init_texts_of options.now) (λ identity key. HasCleanDisk (file_state s.conn)
         → IsMadeIn (image_at S.Start) identity key s.conn)) }
     ensures fault { IfErr result (FailsAs (init_texts_of options.now)) }
 {

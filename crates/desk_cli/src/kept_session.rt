@@ -34,11 +34,13 @@ pub fn answer_by_file<S: Start, R: Read + Drop, W: Write>(
 ) -> (Status, Option<SqlStore<FileStore<FileFrom<S>>>>)
     ensures answered { result.0 ≢ Status.Failed → MatchOption result.1
         (SaysUnopened (W.contents writer.old) (W.contents writer.new) result.0)
-        (λ s. HasAnsweredFrom (HasCleanDisk (file_state s.conn)) (IsKeptIn (image_at S.Start)) (StandsBehind (Sees (file_state s.conn)))
+        (λ s. HasAnsweredFrom (HasCleanDisk (file_state s.conn)) (IsKeptIn (image_at S.Start))
+        (StandsBehind (Sees (file_state s.conn)))
         (R.remaining reader) (W.contents writer.old) (W.contents writer.new) result.0) }
     ensures failed { result.0 ≡ Status.Failed → MatchOption result.1
         (BreaksOffUnopened (W.contents writer.old) (W.contents writer.new))
-        (λ s. BreaksOffFrom (HasCleanDisk (file_state s.conn)) (IsKeptIn (image_at S.Start)) (StandsBehind (Sees (file_state s.conn)))
+        (λ s. BreaksOffFrom (HasCleanDisk (file_state s.conn)) (IsKeptIn (image_at S.Start))
+        (StandsBehind (Sees (file_state s.conn)))
         (R.remaining reader) (W.contents writer.old) (W.contents writer.new)) }
 {
     match open(rt, path, start) {
@@ -58,12 +60,17 @@ fn answer_by_tables<P: Alter + Drop, R: Read + Drop, W: Write>(
     reader: R,
     writer: &mut W,
 ) -> (Status, SqlStore<P>)
-    ensures before { HasCleanDisk (state P.Store result.1.conn) → HasCleanDisk (state P.Store store.conn) }
+    ensures before { HasCleanDisk (state P.Store result.1.conn)
+        → HasCleanDisk (state P.Store store.conn) }
     ensures answered { result.0 ≢ Status.Failed →
-        HasAnsweredFrom (HasCleanDisk (state P.Store result.1.conn)) (StandsBehind (Sees (state P.Store store.conn))) (StandsBehind (Sees (state P.Store result.1.conn)))
+        HasAnsweredFrom (HasCleanDisk (state P.Store result.1.conn))
+        (StandsBehind (Sees (state P.Store store.conn)))
+        (StandsBehind (Sees (state P.Store result.1.conn)))
         (R.remaining reader) (W.contents writer.old) (W.contents writer.new) result.0 }
     ensures failed { result.0 ≡ Status.Failed →
-        BreaksOffFrom (HasCleanDisk (state P.Store result.1.conn)) (StandsBehind (Sees (state P.Store store.conn))) (StandsBehind (Sees (state P.Store result.1.conn)))
+        BreaksOffFrom (HasCleanDisk (state P.Store result.1.conn))
+        (StandsBehind (Sees (state P.Store store.conn)))
+        (StandsBehind (Sees (state P.Store result.1.conn)))
         (R.remaining reader) (W.contents writer.old) (W.contents writer.new) }
 {
     answer_remembering(alloc, store, reader, writer)

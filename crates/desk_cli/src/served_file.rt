@@ -34,10 +34,12 @@ pub fn serve_by_file<S: Start, W: Write>(
     writer: &mut W,
 ) -> (Status, Option<SqlStore<FileStore<FileFrom<S>>>>)
     ensures served { IfSome result.1 (λ s.
-        HasServed IsAnswered (HasCleanDisk (file_state s.conn)) (IsKeptIn (image_at S.Start)) (StandsBehind (Sees (file_state s.conn)))) }
+        HasServed IsAnswered (HasCleanDisk (file_state s.conn)) (IsKeptIn (image_at S.Start))
+        (StandsBehind (Sees (file_state s.conn)))) }
     ensures answered { result.0 ≢ Status.Failed → MatchOption result.1
         (SaysUnopened (W.contents writer.old) (W.contents writer.new) result.0)
-        (λ _. HasServedConnections options.port (W.contents writer.old) (W.contents writer.new) result.0) }
+        (λ _. HasServedConnections options.port (W.contents writer.old)
+        (W.contents writer.new) result.0) }
     ensures failed { result.0 ≡ Status.Failed → MatchOption result.1
         (BreaksOffUnopened (W.contents writer.old) (W.contents writer.new))
         (λ _. FailsToServe options.port (W.contents writer.old) (W.contents writer.new)) }
@@ -58,9 +60,11 @@ fn serve_by_tables<P: Alter + Drop, W: Write>(
     options: ServeOptions,
     writer: &mut W,
 ) -> (Status, SqlStore<P>)
-    ensures before { HasCleanDisk (state P.Store result.1.conn) → HasCleanDisk (state P.Store store.conn) }
+    ensures before { HasCleanDisk (state P.Store result.1.conn)
+        → HasCleanDisk (state P.Store store.conn) }
     ensures served { HasServed IsAnswered (HasCleanDisk (state P.Store result.1.conn))
-        (StandsBehind (Sees (state P.Store store.conn))) (StandsBehind (Sees (state P.Store result.1.conn))) }
+        (StandsBehind (Sees (state P.Store store.conn)))
+        (StandsBehind (Sees (state P.Store result.1.conn))) }
     ensures answered { result.0 ≢ Status.Failed →
         HasServedConnections options.port (W.contents writer.old) (W.contents writer.new) result.0 }
     ensures failed { result.0 ≡ Status.Failed →

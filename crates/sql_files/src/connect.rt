@@ -18,7 +18,8 @@ pub(crate) fn connect<S: Start>(
     start: S,
 ) -> Result<Connection<FileStore<FileFrom<S>>>, OpenFault>
     ensures opened { IfOk result (λ c. HasCleanDisk (file_state c) → IsOpened c) }
-    ensures found { IfOk result (λ c. HasCleanDisk (file_state c) → FindsIn (image_at S.Start) (file_state c)) }
+    ensures found { IfOk result
+        (λ c. HasCleanDisk (file_state c) → FindsIn (image_at S.Start) (file_state c)) }
     ensures memory { path.now ≡ codes ":memory:" → result ≡ Err OpenFault.Unavailable }
     ensures otherwise { IfErr result (λ fault. fault ≡ OpenFault.Unavailable) }
 {

@@ -30,8 +30,10 @@ pub fn open<S: Start>(
     path: &str,
     start: S,
 ) -> Result<Connection<FileStore<FileFrom<S>>>, OpenFault>
-    ensures found { IfOk result (λ c. HasCleanDisk (file_state c) → IsFoundIn (image_at S.Start) c) }
-    ensures refused { result ≢ Err OpenFault.NotADesk → RefusesIn (image_at S.Start) version leaves_nothing result }
+    ensures found { IfOk result
+        (λ c. HasCleanDisk (file_state c) → IsFoundIn (image_at S.Start) c) }
+    ensures refused { result ≢ Err OpenFault.NotADesk
+        → RefusesIn (image_at S.Start) version leaves_nothing result }
     ensures otherwise { IfErr result (λ fault. fault ≢ OpenFault.Exists) }
 {
     check_presence(rt, path)?;
@@ -45,8 +47,10 @@ fn with_desk<P: Alter + Drop>(
     alloc: Global,
     conn: Connection<P>,
 ) -> Result<Connection<P>, OpenFault>
-    ensures before { IfOk result (λ c. HasCleanDisk (state P.Store c) → HasCleanDisk (state P.Store conn)) }
-    ensures desk { IfOk result (λ c. HasCleanDisk (state P.Store c) → IsDesk (state P.Store conn) (state P.Store c)) }
+    ensures before { IfOk result
+        (λ c. HasCleanDisk (state P.Store c) → HasCleanDisk (state P.Store conn)) }
+    ensures desk { IfOk result
+        (λ c. HasCleanDisk (state P.Store c) → IsDesk (state P.Store conn) (state P.Store c)) }
     ensures refused { IfErr result (IsDropped P.Store version (λ _. ⊥) conn) }
     ensures otherwise { IfErr result (λ fault. fault ≢ OpenFault.Exists) }
 {

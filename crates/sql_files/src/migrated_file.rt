@@ -31,8 +31,10 @@ pub fn migrate_file<S: Start>(
     path: &str,
     start: S,
 ) -> Result<Connection<FileStore<FileFrom<S>>>, OpenFault>
-    ensures migrated { IfOk result (λ c. HasCleanDisk (file_state c) → IsMigratedIn (image_at S.Start) c) }
-    ensures refused { result ≢ Err OpenFault.NotADesk → RefusesIn (image_at S.Start) first_version leaves_migrated result }
+    ensures migrated { IfOk result
+        (λ c. HasCleanDisk (file_state c) → IsMigratedIn (image_at S.Start) c) }
+    ensures refused { result ≢ Err OpenFault.NotADesk
+        → RefusesIn (image_at S.Start) first_version leaves_migrated result }
     ensures otherwise { IfErr result (λ fault. fault ≢ OpenFault.Exists) }
 {
     check_presence(rt, path)?;
@@ -45,10 +47,15 @@ fn with_second_version<P: Alter + Drop>(
     alloc: Global,
     conn: Connection<P>,
 ) -> Result<Connection<P>, OpenFault>
-    ensures before { IfOk result (λ c. HasCleanDisk (state P.Store c) → HasCleanDisk (state P.Store conn)) }
-    ensures migrated { IfOk result (λ c. HasCleanDisk (state P.Store c) → HasMigrated (state P.Store conn) (state P.Store c)) }
-    ensures first { IfOk result (λ c. HasCleanDisk (state P.Store c) → (n : ℕ) → IsOfVersion (state P.Store conn).now n → n ≡ first_version) }
-    ensures refused { IfErr result (IsDropped P.Store first_version (leaves_migrated (state P.Store conn)) conn) }
+    ensures before { IfOk result
+        (λ c. HasCleanDisk (state P.Store c) → HasCleanDisk (state P.Store conn)) }
+    ensures migrated { IfOk result
+        (λ c. HasCleanDisk (state P.Store c) → HasMigrated (state P.Store conn) (state P.Store c)) }
+    ensures first { IfOk result
+        (λ c. HasCleanDisk (state P.Store c) → (n : ℕ) → IsOfVersion (state P.Store conn).now n
+        → n ≡ first_version) }
+    ensures refused { IfErr result
+        (IsDropped P.Store first_version (leaves_migrated (state P.Store conn)) conn) }
     ensures otherwise { IfErr result (λ fault. fault ≢ OpenFault.Exists) }
 {
     let mut conn = conn;

@@ -30,10 +30,13 @@ pub fn create<S: Start>(
     identity: Identity,
     operator_key: [u8; 32],
 ) -> Result<Connection<FileStore<FileFrom<S>>>, OpenFault>
-    ensures created { IfOk result (λ c. HasCleanDisk (file_state c) → IsMadeIn (image_at S.Start) identity operator_key c) }
-    ensures unmade { UnmadeIn (image_at S.Start) (λ trees. Keeps trees (book_of identity operator_key [])) result }
+    ensures created { IfOk result
+        (λ c. HasCleanDisk (file_state c) → IsMadeIn (image_at S.Start) identity operator_key c) }
+    ensures unmade { UnmadeIn (image_at S.Start)
+        (λ trees. Keeps trees (book_of identity operator_key [])) result }
     ensures memory { path.now ≡ codes ":memory:" → result ≡ Err OpenFault.Unavailable }
-    ensures otherwise { IfErr result (λ fault. (fault ≡ OpenFault.Exists) ⊎ (fault ≡ OpenFault.Unavailable)) }
+    ensures otherwise { IfErr result
+        (λ fault. (fault ≡ OpenFault.Exists) ⊎ (fault ≡ OpenFault.Unavailable)) }
 {
     make_private(rt, path)?;
     let conn = connect(rt, path, start)?;
@@ -46,10 +49,15 @@ fn with_new_desk<P: Alter + Drop>(
     identity: Identity,
     operator_key: [u8; 32],
 ) -> Result<Connection<P>, OpenFault>
-    ensures before { IfOk result (λ c. HasCleanDisk (state P.Store c) → HasCleanDisk (state P.Store conn)) }
-    ensures desk { IfOk result (λ c. HasCleanDisk (state P.Store c) → HasNewDesk identity operator_key (state P.Store conn) (state P.Store c)) }
-    ensures unmade { IfErr result (IsUnmade P.Store (λ trees. Keeps trees (book_of identity operator_key [])) conn) }
-    ensures otherwise { IfErr result (λ fault. (fault ≡ OpenFault.Exists) ⊎ (fault ≡ OpenFault.Unavailable)) }
+    ensures before { IfOk result
+        (λ c. HasCleanDisk (state P.Store c) → HasCleanDisk (state P.Store conn)) }
+    ensures desk { IfOk result
+        (λ c. HasCleanDisk (state P.Store c)
+        → HasNewDesk identity operator_key (state P.Store conn) (state P.Store c)) }
+    ensures unmade { IfErr result
+        (IsUnmade P.Store (λ trees. Keeps trees (book_of identity operator_key [])) conn) }
+    ensures otherwise { IfErr result
+        (λ fault. (fault ≡ OpenFault.Exists) ⊎ (fault ≡ OpenFault.Unavailable)) }
 {
     let mut conn = conn;
     make_desk(&mut conn, identity, operator_key)?;

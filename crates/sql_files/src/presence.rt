@@ -11,7 +11,8 @@ use std::io::ErrorKind;
 /// Where there is no file, and where it is empty, it is `OpenFault::NotADesk`. What is no file, and
 /// what cannot be looked at, is `OpenFault::Unavailable`.
 pub(crate) fn check_presence(rt: &HostRuntime, path: &str) -> Result<(), OpenFault>
-    ensures { IfErr result (λ fault. (fault ≡ OpenFault.NotADesk) ⊎ (fault ≡ OpenFault.Unavailable)) }
+    ensures { IfErr result
+        (λ fault. (fault ≡ OpenFault.NotADesk) ⊎ (fault ≡ OpenFault.Unavailable)) }
 {
     let found = match fs::metadata(rt, path) {
         Ok(found) => found,

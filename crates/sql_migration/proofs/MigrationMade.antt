@@ -1,14 +1,15 @@
 -- The statements of a migration make its edit, and what that says of the connection.
-use Rattle.std.proofs.Common.{◌≡◌, Option, None, Some, ℕ, [], Ok, true, IsTrue, refl, sym, ◌∙◌, subst, arith}
+use Rattle.std.proofs.Common.{◌≡◌, Option, None, Some, ℕ, [], Ok, IsTrue, refl, sym, ◌∙◌, subst, arith}
 use Rattle.sqlite.specs.Effect.{Database}
 use Rattle.sqlite_trees.specs.Tree.{Trees}
-use Rattle.sqlite.specs.State.{State, HasCleanDisk, Survives, Shows, Executes}
+use Rattle.sqlite.specs.State.{State, HasCleanDisk, Survives, Executes}
 use Rattle.sqlite.proofs.StateLemmas.{survives_then}
 use Rattle.sql_statements.specs.Queries.{Stays}
 use Rattle.sql_statements.specs.Layouts.{Holds}
 use Rattle.sql_statements.specs.Transactions.{Makes, Commits, Leaves}
 use Rattle.desk_book.specs.Book.{Book}
 use Rattle.desk_book.specs.Unauthorized.{UnauthorizedBooks}
+use Rattle.sql_statements.specs.Promises.{GoesOn}
 use Rattle.sql_tables.specs.Schema.{desk_schema}
 use Rattle.sql_tables.specs.TableDefinitions.{numbers_text, authorizations_text}
 use Rattle.sql_tables.specs.Layout.{desk_layout, Keeps, Sees}
@@ -21,10 +22,6 @@ use Rattle.sql_migration.proofs.AddedTables.{table_added}
 use Rattle.sql_migration.proofs.KeptBooks.{book_kept, first_kept}
 use Rattle.sql_migration.proofs.NewTables.{creates_numbers, creates_authorizations, numbered_schema, written_numbers, written_authorizations, not_second}
 use Rattle.sql_migration.proofs.SecondTables.{second_tables, desk_stays, version_set, schema_stays, with_no_numbers}
-
--- a statement went on with the transaction, and committed nothing
-abbrev GoesOn : State → State → Type 0
-GoesOn old new = Shows old new new.now old.committed true
 
 pub migration_made : (s0 s1 s2 s3 s4 : State) (a b c : ℕ) → GoesOn s0 s1 → GoesOn s1 s2 → GoesOn s2 s3 → Executes numbers_text [] s0 s1 (Ok a) → Executes authorizations_text [] s1 s2 (Ok b) → Executes update_version [] s2 s3 (Ok c)
     → Makes seen_layout (if_seen number_entries_edit) s3 s4 → Makes migration_layout migration_edit s0 s4

@@ -1,9 +1,9 @@
 //! Version 1's tables become version 2's.
-ghost use Rattle.std.specs.Prelude.{◌≡◌, ◌≢◌, ℕ, false, Err, IfErr, OnErr, OnOk};
+ghost use Rattle.std.specs.Prelude.{◌≡◌, ◌≢◌, ℕ, false, Err, IfErr};
 ghost use Rattle.sqlite.specs.Held.{state};
-ghost use Rattle.sqlite.specs.State.{HasCleanDisk, Survives};
-ghost use Rattle.sql_statements.specs.Queries.{Stays};
+ghost use Rattle.sqlite.specs.State.{Survives};
 ghost use Rattle.desk_book.specs.Book.{Book};
+ghost use Rattle.sql_statements.specs.Promises.{SucceedsIn, FailsUnchanged};
 ghost use Rattle.sql_tables.specs.Layout.{Keeps};
 ghost use Rattle.sql_setup.specs.Refusals.{IsRefused};
 ghost use Rattle.sql_setup.specs.Setup.{HasDesk};
@@ -56,13 +56,17 @@ impl TransactionBody for Migration {
 /// a connection that is inside a transaction, is `OpenFault::Unavailable`. After an error the tables are
 /// as they were.
 pub fn migrate<S: Alter>(alloc: Global, conn: &mut Connection<S>) -> Result<(), OpenFault>
-    ensures migrated { HasCleanDisk (state S.Store conn.new) → OnOk result (HasMigrated (state S.Store conn.old) (state S.Store conn.new)) }
-    ensures absent { conn.old.in_transaction ≡ false → ¬ HasDesk (state S.Store conn.old).now.schema → result ≡ Err OpenFault.NotADesk }
-    ensures first { HasCleanDisk (state S.Store conn.new) → OnOk result ((n : ℕ) → IsOfVersion (state S.Store conn.old).now n → n ≡ first_version) }
+    ensures migrated { SucceedsIn S.Store conn.old conn.new result HasMigrated }
+    ensures absent { conn.old.in_transaction ≡ false → ¬ HasDesk (state S.Store conn.old).now.schema
+        → result ≡ Err OpenFault.NotADesk }
+    ensures first { SucceedsIn S.Store conn.old conn.new result
+        (λ before after. (n : ℕ) → IsOfVersion before.now n → n ≡ first_version) }
     ensures refused { IfErr result (IsRefused S.Store first_version conn.old conn.new) }
     ensures otherwise { IfErr result (λ fault. fault ≢ OpenFault.Exists) }
-    ensures unmigrated { HasCleanDisk (state S.Store conn.new) → OnErr result (Stays (state S.Store conn.old) (state S.Store conn.new)) }
-    ensures survives { Survives (state S.Store conn.old) (state S.Store conn.new) (λ trees. (b : Book) → KeepsFirst (state S.Store conn.old).committed.trees b → Keeps trees b) }
+    ensures unmigrated { FailsUnchanged S.Store conn.old conn.new result }
+    ensures survives { Survives (state S.Store conn.old) (state S.Store conn.new)
+        (λ trees. (b : Book) → KeepsFirst (state S.Store conn.old).committed.trees b
+        → Keeps trees b) }
     ensures ended { conn.old.in_transaction ≡ false → conn.new.in_transaction ≡ false }
 {
     if !conn.is_autocommit() {

@@ -1,8 +1,7 @@
 //! A connection is told to have a desk's tables of version 1.
 ghost use Rattle.std.specs.Prelude.{◌≡◌, ◌≢◌, ℕ, false, Err, IfErr, OnOk};
 ghost use Rattle.sqlite.specs.Held.{state};
-ghost use Rattle.sqlite.specs.State.{HasCleanDisk, Survives};
-ghost use Rattle.sql_statements.specs.Queries.{Stays};
+ghost use Rattle.sql_statements.specs.Promises.{SucceedsIn, LeavesNothingNew, SeesStill};
 ghost use Rattle.sql_tables.specs.Schema.{desk_schema};
 ghost use Rattle.sql_setup.specs.Refusals.{IsRefused};
 ghost use Rattle.sql_setup.specs.Setup.{HasDesk};
@@ -10,7 +9,7 @@ ghost use Rattle.sql_setup.specs.Versions.{IsOfVersion};
 ghost use Rattle.sql_migration.specs.FirstVersion.{first_version, first_schema};
 
 use crate::first::is_first_schema;
-use crate::version::check_version;
+use crate::first_version::check_version;
 use sql_setup::{OpenFault, empty_tables};
 use sqlite::{Alter, Connection};
 use sqlite_schema::schema::Schema;
@@ -21,11 +20,12 @@ use std::alloc::Global;
 fn check_tables<S: Alter>(conn: &mut Connection<S>, pattern: &Schema) -> Result<(), OpenFault>
     requires { pattern.now ≡ desk_schema }
     ensures checked { OnOk result ((state S.Store conn.old).now.schema ≡ first_schema) }
-    ensures first { HasCleanDisk (state S.Store conn.new) → OnOk result ((n : ℕ) → IsOfVersion (state S.Store conn.old).now n → n ≡ first_version) }
+    ensures first { SucceedsIn S.Store conn.old conn.new result
+        (λ before after. (n : ℕ) → IsOfVersion before.now n → n ≡ first_version) }
     ensures refused { IfErr result (IsRefused S.Store first_version conn.old conn.new) }
     ensures otherwise { IfErr result (λ fault. fault ≢ OpenFault.Exists) }
-    ensures stays { HasCleanDisk (state S.Store conn.new) → Stays (state S.Store conn.old) (state S.Store conn.new) }
-    ensures survives { Survives (state S.Store conn.old) (state S.Store conn.new) (λ _. ⊥) }
+    ensures stays { SeesStill S.Store conn.old conn.new }
+    ensures survives { LeavesNothingNew S.Store conn.old conn.new }
     ensures ended { conn.old.in_transaction ≡ false → conn.new.in_transaction ≡ false }
 {
     let is_first = is_first_schema(pattern, conn.schema());
@@ -42,12 +42,14 @@ pub(crate) fn check_first<S: Alter>(
     conn: &mut Connection<S>,
 ) -> Result<(), OpenFault>
     ensures checked { OnOk result ((state S.Store conn.old).now.schema ≡ first_schema) }
-    ensures absent { ¬ HasDesk (state S.Store conn.old).now.schema → result ≡ Err OpenFault.NotADesk }
-    ensures first { HasCleanDisk (state S.Store conn.new) → OnOk result ((n : ℕ) → IsOfVersion (state S.Store conn.old).now n → n ≡ first_version) }
+    ensures absent { ¬ HasDesk (state S.Store conn.old).now.schema
+        → result ≡ Err OpenFault.NotADesk }
+    ensures first { SucceedsIn S.Store conn.old conn.new result
+        (λ before after. (n : ℕ) → IsOfVersion before.now n → n ≡ first_version) }
     ensures refused { IfErr result (IsRefused S.Store first_version conn.old conn.new) }
     ensures otherwise { IfErr result (λ fault. fault ≢ OpenFault.Exists) }
-    ensures stays { HasCleanDisk (state S.Store conn.new) → Stays (state S.Store conn.old) (state S.Store conn.new) }
-    ensures survives { Survives (state S.Store conn.old) (state S.Store conn.new) (λ _. ⊥) }
+    ensures stays { SeesStill S.Store conn.old conn.new }
+    ensures survives { LeavesNothingNew S.Store conn.old conn.new }
     ensures ended { conn.old.in_transaction ≡ false → conn.new.in_transaction ≡ false }
 {
     if conn.schema().table_named(b"desk").is_none() {

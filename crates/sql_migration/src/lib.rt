@@ -9,6 +9,6 @@ mod body;
 mod check;
 mod entries;
 mod first;
-mod version;
+mod first_version;
 
 pub use body::migrate;

@@ -1,8 +1,9 @@
 //! Files: those that were cut, and those that were taken.
 ghost use Rattle.std.specs.Prelude.{◌≡◌, option_map};
 ghost use Rattle.sql_statements.specs.Findings.{Finds};
+ghost use Rattle.sql_statements.specs.Promises.{SeesStill, LeavesNothingNew};
 ghost use Rattle.sql_tables.specs.TableReads.{modifiers_in, text_in, taken_in};
-ghost use Rattle.sql_queries.specs.Asking.{Asks, SeesStill, LeavesNothingNew};
+ghost use Rattle.sql_queries.specs.Asking.{Asks};
 
 use crate::rows::{blob_of, column_of, first_of};
 use bank_days::Day;

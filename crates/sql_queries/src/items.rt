@@ -1,9 +1,10 @@
 //! What came back of entries.
 ghost use Rattle.std.specs.Prelude.{◌≡◌, IsPermutation, IsSorted};
 ghost use Rattle.sql_statements.specs.Findings.{Finds};
+ghost use Rattle.sql_statements.specs.Promises.{SeesStill, LeavesNothingNew};
 ghost use Rattle.sql_queries.specs.ByNumber.{by_line_number};
 ghost use Rattle.sql_tables.specs.TableReads.{number_of_last, returns_in, return_at, orders_returned, return_lines_in, change_lines_in, suspense_in};
-ghost use Rattle.sql_queries.specs.Asking.{Asks, SeesStill, LeavesNothingNew};
+ghost use Rattle.sql_queries.specs.Asking.{Asks};
 
 use crate::rows::{all_of, cell_of, column_of, first_of};
 use ach_fields::Id;

@@ -26,7 +26,6 @@ pub use items::{
 };
 pub use lines::{postings, sums};
 pub use registry::{companies, company, day, holidays, identity, operator_key};
-pub use sql_tables::{characters, date, natural};
 pub use submissions::{
     authorization, facts, last_order, numbered_submission, open_submissions, order_and_settlement,
     retries, settled_submissions, submission, submissions_of, waiting_submissions,

@@ -1,8 +1,9 @@
 //! The lines of accounts, and their sums.
 ghost use Rattle.std.specs.Prelude.{◌≡◌, IfOk, map};
+ghost use Rattle.sql_statements.specs.Promises.{SeesStill, LeavesNothingNew};
 ghost use Rattle.sql_tables.specs.TableReads.{lines_in, sums_in};
 ghost use Rattle.sql_queries.specs.Postings.{posting_of};
-ghost use Rattle.sql_queries.specs.Asking.{Asks, SeesStill, LeavesNothingNew};
+ghost use Rattle.sql_queries.specs.Asking.{Asks};
 
 use crate::rows::all_of;
 use desk_accounts::{Account, Posting};

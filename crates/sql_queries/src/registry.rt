@@ -1,9 +1,10 @@
 //! The desk, its calendar and its companies.
 ghost use Rattle.std.specs.Prelude.{◌≡◌, length};
 ghost use Rattle.sql_statements.specs.Findings.{Finds};
+ghost use Rattle.sql_statements.specs.Promises.{SeesStill, LeavesNothingNew};
 ghost use Rattle.sql_tables.specs.TableReads.{company_in};
 ghost use Rattle.sql_queries.specs.DigestRows.{key_digest_row};
-ghost use Rattle.sql_queries.specs.Asking.{Asks, SeesStill, LeavesNothingNew};
+ghost use Rattle.sql_queries.specs.Asking.{Asks};
 
 use crate::rows::{all_of, cell_of, column_of, first_of};
 use ach_fields::Id;

@@ -7,9 +7,9 @@ ghost use Rattle.sqlite.specs.State.{HasCleanDisk, IsUnchanged, Fails};
 ghost use Rattle.sqlite.specs.Values.{bound};
 ghost use Rattle.sqlite_value.specs.declared.value.Value.TheVariants.{Blob};
 ghost use Rattle.sql_statements.specs.SelectTexts.{IsSelectText};
+ghost use Rattle.sql_statements.specs.Promises.{SucceedsWith, LeavesNothingNew, SeesStill};
 ghost use Rattle.sql_tables.specs.Ranges.{FitsIfAny};
 ghost use Rattle.sql_queries.specs.Shows.{ReadsAll, ReadsFirst};
-ghost use Rattle.sql_queries.specs.Asking.{SeesStill, LeavesNothingNew};
 
 use sql_statements::query;
 use sql_tables::{FromColumn, FromRow, read_only_column};
@@ -63,9 +63,9 @@ pub(crate) fn all_of<S: Alter, T: FromRow>(
     params: &[ValueRef<'_>],
 ) -> Result<Vec<T>, Error>
     requires { IsSelectText sql.now }
-    ensures answer { HasCleanDisk (state S.Store conn.new) →
-        IfOk result (λ xs. ReadsAll sql.now (bound params.now) T.FromRow.stored_row
-        (state S.Store conn.old) (state S.Store conn.new) xs.items) }
+    ensures answer { SucceedsWith S.Store conn.old conn.new result
+        (λ xs before after. ReadsAll sql.now (bound params.now) T.FromRow.stored_row
+        before after xs.items) }
     ensures fit { IfOk result (λ xs. AllByRecursion T.FromRow.fits xs.items) }
     ensures stays { SeesStill S.Store conn.old conn.new }
     ensures survives { LeavesNothingNew S.Store conn.old conn.new }
@@ -93,9 +93,9 @@ pub(crate) fn first_of<S: Alter, T: FromRow>(
     params: &[ValueRef<'_>],
 ) -> Result<Option<T>, Error>
     requires { IsSelectText sql.now }
-    ensures answer { HasCleanDisk (state S.Store conn.new) →
-        IfOk result (λ x. ReadsFirst sql.now (bound params.now) T.FromRow.stored_row
-        (state S.Store conn.old) (state S.Store conn.new) x) }
+    ensures answer { SucceedsWith S.Store conn.old conn.new result
+        (λ x before after. ReadsFirst sql.now (bound params.now) T.FromRow.stored_row
+        before after x) }
     ensures stays { SeesStill S.Store conn.old conn.new }
     ensures survives { LeavesNothingNew S.Store conn.old conn.new }
 {
@@ -140,9 +140,9 @@ pub(crate) fn column_of<S: Alter, T: FromColumn>(
     params: &[ValueRef<'_>],
 ) -> Result<Vec<T>, Error>
     requires { IsSelectText sql.now }
-    ensures answer { HasCleanDisk (state S.Store conn.new) →
-        IfOk result (λ xs. ReadsAll sql.now (bound params.now) (λ x. T.FromColumn.stored x ∷ [])
-        (state S.Store conn.old) (state S.Store conn.new) xs.items) }
+    ensures answer { SucceedsWith S.Store conn.old conn.new result
+        (λ xs before after. ReadsAll sql.now (bound params.now)
+        (λ x. T.FromColumn.stored x ∷ []) before after xs.items) }
     ensures stays { SeesStill S.Store conn.old conn.new }
     ensures survives { LeavesNothingNew S.Store conn.old conn.new }
 {
@@ -158,9 +158,9 @@ pub(crate) fn cell_of<S: Alter, T: FromColumn>(
     params: &[ValueRef<'_>],
 ) -> Result<Option<T>, Error>
     requires { IsSelectText sql.now }
-    ensures answer { HasCleanDisk (state S.Store conn.new) →
-        IfOk result (λ x. ReadsFirst sql.now (bound params.now) (λ x. T.FromColumn.stored x ∷ [])
-        (state S.Store conn.old) (state S.Store conn.new) x) }
+    ensures answer { SucceedsWith S.Store conn.old conn.new result
+        (λ x before after. ReadsFirst sql.now (bound params.now)
+        (λ x. T.FromColumn.stored x ∷ []) before after x) }
     ensures fits { IfOk result (FitsIfAny T.FromColumn.fits) }
     ensures stays { SeesStill S.Store conn.old conn.new }
     ensures survives { LeavesNothingNew S.Store conn.old conn.new }
@@ -195,9 +195,9 @@ pub(crate) fn blob_of<S: Alter>(
     params: &[ValueRef<'_>],
 ) -> Result<Option<Vec<u8>>, Error>
     requires { IsSelectText sql.now }
-    ensures answer { HasCleanDisk (state S.Store conn.new) →
-        IfOk result (λ x. ReadsFirst sql.now (bound params.now) (λ b. Blob b ∷ [])
-        (state S.Store conn.old) (state S.Store conn.new) (option_map (λ v. v.items) x)) }
+    ensures answer { SucceedsWith S.Store conn.old conn.new result
+        (λ x before after. ReadsFirst sql.now (bound params.now)
+        (λ b. Blob b ∷ []) before after (option_map (λ v. v.items) x)) }
     ensures stays { SeesStill S.Store conn.old conn.new }
     ensures survives { LeavesNothingNew S.Store conn.old conn.new }
 {

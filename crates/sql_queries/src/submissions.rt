@@ -1,10 +1,11 @@
 //! Submissions.
 ghost use Rattle.std.specs.Prelude.{◌≡◌, ◌++◌, IfOk, IsPermutation, IsSorted};
 ghost use Rattle.sql_statements.specs.Findings.{Finds};
+ghost use Rattle.sql_statements.specs.Promises.{SeesStill, LeavesNothingNew};
 ghost use Rattle.sql_tables.specs.CutTables.{is_row};
 ghost use Rattle.sql_tables.specs.TableReads.{is_of, is_open_of, is_waiting_of, is_retry_of, heads_in, head_under, order_in, facts_in, last_order, authorized_in};
 ghost use Rattle.sql_queries.specs.Waiting.{by_head_order, is_settled_of};
-ghost use Rattle.sql_queries.specs.Asking.{Asks, SeesStill, LeavesNothingNew};
+ghost use Rattle.sql_queries.specs.Asking.{Asks};
 
 use crate::rows::{all_of, cell_of, first_of};
 use crate::waiting::first_that_wait;

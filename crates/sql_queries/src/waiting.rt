@@ -1,14 +1,12 @@
 //! The submissions of a company that wait for a cut stand first in an index: they are read one at a time,
 //! up to the first that does not wait.
-ghost use Rattle.std.specs.Prelude.{◌≡◌, IfOk};
-ghost use Rattle.sqlite.specs.Held.{state};
-ghost use Rattle.sqlite.specs.State.{HasCleanDisk};
+ghost use Rattle.std.specs.Prelude.{◌≡◌};
 ghost use Rattle.sqlite.specs.Values.{bound};
 ghost use Rattle.sql_statements.specs.SelectTexts.{IsSelectText};
+ghost use Rattle.sql_statements.specs.Promises.{SucceedsWith, LeavesNothingNew, SeesStill};
 ghost use Rattle.sql_tables.specs.QueryRows.{submission_head_row};
 ghost use Rattle.sql_queries.specs.Shows.{ReadsWhile};
 ghost use Rattle.sql_queries.specs.Waiting.{waits};
-ghost use Rattle.sql_queries.specs.Asking.{SeesStill, LeavesNothingNew};
 
 use crate::rows::next_of;
 use sql_tables::SubmissionHead;
@@ -32,9 +30,9 @@ pub(crate) fn first_that_wait<S: Alter>(
     params: &[ValueRef<'_>],
 ) -> Result<Vec<SubmissionHead>, Error>
     requires { IsSelectText sql.now }
-    ensures answer { HasCleanDisk (state S.Store conn.new) →
-        IfOk result (λ waiting. ReadsWhile sql.now (bound params.now) submission_head_row waits
-        (state S.Store conn.old) (state S.Store conn.new) waiting.items) }
+    ensures answer { SucceedsWith S.Store conn.old conn.new result
+        (λ waiting before after. ReadsWhile sql.now
+        (bound params.now) submission_head_row waits before after waiting.items) }
     ensures stays { SeesStill S.Store conn.old conn.new }
     ensures survives { LeavesNothingNew S.Store conn.old conn.new }
 {

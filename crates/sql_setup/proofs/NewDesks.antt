@@ -1,9 +1,9 @@
 -- A new desk has the book of the empty history.
-use Rattle.std.proofs.Common.{◌≡◌, ℕ, List, [], Option, None, Some, true, refl, sym, ap, ◌∙◌, subst, arith}
+use Rattle.std.proofs.Common.{◌≡◌, ℕ, List, [], Option, None, Some, refl, sym, ap, ◌∙◌, subst, arith}
 use Rattle.std.proofs.lemmas.List.Elements.{All-nil}
 use Rattle.std.proofs.lemmas.List.Sorted.{IsPermutation-refl}
 use Rattle.sqlite.specs.Effect.{Database}
-use Rattle.sqlite.specs.State.{State, Shows, IsUnchanged, KeepsCommit, Survives}
+use Rattle.sqlite.specs.State.{State, IsUnchanged, KeepsCommit, Survives}
 use Rattle.sqlite.proofs.StateLemmas.{survives_weaker}
 use Rattle.sql_statements.specs.Definitions.{IsBlank}
 use Rattle.sql_statements.specs.Layouts.{Holds}
@@ -12,6 +12,7 @@ use Rattle.desk_history.specs.declared.identity.Identity.{Identity}
 use Rattle.desk_book.specs.Book.{Book, book_of}
 use Rattle.sql_tables.specs.Schema.{desk_schema, schema_of}
 use Rattle.desk_store.specs.Rows.{Rows}
+use Rattle.sql_statements.specs.Promises.{GoesOn}
 use Rattle.sql_tables.specs.Layout.{desk_layout, IsBookIn, Keeps}
 use Rattle.sql_tables.specs.Tables.{Tables, IsStored}
 use Rattle.sql_setup.specs.Setup.{new_tables, setup_layout, new_desk_edit, HasNewDesk}
@@ -70,7 +71,7 @@ new_desks_are_empty identity key = record {
 
 -- the statements of the transaction together make the edit
 pub desk_made : (identity : Identity) (key : List ℕ) (s0 s1 s2 s3 : State) → (s0.now.schema ≡ desk_schema → ⊥) → IsUnchanged s0 s1 → KeepsCommit s1 s2
-    → (IsBlank (schema_of []) s1.now → IsBlank desk_schema s2.now) → (IsBlank desk_schema s2.now → Holds desk_layout s3.now (new_tables identity key)) → Shows s2 s3 s3.now s2.committed true
+    → (IsBlank (schema_of []) s1.now → IsBlank desk_schema s2.now) → (IsBlank desk_schema s2.now → Holds desk_layout s3.now (new_tables identity key)) → GoesOn s2 s3
     → Makes setup_layout (new_desk_edit identity key) s0 s3
 desk_made identity key s0 s1 s2 s3 free same kept created put shown inside is_open = record {
   shown = record {

@@ -1,4 +1,5 @@
 pub mod Checked
+pub mod Creation
 pub mod Plain
 pub mod Refusals
 pub mod Setup

@@ -1,7 +1,7 @@
 //! A database is told to be blank.
-ghost use Rattle.std.specs.Prelude.{◌≡◌, ◌≢◌, ◌↔◌, [], IsTrue, OnOk};
-ghost use Rattle.sqlite.specs.Held.{state};
-ghost use Rattle.sqlite.specs.State.{HasCleanDisk, IsUnchanged, KeepsCommit, Survives};
+ghost use Rattle.std.specs.Prelude.{◌≡◌, ◌≢◌, ◌↔◌, [], IsTrue};
+ghost use Rattle.sqlite.specs.State.{IsUnchanged};
+ghost use Rattle.sql_statements.specs.Promises.{SucceedsIn, KeepsCommitted, LeavesNothingNew};
 ghost use Rattle.sql_tables.specs.Schema.{desk_schema, schema_of};
 
 use sqlite::{Alter, Error, Transaction};
@@ -18,10 +18,11 @@ pub(crate) fn is_blank(schema: &Schema) -> bool
 /// name. The statement is not run.
 pub(crate) fn check_name<S: Alter>(tx: &mut Transaction<'_, S>) -> Result<(), Error>
     ensures same_reference { tx.new.conn.ghost_name ≡ tx.old.conn.ghost_name }
-    ensures free { HasCleanDisk (state S.Store tx.new.conn.now) → OnOk result ((state S.Store tx.old.conn.now).now.schema ≢ desk_schema) }
-    ensures same { HasCleanDisk (state S.Store tx.new.conn.now) → OnOk result (IsUnchanged (state S.Store tx.old.conn.now) (state S.Store tx.new.conn.now)) }
-    ensures keeps { HasCleanDisk (state S.Store tx.new.conn.now) → KeepsCommit (state S.Store tx.old.conn.now) (state S.Store tx.new.conn.now) }
-    ensures survives { Survives (state S.Store tx.old.conn.now) (state S.Store tx.new.conn.now) (λ _. ⊥) }
+    ensures free { SucceedsIn S.Store tx.old.conn.now tx.new.conn.now result
+        (λ before after. before.now.schema ≢ desk_schema) }
+    ensures same { SucceedsIn S.Store tx.old.conn.now tx.new.conn.now result IsUnchanged }
+    ensures keeps { KeepsCommitted S.Store tx.old.conn.now tx.new.conn.now }
+    ensures survives { LeavesNothingNew S.Store tx.old.conn.now tx.new.conn.now }
 {
     tx.prepare("CREATE TABLE desk (id INT)")?;
     Ok(())

@@ -1,8 +1,7 @@
 //! A connection is told to have a desk's tables.
-ghost use Rattle.std.specs.Prelude.{◌≡◌, ◌≢◌, ◌⊎◌, false, pos, Err, IfErr, OnOk};
+ghost use Rattle.std.specs.Prelude.{◌≡◌, ◌≢◌, false, pos, Err, IfErr};
 ghost use Rattle.sqlite.specs.Held.{state};
-ghost use Rattle.sqlite.specs.State.{HasCleanDisk, Survives};
-ghost use Rattle.sql_statements.specs.Queries.{Stays};
+ghost use Rattle.sql_statements.specs.Promises.{SucceedsIn, LeavesNothingNew, SeesStill};
 ghost use Rattle.sql_tables.specs.Schema.{desk_schema};
 ghost use Rattle.sql_tables.specs.RecordRows.{version};
 ghost use Rattle.sql_setup.specs.Checked.{IsDesk};
@@ -22,11 +21,12 @@ use std::alloc::Global;
 // Tells that the row of the desk has the version of this crate's tables, whatever the other columns and
 // tables are.
 fn check_version<S: Alter>(conn: &mut Connection<S>) -> Result<(), OpenFault>
-    ensures version { HasCleanDisk (state S.Store conn.new) → OnOk result (ShowsVersion (state S.Store conn.old) (state S.Store conn.new) (pos version)) }
+    ensures version { SucceedsIn S.Store conn.old conn.new result
+        (λ before after. ShowsVersion before after (pos version)) }
     ensures refused { IfErr result (IsRefused S.Store version conn.old conn.new) }
     ensures otherwise { IfErr result (λ fault. fault ≢ OpenFault.Exists) }
-    ensures stays { HasCleanDisk (state S.Store conn.new) → Stays (state S.Store conn.old) (state S.Store conn.new) }
-    ensures survives { Survives (state S.Store conn.old) (state S.Store conn.new) (λ _. ⊥) }
+    ensures stays { SeesStill S.Store conn.old conn.new }
+    ensures survives { LeavesNothingNew S.Store conn.old conn.new }
 {
     let Ok(Some(found)) = found_version(conn) else {
         return Err(unread_fault(conn));
@@ -41,11 +41,13 @@ fn check_version<S: Alter>(conn: &mut Connection<S>) -> Result<(), OpenFault>
 // the desk has its version.
 fn check_tables<S: Alter>(conn: &mut Connection<S>, pattern: &Schema) -> Result<(), OpenFault>
     requires { pattern.now ≡ desk_schema }
-    ensures checked { HasCleanDisk (state S.Store conn.new) → OnOk result (ShowsVersion (state S.Store conn.old) (state S.Store conn.new) (pos version) × ((state S.Store conn.new).now.schema ≡ desk_schema)) }
+    ensures checked { SucceedsIn S.Store conn.old conn.new result
+        (λ before after. ShowsVersion before after (pos version)
+        × (after.now.schema ≡ desk_schema)) }
     ensures refused { IfErr result (IsRefused S.Store version conn.old conn.new) }
     ensures otherwise { IfErr result (λ fault. fault ≢ OpenFault.Exists) }
-    ensures stays { HasCleanDisk (state S.Store conn.new) → Stays (state S.Store conn.old) (state S.Store conn.new) }
-    ensures survives { Survives (state S.Store conn.old) (state S.Store conn.new) (λ _. ⊥) }
+    ensures stays { SeesStill S.Store conn.old conn.new }
+    ensures survives { LeavesNothingNew S.Store conn.old conn.new }
 {
     check_version(conn)?;
     if !is_same_schema(pattern, conn.schema()) {
@@ -61,12 +63,13 @@ fn check_tables<S: Alter>(conn: &mut Connection<S>, pattern: &Schema) -> Result<
 /// another version it is `OpenFault::WrongVersion`, whatever else the schema is. Every other schema, and
 /// a connection that is inside a transaction, is `OpenFault::Unavailable`.
 pub fn check_desk<S: Alter>(alloc: Global, conn: &mut Connection<S>) -> Result<(), OpenFault>
-    ensures checked { HasCleanDisk (state S.Store conn.new) → OnOk result (IsDesk (state S.Store conn.old) (state S.Store conn.new)) }
-    ensures absent { conn.old.in_transaction ≡ false → ¬ HasDesk (state S.Store conn.old).now.schema → result ≡ Err OpenFault.NotADesk }
+    ensures checked { SucceedsIn S.Store conn.old conn.new result IsDesk }
+    ensures absent { conn.old.in_transaction ≡ false → ¬ HasDesk (state S.Store conn.old).now.schema
+        → result ≡ Err OpenFault.NotADesk }
     ensures refused { IfErr result (IsRefused S.Store version conn.old conn.new) }
     ensures otherwise { IfErr result (λ fault. fault ≢ OpenFault.Exists) }
-    ensures stays { HasCleanDisk (state S.Store conn.new) → Stays (state S.Store conn.old) (state S.Store conn.new) }
-    ensures survives { Survives (state S.Store conn.old) (state S.Store conn.new) (λ _. ⊥) }
+    ensures stays { SeesStill S.Store conn.old conn.new }
+    ensures survives { LeavesNothingNew S.Store conn.old conn.new }
 {
     if !conn.is_autocommit() {
         return Err(OpenFault::Unavailable);

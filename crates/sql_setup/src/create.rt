@@ -1,9 +1,8 @@
 //! The tables and indexes of a desk's file are made in a blank file.
-ghost use Rattle.std.specs.Prelude.{◌≡◌, ◌++◌, [], OnOk};
-ghost use Rattle.sqlite.specs.Held.{state};
-ghost use Rattle.sqlite.specs.State.{HasCleanDisk, Survives, KeepsCommit};
-ghost use Rattle.sql_statements.specs.Definitions.{IsBlank};
-ghost use Rattle.sql_tables.specs.Schema.{desk_schema, schema_of, registry_definitions, submission_definitions, posting_definitions, file_definitions, submission_index_definitions, line_index_definitions, number_definitions};
+ghost use Rattle.std.specs.Prelude.{◌≡◌, []};
+ghost use Rattle.sql_statements.specs.Promises.{SucceedsIn, KeepsCommitted, LeavesNothingNew};
+ghost use Rattle.sql_tables.specs.Schema.{registry_definitions};
+ghost use Rattle.sql_setup.specs.Creation.{MakesUpTo, made_to_submissions, made_to_postings, made_to_files, made_to_submission_indexes, made_to_line_indexes, made_to_numbers};
 
 use sql_statements::{create_index, create_table};
 use sqlite::{Alter, Error, Transaction};
@@ -11,9 +10,10 @@ use sqlite::{Alter, Error, Transaction};
 // Makes the desk, its calendar and its companies.
 fn create_registry<S: Alter>(tx: &mut Transaction<'_, S>) -> Result<(), Error>
     ensures same_reference { tx.new.conn.ghost_name ≡ tx.old.conn.ghost_name }
-    ensures makes { HasCleanDisk (state S.Store tx.new.conn.now) → OnOk result (IsBlank (schema_of ([])) (state S.Store tx.old.conn.now).now → IsBlank (schema_of (registry_definitions)) (state S.Store tx.new.conn.now).now) }
-    ensures keeps { HasCleanDisk (state S.Store tx.new.conn.now) → KeepsCommit (state S.Store tx.old.conn.now) (state S.Store tx.new.conn.now) }
-    ensures survives { Survives (state S.Store tx.old.conn.now) (state S.Store tx.new.conn.now) (λ _. ⊥) }
+    ensures makes { SucceedsIn S.Store tx.old.conn.now tx.new.conn.now result
+        (MakesUpTo [] registry_definitions) }
+    ensures keeps { KeepsCommitted S.Store tx.old.conn.now tx.new.conn.now }
+    ensures survives { LeavesNothingNew S.Store tx.old.conn.now tx.new.conn.now }
 {
     create_table(
         tx,
@@ -33,9 +33,10 @@ fn create_registry<S: Alter>(tx: &mut Transaction<'_, S>) -> Result<(), Error>
 // Makes submissions, their entries and what came back of them.
 fn create_submissions<S: Alter>(tx: &mut Transaction<'_, S>) -> Result<(), Error>
     ensures same_reference { tx.new.conn.ghost_name ≡ tx.old.conn.ghost_name }
-    ensures makes { HasCleanDisk (state S.Store tx.new.conn.now) → OnOk result (IsBlank (schema_of (registry_definitions)) (state S.Store tx.old.conn.now).now → IsBlank (schema_of (registry_definitions ++ submission_definitions)) (state S.Store tx.new.conn.now).now) }
-    ensures keeps { HasCleanDisk (state S.Store tx.new.conn.now) → KeepsCommit (state S.Store tx.old.conn.now) (state S.Store tx.new.conn.now) }
-    ensures survives { Survives (state S.Store tx.old.conn.now) (state S.Store tx.new.conn.now) (λ _. ⊥) }
+    ensures makes { SucceedsIn S.Store tx.old.conn.now tx.new.conn.now result
+        (MakesUpTo registry_definitions made_to_submissions) }
+    ensures keeps { KeepsCommitted S.Store tx.old.conn.now tx.new.conn.now }
+    ensures survives { LeavesNothingNew S.Store tx.old.conn.now tx.new.conn.now }
 {
     create_table(
         tx,
@@ -55,9 +56,10 @@ fn create_submissions<S: Alter>(tx: &mut Transaction<'_, S>) -> Result<(), Error
 // Makes notifications of change, postings and suspense.
 fn create_postings<S: Alter>(tx: &mut Transaction<'_, S>) -> Result<(), Error>
     ensures same_reference { tx.new.conn.ghost_name ≡ tx.old.conn.ghost_name }
-    ensures makes { HasCleanDisk (state S.Store tx.new.conn.now) → OnOk result (IsBlank (schema_of (registry_definitions ++ submission_definitions)) (state S.Store tx.old.conn.now).now → IsBlank (schema_of (registry_definitions ++ submission_definitions ++ posting_definitions)) (state S.Store tx.new.conn.now).now) }
-    ensures keeps { HasCleanDisk (state S.Store tx.new.conn.now) → KeepsCommit (state S.Store tx.old.conn.now) (state S.Store tx.new.conn.now) }
-    ensures survives { Survives (state S.Store tx.old.conn.now) (state S.Store tx.new.conn.now) (λ _. ⊥) }
+    ensures makes { SucceedsIn S.Store tx.old.conn.now tx.new.conn.now result
+        (MakesUpTo made_to_submissions made_to_postings) }
+    ensures keeps { KeepsCommitted S.Store tx.old.conn.now tx.new.conn.now }
+    ensures survives { LeavesNothingNew S.Store tx.old.conn.now tx.new.conn.now }
 {
     create_table(
         tx,
@@ -77,9 +79,10 @@ fn create_postings<S: Alter>(tx: &mut Transaction<'_, S>) -> Result<(), Error>
 // Makes files, and balances.
 fn create_files<S: Alter>(tx: &mut Transaction<'_, S>) -> Result<(), Error>
     ensures same_reference { tx.new.conn.ghost_name ≡ tx.old.conn.ghost_name }
-    ensures makes { HasCleanDisk (state S.Store tx.new.conn.now) → OnOk result (IsBlank (schema_of (registry_definitions ++ submission_definitions ++ posting_definitions)) (state S.Store tx.old.conn.now).now → IsBlank (schema_of (registry_definitions ++ submission_definitions ++ posting_definitions ++ file_definitions)) (state S.Store tx.new.conn.now).now) }
-    ensures keeps { HasCleanDisk (state S.Store tx.new.conn.now) → KeepsCommit (state S.Store tx.old.conn.now) (state S.Store tx.new.conn.now) }
-    ensures survives { Survives (state S.Store tx.old.conn.now) (state S.Store tx.new.conn.now) (λ _. ⊥) }
+    ensures makes { SucceedsIn S.Store tx.old.conn.now tx.new.conn.now result
+        (MakesUpTo made_to_postings made_to_files) }
+    ensures keeps { KeepsCommitted S.Store tx.old.conn.now tx.new.conn.now }
+    ensures survives { LeavesNothingNew S.Store tx.old.conn.now tx.new.conn.now }
 {
     create_table(
         tx,
@@ -99,9 +102,10 @@ fn create_files<S: Alter>(tx: &mut Transaction<'_, S>) -> Result<(), Error>
 // Makes the indexes of sent entries and of submissions.
 fn create_submission_indexes<S: Alter>(tx: &mut Transaction<'_, S>) -> Result<(), Error>
     ensures same_reference { tx.new.conn.ghost_name ≡ tx.old.conn.ghost_name }
-    ensures makes { HasCleanDisk (state S.Store tx.new.conn.now) → OnOk result (IsBlank (schema_of (registry_definitions ++ submission_definitions ++ posting_definitions ++ file_definitions)) (state S.Store tx.old.conn.now).now → IsBlank (schema_of (registry_definitions ++ submission_definitions ++ posting_definitions ++ file_definitions ++ submission_index_definitions)) (state S.Store tx.new.conn.now).now) }
-    ensures keeps { HasCleanDisk (state S.Store tx.new.conn.now) → KeepsCommit (state S.Store tx.old.conn.now) (state S.Store tx.new.conn.now) }
-    ensures survives { Survives (state S.Store tx.old.conn.now) (state S.Store tx.new.conn.now) (λ _. ⊥) }
+    ensures makes { SucceedsIn S.Store tx.old.conn.now tx.new.conn.now result
+        (MakesUpTo made_to_files made_to_submission_indexes) }
+    ensures keeps { KeepsCommitted S.Store tx.old.conn.now tx.new.conn.now }
+    ensures survives { LeavesNothingNew S.Store tx.old.conn.now tx.new.conn.now }
 {
     create_index(tx, "CREATE INDEX entries_seq ON entries (seq)")?;
     create_index(
@@ -118,9 +122,10 @@ fn create_submission_indexes<S: Alter>(tx: &mut Transaction<'_, S>) -> Result<()
 // Makes the indexes of returns, of changes and of postings.
 fn create_line_indexes<S: Alter>(tx: &mut Transaction<'_, S>) -> Result<(), Error>
     ensures same_reference { tx.new.conn.ghost_name ≡ tx.old.conn.ghost_name }
-    ensures makes { HasCleanDisk (state S.Store tx.new.conn.now) → OnOk result (IsBlank (schema_of (registry_definitions ++ submission_definitions ++ posting_definitions ++ file_definitions ++ submission_index_definitions)) (state S.Store tx.old.conn.now).now → IsBlank (schema_of (registry_definitions ++ submission_definitions ++ posting_definitions ++ file_definitions ++ submission_index_definitions ++ line_index_definitions)) (state S.Store tx.new.conn.now).now) }
-    ensures keeps { HasCleanDisk (state S.Store tx.new.conn.now) → KeepsCommit (state S.Store tx.old.conn.now) (state S.Store tx.new.conn.now) }
-    ensures survives { Survives (state S.Store tx.old.conn.now) (state S.Store tx.new.conn.now) (λ _. ⊥) }
+    ensures makes { SucceedsIn S.Store tx.old.conn.now tx.new.conn.now result
+        (MakesUpTo made_to_submission_indexes made_to_line_indexes) }
+    ensures keeps { KeepsCommitted S.Store tx.old.conn.now tx.new.conn.now }
+    ensures survives { LeavesNothingNew S.Store tx.old.conn.now tx.new.conn.now }
 {
     create_index(tx, "CREATE INDEX returns_company ON returns (company, day)")?;
     create_index(tx, "CREATE INDEX changes_company ON changes (company, no)")?;
@@ -134,9 +139,10 @@ fn create_line_indexes<S: Alter>(tx: &mut Transaction<'_, S>) -> Result<(), Erro
 // Makes what the second version adds.
 fn create_numbers<S: Alter>(tx: &mut Transaction<'_, S>) -> Result<(), Error>
     ensures same_reference { tx.new.conn.ghost_name ≡ tx.old.conn.ghost_name }
-    ensures makes { HasCleanDisk (state S.Store tx.new.conn.now) → OnOk result (IsBlank (schema_of (registry_definitions ++ submission_definitions ++ posting_definitions ++ file_definitions ++ submission_index_definitions ++ line_index_definitions)) (state S.Store tx.old.conn.now).now → IsBlank (schema_of (registry_definitions ++ submission_definitions ++ posting_definitions ++ file_definitions ++ submission_index_definitions ++ line_index_definitions ++ number_definitions)) (state S.Store tx.new.conn.now).now) }
-    ensures keeps { HasCleanDisk (state S.Store tx.new.conn.now) → KeepsCommit (state S.Store tx.old.conn.now) (state S.Store tx.new.conn.now) }
-    ensures survives { Survives (state S.Store tx.old.conn.now) (state S.Store tx.new.conn.now) (λ _. ⊥) }
+    ensures makes { SucceedsIn S.Store tx.old.conn.now tx.new.conn.now result
+        (MakesUpTo made_to_line_indexes made_to_numbers) }
+    ensures keeps { KeepsCommitted S.Store tx.old.conn.now tx.new.conn.now }
+    ensures survives { LeavesNothingNew S.Store tx.old.conn.now tx.new.conn.now }
 {
     create_table(
         tx,
@@ -154,9 +160,10 @@ fn create_numbers<S: Alter>(tx: &mut Transaction<'_, S>) -> Result<(), Error>
 /// After an error the transaction has part of them, and is to be rolled back.
 pub(crate) fn create_tables<S: Alter>(tx: &mut Transaction<'_, S>) -> Result<(), Error>
     ensures same_reference { tx.new.conn.ghost_name ≡ tx.old.conn.ghost_name }
-    ensures makes { HasCleanDisk (state S.Store tx.new.conn.now) → OnOk result (IsBlank (schema_of []) (state S.Store tx.old.conn.now).now → IsBlank desk_schema (state S.Store tx.new.conn.now).now) }
-    ensures keeps { HasCleanDisk (state S.Store tx.new.conn.now) → KeepsCommit (state S.Store tx.old.conn.now) (state S.Store tx.new.conn.now) }
-    ensures survives { Survives (state S.Store tx.old.conn.now) (state S.Store tx.new.conn.now) (λ _. ⊥) }
+    ensures makes { SucceedsIn S.Store tx.old.conn.now tx.new.conn.now result
+        (MakesUpTo [] made_to_numbers) }
+    ensures keeps { KeepsCommitted S.Store tx.old.conn.now tx.new.conn.now }
+    ensures survives { LeavesNothingNew S.Store tx.old.conn.now tx.new.conn.now }
 {
     create_registry(tx)?;
     create_submissions(tx)?;

@@ -1,10 +1,10 @@
 //! A new desk is made in a blank database.
-ghost use Rattle.std.specs.Prelude.{◌≡◌, ◌⊎◌, ◌↔◌, [], true, false, Err, IsTrue, OnOk, OnErr, IfErr};
+ghost use Rattle.std.specs.Prelude.{◌≡◌, ◌⊎◌, ◌↔◌, [], false, Err, OnOk, IfErr};
 ghost use Rattle.sqlite.specs.Held.{state};
-ghost use Rattle.sqlite.specs.State.{HasCleanDisk, Survives, KeepsCommit, Shows};
+ghost use Rattle.sqlite.specs.State.{Survives};
 ghost use Rattle.sql_statements.specs.Definitions.{IsBlank};
-ghost use Rattle.sql_statements.specs.Queries.{Stays};
 ghost use Rattle.sql_statements.specs.Layouts.{Holds};
+ghost use Rattle.sql_statements.specs.Promises.{SucceedsIn, FailsUnchanged, KeepsCommitted, LeavesNothingNew, GoesOn};
 ghost use Rattle.desk_book.specs.Book.{book_of};
 ghost use Rattle.sql_tables.specs.Schema.{desk_schema, schema_of};
 ghost use Rattle.sql_tables.specs.Layout.{desk_layout, Keeps};
@@ -31,12 +31,15 @@ struct NewRow {
 
 // Writes the row of the desk into tables that have no rows.
 fn put_desk<S: Alter>(tx: &mut Transaction<'_, S>, row: &NewRow) -> Result<(), Error>
-    requires { (row.now.odfi ≡ row.now.identity.odfi) × (row.now.destination ≡ row.now.identity.destination) }
+    requires { (row.now.odfi ≡ row.now.identity.odfi)
+        × (row.now.destination ≡ row.now.identity.destination) }
     ensures same_reference { tx.new.conn.ghost_name ≡ tx.old.conn.ghost_name }
-    ensures makes { HasCleanDisk (state S.Store tx.new.conn.now) → OnOk result (IsBlank desk_schema (state S.Store tx.old.conn.now).now → Holds desk_layout (state S.Store tx.new.conn.now).now (new_tables row.now.identity row.now.operator_key)) }
-    ensures shown { HasCleanDisk (state S.Store tx.new.conn.now) → OnOk result (Shows (state S.Store tx.old.conn.now) (state S.Store tx.new.conn.now) (state S.Store tx.new.conn.now).now (state S.Store tx.old.conn.now).committed true) }
-    ensures keeps { HasCleanDisk (state S.Store tx.new.conn.now) → KeepsCommit (state S.Store tx.old.conn.now) (state S.Store tx.new.conn.now) }
-    ensures survives { Survives (state S.Store tx.old.conn.now) (state S.Store tx.new.conn.now) (λ _. ⊥) }
+    ensures makes { SucceedsIn S.Store tx.old.conn.now tx.new.conn.now result
+        (λ before after. IsBlank desk_schema before.now
+        → Holds desk_layout after.now (new_tables row.now.identity row.now.operator_key)) }
+    ensures shown { SucceedsIn S.Store tx.old.conn.now tx.new.conn.now result GoesOn }
+    ensures keeps { KeepsCommitted S.Store tx.old.conn.now tx.new.conn.now }
+    ensures survives { LeavesNothingNew S.Store tx.old.conn.now tx.new.conn.now }
 {
     execute(
         tx,
@@ -88,9 +91,10 @@ fn set_up<S: Alter>(
     operator_key: [u8; 32],
 ) -> Result<(), Error>
     requires { (state S.Store conn.old).now.schema ≡ schema_of [] }
-    ensures made { HasCleanDisk (state S.Store conn.new) → OnOk result (HasNewDesk identity operator_key (state S.Store conn.old) (state S.Store conn.new)) }
-    ensures unmade { HasCleanDisk (state S.Store conn.new) → OnErr result (Stays (state S.Store conn.old) (state S.Store conn.new)) }
-    ensures survives { Survives (state S.Store conn.old) (state S.Store conn.new) (λ trees. Keeps trees (book_of identity operator_key [])) }
+    ensures made { SucceedsIn S.Store conn.old conn.new result (HasNewDesk identity operator_key) }
+    ensures unmade { FailsUnchanged S.Store conn.old conn.new result }
+    ensures survives { Survives (state S.Store conn.old) (state S.Store conn.new)
+        (λ trees. Keeps trees (book_of identity operator_key [])) }
     ensures ended { conn.old.in_transaction ≡ false → conn.new.in_transaction ≡ false }
 {
     let body = NewDesk {
@@ -113,11 +117,13 @@ pub fn make_desk<S: Alter>(
 ) -> Result<(), OpenFault>
     ensures exists { (result ≡ Err OpenFault.Exists) ↔ HasDesk (state S.Store conn.old).now.schema }
     ensures untouched { result ≡ Err OpenFault.Exists → conn.new ≡ conn.old }
-    ensures otherwise { IfErr result (λ fault. (fault ≡ OpenFault.Exists) ⊎ (fault ≡ OpenFault.Unavailable)) }
+    ensures otherwise { IfErr result
+        (λ fault. (fault ≡ OpenFault.Exists) ⊎ (fault ≡ OpenFault.Unavailable)) }
     ensures blank { OnOk result ((state S.Store conn.old).now.schema ≡ schema_of []) }
-    ensures made { HasCleanDisk (state S.Store conn.new) → OnOk result (HasNewDesk identity operator_key (state S.Store conn.old) (state S.Store conn.new)) }
-    ensures unmade { HasCleanDisk (state S.Store conn.new) → OnErr result (Stays (state S.Store conn.old) (state S.Store conn.new)) }
-    ensures survives { Survives (state S.Store conn.old) (state S.Store conn.new) (λ trees. Keeps trees (book_of identity operator_key [])) }
+    ensures made { SucceedsIn S.Store conn.old conn.new result (HasNewDesk identity operator_key) }
+    ensures unmade { FailsUnchanged S.Store conn.old conn.new result }
+    ensures survives { Survives (state S.Store conn.old) (state S.Store conn.new)
+        (λ trees. Keeps trees (book_of identity operator_key [])) }
     ensures ended { conn.old.in_transaction ≡ false → conn.new.in_transaction ≡ false }
 {
     let schema = conn.schema();

@@ -22,7 +22,8 @@ trait Same {
 // Are the values of two lists the same, each to each?
 fn are_same<T: Same>(these: &[T], others: &[T]) -> bool
     ensures told { IsTrue result → these.now ≡ others.now }
-    ensures found { AllByRecursion T.Same.is_plain these.now → these.now ≡ others.now → IsTrue result }
+    ensures found { AllByRecursion T.Same.is_plain these.now → these.now ≡ others.now
+        → IsTrue result }
 {
     let mut left = these;
     let mut right = others;
@@ -81,7 +82,8 @@ fn stamps_nothing(stamps: &Stamps) -> bool
 
 // Has the table no INTEGER PRIMARY KEY, no CHECK, no reference and no default that is computed?
 fn is_plain(table: &Table) -> bool
-    ensures { IsTrue result ↔ ((table.now.key ≡ None) × (table.now.checks ≡ []) × (table.now.references ≡ []) × (table.now.computed ≡ []) × (table.now.stamps ≡ no_stamps)) }
+    ensures { IsTrue result ↔ ((table.now.key ≡ None) × (table.now.checks ≡ [])
+        × (table.now.references ≡ []) × (table.now.computed ≡ []) × (table.now.stamps ≡ no_stamps)) }
 {
     table.key.is_none()
         && are_none(&table.checks)
@@ -124,8 +126,10 @@ fn are_same_orders(these: &[Order], others: &[Order]) -> bool
 
 // Have the tables the same primary key and the same UNIQUE keys?
 fn have_same_keys(this: &Table, other: &Table) -> bool
-    ensures told { IsTrue result → (this.now.primary ≡ other.now.primary) × (this.now.uniques ≡ other.now.uniques) × (this.now.orders ≡ other.now.orders) }
-    ensures found { this.now.primary ≡ other.now.primary → this.now.uniques ≡ other.now.uniques → this.now.orders ≡ other.now.orders → IsTrue result }
+    ensures told { IsTrue result → (this.now.primary ≡ other.now.primary)
+        × (this.now.uniques ≡ other.now.uniques) × (this.now.orders ≡ other.now.orders) }
+    ensures found { this.now.primary ≡ other.now.primary → this.now.uniques ≡ other.now.uniques
+        → this.now.orders ≡ other.now.orders → IsTrue result }
 {
     this.primary.as_slice() == other.primary.as_slice()
         && are_same_keys(this.uniques.as_slice(), other.uniques.as_slice())

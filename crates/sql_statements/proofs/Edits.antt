@@ -1,17 +1,18 @@
 -- One edit of a transaction after another.
-use Rattle.std.proofs.Common.{◌≡◌, ℕ, suc, ◌+◌, List, [], ◌∷◌, ◌++◌, length, true, IsTrue, refl, sym, ap, ◌∙◌, subst, arith}
+use Rattle.std.proofs.Common.{◌≡◌, ℕ, suc, ◌+◌, List, [], ◌∷◌, ◌++◌, length, IsTrue, refl, sym, ap, ◌∙◌, subst, arith}
 use Rattle.std.specs.List.{enumerate_from}
-use Rattle.sqlite.specs.State.{State, Shows}
+use Rattle.sqlite.specs.State.{State}
 use Rattle.sql_statements.specs.Edits.{Edit, only_tells, no_edit, then_edit, each_edit, each_edit_from}
 use Rattle.sql_statements.specs.Layouts.{Layout, Holds}
 use Rattle.sql_statements.specs.Transactions.{Makes}
+use Rattle.sql_statements.specs.Promises.{GoesOn, SeesInside}
 
-shows_then : (old mid new : State) → Shows old mid mid.now old.committed true → Shows mid new new.now mid.committed true → Shows old new new.now old.committed true
+shows_then : (old mid new : State) → GoesOn old mid → GoesOn mid new → GoesOn old new
 shows_then old mid new a b = record { was_open = a.was_open; is_open = b.is_open; now_is = refl; committed_is = b.committed_is ∙ a.committed_is; mode = b.mode }
 
 module _ (layout : Layout) where
   -- a statement makes an edit, if it does so of the tables that the database holds
-  pub makes_of : (edit : Edit layout.Tables) (old new : State) → Shows old new new.now old.committed true
+  pub makes_of : (edit : Edit layout.Tables) (old new : State) → GoesOn old new
       → ((t : layout.Tables) → Holds layout old.now t → Holds layout new.now (edit.after t) × edit.Tells t) → Makes layout edit old new
   makes_of edit old new shown holds inside is_open = record { shown = shown; holds = holds }
 
@@ -38,7 +39,7 @@ module _ (layout : Layout) where
   makes_both first last whole joins old mid new a b = makes_as (then_edit first last) whole (λ t told. joins t told.0 told.1) old new (makes_then first last old mid new a b)
 
   -- what changes nothing, as a read does, makes the edit that tells what it found
-  pub makes_told : (Tells : layout.Tables → Type 0) (old new : State) → Shows old new old.now old.committed true → ((t : layout.Tables) → Holds layout old.now t → Tells t) → Makes layout (only_tells Tells) old new
+  pub makes_told : (Tells : layout.Tables → Type 0) (old new : State) → SeesInside old new → ((t : layout.Tables) → Holds layout old.now t → Tells t) → Makes layout (only_tells Tells) old new
   makes_told Tells old new shown told =
       makes_of (only_tells Tells) old new (record { was_open = shown.was_open; is_open = shown.is_open; now_is = refl; committed_is = shown.committed_is; mode = shown.mode })
       (λ t h. (subst (λ d. Holds layout d t) (sym shown.now_is) h, told t h))

@@ -1,15 +1,16 @@
 -- What a query inside a transaction shows and leaves.
-use Rattle.std.proofs.Common.{◌≡◌, ◌⊎◌, inl, inr, ℕ, List, [], ◌∷◌, map, take, slice_get, Option, None, Some, Ok, option_map, refl, subst, sym, ◌∙◌, IsTrue, cond, true}
+use Rattle.std.proofs.Common.{◌≡◌, ◌⊎◌, inl, inr, ℕ, List, [], ◌∷◌, map, take, slice_get, Option, None, Some, Ok, option_map, refl, subst, sym, ◌∙◌, IsTrue, cond}
 use Rattle.sqlite_value.specs.Order.{Row}
 use Rattle.sqlite_schema.specs.declared.command.Returning.{Returning}
 use Rattle.sqlite.specs.declared.error.Error.{Error}
 use Rattle.sqlite.specs.Clock.{timed}
 use Rattle.sqlite.specs.Effect.{Database}
 use Rattle.sqlite.specs.Listing.{understood, reads_listing, IsSourceOf}
-use Rattle.sqlite.specs.State.{State, Shown, FailsToQuery, IsTooLate, IsUnchanged, IsNotRun, Shows, ShowsRows, FailsToShow, KeepsCommit}
+use Rattle.sqlite.specs.State.{State, Shown, FailsToQuery, IsTooLate, IsUnchanged, IsNotRun, ShowsRows, FailsToShow, KeepsCommit}
 use Rattle.sqlite.proofs.Callers.{unchanged_then}
 use Rattle.sql_statements.specs.SelectTexts.{HasNoReturning}
 use Rattle.sql_statements.proofs.Queries.{shown_same, returns_none}
+use Rattle.sql_statements.specs.Promises.{SeesInside}
 
 unchanged_keeps : (old new : State) → IsUnchanged old new → KeepsCommit old new
 unchanged_keeps old new h = record { was_open = λ _. h.0.was_open; committed = λ _. h.0.committed_is }
@@ -29,7 +30,7 @@ shown_after sql params old mid new rows bare same h =
     )
 
 pub shown_leaves : (sql : List ℕ) (params : Row) (old mid new : State) (rows : List Row) → HasNoReturning sql → IsTrue old.in_transaction → IsUnchanged old mid → Shown sql params mid new rows
-    → Shows old new old.now old.committed true
+    → SeesInside old new
 shown_leaves sql params old mid new rows bare inside same h =
     let all = shown_same sql params old new rows bare (shown_after sql params old mid new rows bare same h) in
     record { was_open = all.0.was_open; is_open = all.0.is_open; now_is = all.0.now_is; committed_is = all.0.committed_is; mode = all.0.mode ∙ inside }

@@ -5,6 +5,7 @@ pub mod Findings
 pub mod Layouts
 pub mod OneRow
 pub mod PlainTable
+pub mod Promises
 pub mod Queries
 pub mod SelectTexts
 pub mod Statements

@@ -1,14 +1,15 @@
 -- What a transaction makes of tables, what its commit does, and what a crash leaves of it.
-use Rattle.std.specs.Prelude.{◌≡◌, true, IsTrue}
+use Rattle.std.specs.Prelude.{◌≡◌, IsTrue}
 use Rattle.sqlite_trees.specs.Tree.{Trees}
-use Rattle.sqlite.specs.State.{State, Shows}
+use Rattle.sqlite.specs.State.{State}
 use Rattle.sql_statements.specs.Edits.{Edit}
 use Rattle.sql_statements.specs.Layouts.{Layout, Holds}
+use Rattle.sql_statements.specs.Promises.{GoesOn}
 
 module _ (layout : Layout) (edit : Edit layout.Tables) where
   -- The transaction goes on, nothing is committed, and the tables are those after the edit.
   pub record IsMade (old new : State) : Type 0 where
-    pub shown : Shows old new new.now old.committed true
+    pub shown : GoesOn old new
     pub holds : (t : layout.Tables) → Holds layout old.now t → Holds layout new.now (edit.after t) × edit.Tells t
 
   -- the same, of whatever runs inside a transaction of an open store; what runs no statement does not know that it is there

@@ -1,9 +1,8 @@
 //! A write is one transaction.
-ghost use Rattle.std.specs.Prelude.{◌≡◌, OnOk, OnErr};
 ghost use Rattle.sqlite.specs.Held.{state};
-ghost use Rattle.sqlite.specs.State.{HasCleanDisk, Survives};
-ghost use Rattle.sql_statements.specs.Queries.{Stays};
+ghost use Rattle.sqlite.specs.State.{Survives};
 ghost use Rattle.sql_statements.specs.Transactions.{Commits, Leaves};
+ghost use Rattle.sql_statements.specs.Promises.{SucceedsIn, FailsUnchanged};
 
 use desk_store::StoreFault;
 use sql_statements::{TransactionBody, commit};
@@ -14,11 +13,9 @@ pub(crate) fn write<S: Alter, B: TransactionBody>(
     conn: &mut Connection<S>,
     body: &B,
 ) -> Result<(), StoreFault>
-    ensures done { HasCleanDisk (state S.Store conn.new) →
-        OnOk result (Commits B.TransactionBody.layout (B.TransactionBody.edit body.now)
-        (state S.Store conn.old) (state S.Store conn.new)) }
-    ensures undone { HasCleanDisk (state S.Store conn.new) →
-        OnErr result (Stays (state S.Store conn.old) (state S.Store conn.new)) }
+    ensures done { SucceedsIn S.Store conn.old conn.new result
+        (Commits B.TransactionBody.layout (B.TransactionBody.edit body.now)) }
+    ensures undone { FailsUnchanged S.Store conn.old conn.new result }
     ensures survives { Survives (state S.Store conn.old) (state S.Store conn.new) (Leaves
         B.TransactionBody.layout (B.TransactionBody.edit body.now) (state S.Store conn.old)) }
 {

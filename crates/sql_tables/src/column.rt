@@ -20,9 +20,10 @@ mod words;
 
 pub use accounts::{AccountText, account_text};
 pub(crate) use fields::read_line_reference;
-pub use fields::{read_digest, read_text_or_empty};
+pub use fields::{line_reference, optional_text, read_digest, read_text_or_empty};
 pub use numbers::{read_number, read_ordinal};
-pub use stored_values::{characters, date, natural, number_of};
+pub use stored_values::{characters, date, integer, natural, number_of, switch};
+pub use words::{cause, direction, reason, savings};
 
 /// A `FromColumn` is a value that a column stores.
 pub trait FromColumn: Sized + Drop {

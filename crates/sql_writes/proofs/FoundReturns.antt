@@ -1,10 +1,10 @@
 -- Returns are put in under the order numbers of the submissions that were found for them.
-use Rattle.std.proofs.Common.{◌≡◌, ◌+◌, ℕ, true, List, [], ◌∷◌, ◌++◌, map, length, Ok, refl, sym, ap, ap₂, ◌∙◌, subst}
+use Rattle.std.proofs.Common.{◌≡◌, ◌+◌, ℕ, List, [], ◌∷◌, ◌++◌, map, length, Ok, refl, sym, ap, ap₂, ◌∙◌, subst}
 use Rattle.std.specs.Prelude.{IsSome}
 use Rattle.std.specs.List.{AllByRecursion, flat_map, enumerate_from}
 use Rattle.std.proofs.lemmas.List.{length-map, map-append}
 use Rattle.std.proofs.lemmas.List.FromFn.{length-enumerate_from}
-use Rattle.sqlite.specs.State.{State, Shows, Executes}
+use Rattle.sqlite.specs.State.{State, Executes}
 use Rattle.sqlite.specs.Values.{bound}
 use Rattle.sqlite_keyed.specs.Lists.{insert_sorted}
 use Rattle.sqlite_keyed.proofs.ListLemmas.{all-append}
@@ -14,6 +14,7 @@ use Rattle.sql_statements.specs.Edits.{Edit, only_tells, no_edit, each_edit, eac
 use Rattle.sql_statements.specs.Layouts.{Holds}
 use Rattle.sql_statements.specs.Transactions.{Makes}
 use Rattle.desk_book.specs.declared.flat_rows.ReturnedRow.{ReturnedRow}
+use Rattle.sql_statements.specs.Promises.{GoesOn}
 use Rattle.sql_tables.specs.Layout.{desk_layout}
 use Rattle.sql_tables.specs.RecordRows.{return_row}
 use Rattle.sql_tables.specs.TableEdits.{order_there, put_return_edit}
@@ -59,7 +60,7 @@ more_found first at xs ys x rows next row more long is old mid new =
 
 -- what a statement makes, by what was found before it
 module _ (told : Tables → Type 0) (edit : Edit Tables) (old mid new : State) where
-  makes_found : Makes desk_layout (only_tells told) old mid → Shows mid new new.now mid.committed true
+  makes_found : Makes desk_layout (only_tells told) old mid → GoesOn mid new
       → ((t : Tables) → told t → Holds desk_layout mid.now t → Holds desk_layout new.now (edit.after t) × edit.Tells t) → Makes desk_layout edit old new
   makes_found found shown ran inside is_open =
       let x = found inside is_open in
@@ -81,7 +82,7 @@ record_in t p = record {
   info = p.1.row.info;
 }
 
-pub return_made : (n : ℕ) (x : ReturnedRow) (row : ReturnRow) (old mid new : State) (count : ℕ) → Makes desk_layout (finds_return n x row) old mid → Shows mid new new.now mid.committed true
+pub return_made : (n : ℕ) (x : ReturnedRow) (row : ReturnRow) (old mid new : State) (count : ℕ) → Makes desk_layout (finds_return n x row) old mid → GoesOn mid new
     → Executes insert_return (stored_return row) mid new (Ok count) → Makes desk_layout (put_return_edit n x) old new
 return_made n x row old mid new count found shown ran =
     makes_found _ (put_return_edit n x) old mid new found shown (λ t told h.
@@ -105,7 +106,7 @@ stored_are t (p ∷ ps) = ap (λ l. return_row (record_in t p) ++ l) (stored_are
 
 -- it is as if each return had been put in by a statement of its own
 pub returns_made : (first : ℕ) (xs : List ReturnedRow) → length xs ≡ 16 → (rows : List ReturnRow) (old mid new : State) (count : ℕ) → Makes desk_layout (finds_returns first xs rows) old mid
-    → Shows mid new new.now mid.committed true → Executes insert_returns (flat_map stored_return rows) mid new (Ok count) → Makes desk_layout (each_edit_from put_return_edit first xs) old new
+    → GoesOn mid new → Executes insert_returns (flat_map stored_return rows) mid new (Ok count) → Makes desk_layout (each_edit_from put_return_edit first xs) old new
 returns_made first xs many rows old mid new count found shown ran =
     makes_found _ (each_edit_from put_return_edit first xs) old mid new found shown (λ t told h.
     let ps = enumerate_from first xs in

@@ -1,8 +1,8 @@
 -- The queries of the last number of a table.
-use Rattle.std.proofs.Common.{◌≡◌, ◌+◌, ℕ, ℤ, pos, true, List, [], ◌∷◌, Option, unwrap_or, refl, ap, ◌∙◌}
+use Rattle.std.proofs.Common.{◌≡◌, ◌+◌, ℕ, ℤ, pos, List, [], ◌∷◌, Option, unwrap_or, refl, ap, ◌∙◌}
 use Rattle.std.specs.Ordering.{nat_cmp}
 use Rattle.sqlite.specs.Listing.{understood}
-use Rattle.sqlite.specs.State.{State, Shows}
+use Rattle.sqlite.specs.State.{State}
 use Rattle.sqlite_resolve.specs.Compile.{first}
 use Rattle.sqlite_sql.specs.Term.{eval_all}
 use Rattle.sqlite_tied.specs.Compute.{everything}
@@ -12,6 +12,7 @@ use Rattle.sql_statements.specs.StoredRows.{row_of}
 use Rattle.sql_statements.proofs.Edits.{makes_told}
 use Rattle.sql_statements.specs.Edits.{only_tells}
 use Rattle.sql_statements.specs.Transactions.{Makes}
+use Rattle.sql_statements.specs.Promises.{SeesInside}
 use Rattle.sql_tables.specs.Schema.{desk_schema}
 use Rattle.sql_tables.specs.Columns.{number}
 use Rattle.sql_tables.specs.Layout.{desk_layout}
@@ -55,13 +56,13 @@ last_change_is = record { selects = refl; body = refl; alone = refl; unlisted = 
 module _ {X : Type 0} (of : Listing X) (number_of : X → ℕ) (sql : List ℕ) (is : IsSelect desk_schema sql (query_within (pos 1) of.table.tree [] (places (1 ∷ [])) (falling 1 ∷ [])))
     (shows : (i : ℤ) (x : X) → eval_all (places (1 ∷ [])) ([] ∷ row_of of.encode (i, x) ∷ []) ≡ number (number_of x) ∷ [])
     (compares : (x y : X) → of.cmp x y ≡ nat_cmp (number_of x) (number_of y)) where
-  next_found : {old new : State} {o : Option ℕ} {n : ℕ} → ReadsFirst sql [] (λ n. number n ∷ []) old new o → Shows old new old.now old.committed true → n ≡ unwrap_or o 0 + 1
+  next_found : {old new : State} {o : Option ℕ} {n : ℕ} → ReadsFirst sql [] (λ n. number n ∷ []) old new o → SeesInside old new → n ≡ unwrap_or o 0 + 1
       → Makes desk_layout (only_tells (λ t. n ≡ next_number number_of (of.records t))) old new
   next_found {old} {new} {o} {n} read shown is_next =
       let found = first_found (λ n. number n ∷ []) number_columns (number_shown of number_of sql is shows compares) read in
       makes_told desk_layout (λ t. n ≡ next_number number_of (of.records t)) old new shown (λ t h. is_next ∙ ap (λ last. unwrap_or last 0 + 1) (found.told t h))
 
-pub next_read : (table : NumberedTable) {old new : State} {o : Option ℕ} {n : ℕ} → ReadsFirst (last_text table) [] (λ n. number n ∷ []) old new o → Shows old new old.now old.committed true → n ≡ unwrap_or o 0 + 1
+pub next_read : (table : NumberedTable) {old new : State} {o : Option ℕ} {n : ℕ} → ReadsFirst (last_text table) [] (λ n. number n ∷ []) old new o → SeesInside old new → n ≡ unwrap_or o 0 + 1
     → Makes desk_layout (next_is table n) old new
 next_read tables.Postings = next_found postings (λ p. p.number) (last_text tables.Postings) last_posting_is (λ i x. refl) (λ x y. refl)
 next_read tables.Returns = next_found returns (λ r. r.number) (last_text tables.Returns) last_return_is (λ i x. refl) (λ x y. refl)

@@ -1,8 +1,8 @@
 -- What the query of a submission tells of the row that names it.
-use Rattle.std.proofs.Common.{◌≡◌, ℕ, List, [], ◌∷◌, find, Option, Some, None, option_map, unwrap_or, slice_get, true, refl, sym, ap, subst}
+use Rattle.std.proofs.Common.{◌≡◌, ℕ, List, [], ◌∷◌, find, Option, Some, None, option_map, unwrap_or, slice_get, refl, sym, ap, subst}
 use Rattle.std.specs.Prelude.{IsSome, option_and_then}
 use Rattle.std.specs.Ordering.{nat_cmp, on}
-use Rattle.sqlite.specs.State.{State, Shown, Shows}
+use Rattle.sqlite.specs.State.{State, Shown}
 use Rattle.sqlite_keyed.specs.Lists.{insert_sorted}
 use Rattle.sqlite_value.specs.declared.value.Value.TheVariants.{Text}
 use Rattle.sqlite_value.specs.Order.{Row}
@@ -15,6 +15,7 @@ use Rattle.sql_tables.specs.TableEdits.{order_there, put_change_edit}
 use Rattle.sql_tables.specs.TableReads.{is_under, order_in}
 use Rattle.sql_tables.specs.Tables.{Tables}
 use Rattle.desk_book.specs.declared.flat_rows.ChangedRow.{ChangedRow}
+use Rattle.sql_statements.specs.Promises.{SeesInside}
 use Rattle.sql_tables.specs.declared.records.ChangeRecord.{ChangeRecord}
 use Rattle.sql_tables.specs.declared.records.SubmissionRecord.{SubmissionRecord}
 use Rattle.sql_tables.specs.declared.row.submissions.OrderAndSettlement.{OrderAndSettlement}
@@ -25,7 +26,7 @@ use Rattle.sql_queries.specs.Texts.{order_text}
 use Rattle.sql_writes.specs.RowEdits.{find_order, insert_change_edit}
 
 -- the row that the query shows first is that of the submission under the reference
-pub order_found : (c reference : List ℕ) (found : OrderAndSettlement) (old new : State) → Shows old new old.now old.committed true
+pub order_found : (c reference : List ℕ) (found : OrderAndSettlement) (old new : State) → SeesInside old new
     → (rows : List Row) → Shown order_text (Text c ∷ Text reference ∷ []) old new rows → Some (order_and_settlement_row found) ≡ slice_get rows 0 → Makes desk_layout (find_order c reference found) old new
 order_found c reference found old new shows rows shown is =
     makes_told desk_layout (λ t. Some found ≡ order_in c reference t) old new shows

@@ -1,11 +1,12 @@
 -- Balances to which lines were added in memory, and whose rows do not have these lines yet.
-use Rattle.std.specs.Prelude.{◌≡◌, true, IsTrue, ℕ, ℤ, Bool, ◌&&◌, ◌==◌, List, find, Option, option_map}
+use Rattle.std.specs.Prelude.{◌≡◌, IsTrue, ℕ, ℤ, Bool, ◌&&◌, ◌==◌, List, find, Option, option_map}
 use Rattle.std.specs.Option.{option_or}
-use Rattle.sqlite.specs.State.{State, Shows}
+use Rattle.sqlite.specs.State.{State}
 use Rattle.sql_statements.specs.Layouts.{Holds}
 use Rattle.desk_accounts.specs.declared.account.Account.{Account}
 use Rattle.desk_accounts.specs.declared.posting.Posting.{Posting}
 use Rattle.desk_accounts.specs.Posting.{same_account}
+use Rattle.sql_statements.specs.Promises.{GoesOn}
 use Rattle.sql_tables.specs.Beside.{balance_of}
 use Rattle.sql_tables.specs.KeyOrders.{IsInOrder, balance_cmp}
 use Rattle.sql_tables.specs.Layout.{desk_layout}
@@ -33,7 +34,7 @@ AddsLine p before after = (rows balances : List BalanceRecord) → StandsFor bef
 -- Inside a transaction the balances become these, but for what is pending: in the rows before it these balances were
 -- missing, and those are missing after it.
 pub record IsMadeBut (before after : List PendingBalance) (become : List BalanceRecord → List BalanceRecord) (old new : State) : Type 0 where
-  pub shown : Shows old new new.now old.committed true
+  pub shown : GoesOn old new
   pub holds : (t : Tables) (balances : List BalanceRecord) → Holds desk_layout old.now t → StandsFor before t.balances balances
       → (rows : List BalanceRecord) × Holds desk_layout new.now (record t { balances = rows }) × StandsFor after rows (become balances)
 

@@ -1,10 +1,9 @@
 //! A transaction does the same for each row of a list, for sixteen rows at a time as long as there are so
 //! many.
-ghost use Rattle.std.specs.Prelude.{◌≡◌, ◌+◌, ◌<◌, ◌^◌, length, OnOk};
-ghost use Rattle.sqlite.specs.Held.{state};
-ghost use Rattle.sqlite.specs.State.{HasCleanDisk, Survives, KeepsCommit};
+ghost use Rattle.std.specs.Prelude.{◌≡◌, ◌+◌, ◌<◌, ◌^◌, length};
 ghost use Rattle.sql_statements.specs.Edits.{each_edit_from};
 ghost use Rattle.sql_statements.specs.Transactions.{Makes};
+ghost use Rattle.sql_statements.specs.Promises.{SucceedsIn, KeepsCommitted, LeavesNothingNew};
 
 use sql_statements::{RowBody, run_each};
 use sqlite::{Alter, Error, ErrorCode, Transaction};
@@ -23,9 +22,10 @@ pub(crate) trait BatchBody: RowBody {
         requires many { length rows.now ≡ 16 }
         requires numbers { first + 16 < 2 ^ 64 }
         ensures same_reference { tx.new.conn.ghost_name ≡ tx.old.conn.ghost_name }
-        ensures makes { HasCleanDisk (state S.Store tx.new.conn.now) → OnOk result (Makes Self.layout (each_edit_from (Self.edit self.now) first rows.now) (state S.Store tx.old.conn.now) (state S.Store tx.new.conn.now)) }
-        ensures keeps { HasCleanDisk (state S.Store tx.new.conn.now) → KeepsCommit (state S.Store tx.old.conn.now) (state S.Store tx.new.conn.now) }
-        ensures survives { Survives (state S.Store tx.old.conn.now) (state S.Store tx.new.conn.now) (λ _. ⊥) };
+        ensures makes { SucceedsIn S.Store tx.old.conn.now tx.new.conn.now result
+            (Makes Self.layout (each_edit_from (Self.edit self.now) first rows.now)) }
+        ensures keeps { KeepsCommitted S.Store tx.old.conn.now tx.new.conn.now }
+        ensures survives { LeavesNothingNew S.Store tx.old.conn.now tx.new.conn.now };
 }
 
 /// Runs the statements of each row, in order, with numbers from the first on: of sixteen rows at once, and
@@ -38,9 +38,10 @@ pub(crate) fn run_batches<S: Alter, B: BatchBody>(
     rows: &[B::Row],
 ) -> Result<(), Error>
     ensures same_reference { tx.new.conn.ghost_name ≡ tx.old.conn.ghost_name }
-    ensures makes { HasCleanDisk (state S.Store tx.new.conn.now) → OnOk result (Makes B.RowBody.layout (each_edit_from (B.RowBody.edit body.now) first rows.now) (state S.Store tx.old.conn.now) (state S.Store tx.new.conn.now)) }
-    ensures keeps { HasCleanDisk (state S.Store tx.new.conn.now) → KeepsCommit (state S.Store tx.old.conn.now) (state S.Store tx.new.conn.now) }
-    ensures survives { Survives (state S.Store tx.old.conn.now) (state S.Store tx.new.conn.now) (λ _. ⊥) }
+    ensures makes { SucceedsIn S.Store tx.old.conn.now tx.new.conn.now result
+        (Makes B.RowBody.layout (each_edit_from (B.RowBody.edit body.now) first rows.now)) }
+    ensures keeps { KeepsCommitted S.Store tx.old.conn.now tx.new.conn.now }
+    ensures survives { LeavesNothingNew S.Store tx.old.conn.now tx.new.conn.now }
 {
     let mut number = first;
     let mut rest = rows;

@@ -1,9 +1,8 @@
 //! One value is read inside a transaction.
-ghost use Rattle.std.specs.Prelude.{◌≡◌, true, [], ◌∷◌, IfOk, OnOk};
-ghost use Rattle.sqlite.specs.Held.{state};
-ghost use Rattle.sqlite.specs.State.{HasCleanDisk, Survives, KeepsCommit, Shows};
+ghost use Rattle.std.specs.Prelude.{◌≡◌, [], ◌∷◌, IfOk};
 ghost use Rattle.sqlite.specs.Values.{bound};
 ghost use Rattle.sql_statements.specs.SelectTexts.{IsSelectText};
+ghost use Rattle.sql_statements.specs.Promises.{SucceedsIn, SucceedsWith, KeepsCommitted, LeavesNothingNew, SeesInside};
 ghost use Rattle.sql_tables.specs.Ranges.{FitsIfAny};
 ghost use Rattle.sql_queries.specs.Shows.{ReadsFirst};
 
@@ -22,11 +21,13 @@ pub fn cell_inside<S: Alter, T: FromColumn>(
 ) -> Result<Option<T>, Error>
     requires { IsSelectText sql.now }
     ensures same_reference { tx.new.conn.ghost_name ≡ tx.old.conn.ghost_name }
-    ensures answer { HasCleanDisk (state S.Store tx.new.conn.now) → IfOk result (λ x. ReadsFirst sql.now (bound params.now) (λ x. T.FromColumn.stored x ∷ []) (state S.Store tx.old.conn.now) (state S.Store tx.new.conn.now) x) }
+    ensures answer { SucceedsWith S.Store tx.old.conn.now tx.new.conn.now result
+        (λ x before after. ReadsFirst sql.now (bound params.now)
+        (λ x. T.FromColumn.stored x ∷ []) before after x) }
     ensures fits { IfOk result (FitsIfAny T.FromColumn.fits) }
-    ensures same { HasCleanDisk (state S.Store tx.new.conn.now) → OnOk result (Shows (state S.Store tx.old.conn.now) (state S.Store tx.new.conn.now) (state S.Store tx.old.conn.now).now (state S.Store tx.old.conn.now).committed true) }
-    ensures keeps { HasCleanDisk (state S.Store tx.new.conn.now) → KeepsCommit (state S.Store tx.old.conn.now) (state S.Store tx.new.conn.now) }
-    ensures survives { Survives (state S.Store tx.old.conn.now) (state S.Store tx.new.conn.now) (λ _. ⊥) }
+    ensures same { SucceedsIn S.Store tx.old.conn.now tx.new.conn.now result SeesInside }
+    ensures keeps { KeepsCommitted S.Store tx.old.conn.now tx.new.conn.now }
+    ensures survives { LeavesNothingNew S.Store tx.old.conn.now tx.new.conn.now }
 {
     let Some(row) = query_first_inside(tx, sql, params)? else {
         return Ok(None);

@@ -6,11 +6,10 @@ ghost use Rattle.sql_tables.specs.TableEdits.{put_entry_edit};
 ghost use Rattle.sql_writes.specs.EntryEdits.{held_entry, held_rows, stored_values};
 
 use crate::batches::BatchBody;
-use crate::parameters::{column, optional_text, savings, switch};
 use ach_fields::Id;
 use desk_rules::Entry;
-use sql_queries::characters;
 use sql_statements::{RowBody, execute, number};
+use sql_tables::{characters, integer, optional_text, savings, switch};
 use sqlite::types::ValueRef;
 use sqlite::{Alter, Error, Transaction};
 
@@ -85,14 +84,15 @@ struct EntryRow {
 // The row of the entry that has this number. `Error::InvalidQuery` says that a number is past the last
 // that a column has.
 fn row_of(rows: &EntryRows, index: u64, entry: &Entry) -> Result<EntryRow, Error>
-    ensures { IfOk result (λ row. row ≡ held_entry rows.now.company rows.now.order index entry.now) }
+    ensures { IfOk result
+        (λ row. row ≡ held_entry rows.now.company rows.now.order index entry.now) }
 {
     Ok(EntryRow {
         company: rows.company,
-        order: column(rows.order)?,
-        index: column(index)?,
+        order: integer(rows.order)?,
+        index: integer(index)?,
         routing: entry.routing.text(),
-        cents: column(entry.cents.get())?,
+        cents: integer(entry.cents.get())?,
         entry: *entry,
     })
 }
@@ -101,7 +101,8 @@ fn row_of(rows: &EntryRows, index: u64, entry: &Entry) -> Result<EntryRow, Error
 fn rows_from(rows: &EntryRows, first: u64, entries: &[Entry]) -> Result<[EntryRow; 16], Error>
     requires many { length entries.now ≡ 16 }
     requires numbers { first + 16 < 2 ^ 64 }
-    ensures { IfOk result (λ held. held ≡ held_rows rows.now.company rows.now.order first entries.now) }
+    ensures { IfOk result
+        (λ held. held ≡ held_rows rows.now.company rows.now.order first entries.now) }
 {
     let mut held = [row_of(rows, first, &entries[0])?; 16];
     for at in 0..16 {

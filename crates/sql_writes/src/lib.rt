@@ -14,7 +14,6 @@ mod cut;
 mod entries;
 mod intake;
 mod numbering;
-mod parameters;
 mod registry;
 mod runs;
 mod submissions;

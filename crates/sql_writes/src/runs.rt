@@ -1,10 +1,9 @@
 //! A transaction does the same for each row of a list, for rows that follow one another at a time.
-ghost use Rattle.std.specs.Prelude.{◌≡◌, ◌≤◌, ◌<◌, ◌+◌, ◌^◌, ℕ, Bool, true, IsTrue, take, length, OnOk};
-ghost use Rattle.sqlite.specs.Held.{state};
-ghost use Rattle.sqlite.specs.State.{HasCleanDisk, Survives, KeepsCommit};
+ghost use Rattle.std.specs.Prelude.{◌≡◌, ◌≤◌, ◌<◌, ◌+◌, ◌^◌, ℕ, Bool, true, IsTrue, take, length};
 ghost use Rattle.sql_statements.specs.Edits.{Edit, each_edit_from};
 ghost use Rattle.sql_statements.specs.Layouts.{Layout};
 ghost use Rattle.sql_statements.specs.Transactions.{Makes};
+ghost use Rattle.sql_statements.specs.Promises.{SucceedsIn, KeepsCommitted, LeavesNothingNew};
 ghost use Rattle.sql_writes.specs.Runs.{is_run};
 
 use sqlite::{Alter, Error, ErrorCode, Transaction};
@@ -39,9 +38,10 @@ pub(crate) trait RunBody {
         requires run { is_run (stands_after self.now) rows.now ≡ true }
         requires numbers { first + length rows.now < 2 ^ 64 }
         ensures same_reference { tx.new.conn.ghost_name ≡ tx.old.conn.ghost_name }
-        ensures makes { HasCleanDisk (state S.Store tx.new.conn.now) → OnOk result (Makes layout (each_edit_from (edit self.now) first rows.now) (state S.Store tx.old.conn.now) (state S.Store tx.new.conn.now)) }
-        ensures keeps { HasCleanDisk (state S.Store tx.new.conn.now) → KeepsCommit (state S.Store tx.old.conn.now) (state S.Store tx.new.conn.now) }
-        ensures survives { Survives (state S.Store tx.old.conn.now) (state S.Store tx.new.conn.now) (λ _. ⊥) };
+        ensures makes { SucceedsIn S.Store tx.old.conn.now tx.new.conn.now result
+            (Makes layout (each_edit_from (edit self.now) first rows.now)) }
+        ensures keeps { KeepsCommitted S.Store tx.old.conn.now tx.new.conn.now }
+        ensures survives { LeavesNothingNew S.Store tx.old.conn.now tx.new.conn.now };
 }
 
 // How many rows at the start of a list are a run.
@@ -69,9 +69,10 @@ pub(crate) fn run_runs<S: Alter, B: RunBody>(
     rows: &[B::Row],
 ) -> Result<(), Error>
     ensures same_reference { tx.new.conn.ghost_name ≡ tx.old.conn.ghost_name }
-    ensures makes { HasCleanDisk (state S.Store tx.new.conn.now) → OnOk result (Makes B.layout (each_edit_from (B.edit body.now) first rows.now) (state S.Store tx.old.conn.now) (state S.Store tx.new.conn.now)) }
-    ensures keeps { HasCleanDisk (state S.Store tx.new.conn.now) → KeepsCommit (state S.Store tx.old.conn.now) (state S.Store tx.new.conn.now) }
-    ensures survives { Survives (state S.Store tx.old.conn.now) (state S.Store tx.new.conn.now) (λ _. ⊥) }
+    ensures makes { SucceedsIn S.Store tx.old.conn.now tx.new.conn.now result
+        (Makes B.layout (each_edit_from (B.edit body.now) first rows.now)) }
+    ensures keeps { KeepsCommitted S.Store tx.old.conn.now tx.new.conn.now }
+    ensures survives { LeavesNothingNew S.Store tx.old.conn.now tx.new.conn.now }
 {
     let mut number = first;
     let mut rest = rows;

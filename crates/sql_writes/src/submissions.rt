@@ -1,8 +1,7 @@
 //! A submission or a retry is written with its entries.
-ghost use Rattle.std.specs.Prelude.{◌≡◌, Some, IfOk, IsTrue, OnOk, option_map, option_and_then};
-ghost use Rattle.sqlite.specs.Held.{state};
-ghost use Rattle.sqlite.specs.State.{HasCleanDisk, Survives, KeepsCommit};
+ghost use Rattle.std.specs.Prelude.{◌≡◌, Some, IfOk, IsTrue, option_map, option_and_then};
 ghost use Rattle.sql_statements.specs.Transactions.{Makes};
+ghost use Rattle.sql_statements.specs.Promises.{SucceedsIn, KeepsCommitted, LeavesNothingNew};
 ghost use Rattle.sqlite.specs.Values.{bound_value, or_null};
 ghost use Rattle.sqlite_value.specs.Value.{owned};
 ghost use Rattle.sqlite_value.specs.declared.value.Value.TheVariants.{Text};
@@ -13,12 +12,11 @@ ghost use Rattle.sql_tables.specs.TableEdits.{add_submission_edit, put_submissio
 
 use crate::batches::run_batches;
 use crate::entries::EntryRows;
-use crate::parameters::{direction, switch};
 use ach_fields::{Id, Ref};
 use bank_days::Day;
 use desk_rules::{Retry, RuleDay, SizedSubmission, Submission};
-use sql_queries::{characters, date, natural};
 use sql_statements::{TransactionBody, execute};
+use sql_tables::{characters, date, direction, natural, switch};
 use sqlite::types::ValueRef;
 use sqlite::{Alter, Error, Transaction};
 
@@ -65,7 +63,8 @@ fn asks_as(reference: &Ref, day: RuleDay, retry: &Option<Retry>) -> bool
 
 // The reference of the submission whose entry a retry tries again, NULL where there is no retry.
 fn retried_reference<'a>(retry: &'a Option<Retry>) -> ValueRef<'a>
-    ensures { bound_value (owned result) ≡ or_null Text (option_map (λ r. r.of) (option_map retried_entry retry.now)) }
+    ensures { bound_value (owned result) ≡ or_null Text
+        (option_map (λ r. r.of) (option_map retried_entry retry.now)) }
 {
     match retry {
         None => ValueRef::Null,
@@ -75,7 +74,9 @@ fn retried_reference<'a>(retry: &'a Option<Retry>) -> ValueRef<'a>
 
 // The number of the entry that a retry tries again, NULL where there is no retry.
 fn retried_index<'a>(retry: &Option<Retry>) -> Result<ValueRef<'a>, Error>
-    ensures { IfOk result (λ v. bound_value (owned v) ≡ or_null number (option_map (λ r. r.index) (option_map retried_entry retry.now))) }
+    ensures { IfOk result
+        (λ v. bound_value (owned v) ≡ or_null number
+        (option_map (λ r. r.index) (option_map retried_entry retry.now))) }
 {
     match retry {
         None => Ok(ValueRef::Null),
@@ -102,9 +103,10 @@ fn put_submission<'x, S: Alter>(
     retry: &'x Option<Retry>,
 ) -> Result<(), Error>
     ensures same_reference { tx.new.conn.ghost_name ≡ tx.old.conn.ghost_name }
-    ensures makes { HasCleanDisk (state S.Store tx.new.conn.now) → OnOk result (Makes desk_layout (put_submission_edit company.now order content.now retry.now) (state S.Store tx.old.conn.now) (state S.Store tx.new.conn.now)) }
-    ensures keeps { HasCleanDisk (state S.Store tx.new.conn.now) → KeepsCommit (state S.Store tx.old.conn.now) (state S.Store tx.new.conn.now) }
-    ensures survives { Survives (state S.Store tx.old.conn.now) (state S.Store tx.new.conn.now) (λ _. ⊥) }
+    ensures makes { SucceedsIn S.Store tx.old.conn.now tx.new.conn.now result
+        (Makes desk_layout (put_submission_edit company.now order content.now retry.now)) }
+    ensures keeps { KeepsCommitted S.Store tx.old.conn.now tx.new.conn.now }
+    ensures survives { LeavesNothingNew S.Store tx.old.conn.now tx.new.conn.now }
 {
     if !asks_as(&content.reference, content.day, retry) {
         return Err(Error::InvalidQuery);
@@ -142,9 +144,10 @@ fn put_authorization<S: Alter>(
     authorized: Option<Day>,
 ) -> Result<(), Error>
     ensures same_reference { tx.new.conn.ghost_name ≡ tx.old.conn.ghost_name }
-    ensures makes { HasCleanDisk (state S.Store tx.new.conn.now) → OnOk result (Makes desk_layout (put_authorization_edit company.now order authorized) (state S.Store tx.old.conn.now) (state S.Store tx.new.conn.now)) }
-    ensures keeps { HasCleanDisk (state S.Store tx.new.conn.now) → KeepsCommit (state S.Store tx.old.conn.now) (state S.Store tx.new.conn.now) }
-    ensures survives { Survives (state S.Store tx.old.conn.now) (state S.Store tx.new.conn.now) (λ _. ⊥) }
+    ensures makes { SucceedsIn S.Store tx.old.conn.now tx.new.conn.now result
+        (Makes desk_layout (put_authorization_edit company.now order authorized)) }
+    ensures keeps { KeepsCommitted S.Store tx.old.conn.now tx.new.conn.now }
+    ensures survives { LeavesNothingNew S.Store tx.old.conn.now tx.new.conn.now }
 {
     match authorized {
         None => Ok(()),
@@ -160,9 +163,10 @@ fn put_authorized_day<S: Alter>(
     day: Day,
 ) -> Result<(), Error>
     ensures same_reference { tx.new.conn.ghost_name ≡ tx.old.conn.ghost_name }
-    ensures makes { HasCleanDisk (state S.Store tx.new.conn.now) → OnOk result (Makes desk_layout (put_authorization_edit company.now order (Some day)) (state S.Store tx.old.conn.now) (state S.Store tx.new.conn.now)) }
-    ensures keeps { HasCleanDisk (state S.Store tx.new.conn.now) → KeepsCommit (state S.Store tx.old.conn.now) (state S.Store tx.new.conn.now) }
-    ensures survives { Survives (state S.Store tx.old.conn.now) (state S.Store tx.new.conn.now) (λ _. ⊥) }
+    ensures makes { SucceedsIn S.Store tx.old.conn.now tx.new.conn.now result
+        (Makes desk_layout (put_authorization_edit company.now order (Some day))) }
+    ensures keeps { KeepsCommitted S.Store tx.old.conn.now tx.new.conn.now }
+    ensures survives { LeavesNothingNew S.Store tx.old.conn.now tx.new.conn.now }
 {
     let order = natural(order)?;
     execute(

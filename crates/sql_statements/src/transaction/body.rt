@@ -1,11 +1,11 @@
 //! The body of a transaction is made and committed.
-ghost use Rattle.std.specs.Prelude.{◌≡◌, false, IsTrue, OnOk, OnErr, Err};
+ghost use Rattle.std.specs.Prelude.{◌≡◌, false, IsTrue, Err};
 ghost use Rattle.sqlite.specs.Held.{state};
-ghost use Rattle.sqlite.specs.State.{HasCleanDisk, Survives, KeepsCommit};
-ghost use Rattle.sql_statements.specs.Queries.{Stays};
+ghost use Rattle.sqlite.specs.State.{Survives};
 ghost use Rattle.sql_statements.specs.Edits.{Edit};
 ghost use Rattle.sql_statements.specs.Layouts.{Layout};
 ghost use Rattle.sql_statements.specs.Transactions.{Makes, Commits, Leaves};
+ghost use Rattle.sql_statements.specs.Promises.{SucceedsIn, FailsUnchanged, KeepsCommitted, LeavesNothingNew};
 
 use crate::transaction::live::check_live;
 use sqlite::{Alter, Connection, Error, Transaction};
@@ -21,9 +21,10 @@ pub trait TransactionBody {
     /// Runs the statements. After an error the transaction has to be rolled back.
     fn run<S: Alter>(&self, tx: &mut Transaction<'_, S>) -> Result<(), Error>
         ensures same_reference { tx.new.conn.ghost_name ≡ tx.old.conn.ghost_name }
-        ensures makes { HasCleanDisk (state S.Store tx.new.conn.now) → OnOk result (Makes layout (edit self.now) (state S.Store tx.old.conn.now) (state S.Store tx.new.conn.now)) }
-        ensures keeps { HasCleanDisk (state S.Store tx.new.conn.now) → KeepsCommit (state S.Store tx.old.conn.now) (state S.Store tx.new.conn.now) }
-        ensures survives { Survives (state S.Store tx.old.conn.now) (state S.Store tx.new.conn.now) (λ _. ⊥) };
+        ensures makes { SucceedsIn S.Store tx.old.conn.now tx.new.conn.now result
+            (Makes layout (edit self.now)) }
+        ensures keeps { KeepsCommitted S.Store tx.old.conn.now tx.new.conn.now }
+        ensures survives { LeavesNothingNew S.Store tx.old.conn.now tx.new.conn.now };
 }
 
 /// Makes the edit of a body whole, in one transaction, or leaves the tables as they were: where the
@@ -31,10 +32,14 @@ pub trait TransactionBody {
 /// the edit or after it. A connection that is inside a transaction is refused with
 /// `Error::InvalidQuery`, and its transaction goes on.
 pub fn commit<S: Alter, B: TransactionBody>(conn: &mut Connection<S>, body: &B) -> Result<(), Error>
-    ensures done { HasCleanDisk (state S.Store conn.new) → OnOk result (Commits B.TransactionBody.layout (B.TransactionBody.edit body.now) (state S.Store conn.old) (state S.Store conn.new)) }
-    ensures undone { HasCleanDisk (state S.Store conn.new) → OnErr result (Stays (state S.Store conn.old) (state S.Store conn.new)) }
-    ensures survives { Survives (state S.Store conn.old) (state S.Store conn.new) (Leaves B.TransactionBody.layout (B.TransactionBody.edit body.now) (state S.Store conn.old)) }
-    ensures refused { IsTrue conn.old.in_transaction → (result ≡ Err Error.InvalidQuery) × (conn.new ≡ conn.old) }
+    ensures done { SucceedsIn S.Store conn.old conn.new result
+        (Commits B.TransactionBody.layout (B.TransactionBody.edit body.now)) }
+    ensures undone { FailsUnchanged S.Store conn.old conn.new result }
+    ensures survives { Survives (state S.Store conn.old) (state S.Store conn.new)
+        (Leaves B.TransactionBody.layout (B.TransactionBody.edit body.now)
+        (state S.Store conn.old)) }
+    ensures refused { IsTrue conn.old.in_transaction → (result ≡ Err Error.InvalidQuery)
+        × (conn.new ≡ conn.old) }
     ensures ended { conn.old.in_transaction ≡ false → conn.new.in_transaction ≡ false }
 {
     if !conn.is_autocommit() {

@@ -1,10 +1,9 @@
 //! A transaction does the same for each row of a list.
-ghost use Rattle.std.specs.Prelude.{◌≡◌, ℕ, OnOk};
-ghost use Rattle.sqlite.specs.Held.{state};
-ghost use Rattle.sqlite.specs.State.{HasCleanDisk, Survives, KeepsCommit};
+ghost use Rattle.std.specs.Prelude.{◌≡◌, ℕ};
 ghost use Rattle.sql_statements.specs.Edits.{Edit, each_edit_from};
 ghost use Rattle.sql_statements.specs.Layouts.{Layout};
 ghost use Rattle.sql_statements.specs.Transactions.{Makes};
+ghost use Rattle.sql_statements.specs.Promises.{SucceedsIn, KeepsCommitted, LeavesNothingNew};
 
 use sqlite::{Alter, Error, ErrorCode, Transaction};
 
@@ -27,9 +26,10 @@ pub trait RowBody {
         row: &Self::Row,
     ) -> Result<(), Error>
         ensures same_reference { tx.new.conn.ghost_name ≡ tx.old.conn.ghost_name }
-        ensures makes { HasCleanDisk (state S.Store tx.new.conn.now) → OnOk result (Makes layout (edit self.now number row.now) (state S.Store tx.old.conn.now) (state S.Store tx.new.conn.now)) }
-        ensures keeps { HasCleanDisk (state S.Store tx.new.conn.now) → KeepsCommit (state S.Store tx.old.conn.now) (state S.Store tx.new.conn.now) }
-        ensures survives { Survives (state S.Store tx.old.conn.now) (state S.Store tx.new.conn.now) (λ _. ⊥) };
+        ensures makes { SucceedsIn S.Store tx.old.conn.now tx.new.conn.now result
+            (Makes layout (edit self.now number row.now)) }
+        ensures keeps { KeepsCommitted S.Store tx.old.conn.now tx.new.conn.now }
+        ensures survives { LeavesNothingNew S.Store tx.old.conn.now tx.new.conn.now };
 }
 
 /// Runs the statements of each row, in order, with numbers from the first on. Where no number comes
@@ -41,9 +41,10 @@ pub fn run_each<S: Alter, B: RowBody>(
     rows: &[B::Row],
 ) -> Result<(), Error>
     ensures same_reference { tx.new.conn.ghost_name ≡ tx.old.conn.ghost_name }
-    ensures makes { HasCleanDisk (state S.Store tx.new.conn.now) → OnOk result (Makes B.RowBody.layout (each_edit_from (B.RowBody.edit body.now) first rows.now) (state S.Store tx.old.conn.now) (state S.Store tx.new.conn.now)) }
-    ensures keeps { HasCleanDisk (state S.Store tx.new.conn.now) → KeepsCommit (state S.Store tx.old.conn.now) (state S.Store tx.new.conn.now) }
-    ensures survives { Survives (state S.Store tx.old.conn.now) (state S.Store tx.new.conn.now) (λ _. ⊥) }
+    ensures makes { SucceedsIn S.Store tx.old.conn.now tx.new.conn.now result
+        (Makes B.RowBody.layout (each_edit_from (B.RowBody.edit body.now) first rows.now)) }
+    ensures keeps { KeepsCommitted S.Store tx.old.conn.now tx.new.conn.now }
+    ensures survives { LeavesNothingNew S.Store tx.old.conn.now tx.new.conn.now }
 {
     let mut number = first;
     for row in rows {

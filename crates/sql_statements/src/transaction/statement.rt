@@ -1,10 +1,10 @@
 //! A transaction runs a statement of one row, and reads what it sees.
-ghost use Rattle.std.specs.Prelude.{◌≡◌, true, IsTrue, IfOk, OnOk, Ok, List, slice_get};
-ghost use Rattle.sqlite.specs.Held.{state};
-ghost use Rattle.sqlite.specs.State.{HasCleanDisk, Survives, KeepsCommit, Shows, Shown, Executes};
+ghost use Rattle.std.specs.Prelude.{◌≡◌, Ok, List, slice_get};
+ghost use Rattle.sqlite.specs.State.{Shown, Executes};
 ghost use Rattle.sqlite.specs.Values.{bound};
 ghost use Rattle.sqlite_value.specs.Order.{Row};
 ghost use Rattle.sql_statements.specs.SelectTexts.{IsSelectText};
+ghost use Rattle.sql_statements.specs.Promises.{SucceedsIn, SucceedsWith, KeepsCommitted, LeavesNothingNew, GoesOn, SeesInside};
 
 use crate::statement::execute;
 use crate::transaction::live::check_live;
@@ -19,10 +19,11 @@ pub fn execute_one<S: Alter>(
     params: &[ValueRef<'_>],
 ) -> Result<(), Error>
     ensures same_reference { tx.new.conn.ghost_name ≡ tx.old.conn.ghost_name }
-    ensures ran { HasCleanDisk (state S.Store tx.new.conn.now) → OnOk result (Executes sql.now (bound params.now) (state S.Store tx.old.conn.now) (state S.Store tx.new.conn.now) (Ok 1)) }
-    ensures shown { HasCleanDisk (state S.Store tx.new.conn.now) → OnOk result (Shows (state S.Store tx.old.conn.now) (state S.Store tx.new.conn.now) (state S.Store tx.new.conn.now).now (state S.Store tx.old.conn.now).committed true) }
-    ensures keeps { HasCleanDisk (state S.Store tx.new.conn.now) → KeepsCommit (state S.Store tx.old.conn.now) (state S.Store tx.new.conn.now) }
-    ensures survives { Survives (state S.Store tx.old.conn.now) (state S.Store tx.new.conn.now) (λ _. ⊥) }
+    ensures ran { SucceedsIn S.Store tx.old.conn.now tx.new.conn.now result
+        (λ before after. Executes sql.now (bound params.now) before after (Ok 1)) }
+    ensures shown { SucceedsIn S.Store tx.old.conn.now tx.new.conn.now result GoesOn }
+    ensures keeps { KeepsCommitted S.Store tx.old.conn.now tx.new.conn.now }
+    ensures survives { LeavesNothingNew S.Store tx.old.conn.now tx.new.conn.now }
 {
     let count = execute(tx, sql, params)?;
     if count == 1 {
@@ -39,10 +40,12 @@ pub fn query_inside<S: Alter>(
     params: &[ValueRef<'_>],
 ) -> Result<Vec<Row>, Error>
     ensures same_reference { tx.new.conn.ghost_name ≡ tx.old.conn.ghost_name }
-    ensures answer { IsSelectText sql.now → HasCleanDisk (state S.Store tx.new.conn.now) → IfOk result (λ rows. Shown sql.now (bound params.now) (state S.Store tx.old.conn.now) (state S.Store tx.new.conn.now) rows.items) }
-    ensures same { IsSelectText sql.now → HasCleanDisk (state S.Store tx.new.conn.now) → OnOk result (Shows (state S.Store tx.old.conn.now) (state S.Store tx.new.conn.now) (state S.Store tx.old.conn.now).now (state S.Store tx.old.conn.now).committed true) }
-    ensures keeps { HasCleanDisk (state S.Store tx.new.conn.now) → KeepsCommit (state S.Store tx.old.conn.now) (state S.Store tx.new.conn.now) }
-    ensures survives { Survives (state S.Store tx.old.conn.now) (state S.Store tx.new.conn.now) (λ _. ⊥) }
+    ensures answer { IsSelectText sql.now → SucceedsWith S.Store tx.old.conn.now tx.new.conn.now
+        result (λ rows before after. Shown sql.now (bound params.now) before after rows.items) }
+    ensures same { IsSelectText sql.now
+        → SucceedsIn S.Store tx.old.conn.now tx.new.conn.now result SeesInside }
+    ensures keeps { KeepsCommitted S.Store tx.old.conn.now tx.new.conn.now }
+    ensures survives { LeavesNothingNew S.Store tx.old.conn.now tx.new.conn.now }
 {
     check_live(tx)?;
     let rows = tx.query_all(sql, params)?;
@@ -57,10 +60,14 @@ pub fn query_first_inside<S: Alter>(
     params: &[ValueRef<'_>],
 ) -> Result<Option<Row>, Error>
     ensures same_reference { tx.new.conn.ghost_name ≡ tx.old.conn.ghost_name }
-    ensures answer { IsSelectText sql.now → HasCleanDisk (state S.Store tx.new.conn.now) → IfOk result (λ row. (rows : List Row) × Shown sql.now (bound params.now) (state S.Store tx.old.conn.now) (state S.Store tx.new.conn.now) rows × (row ≡ slice_get rows 0)) }
-    ensures same { IsSelectText sql.now → HasCleanDisk (state S.Store tx.new.conn.now) → OnOk result (Shows (state S.Store tx.old.conn.now) (state S.Store tx.new.conn.now) (state S.Store tx.old.conn.now).now (state S.Store tx.old.conn.now).committed true) }
-    ensures keeps { HasCleanDisk (state S.Store tx.new.conn.now) → KeepsCommit (state S.Store tx.old.conn.now) (state S.Store tx.new.conn.now) }
-    ensures survives { Survives (state S.Store tx.old.conn.now) (state S.Store tx.new.conn.now) (λ _. ⊥) }
+    ensures answer { IsSelectText sql.now
+        → SucceedsWith S.Store tx.old.conn.now tx.new.conn.now result
+        (λ row before after. (rows : List Row) × Shown sql.now (bound params.now) before after rows
+        × (row ≡ slice_get rows 0)) }
+    ensures same { IsSelectText sql.now
+        → SucceedsIn S.Store tx.old.conn.now tx.new.conn.now result SeesInside }
+    ensures keeps { KeepsCommitted S.Store tx.old.conn.now tx.new.conn.now }
+    ensures survives { LeavesNothingNew S.Store tx.old.conn.now tx.new.conn.now }
 {
     let mut rows = query_inside(tx, sql, params)?;
     if rows.is_empty() {

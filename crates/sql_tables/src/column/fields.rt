@@ -1,6 +1,8 @@
 //! Fields of entries and files stand in columns as their texts.
 ghost use Rattle.std.specs.Prelude.{◌≡◌, ◌≢◌, ◌↔◌, IsTrue, IfSome, IfNone, length};
+ghost use Rattle.sqlite.specs.Values.{bound_value, or_null};
 ghost use Rattle.sqlite_value.specs.Order.{column};
+ghost use Rattle.sqlite_value.specs.Value.{owned};
 ghost use Rattle.sqlite_value.specs.declared.value.Value.TheVariants.{Text, Blob};
 ghost use Rattle.ach_fields.specs.Names.{is_id, is_reference};
 ghost use Rattle.ach_fields.specs.Routing.{is_routing};
@@ -10,7 +12,7 @@ ghost use Rattle.sql_tables.specs.Columns.{letter, line_reference};
 ghost use Rattle.sql_tables.specs.Ranges.{FitsIfAny, IsModifier, IsText, IsRecordText};
 ghost use Rattle.sql_tables.specs.Reading.{Reads};
 
-use super::{FromColumn, text_in, value_at};
+use super::{FromColumn, characters, text_in, value_at};
 use ach_fields::{Id, Ref, Routing, ShortText, are_printable};
 use desk_history::PartyName;
 use desk_rules::ReturnCode;
@@ -39,13 +41,24 @@ impl FromColumn for Ref {
 
 /// Reads the reference of a line, which may have none, from the column that has this index.
 pub(crate) fn read_line_reference(row: &Row, at: usize) -> Option<Option<Ref>>
-    ensures { Reads line_reference (FitsIfAny (λ s. IsTrue (is_reference s))) (column row.now at) result }
+    ensures { Reads line_reference (FitsIfAny (λ s. IsTrue (is_reference s)))
+        (column row.now at) result }
 {
     let text = text_in(value_at(row, at))?;
     if text.is_empty() {
         return Some(None);
     }
     Some(Some(Ref::new(text).ok()?))
+}
+
+/// Gives the reference of a line, as a column has it: the empty text where it has none.
+pub fn line_reference<'a>(reference: &'a Option<Ref>) -> ValueRef<'a>
+    ensures { bound_value (owned result) ≡ line_reference reference.now }
+{
+    match reference {
+        None => characters(b""),
+        Some(reference) => characters(reference.bytes()),
+    }
 }
 
 impl FromColumn for Routing {
@@ -69,6 +82,16 @@ impl<const N: usize> FromColumn for ShortText<N> {
             return None;
         }
         ShortText::new(text).ok()
+    }
+}
+
+/// Gives a text, as a column without NOT NULL has it.
+pub fn optional_text<'a, const N: usize>(text: &'a Option<ShortText<N>>) -> ValueRef<'a>
+    ensures { bound_value (owned result) ≡ or_null Text text.now }
+{
+    match text {
+        None => ValueRef::Null,
+        Some(text) => characters(text.bytes()),
     }
 }
 

@@ -1,8 +1,7 @@
 //! Balances: the sums of the lines of an account and a value day.
-ghost use Rattle.std.specs.Prelude.{◌≡◌, IfOk, OnOk};
-ghost use Rattle.sqlite.specs.Held.{state};
-ghost use Rattle.sqlite.specs.State.{HasCleanDisk, Survives, KeepsCommit};
+ghost use Rattle.std.specs.Prelude.{◌≡◌};
 ghost use Rattle.sql_statements.specs.Transactions.{Makes};
+ghost use Rattle.sql_statements.specs.Promises.{SucceedsIn, SucceedsWith, KeepsCommitted, LeavesNothingNew};
 ghost use Rattle.sql_tables.specs.Layout.{desk_layout};
 ghost use Rattle.sql_writes.specs.LineEdits.{put_balance_edit, sum_is};
 
@@ -11,8 +10,8 @@ use crate::cell::cell_inside;
 use bank_days::Day;
 use desk_accounts::Account;
 use itoa::Buffer;
-use sql_queries::{characters, date};
 use sql_statements::execute;
+use sql_tables::{characters, date};
 use sqlite::{Alter, Error, Transaction};
 
 /// Finds the sum of an account's lines of a value day, as the transaction sees it.
@@ -22,9 +21,10 @@ pub(crate) fn sum_inside<S: Alter>(
     value_day: Day,
 ) -> Result<Option<i128>, Error>
     ensures same_reference { tx.new.conn.ghost_name ≡ tx.old.conn.ghost_name }
-    ensures makes { HasCleanDisk (state S.Store tx.new.conn.now) → IfOk result (λ sum. Makes desk_layout (sum_is account.now value_day sum) (state S.Store tx.old.conn.now) (state S.Store tx.new.conn.now)) }
-    ensures keeps { HasCleanDisk (state S.Store tx.new.conn.now) → KeepsCommit (state S.Store tx.old.conn.now) (state S.Store tx.new.conn.now) }
-    ensures survives { Survives (state S.Store tx.old.conn.now) (state S.Store tx.new.conn.now) (λ _. ⊥) }
+    ensures makes { SucceedsWith S.Store tx.old.conn.now tx.new.conn.now result
+        (λ sum. Makes desk_layout (sum_is account.now value_day sum)) }
+    ensures keeps { KeepsCommitted S.Store tx.old.conn.now tx.new.conn.now }
+    ensures survives { LeavesNothingNew S.Store tx.old.conn.now tx.new.conn.now }
 {
     let text = account_text(account);
     let sum = cell_inside(
@@ -43,9 +43,10 @@ pub(crate) fn put_balance<S: Alter>(
     cents: i128,
 ) -> Result<(), Error>
     ensures same_reference { tx.new.conn.ghost_name ≡ tx.old.conn.ghost_name }
-    ensures makes { HasCleanDisk (state S.Store tx.new.conn.now) → OnOk result (Makes desk_layout (put_balance_edit account.now value_day cents) (state S.Store tx.old.conn.now) (state S.Store tx.new.conn.now)) }
-    ensures keeps { HasCleanDisk (state S.Store tx.new.conn.now) → KeepsCommit (state S.Store tx.old.conn.now) (state S.Store tx.new.conn.now) }
-    ensures survives { Survives (state S.Store tx.old.conn.now) (state S.Store tx.new.conn.now) (λ _. ⊥) }
+    ensures makes { SucceedsIn S.Store tx.old.conn.now tx.new.conn.now result
+        (Makes desk_layout (put_balance_edit account.now value_day cents)) }
+    ensures keeps { KeepsCommitted S.Store tx.old.conn.now tx.new.conn.now }
+    ensures survives { LeavesNothingNew S.Store tx.old.conn.now tx.new.conn.now }
 {
     let text = account_text(account);
     let mut digits = Buffer::new();

@@ -3,9 +3,8 @@
 ghost use Rattle.std.specs.Prelude.{◌≡◌, ◌-◌, ◌<◌, ◌+ℤ◌, ℕ, pos, [], take, IfOk, OnOk, unwrap_or};
 ghost use Rattle.std.specs.List.{position_or_len};
 ghost use Rattle.arrayvec.specs.ArrayVec.{array_vec_len};
-ghost use Rattle.sqlite.specs.Held.{state};
-ghost use Rattle.sqlite.specs.State.{HasCleanDisk, Survives, KeepsCommit};
 ghost use Rattle.sql_statements.specs.Transactions.{Makes};
+ghost use Rattle.sql_statements.specs.Promises.{SucceedsIn, KeepsCommitted, LeavesNothingNew};
 ghost use Rattle.sql_tables.specs.Layout.{desk_layout};
 ghost use Rattle.sql_writes.specs.LineEdits.{with_line, add_lines_edit};
 ghost use Rattle.sql_writes.specs.PendingBalances.{is_pending_of, AddsLine, MakesBut};
@@ -51,9 +50,10 @@ pub(crate) fn add_lines<S: Alter>(
     lines: &[Posting],
 ) -> Result<(), Error>
     ensures same_reference { tx.new.conn.ghost_name ≡ tx.old.conn.ghost_name }
-    ensures makes { HasCleanDisk (state S.Store tx.new.conn.now) → OnOk result (Makes desk_layout (add_lines_edit lines.now) (state S.Store tx.old.conn.now) (state S.Store tx.new.conn.now)) }
-    ensures keeps { HasCleanDisk (state S.Store tx.new.conn.now) → KeepsCommit (state S.Store tx.old.conn.now) (state S.Store tx.new.conn.now) }
-    ensures survives { Survives (state S.Store tx.old.conn.now) (state S.Store tx.new.conn.now) (λ _. ⊥) }
+    ensures makes { SucceedsIn S.Store tx.old.conn.now tx.new.conn.now result
+        (Makes desk_layout (add_lines_edit lines.now)) }
+    ensures keeps { KeepsCommitted S.Store tx.old.conn.now tx.new.conn.now }
+    ensures survives { LeavesNothingNew S.Store tx.old.conn.now tx.new.conn.now }
 {
     let mut pending: PendingBalances = ArrayVec::new();
     for line in lines {
@@ -70,9 +70,10 @@ fn add_line<S: Alter>(
     line: &Posting,
 ) -> Result<(), Error>
     ensures same_reference { tx.new.conn.ghost_name ≡ tx.old.conn.ghost_name }
-    ensures makes { HasCleanDisk (state S.Store tx.new.conn.now) → OnOk result (MakesBut pending.old.items pending.new.items (with_line line.now) (state S.Store tx.old.conn.now) (state S.Store tx.new.conn.now)) }
-    ensures keeps { HasCleanDisk (state S.Store tx.new.conn.now) → KeepsCommit (state S.Store tx.old.conn.now) (state S.Store tx.new.conn.now) }
-    ensures survives { Survives (state S.Store tx.old.conn.now) (state S.Store tx.new.conn.now) (λ _. ⊥) }
+    ensures makes { SucceedsIn S.Store tx.old.conn.now tx.new.conn.now result
+        (MakesBut pending.old.items pending.new.items (with_line line.now)) }
+    ensures keeps { KeepsCommitted S.Store tx.old.conn.now tx.new.conn.now }
+    ensures survives { LeavesNothingNew S.Store tx.old.conn.now tx.new.conn.now }
 {
     let at = place_of(pending.as_slice(), line);
     if at < pending.len() {
@@ -85,7 +86,8 @@ fn add_line<S: Alter>(
 
 // The place of the balance of a line's account and value day, or after the last where there is none.
 fn place_of(pending: &[PendingBalance], line: &Posting) -> usize
-    ensures { result ≡ position_or_len (is_pending_of line.now.account line.now.value_day) pending.now }
+    ensures { result ≡ position_or_len
+        (is_pending_of line.now.account line.now.value_day) pending.now }
 {
     let mut at = 0;
     for balance in pending {
@@ -106,7 +108,8 @@ fn is_of(balance: &PendingBalance, line: &Posting) -> bool
 
 // Adds a line to a pending balance, the first of its account and value day.
 fn add_there(pending: &mut PendingBalances, at: usize, line: &Posting) -> Result<(), Error>
-    requires first { at ≡ position_or_len (is_pending_of line.now.account line.now.value_day) pending.old.items }
+    requires first { at ≡ position_or_len
+        (is_pending_of line.now.account line.now.value_day) pending.old.items }
     requires within { at < array_vec_len pending.old }
     ensures { OnOk result (AddsLine line.now pending.old.items pending.new.items) }
 {
@@ -127,7 +130,8 @@ fn sum_with(before: Option<i128>, cents: i64) -> Result<i128, Error>
 
 // The balance of a line's account and value day, with this sum.
 fn with_sum(line: &Posting, cents: i128) -> PendingBalance
-    ensures { result ≡ record { account = line.now.account; value_day = line.now.value_day; cents = cents } }
+    ensures { result ≡ record
+        { account = line.now.account; value_day = line.now.value_day; cents = cents } }
 {
     PendingBalance {
         account: line.account,
@@ -142,11 +146,13 @@ fn add_new<S: Alter>(
     pending: &mut PendingBalances,
     line: &Posting,
 ) -> Result<(), Error>
-    requires { array_vec_len pending.old ≡ position_or_len (is_pending_of line.now.account line.now.value_day) pending.old.items }
+    requires { array_vec_len pending.old ≡ position_or_len
+        (is_pending_of line.now.account line.now.value_day) pending.old.items }
     ensures same_reference { tx.new.conn.ghost_name ≡ tx.old.conn.ghost_name }
-    ensures makes { HasCleanDisk (state S.Store tx.new.conn.now) → OnOk result (MakesBut pending.old.items pending.new.items (with_line line.now) (state S.Store tx.old.conn.now) (state S.Store tx.new.conn.now)) }
-    ensures keeps { HasCleanDisk (state S.Store tx.new.conn.now) → KeepsCommit (state S.Store tx.old.conn.now) (state S.Store tx.new.conn.now) }
-    ensures survives { Survives (state S.Store tx.old.conn.now) (state S.Store tx.new.conn.now) (λ _. ⊥) }
+    ensures makes { SucceedsIn S.Store tx.old.conn.now tx.new.conn.now result
+        (MakesBut pending.old.items pending.new.items (with_line line.now)) }
+    ensures keeps { KeepsCommitted S.Store tx.old.conn.now tx.new.conn.now }
+    ensures survives { LeavesNothingNew S.Store tx.old.conn.now tx.new.conn.now }
 {
     make_room(tx, pending)?;
     let before = sum_inside(tx, &line.account, line.value_day)?;
@@ -163,9 +169,10 @@ fn make_room<S: Alter>(
     ensures room { OnOk result (array_vec_len pending.new < MOST_PENDING) }
     ensures front { (count : ℕ) × (pending.new.items ≡ take count pending.old.items) }
     ensures same_reference { tx.new.conn.ghost_name ≡ tx.old.conn.ghost_name }
-    ensures makes { HasCleanDisk (state S.Store tx.new.conn.now) → OnOk result (MakesBut pending.old.items pending.new.items (λ balances. balances) (state S.Store tx.old.conn.now) (state S.Store tx.new.conn.now)) }
-    ensures keeps { HasCleanDisk (state S.Store tx.new.conn.now) → KeepsCommit (state S.Store tx.old.conn.now) (state S.Store tx.new.conn.now) }
-    ensures survives { Survives (state S.Store tx.old.conn.now) (state S.Store tx.new.conn.now) (λ _. ⊥) }
+    ensures makes { SucceedsIn S.Store tx.old.conn.now tx.new.conn.now result
+        (MakesBut pending.old.items pending.new.items (λ balances. balances)) }
+    ensures keeps { KeepsCommitted S.Store tx.old.conn.now tx.new.conn.now }
+    ensures survives { LeavesNothingNew S.Store tx.old.conn.now tx.new.conn.now }
 {
     if !pending.is_full() {
         return Ok(());
@@ -180,9 +187,10 @@ fn write_all<S: Alter>(
     pending: &mut PendingBalances,
 ) -> Result<(), Error>
     ensures same_reference { tx.new.conn.ghost_name ≡ tx.old.conn.ghost_name }
-    ensures makes { HasCleanDisk (state S.Store tx.new.conn.now) → OnOk result (MakesBut pending.old.items [] (λ balances. balances) (state S.Store tx.old.conn.now) (state S.Store tx.new.conn.now)) }
-    ensures keeps { HasCleanDisk (state S.Store tx.new.conn.now) → KeepsCommit (state S.Store tx.old.conn.now) (state S.Store tx.new.conn.now) }
-    ensures survives { Survives (state S.Store tx.old.conn.now) (state S.Store tx.new.conn.now) (λ _. ⊥) }
+    ensures makes { SucceedsIn S.Store tx.old.conn.now tx.new.conn.now result
+        (MakesBut pending.old.items [] (λ balances. balances)) }
+    ensures keeps { KeepsCommitted S.Store tx.old.conn.now tx.new.conn.now }
+    ensures survives { LeavesNothingNew S.Store tx.old.conn.now tx.new.conn.now }
 {
     'writes: while !pending.is_empty() {
         write_last(tx, pending)?;
@@ -197,9 +205,10 @@ fn write_last<S: Alter>(
 ) -> Result<(), Error>
     ensures rest { pending.new.items ≡ take (array_vec_len pending.old - 1) pending.old.items }
     ensures same_reference { tx.new.conn.ghost_name ≡ tx.old.conn.ghost_name }
-    ensures makes { HasCleanDisk (state S.Store tx.new.conn.now) → OnOk result (MakesBut pending.old.items pending.new.items (λ balances. balances) (state S.Store tx.old.conn.now) (state S.Store tx.new.conn.now)) }
-    ensures keeps { HasCleanDisk (state S.Store tx.new.conn.now) → KeepsCommit (state S.Store tx.old.conn.now) (state S.Store tx.new.conn.now) }
-    ensures survives { Survives (state S.Store tx.old.conn.now) (state S.Store tx.new.conn.now) (λ _. ⊥) }
+    ensures makes { SucceedsIn S.Store tx.old.conn.now tx.new.conn.now result
+        (MakesBut pending.old.items pending.new.items (λ balances. balances)) }
+    ensures keeps { KeepsCommitted S.Store tx.old.conn.now tx.new.conn.now }
+    ensures survives { LeavesNothingNew S.Store tx.old.conn.now tx.new.conn.now }
 {
     let Some(last) = pending.pop() else {
         return Ok(());

@@ -7,11 +7,10 @@ ghost use Rattle.sql_writes.specs.LineRows.{held_line, held_lines, stored_line};
 
 use crate::account_lines::accounts::{LONGEST_ACCOUNT, short_account_text};
 use crate::batches::BatchBody;
-use crate::parameters::{cause, column, line_reference};
 use ach_fields::ShortText;
 use desk_accounts::Posting;
-use sql_queries::{characters, date};
 use sql_statements::{RowBody, execute, number};
+use sql_tables::{cause, characters, date, integer, line_reference};
 use sqlite::types::ValueRef;
 use sqlite::{Alter, Error, Transaction};
 
@@ -80,9 +79,9 @@ fn row_of(number: u64, line: &Posting) -> Result<LineRow, Error>
     ensures { IfOk result (λ row. row ≡ held_line number line.now) }
 {
     Ok(LineRow {
-        number: column(number)?,
+        number: integer(number)?,
         account: short_account_text(&line.account)?,
-        index: column(line.idx)?,
+        index: integer(line.idx)?,
         line: *line,
     })
 }

@@ -3,8 +3,8 @@ ghost use Rattle.sql_tables.specs.Layout.{desk_layout};
 ghost use Rattle.sql_tables.specs.TableEdits.{put_file_edit};
 
 use desk_book::FileRow;
-use sql_queries::{characters, date};
 use sql_statements::{RowBody, blob, execute};
+use sql_tables::{characters, date};
 use sqlite::{Alter, Error, Transaction};
 
 /// `PutFiles` keeps each file of a list. It fails where the day of a file has one of its modifier

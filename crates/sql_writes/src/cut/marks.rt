@@ -1,9 +1,8 @@
 //! A cut writes the places of entries: those of a run by one statement.
-ghost use Rattle.std.specs.Prelude.{◌≡◌, ◌<◌, ◌≤◌, ◌+◌, ◌^◌, Some, true, length, slice_get, IfOk, OnOk};
-ghost use Rattle.sqlite.specs.Held.{state};
-ghost use Rattle.sqlite.specs.State.{HasCleanDisk, Survives, KeepsCommit};
+ghost use Rattle.std.specs.Prelude.{◌≡◌, ◌<◌, ◌≤◌, ◌+◌, ◌^◌, Some, true, length, slice_get, IfOk};
 ghost use Rattle.sql_statements.specs.Edits.{each_edit_from};
 ghost use Rattle.sql_statements.specs.Transactions.{Makes};
+ghost use Rattle.sql_statements.specs.Promises.{SucceedsIn, KeepsCommitted, LeavesNothingNew};
 ghost use Rattle.sql_tables.specs.Layout.{desk_layout};
 ghost use Rattle.sql_writes.specs.EntryRuns.{stands_after};
 ghost use Rattle.sql_writes.specs.PlaceEdits.{mark_entry_edit};
@@ -11,8 +10,8 @@ ghost use Rattle.sql_writes.specs.Runs.{is_run};
 
 use crate::runs::RunBody;
 use desk_history::SentEntry;
-use sql_queries::{characters, natural};
 use sql_statements::{RowBody, execute, execute_one, run_each};
+use sql_tables::{characters, natural};
 use sqlite::{Alter, Error, Transaction};
 
 /// `MarkEntries` writes the place of each entry of a list. An entry that is not there or was sent
@@ -94,9 +93,10 @@ fn mark_run<S: Alter>(
     requires run { is_run stands_after run.now ≡ true }
     requires after { first.now.index ≤ place }
     ensures same_reference { tx.new.conn.ghost_name ≡ tx.old.conn.ghost_name }
-    ensures makes { HasCleanDisk (state S.Store tx.new.conn.now) → OnOk result (Makes desk_layout (each_edit_from mark_entry_edit place run.now) (state S.Store tx.old.conn.now) (state S.Store tx.new.conn.now)) }
-    ensures keeps { HasCleanDisk (state S.Store tx.new.conn.now) → KeepsCommit (state S.Store tx.old.conn.now) (state S.Store tx.new.conn.now) }
-    ensures survives { Survives (state S.Store tx.old.conn.now) (state S.Store tx.new.conn.now) (λ _. ⊥) }
+    ensures makes { SucceedsIn S.Store tx.old.conn.now tx.new.conn.now result
+        (Makes desk_layout (each_edit_from mark_entry_edit place run.now)) }
+    ensures keeps { KeepsCommitted S.Store tx.old.conn.now tx.new.conn.now }
+    ensures survives { LeavesNothingNew S.Store tx.old.conn.now tx.new.conn.now }
 {
     let before = place - first.index;
     let last = last_index(before, first.index, run.len())?;

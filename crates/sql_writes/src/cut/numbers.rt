@@ -3,9 +3,8 @@
 //! so many.
 ghost use Rattle.std.specs.Prelude.{◌≡◌, ◌≤◌, ◌<◌, ◌+◌, IfOk, OnOk};
 ghost use Rattle.ach_fields.specs.Trace.{most_sequence};
-ghost use Rattle.sqlite.specs.Held.{state};
-ghost use Rattle.sqlite.specs.State.{HasCleanDisk, Survives, KeepsCommit};
 ghost use Rattle.sql_statements.specs.Transactions.{Makes};
+ghost use Rattle.sql_statements.specs.Promises.{SucceedsIn, KeepsCommitted, LeavesNothingNew};
 ghost use Rattle.sql_tables.specs.Layout.{desk_layout};
 ghost use Rattle.sql_writes.specs.PlaceEdits.{put_number_edit, follows_in_sequence, clear_numbers_edit, insert_number_edit};
 
@@ -13,8 +12,8 @@ use crate::batches::{BatchBody, run_batches};
 use crate::runs::RunBody;
 use ach_fields::MOST_SEQUENCE;
 use desk_history::SentEntry;
-use sql_queries::natural;
 use sql_statements::{RowBody, execute};
+use sql_tables::natural;
 use sqlite::types::ValueRef;
 use sqlite::{Alter, Error, Transaction};
 
@@ -69,9 +68,10 @@ fn last_sequence(from: u64, many: usize) -> Result<u64, Error>
 // Takes out the numbers of a range of sequences.
 fn clear_numbers<S: Alter>(tx: &mut Transaction<'_, S>, from: u64, to: u64) -> Result<(), Error>
     ensures same_reference { tx.new.conn.ghost_name ≡ tx.old.conn.ghost_name }
-    ensures makes { HasCleanDisk (state S.Store tx.new.conn.now) → OnOk result (Makes desk_layout (clear_numbers_edit from to) (state S.Store tx.old.conn.now) (state S.Store tx.new.conn.now)) }
-    ensures keeps { HasCleanDisk (state S.Store tx.new.conn.now) → KeepsCommit (state S.Store tx.old.conn.now) (state S.Store tx.new.conn.now) }
-    ensures survives { Survives (state S.Store tx.old.conn.now) (state S.Store tx.new.conn.now) (λ _. ⊥) }
+    ensures makes { SucceedsIn S.Store tx.old.conn.now tx.new.conn.now result
+        (Makes desk_layout (clear_numbers_edit from to)) }
+    ensures keeps { KeepsCommitted S.Store tx.old.conn.now tx.new.conn.now }
+    ensures survives { LeavesNothingNew S.Store tx.old.conn.now tx.new.conn.now }
 {
     let first = natural(from)?;
     let last = natural(to)?;

@@ -3,8 +3,8 @@ ghost use Rattle.sql_tables.specs.Layout.{desk_layout};
 ghost use Rattle.sql_tables.specs.TableEdits.{send_edit, lapse_edit};
 
 use desk_book::{LapsedRow, SentRow};
-use sql_queries::{characters, date, natural};
 use sql_statements::{RowBody, execute_one};
+use sql_tables::{characters, date, natural};
 use sqlite::{Alter, Error, Transaction};
 
 /// `SendSubmissions` marks each submission of a list as sent: it settles on its day, and was printed

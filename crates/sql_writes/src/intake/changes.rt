@@ -1,8 +1,7 @@
 //! The notifications of change of an incoming file are written.
-ghost use Rattle.std.specs.Prelude.{◌≡◌, OnOk};
-ghost use Rattle.sqlite.specs.Held.{state};
-ghost use Rattle.sqlite.specs.State.{HasCleanDisk, Survives, KeepsCommit};
+ghost use Rattle.std.specs.Prelude.{◌≡◌};
 ghost use Rattle.sql_statements.specs.Transactions.{Makes};
+ghost use Rattle.sql_statements.specs.Promises.{SucceedsIn, KeepsCommitted, LeavesNothingNew};
 ghost use Rattle.sql_tables.specs.Layout.{desk_layout};
 ghost use Rattle.sql_tables.specs.TableEdits.{put_change_edit, each_edit_on, next_number};
 ghost use Rattle.sql_writes.specs.RowEdits.{insert_change_edit};
@@ -10,9 +9,8 @@ ghost use Rattle.sql_writes.specs.RowEdits.{insert_change_edit};
 use crate::intake::orders::order_under;
 use crate::numbering::{NumberedTable, next_after};
 use desk_book::ChangedRow;
-use sql_queries::{characters, date, natural};
 use sql_statements::{RowBody, execute, run_each};
-use sql_tables::ChangeRecord;
+use sql_tables::{ChangeRecord, characters, date, natural};
 use sqlite::{Alter, Error, Transaction};
 
 /// Writes the notifications of change of a file, numbered on from the last of the table. One that
@@ -22,9 +20,11 @@ pub(crate) fn put_changes<S: Alter>(
     changed: &[ChangedRow],
 ) -> Result<(), Error>
     ensures same_reference { tx.new.conn.ghost_name ≡ tx.old.conn.ghost_name }
-    ensures makes { HasCleanDisk (state S.Store tx.new.conn.now) → OnOk result (Makes desk_layout (each_edit_on (λ t. next_number (λ c. c.number) t.changes) put_change_edit changed.now) (state S.Store tx.old.conn.now) (state S.Store tx.new.conn.now)) }
-    ensures keeps { HasCleanDisk (state S.Store tx.new.conn.now) → KeepsCommit (state S.Store tx.old.conn.now) (state S.Store tx.new.conn.now) }
-    ensures survives { Survives (state S.Store tx.old.conn.now) (state S.Store tx.new.conn.now) (λ _. ⊥) }
+    ensures makes { SucceedsIn S.Store tx.old.conn.now tx.new.conn.now result
+        (Makes desk_layout
+        (each_edit_on (λ t. next_number (λ c. c.number) t.changes) put_change_edit changed.now)) }
+    ensures keeps { KeepsCommitted S.Store tx.old.conn.now tx.new.conn.now }
+    ensures survives { LeavesNothingNew S.Store tx.old.conn.now tx.new.conn.now }
 {
     let first = next_after(tx, NumberedTable::Changes)?;
     run_each(tx, &ChangeRows, first, changed)?;
@@ -66,9 +66,10 @@ impl RowBody for ChangeRows {
 // Writes the row of a change.
 fn put_change<S: Alter>(tx: &mut Transaction<'_, S>, change: &ChangeRecord) -> Result<(), Error>
     ensures same_reference { tx.new.conn.ghost_name ≡ tx.old.conn.ghost_name }
-    ensures makes { HasCleanDisk (state S.Store tx.new.conn.now) → OnOk result (Makes desk_layout (insert_change_edit change.now) (state S.Store tx.old.conn.now) (state S.Store tx.new.conn.now)) }
-    ensures keeps { HasCleanDisk (state S.Store tx.new.conn.now) → KeepsCommit (state S.Store tx.old.conn.now) (state S.Store tx.new.conn.now) }
-    ensures survives { Survives (state S.Store tx.old.conn.now) (state S.Store tx.new.conn.now) (λ _. ⊥) }
+    ensures makes { SucceedsIn S.Store tx.old.conn.now tx.new.conn.now result
+        (Makes desk_layout (insert_change_edit change.now)) }
+    ensures keeps { KeepsCommitted S.Store tx.old.conn.now tx.new.conn.now }
+    ensures survives { LeavesNothingNew S.Store tx.old.conn.now tx.new.conn.now }
 {
     let number = natural(change.number)?;
     let order = natural(change.order)?;

@@ -1,15 +1,13 @@
 //! The submission that an item of an incoming file names is found.
-ghost use Rattle.std.specs.Prelude.{◌≡◌, IfOk};
-ghost use Rattle.sqlite.specs.Held.{state};
-ghost use Rattle.sqlite.specs.State.{HasCleanDisk, Survives, KeepsCommit};
+ghost use Rattle.std.specs.Prelude.{◌≡◌};
 ghost use Rattle.sql_statements.specs.Transactions.{Makes};
+ghost use Rattle.sql_statements.specs.Promises.{SucceedsWith, KeepsCommitted, LeavesNothingNew};
 ghost use Rattle.sql_tables.specs.Layout.{desk_layout};
 ghost use Rattle.sql_writes.specs.RowEdits.{find_order};
 
 use ach_fields::{Id, Ref};
-use sql_queries::characters;
 use sql_statements::query_first_inside;
-use sql_tables::{FromRow, OrderAndSettlement};
+use sql_tables::{FromRow, OrderAndSettlement, characters};
 use sqlite::{Alter, Error, Transaction};
 
 /// Gives the number of the submission of a company under a reference, and when it settles, as the
@@ -20,9 +18,10 @@ pub(crate) fn order_under<'x, S: Alter>(
     reference: &'x Ref,
 ) -> Result<OrderAndSettlement, Error>
     ensures same_reference { tx.new.conn.ghost_name ≡ tx.old.conn.ghost_name }
-    ensures makes { HasCleanDisk (state S.Store tx.new.conn.now) → IfOk result (λ found. Makes desk_layout (find_order company.now reference.now found) (state S.Store tx.old.conn.now) (state S.Store tx.new.conn.now)) }
-    ensures keeps { HasCleanDisk (state S.Store tx.new.conn.now) → KeepsCommit (state S.Store tx.old.conn.now) (state S.Store tx.new.conn.now) }
-    ensures survives { Survives (state S.Store tx.old.conn.now) (state S.Store tx.new.conn.now) (λ _. ⊥) }
+    ensures makes { SucceedsWith S.Store tx.old.conn.now tx.new.conn.now result
+        (λ found. Makes desk_layout (find_order company.now reference.now found)) }
+    ensures keeps { KeepsCommitted S.Store tx.old.conn.now tx.new.conn.now }
+    ensures survives { LeavesNothingNew S.Store tx.old.conn.now tx.new.conn.now }
 {
     let row = query_first_inside(
         tx,

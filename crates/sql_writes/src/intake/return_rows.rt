@@ -1,19 +1,17 @@
 //! The rows of returns are written, sixteen by one statement as long as there are so many.
 ghost use Rattle.std.specs.Prelude.{◌≡◌, ◌+◌, ◌<◌, ◌^◌, map, length, IfOk};
-ghost use Rattle.sqlite.specs.Held.{state};
-ghost use Rattle.sqlite.specs.State.{HasCleanDisk, Survives, KeepsCommit};
 ghost use Rattle.sqlite.specs.Values.{bound};
 ghost use Rattle.sql_statements.specs.Transactions.{Makes};
+ghost use Rattle.sql_statements.specs.Promises.{SucceedsWith, KeepsCommitted, LeavesNothingNew};
 ghost use Rattle.sql_tables.specs.Layout.{desk_layout};
 ghost use Rattle.sql_tables.specs.TableEdits.{put_return_edit};
 ghost use Rattle.sql_writes.specs.ReturnRows.{held_return, stored_return, finds_return, finds_returns};
 
 use crate::batches::BatchBody;
 use crate::intake::orders::order_under;
-use crate::parameters::{column, switch};
 use desk_book::ReturnedRow;
-use sql_queries::{characters, date};
 use sql_statements::{RowBody, execute, number};
+use sql_tables::{characters, date, integer, switch};
 use sqlite::types::ValueRef;
 use sqlite::{Alter, Error, Transaction};
 
@@ -85,9 +83,9 @@ fn row_of(number: u64, order: u64, returned: &ReturnedRow) -> Result<ReturnRow, 
     ensures { IfOk result (λ row. row ≡ held_return number order returned.now) }
 {
     Ok(ReturnRow {
-        number: column(number)?,
-        order: column(order)?,
-        index: column(returned.row.index)?,
+        number: integer(number)?,
+        order: integer(order)?,
+        index: integer(returned.row.index)?,
         code: returned.row.code.text(),
         returned: *returned,
     })
@@ -100,9 +98,10 @@ fn row_under<S: Alter>(
     returned: &ReturnedRow,
 ) -> Result<ReturnRow, Error>
     ensures same_reference { tx.new.conn.ghost_name ≡ tx.old.conn.ghost_name }
-    ensures makes { HasCleanDisk (state S.Store tx.new.conn.now) → IfOk result (λ row. Makes desk_layout (finds_return number returned.now row) (state S.Store tx.old.conn.now) (state S.Store tx.new.conn.now)) }
-    ensures keeps { HasCleanDisk (state S.Store tx.new.conn.now) → KeepsCommit (state S.Store tx.old.conn.now) (state S.Store tx.new.conn.now) }
-    ensures survives { Survives (state S.Store tx.old.conn.now) (state S.Store tx.new.conn.now) (λ _. ⊥) }
+    ensures makes { SucceedsWith S.Store tx.old.conn.now tx.new.conn.now result
+        (λ row. Makes desk_layout (finds_return number returned.now row)) }
+    ensures keeps { KeepsCommitted S.Store tx.old.conn.now tx.new.conn.now }
+    ensures survives { LeavesNothingNew S.Store tx.old.conn.now tx.new.conn.now }
 {
     let found = order_under(tx, &returned.company, &returned.row.reference)?;
     if found.settled.is_none() {
@@ -121,9 +120,10 @@ fn rows_under<S: Alter>(
     requires many { length returned.now ≡ 16 }
     requires numbers { first + 16 < 2 ^ 64 }
     ensures same_reference { tx.new.conn.ghost_name ≡ tx.old.conn.ghost_name }
-    ensures makes { HasCleanDisk (state S.Store tx.new.conn.now) → IfOk result (λ rows. Makes desk_layout (finds_returns first returned.now rows) (state S.Store tx.old.conn.now) (state S.Store tx.new.conn.now)) }
-    ensures keeps { HasCleanDisk (state S.Store tx.new.conn.now) → KeepsCommit (state S.Store tx.old.conn.now) (state S.Store tx.new.conn.now) }
-    ensures survives { Survives (state S.Store tx.old.conn.now) (state S.Store tx.new.conn.now) (λ _. ⊥) }
+    ensures makes { SucceedsWith S.Store tx.old.conn.now tx.new.conn.now result
+        (λ rows. Makes desk_layout (finds_returns first returned.now rows)) }
+    ensures keeps { KeepsCommitted S.Store tx.old.conn.now tx.new.conn.now }
+    ensures survives { LeavesNothingNew S.Store tx.old.conn.now tx.new.conn.now }
 {
     let mut held = [row_of(first, 0, &returned[0])?; 16];
     for at in 0..16 {

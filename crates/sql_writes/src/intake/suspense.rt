@@ -1,16 +1,14 @@
 //! The items of an incoming file that name no sent entry are written.
-ghost use Rattle.std.specs.Prelude.{◌≡◌, OnOk};
-ghost use Rattle.sqlite.specs.Held.{state};
-ghost use Rattle.sqlite.specs.State.{HasCleanDisk, Survives, KeepsCommit};
+ghost use Rattle.std.specs.Prelude.{◌≡◌};
 ghost use Rattle.sql_statements.specs.Transactions.{Makes};
+ghost use Rattle.sql_statements.specs.Promises.{SucceedsIn, KeepsCommitted, LeavesNothingNew};
 ghost use Rattle.sql_tables.specs.Layout.{desk_layout};
 ghost use Rattle.sql_tables.specs.TableEdits.{put_suspense_edit, each_edit_on, next_number};
 
 use crate::numbering::{NumberedTable, next_after};
-use crate::parameters::reason;
 use desk_history::SuspenseRow;
-use sql_queries::{characters, date, natural};
 use sql_statements::{RowBody, execute, run_each};
+use sql_tables::{characters, date, natural, reason};
 use sqlite::{Alter, Error, Transaction};
 
 /// Writes the items in suspense of a file, numbered on from the last of the table.
@@ -19,9 +17,11 @@ pub(crate) fn put_suspense<S: Alter>(
     suspense: &[SuspenseRow],
 ) -> Result<(), Error>
     ensures same_reference { tx.new.conn.ghost_name ≡ tx.old.conn.ghost_name }
-    ensures makes { HasCleanDisk (state S.Store tx.new.conn.now) → OnOk result (Makes desk_layout (each_edit_on (λ t. next_number (λ s. s.number) t.suspense) put_suspense_edit suspense.now) (state S.Store tx.old.conn.now) (state S.Store tx.new.conn.now)) }
-    ensures keeps { HasCleanDisk (state S.Store tx.new.conn.now) → KeepsCommit (state S.Store tx.old.conn.now) (state S.Store tx.new.conn.now) }
-    ensures survives { Survives (state S.Store tx.old.conn.now) (state S.Store tx.new.conn.now) (λ _. ⊥) }
+    ensures makes { SucceedsIn S.Store tx.old.conn.now tx.new.conn.now result
+        (Makes desk_layout (each_edit_on
+        (λ t. next_number (λ s. s.number) t.suspense) put_suspense_edit suspense.now)) }
+    ensures keeps { KeepsCommitted S.Store tx.old.conn.now tx.new.conn.now }
+    ensures survives { LeavesNothingNew S.Store tx.old.conn.now tx.new.conn.now }
 {
     let first = next_after(tx, NumberedTable::Suspense)?;
     run_each(tx, &SuspenseRows, first, suspense)?;

@@ -1,14 +1,13 @@
 //! An incoming file is kept, with its answer.
-ghost use Rattle.std.specs.Prelude.{◌≡◌, OnOk};
-ghost use Rattle.sqlite.specs.Held.{state};
-ghost use Rattle.sqlite.specs.State.{HasCleanDisk, Survives, KeepsCommit};
+ghost use Rattle.std.specs.Prelude.{◌≡◌};
 ghost use Rattle.sql_statements.specs.Transactions.{Makes};
+ghost use Rattle.sql_statements.specs.Promises.{SucceedsIn, KeepsCommitted, LeavesNothingNew};
 ghost use Rattle.sql_tables.specs.Layout.{desk_layout};
 ghost use Rattle.sql_tables.specs.TableEdits.{put_taken_edit};
 
 use desk_history::TakenFile;
-use sql_queries::{characters, date, natural};
 use sql_statements::{blob, execute};
+use sql_tables::{characters, date, natural};
 use sqlite::{Alter, Error, Transaction};
 
 /// Writes the row of a file that was taken. It fails where a file with its key was taken before.
@@ -17,9 +16,10 @@ pub(crate) fn put_taken<S: Alter>(
     file: &TakenFile,
 ) -> Result<(), Error>
     ensures same_reference { tx.new.conn.ghost_name ≡ tx.old.conn.ghost_name }
-    ensures makes { HasCleanDisk (state S.Store tx.new.conn.now) → OnOk result (Makes desk_layout (put_taken_edit file.now) (state S.Store tx.old.conn.now) (state S.Store tx.new.conn.now)) }
-    ensures keeps { HasCleanDisk (state S.Store tx.new.conn.now) → KeepsCommit (state S.Store tx.old.conn.now) (state S.Store tx.new.conn.now) }
-    ensures survives { Survives (state S.Store tx.old.conn.now) (state S.Store tx.new.conn.now) (λ _. ⊥) }
+    ensures makes { SucceedsIn S.Store tx.old.conn.now tx.new.conn.now result
+        (Makes desk_layout (put_taken_edit file.now)) }
+    ensures keeps { KeepsCommitted S.Store tx.old.conn.now tx.new.conn.now }
+    ensures survives { LeavesNothingNew S.Store tx.old.conn.now tx.new.conn.now }
 {
     let returns = natural(file.answer.returns)?;
     let changes = natural(file.answer.changes)?;

@@ -1,8 +1,6 @@
 //! The version of the tables is told.
-ghost use Rattle.std.specs.Prelude.{◌≡◌, ◌≢◌, ℕ, ℤ, false, Some, IfErr, IfOk, OnOk};
-ghost use Rattle.sqlite.specs.Held.{state};
-ghost use Rattle.sqlite.specs.State.{HasCleanDisk, Survives};
-ghost use Rattle.sql_statements.specs.Queries.{Stays};
+ghost use Rattle.std.specs.Prelude.{◌≡◌, ◌≢◌, ℕ, ℤ, false, Some, IfErr};
+ghost use Rattle.sql_statements.specs.Promises.{SucceedsIn, SucceedsWith, LeavesNothingNew, SeesStill};
 ghost use Rattle.sql_setup.specs.Refusals.{IsRefused, SaysVersion};
 ghost use Rattle.sql_setup.specs.Versions.{IsOfVersion};
 ghost use Rattle.sql_migration.specs.FirstVersion.{first_version};
@@ -17,9 +15,10 @@ const FIRST_VERSION: i64 = 1;
 // Gives the version that the row of the desk says, where there is a row. It is read in a transaction
 // of its own, so that none stays open where the read fails.
 fn found_version<S: Alter>(conn: &mut Connection<S>) -> Result<Option<i64>, Error>
-    ensures said { HasCleanDisk (state S.Store conn.new) → IfOk result (λ found. (n : ℤ) → found ≡ Some n → SaysVersion S.Store conn.old n) }
-    ensures stays { HasCleanDisk (state S.Store conn.new) → Stays (state S.Store conn.old) (state S.Store conn.new) }
-    ensures survives { Survives (state S.Store conn.old) (state S.Store conn.new) (λ _. ⊥) }
+    ensures said { SucceedsWith S.Store conn.old conn.new result
+        (λ found _ _. (n : ℤ) → found ≡ Some n → SaysVersion S.Store conn.old n) }
+    ensures stays { SeesStill S.Store conn.old conn.new }
+    ensures survives { LeavesNothingNew S.Store conn.old conn.new }
     ensures ended { conn.old.in_transaction ≡ false → conn.new.in_transaction ≡ false }
 {
     if !conn.is_autocommit() {
@@ -37,11 +36,12 @@ fn found_version<S: Alter>(conn: &mut Connection<S>) -> Result<Option<i64>, Erro
 
 /// Tells that the row of the desk has version 1, whatever the other columns and tables are.
 pub(crate) fn check_version<S: Alter>(conn: &mut Connection<S>) -> Result<(), OpenFault>
-    ensures first { HasCleanDisk (state S.Store conn.new) → OnOk result ((n : ℕ) → IsOfVersion (state S.Store conn.old).now n → n ≡ first_version) }
+    ensures first { SucceedsIn S.Store conn.old conn.new result
+        (λ before after. (n : ℕ) → IsOfVersion before.now n → n ≡ first_version) }
     ensures refused { IfErr result (IsRefused S.Store first_version conn.old conn.new) }
     ensures otherwise { IfErr result (λ fault. fault ≢ OpenFault.Exists) }
-    ensures stays { HasCleanDisk (state S.Store conn.new) → Stays (state S.Store conn.old) (state S.Store conn.new) }
-    ensures survives { Survives (state S.Store conn.old) (state S.Store conn.new) (λ _. ⊥) }
+    ensures stays { SeesStill S.Store conn.old conn.new }
+    ensures survives { LeavesNothingNew S.Store conn.old conn.new }
     ensures ended { conn.old.in_transaction ≡ false → conn.new.in_transaction ≡ false }
 {
     let Ok(Some(found)) = found_version(conn) else {

@@ -7,7 +7,7 @@ use Rattle.sql_setup.specs.Versions.{version_text}
 use Rattle.sql_setup.proofs.Refused.{says_shown}
 use Rattle.sql_setup.proofs.VersionShown.{version_selects}
 use Rattle.sql_migration.specs.FirstVersion.{first_version}
-use Rattle.sql_migration.proofs.version.found_version.Goals as goal
+use Rattle.sql_migration.proofs.first_version.found_version.Goals as goal
 
 pub cell_inside-requires : goal.cell_inside-requires
 cell_inside-requires g c = version_selects

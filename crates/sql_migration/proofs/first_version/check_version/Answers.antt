@@ -2,7 +2,7 @@ use Rattle.std.proofs.Common.{rules, ◌≡◌, ◌≢◌, pos, Some, sym, ap, �
 use Rattle.std.specs.Int.{w64}
 use Rattle.sql_setup.proofs.Refused.{said_version, other_version, unread}
 use Rattle.sql_migration.specs.FirstVersion.{first_version}
-use Rattle.sql_migration.proofs.version.check_version.Goals as goal
+use Rattle.sql_migration.proofs.first_version.check_version.Goals as goal
 
 pub returns-in_default-clause-refused : goal.returns-in_default-clause-refused
 returns-in_default-clause-refused g c =

@@ -1,0 +1,40 @@
+-- What is promised of a connection, or of a transaction on it, by whatever runs there: `old` is the connection before,
+-- `new` after, and `g` says what a database over this storage holds.
+use Rattle.std.specs.Prelude.{true, Result, IfOk, OnOk, OnErr}
+use Rattle.sqlite_trees.specs.declared.store.Store.{Ghosts}
+use Rattle.sqlite.specs.Held.{Held, state}
+use Rattle.sqlite.specs.State.{State, HasCleanDisk, KeepsCommit, Shows, Survives}
+use Rattle.sql_statements.specs.Queries.{Stays}
+
+-- The transaction goes on with what is there now, and nothing is committed.
+abbrev pub GoesOn : State → State → Type 0
+GoesOn before after = Shows before after after.now before.committed true
+
+-- The transaction goes on with what was there before.
+abbrev pub SeesInside : State → State → Type 0
+SeesInside before after = Shows before after before.now before.committed true
+
+module _ {S : Type 0} (g : Ghosts S) where
+  -- Where it went well, and the disk is clean as it ends, this holds of the database before and after.
+  abbrev pub SucceedsIn : {A E : Type 0} → (old new : Held S) → Result A E → (Holds : State → State → Type 0) → Type 0
+  SucceedsIn old new result Holds = HasCleanDisk (state g new) → OnOk result (Holds (state g old) (state g new))
+
+  -- the same, of what it gives too
+  abbrev pub SucceedsWith : {A E : Type 0} → (old new : Held S) → Result A E → (Holds : A → State → State → Type 0) → Type 0
+  SucceedsWith old new result Holds = HasCleanDisk (state g new) → IfOk result (λ given. Holds given (state g old) (state g new))
+
+  -- Where it failed, and the disk is clean as it ends, the database is seen as it was.
+  abbrev pub FailsUnchanged : {A E : Type 0} → (old new : Held S) → Result A E → Type 0
+  FailsUnchanged old new result = HasCleanDisk (state g new) → OnErr result (Stays (state g old) (state g new))
+
+  -- What was committed is committed still, and nothing else.
+  abbrev pub KeepsCommitted : (old new : Held S) → Type 0
+  KeepsCommitted old new = HasCleanDisk (state g new) → KeepsCommit (state g old) (state g new)
+
+  -- The same database is seen still.
+  abbrev pub SeesStill : (old new : Held S) → Type 0
+  SeesStill old new = HasCleanDisk (state g new) → Stays (state g old) (state g new)
+
+  -- A crash leaves nothing that it could not leave before.
+  abbrev pub LeavesNothingNew : (old new : Held S) → Type 0
+  LeavesNothingNew old new = Survives (state g old) (state g new) (λ _. ⊥)
