@@ -5,7 +5,7 @@ ghost use Rattle.sqlite.specs.State.{HasCleanDisk};
 ghost use Rattle.sqlite_wal.specs.Files.{image_at};
 ghost use Rattle.desk_book.specs.Book.{book_of};
 ghost use Rattle.sql_tables.specs.Layout.{Keeps};
-ghost use Rattle.sql_tables.specs.RecordRows.{version};
+ghost use Rattle.sql_tables.specs.DeskTables.{version};
 ghost use Rattle.sql_migration.specs.FirstVersion.{first_version};
 ghost use Rattle.sql_files.specs.Opened.{IsFoundIn, IsMadeIn, IsMigratedIn, RefusesIn, UnmadeIn, leaves_migrated, leaves_nothing};
 ghost use Rattle.desk_tables.specs.Stores.{connection_in};

@@ -4,7 +4,7 @@ ghost use Rattle.sqlite.specs.Files.{file_state};
 ghost use Rattle.sqlite.specs.Held.{state};
 ghost use Rattle.sqlite.specs.State.{HasCleanDisk};
 ghost use Rattle.sqlite_wal.specs.Files.{image_at};
-ghost use Rattle.sql_tables.specs.RecordRows.{version};
+ghost use Rattle.sql_tables.specs.DeskTables.{version};
 ghost use Rattle.sql_setup.specs.Checked.{IsDesk};
 ghost use Rattle.sql_setup.specs.Refusals.{IsDropped};
 ghost use Rattle.sql_files.specs.Opened.{IsFoundIn, RefusesIn, leaves_nothing};

@@ -3,7 +3,7 @@ use Rattle.std.proofs.Common.{◌≡◌, pos, false, sym, ◌∙◌, subst, IsTr
 use Rattle.sqlite.specs.Effect.{Database}
 use Rattle.sqlite.specs.State.{State}
 use Rattle.sql_tables.specs.Schema.{desk_schema}
-use Rattle.sql_tables.specs.RecordRows.{version}
+use Rattle.sql_tables.specs.DeskTables.{version}
 use Rattle.sql_tables.specs.Tables.{IsStored}
 use Rattle.sql_setup.specs.Checked.{IsDesk}
 use Rattle.sql_setup.specs.Versions.{ShowsVersion}

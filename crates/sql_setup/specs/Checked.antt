@@ -5,7 +5,7 @@ use Rattle.sql_statements.specs.Layouts.{Holds}
 use Rattle.desk_book.specs.Book.{Book}
 use Rattle.sql_tables.specs.Schema.{desk_schema}
 use Rattle.sql_tables.specs.Layout.{desk_layout, Keeps, Sees}
-use Rattle.sql_tables.specs.RecordRows.{version}
+use Rattle.sql_tables.specs.DeskTables.{version}
 use Rattle.sql_tables.specs.Tables.{Tables, IsStored}
 use Rattle.sql_setup.specs.Versions.{ShowsVersion}
 

@@ -3,7 +3,7 @@ ghost use Rattle.std.specs.Prelude.{◌≡◌, ◌≢◌, false, pos, Err, IfErr
 ghost use Rattle.sqlite.specs.Held.{state};
 ghost use Rattle.sql_statements.specs.Promises.{SucceedsIn, LeavesNothingNew, SeesStill};
 ghost use Rattle.sql_tables.specs.Schema.{desk_schema};
-ghost use Rattle.sql_tables.specs.RecordRows.{version};
+ghost use Rattle.sql_tables.specs.DeskTables.{version};
 ghost use Rattle.sql_setup.specs.Checked.{IsDesk};
 ghost use Rattle.sql_setup.specs.Refusals.{IsRefused};
 ghost use Rattle.sql_setup.specs.Setup.{HasDesk};

@@ -5,7 +5,7 @@ ghost use Rattle.sqlite.specs.State.{HasCleanDisk};
 ghost use Rattle.sqlite.specs.Steps.{over_memory};
 ghost use Rattle.desk_book.specs.Book.{book_of};
 ghost use Rattle.sql_tables.specs.Layout.{Keeps, Sees};
-ghost use Rattle.sql_tables.specs.RecordRows.{version};
+ghost use Rattle.sql_tables.specs.DeskTables.{version};
 ghost use Rattle.sql_setup.specs.Checked.{IsDesk};
 ghost use Rattle.sql_setup.specs.Refusals.{IsDropped, IsUnmade};
 ghost use Rattle.sql_setup.specs.Setup.{HasNewDesk};

@@ -8,7 +8,8 @@ use Rattle.sqlite_trees.specs.Tree.{IsAscending}
 use Rattle.desk_book.specs.declared.flat_rows.FileRow.{FileRow}
 use Rattle.desk_history.specs.declared.operations.TakenFile.{TakenFile}
 use Rattle.desk_rules.specs.declared.bodies.company.Company.{Company}
-use Rattle.sql_tables.specs.Columns.{account_text}
+use Rattle.sql_tables.specs.DeskTables as the
+use Rattle.sql_tables.specs.Description.{key_cmp}
 use Rattle.sql_tables.specs.declared.records.AuthorizationRecord.{AuthorizationRecord}
 use Rattle.sql_tables.specs.declared.records.BalanceRecord.{BalanceRecord}
 use Rattle.sql_tables.specs.declared.records.EntryRecord.{EntryRecord}
@@ -23,28 +24,28 @@ abbrev pub by_text_and_number : {X : Type 0} → (X → List ℕ) → (X → ℕ
 by_text_and_number text number = then_cmp (on text text_cmp) (on number nat_cmp)
 
 abbrev pub company_cmp : Company → Company → Ordering
-company_cmp = on (λ k. k.id) text_cmp
+company_cmp = key_cmp the.companies
 
 abbrev pub submission_cmp : SubmissionRecord → SubmissionRecord → Ordering
-submission_cmp = by_text_and_number (λ s. s.company) (λ s. s.order)
+submission_cmp = key_cmp the.submissions
 
 abbrev pub entry_cmp : EntryRecord → EntryRecord → Ordering
-entry_cmp = then_cmp (by_text_and_number (λ e. e.company) (λ e. e.order)) (on (λ e. e.index) nat_cmp)
+entry_cmp = key_cmp the.entries
 
 abbrev pub file_cmp : FileRow → FileRow → Ordering
-file_cmp = then_cmp (on (λ f. f.day) nat_cmp) (on (λ f. f.modifier) nat_cmp)
+file_cmp = key_cmp the.files
 
 abbrev pub taken_cmp : TakenFile → TakenFile → Ordering
-taken_cmp = on (λ t. t.key) text_cmp
+taken_cmp = key_cmp the.taken
 
 abbrev pub balance_cmp : BalanceRecord → BalanceRecord → Ordering
-balance_cmp = by_text_and_number (λ b. account_text b.account) (λ b. b.value_day)
+balance_cmp = key_cmp the.balances
 
 abbrev pub number_cmp : NumberRecord → NumberRecord → Ordering
-number_cmp = on (λ n. n.sequence) nat_cmp
+number_cmp = key_cmp the.sequences
 
 abbrev pub authorization_cmp : AuthorizationRecord → AuthorizationRecord → Ordering
-authorization_cmp = by_text_and_number (λ a. a.company) (λ a. a.order)
+authorization_cmp = key_cmp the.authorizations
 
 -- each is below each later one, so no key comes twice
 abbrev pub IsInOrder : {X : Type 0} → (X → X → Ordering) → List X → Type 0

@@ -2,6 +2,8 @@ pub mod Beside
 pub mod Columns
 pub mod Composed
 pub mod CutTables
+pub mod Description
+pub mod DeskTables
 pub mod Encodes
 pub mod IndexDefinitions
 pub mod KeyOrders

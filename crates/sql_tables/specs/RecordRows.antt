@@ -1,7 +1,7 @@
--- The row of SQL values that stores each record, column by column.
-use Rattle.std.specs.Prelude.{ℕ, [], ◌∷◌, ◌++◌, Option, option_map}
+-- The row of SQL values that stores each record, as the descriptions have it, and what such rows share.
+use Rattle.std.specs.Prelude.{ℕ, [], ◌∷◌, Option, option_map}
 use Rattle.sqlite.specs.Values.{or_null}
-use Rattle.sqlite_value.specs.declared.value.Value.TheVariants.{Int, Text, Blob}
+use Rattle.sqlite_value.specs.declared.value.Value.TheVariants.{Text}
 use Rattle.sqlite_value.specs.Order.{Row}
 use Rattle.desk_book.specs.declared.flat_rows.FileRow.{FileRow}
 use Rattle.desk_history.specs.declared.identity.Identity.{Identity}
@@ -10,9 +10,9 @@ use Rattle.desk_history.specs.Resolve.{is_savings}
 use Rattle.desk_history.specs.declared.reports.RetriedEntry.{RetriedEntry}
 use Rattle.desk_rules.specs.declared.bodies.company.Company.{Company}
 use Rattle.desk_rules.specs.declared.bodies.submission.Entry.{Entry}
-use Rattle.desk_rules.specs.Fields.{sec_text}
-use Rattle.desk_rules.specs.ReturnCodes.{code_text}
-use Rattle.sql_tables.specs.Columns.{number, flag, decimal_text, letter, line_reference, direction_text, cause_text, reason_text, account_text}
+use Rattle.sql_tables.specs.Columns.{number, flag}
+use Rattle.sql_tables.specs.DeskTables as the
+use Rattle.sql_tables.specs.Description.{row}
 use Rattle.sql_tables.specs.declared.records.AuthorizationRecord.{AuthorizationRecord}
 use Rattle.sql_tables.specs.declared.records.BalanceRecord.{BalanceRecord}
 use Rattle.sql_tables.specs.declared.records.ChangeRecord.{ChangeRecord}
@@ -24,33 +24,24 @@ use Rattle.sql_tables.specs.declared.records.ReturnRecord.{ReturnRecord}
 use Rattle.sql_tables.specs.declared.records.SubmissionRecord.{SubmissionRecord}
 use Rattle.sql_tables.specs.declared.records.SuspenseRecord.{SuspenseRecord}
 
--- the version of the tables
-abbrev pub version : ℕ
-version = 2
-
 abbrev pub identity_row : Identity → Row
 identity_row i = Text i.odfi ∷ Text i.odfi_name ∷ Text i.destination ∷ Text i.destination_name ∷ []
 
 abbrev pub desk_row : DeskRecord → Row
-desk_row d = number 1 ∷ number version ∷ identity_row d.identity ++ Blob d.operator_key ∷ or_null number d.day ∷ []
+desk_row = row the.desk
 
 abbrev pub holiday_row : (day : ℕ) → Row
-holiday_row day = number day ∷ []
+holiday_row = row the.holidays
 
 abbrev pub company_row : Company → Row
-company_row k = Text k.id ∷ Text k.name ∷ Blob k.digest ∷ number k.limits.entry ∷ number k.limits.credit ∷ number k.limits.debit ∷ []
+company_row = row the.companies
 
 -- of_ref, of_index
 abbrev pub retried_columns : Option RetriedEntry → Row
 retried_columns r = or_null Text (option_map (λ t. t.of) r) ∷ or_null number (option_map (λ t. t.index) r) ∷ []
 
 abbrev pub submission_row : SubmissionRecord → Row
-submission_row s =
-    Text s.company ∷ number s.order ∷ Text s.reference
-    ∷ Text (sec_text s.sec) ∷ Text (direction_text s.direction) ∷ Text s.description ∷ number s.asked
-    ∷ retried_columns s.retried
-    ++ flag s.lapsed ∷ or_null number s.settled
-    ∷ or_null number (option_map (λ p. p.day) s.printed) ∷ or_null letter (option_map (λ p. p.modifier) s.printed) ∷ or_null number (option_map (λ p. p.batch) s.printed) ∷ []
+submission_row = row the.submissions
 
 -- routing, account, savings, prenote, cents, ident, name, info
 abbrev pub entry_columns : Entry → Row
@@ -59,37 +50,31 @@ entry_columns e =
     ∷ Text e.id ∷ Text e.name ∷ or_null Text e.info ∷ []
 
 abbrev pub entry_row : EntryRecord → Row
-entry_row e = Text e.company ∷ number e.order ∷ number e.index ∷ entry_columns e.entry ++ or_null number e.place ∷ []
+entry_row = row the.entries
 
 abbrev pub return_row : ReturnRecord → Row
-return_row r =
-    number r.number ∷ Text r.company ∷ number r.order ∷ number r.index ∷ Text (code_text r.code) ∷ number r.day ∷ flag r.late ∷ Text r.info ∷ []
+return_row = row the.returns
 
 abbrev pub change_row : ChangeRecord → Row
-change_row c = number c.number ∷ Text c.company ∷ number c.order ∷ number c.index ∷ Text c.code ∷ number c.day ∷ Text c.text ∷ []
+change_row = row the.changes
 
 abbrev pub posting_row : PostingRecord → Row
-posting_row p =
-    number p.number ∷ Text (account_text p.posting.account) ∷ number p.posting.value_day ∷ Int p.posting.cents
-    ∷ Text (cause_text p.posting.cause) ∷ line_reference p.posting.reference ∷ number p.posting.idx ∷ []
+posting_row = row the.postings
 
 abbrev pub suspense_row : SuspenseRecord → Row
-suspense_row s =
-    number s.number ∷ Text s.row.file ∷ number s.row.item ∷ Text (reason_text s.row.why)
-    ∷ Text s.row.code ∷ Text s.row.trace ∷ number s.row.cents ∷ number s.row.day ∷ []
+suspense_row = row the.suspense
 
 abbrev pub file_row : FileRow → Row
-file_row f = number f.day ∷ letter f.modifier ∷ Blob f.text ∷ []
+file_row = row the.files
 
 abbrev pub taken_row : TakenFile → Row
-taken_row t =
-    Text t.key ∷ Blob t.digest ∷ number t.answer.day ∷ number t.answer.returns ∷ number t.answer.changes ∷ number t.answer.late ∷ number t.answer.suspense ∷ []
+taken_row = row the.taken
 
 abbrev pub balance_row : BalanceRecord → Row
-balance_row b = Text (account_text b.account) ∷ number b.value_day ∷ decimal_text b.cents ∷ []
+balance_row = row the.balances
 
 abbrev pub number_row : NumberRecord → Row
-number_row n = number n.sequence ∷ number n.place ∷ []
+number_row = row the.sequences
 
 abbrev pub authorization_row : AuthorizationRecord → Row
-authorization_row a = Text a.company ∷ number a.order ∷ number a.day ∷ []
+authorization_row = row the.authorizations

@@ -1,5 +1,5 @@
 use Rattle.sqlite_wal.specs.Files.{image_at}
-use Rattle.sql_tables.specs.RecordRows.{version}
+use Rattle.sql_tables.specs.DeskTables.{version}
 use Rattle.sql_files.specs.Opened.{leaves_nothing}
 use Rattle.sql_files.proofs.Openings.{found_in, refused_in}
 use Rattle.sql_files.proofs.found_file.open.Goals as goal

@@ -1,5 +1,5 @@
 use Rattle.std.proofs.Common.{rules, ◌≡◌, Err, IfErr, sym, subst}
-use Rattle.sql_tables.specs.RecordRows.{version}
+use Rattle.sql_tables.specs.DeskTables.{version}
 use Rattle.sql_setup.specs.Refusals.{IsDropped}
 use Rattle.sql_files.proofs.found_file.with_desk.Goals as goal
 

@@ -1,7 +1,7 @@
 use Rattle.std.proofs.Common.{rules, ◌≡◌, false, IsTrue}
 use Rattle.std.proofs.lemmas.Result.{on_ok_weaker}
 use Rattle.sqlite.specs.Held.{state}
-use Rattle.sql_tables.specs.RecordRows.{version}
+use Rattle.sql_tables.specs.DeskTables.{version}
 use Rattle.sql_setup.proofs.DeskChecks.{is_desk}
 use Rattle.sql_setup.proofs.Refused.{not_named}
 use Rattle.sql_setup.proofs.check.check_desk.Goals as goal

@@ -1,4 +1,4 @@
-use Rattle.sql_tables.specs.RecordRows.{version}
+use Rattle.sql_tables.specs.DeskTables.{version}
 use Rattle.sql_setup.proofs.Refused.{unavailable}
 use Rattle.sql_setup.proofs.check.check_tables.Goals as goal
 

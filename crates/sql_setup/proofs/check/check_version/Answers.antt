@@ -1,6 +1,6 @@
 use Rattle.std.proofs.Common.{rules, ◌≡◌, ◌≢◌, pos, Some, refl, sym, ap, ◌∙◌, arith, to_z, of_z}
 use Rattle.std.specs.Int.{w64}
-use Rattle.sql_tables.specs.RecordRows.{version}
+use Rattle.sql_tables.specs.DeskTables.{version}
 use Rattle.sql_setup.proofs.Refused.{says_shown, other_version, unread}
 use Rattle.sql_setup.proofs.check.check_version.Goals as goal
 
