@@ -23,45 +23,45 @@ use Rattle.sql_queries.proofs.Listings.{entries, numbers}
 use Rattle.sql_queries.proofs.Selects.{all_selected, first_selected}
 use Rattle.sql_queries.proofs.Texts.{places, entries_is, amounts_is, cents_is, entry_is, sent_entry_is, place_is, places_is}
 use Rattle.sql_queries.specs.Shows.{ShowsAll, ShowsFirst}
-use Rattle.sql_queries.specs.Texts.{entries_text, amounts_text, cents_text, entry_text, sent_entry_text, place_text, places_text}
+use Rattle.sql_queries.specs.Questions as questions
 
-pub entries_shown : (c : List ℕ) (order : ℕ) → ShowsAll entries_text (Text c ∷ number order ∷ []) numbered_entry_row (entries_in c order)
+pub entries_shown : (c : List ℕ) (order : ℕ) → ShowsAll questions.entries.text (Text c ∷ number order ∷ []) numbered_entry_row (entries_in c order)
 entries_shown c order =
-    all_selected entries entries_text (column_is 1 0 ∷ column_is 2 1 ∷ []) (places (3 ∷ 4 ∷ 5 ∷ 6 ∷ 7 ∷ 8 ∷ 9 ∷ 10 ∷ 11 ∷ [])) (Text c ∷ number order ∷ []) (is_entry_of c order) numbered_of numbered_entry_row
-    entries_is (λ i e. two (text_is e.company c) (number_is e.order order)) (λ i e. refl)
+    all_selected entries questions.entries.text (column_is 1 0 ∷ column_is 2 1 ∷ []) (places (3 ∷ 4 ∷ 5 ∷ 6 ∷ 7 ∷ 8 ∷ 9 ∷ 10 ∷ 11 ∷ [])) (Text c ∷ number order ∷ []) (is_entry_of c order) numbered_of numbered_entry_row
+    entries_is.asks (λ i e. two (text_is e.company c) (number_is e.order order)) (λ i e. refl)
 
-pub amounts_shown : (c : List ℕ) (order : ℕ) → ShowsAll amounts_text (Text c ∷ number order ∷ []) entry_amount_row (amounts_in c order)
+pub amounts_shown : (c : List ℕ) (order : ℕ) → ShowsAll questions.amounts.text (Text c ∷ number order ∷ []) entry_amount_row (amounts_in c order)
 amounts_shown c order =
-    all_selected entries amounts_text (column_is 1 0 ∷ column_is 2 1 ∷ []) (places (3 ∷ 7 ∷ 8 ∷ [])) (Text c ∷ number order ∷ []) (is_entry_of c order) amount_of entry_amount_row
-    amounts_is (λ i e. two (text_is e.company c) (number_is e.order order)) (λ i e. refl)
+    all_selected entries questions.amounts.text (column_is 1 0 ∷ column_is 2 1 ∷ []) (places (3 ∷ 7 ∷ 8 ∷ [])) (Text c ∷ number order ∷ []) (is_entry_of c order) amount_of entry_amount_row
+    amounts_is.asks (λ i e. two (text_is e.company c) (number_is e.order order)) (λ i e. refl)
 
 whole_sum : (es : List EntryRecord) → int_sum (map (λ e. pos e.entry.cents) es) ≡ pos (sum_by (λ e. e.entry.cents) es)
 whole_sum [] = refl
 whole_sum (e ∷ es) = let more = sum_by-cons (λ (e : EntryRecord). e.entry.cents) e es in let rest = whole_sum es in omega (arith, ints)
 
-pub cents_shown : (c : List ℕ) (order : ℕ) → ShowsFirst cents_text (Text c ∷ number order ∷ []) (λ n. number n ∷ []) (λ t. Some (cents_in c order t))
+pub cents_shown : (c : List ℕ) (order : ℕ) → ShowsFirst questions.cents.text (Text c ∷ number order ∷ []) (λ n. number n ∷ []) (λ t. Some (cents_in c order t))
 cents_shown c order = record {
   row = λ t old new h rows seen.
       ap (λ (l : List Row). slice_get l 0)
       (summed entry_row entries_table.tree (column_is 1 0 ∷ column_is 2 1 ∷ []) 8 (Text c ∷ number order ∷ []) (is_entry_of c order) (λ e. pos e.entry.cents)
-      (λ i e. two (text_is e.company c) (number_is e.order order)) (λ i e. refl) desk_schema cents_text cents_is old new h.0 t.entries h.1.entries.stored rows seen)
+      (λ i e. two (text_is e.company c) (number_is e.order order)) (λ i e. refl) desk_schema questions.cents.text cents_is.asks old new h.0 t.entries h.1.entries.stored rows seen)
       ∙ ap (λ z. Some (Int z ∷ [])) (whole_sum (filter (is_entry_of c order) t.entries));
 }
 
-pub entry_shown : (c : List ℕ) (order index : ℕ) → ShowsFirst entry_text (Text c ∷ number order ∷ number index ∷ []) numbered_entry_row (entry_at c order index)
+pub entry_shown : (c : List ℕ) (order index : ℕ) → ShowsFirst questions.entry.text (Text c ∷ number order ∷ number index ∷ []) numbered_entry_row (entry_at c order index)
 entry_shown c order index =
-    first_selected entries entry_text (column_is 1 0 ∷ column_is 2 1 ∷ column_is 3 2 ∷ []) (places (3 ∷ 4 ∷ 5 ∷ 6 ∷ 7 ∷ 8 ∷ 9 ∷ 10 ∷ 11 ∷ [])) (Text c ∷ number order ∷ number index ∷ []) (is_entry_row c order index) numbered_of numbered_entry_row
-    entry_is (λ i e. three (text_is e.company c) (number_is e.order order) (number_is e.index index)) (λ i e. refl)
+    first_selected entries questions.entry.text (column_is 1 0 ∷ column_is 2 1 ∷ column_is 3 2 ∷ []) (places (3 ∷ 4 ∷ 5 ∷ 6 ∷ 7 ∷ 8 ∷ 9 ∷ 10 ∷ 11 ∷ [])) (Text c ∷ number order ∷ number index ∷ []) (is_entry_row c order index) numbered_of numbered_entry_row
+    entry_is.asks (λ i e. three (text_is e.company c) (number_is e.order order) (number_is e.index index)) (λ i e. refl)
 
-pub sent_entry_shown : (place : ℕ) → ShowsFirst sent_entry_text (number place ∷ []) placed_entry_row (entry_at_place place)
+pub sent_entry_shown : (place : ℕ) → ShowsFirst questions.sent_entry.text (number place ∷ []) placed_entry_row (entry_at_place place)
 sent_entry_shown place =
-    first_selected entries sent_entry_text (column_is 12 0 ∷ []) (columns 11) (number place ∷ []) (is_at_place place) placed_of placed_entry_row sent_entry_is (λ i e. one (number_if_any_is e.place place)) (λ i e. refl)
+    first_selected entries questions.sent_entry.text (column_is 12 0 ∷ []) (columns 11) (number place ∷ []) (is_at_place place) placed_of placed_entry_row sent_entry_is.asks (λ i e. one (number_if_any_is e.place place)) (λ i e. refl)
 
-pub place_shown : (sequence : ℕ) → ShowsFirst place_text (number sequence ∷ []) (λ n. number n ∷ []) (place_in sequence)
+pub place_shown : (sequence : ℕ) → ShowsFirst questions.place.text (number sequence ∷ []) (λ n. number n ∷ []) (place_in sequence)
 place_shown sequence =
-    first_selected numbers place_text (column_is 1 0 ∷ []) (places (2 ∷ [])) (number sequence ∷ []) (λ n. n.sequence == sequence) (λ n. n.place) (λ n. number n ∷ []) place_is (λ i n. one (number_is n.sequence sequence)) (λ i n. refl)
+    first_selected numbers questions.place.text (column_is 1 0 ∷ []) (places (2 ∷ [])) (number sequence ∷ []) (λ n. n.sequence == sequence) (λ n. n.place) (λ n. number n ∷ []) place_is.asks (λ i n. one (number_is n.sequence sequence)) (λ i n. refl)
 
-pub places_shown : (from to : ℕ) → ShowsAll places_text (number from ∷ number to ∷ []) (λ n. number n ∷ []) (places_between from to)
+pub places_shown : (from to : ℕ) → ShowsAll questions.places.text (number from ∷ number to ∷ []) (λ n. number n ∷ []) (places_between from to)
 places_shown from to =
-    all_selected numbers places_text (at_least 1 0 ∷ at_most 1 1 ∷ []) (places (2 ∷ [])) (number from ∷ number to ∷ []) (is_between from to) (λ n. n.place) (λ n. number n ∷ [])
-    places_is (λ i n. two (number_least n.sequence from) (number_most n.sequence to)) (λ i n. refl)
+    all_selected numbers questions.places.text (at_least 1 0 ∷ at_most 1 1 ∷ []) (places (2 ∷ [])) (number from ∷ number to ∷ []) (is_between from to) (λ n. n.place) (λ n. number n ∷ [])
+    places_is.asks (λ i n. two (number_least n.sequence from) (number_most n.sequence to)) (λ i n. refl)

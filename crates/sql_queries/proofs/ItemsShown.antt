@@ -12,28 +12,28 @@ use Rattle.sql_queries.proofs.Listings.{returns, changes, suspense}
 use Rattle.sql_queries.proofs.Selects.{all_selected, first_selected, all_pass}
 use Rattle.sql_queries.proofs.Texts.{places, returns_is, return_is, returned_orders_is, change_lines_is, suspense_is}
 use Rattle.sql_queries.specs.Shows.{ShowsAll, ShowsFirst}
-use Rattle.sql_queries.specs.Texts.{returns_text, return_text, returned_orders_text, change_lines_text, suspense_text}
+use Rattle.sql_queries.specs.Questions as questions
 
-pub returns_shown : (c : List ℕ) (order : ℕ) → ShowsAll returns_text (Text c ∷ number order ∷ []) entry_return_row (returns_in c order)
+pub returns_shown : (c : List ℕ) (order : ℕ) → ShowsAll questions.returns.text (Text c ∷ number order ∷ []) entry_return_row (returns_in c order)
 returns_shown c order =
-    all_selected returns returns_text (column_is 2 0 ∷ column_is 3 1 ∷ []) (places (4 ∷ 5 ∷ 6 ∷ 7 ∷ [])) (Text c ∷ number order ∷ []) (is_return_in c order) return_of entry_return_row
-    returns_is (λ i r. two (text_is r.company c) (number_is r.order order)) (λ i r. refl)
+    all_selected returns questions.returns.text (column_is 2 0 ∷ column_is 3 1 ∷ []) (places (4 ∷ 5 ∷ 6 ∷ 7 ∷ [])) (Text c ∷ number order ∷ []) (is_return_in c order) return_of entry_return_row
+    returns_is.asks (λ i r. two (text_is r.company c) (number_is r.order order)) (λ i r. refl)
 
-pub return_shown : (c : List ℕ) (order index : ℕ) → ShowsFirst return_text (Text c ∷ number order ∷ number index ∷ []) entry_return_row (return_at c order index)
+pub return_shown : (c : List ℕ) (order index : ℕ) → ShowsFirst questions.return.text (Text c ∷ number order ∷ number index ∷ []) entry_return_row (return_at c order index)
 return_shown c order index =
-    first_selected returns return_text (column_is 2 0 ∷ column_is 3 1 ∷ column_is 4 2 ∷ []) (places (4 ∷ 5 ∷ 6 ∷ 7 ∷ [])) (Text c ∷ number order ∷ number index ∷ []) (is_return_at c order index) return_of entry_return_row
-    return_is (λ i r. three (text_is r.company c) (number_is r.order order) (number_is r.index index)) (λ i r. refl)
+    first_selected returns questions.return.text (column_is 2 0 ∷ column_is 3 1 ∷ column_is 4 2 ∷ []) (places (4 ∷ 5 ∷ 6 ∷ 7 ∷ [])) (Text c ∷ number order ∷ number index ∷ []) (is_return_at c order index) return_of entry_return_row
+    return_is.asks (λ i r. three (text_is r.company c) (number_is r.order order) (number_is r.index index)) (λ i r. refl)
 
-pub returned_orders_shown : (c : List ℕ) (since : ℕ) → ShowsAll returned_orders_text (Text c ∷ number since ∷ []) (λ n. number n ∷ []) (orders_returned c since)
+pub returned_orders_shown : (c : List ℕ) (since : ℕ) → ShowsAll questions.returned_orders.text (Text c ∷ number since ∷ []) (λ n. number n ∷ []) (orders_returned c since)
 returned_orders_shown c since =
-    all_selected returns returned_orders_text (column_is 2 0 ∷ at_least 6 1 ∷ []) (places (3 ∷ [])) (Text c ∷ number since ∷ []) (is_return_since c since) (λ r. r.order) (λ n. number n ∷ [])
-    returned_orders_is (λ i r. two (text_is r.company c) (number_least r.day since)) (λ i r. refl)
+    all_selected returns questions.returned_orders.text (column_is 2 0 ∷ at_least 6 1 ∷ []) (places (3 ∷ [])) (Text c ∷ number since ∷ []) (is_return_since c since) (λ r. r.order) (λ n. number n ∷ [])
+    returned_orders_is.asks (λ i r. two (text_is r.company c) (number_least r.day since)) (λ i r. refl)
 
-pub change_lines_shown : (c : List ℕ) → ShowsAll change_lines_text (Text c ∷ []) change_line_row (change_lines_in c)
+pub change_lines_shown : (c : List ℕ) → ShowsAll questions.change_lines.text (Text c ∷ []) change_line_row (change_lines_in c)
 change_lines_shown c =
-    all_selected changes change_lines_text (column_is 2 0 ∷ []) (places (3 ∷ 4 ∷ 5 ∷ 6 ∷ 7 ∷ [])) (Text c ∷ []) (λ x. bytes_eq x.company c) change_line_of change_line_row change_lines_is (λ i x. one (text_is x.company c)) (λ i x. refl)
+    all_selected changes questions.change_lines.text (column_is 2 0 ∷ []) (places (3 ∷ 4 ∷ 5 ∷ 6 ∷ 7 ∷ [])) (Text c ∷ []) (λ x. bytes_eq x.company c) change_line_of change_line_row change_lines_is.asks (λ i x. one (text_is x.company c)) (λ i x. refl)
 
-pub suspense_shown : ShowsAll suspense_text [] suspense_line_row suspense_in
+pub suspense_shown : ShowsAll questions.suspense.text [] suspense_line_row suspense_in
 suspense_shown =
-    subst (ShowsAll suspense_text [] suspense_line_row) (λ i t. map (λ s. s.row) (all_pass t.suspense i))
-    (all_selected suspense suspense_text [] (places (2 ∷ 3 ∷ 4 ∷ 5 ∷ 6 ∷ 7 ∷ 8 ∷ [])) [] (λ _. true) (λ s. s.row) suspense_line_row suspense_is (λ i s. refl) (λ i s. refl))
+    subst (ShowsAll questions.suspense.text [] suspense_line_row) (λ i t. map (λ s. s.row) (all_pass t.suspense i))
+    (all_selected suspense questions.suspense.text [] (places (2 ∷ 3 ∷ 4 ∷ 5 ∷ 6 ∷ 7 ∷ 8 ∷ [])) [] (λ _. true) (λ s. s.row) suspense_line_row suspense_is.asks (λ i s. refl) (λ i s. refl))

@@ -30,7 +30,7 @@ use Rattle.sql_queries.proofs.Listings.{Listing, suspense}
 use Rattle.sql_queries.proofs.Selects.{all_pass, itself}
 use Rattle.sql_queries.proofs.Texts.{places, last_order_is, last_number_is, last_suspense_is}
 use Rattle.sql_queries.specs.Shows.{ShowsFirst, ReadsFirst}
-use Rattle.sql_queries.specs.Texts.{last_order_text, last_number_text, last_suspense_text}
+use Rattle.sql_queries.specs.Questions as questions
 
 pub backwards_is : {X : Type 0} (xs : List X) → backwards xs ≡ reverse xs
 backwards_is [] = refl
@@ -47,28 +47,28 @@ first_taken : {X Y : Type 0} (show : Y → Row) (f : X → Y) (xs : List X) (row
 first_taken show f [] rows are = ap (λ l. slice_get l 0) are
 first_taken show f (x ∷ xs) rows are = ap (λ l. slice_get l 0) are
 
-pub last_order_shown : (c : List ℕ) → ShowsFirst last_order_text (Text c ∷ []) (λ n. number n ∷ []) (λ t. option_map (λ s. s.order) (slice_get (reverse (filter (is_of c) t.submissions)) 0))
+pub last_order_shown : (c : List ℕ) → ShowsFirst questions.last_order.text (Text c ∷ []) (λ n. number n ∷ []) (λ t. option_map (λ s. s.order) (slice_get (reverse (filter (is_of c) t.submissions)) 0))
 last_order_shown c = record {
   row = λ t old new h rows seen.
       first_taken (λ n. number n ∷ []) (λ s. s.order) (reverse (filter (is_of c) t.submissions)) rows
       (last_selected submission_row submissions_table.tree (column_is 1 0 ∷ []) (places (2 ∷ [])) (falling 1 ∷ falling 2 ∷ []) (Text c ∷ []) (is_of c) (λ s. number s.order ∷ []) (λ s. Text s.company ∷ number s.order ∷ [])
-      (λ i s. one (text_is s.company c)) (λ i s. refl) (λ i s. refl) desk_schema last_order_text last_order_is old new h.0 t.submissions h.1.submissions.stored
+      (λ i s. one (text_is s.company c)) (λ i s. refl) (λ i s. refl) desk_schema questions.last_order.text last_order_is.asks old new h.0 t.submissions h.1.submissions.stored
       (ascending_weaker _ _ (λ x y less. by_falling_text_then_number x.company y.company x.order y.order ∙ less) t.submissions h.1.submissions.rise) rows seen
       ∙ ap (λ l. map (λ s. number s.order ∷ []) (take 1 l)) (passing_backwards (is_of c) t.submissions));
 }
 
-pub last_order_found : {c : List ℕ} {old new : State} {o : Option ℕ} {n : ℕ} → ReadsFirst last_order_text (Text c ∷ []) (λ n. number n ∷ []) old new o → unwrap_or o 0 ≡ n → Finds desk_layout (λ t. n ≡ last_order c t) old
+pub last_order_found : {c : List ℕ} {old new : State} {o : Option ℕ} {n : ℕ} → ReadsFirst questions.last_order.text (Text c ∷ []) (λ n. number n ∷ []) old new o → unwrap_or o 0 ≡ n → Finds desk_layout (λ t. n ≡ last_order c t) old
 last_order_found {c} read is =
     let found = first_found _ number_columns (last_order_shown c) read in
     record { was_open = found.was_open; told = λ t h. sym is ∙ ap (λ o. unwrap_or o 0) (found.told t h) }
 
-pub last_number_found : {old new : State} {x : Option NumberRecord} → ReadsFirst last_number_text [] number_row old new x → Finds desk_layout (IsLastNumber x) old
+pub last_number_found : {old new : State} {x : Option NumberRecord} → ReadsFirst questions.last_number.text [] number_row old new x → Finds desk_layout (IsLastNumber x) old
 last_number_found {old} {new} {x} read = record {
   was_open = read.was_open;
   told = λ t h by_place same up.
       same_option number_row number_rows x (slice_get (reverse by_place) 0)
       (read.is ∙ first_taken number_row (λ n. n) (reverse by_place) read.rows
-      (last_selected number_row numbers_table.tree [] (columns 2) (falling 2 ∷ []) [] (λ _. true) number_row (λ n. number n.place ∷ []) (λ i n. refl) (λ i n. refl) (λ i n. refl) desk_schema last_number_text last_number_is old new h.0 by_place
+      (last_selected number_row numbers_table.tree [] (columns 2) (falling 2 ∷ []) [] (λ _. true) number_row (λ n. number n.place ∷ []) (λ i n. refl) (λ i n. refl) (λ i n. refl) desk_schema questions.last_number.text last_number_is.asks old new h.0 by_place
       (stores_in number_row (old.now.trees numbers_table.tree) t.numbers by_place same h.1.numbers.stored)
       (ascending_weaker _ _ (λ a b less. by_falling_number a.place b.place ∙ less) by_place up) read.rows read.shown
       ∙ ap (λ l. map number_row (take 1 l)) (all_pass (backwards by_place) ∙ backwards_is by_place))
@@ -91,7 +91,7 @@ module _ {X : Type 0} (of : Listing X) (number_of : X → ℕ) (sql : List ℕ) 
         ∙ ap (λ l. map show (take 1 l)) (all_pass (backwards xs) ∙ backwards_is xs));
   }
 
-pub last_suspense_found : {old new : State} {o : Option ℕ} {n : ℕ} → ReadsFirst last_suspense_text [] (λ n. number n ∷ []) old new o → unwrap_or o 0 ≡ n → Finds desk_layout (λ t. n ≡ number_of_last (λ s. s.number) t.suspense) old
+pub last_suspense_found : {old new : State} {o : Option ℕ} {n : ℕ} → ReadsFirst questions.last_suspense.text [] (λ n. number n ∷ []) old new o → unwrap_or o 0 ≡ n → Finds desk_layout (λ t. n ≡ number_of_last (λ s. s.number) t.suspense) old
 last_suspense_found read is =
-    let found = first_found _ number_columns (number_shown suspense (λ s. s.number) last_suspense_text last_suspense_is (λ i s. refl) (λ s u. refl)) read in
+    let found = first_found _ number_columns (number_shown suspense (λ s. s.number) questions.last_suspense.text last_suspense_is.asks (λ i s. refl) (λ s u. refl)) read in
     record { was_open = found.was_open; told = λ t h. sym is ∙ ap (λ o. unwrap_or o 0) (found.told t h) }

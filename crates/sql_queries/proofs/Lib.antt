@@ -17,5 +17,4 @@ pub mod Sorting
 pub mod SumRows
 pub mod SubmissionsShown
 pub mod Texts
-pub mod TextsAnywhere
 pub mod WaitingFirst

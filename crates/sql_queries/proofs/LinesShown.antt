@@ -28,21 +28,21 @@ use Rattle.sql_queries.proofs.Listings.{files, taken, balances, postings}
 use Rattle.sql_queries.proofs.Selects.{all_selected, first_selected, itself}
 use Rattle.sql_queries.proofs.Texts.{places, postings_is, sums_is, sum_is, modifiers_is, file_is, taken_is}
 use Rattle.sql_queries.specs.Shows.{ShowsAll, ShowsFirst}
-use Rattle.sql_queries.specs.Texts.{postings_text, sums_text, sum_text, modifiers_text, file_text, taken_text}
+use Rattle.sql_queries.specs.Questions as questions
 
-pub modifiers_shown : (day : ℕ) → ShowsAll modifiers_text (number day ∷ []) (λ n. letter n ∷ []) (modifiers_in day)
+pub modifiers_shown : (day : ℕ) → ShowsAll questions.modifiers.text (number day ∷ []) (λ n. letter n ∷ []) (modifiers_in day)
 modifiers_shown day =
-    all_selected files modifiers_text (column_is 1 0 ∷ []) (places (2 ∷ [])) (number day ∷ []) (λ f. f.day == day) (λ f. f.modifier) (λ n. letter n ∷ []) modifiers_is (λ i f. one (number_is f.day day)) (λ i f. refl)
+    all_selected files questions.modifiers.text (column_is 1 0 ∷ []) (places (2 ∷ [])) (number day ∷ []) (λ f. f.day == day) (λ f. f.modifier) (λ n. letter n ∷ []) modifiers_is.asks (λ i f. one (number_is f.day day)) (λ i f. refl)
 
-pub file_shown : (day modifier : ℕ) → ShowsFirst file_text (number day ∷ letter modifier ∷ []) (λ text. Blob text ∷ []) (text_in day modifier)
+pub file_shown : (day modifier : ℕ) → ShowsFirst questions.file.text (number day ∷ letter modifier ∷ []) (λ text. Blob text ∷ []) (text_in day modifier)
 file_shown day modifier =
-    first_selected files file_text (column_is 1 0 ∷ column_is 2 1 ∷ []) (places (3 ∷ [])) (number day ∷ letter modifier ∷ []) (is_file day modifier) (λ f. f.text) (λ text. Blob text ∷ [])
-    file_is (λ i f. two (number_is f.day day) (letter_is f.modifier modifier)) (λ i f. refl)
+    first_selected files questions.file.text (column_is 1 0 ∷ column_is 2 1 ∷ []) (places (3 ∷ [])) (number day ∷ letter modifier ∷ []) (is_file day modifier) (λ f. f.text) (λ text. Blob text ∷ [])
+    file_is.asks (λ i f. two (number_is f.day day) (letter_is f.modifier modifier)) (λ i f. refl)
 
-pub taken_shown : (key : List ℕ) → ShowsFirst taken_text (Text key ∷ []) taken_row (taken_in key)
+pub taken_shown : (key : List ℕ) → ShowsFirst questions.taken.text (Text key ∷ []) taken_row (taken_in key)
 taken_shown key =
-    subst (ShowsFirst taken_text (Text key ∷ []) taken_row) (λ i t. itself (taken_in key t) i)
-    (first_selected taken taken_text (column_is 1 0 ∷ []) (columns 7) (Text key ∷ []) (has_key key) (λ f. f) taken_row taken_is (λ i f. one (text_is f.key key)) (λ i f. refl))
+    subst (ShowsFirst questions.taken.text (Text key ∷ []) taken_row) (λ i t. itself (taken_in key t) i)
+    (first_selected taken questions.taken.text (column_is 1 0 ∷ []) (columns 7) (Text key ∷ []) (has_key key) (λ f. f) taken_row taken_is.asks (λ i f. one (text_is f.key key)) (λ i f. refl))
 
 -- an account has a text of its own
 pub accounts_are : (a b : Account) → bytes_eq (account_text a) (account_text b) ≡ same_account a b
@@ -56,20 +56,20 @@ accounts_are accounts.Suspense (accounts.Company y) = refl
 accounts_are accounts.Suspense accounts.Operator = refl
 accounts_are accounts.Suspense accounts.Suspense = refl
 
-pub sums_shown : (account : Account) → ShowsAll sums_text (Text (account_text account) ∷ []) day_sum_row (sums_in account)
+pub sums_shown : (account : Account) → ShowsAll questions.sums.text (Text (account_text account) ∷ []) day_sum_row (sums_in account)
 sums_shown account =
-    all_selected balances sums_text (column_is 1 0 ∷ []) (places (2 ∷ 3 ∷ [])) (Text (account_text account) ∷ []) (λ b. same_account b.account account) day_sum_of day_sum_row
-    sums_is (λ i b. one (text_is (account_text b.account) (account_text account) ∙ accounts_are b.account account)) (λ i b. refl)
+    all_selected balances questions.sums.text (column_is 1 0 ∷ []) (places (2 ∷ 3 ∷ [])) (Text (account_text account) ∷ []) (λ b. same_account b.account account) day_sum_of day_sum_row
+    sums_is.asks (λ i b. one (text_is (account_text b.account) (account_text account) ∙ accounts_are b.account account)) (λ i b. refl)
 
-pub sum_shown : (account : Account) (day : ℕ) → ShowsFirst sum_text (Text (account_text account) ∷ number day ∷ []) (λ cents. decimal_text cents ∷ []) (sum_in account day)
+pub sum_shown : (account : Account) (day : ℕ) → ShowsFirst questions.sum.text (Text (account_text account) ∷ number day ∷ []) (λ cents. decimal_text cents ∷ []) (sum_in account day)
 sum_shown account day =
-    first_selected balances sum_text (column_is 1 0 ∷ column_is 2 1 ∷ []) (places (3 ∷ [])) (Text (account_text account) ∷ number day ∷ []) (is_balance_of account day) (λ b. b.cents) (λ cents. decimal_text cents ∷ [])
-    sum_is (λ i b. two (text_is (account_text b.account) (account_text account) ∙ accounts_are b.account account) (number_is b.value_day day)) (λ i b. refl)
+    first_selected balances questions.sum.text (column_is 1 0 ∷ column_is 2 1 ∷ []) (places (3 ∷ [])) (Text (account_text account) ∷ number day ∷ []) (is_balance_of account day) (λ b. b.cents) (λ cents. decimal_text cents ∷ [])
+    sum_is.asks (λ i b. two (text_is (account_text b.account) (account_text account) ∙ accounts_are b.account account) (number_is b.value_day day)) (λ i b. refl)
 
-pub postings_shown : (account : Account) → ShowsAll postings_text (Text (account_text account) ∷ []) posting_line_row (λ t. map (λ p. posting_line_of p.posting) (filter (λ p. same_account p.posting.account account) t.postings))
+pub postings_shown : (account : Account) → ShowsAll questions.postings.text (Text (account_text account) ∷ []) posting_line_row (λ t. map (λ p. posting_line_of p.posting) (filter (λ p. same_account p.posting.account account) t.postings))
 postings_shown account =
-    all_selected postings postings_text (column_is 2 0 ∷ []) (places (3 ∷ 4 ∷ 5 ∷ 6 ∷ 7 ∷ [])) (Text (account_text account) ∷ []) (λ p. same_account p.posting.account account) (λ p. posting_line_of p.posting) posting_line_row
-    postings_is (λ i p. one (text_is (account_text p.posting.account) (account_text account) ∙ accounts_are p.posting.account account)) (λ i p. refl)
+    all_selected postings questions.postings.text (column_is 2 0 ∷ []) (places (3 ∷ 4 ∷ 5 ∷ 6 ∷ 7 ∷ [])) (Text (account_text account) ∷ []) (λ p. same_account p.posting.account account) (λ p. posting_line_of p.posting) posting_line_row
+    postings_is.asks (λ i p. one (text_is (account_text p.posting.account) (account_text account) ∙ accounts_are p.posting.account account)) (λ i p. refl)
 
 -- the lines of an account are its postings without it
 with_account : (account : Account) (ps : List PostingRecord)

@@ -16,28 +16,28 @@ use Rattle.sql_queries.proofs.Selects.{all_selected, first_selected, itself, eac
 use Rattle.sql_queries.proofs.Texts.{places, identity_is, operator_key_is, day_is, company_is, companies_is, holidays_is}
 use Rattle.sql_queries.specs.DigestRows.{key_digest_row}
 use Rattle.sql_queries.specs.Shows.{ShowsAll, ShowsFirst}
-use Rattle.sql_queries.specs.Texts.{identity_text, operator_key_text, day_text, company_text, companies_text, holidays_text}
+use Rattle.sql_queries.specs.Questions as questions
 
-pub identity_shown : ShowsFirst identity_text [] identity_row (λ t. Some t.desk.identity)
-identity_shown = first_selected desk identity_text (sql.number_is 1 (pos 1) ∷ []) (places (3 ∷ 4 ∷ 5 ∷ 6 ∷ [])) [] (λ _. true) (λ d. d.identity) identity_row identity_is (λ i d. one (number_is 1 1)) (λ i d. refl)
+pub identity_shown : ShowsFirst questions.identity.text [] identity_row (λ t. Some t.desk.identity)
+identity_shown = first_selected desk questions.identity.text (sql.number_is 1 (pos 1) ∷ []) (places (3 ∷ 4 ∷ 5 ∷ 6 ∷ [])) [] (λ _. true) (λ d. d.identity) identity_row identity_is.asks (λ i d. one (number_is 1 1)) (λ i d. refl)
 
-pub operator_key_shown : ShowsFirst operator_key_text [] key_digest_row (λ t. Some (record { bytes = t.desk.operator_key }))
-operator_key_shown = first_selected desk operator_key_text (sql.number_is 1 (pos 1) ∷ []) (places (7 ∷ [])) [] (λ _. true) (λ d. record { bytes = d.operator_key }) key_digest_row operator_key_is (λ i d. one (number_is 1 1)) (λ i d. refl)
+pub operator_key_shown : ShowsFirst questions.operator_key.text [] key_digest_row (λ t. Some (record { bytes = t.desk.operator_key }))
+operator_key_shown = first_selected desk questions.operator_key.text (sql.number_is 1 (pos 1) ∷ []) (places (7 ∷ [])) [] (λ _. true) (λ d. record { bytes = d.operator_key }) key_digest_row operator_key_is.asks (λ i d. one (number_is 1 1)) (λ i d. refl)
 
-pub day_shown : ShowsFirst day_text [] (λ day. or_null number day ∷ []) (λ t. Some t.desk.day)
-day_shown = first_selected desk day_text (sql.number_is 1 (pos 1) ∷ []) (places (8 ∷ [])) [] (λ _. true) (λ d. d.day) (λ day. or_null number day ∷ []) day_is (λ i d. one (number_is 1 1)) (λ i d. refl)
+pub day_shown : ShowsFirst questions.day.text [] (λ day. or_null number day ∷ []) (λ t. Some t.desk.day)
+day_shown = first_selected desk questions.day.text (sql.number_is 1 (pos 1) ∷ []) (places (8 ∷ [])) [] (λ _. true) (λ d. d.day) (λ day. or_null number day ∷ []) day_is.asks (λ i d. one (number_is 1 1)) (λ i d. refl)
 
-pub company_shown : (id : List ℕ) → ShowsFirst company_text (Text id ∷ []) company_row (company_in id)
+pub company_shown : (id : List ℕ) → ShowsFirst questions.company.text (Text id ∷ []) company_row (company_in id)
 company_shown id =
-    subst (ShowsFirst company_text (Text id ∷ []) company_row) (λ i t. itself (company_in id t) i)
-    (first_selected companies company_text (column_is 1 0 ∷ []) (columns 6) (Text id ∷ []) (has_id id) (λ k. k) company_row company_is (λ i k. one (text_is k.id id)) (λ i k. refl))
+    subst (ShowsFirst questions.company.text (Text id ∷ []) company_row) (λ i t. itself (company_in id t) i)
+    (first_selected companies questions.company.text (column_is 1 0 ∷ []) (columns 6) (Text id ∷ []) (has_id id) (λ k. k) company_row company_is.asks (λ i k. one (text_is k.id id)) (λ i k. refl))
 
-pub companies_shown : ShowsAll companies_text [] company_row (λ t. t.companies)
+pub companies_shown : ShowsAll questions.companies.text [] company_row (λ t. t.companies)
 companies_shown =
-    subst (ShowsAll companies_text [] company_row) (λ i t. (each_itself (filter (λ _. true) t.companies) ∙ all_pass t.companies) i)
-    (all_selected companies companies_text [] (columns 6) [] (λ _. true) (λ k. k) company_row companies_is (λ i k. refl) (λ i k. refl))
+    subst (ShowsAll questions.companies.text [] company_row) (λ i t. (each_itself (filter (λ _. true) t.companies) ∙ all_pass t.companies) i)
+    (all_selected companies questions.companies.text [] (columns 6) [] (λ _. true) (λ k. k) company_row companies_is.asks (λ i k. refl) (λ i k. refl))
 
-pub holidays_shown : ShowsAll holidays_text [] holiday_row (λ t. t.holidays)
+pub holidays_shown : ShowsAll questions.holidays.text [] holiday_row (λ t. t.holidays)
 holidays_shown =
-    subst (ShowsAll holidays_text [] holiday_row) (λ i t. (each_itself (filter (λ _. true) t.holidays) ∙ all_pass t.holidays) i)
-    (all_selected holidays holidays_text [] (columns 1) [] (λ _. true) (λ d. d) holiday_row holidays_is (λ i d. refl) (λ i d. refl))
+    subst (ShowsAll questions.holidays.text [] holiday_row) (λ i t. (each_itself (filter (λ _. true) t.holidays) ∙ all_pass t.holidays) i)
+    (all_selected holidays questions.holidays.text [] (columns 1) [] (λ _. true) (λ d. d) holiday_row holidays_is.asks (λ i d. refl) (λ i d. refl))

@@ -23,17 +23,17 @@ use Rattle.sql_queries.proofs.Listings.{returns}
 use Rattle.sql_queries.proofs.Texts.{places, return_lines_is}
 use Rattle.sql_queries.specs.ByNumber.{by_line_number}
 use Rattle.sql_queries.specs.Shows.{ReadsAll}
-use Rattle.sql_queries.specs.Texts.{return_lines_text}
+use Rattle.sql_queries.specs.Questions as questions
 
-read_in_any_order : (c : List ℕ) {old new : State} {lines : List ReturnLine} → ReadsAll return_lines_text (Text c ∷ []) return_line_row old new lines → (t : Tables) → Holds desk_layout old.now t
+read_in_any_order : (c : List ℕ) {old new : State} {lines : List ReturnLine} → ReadsAll questions.return_lines.text (Text c ∷ []) return_line_row old new lines → (t : Tables) → Holds desk_layout old.now t
     → IsPermutation (return_lines_in c t) lines
 read_in_any_order c {old} {new} {lines} read t h =
     same_read return_line_row return_line_in return_line_back _ lines
     (subst (IsPermutation (map return_line_row (return_lines_in c t))) (sym read.are)
-    (selected_in_any_order returns return_lines_text (column_is 2 0 ∷ []) (places (1 ∷ 3 ∷ 4 ∷ 5 ∷ 6 ∷ 7 ∷ 8 ∷ [])) (by 6 ∷ []) (Text c ∷ []) (λ r. bytes_eq r.company c) return_line_of return_line_row
-    return_lines_is (λ i r. one (text_is r.company c)) (λ i r. refl) t old new h read.rows read.shown))
+    (selected_in_any_order returns questions.return_lines.text (column_is 2 0 ∷ []) (places (1 ∷ 3 ∷ 4 ∷ 5 ∷ 6 ∷ 7 ∷ 8 ∷ [])) (by 6 ∷ []) (Text c ∷ []) (λ r. bytes_eq r.company c) return_line_of return_line_row
+    return_lines_is.asks (λ i r. one (text_is r.company c)) (λ i r. refl) t old new h read.rows read.shown))
 
-pub return_lines_found : {c : List ℕ} {old new : State} {lines found : List ReturnLine} → ReadsAll return_lines_text (Text c ∷ []) return_line_row old new lines
+pub return_lines_found : {c : List ℕ} {old new : State} {lines found : List ReturnLine} → ReadsAll questions.return_lines.text (Text c ∷ []) return_line_row old new lines
     → IsPermutation lines found → IsSorted by_line_number found → Finds desk_layout (λ t. found ≡ return_lines_in c t) old
 return_lines_found {c} {found = found} read same sorted = record {
   was_open = read.was_open;

@@ -42,7 +42,7 @@ use Rattle.sql_queries.proofs.Keys.{numbers_compare, by_text_then_more}
 use Rattle.sql_queries.proofs.Sorting.{filter_both, ascending_passing, sorts_rise}
 use Rattle.sql_queries.proofs.Texts.{waiting_submissions_is}
 use Rattle.sql_queries.specs.Shows.{ShowsAll, ReadsWhile}
-use Rattle.sql_queries.specs.Texts.{waiting_submissions_text}
+use Rattle.sql_queries.specs.Questions as questions
 use Rattle.sql_queries.specs.Waiting.{waits}
 
 -- ---- the order
@@ -142,18 +142,18 @@ waiting_first c subs up =
 
 -- ---- the query
 
-by_waiting_shown : (c : List ℕ) → ShowsAll waiting_submissions_text (Text c ∷ []) submission_head_row (λ t. map head_of (filter (is_of c) (by_waiting t.submissions)))
+by_waiting_shown : (c : List ℕ) → ShowsAll questions.waiting_submissions.text (Text c ∷ []) submission_head_row (λ t. map head_of (filter (is_of c) (by_waiting t.submissions)))
 by_waiting_shown c = record {
   rows = λ t old new h rows seen.
       let table = h.1.submissions in
       selected submission_row submissions_table.tree (column_is 1 0 ∷ []) (columns 11) order (Text c ∷ []) (is_of c) (λ s. submission_head_row (head_of s)) sort
-      (λ i s. one (text_is s.company c)) (λ i s. refl) (λ i s. refl) desk_schema waiting_submissions_text waiting_submissions_is old new h.0 (by_waiting t.submissions)
+      (λ i s. one (text_is s.company c)) (λ i s. refl) (λ i s. refl) desk_schema questions.waiting_submissions.text waiting_submissions_is.asks old new h.0 (by_waiting t.submissions)
       (stores_in submission_row _ t.submissions _ (IsPermutation-sym _ _ (IsPermutation-sort_by waiting_cmp waiting_cmp_total t.submissions)) table.stored)
       (waiting_rise t.submissions table.rise) rows seen
       ∙ sym (map-map submission_head_row head_of _);
 }
 
-pub waiting_found : {c : List ℕ} {old new : State} {xs : List SubmissionHead} → ReadsWhile waiting_submissions_text (Text c ∷ []) submission_head_row waits old new xs → Finds desk_layout (λ t. xs ≡ heads_in (is_waiting_of c) t) old
+pub waiting_found : {c : List ℕ} {old new : State} {xs : List SubmissionHead} → ReadsWhile questions.waiting_submissions.text (Text c ∷ []) submission_head_row waits old new xs → Finds desk_layout (λ t. xs ≡ heads_in (is_waiting_of c) t) old
 waiting_found {c} read =
-    let found = found_while submission_head_row submission_head_rows waits waiting_submissions_is (by_waiting_shown c) read in
+    let found = found_while submission_head_row submission_head_rows waits waiting_submissions_is.asks (by_waiting_shown c) read in
     record { was_open = found.was_open; told = λ t h. found.told t h ∙ waiting_first c t.submissions h.1.submissions.rise }

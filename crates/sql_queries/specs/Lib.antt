@@ -2,6 +2,6 @@ pub mod Asking
 pub mod ByNumber
 pub mod DigestRows
 pub mod Postings
+pub mod Questions
 pub mod Shows
-pub mod Texts
 pub mod Waiting

@@ -9,6 +9,7 @@ pub mod IndexDefinitions
 pub mod KeyOrders
 pub mod Layout
 pub mod QueryRows
+pub mod Question
 pub mod Ranges
 pub mod Reading
 pub mod RecordRows

@@ -22,7 +22,6 @@ use Rattle.sql_queries.proofs.Injective.{number_columns}
 use Rattle.sql_queries.proofs.LastShown.{number_shown}
 use Rattle.sql_queries.proofs.Listings.{Listing, postings, returns, changes, suspense}
 use Rattle.sql_queries.proofs.Texts.{places, last_suspense_is}
-use Rattle.sql_queries.proofs.TextsAnywhere.{last_suspense_selects}
 use Rattle.sql_queries.specs.Shows.{ReadsFirst}
 use Rattle.sql_writes.specs.Numbering.{next_is}
 use Rattle.sql_writes.specs.LineTexts.{last_text}
@@ -36,7 +35,7 @@ unfolding first everything
 last_selects tables.Postings = refl
 last_selects tables.Returns = refl
 last_selects tables.Changes = refl
-last_selects tables.Suspense = last_suspense_selects
+last_selects tables.Suspense = last_suspense_is.selects
 
 last_posting_is : IsSelect desk_schema (last_text tables.Postings) (query_within (pos 1) 16 [] (places (1 ∷ [])) (falling 1 ∷ []))
 unfolding understood everything
@@ -67,4 +66,4 @@ pub next_read : (table : NumberedTable) {old new : State} {o : Option ℕ} {n : 
 next_read tables.Postings = next_found postings (λ p. p.number) (last_text tables.Postings) last_posting_is (λ i x. refl) (λ x y. refl)
 next_read tables.Returns = next_found returns (λ r. r.number) (last_text tables.Returns) last_return_is (λ i x. refl) (λ x y. refl)
 next_read tables.Changes = next_found changes (λ c. c.number) (last_text tables.Changes) last_change_is (λ i x. refl) (λ x y. refl)
-next_read tables.Suspense = next_found suspense (λ s. s.number) (last_text tables.Suspense) last_suspense_is (λ i x. refl) (λ x y. refl)
+next_read tables.Suspense = next_found suspense (λ s. s.number) (last_text tables.Suspense) last_suspense_is.asks (λ i x. refl) (λ x y. refl)

@@ -15,10 +15,10 @@ use Rattle.sql_queries.proofs.Found.{first_found_within}
 use Rattle.sql_queries.proofs.LinesShown.{sum_shown}
 use Rattle.sql_queries.proofs.SumRows.{sums_apart}
 use Rattle.sql_queries.specs.Shows.{ReadsFirst}
-use Rattle.sql_queries.specs.Texts.{sum_text}
+use Rattle.sql_queries.specs.Questions as questions
 use Rattle.sql_writes.specs.LineEdits.{sum_is}
 
-pub sum_read : (account : Account) (day : ℕ) {old new : State} {sum : Option ℤ} → ReadsFirst sum_text (Text (account_text account) ∷ number day ∷ []) (λ n. decimal_text n ∷ []) old new sum → FitsIfAny (λ n. fits_i128 n ≡ true) sum
+pub sum_read : (account : Account) (day : ℕ) {old new : State} {sum : Option ℤ} → ReadsFirst questions.sum.text (Text (account_text account) ∷ number day ∷ []) (λ n. decimal_text n ∷ []) old new sum → FitsIfAny (λ n. fits_i128 n ≡ true) sum
     → SeesInside old new → Makes desk_layout (sum_is account day sum) old new
 sum_read account day {old} {new} {sum} read fits shown =
     let found = first_found_within (λ n. decimal_text n ∷ []) (λ n. fits_i128 n ≡ true) sums_apart (sum_shown account day) read fits in

@@ -22,12 +22,12 @@ use Rattle.sql_tables.specs.declared.row.submissions.OrderAndSettlement.{OrderAn
 use Rattle.sql_queries.proofs.Found.{first_found}
 use Rattle.sql_queries.proofs.Injective.{order_and_settlement_rows}
 use Rattle.sql_queries.proofs.SubmissionsShown.{order_shown}
-use Rattle.sql_queries.specs.Texts.{order_text}
+use Rattle.sql_queries.specs.Questions as questions
 use Rattle.sql_writes.specs.RowEdits.{find_order, insert_change_edit}
 
 -- the row that the query shows first is that of the submission under the reference
 pub order_found : (c reference : List ℕ) (found : OrderAndSettlement) (old new : State) → SeesInside old new
-    → (rows : List Row) → Shown order_text (Text c ∷ Text reference ∷ []) old new rows → Some (order_and_settlement_row found) ≡ slice_get rows 0 → Makes desk_layout (find_order c reference found) old new
+    → (rows : List Row) → Shown questions.order.text (Text c ∷ Text reference ∷ []) old new rows → Some (order_and_settlement_row found) ≡ slice_get rows 0 → Makes desk_layout (find_order c reference found) old new
 order_found c reference found old new shows rows shown is =
     makes_told desk_layout (λ t. Some found ≡ order_in c reference t) old new shows
     (first_found order_and_settlement_row order_and_settlement_rows {x = Some found} (order_shown c reference) (record { was_open = shows.was_open; rows = rows; shown = shown; is = is })).told

@@ -1,6 +1,6 @@
 -- The texts of the statements of lines, and of the queries among them.
 use Rattle.std.specs.Prelude.{ℕ, List, codes}
-use Rattle.sql_queries.specs.Texts.{last_suspense_text}
+use Rattle.sql_queries.specs.Questions as questions
 use Rattle.sql_writes.specs.declared.numbering.NumberedTable.{NumberedTable}
 use Rattle.sql_writes.specs.declared.numbering.NumberedTable.TheVariants as tables
 
@@ -9,7 +9,7 @@ abbrev pub last_text : NumberedTable → List ℕ
 last_text tables.Postings = codes "SELECT no FROM postings ORDER BY no DESC LIMIT 1"
 last_text tables.Returns = codes "SELECT no FROM returns ORDER BY no DESC LIMIT 1"
 last_text tables.Changes = codes "SELECT no FROM changes ORDER BY no DESC LIMIT 1"
-last_text tables.Suspense = last_suspense_text
+last_text tables.Suspense = questions.last_suspense.text
 
 abbrev pub insert_posting : List ℕ
 insert_posting = codes "INSERT INTO postings VALUES (?1, ?2, ?3, ?4, ?5, ?6, ?7)"

@@ -2,11 +2,11 @@ use Rattle.std.proofs.lemmas.Result.{IfOk-weaker}
 use Rattle.sql_queries.proofs.EntriesShown.{places_shown}
 use Rattle.sql_queries.proofs.Found.{all_found}
 use Rattle.sql_queries.proofs.Injective.{number_columns}
-use Rattle.sql_queries.proofs.TextsAnywhere.{places_selects}
+use Rattle.sql_queries.proofs.Texts.{places_is}
 use Rattle.sql_queries.proofs.entries.places.Goals as goal
 
 pub column_of-requires : goal.column_of-requires
-column_of-requires g c = places_selects
+column_of-requires g c = places_is.selects
 
 pub returns-clause-answer : goal.returns-clause-answer
 returns-clause-answer g c clean = IfOk-weaker c.column_of.result _ _ (λ x read. all_found _ number_columns (places_shown c.args.from c.args.to) (rw (c.in_ok-natural.ensures, c.from.ensures, c.in_ok-natural-2.ensures, c.from-2.ensures) at read)) (c.column_of.ensures.answer clean)

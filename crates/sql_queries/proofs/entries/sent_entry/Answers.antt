@@ -2,11 +2,11 @@ use Rattle.std.proofs.lemmas.Result.{IfOk-weaker}
 use Rattle.sql_queries.proofs.EntriesShown.{sent_entry_shown}
 use Rattle.sql_queries.proofs.Found.{first_found}
 use Rattle.sql_queries.proofs.Injective.{placed_entry_rows}
-use Rattle.sql_queries.proofs.TextsAnywhere.{sent_entry_selects}
+use Rattle.sql_queries.proofs.Texts.{sent_entry_is}
 use Rattle.sql_queries.proofs.entries.sent_entry.Goals as goal
 
 pub first_of-requires : goal.first_of-requires
-first_of-requires g c = sent_entry_selects
+first_of-requires g c = sent_entry_is.selects
 
 pub returns-clause-answer : goal.returns-clause-answer
 returns-clause-answer g c clean = IfOk-weaker c.first_of.result _ _ (λ x read. first_found _ placed_entry_rows (sent_entry_shown c.args.place) (rw c.in_ok-natural.ensures at read)) (c.first_of.ensures.answer clean)

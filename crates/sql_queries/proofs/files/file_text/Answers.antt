@@ -2,11 +2,11 @@ use Rattle.std.proofs.lemmas.Result.{IfOk-weaker}
 use Rattle.sql_queries.proofs.Found.{first_found}
 use Rattle.sql_queries.proofs.Injective.{blob_columns}
 use Rattle.sql_queries.proofs.LinesShown.{file_shown}
-use Rattle.sql_queries.proofs.TextsAnywhere.{file_selects}
+use Rattle.sql_queries.proofs.Texts.{file_is}
 use Rattle.sql_queries.proofs.files.file_text.Goals as goal
 
 pub blob_of-requires : goal.blob_of-requires
-blob_of-requires g c = file_selects
+blob_of-requires g c = file_is.selects
 
 pub returns-clause-answer : goal.returns-clause-answer
 returns-clause-answer g c clean = IfOk-weaker c.blob_of.result _ _ (λ x read. first_found _ blob_columns (file_shown c.args.day c.args.modifier) (rw (c.date.ensures, c.characters.ensures) at read)) (c.blob_of.ensures.answer clean)

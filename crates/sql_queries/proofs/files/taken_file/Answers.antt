@@ -2,11 +2,11 @@ use Rattle.std.proofs.lemmas.Result.{IfOk-weaker}
 use Rattle.sql_queries.proofs.LinesShown.{taken_shown}
 use Rattle.sql_queries.proofs.Found.{first_found}
 use Rattle.sql_queries.proofs.Injective.{taken_rows}
-use Rattle.sql_queries.proofs.TextsAnywhere.{taken_selects}
+use Rattle.sql_queries.proofs.Texts.{taken_is}
 use Rattle.sql_queries.proofs.files.taken_file.Goals as goal
 
 pub first_of-requires : goal.first_of-requires
-first_of-requires g c = taken_selects
+first_of-requires g c = taken_is.selects
 
 pub returns-clause-answer : goal.returns-clause-answer
 returns-clause-answer g c clean = IfOk-weaker c.first_of.result _ _ (λ x read. first_found _ taken_rows (taken_shown c.args.key) (rw c.characters.ensures at read)) (c.first_of.ensures.answer clean)

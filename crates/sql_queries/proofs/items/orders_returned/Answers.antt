@@ -2,11 +2,11 @@ use Rattle.std.proofs.lemmas.Result.{IfOk-weaker}
 use Rattle.sql_queries.proofs.Found.{all_found}
 use Rattle.sql_queries.proofs.Injective.{number_columns}
 use Rattle.sql_queries.proofs.ItemsShown.{returned_orders_shown}
-use Rattle.sql_queries.proofs.TextsAnywhere.{returned_orders_selects}
+use Rattle.sql_queries.proofs.Texts.{returned_orders_is}
 use Rattle.sql_queries.proofs.items.orders_returned.Goals as goal
 
 pub column_of-requires : goal.column_of-requires
-column_of-requires g c = returned_orders_selects
+column_of-requires g c = returned_orders_is.selects
 
 pub returns-clause-answer : goal.returns-clause-answer
 returns-clause-answer g c clean = IfOk-weaker c.column_of.result _ _ (λ x read. all_found _ number_columns (returned_orders_shown c.args.company c.args.since) (rw (c.characters.ensures, c.bytes.ensures.value, c.in_ok-natural.ensures) at read)) (c.column_of.ensures.answer clean)

@@ -1,9 +1,9 @@
 use Rattle.sql_queries.proofs.ReturnsShown.{return_lines_found}
-use Rattle.sql_queries.proofs.TextsAnywhere.{return_lines_selects}
+use Rattle.sql_queries.proofs.Texts.{return_lines_is}
 use Rattle.sql_queries.proofs.items.return_lines.Goals as goal
 
 pub all_of-requires : goal.all_of-requires
-all_of-requires g c = return_lines_selects
+all_of-requires g c = return_lines_is.selects
 
 pub returns-clause-answer : goal.returns-clause-answer
 returns-clause-answer g c clean =

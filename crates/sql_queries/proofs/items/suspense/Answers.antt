@@ -2,11 +2,11 @@ use Rattle.std.proofs.lemmas.Result.{IfOk-weaker}
 use Rattle.sql_queries.proofs.ItemsShown.{suspense_shown}
 use Rattle.sql_queries.proofs.Found.{all_found}
 use Rattle.sql_queries.proofs.Injective.{suspense_line_rows}
-use Rattle.sql_queries.proofs.TextsAnywhere.{suspense_selects}
+use Rattle.sql_queries.proofs.Texts.{suspense_is}
 use Rattle.sql_queries.proofs.items.suspense.Goals as goal
 
 pub all_of-requires : goal.all_of-requires
-all_of-requires g c = suspense_selects
+all_of-requires g c = suspense_is.selects
 
 pub returns-clause-answer : goal.returns-clause-answer
 returns-clause-answer g c clean = IfOk-weaker c.all_of.result _ _ (λ x read. all_found _ suspense_line_rows suspense_shown read) (c.all_of.ensures.answer clean)

@@ -2,11 +2,11 @@ use Rattle.std.proofs.lemmas.Result.{IfOk-weaker}
 use Rattle.sql_queries.proofs.Found.{all_found}
 use Rattle.sql_queries.proofs.Injective.{posting_line_rows}
 use Rattle.sql_queries.proofs.LinesShown.{postings_shown, postings_found}
-use Rattle.sql_queries.proofs.TextsAnywhere.{postings_selects}
+use Rattle.sql_queries.proofs.Texts.{postings_is}
 use Rattle.sql_queries.proofs.lines.postings.Goals as goal
 
 pub all_of-requires : goal.all_of-requires
-all_of-requires g c = postings_selects
+all_of-requires g c = postings_is.selects
 
 pub returns-clause-answer : goal.returns-clause-answer
 returns-clause-answer g c clean =

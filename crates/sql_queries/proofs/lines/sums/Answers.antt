@@ -3,11 +3,11 @@ use Rattle.sql_tables.specs.RowRanges.{DaySumFits}
 use Rattle.sql_queries.proofs.Found.{all_found_within, together}
 use Rattle.sql_queries.proofs.LinesShown.{sums_shown}
 use Rattle.sql_queries.proofs.SumRows.{day_sums_apart}
-use Rattle.sql_queries.proofs.TextsAnywhere.{sums_selects}
+use Rattle.sql_queries.proofs.Texts.{sums_is}
 use Rattle.sql_queries.proofs.lines.sums.Goals as goal
 
 pub all_of-requires : goal.all_of-requires
-all_of-requires g c = sums_selects
+all_of-requires g c = sums_is.selects
 
 pub returns-clause-answer : goal.returns-clause-answer
 returns-clause-answer g c clean =

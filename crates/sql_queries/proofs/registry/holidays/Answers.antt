@@ -2,11 +2,11 @@ use Rattle.std.proofs.lemmas.Result.{IfOk-weaker}
 use Rattle.sql_queries.proofs.RegistryShown.{holidays_shown}
 use Rattle.sql_queries.proofs.Found.{all_found}
 use Rattle.sql_queries.proofs.Injective.{number_columns}
-use Rattle.sql_queries.proofs.TextsAnywhere.{holidays_selects}
+use Rattle.sql_queries.proofs.Texts.{holidays_is}
 use Rattle.sql_queries.proofs.registry.holidays.Goals as goal
 
 pub column_of-requires : goal.column_of-requires
-column_of-requires g c = holidays_selects
+column_of-requires g c = holidays_is.selects
 
 pub returns-clause-answer : goal.returns-clause-answer
 returns-clause-answer g c clean = IfOk-weaker c.column_of.result _ _ (λ x read. all_found _ number_columns holidays_shown read) (c.column_of.ensures.answer clean)

@@ -1,11 +1,11 @@
 use Rattle.sql_queries.proofs.Found.{one_found}
 use Rattle.sql_queries.proofs.Injective.{identity_rows}
 use Rattle.sql_queries.proofs.RegistryShown.{identity_shown}
-use Rattle.sql_queries.proofs.TextsAnywhere.{identity_selects}
+use Rattle.sql_queries.proofs.Texts.{identity_is}
 use Rattle.sql_queries.proofs.registry.identity.Goals as goal
 
 pub first_of-requires : goal.first_of-requires
-first_of-requires g c = identity_selects
+first_of-requires g c = identity_is.selects
 
 pub returns-in-Some-clause-answer : goal.returns-in-Some-clause-answer
 returns-in-Some-clause-answer g c clean = one_found _ identity_rows identity_shown (c.in_ok-found.ensures.answer clean) c.in-Some.is

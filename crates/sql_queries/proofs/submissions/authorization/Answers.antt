@@ -2,11 +2,11 @@ use Rattle.std.proofs.lemmas.Result.{IfOk-weaker}
 use Rattle.sql_queries.proofs.SubmissionsShown.{authorization_shown}
 use Rattle.sql_queries.proofs.Found.{first_found}
 use Rattle.sql_queries.proofs.Injective.{number_columns}
-use Rattle.sql_queries.proofs.TextsAnywhere.{authorization_selects}
+use Rattle.sql_queries.proofs.Texts.{authorization_is}
 use Rattle.sql_queries.proofs.submissions.authorization.Goals as goal
 
 pub cell_of-requires : goal.cell_of-requires
-cell_of-requires g c = authorization_selects
+cell_of-requires g c = authorization_is.selects
 
 pub returns-clause-answer : goal.returns-clause-answer
 returns-clause-answer g c clean = IfOk-weaker c.cell_of.result _ _ (λ x read. first_found _ number_columns (authorization_shown c.args.company c.args.order) (rw (c.characters.ensures, c.bytes.ensures.value, c.in_ok-natural.ensures) at read)) (c.cell_of.ensures.answer clean)

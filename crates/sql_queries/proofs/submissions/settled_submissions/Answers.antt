@@ -2,11 +2,11 @@ use Rattle.std.proofs.lemmas.Result.{IfOk-weaker}
 use Rattle.sql_queries.proofs.SubmissionsShown.{settled_submissions_shown}
 use Rattle.sql_queries.proofs.Found.{all_found}
 use Rattle.sql_queries.proofs.Injective.{submission_head_rows}
-use Rattle.sql_queries.proofs.TextsAnywhere.{settled_submissions_selects}
+use Rattle.sql_queries.proofs.Texts.{settled_submissions_is}
 use Rattle.sql_queries.proofs.submissions.settled_submissions.Goals as goal
 
 pub all_of-requires : goal.all_of-requires
-all_of-requires g c = settled_submissions_selects
+all_of-requires g c = settled_submissions_is.selects
 
 pub returns-clause-answer : goal.returns-clause-answer
 returns-clause-answer g c clean = IfOk-weaker c.all_of.result _ _ (λ x read. all_found _ submission_head_rows (settled_submissions_shown c.args.company c.args.since) (rw (c.characters.ensures, c.bytes.ensures.value, c.in_ok-natural.ensures) at read)) (c.all_of.ensures.answer clean)

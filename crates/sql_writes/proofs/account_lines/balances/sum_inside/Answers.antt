@@ -1,9 +1,9 @@
-use Rattle.sql_queries.proofs.TextsAnywhere.{sum_selects}
+use Rattle.sql_queries.proofs.Texts.{sum_is}
 use Rattle.sql_writes.proofs.LineSums.{sum_read}
 use Rattle.sql_writes.proofs.account_lines.balances.sum_inside.Goals as goal
 
 pub cell_inside-requires : goal.cell_inside-requires
-cell_inside-requires g c = sum_selects
+cell_inside-requires g c = sum_is.selects
 
 pub returns-clause-makes : goal.returns-clause-makes
 returns-clause-makes g c clean =
