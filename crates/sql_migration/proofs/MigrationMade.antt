@@ -11,7 +11,8 @@ use Rattle.desk_book.specs.Book.{Book}
 use Rattle.desk_book.specs.Unauthorized.{UnauthorizedBooks}
 use Rattle.sql_statements.specs.Promises.{GoesOn}
 use Rattle.sql_tables.specs.Schema.{desk_schema}
-use Rattle.sql_tables.specs.TableDefinitions.{numbers_text, authorizations_text}
+use Rattle.sql_tables.specs.DeskTables as the
+use Rattle.sql_tables.specs.Description.{create_text}
 use Rattle.sql_tables.specs.Layout.{desk_layout, Keeps, Sees}
 use Rattle.sql_tables.specs.Tables.{Tables, IsStored}
 use Rattle.sql_migration.specs.FirstVersion.{first_schema, first_layout, IsFirstStored, KeepsFirst}
@@ -23,7 +24,7 @@ use Rattle.sql_migration.proofs.KeptBooks.{book_kept, first_kept}
 use Rattle.sql_migration.proofs.NewTables.{creates_numbers, creates_authorizations, numbered_schema, written_numbers, written_authorizations, not_second}
 use Rattle.sql_migration.proofs.SecondTables.{second_tables, desk_stays, version_set, schema_stays, with_no_numbers}
 
-pub migration_made : (s0 s1 s2 s3 s4 : State) (a b c : ℕ) → GoesOn s0 s1 → GoesOn s1 s2 → GoesOn s2 s3 → Executes numbers_text [] s0 s1 (Ok a) → Executes authorizations_text [] s1 s2 (Ok b) → Executes update_version [] s2 s3 (Ok c)
+pub migration_made : (s0 s1 s2 s3 s4 : State) (a b c : ℕ) → GoesOn s0 s1 → GoesOn s1 s2 → GoesOn s2 s3 → Executes (create_text the.sequences) [] s0 s1 (Ok a) → Executes (create_text the.authorizations) [] s1 s2 (Ok b) → Executes update_version [] s2 s3 (Ok c)
     → Makes seen_layout (if_seen number_entries_edit) s3 s4 → Makes migration_layout migration_edit s0 s4
 migration_made s0 s1 s2 s3 s4 a b c on1 on2 on3 numbers authorizations version entries inside is_open =
     let last = entries (subst IsTrue (sym on3.mode) refl) on3.is_open in
@@ -34,8 +35,8 @@ migration_made s0 s1 s2 s3 s4 a b c on1 on2 on3 numbers authorizations version e
   where
     made : (t : Tables) → Holds first_layout s0.now t → Holds desk_layout s4.now (migrated t)
     made t h =
-        let n = table_added first_schema numbers_text written_numbers creates_numbers s0 s1 a h.0 numbers in
-        let m = table_added numbered_schema authorizations_text written_authorizations creates_authorizations s1 s2 b n.schema_is authorizations in
+        let n = table_added first_schema (create_text the.sequences) written_numbers creates_numbers s0 s1 a h.0 numbers in
+        let m = table_added numbered_schema (create_text the.authorizations) written_authorizations creates_authorizations s1 s2 b n.schema_is authorizations in
         let v = version_set t.desk s2 s3 c m.schema_is (desk_stays t s0.now s1.now s2.now h.1 n m) version in
         let last = entries (subst IsTrue (sym on3.mode) refl) on3.is_open in
         (last.holds (Some (with_no_numbers t)) (second_tables t s0.now s1.now s2.now s3.now h.1 n m v)).0
@@ -43,8 +44,8 @@ migration_made s0 s1 s2 s3 s4 a b c on1 on2 on3 numbers authorizations version e
     -- whatever the rows are
     unread : s0.now.schema ≡ first_schema → s4.now.schema ≡ desk_schema
     unread has =
-        let n = table_added first_schema numbers_text written_numbers creates_numbers s0 s1 a has numbers in
-        let m = table_added numbered_schema authorizations_text written_authorizations creates_authorizations s1 s2 b n.schema_is authorizations in
+        let n = table_added first_schema (create_text the.sequences) written_numbers creates_numbers s0 s1 a has numbers in
+        let m = table_added numbered_schema (create_text the.authorizations) written_authorizations creates_authorizations s1 s2 b n.schema_is authorizations in
         let last = entries (subst IsTrue (sym on3.mode) refl) on3.is_open in
         (last.holds None (schema_stays s2 s3 c m.schema_is version, tt)).0.0
 

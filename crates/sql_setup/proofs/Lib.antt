@@ -3,6 +3,7 @@ pub mod DeskChecks
 pub mod DeskPlain
 pub mod DeskRows
 pub mod FreeNames
+mod MadeInTurn
 pub mod Memory
 pub mod NewDesks
 pub mod Plain

@@ -1,14 +1,14 @@
 -- What the row of the desk says of the version of the tables.
-use Rattle.std.specs.Prelude.{◌≡◌, ◌⊎◌, ◌++◌, ℕ, ℤ, List, [], ◌∷◌, codes, drop, Some}
+use Rattle.std.specs.Prelude.{◌≡◌, ◌⊎◌, ℕ, ℤ, List, [], ◌∷◌, codes, drop, Some}
 use Rattle.sqlite.specs.Effect.{Database}
 use Rattle.sqlite.specs.State.{State}
-use Rattle.sqlite_schema.specs.declared.schema.Schema.{Schema}
 use Rattle.sqlite_value.specs.declared.value.Value.TheVariants.{Int}
 use Rattle.sqlite_value.specs.Order.{Row}
 use Rattle.sql_statements.specs.StoredRows.{Stores}
 use Rattle.sql_tables.specs.Columns.{number}
 use Rattle.sql_tables.specs.RecordRows.{desk_row}
-use Rattle.sql_tables.specs.Schema.{desk_schema, schema_of, registry_definitions, submission_definitions, posting_definitions, file_definitions, submission_index_definitions, line_index_definitions}
+use Rattle.sql_tables.specs.Schema.{desk_schema}
+pub use Rattle.sql_tables.specs.Schema.{first_schema}
 use Rattle.sql_tables.specs.TableDefinitions.{desk_table}
 use Rattle.sql_tables.specs.declared.records.DeskRecord.{DeskRecord}
 use Rattle.sql_queries.specs.Shows.{ReadsFirst}
@@ -28,10 +28,6 @@ abbrev pub ShowsVersion : (old new : State) → (version : ℤ) → Type 0
 ShowsVersion old new n = ReadsFirst version_text [] version_row old new (Some n)
 
 -- ---- a database of a desk whose row says a version
-
--- version 1 has twelve tables and five indexes, as in version 2
-abbrev pub first_schema : Schema
-first_schema = schema_of (registry_definitions ++ submission_definitions ++ posting_definitions ++ file_definitions ++ submission_index_definitions ++ line_index_definitions)
 
 -- the row of a desk whose tables have this version
 abbrev pub versioned_row : (version : ℕ) → DeskRecord → Row

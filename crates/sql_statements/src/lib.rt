@@ -13,12 +13,10 @@
 //! of its tables, lemmas turn the promise of `commit` into those of the store's write and of its crash.
 #![tactic(auto)]
 
-mod definition;
 mod parameter;
 mod statement;
 mod transaction;
 
-pub use definition::{create_index, create_table};
 pub use parameter::{blob, number, text};
 pub use statement::{execute, query};
 pub use transaction::{

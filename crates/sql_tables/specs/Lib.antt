@@ -5,7 +5,6 @@ pub mod CutTables
 pub mod Description
 pub mod DeskTables
 pub mod Encodes
-pub mod IndexDefinitions
 pub mod KeyOrders
 pub mod Layout
 pub mod QueryRows

@@ -1,53 +1,65 @@
--- The schema of a desk's file, in the order in which it is made.
-use Rattle.std.specs.Prelude.{[], ◌∷◌, List, ◌++◌, fold}
+-- The statements that make a desk's file, in their order, and the schema that they make.
+use Rattle.std.specs.Prelude.{[], ◌∷◌, List, ℕ, ◌++◌, fold}
+use Prim.Native.String.{String}
 use Rattle.sqlite.specs.Change.{created, indexed}
 use Rattle.sqlite.specs.Schema.{Schema}
 use Rattle.sqlite.specs.Table.{Table}
 use Rattle.sqlite_schema.specs.declared.schema.Index.{Index}
-use Rattle.sql_tables.specs.IndexDefinitions.{entries_seq_index, submissions_open_index, submissions_retries_index, returns_company_index, changes_company_index, postings_account_index}
-use Rattle.sql_tables.specs.TableDefinitions.{desk_table, holidays_table, companies_table, submissions_table, entries_table, returns_table, changes_table, postings_table, suspense_table, files_table, taken_table, balances_table, numbers_table, authorizations_table}
+use Rattle.sql_tables.specs.DeskTables as the
+use Rattle.sql_tables.specs.Description.{Description, create_text, table, index_text, index_on}
 
--- what a statement makes
+-- the text of a statement, and what it makes: a table, or an index of the table at this place of the schema
 pub data Definition : Type 0 where
-  NewTable : Table → Definition
-  NewIndex : (of : Table) → Index → Definition
+  NewTable : (text : List ℕ) → Table → Definition
+  NewIndex : (text : List ℕ) → (at : ℕ) → (of : Table) → Index → Definition
+
+abbrev pub text_of : Definition → List ℕ
+text_of (NewTable text table) = text
+text_of (NewIndex text at table index) = text
 
 abbrev pub with_definition : Schema → Definition → Schema
-with_definition schema (NewTable table) = created schema table
-with_definition schema (NewIndex table index) = indexed schema table index
+with_definition schema (NewTable text table) = created schema table
+with_definition schema (NewIndex text at table index) = indexed schema table index
 
 -- the schema that these make in a blank file
 abbrev pub schema_of : List Definition → Schema
 schema_of definitions = fold with_definition (record { tables = []; indexes = []; views = [] }) definitions
 
--- the desk, its calendar and its companies
-abbrev pub registry_definitions : List Definition
-registry_definitions = NewTable desk_table ∷ NewTable holidays_table ∷ NewTable companies_table ∷ []
+abbrev pub new_table : {X : Type 0} → Description X → Definition
+new_table d = NewTable (create_text d) (table d)
 
--- submissions, their entries and what came back of them
-abbrev pub submission_definitions : List Definition
-submission_definitions = NewTable submissions_table ∷ NewTable entries_table ∷ NewTable returns_table ∷ []
+abbrev pub new_index : {X : Type 0} → (at : ℕ) → Description X → (name : String) → List String → Definition
+new_index at d name columns = NewIndex (index_text d name columns) at (table d) (index_on d name columns)
 
--- notifications of change, postings and suspense
-abbrev pub posting_definitions : List Definition
-posting_definitions = NewTable changes_table ∷ NewTable postings_table ∷ NewTable suspense_table ∷ []
+-- what the first version has: an index is a hint for the engine, which changes no answer
+abbrev pub first_definitions : List Definition
+first_definitions =
+    new_table the.desk
+    ∷ new_table the.holidays
+    ∷ new_table the.companies
+    ∷ new_table the.submissions
+    ∷ new_table the.entries
+    ∷ new_table the.returns
+    ∷ new_table the.changes
+    ∷ new_table the.postings
+    ∷ new_table the.suspense
+    ∷ new_table the.files
+    ∷ new_table the.taken
+    ∷ new_table the.balances
+    ∷ new_index 4 the.entries "entries_seq" ("seq" ∷ [])
+    ∷ new_index 3 the.submissions "submissions_open" ("company" ∷ "settled" ∷ "lapsed" ∷ "ord" ∷ [])
+    ∷ new_index 3 the.submissions "submissions_retries" ("company" ∷ "of_ref" ∷ [])
+    ∷ new_index 5 the.returns "returns_company" ("company" ∷ "day" ∷ [])
+    ∷ new_index 6 the.changes "changes_company" ("company" ∷ "no" ∷ [])
+    ∷ new_index 7 the.postings "postings_account" ("account" ∷ "no" ∷ [])
+    ∷ []
 
--- files, and balances
-abbrev pub file_definitions : List Definition
-file_definitions = NewTable files_table ∷ NewTable taken_table ∷ NewTable balances_table ∷ []
+abbrev pub first_schema : Schema
+first_schema = schema_of first_definitions
 
--- the indexes of sent entries and of submissions
-abbrev pub submission_index_definitions : List Definition
-submission_index_definitions = NewIndex entries_table entries_seq_index ∷ NewIndex submissions_table submissions_open_index ∷ NewIndex submissions_table submissions_retries_index ∷ []
+-- the second version adds two tables
+abbrev pub desk_definitions : List Definition
+desk_definitions = first_definitions ++ new_table the.sequences ∷ new_table the.authorizations ∷ []
 
--- the indexes of returns, of changes and of postings
-abbrev pub line_index_definitions : List Definition
-line_index_definitions = NewIndex returns_table returns_company_index ∷ NewIndex changes_table changes_company_index ∷ NewIndex postings_table postings_account_index ∷ []
-
--- what the second version adds
-abbrev pub number_definitions : List Definition
-number_definitions = NewTable numbers_table ∷ NewTable authorizations_table ∷ []
-
--- the schema of the second version: all of these
 abbrev pub desk_schema : Schema
-desk_schema = schema_of (registry_definitions ++ submission_definitions ++ posting_definitions ++ file_definitions ++ submission_index_definitions ++ line_index_definitions ++ number_definitions)
+desk_schema = schema_of desk_definitions
