@@ -2,7 +2,7 @@
 use Rattle.std.specs.Prelude.{List, [], ◌∷◌}
 use Prim.Native.String.{String}
 use Rattle.sql_tables.specs.DeskTables as the
-use Rattle.sql_tables.specs.Question.{Question, ask, ask_first, ask_sum, is, from, up_to, is_one, rises, falls}
+use Rattle.sql_tables.specs.Question.{Question, ask, ask_first, ask_sum, last_row, is, from, up_to, is_one, rises, falls}
 
 -- what is shown of a submission
 abbrev pub head_columns : List String
@@ -115,7 +115,7 @@ abbrev pub suspense : Question
 suspense = ask the.suspense ("file_key" ∷ "item" ∷ "why" ∷ "code" ∷ "trace" ∷ "cents" ∷ "day" ∷ []) [] (rises "no" ∷ [])
 
 abbrev pub last_suspense : Question
-last_suspense = ask_first the.suspense ("no" ∷ []) [] (falls "no" ∷ [])
+last_suspense = last_row the.suspense
 
 -- ---- lines of accounts, and files
 

@@ -9,9 +9,10 @@ ghost use Rattle.desk_rules.specs.declared.rules.entry_fact.EntryFact.{EntryFact
 
 use crate::each::{ItemRead, joined, read_each};
 use crate::fault::or_unavailable;
+use crate::returned::returns_for;
 use desk_rules::{Direction, EntryFact};
 use desk_store::StoreFault;
-use sql_queries::{amounts_of, returns};
+use sql_queries::amounts_of;
 use sql_tables::{SubmissionHead, facts_from};
 use sqlite::{Alter, Connection};
 use std::alloc::Global;
@@ -26,7 +27,7 @@ pub(crate) fn facts<S: Alter>(
         (λ found t. found.items ≡ row_facts (whole_row t head.now)) }
 {
     let amounts = or_unavailable(amounts_of(conn, alloc, head.company, head.order))?;
-    let returns = or_unavailable(returns(conn, alloc, head.company, head.order))?;
+    let returns = returns_for(conn, alloc, head)?;
     let found = facts_from(alloc, head, &amounts, &returns)?;
     Ok(found)
 }

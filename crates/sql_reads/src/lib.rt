@@ -17,6 +17,7 @@ mod latest;
 mod open_cents;
 mod open_row;
 mod rates;
+mod returned;
 mod rows;
 mod sent;
 mod state;

@@ -7,6 +7,7 @@ ghost use Rattle.sql_reads.specs.Answers.{AnswersOn, LearnsOn};
 
 use crate::each::{ItemRead, read_each};
 use crate::fault::or_unavailable;
+use crate::returned::returns_for;
 use ach_fields::{Id, Ref};
 use bank_days::Day;
 use desk_book::Row;
@@ -42,7 +43,7 @@ pub(crate) fn row<S: Alter>(
     ensures { AnswersOn S.Store conn.old conn.new result (λ found t. found ≡ whole_row t head.now) }
 {
     let entries = or_unavailable(sql_queries::entries_of(conn, alloc, head.company, head.order))?;
-    let returns = or_unavailable(sql_queries::returns(conn, alloc, head.company, head.order))?;
+    let returns = returns_for(conn, alloc, head)?;
     let authorized = authorized_for(conn, head)?;
     row_from(alloc, head, &entries, &returns, authorized)
 }

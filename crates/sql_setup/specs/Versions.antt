@@ -6,6 +6,8 @@ use Rattle.sqlite_value.specs.declared.value.Value.TheVariants.{Int}
 use Rattle.sqlite_value.specs.Order.{Row}
 use Rattle.sql_statements.specs.StoredRows.{Stores}
 use Rattle.sql_tables.specs.Columns.{number}
+use Rattle.sql_tables.specs.DeskTables as the
+use Rattle.sql_tables.specs.Question.{ask, is_one, rises}
 use Rattle.sql_tables.specs.RecordRows.{desk_row}
 use Rattle.sql_tables.specs.Schema.{desk_schema}
 pub use Rattle.sql_tables.specs.Schema.{first_schema}
@@ -14,7 +16,7 @@ use Rattle.sql_tables.specs.declared.records.DeskRecord.{DeskRecord}
 use Rattle.sql_queries.specs.Shows.{ReadsFirst}
 
 abbrev pub version_text : List ℕ
-version_text = codes "SELECT version FROM desk WHERE id = 1 ORDER BY id"
+version_text = (ask the.desk ("version" ∷ []) (is_one "id" ∷ []) (rises "id" ∷ [])).text
 
 -- it shows whether the table has a row, whatever its columns are
 abbrev pub row_text : List ℕ

@@ -1,6 +1,7 @@
 -- A table is described once: its columns with what each has of a record, its key and its indexes. Its row, the order of
 -- its key, its texts and its `Table` follow.
-use Rattle.std.specs.Prelude.{ℕ, ◌+◌, ℤ, Bool, true, false, List, [], ◌∷◌, ◌++◌, map, Option, codes, bytes_eq, if◌then◌else◌}
+use Rattle.std.specs.Prelude.{ℕ, ◌+◌, ℤ, Bool, true, false, List, [], ◌∷◌, ◌++◌, map, take, length, Option, codes, bytes_eq, if◌then◌else◌}
+use Rattle.std.specs.List.{range_with_len}
 use Prim.Native.String.{String}
 use Rattle.std.specs.Ordering.{nat_cmp, on, then_cmp}
 use Rattle.std.specs.Cmp.Lexicographic.{slice_cmp}
@@ -135,6 +136,9 @@ abbrev pub uniques_text : List (List String) → List ℕ
 uniques_text [] = []
 uniques_text (u ∷ us) = codes ", UNIQUE (" ++ names_text u ++ codes ")" ++ uniques_text us
 
+abbrev pub parameter_names : List (List ℕ)
+parameter_names = map codes ("?1" ∷ "?2" ∷ "?3" ∷ "?4" ∷ "?5" ∷ "?6" ∷ "?7" ∷ "?8" ∷ "?9" ∷ "?10" ∷ "?11" ∷ "?12" ∷ "?13" ∷ "?14" ∷ [])
+
 module _ {X : Type 0} (d : Description X) where
   -- the row of a record
   abbrev pub row : X → Row
@@ -166,3 +170,10 @@ module _ {X : Type 0} (d : Description X) where
 
   abbrev pub index_text : (name : String) → List String → List ℕ
   index_text name columns = codes "CREATE INDEX " ++ codes name ++ codes " ON " ++ codes d.name ++ codes " (" ++ names_text columns ++ codes ")"
+
+  -- one row is put, or sixteen
+  abbrev pub insert_text : List ℕ
+  insert_text = codes "INSERT INTO " ++ codes d.name ++ codes " VALUES (" ++ commas (take (length d.columns) parameter_names) ++ codes ")"
+
+  abbrev pub insert_sixteen_text : List ℕ
+  insert_sixteen_text = codes "INSERT INTO " ++ codes d.name ++ codes " VALUES " ++ commas (map (λ _. codes "(" ++ commas (map (λ _. codes "?") d.columns) ++ codes ")") (range_with_len 1 16))

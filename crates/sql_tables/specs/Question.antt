@@ -6,7 +6,7 @@ use Rattle.sqlite_sql.specs.Term.{Term, col}
 use Rattle.sqlite_value.specs.declared.keys.Key.{Key}
 use Rattle.sql_statements.specs.SelectTexts.{IsSelectText}
 use Rattle.sql_statements.specs.Statements.{IsSelect, query_within, sum_query, column_is, number_is, at_least, at_most, by, falling}
-use Rattle.sql_tables.specs.Description.{Column, Description, commas, names_text, place_from}
+use Rattle.sql_tables.specs.Description.{Column, Description, commas, names_text, parameter_names, place_from}
 use Rattle.sql_tables.specs.Schema.{desk_schema}
 
 pub record Question : Type 0 where
@@ -29,9 +29,6 @@ pub data Test : Type 0 where
 pub data Way : Type 0 where
   rises : String → Way
   falls : String → Way
-
-abbrev pub parameter_names : List (List ℕ)
-parameter_names = map codes ("?1" ∷ "?2" ∷ "?3" ∷ [])
 
 -- a test that has a parameter takes the next one
 abbrev pub tests_text : List Test → (parameters : List (List ℕ)) → List (List ℕ)
@@ -84,6 +81,10 @@ module _ {X : Type 0} (d : Description X) where
   -- SELECT shown FROM the table WHERE tests ORDER BY order LIMIT 1
   abbrev pub ask_first : (shown : List String) → List Test → List Way → Question
   ask_first = ask_within (pos 1) (codes " LIMIT 1")
+
+  -- the number of the last row of a table whose rows are numbered
+  abbrev pub last_row : Question
+  last_row = ask_first ("no" ∷ []) [] (falls "no" ∷ [])
 
   -- SELECT coalesce(sum(column), 0) FROM the table WHERE tests
   abbrev pub ask_sum : String → List Test → Question

@@ -1,5 +1,7 @@
 -- The texts of the statements of a cut.
 use Rattle.std.specs.Prelude.{ℕ, List, codes}
+use Rattle.sql_tables.specs.DeskTables as the
+use Rattle.sql_tables.specs.Description.{insert_sixteen_text, insert_text}
 
 abbrev pub update_sent : List ℕ
 update_sent = codes "UPDATE submissions SET settled = ?3, file_day = ?4, modifier = ?5, batch = ?6 WHERE company = ?1 AND ord = ?2 AND settled IS NULL AND lapsed = 0"
@@ -18,11 +20,11 @@ abbrev pub delete_numbers : List ℕ
 delete_numbers = codes "DELETE FROM numbers WHERE sequence BETWEEN ?1 AND ?2"
 
 abbrev pub insert_number : List ℕ
-insert_number = codes "INSERT INTO numbers VALUES (?1, ?2)"
+insert_number = insert_text the.sequences
 
 -- of sixteen entries
 abbrev pub insert_numbers : List ℕ
-insert_numbers = codes "INSERT INTO numbers VALUES (?, ?), (?, ?), (?, ?), (?, ?), (?, ?), (?, ?), (?, ?), (?, ?), (?, ?), (?, ?), (?, ?), (?, ?), (?, ?), (?, ?), (?, ?), (?, ?)"
+insert_numbers = insert_sixteen_text the.sequences
 
 abbrev pub insert_file : List ℕ
-insert_file = codes "INSERT INTO files VALUES (?1, ?2, ?3)"
+insert_file = insert_text the.files

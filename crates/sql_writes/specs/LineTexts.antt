@@ -1,22 +1,24 @@
 -- The texts of the statements of lines, and of the queries among them.
 use Rattle.std.specs.Prelude.{ℕ, List, codes}
-use Rattle.sql_queries.specs.Questions as questions
+use Rattle.sql_tables.specs.Question.{last_row}
 use Rattle.sql_writes.specs.declared.numbering.NumberedTable.{NumberedTable}
 use Rattle.sql_writes.specs.declared.numbering.NumberedTable.TheVariants as tables
+use Rattle.sql_tables.specs.DeskTables as the
+use Rattle.sql_tables.specs.Description.{insert_sixteen_text, insert_text}
 
 -- the last number of a table
 abbrev pub last_text : NumberedTable → List ℕ
-last_text tables.Postings = codes "SELECT no FROM postings ORDER BY no DESC LIMIT 1"
-last_text tables.Returns = codes "SELECT no FROM returns ORDER BY no DESC LIMIT 1"
-last_text tables.Changes = codes "SELECT no FROM changes ORDER BY no DESC LIMIT 1"
-last_text tables.Suspense = questions.last_suspense.text
+last_text tables.Postings = (last_row the.postings).text
+last_text tables.Returns = (last_row the.returns).text
+last_text tables.Changes = (last_row the.changes).text
+last_text tables.Suspense = (last_row the.suspense).text
 
 abbrev pub insert_posting : List ℕ
-insert_posting = codes "INSERT INTO postings VALUES (?1, ?2, ?3, ?4, ?5, ?6, ?7)"
+insert_posting = insert_text the.postings
 
 -- of sixteen lines
 abbrev pub insert_postings : List ℕ
-insert_postings = codes "INSERT INTO postings VALUES (?, ?, ?, ?, ?, ?, ?), (?, ?, ?, ?, ?, ?, ?), (?, ?, ?, ?, ?, ?, ?), (?, ?, ?, ?, ?, ?, ?), (?, ?, ?, ?, ?, ?, ?), (?, ?, ?, ?, ?, ?, ?), (?, ?, ?, ?, ?, ?, ?), (?, ?, ?, ?, ?, ?, ?), (?, ?, ?, ?, ?, ?, ?), (?, ?, ?, ?, ?, ?, ?), (?, ?, ?, ?, ?, ?, ?), (?, ?, ?, ?, ?, ?, ?), (?, ?, ?, ?, ?, ?, ?), (?, ?, ?, ?, ?, ?, ?), (?, ?, ?, ?, ?, ?, ?), (?, ?, ?, ?, ?, ?, ?)"
+insert_postings = insert_sixteen_text the.postings
 
 abbrev pub upsert_balance : List ℕ
 upsert_balance = codes "INSERT INTO balances VALUES (?1, ?2, ?3) ON CONFLICT (account, value_day) DO UPDATE SET cents = ?3"

@@ -7,9 +7,9 @@ use Rattle.sql_reads.proofs.rows.row.Goals as goal
 pub returns : goal.returns
 returns g c =
     let entries = query (rw c.in_ok-entries.ensures at c.entries_of.ensures.answer) c.entries_of.ensures.stays c.entries_of.ensures.survives in
-    let returns = query (rw c.in_ok-returns.ensures at c.returns.ensures.answer) c.returns.ensures.stays c.returns.ensures.survives in
+    let returns = learnt c.returns_for.ensures c.in_ok-returns.was in
     let authorized = learnt c.authorized_for.ensures c.in_ok-authorized.was in
-    answered (both (both entries returns.so) authorized)
+    answered (both (both entries returns) authorized)
     (IfOk-weaker c.row_from.result _ _
     (λ row is t told.
     rw (c.deref.ensures.value, c.deref-2.ensures.value) at is
