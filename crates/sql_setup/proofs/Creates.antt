@@ -1,5 +1,5 @@
 -- Each text of a desk's definitions makes what it says, in the schema of those before it.
-use Rattle.std.proofs.Common.{[], tt, refl}
+use Rattle.std.proofs.Common.{[], refl}
 use Rattle.sqlite_tied.specs.Compute.{everything}
 use Rattle.sqlite.specs.Listing.{understood}
 use Rattle.sql_tables.specs.Schema.{desk_definitions, schema_of}
