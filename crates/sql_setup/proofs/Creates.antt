@@ -7,25 +7,4 @@ use Rattle.sql_setup.specs.Creation.{AreMadeIn}
 
 pub all_are_made : AreMadeIn (schema_of []) desk_definitions
 unfolding understood everything
-all_are_made =
-    (record { is = refl; whole = refl; plain = (refl, refl); defines = refl; uncounted = refl },
-    (record { is = refl; whole = refl; plain = (refl, refl); defines = refl; uncounted = refl },
-    (record { is = refl; whole = refl; plain = (refl, refl); defines = refl; uncounted = refl },
-    (record { is = refl; whole = refl; plain = (refl, refl); defines = refl; uncounted = refl },
-    (record { is = refl; whole = refl; plain = (refl, refl); defines = refl; uncounted = refl },
-    (record { is = refl; whole = refl; plain = (refl, refl); defines = refl; uncounted = refl },
-    (record { is = refl; whole = refl; plain = (refl, refl); defines = refl; uncounted = refl },
-    (record { is = refl; whole = refl; plain = (refl, refl); defines = refl; uncounted = refl },
-    (record { is = refl; whole = refl; plain = (refl, refl); defines = refl; uncounted = refl },
-    (record { is = refl; whole = refl; plain = (refl, refl); defines = refl; uncounted = refl },
-    (record { is = refl; whole = refl; plain = (refl, refl); defines = refl; uncounted = refl },
-    (record { is = refl; whole = refl; plain = (refl, refl); defines = refl; uncounted = refl },
-    (record { is = refl; whole = refl; plain = (refl, refl); listed = refl; defines = refl },
-    (record { is = refl; whole = refl; plain = (refl, refl); listed = refl; defines = refl },
-    (record { is = refl; whole = refl; plain = (refl, refl); listed = refl; defines = refl },
-    (record { is = refl; whole = refl; plain = (refl, refl); listed = refl; defines = refl },
-    (record { is = refl; whole = refl; plain = (refl, refl); listed = refl; defines = refl },
-    (record { is = refl; whole = refl; plain = (refl, refl); listed = refl; defines = refl },
-    (record { is = refl; whole = refl; plain = (refl, refl); defines = refl; uncounted = refl },
-    (record { is = refl; whole = refl; plain = (refl, refl); defines = refl; uncounted = refl },
-    tt))))))))))))))))))))
+all_are_made = (record { is = refl; whole = refl; plain = (refl, refl); defines = refl; uncounted = refl }, (record { is = refl; whole = refl; plain = (refl, refl); defines = refl; uncounted = refl }, (record { is = refl; whole = refl; plain = (refl, refl); defines = refl; uncounted = refl }, (record { is = refl; whole = refl; plain = (refl, refl); defines = refl; uncounted = refl }, (record { is = refl; whole = refl; plain = (refl, refl); defines = refl; uncounted = refl }, (record { is = refl; whole = refl; plain = (refl, refl); defines = refl; uncounted = refl }, (record { is = refl; whole = refl; plain = (refl, refl); defines = refl; uncounted = refl }, (record { is = refl; whole = refl; plain = (refl, refl); defines = refl; uncounted = refl }, (record { is = refl; whole = refl; plain = (refl, refl); defines = refl; uncounted = refl }, (record { is = refl; whole = refl; plain = (refl, refl); defines = refl; uncounted = refl }, (record { is = refl; whole = refl; plain = (refl, refl); defines = refl; uncounted = refl }, (record { is = refl; whole = refl; plain = (refl, refl); defines = refl; uncounted = refl }, (record { is = refl; whole = refl; plain = (refl, refl); listed = refl; defines = refl }, (record { is = refl; whole = refl; plain = (refl, refl); listed = refl; defines = refl }, (record { is = refl; whole = refl; plain = (refl, refl); listed = refl; defines = refl }, (record { is = refl; whole = refl; plain = (refl, refl); listed = refl; defines = refl }, (record { is = refl; whole = refl; plain = (refl, refl); listed = refl; defines = refl }, (record { is = refl; whole = refl; plain = (refl, refl); listed = refl; defines = refl }, (record { is = refl; whole = refl; plain = (refl, refl); defines = refl; uncounted = refl }, (record { is = refl; whole = refl; plain = (refl, refl); defines = refl; uncounted = refl }, tt))))))))))))))))))))
