@@ -24,8 +24,12 @@ pub(crate) fn returns_for<S: Alter>(
     match head.settled {
         None => Ok(Vec::new(alloc)),
         Some(_) => {
-            let returns =
-                or_unavailable(sql_queries::returns(conn, alloc, head.company, head.order))?;
+            let returns = or_unavailable(sql_queries::returns(
+                conn,
+                alloc,
+                head.company,
+                head.order,
+            ))?;
             Ok(returns)
         }
     }
