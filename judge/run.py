@@ -44,6 +44,7 @@ JUDGES = (
     Judge("pages"),
     Judge("benches", takes_program=False),
     Judge("statuses"),
+    Judge("texts", takes_program=False),
     Judge("big_day", (), is_asked=True),
     Judge("costs", (), is_asked=True),
     Judge("peaks", (), is_asked=True),

@@ -14,7 +14,8 @@ use Rattle.sql_tables.specs.Schema.{desk_schema}
 use Rattle.sql_tables.specs.DeskTables as the
 use Rattle.sql_tables.specs.Description.{create_text}
 use Rattle.sql_tables.specs.Layout.{desk_layout, Keeps, Sees}
-use Rattle.sql_tables.specs.Tables.{Tables, IsStored}
+use Rattle.sql_tables.specs.ByName.{IsStored}
+use Rattle.sql_tables.specs.Tables.{Tables}
 use Rattle.sql_migration.specs.FirstVersion.{first_schema, first_layout, IsFirstStored, KeepsFirst}
 use Rattle.sql_migration.specs.Migrated.{migrated}
 use Rattle.sql_migration.specs.Migration.{number_entries_edit, Version, First, Second, migration_layout, migration_edit, migrated_version, IsFirst, IsFirstSeen, HasMigrated, seen_layout, if_seen}

@@ -22,6 +22,9 @@ use Rattle.sql_statements.proofs.FreeKeys.{insert_rules}
 use Rattle.sql_statements.proofs.Inserts.{inserted}
 use Rattle.sql_statements.specs.Edits.{each_edit_from}
 use Rattle.sql_statements.specs.Layouts.{Holds}
+use Rattle.sql_tables.specs.ByName as named
+use Rattle.sql_tables.specs.ByName.{described}
+use Rattle.sql_tables.specs.Description.{table}
 use Rattle.sql_tables.specs.Schema.{desk_schema}
 use Rattle.sql_tables.specs.TableDefinitions.{numbers_table}
 use Rattle.sql_tables.specs.Columns.{number}
@@ -35,25 +38,26 @@ use Rattle.sql_queries.proofs.Listings.{entries}
 use Rattle.sql_queries.proofs.Selects.{all_selected}
 use Rattle.sql_queries.proofs.Texts.{places}
 use Rattle.sql_queries.specs.Shows.{ShowsAll}
+use Rattle.sql_writes.proofs.Puts.{holds_with, one_put, place_of, PutsOne}
 use Rattle.sql_writes.proofs.Conditions.{taken_first}
 use Rattle.sql_writes.proofs.NumberedRows.{numbered_in_order}
-use Rattle.sql_writes.proofs.OtherTables.{numbers_changed}
 use Rattle.sql_migration.specs.Migrated.{has_place, with_own_number}
 use Rattle.sql_migration.specs.Migration.{put_number_edit, number_entries_edit, number_in, seen_layout, if_seen}
 use Rattle.sql_migration.proofs.KeptSchemas.{rows_schema}
 use Rattle.sql_migration.specs.MigrationTexts.{insert_number, sent_places_text}
 
-insert_number_is : IsInsert desk_schema insert_number 12 numbers_table
+insert_number_is : IsInsert desk_schema insert_number (place_of named.numbers) (table (described named.numbers))
 unfolding understood everything
 insert_number_is = record { is = refl; plain = (refl, refl) }
 
+puts_number : PutsOne named.numbers
+puts_number = record { is = insert_number_is; given = λ x. refl; kept = λ x. refl }
+
 number_put : (place : ℕ) (old new : State) (count : ℕ) → Executes insert_number (number place ∷ number place ∷ []) old new (Ok count) → (t : Tables) → Holds desk_layout old.now t → Holds desk_layout new.now ((put_number_edit place).after t)
 number_put place old new count ran t h =
-    let s = numbers_table in
     let n : NumberRecord = record { sequence = place; place = place } in
-    let done = inserted number_row desk_schema 12 32 s.name s.columns s.primary s.uniques s.orders insert_number insert_number_is refl (λ olds news. refl) n refl (row_kept s Null (number_row n) refl refl) old new count h.0 t.numbers h.1.numbers.stored ran in
-    let rules = (insert_rules desk_schema insert_number 12 s insert_number_is (number_row n) old new count h.0 done.0.schema_is ran).1.1.1.1.1.1.1.1.1.1.1.1.0 in
-    (done.0.schema_is, numbers_changed old.now.trees new.now.trees t h.1 done.0.others _ (numbered_in_order (λ y. y.sequence) (λ y. number y.place ∷ []) s (λ db row any. taken_first _ _ any) new.now.trees n t.numbers h.1.numbers.rise done.1 rules))
+    let made = one_put named.numbers puts_number n old new count ran t h in
+    holds_with named.numbers _ h made.has (numbered_in_order (λ y. y.sequence) (λ y. number y.place ∷ []) numbers_table (λ db row any. taken_first _ _ any) new.now.trees n t.numbers (h.1.stands named.numbers).rise made.has.stored made.unique)
 
 -- the schema stays, whatever rows there are
 number_schema : (place : ℕ) (old new : State) (count : ℕ) → Executes insert_number (number place ∷ number place ∷ []) old new (Ok count) → old.now.schema ≡ desk_schema → new.now.schema ≡ desk_schema

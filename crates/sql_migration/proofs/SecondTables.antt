@@ -30,6 +30,9 @@ use Rattle.sql_tables.specs.Schema.{desk_schema}
 use Rattle.sql_tables.specs.TableDefinitions.{desk_table}
 use Rattle.sql_tables.specs.Layout.{desk_layout}
 use Rattle.sql_tables.specs.RecordRows.{desk_row}
+use Rattle.sql_tables.proofs.ByName.{each_table}
+use Rattle.sql_tables.specs.ByName as named
+use Rattle.sql_tables.specs.ByName.{Name, described, records, StandsAt}
 use Rattle.sql_tables.specs.Tables.{Tables, IsTableOf}
 use Rattle.sql_tables.specs.declared.records.DeskRecord.{DeskRecord}
 use Rattle.sql_migration.specs.FirstVersion.{first_schema, versioned_row, IsFirstStored}
@@ -113,25 +116,26 @@ abbrev pub with_no_numbers : Tables → Tables
 with_no_numbers t = record t { numbers = []; authorizations = [] }
 
 pub second_tables : (t : Tables) (s0 s1 s2 s3 : Database) → IsFirstStored s0.trees t → Adds first_schema written_numbers s0 s1 → Adds numbered_schema written_authorizations s1 s2 → SetsVersion t.desk s2 s3 → Holds desk_layout s3 (with_no_numbers t)
-second_tables t s0 s1 s2 s3 h n a v = (
-  v.schema_is,
-  record {
-    desk = v.row;
-    holidays = moved (v.others.1.0 (λ e. omega (arith, e)) ∙ a.others.1.0 ∙ n.others.1.0) h.holidays;
-    companies = moved (v.others.1.1.0 (λ e. omega (arith, e)) ∙ a.others.1.1.0 ∙ n.others.1.1.0) h.companies;
-    submissions = moved (v.others.1.1.1.0 (λ e. omega (arith, e)) ∙ a.others.1.1.1.0 ∙ n.others.1.1.1.0) h.submissions;
-    entries = moved (v.others.1.1.1.1.0 (λ e. omega (arith, e)) ∙ a.others.1.1.1.1.0 ∙ n.others.1.1.1.1.0) h.entries;
-    returns = moved (v.others.1.1.1.1.1.0 (λ e. omega (arith, e)) ∙ a.others.1.1.1.1.1.0 ∙ n.others.1.1.1.1.1.0) h.returns;
-    changes = moved (v.others.1.1.1.1.1.1.0 (λ e. omega (arith, e)) ∙ a.others.1.1.1.1.1.1.0 ∙ n.others.1.1.1.1.1.1.0) h.changes;
-    postings = moved (v.others.1.1.1.1.1.1.1.0 (λ e. omega (arith, e)) ∙ a.others.1.1.1.1.1.1.1.0 ∙ n.others.1.1.1.1.1.1.1.0) h.postings;
-    suspense = moved (v.others.1.1.1.1.1.1.1.1.0 (λ e. omega (arith, e)) ∙ a.others.1.1.1.1.1.1.1.1.0 ∙ n.others.1.1.1.1.1.1.1.1.0) h.suspense;
-    files = moved (v.others.1.1.1.1.1.1.1.1.1.0 (λ e. omega (arith, e)) ∙ a.others.1.1.1.1.1.1.1.1.1.0 ∙ n.others.1.1.1.1.1.1.1.1.1.0) h.files;
-    taken = moved (v.others.1.1.1.1.1.1.1.1.1.1.0 (λ e. omega (arith, e)) ∙ a.others.1.1.1.1.1.1.1.1.1.1.0 ∙ n.others.1.1.1.1.1.1.1.1.1.1.0) h.taken;
-    balances = moved (v.others.1.1.1.1.1.1.1.1.1.1.1.0 (λ e. omega (arith, e)) ∙ a.others.1.1.1.1.1.1.1.1.1.1.1.0 ∙ n.others.1.1.1.1.1.1.1.1.1.1.1.0) h.balances;
-    numbers = no_rows s3.trees _ (v.others.1.1.1.1.1.1.1.1.1.1.1.1.0 (λ e. omega (arith, e)) ∙ a.others.1.1.1.1.1.1.1.1.1.1.1.1.0 ∙ n.empty);
-    authorizations = no_rows s3.trees _ (v.others.1.1.1.1.1.1.1.1.1.1.1.1.1.0 (λ e. omega (arith, e)) ∙ a.empty);
-  },
-)
+second_tables t s0 s1 s2 s3 h n a v = (v.schema_is, record { stands = stands })
+  where
+    stays : (n : Name) → (described n).tree ≢ 0 → s3.trees (described n).tree ≡ s2.trees (described n).tree
+    stays n apart = each_table (λ u. u.tree ≢ 0 → s3.trees u.tree ≡ s2.trees u.tree) v.others n apart
+
+    stands : (n : Name) → StandsAt s3.trees n (records n (with_no_numbers t))
+    stands named.desk = record { stored = v.row; rise = (tt, tt) }
+    stands named.holidays = moved (stays named.holidays (λ e. omega (arith, e)) ∙ a.others.1.0 ∙ n.others.1.0) h.holidays
+    stands named.companies = moved (stays named.companies (λ e. omega (arith, e)) ∙ a.others.1.1.0 ∙ n.others.1.1.0) h.companies
+    stands named.submissions = moved (stays named.submissions (λ e. omega (arith, e)) ∙ a.others.1.1.1.0 ∙ n.others.1.1.1.0) h.submissions
+    stands named.entries = moved (stays named.entries (λ e. omega (arith, e)) ∙ a.others.1.1.1.1.0 ∙ n.others.1.1.1.1.0) h.entries
+    stands named.returns = moved (stays named.returns (λ e. omega (arith, e)) ∙ a.others.1.1.1.1.1.0 ∙ n.others.1.1.1.1.1.0) h.returns
+    stands named.changes = moved (stays named.changes (λ e. omega (arith, e)) ∙ a.others.1.1.1.1.1.1.0 ∙ n.others.1.1.1.1.1.1.0) h.changes
+    stands named.postings = moved (stays named.postings (λ e. omega (arith, e)) ∙ a.others.1.1.1.1.1.1.1.0 ∙ n.others.1.1.1.1.1.1.1.0) h.postings
+    stands named.suspense = moved (stays named.suspense (λ e. omega (arith, e)) ∙ a.others.1.1.1.1.1.1.1.1.0 ∙ n.others.1.1.1.1.1.1.1.1.0) h.suspense
+    stands named.files = moved (stays named.files (λ e. omega (arith, e)) ∙ a.others.1.1.1.1.1.1.1.1.1.0 ∙ n.others.1.1.1.1.1.1.1.1.1.0) h.files
+    stands named.taken = moved (stays named.taken (λ e. omega (arith, e)) ∙ a.others.1.1.1.1.1.1.1.1.1.1.0 ∙ n.others.1.1.1.1.1.1.1.1.1.1.0) h.taken
+    stands named.balances = moved (stays named.balances (λ e. omega (arith, e)) ∙ a.others.1.1.1.1.1.1.1.1.1.1.1.0 ∙ n.others.1.1.1.1.1.1.1.1.1.1.1.0) h.balances
+    stands named.numbers = no_rows s3.trees _ (stays named.numbers (λ e. omega (arith, e)) ∙ a.others.1.1.1.1.1.1.1.1.1.1.1.1.0 ∙ n.empty)
+    stands named.authorizations = no_rows s3.trees _ (stays named.authorizations (λ e. omega (arith, e)) ∙ a.empty)
 
 -- the row of the desk is as it was while tables are added
 pub desk_stays : (t : Tables) (s0 s1 s2 : Database) → IsFirstStored s0.trees t → Adds first_schema written_numbers s0 s1 → Adds numbered_schema written_authorizations s1 s2 → Stores (versioned_row 1) (s2.trees 0) (t.desk ∷ [])

@@ -13,7 +13,8 @@ use Rattle.desk_history.specs.Message.{Pair}
 use Rattle.desk_book.specs.Book.{Book}
 use Rattle.sql_tables.specs.Schema.{desk_schema}
 use Rattle.sql_tables.specs.Layout.{Keeps, Sees}
-use Rattle.sql_tables.specs.Tables.{Tables, IsStored}
+use Rattle.sql_tables.specs.ByName.{IsStored}
+use Rattle.sql_tables.specs.Tables.{Tables}
 use Rattle.sql_migration.specs.FirstVersion.{first_schema, IsFirstStored, KeepsFirst}
 use Rattle.sql_migration.specs.Migrated.{migrated, places_of, with_own_number}
 use Rattle.sql_migration.specs.FirstHistory.{FirstStandsFor, StandsForFirst}

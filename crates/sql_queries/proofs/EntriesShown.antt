@@ -8,6 +8,7 @@ use Rattle.sqlite_value.specs.declared.value.Value.TheVariants.{Int, Text}
 use Rattle.sql_statements.proofs.Conditions.{text_is}
 use Rattle.sql_statements.proofs.Sums.{summed}
 use Rattle.sql_statements.specs.Statements.{column_is, at_least, at_most, columns}
+use Rattle.sql_tables.specs.ByName as named
 use Rattle.sql_tables.specs.Columns.{number}
 use Rattle.sql_tables.specs.CutTables.{is_entry_row}
 use Rattle.sql_tables.specs.RecordRows.{entry_row}
@@ -17,11 +18,11 @@ use Rattle.sql_tables.specs.declared.records.EntryRecord.{EntryRecord}
 use Rattle.sql_tables.specs.QueryRows.{entry_amount_row, numbered_entry_row, placed_entry_row}
 use Rattle.sql_tables.specs.Selected.{amount_of, numbered_of, placed_of}
 use Rattle.sql_tables.specs.TableReads.{is_entry_of, entries_in, amounts_in, cents_in, entry_at, is_at_place, entry_at_place, place_in, is_between, places_between}
-use Rattle.std.specs.Prelude.{◌==◌}
+use Rattle.std.specs.Prelude.{◌==◌, ◌&&◌, nat_le}
 use Rattle.sql_queries.proofs.Conditions.{one, two, three, number_is, number_least, number_most, number_if_any_is}
 use Rattle.sql_queries.proofs.Listings.{entries, numbers}
 use Rattle.sql_queries.proofs.Selects.{all_selected, first_selected}
-use Rattle.sql_queries.proofs.Texts.{places, entries_is, amounts_is, cents_is, entry_is, sent_entry_is, place_is, places_is}
+use Rattle.sql_queries.proofs.Texts.{places, entries_is, amounts_is, cents_is, entry_is, sent_entry_is, places_is}
 use Rattle.sql_queries.specs.Shows.{ShowsAll, ShowsFirst}
 use Rattle.sql_queries.specs.Questions as questions
 
@@ -44,7 +45,7 @@ cents_shown c order = record {
   row = λ t old new h rows seen.
       ap (λ (l : List Row). slice_get l 0)
       (summed entry_row entries_table.tree (column_is 1 0 ∷ column_is 2 1 ∷ []) 8 (Text c ∷ number order ∷ []) (is_entry_of c order) (λ e. pos e.entry.cents)
-      (λ i e. two (text_is e.company c) (number_is e.order order)) (λ i e. refl) desk_schema questions.cents.text cents_is.asks old new h.0 t.entries h.1.entries.stored rows seen)
+      (λ i e. two (text_is e.company c) (number_is e.order order)) (λ i e. refl) desk_schema questions.cents.text cents_is.asks old new h.0 t.entries (h.1.stands named.entries).stored rows seen)
       ∙ ap (λ z. Some (Int z ∷ [])) (whole_sum (filter (is_entry_of c order) t.entries));
 }
 
@@ -57,9 +58,14 @@ pub sent_entry_shown : (place : ℕ) → ShowsFirst questions.sent_entry.text (n
 sent_entry_shown place =
     first_selected entries questions.sent_entry.text (column_is 12 0 ∷ []) (columns 11) (number place ∷ []) (is_at_place place) placed_of placed_entry_row sent_entry_is.asks (λ i e. one (number_if_any_is e.place place)) (λ i e. refl)
 
-pub place_shown : (sequence : ℕ) → ShowsFirst questions.place.text (number sequence ∷ []) (λ n. number n ∷ []) (place_in sequence)
+-- one number is a range of its own
+only : (a b : ℕ) → (nat_le b a && nat_le a b) ≡ (a == b)
+only a b = grind (arith)
+
+pub place_shown : (sequence : ℕ) → ShowsFirst questions.places.text (number sequence ∷ number sequence ∷ []) (λ n. number n ∷ []) (place_in sequence)
 place_shown sequence =
-    first_selected numbers questions.place.text (column_is 1 0 ∷ []) (places (2 ∷ [])) (number sequence ∷ []) (λ n. n.sequence == sequence) (λ n. n.place) (λ n. number n ∷ []) place_is.asks (λ i n. one (number_is n.sequence sequence)) (λ i n. refl)
+    first_selected numbers questions.places.text (at_least 1 0 ∷ at_most 1 1 ∷ []) (places (2 ∷ [])) (number sequence ∷ number sequence ∷ []) (λ n. n.sequence == sequence) (λ n. n.place) (λ n. number n ∷ [])
+    places_is.asks (λ i n. two (number_least n.sequence sequence) (number_most n.sequence sequence) ∙ only n.sequence sequence) (λ i n. refl)
 
 pub places_shown : (from to : ℕ) → ShowsAll questions.places.text (number from ∷ number to ∷ []) (λ n. number n ∷ []) (places_between from to)
 places_shown from to =

@@ -23,14 +23,13 @@ use Rattle.desk_rules.specs.declared.bodies.submission.Entry.{Entry}
 use Rattle.desk_rules.specs.declared.bodies.submission.SecCode.{SecCode}
 use Rattle.desk_rules.specs.declared.bodies.submission.SecCode.TheVariants as secs
 use Rattle.sql_tables.specs.Columns.{number, flag, letter, line_reference, direction_text, cause_text, reason_text}
-use Rattle.sql_tables.specs.QueryRows.{submission_head_row, submission_facts_row, order_and_settlement_row, entry_amount_row, numbered_entry_row, placed_entry_row, entry_return_row, return_line_row, change_line_row, posting_line_row, suspense_line_row}
-use Rattle.sql_tables.specs.RecordRows.{company_row, identity_row, taken_row, number_row, entry_columns}
+use Rattle.sql_tables.specs.QueryRows.{keyed_identity_row, submission_head_row, submission_facts_row, order_and_settlement_row, entry_amount_row, numbered_entry_row, placed_entry_row, entry_return_row, return_line_row, change_line_row, posting_line_row, suspense_line_row}
+use Rattle.sql_tables.specs.RecordRows.{company_row, taken_row, number_row, entry_columns}
 use Rattle.sql_tables.specs.declared.row.items.EntryReturn.{EntryReturn}
 use Rattle.sql_tables.specs.declared.row.items.ReturnLine.{ReturnLine}
 use Rattle.sql_tables.specs.declared.row.lines.PostingLine.{PostingLine}
 use Rattle.sql_tables.specs.declared.row.submissions.SubmissionFacts.{SubmissionFacts}
 use Rattle.sql_tables.specs.declared.row.submissions.SubmissionHead.{SubmissionHead}
-use Rattle.sql_queries.specs.DigestRows.{key_digest_row}
 use Rattle.sql_queries.specs.Shows.{IsInjective}
 
 read_back : {X : Type 0} (show : X → Row) (read : Row → X) → ((x : X) → read (show x) ≡ x) → IsInjective show
@@ -159,14 +158,16 @@ number_if_any_columns = read_back (λ o. or_null number o ∷ []) (λ r. if_any_
 pub blob_columns : IsInjective (λ b. Blob b ∷ [])
 blob_columns = read_back (λ b. Blob b ∷ []) (λ r. text_in (column r 0)) (λ b. refl)
 
-pub key_digest_rows : IsInjective key_digest_row
-key_digest_rows = read_back key_digest_row (λ r. record { bytes = text_in (column r 0) }) (λ k. refl)
-
 -- ---- rows
 
-pub identity_rows : IsInjective identity_row
-identity_rows =
-    read_back identity_row (λ r. record { odfi = text_in (column r 0); odfi_name = text_in (column r 1); destination = text_in (column r 2); destination_name = text_in (column r 3) }) (λ i. refl)
+pub keyed_identity_rows : IsInjective keyed_identity_row
+keyed_identity_rows =
+    read_back keyed_identity_row
+    (λ r. record {
+      identity = record { odfi = text_in (column r 0); odfi_name = text_in (column r 1); destination = text_in (column r 2); destination_name = text_in (column r 3) };
+      operator_key = text_in (column r 4);
+    })
+    (λ d. refl)
 
 pub company_rows : IsInjective company_row
 company_rows =

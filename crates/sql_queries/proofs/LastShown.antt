@@ -15,6 +15,7 @@ use Rattle.sql_statements.proofs.StoredRows.{stores_in}
 use Rattle.sql_statements.specs.Statements.{IsSelect, query_within, column_is, columns, falling}
 use Rattle.sql_statements.specs.StoredRows.{row_of}
 use Rattle.sql_statements.specs.Findings.{Finds}
+use Rattle.sql_tables.specs.ByName as named
 use Rattle.sql_tables.specs.Schema.{desk_schema}
 use Rattle.sql_tables.specs.TableDefinitions.{submissions_table, numbers_table}
 use Rattle.sql_tables.specs.Columns.{number}
@@ -52,8 +53,8 @@ last_order_shown c = record {
   row = λ t old new h rows seen.
       first_taken (λ n. number n ∷ []) (λ s. s.order) (reverse (filter (is_of c) t.submissions)) rows
       (last_selected submission_row submissions_table.tree (column_is 1 0 ∷ []) (places (2 ∷ [])) (falling 1 ∷ falling 2 ∷ []) (Text c ∷ []) (is_of c) (λ s. number s.order ∷ []) (λ s. Text s.company ∷ number s.order ∷ [])
-      (λ i s. one (text_is s.company c)) (λ i s. refl) (λ i s. refl) desk_schema questions.last_order.text last_order_is.asks old new h.0 t.submissions h.1.submissions.stored
-      (ascending_weaker _ _ (λ x y less. by_falling_text_then_number x.company y.company x.order y.order ∙ less) t.submissions h.1.submissions.rise) rows seen
+      (λ i s. one (text_is s.company c)) (λ i s. refl) (λ i s. refl) desk_schema questions.last_order.text last_order_is.asks old new h.0 t.submissions (h.1.stands named.submissions).stored
+      (ascending_weaker _ _ (λ x y less. by_falling_text_then_number x.company y.company x.order y.order ∙ less) t.submissions (h.1.stands named.submissions).rise) rows seen
       ∙ ap (λ l. map (λ s. number s.order ∷ []) (take 1 l)) (passing_backwards (is_of c) t.submissions));
 }
 
@@ -69,7 +70,7 @@ last_number_found {old} {new} {x} read = record {
       same_option number_row number_rows x (slice_get (reverse by_place) 0)
       (read.is ∙ first_taken number_row (λ n. n) (reverse by_place) read.rows
       (last_selected number_row numbers_table.tree [] (columns 2) (falling 2 ∷ []) [] (λ _. true) number_row (λ n. number n.place ∷ []) (λ i n. refl) (λ i n. refl) (λ i n. refl) desk_schema questions.last_number.text last_number_is.asks old new h.0 by_place
-      (stores_in number_row (old.now.trees numbers_table.tree) t.numbers by_place same h.1.numbers.stored)
+      (stores_in number_row (old.now.trees numbers_table.tree) t.numbers by_place same (h.1.stands named.numbers).stored)
       (ascending_weaker _ _ (λ a b less. by_falling_number a.place b.place ∙ less) by_place up) read.rows read.shown
       ∙ ap (λ l. map number_row (take 1 l)) (all_pass (backwards by_place) ∙ backwards_is by_place))
       ∙ ap (option_map number_row) (itself (slice_get (reverse by_place) 0)));

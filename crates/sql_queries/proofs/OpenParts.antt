@@ -9,6 +9,7 @@ use Rattle.sqlite_keyed.proofs.ListLemmas.{filter_same, ascending-map}
 use Rattle.sqlite_keyed.proofs.SortLemmas.{sorted_unique}
 use Rattle.sqlite.specs.State.{State}
 use Rattle.sql_statements.specs.Findings.{Finds}
+use Rattle.sql_tables.specs.ByName as named
 use Rattle.sql_tables.specs.Layout.{desk_layout}
 use Rattle.sql_tables.specs.KeyOrders.{submission_cmp, IsInOrder}
 use Rattle.sql_tables.specs.Selected.{head_of}
@@ -59,5 +60,5 @@ open_found c since {all = all} found same sorted = record {
   was_open = found.was_open;
   told = λ t h.
       let parts = found.told t h in
-      open_joined c since t.submissions h.1.submissions.rise all (subst (λ l. IsPermutation l all) (λ i. parts.0 i ++ parts.1 i) same) sorted;
+      open_joined c since t.submissions (h.1.stands named.submissions).rise all (subst (λ l. IsPermutation l all) (λ i. parts.0 i ++ parts.1 i) same) sorted;
 }

@@ -8,21 +8,19 @@ use Rattle.sql_statements.specs.Statements as sql
 use Rattle.std.proofs.Common.{pos}
 use Rattle.desk_history.specs.Operator.{has_id}
 use Rattle.sql_tables.specs.Columns.{number}
-use Rattle.sql_tables.specs.RecordRows.{company_row, holiday_row, identity_row}
+use Rattle.sql_tables.specs.QueryRows.{keyed_identity_row}
+use Rattle.sql_tables.specs.RecordRows.{company_row, holiday_row}
+use Rattle.sql_tables.specs.Selected.{keyed_identity_of}
 use Rattle.sql_tables.specs.TableReads.{company_in}
 use Rattle.sql_queries.proofs.Conditions.{one, number_is}
 use Rattle.sql_queries.proofs.Listings.{desk, holidays, companies}
 use Rattle.sql_queries.proofs.Selects.{all_selected, first_selected, itself, each_itself, all_pass}
-use Rattle.sql_queries.proofs.Texts.{places, identity_is, operator_key_is, day_is, company_is, companies_is, holidays_is}
-use Rattle.sql_queries.specs.DigestRows.{key_digest_row}
+use Rattle.sql_queries.proofs.Texts.{places, keyed_identity_is, day_is, company_is, companies_is, holidays_is}
 use Rattle.sql_queries.specs.Shows.{ShowsAll, ShowsFirst}
 use Rattle.sql_queries.specs.Questions as questions
 
-pub identity_shown : ShowsFirst questions.identity.text [] identity_row (λ t. Some t.desk.identity)
-identity_shown = first_selected desk questions.identity.text (sql.number_is 1 (pos 1) ∷ []) (places (3 ∷ 4 ∷ 5 ∷ 6 ∷ [])) [] (λ _. true) (λ d. d.identity) identity_row identity_is.asks (λ i d. one (number_is 1 1)) (λ i d. refl)
-
-pub operator_key_shown : ShowsFirst questions.operator_key.text [] key_digest_row (λ t. Some (record { bytes = t.desk.operator_key }))
-operator_key_shown = first_selected desk questions.operator_key.text (sql.number_is 1 (pos 1) ∷ []) (places (7 ∷ [])) [] (λ _. true) (λ d. record { bytes = d.operator_key }) key_digest_row operator_key_is.asks (λ i d. one (number_is 1 1)) (λ i d. refl)
+pub keyed_identity_shown : ShowsFirst questions.keyed_identity.text [] keyed_identity_row (λ t. Some (keyed_identity_of t.desk))
+keyed_identity_shown = first_selected desk questions.keyed_identity.text (sql.number_is 1 (pos 1) ∷ []) (places (3 ∷ 4 ∷ 5 ∷ 6 ∷ 7 ∷ [])) [] (λ _. true) keyed_identity_of keyed_identity_row keyed_identity_is.asks (λ i d. one (number_is 1 1)) (λ i d. refl)
 
 pub day_shown : ShowsFirst questions.day.text [] (λ day. or_null number day ∷ []) (λ t. Some t.desk.day)
 day_shown = first_selected desk questions.day.text (sql.number_is 1 (pos 1) ∷ []) (places (8 ∷ [])) [] (λ _. true) (λ d. d.day) (λ day. or_null number day ∷ []) day_is.asks (λ i d. one (number_is 1 1)) (λ i d. refl)

@@ -10,6 +10,7 @@ use Rattle.sql_statements.proofs.Conditions.{text_is}
 use Rattle.sql_statements.specs.Findings.{Finds}
 use Rattle.sql_statements.specs.Layouts.{Holds}
 use Rattle.sql_statements.specs.Statements.{column_is, by}
+use Rattle.sql_tables.specs.ByName as named
 use Rattle.sql_tables.specs.Layout.{desk_layout}
 use Rattle.sql_tables.specs.QueryRows.{return_line_row}
 use Rattle.sql_tables.specs.Selected.{return_line_of}
@@ -39,6 +40,6 @@ return_lines_found {c} {found = found} read same sorted = record {
   was_open = read.was_open;
   told = λ t h.
       sorted_unique by_line_number (on_total (λ (l : ReturnLine). l.number) nat_cmp_total) (return_lines_in c t) found
-      (ascending-map (λ a b. by_line_number a b ≡ Less) return_line_of _ (ascending-filter _ (λ r. bytes_eq r.company c) t.returns h.1.returns.rise))
+      (ascending-map (λ a b. by_line_number a b ≡ Less) return_line_of _ (ascending-filter _ (λ r. bytes_eq r.company c) t.returns (h.1.stands named.returns).rise))
       (IsPermutation-trans _ _ _ (read_in_any_order c read t h) same) sorted;
 }

@@ -11,13 +11,9 @@ use Rattle.sql_queries.specs.Questions as questions
 abbrev pub places : List ℕ → List Term
 places = map (λ at. col 1 at)
 
-pub identity_is : IsQuestion questions.identity
+pub keyed_identity_is : IsQuestion questions.keyed_identity
 unfolding understood first everything
-identity_is = record { selects = refl; asks = record { selects = refl; body = refl; alone = refl; unlisted = refl; plain = (refl, refl) } }
-
-pub operator_key_is : IsQuestion questions.operator_key
-unfolding understood first everything
-operator_key_is = record { selects = refl; asks = record { selects = refl; body = refl; alone = refl; unlisted = refl; plain = (refl, refl) } }
+keyed_identity_is = record { selects = refl; asks = record { selects = refl; body = refl; alone = refl; unlisted = refl; plain = (refl, refl) } }
 
 pub day_is : IsQuestion questions.day
 unfolding understood first everything
@@ -94,10 +90,6 @@ entry_is = record { selects = refl; asks = record { selects = refl; body = refl;
 pub sent_entry_is : IsQuestion questions.sent_entry
 unfolding understood first everything
 sent_entry_is = record { selects = refl; asks = record { selects = refl; body = refl; alone = refl; unlisted = refl; plain = (refl, refl) } }
-
-pub place_is : IsQuestion questions.place
-unfolding understood first everything
-place_is = record { selects = refl; asks = record { selects = refl; body = refl; alone = refl; unlisted = refl; plain = (refl, refl) } }
 
 pub places_is : IsQuestion questions.places
 unfolding understood first everything

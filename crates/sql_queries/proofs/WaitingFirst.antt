@@ -24,6 +24,7 @@ use Rattle.sql_statements.proofs.Selects.{selected}
 use Rattle.sql_statements.proofs.StoredRows.{stores_in}
 use Rattle.sql_statements.specs.Statements.{query_from, column_is, columns, by}
 use Rattle.sql_statements.specs.Findings.{Finds}
+use Rattle.sql_tables.specs.ByName as named
 use Rattle.sql_tables.specs.Schema.{desk_schema}
 use Rattle.sql_tables.specs.TableDefinitions.{submissions_table}
 use Rattle.sql_tables.specs.Columns.{number, flag}
@@ -145,7 +146,7 @@ waiting_first c subs up =
 by_waiting_shown : (c : List ℕ) → ShowsAll questions.waiting_submissions.text (Text c ∷ []) submission_head_row (λ t. map head_of (filter (is_of c) (by_waiting t.submissions)))
 by_waiting_shown c = record {
   rows = λ t old new h rows seen.
-      let table = h.1.submissions in
+      let table = (h.1.stands named.submissions) in
       selected submission_row submissions_table.tree (column_is 1 0 ∷ []) (columns 11) order (Text c ∷ []) (is_of c) (λ s. submission_head_row (head_of s)) sort
       (λ i s. one (text_is s.company c)) (λ i s. refl) (λ i s. refl) desk_schema questions.waiting_submissions.text waiting_submissions_is.asks old new h.0 (by_waiting t.submissions)
       (stores_in submission_row _ t.submissions _ (IsPermutation-sym _ _ (IsPermutation-sort_by waiting_cmp waiting_cmp_total t.submissions)) table.stored)
@@ -156,4 +157,4 @@ by_waiting_shown c = record {
 pub waiting_found : {c : List ℕ} {old new : State} {xs : List SubmissionHead} → ReadsWhile questions.waiting_submissions.text (Text c ∷ []) submission_head_row waits old new xs → Finds desk_layout (λ t. xs ≡ heads_in (is_waiting_of c) t) old
 waiting_found {c} read =
     let found = found_while submission_head_row submission_head_rows waits waiting_submissions_is.asks (by_waiting_shown c) read in
-    record { was_open = found.was_open; told = λ t h. found.told t h ∙ waiting_first c t.submissions h.1.submissions.rise }
+    record { was_open = found.was_open; told = λ t h. found.told t h ∙ waiting_first c t.submissions (h.1.stands named.submissions).rise }

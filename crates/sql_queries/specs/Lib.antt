@@ -1,6 +1,5 @@
 pub mod Asking
 pub mod ByNumber
-pub mod DigestRows
 pub mod Postings
 pub mod Questions
 pub mod Shows

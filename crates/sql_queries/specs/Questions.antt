@@ -18,11 +18,8 @@ company_columns = "id" ∷ "name" ∷ "key_digest" ∷ "entry_limit" ∷ "credit
 
 -- ---- the desk, its calendar and its companies
 
-abbrev pub identity : Question
-identity = ask the.desk ("odfi" ∷ "odfi_name" ∷ "destination" ∷ "destination_name" ∷ []) (is_one "id" ∷ []) (rises "id" ∷ [])
-
-abbrev pub operator_key : Question
-operator_key = ask the.desk ("operator_key" ∷ []) (is_one "id" ∷ []) (rises "id" ∷ [])
+abbrev pub keyed_identity : Question
+keyed_identity = ask the.desk ("odfi" ∷ "odfi_name" ∷ "destination" ∷ "destination_name" ∷ "operator_key" ∷ []) (is_one "id" ∷ []) (rises "id" ∷ [])
 
 abbrev pub day : Question
 day = ask the.desk ("day" ∷ []) (is_one "id" ∷ []) (rises "id" ∷ [])
@@ -84,9 +81,6 @@ entry = ask the.entries numbered_columns (is "company" ∷ is "ord" ∷ is "idx"
 
 abbrev pub sent_entry : Question
 sent_entry = ask the.entries ("company" ∷ "ord" ∷ "idx" ∷ "routing" ∷ "account" ∷ "savings" ∷ "prenote" ∷ "cents" ∷ "ident" ∷ "name" ∷ "info" ∷ []) (is "seq" ∷ []) (rises "company" ∷ rises "ord" ∷ rises "idx" ∷ [])
-
-abbrev pub place : Question
-place = ask the.sequences ("nth" ∷ []) (is "sequence" ∷ []) (rises "sequence" ∷ [])
 
 abbrev pub places : Question
 places = ask the.sequences ("nth" ∷ []) (from "sequence" ∷ up_to "sequence" ∷ []) (rises "sequence" ∷ [])

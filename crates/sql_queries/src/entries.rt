@@ -108,6 +108,10 @@ pub fn sent_entry<S: Alter>(
     )
 }
 
+// One sequence is a range of its own, so that the engine keeps one plan for both.
+const PLACES: &str =
+    "SELECT nth FROM numbers WHERE sequence >= ?1 AND sequence <= ?2 ORDER BY sequence";
+
 /// Finds the place of the youngest sent entry that has a sequence.
 pub fn place<S: Alter>(conn: &mut Connection<S>, sequence: u32) -> Result<Option<u64>, Error>
     ensures answer { Asks S.Store conn.old conn.new result
@@ -117,8 +121,8 @@ pub fn place<S: Alter>(conn: &mut Connection<S>, sequence: u32) -> Result<Option
 {
     cell_of(
         conn,
-        "SELECT nth FROM numbers WHERE sequence = ?1 ORDER BY sequence",
-        &[natural(u64::from(sequence))?],
+        PLACES,
+        &[natural(u64::from(sequence))?, natural(u64::from(sequence))?],
     )
 }
 
@@ -137,7 +141,7 @@ pub fn places<S: Alter>(
     column_of(
         conn,
         alloc,
-        "SELECT nth FROM numbers WHERE sequence >= ?1 AND sequence <= ?2 ORDER BY sequence",
+        PLACES,
         &[natural(u64::from(from))?, natural(u64::from(to))?],
     )
 }

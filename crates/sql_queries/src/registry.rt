@@ -1,9 +1,9 @@
 //! The desk, its calendar and its companies.
-ghost use Rattle.std.specs.Prelude.{◌≡◌, length};
+ghost use Rattle.std.specs.Prelude.{◌≡◌};
 ghost use Rattle.sql_statements.specs.Findings.{Finds};
 ghost use Rattle.sql_statements.specs.Promises.{SeesStill, LeavesNothingNew};
+ghost use Rattle.sql_tables.specs.Selected.{keyed_identity_of};
 ghost use Rattle.sql_tables.specs.TableReads.{company_in};
-ghost use Rattle.sql_queries.specs.DigestRows.{key_digest_row};
 ghost use Rattle.sql_queries.specs.Asking.{Asks};
 
 use crate::rows::{all_of, cell_of, column_of, first_of};
@@ -11,19 +11,20 @@ use ach_fields::Id;
 use bank_days::Day;
 use desk_history::Identity;
 use desk_rules::{Company, RuleDay};
-use sql_tables::{FromRow, characters, read_digest};
-use sqlite::{Alter, Connection, Error, Row};
+use sql_tables::{KeyedIdentity, characters};
+use sqlite::{Alter, Connection, Error};
 use std::alloc::Global;
 
-/// Gives the identity of the desk: whose files it makes, and for whom.
-pub fn identity<S: Alter>(conn: &mut Connection<S>) -> Result<Identity, Error>
-    ensures answer { Asks S.Store conn.old conn.new result (λ found t. found ≡ t.desk.identity) }
+// Whose desk it is, and the digest of the operator's key.
+fn keyed_identity<S: Alter>(conn: &mut Connection<S>) -> Result<KeyedIdentity, Error>
+    ensures answer { Asks S.Store conn.old conn.new result
+        (λ found t. found ≡ keyed_identity_of t.desk) }
     ensures stays { SeesStill S.Store conn.old conn.new }
     ensures survives { LeavesNothingNew S.Store conn.old conn.new }
 {
     match first_of(
         conn,
-        "SELECT odfi, odfi_name, destination, destination_name FROM desk WHERE id = 1 ORDER BY id",
+        "SELECT odfi, odfi_name, destination, destination_name, operator_key FROM desk WHERE id = 1 ORDER BY id",
         &[],
     )? {
         Some(found) => Ok(found),
@@ -31,24 +32,14 @@ pub fn identity<S: Alter>(conn: &mut Connection<S>) -> Result<Identity, Error>
     }
 }
 
-// The digest of a key, in a row of its own.
-#[derive(Drop)]
-struct KeyDigest {
-    bytes: [u8; 32],
-}
-
-impl FromRow for KeyDigest {
-    ghost stored_row = { key_digest_row };
-
-    ghost fits = { λ k. length k.bytes ≡ 32 };
-
-    fn from_row(row: &Row) -> Option<KeyDigest> {
-        if row.column_count() != 1 {
-            return None;
-        }
-        let bytes = read_digest(row, 0)?;
-        Some(KeyDigest { bytes })
-    }
+/// Gives the identity of the desk: whose files it makes, and for whom.
+pub fn identity<S: Alter>(conn: &mut Connection<S>) -> Result<Identity, Error>
+    ensures answer { Asks S.Store conn.old conn.new result (λ found t. found ≡ t.desk.identity) }
+    ensures stays { SeesStill S.Store conn.old conn.new }
+    ensures survives { LeavesNothingNew S.Store conn.old conn.new }
+{
+    let found = keyed_identity(conn)?;
+    Ok(found.identity)
 }
 
 /// Gives the SHA-256 digest of the operator's key.
@@ -58,15 +49,8 @@ pub fn operator_key<S: Alter>(conn: &mut Connection<S>) -> Result<[u8; 32], Erro
     ensures stays { SeesStill S.Store conn.old conn.new }
     ensures survives { LeavesNothingNew S.Store conn.old conn.new }
 {
-    let found: Option<KeyDigest> = first_of(
-        conn,
-        "SELECT operator_key FROM desk WHERE id = 1 ORDER BY id",
-        &[],
-    )?;
-    match found {
-        Some(key) => Ok(key.bytes),
-        None => Err(Error::InvalidQuery),
-    }
+    let found = keyed_identity(conn)?;
+    Ok(found.operator_key)
 }
 
 /// Gives the desk day, once one was set.

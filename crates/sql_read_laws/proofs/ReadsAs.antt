@@ -5,7 +5,8 @@ use Rattle.desk_book.specs.Book.{Book}
 use Rattle.desk_store.specs.Rows.{Rows, flat_book}
 use Rattle.sql_tables.specs.Beside.{Beside}
 use Rattle.sql_tables.specs.Encodes.{Encodes}
-use Rattle.sql_tables.specs.Tables.{Tables, IsStored}
+use Rattle.sql_tables.specs.ByName.{IsStored}
+use Rattle.sql_tables.specs.Tables.{Tables}
 use Rattle.sql_read_laws.specs.ReadsAs.{ReadsAs}
 
 pub reads_as : {X : Type 0} (found : Tables → X) (read : Book → X) → ((trees : Trees) (t : Tables) (r : Rows) → IsStored trees t → Encodes t r → Beside t r → found t ≡ read (flat_book r)) → ReadsAs found read

@@ -4,7 +4,7 @@ use Rattle.sqlite.specs.Effect.{Database}
 use Rattle.sqlite.specs.State.{State}
 use Rattle.sql_tables.specs.Schema.{desk_schema}
 use Rattle.sql_tables.specs.DeskTables.{version}
-use Rattle.sql_tables.specs.Tables.{IsStored}
+use Rattle.sql_tables.specs.ByName.{IsStored}
 use Rattle.sql_setup.specs.Checked.{IsDesk}
 use Rattle.sql_setup.specs.Versions.{ShowsVersion}
 use Rattle.sql_setup.proofs.VersionShown.{shown_unchanged}

@@ -21,7 +21,11 @@ use Rattle.sql_tables.specs.Schema.{desk_schema}
 use Rattle.sql_tables.specs.TableDefinitions.{desk_table}
 use Rattle.sql_tables.specs.Layout.{desk_layout}
 use Rattle.sql_tables.specs.RecordRows.{desk_row}
-use Rattle.sql_tables.specs.Tables.{IsTableOf, IsStored}
+use Rattle.sql_tables.proofs.ByName.{each_table}
+use Rattle.sql_tables.specs.ByName as named
+use Rattle.sql_tables.specs.ByName.{Name, described, records, StandsAt, IsStored}
+use Rattle.sql_tables.specs.Description.{table}
+use Rattle.sql_tables.specs.Tables.{IsTableOf}
 use Rattle.sql_tables.specs.declared.records.DeskRecord.{DeskRecord}
 use Rattle.sql_setup.specs.Setup.{new_tables}
 use Rattle.std.proofs.Common.{codes}
@@ -45,22 +49,26 @@ abbrev OthersEmpty : Trees → Type 0
 OthersEmpty trees = AllByRecursion (λ t. t.tree ≢ 0 → trees t.tree ≡ []) desk_schema.tables
 
 new_stored : (identity : Identity) (key : List ℕ) (trees : Trees) → OthersEmpty trees → Stores desk_row (trees 0) (record { identity = identity; operator_key = key; day = None } ∷ []) → IsStored trees (new_tables identity key)
-new_stored identity key trees none desk = record {
-  desk = desk;
-  holidays = none_in trees _ (none.1.0 (λ e. omega (arith, e)));
-  companies = none_in trees _ (none.1.1.0 (λ e. omega (arith, e)));
-  submissions = none_in trees _ (none.1.1.1.0 (λ e. omega (arith, e)));
-  entries = none_in trees _ (none.1.1.1.1.0 (λ e. omega (arith, e)));
-  returns = none_in trees _ (none.1.1.1.1.1.0 (λ e. omega (arith, e)));
-  changes = none_in trees _ (none.1.1.1.1.1.1.0 (λ e. omega (arith, e)));
-  postings = none_in trees _ (none.1.1.1.1.1.1.1.0 (λ e. omega (arith, e)));
-  suspense = none_in trees _ (none.1.1.1.1.1.1.1.1.0 (λ e. omega (arith, e)));
-  files = none_in trees _ (none.1.1.1.1.1.1.1.1.1.0 (λ e. omega (arith, e)));
-  taken = none_in trees _ (none.1.1.1.1.1.1.1.1.1.1.0 (λ e. omega (arith, e)));
-  balances = none_in trees _ (none.1.1.1.1.1.1.1.1.1.1.1.0 (λ e. omega (arith, e)));
-  numbers = none_in trees _ (none.1.1.1.1.1.1.1.1.1.1.1.1.0 (λ e. omega (arith, e)));
-  authorizations = none_in trees _ (none.1.1.1.1.1.1.1.1.1.1.1.1.1.0 (λ e. omega (arith, e)));
-}
+new_stored identity key trees none desk = record { stands = stands }
+  where
+    empty : (n : Name) → (described n).tree ≢ 0 → StandsAt trees n []
+    empty n apart = none_in trees (table (described n)) (each_table (λ t. t.tree ≢ 0 → trees t.tree ≡ []) none n apart)
+
+    stands : (n : Name) → StandsAt trees n (records n (new_tables identity key))
+    stands named.desk = record { stored = desk; rise = (tt, tt) }
+    stands named.holidays = empty named.holidays (λ e. omega (arith, e))
+    stands named.companies = empty named.companies (λ e. omega (arith, e))
+    stands named.submissions = empty named.submissions (λ e. omega (arith, e))
+    stands named.entries = empty named.entries (λ e. omega (arith, e))
+    stands named.returns = empty named.returns (λ e. omega (arith, e))
+    stands named.changes = empty named.changes (λ e. omega (arith, e))
+    stands named.postings = empty named.postings (λ e. omega (arith, e))
+    stands named.suspense = empty named.suspense (λ e. omega (arith, e))
+    stands named.files = empty named.files (λ e. omega (arith, e))
+    stands named.taken = empty named.taken (λ e. omega (arith, e))
+    stands named.balances = empty named.balances (λ e. omega (arith, e))
+    stands named.numbers = empty named.numbers (λ e. omega (arith, e))
+    stands named.authorizations = empty named.authorizations (λ e. omega (arith, e))
 
 pub desk_put : (identity : Identity) (key : List ℕ) (old new : State) (count : ℕ) → Executes insert_desk (desk_row (record { identity = identity; operator_key = key; day = None })) old new (Ok count)
     → IsBlank desk_schema old.now → Holds desk_layout new.now (new_tables identity key)

@@ -14,7 +14,8 @@ use Rattle.sql_tables.specs.Schema.{desk_schema, schema_of}
 use Rattle.desk_store.specs.Rows.{Rows}
 use Rattle.sql_statements.specs.Promises.{GoesOn}
 use Rattle.sql_tables.specs.Layout.{desk_layout, IsBookIn, Keeps}
-use Rattle.sql_tables.specs.Tables.{Tables, IsStored}
+use Rattle.sql_tables.specs.ByName.{IsStored}
+use Rattle.sql_tables.specs.Tables.{Tables}
 use Rattle.sql_setup.specs.Setup.{new_tables, setup_layout, new_desk_edit, HasNewDesk}
 
 abbrev pub new_rows : Identity → (operator_key : List ℕ) → Rows

@@ -6,7 +6,8 @@ use Rattle.desk_book.specs.Book.{Book}
 use Rattle.sql_tables.specs.Schema.{desk_schema}
 use Rattle.sql_tables.specs.Layout.{desk_layout, Keeps, Sees}
 use Rattle.sql_tables.specs.DeskTables.{version}
-use Rattle.sql_tables.specs.Tables.{Tables, IsStored}
+use Rattle.sql_tables.specs.ByName.{IsStored}
+use Rattle.sql_tables.specs.Tables.{Tables}
 use Rattle.sql_setup.specs.Versions.{ShowsVersion}
 
 -- All tables and indexes are those of a desk, and the version is theirs. What is committed is seen: whatever records and

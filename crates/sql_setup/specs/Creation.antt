@@ -1,5 +1,5 @@
 -- How the tables and indexes of a desk's file come, one after another, in a blank file.
-use Rattle.std.specs.Prelude.{ℕ, List, take, ⊤, [], ◌∷◌}
+use Rattle.std.specs.Prelude.{List, ⊤, [], ◌∷◌}
 use Rattle.sqlite.specs.Schema.{Schema}
 use Rattle.sqlite.specs.State.{State}
 use Rattle.sql_statements.specs.Definitions.{IsBlank, IsCreate, IsCreateIndex}

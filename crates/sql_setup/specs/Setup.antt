@@ -10,7 +10,8 @@ use Rattle.desk_history.specs.declared.identity.Identity.{Identity}
 use Rattle.desk_book.specs.Book.{book_of}
 use Rattle.sql_tables.specs.Schema.{desk_schema, schema_of}
 use Rattle.sql_tables.specs.Layout.{desk_layout, Keeps, Sees}
-use Rattle.sql_tables.specs.Tables.{Tables, IsStored}
+use Rattle.sql_tables.specs.ByName.{IsStored}
+use Rattle.sql_tables.specs.Tables.{Tables}
 
 -- it has the row of the desk, and nothing else
 abbrev pub new_tables : Identity → (operator_key : List ℕ) → Tables

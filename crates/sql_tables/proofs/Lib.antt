@@ -1,3 +1,4 @@
+pub mod ByName
 pub mod CutRecords
 pub mod Decimals
 pub mod KeptRows

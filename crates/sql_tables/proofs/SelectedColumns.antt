@@ -2,9 +2,9 @@
 use Rattle.std.proofs.Common.{◌≡◌, ℕ, List, [], ◌∷◌, map, refl}
 use Rattle.sqlite_value.specs.Order.{Row, column}
 use Rattle.sqlite_value.specs.declared.value.Value.{Value}
-use Rattle.sql_tables.specs.QueryRows.{submission_head_row, submission_facts_row, order_and_settlement_row, numbered_entry_row, placed_entry_row, entry_return_row, return_line_row, change_line_row, posting_line_row, suspense_line_row, day_sum_row}
-use Rattle.sql_tables.specs.RecordRows.{identity_row, desk_row, submission_row, entry_row, return_row, change_row, posting_row, suspense_row, balance_row}
-use Rattle.sql_tables.specs.Selected.{head_of, facts_of, order_of, numbered_of, placed_of, return_of, return_line_of, change_line_of, posting_line_of, day_sum_of}
+use Rattle.sql_tables.specs.QueryRows.{keyed_identity_row, submission_head_row, submission_facts_row, order_and_settlement_row, numbered_entry_row, placed_entry_row, entry_return_row, return_line_row, change_line_row, posting_line_row, suspense_line_row, day_sum_row}
+use Rattle.sql_tables.specs.RecordRows.{desk_row, submission_row, entry_row, return_row, change_row, posting_row, suspense_row, balance_row}
+use Rattle.sql_tables.specs.Selected.{keyed_identity_of, head_of, facts_of, order_of, numbered_of, placed_of, return_of, return_line_of, change_line_of, posting_line_of, day_sum_of}
 use Rattle.sql_tables.specs.declared.records.BalanceRecord.{BalanceRecord}
 use Rattle.sql_tables.specs.declared.records.ChangeRecord.{ChangeRecord}
 use Rattle.sql_tables.specs.declared.records.DeskRecord.{DeskRecord}
@@ -17,7 +17,7 @@ use Rattle.sql_tables.specs.declared.records.SuspenseRecord.{SuspenseRecord}
 abbrev columns_in : Row → List ℕ → List Value
 columns_in row places = map (column row) places
 
-identity : (d : DeskRecord) → identity_row d.identity ≡ columns_in (desk_row d) (2 ∷ 3 ∷ 4 ∷ 5 ∷ [])
+identity : (d : DeskRecord) → keyed_identity_row (keyed_identity_of d) ≡ columns_in (desk_row d) (2 ∷ 3 ∷ 4 ∷ 5 ∷ 6 ∷ [])
 identity d = refl
 
 head : (s : SubmissionRecord) → submission_head_row (head_of s) ≡ columns_in (submission_row s) (0 ∷ 1 ∷ 2 ∷ 3 ∷ 4 ∷ 5 ∷ 6 ∷ 7 ∷ 8 ∷ 9 ∷ 10 ∷ [])

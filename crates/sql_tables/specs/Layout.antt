@@ -9,7 +9,8 @@ use Rattle.sql_tables.specs.Schema.{desk_schema}
 use Rattle.desk_store.specs.Rows.{Rows, flat_book}
 use Rattle.sql_tables.specs.Beside.{Beside}
 use Rattle.sql_tables.specs.Encodes.{Encodes}
-use Rattle.sql_tables.specs.Tables.{Tables, IsStored}
+use Rattle.sql_tables.specs.ByName.{IsStored}
+use Rattle.sql_tables.specs.Tables.{Tables}
 
 abbrev pub desk_layout : Layout
 desk_layout = record { Tables = Tables; schema = λ _. desk_schema; IsStored = IsStored }

@@ -1,4 +1,6 @@
 pub mod Beside
+pub mod ByName
+pub mod Change
 pub mod Columns
 pub mod Composed
 pub mod CutTables

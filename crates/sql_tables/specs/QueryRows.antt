@@ -1,7 +1,7 @@
 -- The rows that queries give: some columns of the rows of a table.
 use Rattle.std.specs.Prelude.{[], ◌∷◌, ◌++◌}
 use Rattle.sqlite.specs.Values.{or_null}
-use Rattle.sqlite_value.specs.declared.value.Value.TheVariants.{Int, Text}
+use Rattle.sqlite_value.specs.declared.value.Value.TheVariants.{Int, Text, Blob}
 use Rattle.sqlite_value.specs.Order.{Row}
 use Rattle.desk_history.specs.declared.operations.DaySum.{DaySum}
 use Rattle.desk_history.specs.declared.operations.SuspenseRow.{SuspenseRow}
@@ -16,9 +16,14 @@ use Rattle.sql_tables.specs.declared.row.items.ChangeLine.{ChangeLine}
 use Rattle.sql_tables.specs.declared.row.items.EntryReturn.{EntryReturn}
 use Rattle.sql_tables.specs.declared.row.items.ReturnLine.{ReturnLine}
 use Rattle.sql_tables.specs.declared.row.lines.PostingLine.{PostingLine}
+use Rattle.sql_tables.specs.declared.row.registry.KeyedIdentity.{KeyedIdentity}
 use Rattle.sql_tables.specs.declared.row.submissions.OrderAndSettlement.{OrderAndSettlement}
 use Rattle.sql_tables.specs.declared.row.submissions.SubmissionFacts.{SubmissionFacts}
 use Rattle.sql_tables.specs.declared.row.submissions.SubmissionHead.{SubmissionHead}
+
+-- odfi, odfi_name, destination, destination_name, operator_key
+abbrev pub keyed_identity_row : KeyedIdentity → Row
+keyed_identity_row d = let i = d.identity in Text i.odfi ∷ Text i.odfi_name ∷ Text i.destination ∷ Text i.destination_name ∷ Blob d.operator_key ∷ []
 
 -- company, ord, ref, sec, direction, description, asked, of_ref, of_index, lapsed, settled
 abbrev pub submission_head_row : SubmissionHead → Row

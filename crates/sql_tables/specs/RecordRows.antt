@@ -4,7 +4,6 @@ use Rattle.sqlite.specs.Values.{or_null}
 use Rattle.sqlite_value.specs.declared.value.Value.TheVariants.{Text}
 use Rattle.sqlite_value.specs.Order.{Row}
 use Rattle.desk_book.specs.declared.flat_rows.FileRow.{FileRow}
-use Rattle.desk_history.specs.declared.identity.Identity.{Identity}
 use Rattle.desk_history.specs.declared.operations.TakenFile.{TakenFile}
 use Rattle.desk_history.specs.Resolve.{is_savings}
 use Rattle.desk_history.specs.declared.reports.RetriedEntry.{RetriedEntry}
@@ -23,9 +22,6 @@ use Rattle.sql_tables.specs.declared.records.PostingRecord.{PostingRecord}
 use Rattle.sql_tables.specs.declared.records.ReturnRecord.{ReturnRecord}
 use Rattle.sql_tables.specs.declared.records.SubmissionRecord.{SubmissionRecord}
 use Rattle.sql_tables.specs.declared.records.SuspenseRecord.{SuspenseRecord}
-
-abbrev pub identity_row : Identity → Row
-identity_row i = Text i.odfi ∷ Text i.odfi_name ∷ Text i.destination ∷ Text i.destination_name ∷ []
 
 abbrev pub desk_row : DeskRecord → Row
 desk_row = row the.desk

@@ -25,12 +25,16 @@ use Rattle.sql_tables.specs.declared.row.items.ChangeLine.{ChangeLine}
 use Rattle.sql_tables.specs.declared.row.items.EntryReturn.{EntryReturn}
 use Rattle.sql_tables.specs.declared.row.items.ReturnLine.{ReturnLine}
 use Rattle.sql_tables.specs.declared.row.lines.PostingLine.{PostingLine}
+use Rattle.sql_tables.specs.declared.row.registry.KeyedIdentity.{KeyedIdentity}
 use Rattle.sql_tables.specs.declared.row.submissions.OrderAndSettlement.{OrderAndSettlement}
 use Rattle.sql_tables.specs.declared.row.submissions.SubmissionFacts.{SubmissionFacts}
 use Rattle.sql_tables.specs.declared.row.submissions.SubmissionHead.{SubmissionHead}
 
 abbrev pub IdentityFits : Identity → Type 0
 IdentityFits i = IsTrue (is_routing i.odfi) × IsText 23 i.odfi_name × IsTrue (is_routing i.destination) × IsText 23 i.destination_name
+
+abbrev pub KeyedIdentityFits : KeyedIdentity → Type 0
+KeyedIdentityFits d = IdentityFits d.identity × (length d.operator_key ≡ 32)
 
 -- ten digits of cents
 abbrev pub most_entry_limit : ℕ

@@ -3,6 +3,7 @@ use Rattle.desk_accounts.specs.declared.posting.Posting.{Posting}
 use Rattle.desk_history.specs.declared.operations.DaySum.{DaySum}
 use Rattle.sql_tables.specs.declared.records.BalanceRecord.{BalanceRecord}
 use Rattle.sql_tables.specs.declared.records.ChangeRecord.{ChangeRecord}
+use Rattle.sql_tables.specs.declared.records.DeskRecord.{DeskRecord}
 use Rattle.sql_tables.specs.declared.records.EntryRecord.{EntryRecord}
 use Rattle.sql_tables.specs.declared.records.ReturnRecord.{ReturnRecord}
 use Rattle.sql_tables.specs.declared.records.SubmissionRecord.{SubmissionRecord}
@@ -13,9 +14,13 @@ use Rattle.sql_tables.specs.declared.row.items.ChangeLine.{ChangeLine}
 use Rattle.sql_tables.specs.declared.row.items.EntryReturn.{EntryReturn}
 use Rattle.sql_tables.specs.declared.row.items.ReturnLine.{ReturnLine}
 use Rattle.sql_tables.specs.declared.row.lines.PostingLine.{PostingLine}
+use Rattle.sql_tables.specs.declared.row.registry.KeyedIdentity.{KeyedIdentity}
 use Rattle.sql_tables.specs.declared.row.submissions.OrderAndSettlement.{OrderAndSettlement}
 use Rattle.sql_tables.specs.declared.row.submissions.SubmissionFacts.{SubmissionFacts}
 use Rattle.sql_tables.specs.declared.row.submissions.SubmissionHead.{SubmissionHead}
+
+abbrev pub keyed_identity_of : DeskRecord → KeyedIdentity
+keyed_identity_of d = record { identity = d.identity; operator_key = d.operator_key }
 
 abbrev pub head_of : SubmissionRecord → SubmissionHead
 head_of s = record {

@@ -1,10 +1,9 @@
 -- What the queries of a desk find in its tables.
-use Rattle.std.specs.Prelude.{◌≡◌, ℕ, ℤ, Bool, false, ◌&&◌, ◌||◌, ◌==◌, nat_le, not, is_none, List, map, filter, find, reverse, length, sum_by, slice_get, IsPermutation, Option, Some, None, option_map, unwrap_or, bytes_eq}
+use Rattle.std.specs.Prelude.{◌≡◌, ℕ, ℤ, Bool, false, ◌&&◌, ◌||◌, ◌==◌, nat_le, not, is_none, List, map, filter, find, reverse, sum_by, slice_get, IsPermutation, Option, Some, None, option_map, unwrap_or, bytes_eq}
 use Rattle.std.specs.Ordering.{nat_cmp, on}
 use Rattle.desk_accounts.specs.declared.account.Account.{Account}
 use Rattle.desk_accounts.specs.declared.posting.Posting.{Posting}
 use Rattle.desk_accounts.specs.Posting.{same_account}
-use Rattle.desk_book.specs.declared.flat_rows.FileRow.{FileRow}
 use Rattle.desk_book.specs.declared.row.Row.{Row}
 use Rattle.desk_book.specs.Steps.{is_file}
 use Rattle.desk_history.specs.declared.operations.DaySum.{DaySum}
@@ -21,11 +20,8 @@ use Rattle.sql_tables.specs.RowParts.{row_of_parts}
 use Rattle.sql_tables.specs.Selected.{head_of, facts_of, order_of, amount_of, numbered_of, placed_of, return_of, return_line_of, change_line_of, day_sum_of}
 use Rattle.sql_tables.specs.Tables.{Tables}
 use Rattle.sql_tables.specs.declared.records.AuthorizationRecord.{AuthorizationRecord}
-use Rattle.sql_tables.specs.declared.records.BalanceRecord.{BalanceRecord}
-use Rattle.sql_tables.specs.declared.records.ChangeRecord.{ChangeRecord}
 use Rattle.sql_tables.specs.declared.records.EntryRecord.{EntryRecord}
 use Rattle.sql_tables.specs.declared.records.NumberRecord.{NumberRecord}
-use Rattle.sql_tables.specs.declared.records.PostingRecord.{PostingRecord}
 use Rattle.sql_tables.specs.declared.records.ReturnRecord.{ReturnRecord}
 use Rattle.sql_tables.specs.declared.records.SubmissionRecord.{SubmissionRecord}
 use Rattle.sql_tables.specs.declared.row.entries.EntryAmount.{EntryAmount}

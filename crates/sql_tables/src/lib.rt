@@ -23,5 +23,6 @@ pub use records::{
 pub use row::entries::{EntryAmount, NumberedEntry, PlacedEntry};
 pub use row::items::{ChangeLine, EntryReturn, ReturnLine};
 pub use row::lines::PostingLine;
+pub use row::registry::KeyedIdentity;
 pub use row::submissions::{OrderAndSettlement, SubmissionFacts, SubmissionHead};
 pub use row::{FromRow, read_only_column};

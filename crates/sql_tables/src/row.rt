@@ -9,7 +9,7 @@ use sqlite::Row;
 pub(crate) mod entries;
 pub(crate) mod items;
 pub(crate) mod lines;
-mod registry;
+pub(crate) mod registry;
 pub(crate) mod submissions;
 
 /// A `FromRow` is a value that a row stores.

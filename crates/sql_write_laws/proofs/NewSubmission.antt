@@ -31,6 +31,7 @@ use Rattle.desk_book.specs.Steps.{add_submission}
 use Rattle.desk_store.specs.Held.{held_row}
 use Rattle.desk_store.specs.Rows.{CompanyRow, Rows, flat_book, is_printed_of}
 use Rattle.desk_store.proofs.Added.{flat-add}
+use Rattle.sql_tables.specs.ByName as named
 use Rattle.sql_tables.specs.Beside.{AreNumbered, IsSentFrom, LapsesUnsettled, ReturnsSettled, is_of_company, is_submission, orders_of}
 use Rattle.sql_tables.specs.CutTables.{is_row}
 use Rattle.sql_tables.specs.Encodes.{AsksAs, HasStates, RetryFits, authorization_record, entry_record, entry_records, is_entry, is_submission_under, order_under, place_of_entry, submission_record}
@@ -347,7 +348,7 @@ submission_made c order s retry trees t b stored h admits told =
     none_back (submission_record r.printed) _ (sym (find-map (is_row c order) (submission_record r.printed) r.submissions) ∙ sym (ap (find (is_row c order)) e.submissions) ∙ told.0.0) in
     let unnamed : find (is_submission_under c s.reference) r.submissions ≡ None =
     none_back (submission_record r.printed) _ (sym (found_under c s.reference t r (e, h.beside)) ∙ told.0.1) in
-    let rising = ascending_from_map (λ x y. submission_cmp x y ≡ Less) (submission_record r.printed) r.submissions (subst (IsAscending (λ x y. submission_cmp x y ≡ Less)) e.submissions stored.submissions.rise) in
+    let rising = ascending_from_map (λ x y. submission_cmp x y ≡ Less) (submission_record r.printed) r.submissions (subst (IsAscending (λ x y. submission_cmp x y ≡ Less)) e.submissions (stored.stands named.submissions).rise) in
     let at : Split row_cmp it r.submissions =
     split row_cmp it cmp_total r.submissions rising (all_weaker (λ y. is_submission c order y ≡ false) (λ y. row_cmp it y ≡ Equal → ⊥) (key_apart c order s retry) r.submissions (none_passes (is_submission c order) r.submissions unnumbered)) in
     let own : order ≡ length (map (λ (x : CompanyRow). x.row) (filter (is_of_company c) r.submissions)) + 1 = admits ∙ ap (λ (k : Book). length (k.rows c) + 1) h.book in

@@ -23,6 +23,8 @@ use Rattle.sql_statements.proofs.KeyOrder.{rises_sorted, rises_updated}
 use Rattle.sql_statements.proofs.Upserts.{upserted, put_or_update}
 use Rattle.sql_statements.proofs.OneRow.{one_of}
 use Rattle.sql_statements.specs.Layouts.{Holds}
+use Rattle.sql_tables.specs.ByName as named
+use Rattle.sql_tables.proofs.ByName.{changed}
 use Rattle.sql_tables.specs.Schema.{desk_schema}
 use Rattle.sql_tables.specs.TableDefinitions.{balances_table}
 use Rattle.desk_accounts.specs.Posting.{same_account}
@@ -38,7 +40,6 @@ use Rattle.sql_queries.proofs.Conditions.{two}
 use Rattle.sql_queries.proofs.LinesShown.{accounts_are}
 use Rattle.sql_writes.proofs.Conditions.{number_is, same_text, same_number, equal_numbers, equal_both}
 use Rattle.sql_writes.proofs.Keys.{put_in_order}
-use Rattle.sql_writes.proofs.OtherTables.{balances_changed}
 use Rattle.sql_writes.specs.LineTexts.{upsert_balance}
 
 upsert_balance_is : IsUpsert desk_schema upsert_balance 11 24 balances_table (1 ∷ 2 ∷ []) (col 1 1 ∷ col 1 2 ∷ col 0 2 ∷ [])
@@ -100,9 +101,9 @@ module _ (n : BalanceRecord) where
       let s = balances_table in
       let done = upserted balance_row desk_schema 11 24 s.name s.columns s.primary s.uniques s.orders upsert_balance (1 ∷ 2 ∷ []) (col 1 1 ∷ col 1 2 ∷ col 0 2 ∷ []) upsert_balance_is refl (λ olds news. refl)
       n refl (row_kept s Null (balance_row n) refl refl) (λ i y. row_kept s (Int i) (balance_row y) refl refl) is_it set meets (λ i j k y. and_true _ ∙ int_is i j) (λ i j k y. refl)
-      old new count h.0 t.balances h.1.balances.stored (one_of _ is_it one_balance t.balances h.1.balances.rise) ran in
-      (done.0.schema_is, balances_changed old.now.trees new.now.trees t h.1 done.0.others _ (sorted (list_any is_it t.balances) refl done.1))
+      old new count h.0 t.balances (h.1.stands named.balances).stored (one_of _ is_it one_balance t.balances (h.1.stands named.balances).rise) ran in
+      (done.0.schema_is, changed named.balances old.now.trees new.now.trees t h.1 done.0.others _ (sorted (list_any is_it t.balances) refl done.1))
     where
       sorted : (b : Bool) → list_any is_it t.balances ≡ b → Stores balance_row (new.now.trees 24) (put_or_update is_it set n t.balances) → IsTableOf new.now.trees balances_table balance_row balance_cmp (with_balance n.account n.value_day n.cents t.balances)
-      sorted true e stores = rw e (record { stored = rw e at stores; rise = rises_updated balance_cmp is_it set keeps_order t.balances h.1.balances.rise })
-      sorted false e stores = rw e (put_in_order balance_row balance_cmp balance_total is_it new.now.trees balances_table n t.balances (λ y. equal_balances y n) e h.1.balances.rise (rw e at stores))
+      sorted true e stores = rw e (record { stored = rw e at stores; rise = rises_updated balance_cmp is_it set keeps_order t.balances (h.1.stands named.balances).rise })
+      sorted false e stores = rw e (put_in_order balance_row balance_cmp balance_total is_it new.now.trees balances_table n t.balances (λ y. equal_balances y n) e (h.1.stands named.balances).rise (rw e at stores))

@@ -1,13 +1,11 @@
 -- The statements of companies, against their records.
-use Rattle.std.proofs.Common.{◌≡◌, ℕ, ℤ, cond, map, true, false, not, ◌&&◌, ◌/◌, List, [], ◌∷◌, find, None, Some, Ok, refl, sym, ap, ◌∙◌, subst, arith, slice_get, bytes_eq, rules}
+use Rattle.std.proofs.Common.{◌≡◌, ℕ, ℤ, cond, map, true, false, List, [], ◌∷◌, None, Ok, refl, ap, ◌∙◌, bytes_eq}
 use Rattle.std.specs.Cmp.{IsTotalOrder}
 use Rattle.std.proofs.lemmas.Cmp.{on_total, nat_list_cmp_total}
 use Rattle.std.proofs.lemmas.Map.Text.{is_eq-slice_cmp}
 use Rattle.sqlite_tied.specs.Compute.{everything}
 use Rattle.sqlite.specs.Listing.{understood}
-use Rattle.sqlite.specs.declared.types.Value.TheVariants.{Null, Int}
 use Rattle.sqlite_value.specs.Keys.{first_key, plain}
-use Rattle.sqlite_value.specs.Order.{Row}
 use Rattle.sqlite_schema.specs.Rules.{agree}
 use Rattle.sqlite.specs.State.{State, Executes}
 use Rattle.sqlite_keyed.specs.Lists.{insert_sorted}
@@ -15,13 +13,12 @@ use Rattle.sqlite_sql.specs.Term.{col}
 use Rattle.sqlite_value.specs.declared.value.Value.TheVariants.{Text}
 use Rattle.sql_statements.specs.Statements.{IsInsert, IsUpdate, column_is}
 use Rattle.sql_statements.specs.StoredRows.{row_of}
-use Rattle.sql_statements.proofs.Casts.{row_kept}
-use Rattle.sql_statements.proofs.Changes.{updated}
 use Rattle.sql_statements.proofs.KeyOrder.{rises_updated}
 use Rattle.sql_statements.proofs.Conditions.{text_is, and_true}
-use Rattle.sql_statements.proofs.FreeKeys.{insert_rules}
-use Rattle.sql_statements.proofs.Inserts.{inserted}
 use Rattle.sql_statements.specs.Layouts.{Holds}
+use Rattle.sql_tables.specs.ByName as named
+use Rattle.sql_tables.specs.ByName.{described}
+use Rattle.sql_tables.specs.Description.{table}
 use Rattle.sql_tables.specs.Schema.{desk_schema}
 use Rattle.sql_tables.specs.TableDefinitions.{companies_table}
 use Rattle.desk_history.specs.Operator.{has_id}
@@ -34,14 +31,17 @@ use Rattle.sql_tables.specs.Layout.{desk_layout}
 use Rattle.sql_tables.specs.RecordRows.{company_row}
 use Rattle.sql_tables.specs.TableReads.{company_in}
 use Rattle.sql_tables.specs.Tables.{Tables}
+use Rattle.sql_writes.proofs.Puts.{holds_with, one_put, place_of, PutsOne, rows_updated}
 use Rattle.sql_writes.specs.Texts.{insert_company, update_limits}
 use Rattle.sql_writes.proofs.Conditions.{same_text, text_itself, taken_first}
 use Rattle.sql_writes.proofs.Keys.{find_none, key_free, put_in_order}
-use Rattle.sql_writes.proofs.OtherTables.{companies_changed}
 
-insert_company_is : IsInsert desk_schema insert_company 2 companies_table
+insert_company_is : IsInsert desk_schema insert_company (place_of named.companies) (table (described named.companies))
 unfolding understood everything
 insert_company_is = record { is = refl; plain = (refl, refl) }
+
+puts_company : PutsOne named.companies
+puts_company = record { is = insert_company_is; given = λ x. refl; kept = λ x. refl }
 
 company_total : IsTotalOrder company_cmp
 company_total = on_total (λ (k : Company). k.id) nat_list_cmp_total
@@ -54,14 +54,9 @@ pub company_put : (k : Company) (old new : State) (count : ℕ) → Executes ins
     → Holds desk_layout new.now (record t { companies = insert_sorted company_cmp k t.companies }) × (company_in k.id t ≡ None)
 company_put k old new count ran t h =
     let s = companies_table in
-    let done = inserted company_row desk_schema 2 4 s.name s.columns s.primary s.uniques s.orders insert_company insert_company_is refl (λ olds news. refl) k refl (row_kept s Null (company_row k) refl refl) old new count h.0 t.companies h.1.companies.stored ran in
-    let rules = insert_rules desk_schema insert_company 2 s insert_company_is (company_row k) old new count h.0 done.0.schema_is ran in
-    let free = key_free company_row desk_schema s (1 ∷ []) (has_id k.id) (same_id k.id) (λ db row any. taken_first _ _ any) new.now.trees k t.companies (text_itself k.id) done.1 rules.1.1.0 in (
-      (
-        done.0.schema_is,
-        companies_changed old.now.trees new.now.trees t h.1 done.0.others _
-            (put_in_order company_row company_cmp company_total (has_id k.id) new.now.trees s k t.companies (λ y. is_eq-slice_cmp y.id k.id) free h.1.companies.rise done.1),
-      ),
+    let made = one_put named.companies puts_company k old new count ran t h in
+    let free = key_free company_row desk_schema s (1 ∷ []) (has_id k.id) (same_id k.id) (λ db row any. taken_first _ _ any) new.now.trees k t.companies (text_itself k.id) made.has.stored made.unique in (
+      holds_with named.companies _ h made.has (put_in_order company_row company_cmp company_total (has_id k.id) new.now.trees s k t.companies (λ y. is_eq-slice_cmp y.id k.id) free (h.1.stands named.companies).rise made.has.stored),
       find_none (has_id k.id) t.companies free,
     )
 
@@ -72,11 +67,8 @@ update_limits_is = record { updates = refl; body = refl; alone = refl; plain = (
 pub limits_put : (id : List ℕ) (limits : Limits) (old new : State) (count : ℕ) → Executes update_limits (Text id ∷ number limits.entry ∷ number limits.credit ∷ number limits.debit ∷ []) old new (Ok count)
     → (t : Tables) → Holds desk_layout old.now t → Holds desk_layout new.now (record t { companies = map (with_limits id limits) t.companies })
 limits_put id limits old new count ran t h =
-    let s = companies_table in
     let set : Company → Company = λ k. record k { limits = limits } in
     let kept : (k : Company) → (cond (has_id id k) (set k) k).id ≡ k.id = λ k. elim (has_id id k) as (λ b. (cond b (set k) k).id ≡ k.id) [ true ↦ refl | false ↦ refl ] in
-    let done = updated company_row desk_schema 2 4 s.name s.columns s.primary s.uniques s.orders update_limits (column_is 1 0 ∷ []) (col 1 1 ∷ col 1 2 ∷ col 1 3 ∷ col 0 1 ∷ col 0 2 ∷ col 0 3 ∷ []) update_limits_is refl (λ olds news. refl)
-    (Text id ∷ number limits.entry ∷ number limits.credit ∷ number limits.debit ∷ []) (has_id id) set (λ i k. and_true _ ∙ text_is k.id id) (λ i k. refl) (λ i k. row_kept s (Int i) (company_row k) refl refl) old new count h.0 t.companies h.1.companies.stored ran in (
-      done.0.schema_is,
-      companies_changed old.now.trees new.now.trees t h.1 done.0.others _ (record { stored = done.1; rise = rises_updated company_cmp (has_id id) set (λ a b. λ i. text_cmp (kept a i) (kept b i)) t.companies h.1.companies.rise }),
-    )
+    let made = rows_updated named.companies update_limits (column_is 1 0 ∷ []) (Text id ∷ number limits.entry ∷ number limits.credit ∷ number limits.debit ∷ []) (has_id id) (λ i k. and_true _ ∙ text_is k.id id) old new count ran t h
+        (col 1 1 ∷ col 1 2 ∷ col 1 3 ∷ col 0 1 ∷ col 0 2 ∷ col 0 3 ∷ []) update_limits_is set (λ i k. refl) (λ k. refl) in
+    holds_with named.companies _ h made.0 (record { stored = made.0.stored; rise = rises_updated company_cmp (has_id id) set (λ a b. λ i. text_cmp (kept a i) (kept b i)) t.companies (h.1.stands named.companies).rise })

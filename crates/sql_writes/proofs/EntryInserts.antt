@@ -6,14 +6,15 @@ use Rattle.sqlite_tied.specs.Compute.{everything}
 use Rattle.sqlite.specs.Listing.{understood}
 use Rattle.sqlite.specs.State.{State, Executes}
 use Rattle.sqlite.specs.Values.{bound}
-use Rattle.sqlite.specs.declared.types.Value.TheVariants.{Null}
 use Rattle.sqlite_keyed.specs.Lists.{insert_sorted}
 use Rattle.sqlite_value.specs.declared.value.ValueRef.{ValueRef}
-use Rattle.sql_statements.proofs.Casts.{row_kept}
 use Rattle.sql_statements.proofs.StoredRows.{stores_in}
 use Rattle.sql_statements.specs.Edits.{Edit, each_edit, each_edit_from}
 use Rattle.sql_statements.specs.Layouts.{Holds}
 use Rattle.desk_rules.specs.declared.bodies.submission.Entry.{Entry}
+use Rattle.sql_tables.specs.ByName as named
+use Rattle.sql_tables.specs.ByName.{described}
+use Rattle.sql_tables.specs.Description.{table}
 use Rattle.sql_tables.specs.CutTables.{is_entry_row}
 use Rattle.sql_tables.specs.KeyOrders.{entry_cmp}
 use Rattle.sql_tables.specs.Layout.{desk_layout}
@@ -23,19 +24,21 @@ use Rattle.sql_tables.specs.TableDefinitions.{entries_table}
 use Rattle.sql_tables.specs.TableEdits.{put_entry_edit}
 use Rattle.sql_tables.specs.Tables.{Tables}
 use Rattle.sql_tables.specs.declared.records.EntryRecord.{EntryRecord}
+use Rattle.sql_writes.proofs.Puts.{holds_with, place_of, PutsSixteen, sixteen_put}
 use Rattle.sql_writes.specs.EntryEdits.{held_entry, held_rows, stored_values}
 use Rattle.sql_writes.specs.ManyRows.{IsInsertOfRows}
 use Rattle.sql_writes.specs.Texts.{insert_entries}
 use Rattle.sql_writes.proofs.Conditions.{taken_first}
 use Rattle.sql_writes.proofs.Keys.{find_none, few_have}
-use Rattle.sql_writes.proofs.ManyInserts.{inserted_rows, rows_rules}
 use Rattle.sql_writes.proofs.ManyKeys.{all_put, AreFree, put_in_turn}
-use Rattle.sql_writes.proofs.OtherTables.{entries_changed}
 use Rattle.sql_writes.proofs.SubmissionRows.{entry_kept, entry_total, same_entry, same_entry_key, entry_itself}
 
-insert_entries_is : IsInsertOfRows desk_schema insert_entries 4 entries_table 16
+insert_entries_is : IsInsertOfRows desk_schema insert_entries (place_of named.entries) (table (described named.entries)) 16
 unfolding understood everything
 insert_entries_is = record { is = refl; plain = (refl, refl) }
+
+puts_sixteen : PutsSixteen named.entries
+puts_sixteen = record { is = insert_entries_is; whole = refl; wide = λ x. refl; kept = entry_kept }
 
 abbrev has_key_of : EntryRecord → EntryRecord → Bool
 has_key_of x = is_entry_row x.company x.order x.index
@@ -44,11 +47,10 @@ records_put : (xs : List EntryRecord) → length xs ≡ 16 → (old new : State)
     → Holds desk_layout new.now (record t { entries = all_put entry_cmp xs t.entries }) × AreFree entry_cmp has_key_of xs t.entries
 records_put xs many old new count ran t h =
     let s = entries_table in
-    let done = inserted_rows entry_row desk_schema 4 9 s.name s.columns s.primary s.uniques s.orders insert_entries 16 insert_entries_is refl (λ olds news. refl) refl (λ x. refl) (λ x. row_kept s Null (entry_row x) refl (entry_kept x)) xs many old new count h.0 t.entries h.1.entries.stored ran in
-    let rules = rows_rules desk_schema insert_entries 4 s 16 insert_entries_is (flat_map entry_row xs) old new count h.0 done.0.schema_is ran in
-    let few = λ (x : EntryRecord). few_have entry_row desk_schema s (1 ∷ 2 ∷ 3 ∷ []) (has_key_of x) (same_entry x.company x.order x.index) (λ db row any. taken_first _ _ any) new.now.trees (xs ++ t.entries) done.1 rules.1.1.1.1.0 in
-    let put = put_in_turn entry_cmp has_key_of entry_total same_entry_key entry_itself xs t.entries few h.1.entries.rise in (
-      (done.0.schema_is, entries_changed old.now.trees new.now.trees t h.1 done.0.others _ (record { stored = stores_in entry_row _ _ _ put.0 done.1; rise = put.1 })),
+    let made = sixteen_put named.entries puts_sixteen xs many old new count ran t h in
+    let few = λ (x : EntryRecord). few_have entry_row desk_schema s (1 ∷ 2 ∷ 3 ∷ []) (has_key_of x) (same_entry x.company x.order x.index) (λ db row any. taken_first _ _ any) new.now.trees (xs ++ t.entries) made.has.stored made.unique in
+    let put = put_in_turn entry_cmp has_key_of entry_total same_entry_key entry_itself xs t.entries few (h.1.stands named.entries).rise in (
+      (holds_with named.entries _ h made.has (record { stored = stores_in entry_row _ _ _ put.0 made.has.stored; rise = put.1 })),
       put.2,
     )
 

@@ -24,6 +24,8 @@ use Rattle.sql_statements.proofs.Conditions.{text_is, int_least, int_most, and_t
 use Rattle.sql_statements.proofs.KeyOrder.{rises_updated}
 use Rattle.sql_statements.proofs.OneRow.{one_of}
 use Rattle.desk_history.specs.declared.sent_entry.SentEntry.{SentEntry}
+use Rattle.sql_tables.specs.ByName as named
+use Rattle.sql_tables.proofs.ByName.{changed}
 use Rattle.sql_tables.specs.Schema.{desk_schema}
 use Rattle.sql_tables.specs.TableDefinitions.{entries_table}
 use Rattle.sql_tables.specs.Columns.{number}
@@ -35,7 +37,6 @@ use Rattle.sql_tables.specs.Tables.{Tables}
 use Rattle.sql_tables.specs.declared.records.EntryRecord.{EntryRecord}
 use Rattle.sql_writes.proofs.Conditions as conditions
 use Rattle.sql_writes.proofs.KeyTests.{and_joined, none_is, one_entry}
-use Rattle.sql_writes.proofs.OtherTables.{entries_changed}
 use Rattle.sql_writes.proofs.PassingUpdates.{updated_passing}
 use Rattle.sql_writes.proofs.RunUpdates.{inside, marks, AreThere, still_there, run_is_marks}
 use Rattle.sql_writes.proofs.SubmissionRows.{entry_kept}
@@ -94,17 +95,17 @@ module _ (first : SentEntry) (before : ℕ) where
 
   run_after : (es : List SentEntry) (i n : ℕ) (t : Tables) → n ≡ before + i → list_all (λ p. is_named p.0 p.1) (enumerate_from i es) ≡ true
       → (each_edit_from mark_entry_edit n es).after t ≡ record t { entries = its_marks i (length es) t.entries }
-  run_after [] i n t at named = refl
-  run_after (e ∷ es) i n t at named =
-      let parts = and_parts (is_named i e) (list_all (λ p. is_named p.0 p.1) (enumerate_from (i + 1) es)) named in
+  run_after [] i n t at names = refl
+  run_after (e ∷ es) i n t at names =
+      let parts = and_parts (is_named i e) (list_all (λ p. is_named p.0 p.1) (enumerate_from (i + 1) es)) names in
       run_after es (i + 1) (n + 1) (mark_rest n e t) (omega (arith, at)) parts.1
       ∙ ap (λ xs. record t { entries = its_marks (i + 1) (length es) xs }) (marks_by i e parts.0 n t.entries ∙ ap (λ m. update_where (λ r. key r && (r.index == i)) (placed m) t.entries) at)
 
   run_tells : (es : List SentEntry) (i n : ℕ) (t : Tables) → n ≡ before + i → list_all (λ p. is_named p.0 p.1) (enumerate_from i es) ≡ true → Unsent i (length es) t.entries
       → (each_edit_from mark_entry_edit n es).Tells t
-  run_tells [] i n t at named there = tt
-  run_tells (e ∷ es) i n t at named there =
-      let parts = and_parts (is_named i e) (list_all (λ p. is_named p.0 p.1) (enumerate_from (i + 1) es)) named in
+  run_tells [] i n t at names there = tt
+  run_tells (e ∷ es) i n t at names there =
+      let parts = and_parts (is_named i e) (list_all (λ p. is_named p.0 p.1) (enumerate_from (i + 1) es)) names in
       let one = and_parts (bytes_eq e.company first.company && (e.order == first.order)) (e.index == i) parts.0 in
       let two = and_parts (bytes_eq e.company first.company) (e.order == first.order) one.0 in
       let is_it : is_entry_row e.company e.order e.index ≡ (λ r. key r && (r.index == i)) =
@@ -204,25 +205,25 @@ module _ (first : SentEntry) (before last : ℕ) (room : before + last < 2 ^ 63)
       → (old new : State) → Executes update_run its_params old new (Ok (length es)) → (t : Tables) → Holds desk_layout old.now t
       → Holds desk_layout new.now ((each_edit_from mark_entry_edit place es).after t) × (each_edit_from mark_entry_edit place es).Tells t
   run_marked es ends head run place at old new ran t h =
-      let named = run_named first es head run in
+      let names = run_named first es head run in
       let s = entries_table in
       let done = updated_passing entry_row desk_schema 4 9 s.name s.columns s.primary s.uniques s.orders update_run its_tests _ update_run_is refl (λ olds news. refl)
-      its_params is_it set tested made (λ i r. row_kept s (Int i) (entry_row r) refl (entry_kept r)) old new (length es) h.0 t.entries h.1.entries.stored ran in
+      its_params is_it set tested made (λ i r. row_kept s (Int i) (entry_row r) refl (entry_kept r)) old new (length es) h.0 t.entries (h.1.stands named.entries).stored ran in
       let key = is_of first in
       let index = λ (r : EntryRecord). r.index in
       let within = λ (r : EntryRecord) (it : is_it r ≡ true). (let parts = parts_of r it in inside key index placed (λ n r. refl) (λ n r. refl) before (length es) first.index r parts.0 parts.1 (omega (arith, parts.2, ends))) in
-      let one = λ (i : ℕ). one_of _ (λ (r : EntryRecord). key r && (r.index == i)) (one_entry first.company first.order i) t.entries h.1.entries.rise in
+      let one = λ (i : ℕ). one_of _ (λ (r : EntryRecord). key r && (r.index == i)) (one_entry first.company first.order i) t.entries (h.1.stands named.entries).rise in
       let it = run_is_marks key index placed (λ n r. refl) (λ n r. refl) before t.entries one is_it (length es) first.index within (sym done.2) in
-      let after = run_after first before es first.index place t at named in (
+      let after = run_after first before es first.index place t at names in (
         (
           done.0.schema_is,
           subst (λ (u : Tables). desk_layout.IsStored new.now.trees u) (sym after)
-              (entries_changed old.now.trees new.now.trees t h.1 done.0.others _ (record {
+              (changed named.entries old.now.trees new.now.trees t h.1 done.0.others _ (record {
                 stored = subst (λ xs. Stores entry_row (new.now.trees 9) xs) it.0 done.1;
-                rise = subst (λ xs. IsInOrder entry_cmp xs) it.0 (rises_updated entry_cmp is_it set keeps_order t.entries h.1.entries.rise);
+                rise = subst (λ xs. IsInOrder entry_cmp xs) it.0 (rises_updated entry_cmp is_it set keeps_order t.entries (h.1.stands named.entries).rise);
               })),
         ),
-        run_tells first before es first.index place t at named (weaker (length es) first.index it.1),
+        run_tells first before es first.index place t at names (weaker (length es) first.index it.1),
       )
     where
       weaker : (k i : ℕ) → AreThere (is_of first) (λ r. r.index) placed (λ n r. refl) (λ n r. refl) before is_it i k t.entries

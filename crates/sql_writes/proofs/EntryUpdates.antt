@@ -8,17 +8,15 @@ use Rattle.sqlite.specs.Listing.{understood}
 use Rattle.sqlite.specs.State.{State, Executes}
 use Rattle.sqlite_sql.specs.Term.{col, holds}
 use Rattle.sqlite_value.specs.Order.{Row}
-use Rattle.sqlite_value.specs.declared.value.Value.TheVariants.{Int, Text}
+use Rattle.sqlite_value.specs.declared.value.Value.TheVariants.{Text}
 use Rattle.sql_statements.specs.Statements.{IsUpdate, column_is, null_at}
 use Rattle.sql_statements.specs.StoredRows.{row_of, Stores}
-use Rattle.sql_statements.proofs.Casts.{row_kept}
-use Rattle.sql_statements.proofs.Changes.{updated_counted}
 use Rattle.sql_statements.proofs.Conditions.{text_is, and_true}
 use Rattle.sql_statements.proofs.KeyOrder.{rises_updated}
 use Rattle.sql_statements.proofs.OneRow.{one_of, one_found, updates_agree}
 use Rattle.sql_statements.specs.Layouts.{Holds}
+use Rattle.sql_tables.specs.ByName as named
 use Rattle.sql_tables.specs.Schema.{desk_schema}
-use Rattle.sql_tables.specs.TableDefinitions.{entries_table}
 use Rattle.desk_history.specs.declared.sent_entry.SentEntry.{SentEntry}
 use Rattle.sql_tables.specs.Columns.{number}
 use Rattle.sql_tables.specs.CutTables.{is_entry_row, mark_entry}
@@ -28,8 +26,8 @@ use Rattle.sql_tables.specs.RecordRows.{entry_row}
 use Rattle.sql_tables.specs.TableEdits.{IsUnsent}
 use Rattle.sql_tables.specs.Tables.{Tables}
 use Rattle.sql_tables.specs.declared.records.EntryRecord.{EntryRecord}
+use Rattle.sql_writes.proofs.Puts.{holds_with, rows_updated}
 use Rattle.sql_writes.proofs.Conditions as conditions
-use Rattle.sql_writes.proofs.OtherTables.{entries_changed}
 use Rattle.sql_writes.proofs.SubmissionRows.{entry_kept}
 use Rattle.sql_writes.specs.CutTexts.{update_entry}
 use Rattle.sql_writes.proofs.KeyTests.{and_joined, none_is, one_entry}
@@ -81,18 +79,13 @@ module _ (n : ℕ) (e : SentEntry) where
   pub entry_marked : (old new : State) → Executes update_entry its_params old new (Ok 1) → (t : Tables) → Holds desk_layout old.now t
       → Holds desk_layout new.now (record t { entries = mark_entry n e t.entries }) × IsUnsent e t
   entry_marked old new ran t h =
-      let s = entries_table in
       let test = is_unsent_at e.company e.order e.index in
-      let done = updated_counted entry_row desk_schema 4 9 s.name s.columns s.primary s.uniques s.orders update_entry (column_is 1 0 ∷ column_is 2 1 ∷ column_is 3 2 ∷ null_at 12 ∷ []) _ update_entry_is refl (λ olds news. refl)
-      its_params test set tested (λ i r. refl) (λ i r. row_kept s (Int i) (entry_row r) refl (entry_kept r)) old new 1 h.0 t.entries h.1.entries.stored ran in
-      let it = one_found test is_it (λ r here. (unsent_parts e.company e.order e.index r here).0) t.entries (one_of _ is_it (one_entry e.company e.order e.index) t.entries h.1.entries.rise) (sym done.2) in
+      let made = rows_updated named.entries update_entry (column_is 1 0 ∷ column_is 2 1 ∷ column_is 3 2 ∷ null_at 12 ∷ []) its_params test tested old new 1 ran t h _ update_entry_is set (λ i r. refl) entry_kept in
+      let it = one_found test is_it (λ r here. (unsent_parts e.company e.order e.index r here).0) t.entries (one_of _ is_it (one_entry e.company e.order e.index) t.entries (h.1.stands named.entries).rise) (sym made.1) in
       let parts = unsent_parts e.company e.order e.index it.row it.passes in (
-        (
-          done.0.schema_is,
-          entries_changed old.now.trees new.now.trees t h.1 done.0.others _ (record {
-            stored = subst (Stores entry_row (new.now.trees 9)) (updates_agree test is_it set t.entries it.same) done.1;
-            rise = rises_updated entry_cmp is_it set keeps_order t.entries h.1.entries.rise;
-          }),
-        ),
+        holds_with named.entries _ h made.0 (record {
+          stored = subst (Stores entry_row (new.now.trees 9)) (updates_agree test is_it set t.entries it.same) made.0.stored;
+          rise = rises_updated entry_cmp is_it set keeps_order t.entries (h.1.stands named.entries).rise;
+        }),
         record { record_of = it.row; found = it.found; unplaced = parts.1 },
       )

@@ -7,16 +7,15 @@ use Rattle.std.proofs.lemmas.Cmp.{on_total, then_total, nat_cmp_total}
 use Rattle.sqlite_tied.specs.Compute.{everything}
 use Rattle.sqlite.specs.Listing.{understood}
 use Rattle.sqlite.specs.State.{State, Executes}
-use Rattle.sqlite.specs.declared.types.Value.TheVariants.{Null}
 use Rattle.sqlite_keyed.specs.Lists.{insert_sorted}
 use Rattle.sqlite_schema.specs.Rules.{agree}
 use Rattle.sqlite_value.specs.Keys.{first_key, plain}
 use Rattle.sql_statements.specs.Statements.{IsInsert}
 use Rattle.sql_statements.specs.StoredRows.{row_of}
-use Rattle.sql_statements.proofs.Casts.{row_kept}
-use Rattle.sql_statements.proofs.FreeKeys.{insert_rules}
-use Rattle.sql_statements.proofs.Inserts.{inserted}
 use Rattle.sql_statements.specs.Layouts.{Holds}
+use Rattle.sql_tables.specs.ByName as named
+use Rattle.sql_tables.specs.ByName.{described}
+use Rattle.sql_tables.specs.Description.{table}
 use Rattle.sql_tables.specs.Schema.{desk_schema}
 use Rattle.sql_tables.specs.TableDefinitions.{files_table}
 use Rattle.desk_book.specs.declared.flat_rows.FileRow.{FileRow}
@@ -25,14 +24,17 @@ use Rattle.sql_tables.specs.KeyOrders.{file_cmp}
 use Rattle.sql_tables.specs.Layout.{desk_layout}
 use Rattle.sql_tables.specs.RecordRows.{file_row}
 use Rattle.sql_tables.specs.Tables.{Tables}
+use Rattle.sql_writes.proofs.Puts.{holds_with, one_put, place_of, PutsOne}
 use Rattle.sql_writes.proofs.Conditions.{number_itself, equal_numbers, equal_both, taken_first}
 use Rattle.sql_writes.proofs.Keys.{find_none, key_free, key_letter, key_number, put_in_order}
-use Rattle.sql_writes.proofs.OtherTables.{files_changed}
 use Rattle.sql_writes.specs.CutTexts.{insert_file}
 
-insert_file_is : IsInsert desk_schema insert_file 9 files_table
+insert_file_is : IsInsert desk_schema insert_file (place_of named.files) (table (described named.files))
 unfolding understood everything
 insert_file_is = record { is = refl; plain = (refl, refl) }
+
+puts_file : PutsOne named.files
+puts_file = record { is = insert_file_is; given = λ x. refl; kept = λ x. refl }
 
 file_total : IsTotalOrder file_cmp
 file_total = then_total (on_total (λ (f : FileRow). f.day) nat_cmp_total) (on_total (λ (f : FileRow). f.modifier) nat_cmp_total)
@@ -49,13 +51,9 @@ pub file_put : (f : FileRow) (old new : State) (count : ℕ) → Executes insert
 file_put f old new count ran t h =
     let s = files_table in
     let test = is_file f.day f.modifier in
-    let done = inserted file_row desk_schema 9 20 s.name s.columns s.primary s.uniques s.orders insert_file insert_file_is refl (λ olds news. refl) f refl (row_kept s Null (file_row f) refl refl) old new count h.0 t.files h.1.files.stored ran in
-    let rules = insert_rules desk_schema insert_file 9 s insert_file_is (file_row f) old new count h.0 done.0.schema_is ran in
-    let free = key_free file_row desk_schema s (1 ∷ 2 ∷ []) test (same_file f.day f.modifier) (λ db row any. taken_first _ _ any) new.now.trees f t.files (and_from _ _ (number_itself f.day) (number_itself f.modifier)) done.1 rules.1.1.1.1.1.1.1.1.1.0 in
+    let made = one_put named.files puts_file f old new count ran t h in
+    let free = key_free file_row desk_schema s (1 ∷ 2 ∷ []) test (same_file f.day f.modifier) (λ db row any. taken_first _ _ any) new.now.trees f t.files (and_from _ _ (number_itself f.day) (number_itself f.modifier)) made.has.stored made.unique in
     let same = λ (g : FileRow). equal_both (nat_cmp g.day f.day) (nat_cmp g.modifier f.modifier) ∙ ap₂ (λ p q. p && q) (equal_numbers g.day f.day) (equal_numbers g.modifier f.modifier) in (
-      (
-        done.0.schema_is,
-        files_changed old.now.trees new.now.trees t h.1 done.0.others _ (put_in_order file_row file_cmp file_total test new.now.trees s f t.files same free h.1.files.rise done.1),
-      ),
+      holds_with named.files _ h made.has (put_in_order file_row file_cmp file_total test new.now.trees s f t.files same free (h.1.stands named.files).rise made.has.stored),
       find_none test t.files free,
     )

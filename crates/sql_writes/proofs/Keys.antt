@@ -1,5 +1,5 @@
 -- What the key of a table tells of a row that is put in, and where that row stands.
-use Rattle.std.proofs.Common.{◌≡◌, ◌≤◌, ℤ, ℕ, Bool, true, false, not, ◌&&◌, List, [], ◌∷◌, filter, length, find, None, refl, sym, ap, ◌∙◌, ◌==◌, bytes_eq, Ordering, is_eq, int_eq}
+use Rattle.std.proofs.Common.{◌≡◌, ◌≤◌, ℤ, ℕ, Bool, true, false, not, ◌&&◌, List, [], ◌∷◌, filter, length, find, None, refl, ap, ◌∙◌, ◌==◌, bytes_eq, Ordering, is_eq, int_eq}
 use Rattle.std.specs.Cmp.{IsTotalOrder}
 use Rattle.std.specs.List.{AllByRecursion, list_any}
 use Rattle.std.proofs.lemmas.Bool.{and_from, or_parts}

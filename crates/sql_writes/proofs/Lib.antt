@@ -1,12 +1,11 @@
 -- The lemmas, by what is written:
 --   submissions               EntryInserts, SubmissionRows
---   many rows at once         ArrayLoops, ManyEdits, ManyFree, ManyInserts, ManyKeys, ValueRows
+--   many rows at once         ArrayLoops, ManyEdits, ManyFree, ManyInserts, ManyKeys, Puts, ValueRows
 --   days, companies, limits   Companies, Days, Holidays
 --   lines and balances        BalanceLists, BalanceUpserts, JoinedLines, LineSums, PendingSums, PostingInserts
 --   cuts                      EntryRuns, EntryUpdates, FileInserts, KeyTests, NumberRanges, PassingUpdates,
 --                             PlacedEntries, RangePuts, RunUpdates, SubmissionUpdates
 --   incoming files            ChangeInserts, FoundReturns, NamedSubmissions, ReturnInserts, SuspenseInserts, TakenInserts
--- Conditions, Keys, LastNumbers, Numbered, NumberedRows, OtherTables and RunLists are lemmas on which several
 -- of these stand.
 mod ArrayLoops
 mod BalanceLists
@@ -34,11 +33,11 @@ mod NamedSubmissions
 mod NumberRanges
 mod Numbered
 pub mod NumberedRows
-pub mod OtherTables
 mod PassingUpdates
 mod PendingSums
 mod PlacedEntries
 mod PostingInserts
+pub mod Puts
 mod RangePuts
 mod ReturnInserts
 mod RunLists

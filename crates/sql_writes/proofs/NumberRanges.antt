@@ -1,7 +1,6 @@
 -- A cut takes out the numbers of a range of sequences and puts in the new ones: that is each given its place.
-use Rattle.std.proofs.Common.{◌≡◌, ◌≤◌, ◌<◌, ◌+◌, ◌==◌, ℕ, zero, suc, ℤ, pos, Bool, true, false, not, ◌&&◌, ◌||◌, cond, List, [], ◌∷◌, ◌++◌, map, filter, length, slice_get, Some, Ok, refl, sym, ap, ap₂, ◌∙◌, subst, arith, is_ge, is_le, int_cmp, nat_le}
-use Rattle.std.specs.Int.{IsInRange}
-use Rattle.std.specs.List.{AllByRecursion, enumerate_from, flat_map, list_all}
+use Rattle.std.proofs.Common.{◌≡◌, ◌≤◌, ◌+◌, ◌==◌, ℕ, suc, ℤ, pos, Bool, true, false, not, ◌&&◌, cond, List, [], ◌∷◌, ◌++◌, map, length, slice_get, Some, Ok, refl, sym, ap, ◌∙◌, subst, arith, is_ge, is_le, int_cmp, nat_le}
+use Rattle.std.specs.List.{enumerate_from, flat_map, list_all}
 use Rattle.std.proofs.lemmas.Bool.{and_parts, and_from}
 use Rattle.std.proofs.lemmas.Int.{ints}
 use Rattle.std.proofs.lemmas.Cmp.{on_total, nat_cmp_total}
@@ -14,22 +13,18 @@ use Rattle.sqlite.specs.Values.{bound}
 use Rattle.sqlite_keyed.specs.Lists.{insert_sorted, delete_where}
 use Rattle.sqlite_schema.specs.Rules.{agree}
 use Rattle.sqlite_sql.specs.Term.{holds}
-use Rattle.sqlite_trees.specs.Tree.{IsAscending}
 use Rattle.sqlite_value.specs.Keys.{first_key, plain}
-use Rattle.sqlite_value.specs.Order.{Row}
-use Rattle.sqlite_value.specs.declared.value.Value.TheVariants.{Null}
 use Rattle.sqlite_value.specs.declared.value.ValueRef.{ValueRef}
 use Rattle.sql_statements.specs.Edits.{each_edit, each_edit_from}
 use Rattle.sql_statements.specs.Layouts.{Holds}
 use Rattle.sql_statements.specs.Statements.{IsDelete, IsInsert, at_least, at_most}
 use Rattle.sql_statements.specs.StoredRows.{row_of}
-use Rattle.sql_statements.proofs.Casts.{row_kept}
-use Rattle.sql_statements.proofs.Changes.{deleted}
 use Rattle.sql_statements.proofs.Conditions.{int_least, int_most, and_true}
-use Rattle.sql_statements.proofs.FreeKeys.{insert_rules}
-use Rattle.sql_statements.proofs.Inserts.{inserted}
 use Rattle.sql_statements.proofs.StoredRows.{stores_in}
 use Rattle.desk_history.specs.declared.sent_entry.SentEntry.{SentEntry}
+use Rattle.sql_tables.specs.ByName as named
+use Rattle.sql_tables.specs.ByName.{described}
+use Rattle.sql_tables.specs.Description.{table}
 use Rattle.sql_tables.specs.Schema.{desk_schema}
 use Rattle.sql_tables.specs.TableDefinitions.{numbers_table}
 use Rattle.sql_tables.specs.Columns.{number}
@@ -39,13 +34,12 @@ use Rattle.sql_tables.specs.Layout.{desk_layout}
 use Rattle.sql_tables.specs.RecordRows.{number_row}
 use Rattle.sql_tables.specs.Tables.{Tables}
 use Rattle.sql_tables.specs.declared.records.NumberRecord.{NumberRecord}
+use Rattle.sql_writes.proofs.Puts.{holds_with, one_put, place_of, PutsOne, PutsSixteen, rows_deleted, sixteen_put}
 use Rattle.sql_writes.proofs.Conditions.{taken_first, number_itself, equal_numbers, same_number}
 use Rattle.sql_writes.proofs.EntryInserts.{bound_flat}
 use Rattle.sql_writes.proofs.Keys.{few_have, key_number}
-use Rattle.sql_writes.proofs.ManyInserts.{inserted_rows, rows_rules}
 use Rattle.sql_writes.proofs.ManyKeys.{all_put, put_in_turn}
 use Rattle.sql_writes.proofs.NumberedRows.{numbered_in_order}
-use Rattle.sql_writes.proofs.OtherTables.{numbers_changed}
 use Rattle.sql_writes.proofs.RangePuts.{put_is, in_range, range_is, range_has, range_put, rises_put, rises_kept, none_gone}
 use Rattle.sql_writes.specs.CutTexts.{delete_numbers, insert_number, insert_numbers}
 use Rattle.sql_writes.specs.ManyRows.{IsInsertOfRows}
@@ -64,25 +58,26 @@ delete_numbers_is : IsDelete desk_schema delete_numbers 12 32 (at_least 1 0 ∷ 
 unfolding understood everything
 delete_numbers_is = record { deletes = refl; body = refl; alone = refl; plain = (refl, refl) }
 
-insert_number_is : IsInsert desk_schema insert_number 12 numbers_table
+insert_number_is : IsInsert desk_schema insert_number (place_of named.numbers) (table (described named.numbers))
 unfolding understood everything
 insert_number_is = record { is = refl; plain = (refl, refl) }
 
-insert_numbers_is : IsInsertOfRows desk_schema insert_numbers 12 numbers_table 16
+puts_number : PutsOne named.numbers
+puts_number = record { is = insert_number_is; given = λ x. refl; kept = λ x. refl }
+
+insert_numbers_is : IsInsertOfRows desk_schema insert_numbers (place_of named.numbers) (table (described named.numbers)) 16
 unfolding understood everything
 insert_numbers_is = record { is = refl; plain = (refl, refl) }
+
+puts_sixteen : PutsSixteen named.numbers
+puts_sixteen = record { is = insert_numbers_is; whole = refl; wide = λ x. refl; kept = λ x. refl }
 
 pub numbers_cleared : (from to : ℕ) (old new : State) (count : ℕ) → Executes delete_numbers (number from ∷ number to ∷ []) old new (Ok count) → (t : Tables) → Holds desk_layout old.now t
     → Holds desk_layout new.now ((clear_numbers_edit from to).after t) × (clear_numbers_edit from to).Tells t
 numbers_cleared from to old new count ran t h =
-    let s = numbers_table in
-    let done = deleted number_row desk_schema 12 32 s.name s.columns s.primary s.uniques s.orders delete_numbers (at_least 1 0 ∷ at_most 1 1 ∷ []) delete_numbers_is refl (λ olds news. refl)
-    (number from ∷ number to ∷ []) (is_within from to) tested old new count h.0 t.numbers h.1.numbers.stored ran in (
-      (
-        done.0.schema_is,
-        numbers_changed old.now.trees new.now.trees t h.1 done.0.others _ (record { stored = done.1; rise = rises_kept (λ (n : NumberRecord). n.sequence) (is_within from to) t.numbers h.1.numbers.rise }),
-      ),
-      h.1.numbers.rise,
+    let made = rows_deleted named.numbers delete_numbers (at_least 1 0 ∷ at_most 1 1 ∷ []) (number from ∷ number to ∷ []) (is_within from to) tested old new count ran t h delete_numbers_is in (
+      holds_with named.numbers _ h made (record { stored = made.stored; rise = rises_kept (λ (n : NumberRecord). n.sequence) (is_within from to) t.numbers (h.1.stands named.numbers).rise }),
+      (h.1.stands named.numbers).rise,
     )
   where
     tested : (i : ℤ) (n : NumberRecord) → list_all (holds ((number from ∷ number to ∷ []) ∷ row_of number_row (i, n) ∷ [])) (at_least 1 0 ∷ at_most 1 1 ∷ []) ≡ is_within from to n
@@ -94,13 +89,8 @@ numbers_cleared from to old new count ran t h =
 pub number_inserted : (n : NumberRecord) (old new : State) (count : ℕ) → Executes insert_number (number_row n) old new (Ok count) → (t : Tables) → Holds desk_layout old.now t
     → Holds desk_layout new.now (record t { numbers = insert_sorted number_cmp n t.numbers })
 number_inserted n old new count ran t h =
-    let s = numbers_table in
-    let done = inserted number_row desk_schema 12 32 s.name s.columns s.primary s.uniques s.orders insert_number insert_number_is refl (λ olds news. refl) n refl (row_kept s Null (number_row n) refl refl) old new count h.0 t.numbers h.1.numbers.stored ran in
-    let rules = insert_rules desk_schema insert_number 12 s insert_number_is (number_row n) old new count h.0 done.0.schema_is ran in (
-      done.0.schema_is,
-      numbers_changed old.now.trees new.now.trees t h.1 done.0.others _
-          (numbered_in_order (λ (m : NumberRecord). m.sequence) (λ (m : NumberRecord). number m.place ∷ []) s (λ db row any. taken_first _ _ any) new.now.trees n t.numbers h.1.numbers.rise done.1 rules.1.1.1.1.1.1.1.1.1.1.1.1.0),
-    )
+    let made = one_put named.numbers puts_number n old new count ran t h in
+    holds_with named.numbers _ h made.has (numbered_in_order (λ (m : NumberRecord). m.sequence) (λ (m : NumberRecord). number m.place ∷ []) numbers_table (λ db row any. taken_first _ _ any) new.now.trees n t.numbers (h.1.stands named.numbers).rise made.has.stored made.unique)
 
 same_sequence : (s : ℕ) (a b : ℤ × NumberRecord) → has_sequence s a.1 ≡ true → has_sequence s b.1 ≡ true → agree plain (1 ∷ []) (row_of number_row b) (1 ∷ []) (row_of number_row a) ≡ true
 unfolding first_key
@@ -110,12 +100,11 @@ pub records_inserted : (xs : List NumberRecord) → length xs ≡ 16 → (old ne
     → Holds desk_layout new.now (record t { numbers = all_put number_cmp xs t.numbers })
 records_inserted xs many old new count ran t h =
     let s = numbers_table in
-    let done = inserted_rows number_row desk_schema 12 32 s.name s.columns s.primary s.uniques s.orders insert_numbers 16 insert_numbers_is refl (λ olds news. refl) refl (λ n. refl) (λ n. row_kept s Null (number_row n) refl refl) xs many old new count h.0 t.numbers h.1.numbers.stored ran in
-    let rules = rows_rules desk_schema insert_numbers 12 s 16 insert_numbers_is (flat_map number_row xs) old new count h.0 done.0.schema_is ran in
+    let made = sixteen_put named.numbers puts_sixteen xs many old new count ran t h in
     let has_key_of = λ (x : NumberRecord). has_sequence x.sequence in
-    let few = λ (x : NumberRecord). few_have number_row desk_schema s (1 ∷ []) (has_key_of x) (same_sequence x.sequence) (λ db row any. taken_first _ _ any) new.now.trees (xs ++ t.numbers) done.1 rules.1.1.1.1.1.1.1.1.1.1.1.1.0 in
-    let put = put_in_turn number_cmp has_key_of (on_total (λ (m : NumberRecord). m.sequence) nat_cmp_total) (λ x y. equal_numbers y.sequence x.sequence) (λ x. number_itself x.sequence) xs t.numbers few h.1.numbers.rise in
-    (done.0.schema_is, numbers_changed old.now.trees new.now.trees t h.1 done.0.others _ (record { stored = stores_in number_row _ _ _ put.0 done.1; rise = put.1 }))
+    let few = λ (x : NumberRecord). few_have number_row desk_schema s (1 ∷ []) (has_key_of x) (same_sequence x.sequence) (λ db row any. taken_first _ _ any) new.now.trees (xs ++ t.numbers) made.has.stored made.unique in
+    let put = put_in_turn number_cmp has_key_of (on_total (λ (m : NumberRecord). m.sequence) nat_cmp_total) (λ x y. equal_numbers y.sequence x.sequence) (λ x. number_itself x.sequence) xs t.numbers few (h.1.stands named.numbers).rise in
+    (holds_with named.numbers _ h made.has (record { stored = stores_in number_row _ _ _ put.0 made.has.stored; rise = put.1 }))
 
 -- ---- each of them
 
@@ -223,9 +212,9 @@ pub numbers_renewed : (first : SentEntry) (es : List SentEntry) (to n : ℕ) →
     → (t : Tables) → (clear_numbers_edit first.sequence to).Tells t → (each_edit_from insert_number_edit n es).Tells ((clear_numbers_edit first.sequence to).after t)
     → ((each_edit_from put_number_edit n es).after t ≡ (each_edit_from insert_number_edit n es).after ((clear_numbers_edit first.sequence to).after t)) × (each_edit_from put_number_edit n es).Tells t
 numbers_renewed first es to n head run ends low up t rises told =
-    let named = run_counts first es head run in
+    let names = run_counts first es head run in
     let cleared = (clear_numbers_edit first.sequence to).after t in
     let same = deletes_agree (is_within first.sequence to) (in_range sequence_of first.sequence (length es)) (within_is first.sequence to (length es) ends) t.numbers in (
-      puts_are es first.sequence n t named rises ∙ sym (inserts_after (enumerate_from n es) cleared ∙ ap (λ xs. record t { numbers = all_put number_cmp (numbers_from n es) xs }) same),
-      puts_tell es first.sequence n t named low (omega (arith, ends, up)),
+      puts_are es first.sequence n t names rises ∙ sym (inserts_after (enumerate_from n es) cleared ∙ ap (λ xs. record t { numbers = all_put number_cmp (numbers_from n es) xs }) same),
+      puts_tell es first.sequence n t names low (omega (arith, ends, up)),
     )

@@ -13,6 +13,7 @@ use Rattle.sql_statements.specs.Transactions.{Makes}
 use Rattle.desk_accounts.specs.Posting.{same_account}
 use Rattle.desk_accounts.specs.declared.account.Account.{Account}
 use Rattle.desk_accounts.specs.declared.posting.Posting.{Posting}
+use Rattle.sql_tables.specs.ByName as named
 use Rattle.sql_tables.specs.Beside.{balance_of}
 use Rattle.sql_tables.specs.KeyOrders.{IsInOrder, balance_cmp}
 use Rattle.sql_tables.specs.Layout.{desk_layout}
@@ -189,6 +190,6 @@ but_none become old new made inside is_open =
     record {
       shown = it.shown;
       holds = λ t h.
-          let left = it.holds t t.balances h (stands_itself t.balances h.1.balances.rise) in
-          (subst (λ rows. Holds desk_layout new.now (record t { balances = rows })) (none_missing left.0 (become t.balances) left.1.1.balances.rise left.2) left.1, tt);
+          let left = it.holds t t.balances h (stands_itself t.balances (h.1.stands named.balances).rise) in
+          (subst (λ rows. Holds desk_layout new.now (record t { balances = rows })) (none_missing left.0 (become t.balances) (left.1.1.stands named.balances).rise left.2) left.1, tt);
     }

@@ -1,5 +1,5 @@
 -- The statements that put in lines, one and sixteen, against the records of lines.
-use Rattle.std.proofs.Common.{◌≡◌, ℕ, true, List, [], ◌∷◌, map, length, Option, None, Some, Ok, refl, sym, ap, ◌∙◌, subst, Ordering}
+use Rattle.std.proofs.Common.{◌≡◌, ℕ, true, List, [], ◌∷◌, map, length, Option, None, Some, Ok, refl, sym, ◌∙◌, subst, Ordering}
 use Rattle.std.specs.List.{flat_map, enumerate_from}
 use Rattle.std.proofs.lemmas.List.{length-map}
 use Rattle.std.proofs.lemmas.List.FromFn.{length-enumerate_from}
@@ -8,34 +8,33 @@ use Rattle.sqlite_tied.specs.Compute.{everything}
 use Rattle.sqlite.specs.Listing.{understood}
 use Rattle.sqlite.specs.State.{State, Executes}
 use Rattle.sqlite.specs.Values.{bound}
-use Rattle.sqlite.specs.declared.types.Value.TheVariants.{Null}
 use Rattle.sqlite_keyed.specs.Lists.{insert_sorted}
 use Rattle.sqlite_value.specs.declared.value.ValueRef.{ValueRef}
 use Rattle.sql_statements.specs.Edits.{Edit, each_edit, each_edit_from}
 use Rattle.sql_statements.specs.Statements.{IsInsert}
-use Rattle.sql_statements.proofs.Casts.{row_kept, are_kept}
-use Rattle.sql_statements.proofs.FreeKeys.{insert_rules}
-use Rattle.sql_statements.proofs.Inserts.{inserted}
+use Rattle.sql_statements.proofs.Casts.{are_kept}
 use Rattle.sql_statements.specs.Layouts.{Holds}
 use Rattle.desk_accounts.specs.declared.posting.Posting.{Posting}
+use Rattle.sql_tables.specs.ByName as named
+use Rattle.sql_tables.specs.ByName.{described}
+use Rattle.sql_tables.specs.Description.{table}
 use Rattle.sql_tables.specs.Schema.{desk_schema}
 use Rattle.sql_tables.specs.TableDefinitions.{postings_table}
 use Rattle.sql_tables.specs.Layout.{desk_layout}
 use Rattle.sql_tables.specs.RecordRows.{posting_row}
 use Rattle.sql_tables.specs.Tables.{Tables}
 use Rattle.sql_tables.specs.declared.records.PostingRecord.{PostingRecord}
+use Rattle.sql_writes.proofs.Puts.{holds_with, one_put, place_of, PutsOne, PutsSixteen, sixteen_put}
 use Rattle.sql_writes.proofs.ArrayLoops.{bound_rows}
 use Rattle.sql_writes.proofs.Conditions.{taken_first}
-use Rattle.sql_writes.proofs.ManyInserts.{inserted_rows, rows_rules}
 use Rattle.sql_writes.proofs.ManyKeys.{all_put}
 use Rattle.sql_writes.proofs.NumberedRows.{numbered_in_order, all_in_order}
-use Rattle.sql_writes.proofs.OtherTables.{postings_changed}
 use Rattle.sql_writes.specs.LineEdits.{put_posting_edit}
 use Rattle.sql_writes.specs.LineRows.{held_line, held_lines, stored_line}
 use Rattle.sql_writes.specs.LineTexts.{insert_posting, insert_postings}
 use Rattle.sql_writes.specs.ManyRows.{IsInsertOfRows}
 
-insert_posting_is : IsInsert desk_schema insert_posting 7 postings_table
+insert_posting_is : IsInsert desk_schema insert_posting (place_of named.postings) (table (described named.postings))
 unfolding understood everything
 insert_posting_is = record { is = refl; plain = (refl, refl) }
 
@@ -47,19 +46,24 @@ posting_kept p = at_reference p.posting.reference
     at_reference (Some []) = refl
     at_reference (Some (c ∷ s)) = refl
 
+puts_posting : PutsOne named.postings
+puts_posting = record { is = insert_posting_is; given = λ x. refl; kept = posting_kept }
+
 pub posting_put : (p : PostingRecord) (old new : State) (count : ℕ) → Executes insert_posting (posting_row p) old new (Ok count) → (t : Tables) → Holds desk_layout old.now t
     → Holds desk_layout new.now (record t { postings = insert_sorted (on (λ x. x.number) nat_cmp) p t.postings })
 posting_put p old new count ran t h =
     let s = postings_table in
-    let done = inserted posting_row desk_schema 7 16 s.name s.columns s.primary s.uniques s.orders insert_posting insert_posting_is refl (λ olds news. refl) p refl (row_kept s Null (posting_row p) refl (posting_kept p)) old new count h.0 t.postings h.1.postings.stored ran in
-    let rules = (insert_rules desk_schema insert_posting 7 s insert_posting_is (posting_row p) old new count h.0 done.0.schema_is ran).1.1.1.1.1.1.1.0 in
-    (done.0.schema_is, postings_changed old.now.trees new.now.trees t h.1 done.0.others _ (numbered_in_order (λ y. y.number) _ s (λ db row any. taken_first _ _ any) new.now.trees p t.postings h.1.postings.rise done.1 rules))
+    let made = one_put named.postings puts_posting p old new count ran t h in
+    (holds_with named.postings _ h made.has (numbered_in_order (λ y. y.number) _ s (λ db row any. taken_first _ _ any) new.now.trees p t.postings (h.1.stands named.postings).rise made.has.stored made.unique))
 
 -- ---- sixteen lines
 
-insert_postings_is : IsInsertOfRows desk_schema insert_postings 7 postings_table 16
+insert_postings_is : IsInsertOfRows desk_schema insert_postings (place_of named.postings) (table (described named.postings)) 16
 unfolding understood everything
 insert_postings_is = record { is = refl; plain = (refl, refl) }
+
+puts_sixteen : PutsSixteen named.postings
+puts_sixteen = record { is = insert_postings_is; whole = refl; wide = λ x. refl; kept = posting_kept }
 
 abbrev line_cmp : PostingRecord → PostingRecord → Ordering
 line_cmp = on (λ x. x.number) nat_cmp
@@ -68,9 +72,8 @@ records_put : (xs : List PostingRecord) → length xs ≡ 16 → (old new : Stat
     → Holds desk_layout new.now (record t { postings = all_put line_cmp xs t.postings })
 records_put xs many old new count ran t h =
     let s = postings_table in
-    let done = inserted_rows posting_row desk_schema 7 16 s.name s.columns s.primary s.uniques s.orders insert_postings 16 insert_postings_is refl (λ olds news. refl) refl (λ x. refl) (λ x. row_kept s Null (posting_row x) refl (posting_kept x)) xs many old new count h.0 t.postings h.1.postings.stored ran in
-    let rules = (rows_rules desk_schema insert_postings 7 s 16 insert_postings_is (flat_map posting_row xs) old new count h.0 done.0.schema_is ran).1.1.1.1.1.1.1.0 in
-    (done.0.schema_is, postings_changed old.now.trees new.now.trees t h.1 done.0.others _ (all_in_order (λ y. y.number) _ s (λ db row any. taken_first _ _ any) new.now.trees xs t.postings h.1.postings.rise done.1 rules))
+    let made = sixteen_put named.postings puts_sixteen xs many old new count ran t h in
+    (holds_with named.postings _ h made.has (all_in_order (λ y. y.number) _ s (λ db row any. taken_first _ _ any) new.now.trees xs t.postings (h.1.stands named.postings).rise made.has.stored made.unique))
 
 -- the record of a line under its number
 abbrev pub numbered_line : ℕ × Posting → PostingRecord

@@ -6,16 +6,16 @@ use Rattle.std.proofs.lemmas.Bool.{and_from, and_parts}
 use Rattle.sqlite_tied.specs.Compute.{everything}
 use Rattle.sqlite.specs.Listing.{understood}
 use Rattle.sqlite.specs.State.{State, Executes}
-use Rattle.sqlite.specs.declared.types.Value.TheVariants.{Null}
 use Rattle.sqlite_keyed.specs.Lists.{insert_sorted}
 use Rattle.sqlite_schema.specs.Rules.{agree}
 use Rattle.sqlite_value.specs.Keys.{first_key, plain}
-use Rattle.sql_statements.proofs.Casts.{row_kept, are_kept}
-use Rattle.sql_statements.proofs.FreeKeys.{insert_rules}
-use Rattle.sql_statements.proofs.Inserts.{inserted}
+use Rattle.sql_statements.proofs.Casts.{are_kept}
 use Rattle.sql_statements.specs.Statements.{IsInsert}
 use Rattle.sql_statements.specs.StoredRows.{row_of}
 use Rattle.sql_statements.specs.Layouts.{Holds}
+use Rattle.sql_tables.specs.ByName as named
+use Rattle.sql_tables.specs.ByName.{described}
+use Rattle.sql_tables.specs.Description.{table}
 use Rattle.sql_tables.specs.Schema.{desk_schema}
 use Rattle.sql_tables.specs.TableDefinitions.{returns_table}
 use Rattle.sql_tables.specs.Layout.{desk_layout}
@@ -23,18 +23,17 @@ use Rattle.sql_tables.specs.RecordRows.{return_row}
 use Rattle.sql_tables.specs.TableReads.{is_return_at}
 use Rattle.sql_tables.specs.Tables.{Tables}
 use Rattle.sql_tables.specs.declared.records.ReturnRecord.{ReturnRecord}
+use Rattle.sql_writes.proofs.Puts.{holds_with, one_put, place_of, PutsOne, PutsSixteen, sixteen_put}
 use Rattle.sql_writes.proofs.Conditions.{text_itself, number_itself, taken_first, taken_second}
 use Rattle.sql_writes.proofs.Keys.{find_none, few_have, key_free, key_text, key_number}
 use Rattle.sql_writes.proofs.ManyFree.{free_in_turn}
-use Rattle.sql_writes.proofs.ManyInserts.{inserted_rows, rows_rules}
 use Rattle.sql_writes.proofs.ManyKeys.{all_put, AreFree}
-use Rattle.sql_writes.proofs.OtherTables.{returns_changed}
 use Rattle.sql_writes.proofs.SubmissionRows.{flag_kept}
 use Rattle.sql_writes.specs.IntakeTexts.{insert_return, insert_returns}
 use Rattle.sql_writes.specs.ManyRows.{IsInsertOfRows}
 use Rattle.sql_writes.proofs.NumberedRows.{numbered_in_order, all_in_order}
 
-insert_return_is : IsInsert desk_schema insert_return 5 returns_table
+insert_return_is : IsInsert desk_schema insert_return (place_of named.returns) (table (described named.returns))
 unfolding understood everything
 insert_return_is = record { is = refl; plain = (refl, refl) }
 
@@ -49,23 +48,28 @@ same_entry c n i a b h k =
     let v = and_parts (bytes_eq a.1.company c) (a.1.order == n) x.0 in let w = and_parts (bytes_eq b.1.company c) (b.1.order == n) y.0 in
     and_from _ _ (key_text a.1.company b.1.company c v.0 w.0) (and_from _ _ (key_number a.1.order b.1.order n v.1 w.1) (and_from _ _ (key_number a.1.index b.1.index i x.1 y.1) refl))
 
+puts_return : PutsOne named.returns
+puts_return = record { is = insert_return_is; given = λ x. refl; kept = return_kept }
+
 pub return_put : (x : ReturnRecord) (old new : State) (count : ℕ) → Executes insert_return (return_row x) old new (Ok count) → (t : Tables) → Holds desk_layout old.now t
     → Holds desk_layout new.now (record t { returns = insert_sorted (on (λ r. r.number) nat_cmp) x t.returns }) × (find (is_return_at x.company x.order x.index) t.returns ≡ None)
 return_put x old new count ran t h =
     let s = returns_table in
     let test = is_return_at x.company x.order x.index in
-    let done = inserted return_row desk_schema 5 11 s.name s.columns s.primary s.uniques s.orders insert_return insert_return_is refl (λ olds news. refl) x refl (row_kept s Null (return_row x) refl (return_kept x)) old new count h.0 t.returns h.1.returns.stored ran in
-    let rules = (insert_rules desk_schema insert_return 5 s insert_return_is (return_row x) old new count h.0 done.0.schema_is ran).1.1.1.1.1.0 in
-    let free = key_free return_row desk_schema s (2 ∷ 3 ∷ 4 ∷ []) test (same_entry x.company x.order x.index) (λ db row any. taken_second _ _ _ any) new.now.trees x t.returns (and_from _ _ (and_from _ _ (text_itself x.company) (number_itself x.order)) (number_itself x.index)) done.1 rules in (
-      (done.0.schema_is, returns_changed old.now.trees new.now.trees t h.1 done.0.others _ (numbered_in_order (λ r. r.number) _ s (λ db row any. taken_first _ _ any) new.now.trees x t.returns h.1.returns.rise done.1 rules)),
+    let made = one_put named.returns puts_return x old new count ran t h in
+    let free = key_free return_row desk_schema s (2 ∷ 3 ∷ 4 ∷ []) test (same_entry x.company x.order x.index) (λ db row any. taken_second _ _ _ any) new.now.trees x t.returns (and_from _ _ (and_from _ _ (text_itself x.company) (number_itself x.order)) (number_itself x.index)) made.has.stored made.unique in (
+      (holds_with named.returns _ h made.has (numbered_in_order (λ r. r.number) _ s (λ db row any. taken_first _ _ any) new.now.trees x t.returns (h.1.stands named.returns).rise made.has.stored made.unique)),
       find_none test t.returns free,
     )
 
 -- ---- sixteen returns
 
-insert_returns_is : IsInsertOfRows desk_schema insert_returns 5 returns_table 16
+insert_returns_is : IsInsertOfRows desk_schema insert_returns (place_of named.returns) (table (described named.returns)) 16
 unfolding understood everything
 insert_returns_is = record { is = refl; plain = (refl, refl) }
+
+puts_sixteen : PutsSixteen named.returns
+puts_sixteen = record { is = insert_returns_is; whole = refl; wide = λ x. refl; kept = return_kept }
 
 abbrev pub number_cmp : ReturnRecord → ReturnRecord → Ordering
 number_cmp = on (λ r. r.number) nat_cmp
@@ -78,10 +82,9 @@ pub returns_put : (xs : List ReturnRecord) → length xs ≡ 16 → (old new : S
     → Holds desk_layout new.now (record t { returns = all_put number_cmp xs t.returns }) × AreFree number_cmp is_of_entry xs t.returns
 returns_put xs many old new count ran t h =
     let s = returns_table in
-    let done = inserted_rows return_row desk_schema 5 11 s.name s.columns s.primary s.uniques s.orders insert_returns 16 insert_returns_is refl (λ olds news. refl) refl (λ x. refl) (λ x. row_kept s Null (return_row x) refl (return_kept x)) xs many old new count h.0 t.returns h.1.returns.stored ran in
-    let rules = (rows_rules desk_schema insert_returns 5 s 16 insert_returns_is (flat_map return_row xs) old new count h.0 done.0.schema_is ran).1.1.1.1.1.0 in
-    let few = λ (x : ReturnRecord). few_have return_row desk_schema s (2 ∷ 3 ∷ 4 ∷ []) (is_of_entry x) (same_entry x.company x.order x.index) (λ db row any. taken_second _ _ _ any) new.now.trees (xs ++ t.returns) done.1 rules in
+    let made = sixteen_put named.returns puts_sixteen xs many old new count ran t h in
+    let few = λ (x : ReturnRecord). few_have return_row desk_schema s (2 ∷ 3 ∷ 4 ∷ []) (is_of_entry x) (same_entry x.company x.order x.index) (λ db row any. taken_second _ _ _ any) new.now.trees (xs ++ t.returns) made.has.stored made.unique in
     let free = free_in_turn number_cmp is_of_entry (λ x. and_from _ _ (and_from _ _ (text_itself x.company) (number_itself x.order)) (number_itself x.index)) xs t.returns few in (
-      (done.0.schema_is, returns_changed old.now.trees new.now.trees t h.1 done.0.others _ (all_in_order (λ r. r.number) _ s (λ db row any. taken_first _ _ any) new.now.trees xs t.returns h.1.returns.rise done.1 rules)),
+      (holds_with named.returns _ h made.has (all_in_order (λ r. r.number) _ s (λ db row any. taken_first _ _ any) new.now.trees xs t.returns (h.1.stands named.returns).rise made.has.stored made.unique)),
       free,
     )

@@ -1,26 +1,27 @@
 -- The INSERTs of a submission, its entries and its authorization, against their records.
-use Rattle.std.proofs.Common.{◌≡◌, ℕ, ℤ, Bool, true, false, not, ◌&&◌, ◌==◌, cond, List, [], ◌∷◌, find, Option, None, Some, Ok, refl, sym, ap, ◌∙◌, subst, bytes_eq, is_eq}
+use Rattle.std.proofs.Common.{◌≡◌, ℕ, ℤ, Bool, true, false, ◌&&◌, ◌==◌, List, [], ◌∷◌, find, Option, None, Some, Ok, refl, ◌∙◌, bytes_eq, is_eq}
 use Rattle.std.specs.Cmp.{IsTotalOrder}
-use Rattle.std.specs.Ordering.{nat_cmp, on}
 use Rattle.std.proofs.lemmas.Bool.{and_from, and_parts}
 use Rattle.std.proofs.lemmas.Cmp.{on_total, then_total, nat_list_cmp_total, nat_cmp_total}
 use Rattle.std.proofs.lemmas.Map.Text.{is_eq-slice_cmp}
 use Rattle.sqlite_tied.specs.Compute.{everything}
 use Rattle.sqlite.specs.Listing.{understood}
 use Rattle.sqlite.specs.State.{State, Executes}
-use Rattle.sqlite.specs.declared.types.Value.TheVariants.{Null, Int, Text}
+use Rattle.sqlite.specs.declared.types.Value.TheVariants.{Text}
 use Rattle.sqlite_keyed.specs.Lists.{insert_sorted}
 use Rattle.sqlite_schema.specs.Rules.{agree}
 use Rattle.sqlite_value.specs.Keys.{first_key, plain}
-use Rattle.sql_statements.proofs.Casts.{row_kept, are_kept}
-use Rattle.sql_statements.proofs.FreeKeys.{insert_rules}
-use Rattle.sql_statements.proofs.Inserts.{inserted}
+use Rattle.sql_statements.proofs.Casts.{are_kept}
 use Rattle.sql_statements.specs.Statements.{IsInsert}
 use Rattle.sql_statements.specs.StoredRows.{row_of}
 use Rattle.sql_statements.specs.Layouts.{Holds}
+use Rattle.sql_tables.specs.ByName as named
+use Rattle.sql_tables.specs.ByName.{described}
+use Rattle.sql_tables.specs.Description.{table}
 use Rattle.sql_tables.specs.Schema.{desk_schema}
 use Rattle.sql_tables.specs.Layout.{desk_layout}
 use Rattle.sql_tables.specs.Tables.{Tables}
+use Rattle.sql_writes.proofs.Puts.{holds_with, one_put, place_of, PutsOne}
 use Rattle.sql_writes.proofs.Conditions.{text_itself, number_itself, equal_numbers, equal_both, taken_first, taken_second}
 use Rattle.sql_writes.proofs.Keys.{find_none, key_free, put_in_order, key_text, key_number}
 use Rattle.sql_tables.specs.TableDefinitions.{submissions_table, entries_table, authorizations_table}
@@ -37,7 +38,6 @@ use Rattle.sql_tables.specs.declared.records.AuthorizationRecord.{AuthorizationR
 use Rattle.sql_tables.specs.declared.records.EntryRecord.{EntryRecord}
 use Rattle.sql_tables.specs.declared.records.SubmissionRecord.{SubmissionRecord}
 use Rattle.sql_writes.specs.Texts.{insert_submission, insert_entry, insert_authorization}
-use Rattle.sql_writes.proofs.OtherTables.{submissions_changed, entries_changed, authorizations_changed}
 
 -- ---- submissions
 
@@ -60,9 +60,12 @@ submission_kept r = at_lapsed r.lapsed
     at_lapsed true = at_retried r.retried
     at_lapsed false = at_retried r.retried
 
-insert_submission_is : IsInsert desk_schema insert_submission 3 submissions_table
+insert_submission_is : IsInsert desk_schema insert_submission (place_of named.submissions) (table (described named.submissions))
 unfolding understood everything
 insert_submission_is = record { is = refl; plain = (refl, refl) }
+
+puts_submission : PutsOne named.submissions
+puts_submission = record { is = insert_submission_is; given = λ x. refl; kept = submission_kept }
 
 pub submission_total : IsTotalOrder submission_cmp
 submission_total = then_total (on_total (λ (r : SubmissionRecord). r.company) nat_list_cmp_total) (on_total (λ (r : SubmissionRecord). r.order) nat_cmp_total)
@@ -83,14 +86,10 @@ pub submission_put : (x : SubmissionRecord) (old new : State) (count : ℕ) → 
     → Holds desk_layout new.now (record t { submissions = insert_sorted submission_cmp x t.submissions }) × (find (is_row x.company x.order) t.submissions ≡ None) × (find (is_under x.company x.reference) t.submissions ≡ None)
 submission_put x old new count ran t h =
     let s = submissions_table in
-    let done = inserted submission_row desk_schema 3 6 s.name s.columns s.primary s.uniques s.orders insert_submission insert_submission_is refl (λ olds news. refl) x refl (row_kept s Null (submission_row x) refl (submission_kept x)) old new count h.0 t.submissions h.1.submissions.stored ran in
-    let rules = insert_rules desk_schema insert_submission 3 s insert_submission_is (submission_row x) old new count h.0 done.0.schema_is ran in
-    let free = key_free submission_row desk_schema s (1 ∷ 2 ∷ []) (is_row x.company x.order) (same_row x.company x.order) (λ db row any. taken_first _ _ any) new.now.trees x t.submissions (and_from _ _ (text_itself x.company) (number_itself x.order)) done.1 rules.1.1.1.0 in
-    let other = key_free submission_row desk_schema s (1 ∷ 3 ∷ []) (is_under x.company x.reference) (same_under x.company x.reference) (λ db row any. taken_second _ _ _ any) new.now.trees x t.submissions (and_from _ _ (text_itself x.company) (text_itself x.reference)) done.1 rules.1.1.1.0 in (
-      (
-        done.0.schema_is,
-        submissions_changed old.now.trees new.now.trees t h.1 done.0.others _ (put_in_order submission_row submission_cmp submission_total (is_row x.company x.order) new.now.trees s x t.submissions (λ y. equal_both _ _ ∙ (let c = is_eq-slice_cmp y.company x.company in let n = equal_numbers y.order x.order in λ i. c i && n i)) free h.1.submissions.rise done.1),
-      ),
+    let made = one_put named.submissions puts_submission x old new count ran t h in
+    let free = key_free submission_row desk_schema s (1 ∷ 2 ∷ []) (is_row x.company x.order) (same_row x.company x.order) (λ db row any. taken_first _ _ any) new.now.trees x t.submissions (and_from _ _ (text_itself x.company) (number_itself x.order)) made.has.stored made.unique in
+    let other = key_free submission_row desk_schema s (1 ∷ 3 ∷ []) (is_under x.company x.reference) (same_under x.company x.reference) (λ db row any. taken_second _ _ _ any) new.now.trees x t.submissions (and_from _ _ (text_itself x.company) (text_itself x.reference)) made.has.stored made.unique in (
+      holds_with named.submissions _ h made.has (put_in_order submission_row submission_cmp submission_total (is_row x.company x.order) new.now.trees s x t.submissions (λ y. equal_both _ _ ∙ (let c = is_eq-slice_cmp y.company x.company in let n = equal_numbers y.order x.order in λ i. c i && n i)) free (h.1.stands named.submissions).rise made.has.stored),
       find_none (is_row x.company x.order) t.submissions free,
       find_none (is_under x.company x.reference) t.submissions other,
     )
@@ -112,9 +111,12 @@ text_kept (Some t) = refl
 pub entry_kept : (r : EntryRecord) → are_kept entries_table.columns (entry_row r) ≡ true
 entry_kept r = rw (flag_kept (is_savings r.entry.kind), flag_kept r.entry.prenote, text_kept r.entry.info, number_kept r.place) refl
 
-insert_entry_is : IsInsert desk_schema insert_entry 4 entries_table
+insert_entry_is : IsInsert desk_schema insert_entry (place_of named.entries) (table (described named.entries))
 unfolding understood everything
 insert_entry_is = record { is = refl; plain = (refl, refl) }
+
+puts_entry : PutsOne named.entries
+puts_entry = record { is = insert_entry_is; given = λ x. refl; kept = entry_kept }
 
 pub entry_total : IsTotalOrder entry_cmp
 entry_total = then_total (then_total (on_total (λ (r : EntryRecord). r.company) nat_list_cmp_total) (on_total (λ (r : EntryRecord). r.order) nat_cmp_total)) (on_total (λ (r : EntryRecord). r.index) nat_cmp_total)
@@ -138,21 +140,20 @@ pub entry_put : (x : EntryRecord) (old new : State) (count : ℕ) → Executes i
     → Holds desk_layout new.now (record t { entries = insert_sorted entry_cmp x t.entries }) × (find (is_entry_row x.company x.order x.index) t.entries ≡ None)
 entry_put x old new count ran t h =
     let s = entries_table in
-    let done = inserted entry_row desk_schema 4 9 s.name s.columns s.primary s.uniques s.orders insert_entry insert_entry_is refl (λ olds news. refl) x refl (row_kept s Null (entry_row x) refl (entry_kept x)) old new count h.0 t.entries h.1.entries.stored ran in
-    let rules = insert_rules desk_schema insert_entry 4 s insert_entry_is (entry_row x) old new count h.0 done.0.schema_is ran in
-    let free = key_free entry_row desk_schema s (1 ∷ 2 ∷ 3 ∷ []) (is_entry_row x.company x.order x.index) (same_entry x.company x.order x.index) (λ db row any. taken_first _ _ any) new.now.trees x t.entries (entry_itself x) done.1 rules.1.1.1.1.0 in (
-      (
-        done.0.schema_is,
-        entries_changed old.now.trees new.now.trees t h.1 done.0.others _ (put_in_order entry_row entry_cmp entry_total (is_entry_row x.company x.order x.index) new.now.trees s x t.entries (same_entry_key x) free h.1.entries.rise done.1),
-      ),
+    let made = one_put named.entries puts_entry x old new count ran t h in
+    let free = key_free entry_row desk_schema s (1 ∷ 2 ∷ 3 ∷ []) (is_entry_row x.company x.order x.index) (same_entry x.company x.order x.index) (λ db row any. taken_first _ _ any) new.now.trees x t.entries (entry_itself x) made.has.stored made.unique in (
+      holds_with named.entries _ h made.has (put_in_order entry_row entry_cmp entry_total (is_entry_row x.company x.order x.index) new.now.trees s x t.entries (same_entry_key x) free (h.1.stands named.entries).rise made.has.stored),
       find_none (is_entry_row x.company x.order x.index) t.entries free,
     )
 
 -- ---- authorizations
 
-insert_authorization_is : IsInsert desk_schema insert_authorization 13 authorizations_table
+insert_authorization_is : IsInsert desk_schema insert_authorization (place_of named.authorizations) (table (described named.authorizations))
 unfolding understood everything
 insert_authorization_is = record { is = refl; plain = (refl, refl) }
+
+puts_authorization : PutsOne named.authorizations
+puts_authorization = record { is = insert_authorization_is; given = λ x. refl; kept = λ x. refl }
 
 pub authorization_total : IsTotalOrder authorization_cmp
 authorization_total = then_total (on_total (λ (r : AuthorizationRecord). r.company) nat_list_cmp_total) (on_total (λ (r : AuthorizationRecord). r.order) nat_cmp_total)
@@ -167,12 +168,8 @@ pub authorization_put : (x : AuthorizationRecord) (old new : State) (count : ℕ
     → Holds desk_layout new.now (record t { authorizations = insert_sorted authorization_cmp x t.authorizations }) × (find (is_authorization_of x.company x.order) t.authorizations ≡ None)
 authorization_put x old new count ran t h =
     let s = authorizations_table in
-    let done = inserted authorization_row desk_schema 13 35 s.name s.columns s.primary s.uniques s.orders insert_authorization insert_authorization_is refl (λ olds news. refl) x refl (row_kept s Null (authorization_row x) refl refl) old new count h.0 t.authorizations h.1.authorizations.stored ran in
-    let rules = insert_rules desk_schema insert_authorization 13 s insert_authorization_is (authorization_row x) old new count h.0 done.0.schema_is ran in
-    let free = key_free authorization_row desk_schema s (1 ∷ 2 ∷ []) (is_authorization_of x.company x.order) (same_authorization x.company x.order) (λ db row any. taken_first _ _ any) new.now.trees x t.authorizations (and_from _ _ (text_itself x.company) (number_itself x.order)) done.1 rules.1.1.1.1.1.1.1.1.1.1.1.1.1.0 in (
-      (
-        done.0.schema_is,
-        authorizations_changed old.now.trees new.now.trees t h.1 done.0.others _ (put_in_order authorization_row authorization_cmp authorization_total (is_authorization_of x.company x.order) new.now.trees s x t.authorizations (λ y. equal_both _ _ ∙ (let c = is_eq-slice_cmp y.company x.company in let n = equal_numbers y.order x.order in λ i. c i && n i)) free h.1.authorizations.rise done.1),
-      ),
+    let made = one_put named.authorizations puts_authorization x old new count ran t h in
+    let free = key_free authorization_row desk_schema s (1 ∷ 2 ∷ []) (is_authorization_of x.company x.order) (same_authorization x.company x.order) (λ db row any. taken_first _ _ any) new.now.trees x t.authorizations (and_from _ _ (text_itself x.company) (number_itself x.order)) made.has.stored made.unique in (
+      holds_with named.authorizations _ h made.has (put_in_order authorization_row authorization_cmp authorization_total (is_authorization_of x.company x.order) new.now.trees s x t.authorizations (λ y. equal_both _ _ ∙ (let c = is_eq-slice_cmp y.company x.company in let n = equal_numbers y.order x.order in λ i. c i && n i)) free (h.1.stands named.authorizations).rise made.has.stored),
       find_none (is_authorization_of x.company x.order) t.authorizations free,
     )

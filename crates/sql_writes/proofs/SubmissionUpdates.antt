@@ -12,14 +12,12 @@ use Rattle.sqlite_value.specs.Order.{Row}
 use Rattle.sqlite_value.specs.declared.value.Value.TheVariants.{Int, Text}
 use Rattle.sql_statements.specs.Statements.{IsUpdate, column_is, number_is, null_at}
 use Rattle.sql_statements.specs.StoredRows.{row_of, Stores}
-use Rattle.sql_statements.proofs.Casts.{row_kept}
-use Rattle.sql_statements.proofs.Changes.{updated_counted}
 use Rattle.sql_statements.proofs.Conditions.{text_is, and_true}
 use Rattle.sql_statements.proofs.KeyOrder.{rises_updated}
 use Rattle.sql_statements.proofs.OneRow.{one_of, one_found, updates_agree}
 use Rattle.sql_statements.specs.Layouts.{Holds}
+use Rattle.sql_tables.specs.ByName as named
 use Rattle.sql_tables.specs.Schema.{desk_schema}
-use Rattle.sql_tables.specs.TableDefinitions.{submissions_table}
 use Rattle.desk_book.specs.declared.flat_rows.LapsedRow.{LapsedRow}
 use Rattle.desk_book.specs.declared.flat_rows.SentRow.{SentRow}
 use Rattle.sql_tables.specs.Columns.{number, letter}
@@ -31,8 +29,8 @@ use Rattle.sql_tables.specs.TableEdits.{Waits}
 use Rattle.sql_tables.specs.TableReads.{is_waiting}
 use Rattle.sql_tables.specs.Tables.{Tables}
 use Rattle.sql_tables.specs.declared.records.SubmissionRecord.{SubmissionRecord}
+use Rattle.sql_writes.proofs.Puts.{holds_with, rows_updated}
 use Rattle.sql_writes.proofs.Conditions as conditions
-use Rattle.sql_writes.proofs.OtherTables.{submissions_changed}
 use Rattle.sql_writes.proofs.SubmissionRows.{submission_kept}
 use Rattle.sql_writes.specs.CutTexts.{update_sent, update_lapsed}
 use Rattle.sql_writes.proofs.KeyTests.{and_joined, none_is, not_is, one_row}
@@ -60,7 +58,7 @@ waits_parts c o r h =
 -- an UPDATE of the submission of a number, where it waits
 module _ (c : List ℕ) (o : ℕ) (rest : Row) (sql : List ℕ) (sets : List Term) (is : IsUpdate desk_schema sql 3 6 (column_is 1 0 ∷ column_is 2 1 ∷ null_at 11 ∷ number_is 10 (pos 0) ∷ []) sets)
     (set : SubmissionRecord → SubmissionRecord) (same_company : (r : SubmissionRecord) → (set r).company ≡ r.company) (same_order : (r : SubmissionRecord) → (set r).order ≡ r.order)
-    (made : (i : ℤ) (r : SubmissionRecord) → eval_all sets ((Text c ∷ number o ∷ rest) ∷ row_of submission_row (i, r) ∷ []) ≡ submission_row (set r)) where
+    (made_row : (i : ℤ) (r : SubmissionRecord) → eval_all sets ((Text c ∷ number o ∷ rest) ∷ row_of submission_row (i, r) ∷ []) ≡ submission_row (set r)) where
   tested : (i : ℤ) (r : SubmissionRecord) → list_all (holds ((Text c ∷ number o ∷ rest) ∷ row_of submission_row (i, r) ∷ [])) (column_is 1 0 ∷ column_is 2 1 ∷ null_at 11 ∷ number_is 10 (pos 0) ∷ []) ≡ waits_at c o r
   tested i r =
       let a = text_is r.company c in
@@ -81,18 +79,13 @@ module _ (c : List ℕ) (o : ℕ) (rest : Row) (sql : List ℕ) (sets : List Ter
   submission_updated : (old new : State) → Executes sql (Text c ∷ number o ∷ rest) old new (Ok 1) → (t : Tables) → Holds desk_layout old.now t
       → Holds desk_layout new.now (record t { submissions = update_where (is_row c o) set t.submissions }) × Waits c o t
   submission_updated old new ran t h =
-      let s = submissions_table in
-      let done = updated_counted submission_row desk_schema 3 6 s.name s.columns s.primary s.uniques s.orders sql (column_is 1 0 ∷ column_is 2 1 ∷ null_at 11 ∷ number_is 10 (pos 0) ∷ []) sets is refl (λ olds news. refl)
-      (Text c ∷ number o ∷ rest) (waits_at c o) set tested made (λ i r. row_kept s (Int i) (submission_row r) refl (submission_kept r)) old new 1 h.0 t.submissions h.1.submissions.stored ran in
-      let it = one_found (waits_at c o) (is_row c o) (λ r here. (waits_parts c o r here).0) t.submissions (one_of _ (is_row c o) (one_row c o) t.submissions h.1.submissions.rise) (sym done.2) in
+      let made = rows_updated named.submissions sql (column_is 1 0 ∷ column_is 2 1 ∷ null_at 11 ∷ number_is 10 (pos 0) ∷ []) (Text c ∷ number o ∷ rest) (waits_at c o) tested old new 1 ran t h sets is set made_row submission_kept in
+      let it = one_found (waits_at c o) (is_row c o) (λ r here. (waits_parts c o r here).0) t.submissions (one_of _ (is_row c o) (one_row c o) t.submissions (h.1.stands named.submissions).rise) (sym made.1) in
       let parts = waits_parts c o it.row it.passes in (
-        (
-          done.0.schema_is,
-          submissions_changed old.now.trees new.now.trees t h.1 done.0.others _ (record {
-            stored = subst (Stores submission_row (new.now.trees 6)) (updates_agree (waits_at c o) (is_row c o) set t.submissions it.same) done.1;
-            rise = rises_updated submission_cmp (is_row c o) set keeps_order t.submissions h.1.submissions.rise;
-          }),
-        ),
+        holds_with named.submissions _ h made.0 (record {
+          stored = subst (Stores submission_row (new.now.trees 6)) (updates_agree (waits_at c o) (is_row c o) set t.submissions it.same) made.0.stored;
+          rise = rises_updated submission_cmp (is_row c o) set keeps_order t.submissions (h.1.stands named.submissions).rise;
+        }),
         record { submission = it.row; found = it.found; unsettled = parts.1; lasts = parts.2 },
       )
 

@@ -7,16 +7,15 @@ use Rattle.std.proofs.lemmas.Map.Text.{is_eq-slice_cmp}
 use Rattle.sqlite_tied.specs.Compute.{everything}
 use Rattle.sqlite.specs.Listing.{understood}
 use Rattle.sqlite.specs.State.{State, Executes}
-use Rattle.sqlite.specs.declared.types.Value.TheVariants.{Null}
 use Rattle.sqlite_keyed.specs.Lists.{insert_sorted}
 use Rattle.sqlite_schema.specs.Rules.{agree}
 use Rattle.sqlite_value.specs.Keys.{first_key, plain}
-use Rattle.sql_statements.proofs.Casts.{row_kept}
-use Rattle.sql_statements.proofs.FreeKeys.{insert_rules}
-use Rattle.sql_statements.proofs.Inserts.{inserted}
 use Rattle.sql_statements.specs.Statements.{IsInsert}
 use Rattle.sql_statements.specs.StoredRows.{row_of}
 use Rattle.sql_statements.specs.Layouts.{Holds}
+use Rattle.sql_tables.specs.ByName as named
+use Rattle.sql_tables.specs.ByName.{described}
+use Rattle.sql_tables.specs.Description.{table}
 use Rattle.sql_tables.specs.Schema.{desk_schema}
 use Rattle.sql_tables.specs.TableDefinitions.{taken_table}
 use Rattle.desk_history.specs.declared.operations.TakenFile.{TakenFile}
@@ -26,14 +25,17 @@ use Rattle.sql_tables.specs.Layout.{desk_layout}
 use Rattle.sql_tables.specs.RecordRows.{taken_row}
 use Rattle.sql_tables.specs.TableReads.{taken_in}
 use Rattle.sql_tables.specs.Tables.{Tables}
+use Rattle.sql_writes.proofs.Puts.{holds_with, one_put, place_of, PutsOne}
 use Rattle.sql_writes.proofs.Conditions.{text_itself, taken_first}
 use Rattle.sql_writes.proofs.Keys.{find_none, key_free, put_in_order, key_text}
-use Rattle.sql_writes.proofs.OtherTables.{taken_changed}
 use Rattle.sql_writes.specs.IntakeTexts.{insert_taken}
 
-insert_taken_is : IsInsert desk_schema insert_taken 10 taken_table
+insert_taken_is : IsInsert desk_schema insert_taken (place_of named.taken) (table (described named.taken))
 unfolding understood everything
 insert_taken_is = record { is = refl; plain = (refl, refl) }
+
+puts_taken : PutsOne named.taken
+puts_taken = record { is = insert_taken_is; given = λ x. refl; kept = λ x. refl }
 
 taken_total : IsTotalOrder taken_cmp
 taken_total = on_total (λ (f : TakenFile). f.key) nat_list_cmp_total
@@ -46,9 +48,8 @@ pub taken_put : (f : TakenFile) (old new : State) (count : ℕ) → Executes ins
     → Holds desk_layout new.now (record t { taken = insert_sorted taken_cmp f t.taken }) × (taken_in f.key t ≡ None)
 taken_put f old new count ran t h =
     let s = taken_table in
-    let done = inserted taken_row desk_schema 10 22 s.name s.columns s.primary s.uniques s.orders insert_taken insert_taken_is refl (λ olds news. refl) f refl (row_kept s Null (taken_row f) refl refl) old new count h.0 t.taken h.1.taken.stored ran in
-    let rules = (insert_rules desk_schema insert_taken 10 s insert_taken_is (taken_row f) old new count h.0 done.0.schema_is ran).1.1.1.1.1.1.1.1.1.1.0 in
-    let free = key_free taken_row desk_schema s (1 ∷ []) (has_key f.key) (same_key f.key) (λ db row any. taken_first _ _ any) new.now.trees f t.taken (text_itself f.key) done.1 rules in (
-      (done.0.schema_is, taken_changed old.now.trees new.now.trees t h.1 done.0.others _ (put_in_order taken_row taken_cmp taken_total (has_key f.key) new.now.trees s f t.taken (λ y. is_eq-slice_cmp y.key f.key) free h.1.taken.rise done.1)),
+    let made = one_put named.taken puts_taken f old new count ran t h in
+    let free = key_free taken_row desk_schema s (1 ∷ []) (has_key f.key) (same_key f.key) (λ db row any. taken_first _ _ any) new.now.trees f t.taken (text_itself f.key) made.has.stored made.unique in (
+      (holds_with named.taken _ h made.has (put_in_order taken_row taken_cmp taken_total (has_key f.key) new.now.trees s f t.taken (λ y. is_eq-slice_cmp y.key f.key) free (h.1.stands named.taken).rise made.has.stored)),
       find_none (has_key f.key) t.taken free,
     )

@@ -1,6 +1,7 @@
 //! Rows of the desk and of its companies.
-ghost use Rattle.sql_tables.specs.RecordRows.{company_row, identity_row};
-ghost use Rattle.sql_tables.specs.RowRanges.{IdentityFits, CompanyFits};
+ghost use Rattle.sql_tables.specs.QueryRows.{keyed_identity_row};
+ghost use Rattle.sql_tables.specs.RecordRows.{company_row};
+ghost use Rattle.sql_tables.specs.RowRanges.{KeyedIdentityFits, CompanyFits};
 
 use super::FromRow;
 use crate::column::{read_column, read_digest, read_number};
@@ -14,21 +15,36 @@ const MOST_ENTRY_LIMIT: u64 = 9_999_999_999;
 /// A credit or debit limit has at most so many cents.
 const MOST_EXPOSURE_LIMIT: u64 = 999_999_999_999_999;
 
-// A row of the columns odfi, odfi_name, destination and destination_name.
-impl FromRow for Identity {
-    ghost stored_row = { identity_row };
+/// A `KeyedIdentity` is the identity of a desk, with the SHA-256 digest of its operator's key.
+#[derive(Drop)]
+pub struct KeyedIdentity {
+    pub identity: Identity,
+    pub operator_key: [u8; 32],
+}
 
-    ghost fits = { IdentityFits };
+// A row of the columns odfi, odfi_name, destination, destination_name and operator_key.
+impl FromRow for KeyedIdentity {
+    ghost stored_row = { keyed_identity_row };
 
-    fn from_row(row: &Row) -> Option<Identity> {
-        if row.column_count() != 4 {
+    ghost fits = { KeyedIdentityFits };
+
+    fn from_row(row: &Row) -> Option<KeyedIdentity> {
+        if row.column_count() != 5 {
             return None;
         }
-        Some(Identity {
-            odfi: read_column(row, 0)?,
-            odfi_name: read_column(row, 1)?,
-            destination: read_column(row, 2)?,
-            destination_name: read_column(row, 3)?,
+        let odfi = read_column(row, 0)?;
+        let odfi_name = read_column(row, 1)?;
+        let destination = read_column(row, 2)?;
+        let destination_name = read_column(row, 3)?;
+        let operator_key = read_digest(row, 4)?;
+        Some(KeyedIdentity {
+            identity: Identity {
+                odfi,
+                odfi_name,
+                destination,
+                destination_name,
+            },
+            operator_key,
         })
     }
 }

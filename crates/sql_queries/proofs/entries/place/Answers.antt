@@ -2,11 +2,11 @@ use Rattle.std.proofs.lemmas.Result.{IfOk-weaker}
 use Rattle.sql_queries.proofs.EntriesShown.{place_shown}
 use Rattle.sql_queries.proofs.Found.{first_found}
 use Rattle.sql_queries.proofs.Injective.{number_columns}
-use Rattle.sql_queries.proofs.Texts.{place_is}
+use Rattle.sql_queries.proofs.Texts.{places_is}
 use Rattle.sql_queries.proofs.entries.place.Goals as goal
 
 pub cell_of-requires : goal.cell_of-requires
-cell_of-requires g c = place_is.selects
+cell_of-requires g c = places_is.selects
 
 pub returns-clause-answer : goal.returns-clause-answer
-returns-clause-answer g c clean = IfOk-weaker c.cell_of.result _ _ (λ x read. first_found _ number_columns (place_shown c.args.sequence) (rw (c.in_ok-natural.ensures, c.from.ensures) at read)) (c.cell_of.ensures.answer clean)
+returns-clause-answer g c clean = IfOk-weaker c.cell_of.result _ _ (λ x read. first_found _ number_columns (place_shown c.args.sequence) (rw (c.in_ok-natural.ensures, c.from.ensures, c.in_ok-natural-2.ensures, c.from-2.ensures) at read)) (c.cell_of.ensures.answer clean)

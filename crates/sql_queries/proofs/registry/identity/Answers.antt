@@ -1,11 +1,6 @@
-use Rattle.sql_queries.proofs.Found.{one_found}
-use Rattle.sql_queries.proofs.Injective.{identity_rows}
-use Rattle.sql_queries.proofs.RegistryShown.{identity_shown}
-use Rattle.sql_queries.proofs.Texts.{identity_is}
+use Rattle.std.proofs.Common.{ap}
+use Rattle.sql_statements.proofs.Findings.{finds_as}
 use Rattle.sql_queries.proofs.registry.identity.Goals as goal
 
-pub first_of-requires : goal.first_of-requires
-first_of-requires g c = identity_is.selects
-
-pub returns-in-Some-clause-answer : goal.returns-in-Some-clause-answer
-returns-in-Some-clause-answer g c clean = one_found _ identity_rows identity_shown (c.in_ok-found.ensures.answer clean) c.in-Some.is
+pub returns-clause-answer : goal.returns-clause-answer
+returns-clause-answer g c clean = finds_as _ _ _ (λ t e. ap (λ d. d.identity) e) _ (c.in_ok-found.ensures.answer clean)

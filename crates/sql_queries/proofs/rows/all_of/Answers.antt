@@ -1,4 +1,4 @@
-use Rattle.std.proofs.Common.{◌≡◌, [], ◌∷◌, option_map, refl, subst, ◌∙◌, rules, arith}
+use Rattle.std.proofs.Common.{[], ◌∷◌, option_map, refl, subst, ◌∙◌, rules, arith}
 use Rattle.sqlite.specs.Given.{Advances}
 use Rattle.sqlite.specs.Held.{state}
 use Rattle.sqlite.specs.State.{State, HasCleanDisk, Survives}

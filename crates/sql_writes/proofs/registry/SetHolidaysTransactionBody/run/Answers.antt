@@ -1,4 +1,4 @@
-use Rattle.std.proofs.Common.{arith, sym, subst, ap, ◌∙◌}
+use Rattle.std.proofs.Common.{arith, sym}
 use Rattle.sqlite.specs.Held.{state}
 use Rattle.sql_statements.proofs.Edits.{makes_both}
 use Rattle.sql_statements.specs.Edits.{each_edit_from}

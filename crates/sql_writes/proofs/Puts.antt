@@ -1,0 +1,157 @@
+-- What the statement leaves that puts one row or sixteen into the table of a name, that changes its rows or takes some away.
+use Rattle.std.proofs.Common.{◌≡◌, ◌/◌, ℕ, ℤ, suc, Bool, true, List, [], ◌∷◌, ◌++◌, filter, length, slice_get, Some, Ok, refl}
+use Rattle.std.specs.List.{AllByRecursion, flat_map, list_all}
+use Rattle.sqlite.specs.declared.types.Value.TheVariants.{Null, Int}
+use Rattle.sqlite.specs.Effect.{value_rows}
+use Rattle.sqlite.specs.State.{State, Executes}
+use Rattle.sqlite.specs.Term.{Term, lit}
+use Rattle.sqlite_keyed.specs.Lists.{update_where, delete_where}
+use Rattle.sqlite_rules.specs.Action.{works}
+use Rattle.sqlite_schema.specs.Rules.{Keeps, passes as obeys}
+use Rattle.sqlite_schema.specs.declared.schema.Constraint.TheVariants.{Unique}
+use Rattle.sqlite_schema.specs.declared.schema.Keys.TheVariants.{Enforced}
+use Rattle.sqlite_sql.specs.Term.{holds, eval_all}
+use Rattle.sqlite_trees.specs.Tree.{Trees}
+use Rattle.sqlite_value.specs.Order.{Row}
+use Rattle.sql_statements.proofs.Casts.{row_kept, are_kept}
+use Rattle.sql_statements.proofs.Changes.{updated_counted, deleted}
+use Rattle.sql_statements.proofs.FreeKeys.{insert_rules}
+use Rattle.sql_statements.proofs.Inserts.{inserted}
+use Rattle.sql_statements.specs.Layouts.{Holds}
+use Rattle.sql_statements.specs.Statements.{IsInsert, IsUpdate, IsDelete, params_shown}
+use Rattle.sql_statements.specs.StoredRows.{row_of, Stores}
+use Rattle.sql_tables.proofs.ByName.{Others, with_records, changed, each_table}
+use Rattle.sql_tables.specs.ByName as named
+use Rattle.sql_tables.specs.ByName.{Name, Of, described, records, StandsAt}
+use Rattle.sql_tables.specs.Description.{row, table, insert_text, insert_sixteen_text}
+use Rattle.sql_tables.specs.Layout.{desk_layout}
+use Rattle.sql_tables.specs.Schema.{desk_schema}
+use Rattle.sql_tables.specs.Tables.{Tables}
+use Rattle.sql_writes.proofs.ManyInserts.{inserted_rows, rows_rules}
+use Rattle.sql_writes.specs.ManyRows.{IsInsertOfRows, rows_shown}
+
+-- the place of the table among those of the schema
+abbrev pub place_of : Name → ℕ
+place_of named.desk = 0
+place_of named.holidays = 1
+place_of named.companies = 2
+place_of named.submissions = 3
+place_of named.entries = 4
+place_of named.returns = 5
+place_of named.changes = 6
+place_of named.postings = 7
+place_of named.suspense = 8
+place_of named.files = 9
+place_of named.taken = 10
+place_of named.balances = 11
+place_of named.numbers = 12
+place_of named.authorizations = 13
+
+listed : (n : Name) → slice_get desk_schema.tables (place_of n) ≡ Some (table (described n))
+listed named.desk = refl
+listed named.holidays = refl
+listed named.companies = refl
+listed named.submissions = refl
+listed named.entries = refl
+listed named.returns = refl
+listed named.changes = refl
+listed named.postings = refl
+listed named.suspense = refl
+listed named.files = refl
+listed named.taken = refl
+listed named.balances = refl
+listed named.numbers = refl
+listed named.authorizations = refl
+
+-- no statement that puts rows in has to do more for them
+quiet : (n : Name) (olds news : List Row) → works desk_schema Enforced 0 (described n).tree olds news ≡ []
+quiet named.desk olds news = refl
+quiet named.holidays olds news = refl
+quiet named.companies olds news = refl
+quiet named.submissions olds news = refl
+quiet named.entries olds news = refl
+quiet named.returns olds news = refl
+quiet named.changes olds news = refl
+quiet named.postings olds news = refl
+quiet named.suspense olds news = refl
+quiet named.files olds news = refl
+quiet named.taken olds news = refl
+quiet named.balances olds news = refl
+quiet named.numbers olds news = refl
+quiet named.authorizations olds news = refl
+
+-- the table has these records, and all other tables are as they were
+pub record HasRecords (n : Name) (xs : List (Of n)) (old new : State) : Type 0 where
+  pub schema_is : new.now.schema ≡ desk_schema
+  pub others : Others n old.now.trees new.now.trees
+  pub stored : Stores (row (described n)) (new.now.trees (described n).tree) xs
+
+-- where they stand in order, the tables hold with them
+pub holds_with : (n : Name) (ys : List (Of n)) {xs : List (Of n)} {old new : State} {t : Tables} → Holds desk_layout old.now t → HasRecords n xs old new → StandsAt new.now.trees n (records n (with_records n ys t)) → Holds desk_layout new.now (with_records n ys t)
+holds_with n ys {old = old} {new = new} {t = t} h has is = (has.schema_is, changed n old.now.trees new.now.trees t h.1 has.others ys is)
+
+-- the keys of the table allow each of its rows
+abbrev pub AreUnique : Name → Trees → Type 0
+AreUnique n trees = AllByRecursion (λ r. obeys Unique desk_schema trees (table (described n)) r ≡ true) (trees (described n).tree)
+
+-- it has these records more, and its keys allow each
+pub record HasPut (n : Name) (xs : List (Of n)) (old new : State) (t : Tables) : Type 0 where
+  pub has : HasRecords n (xs ++ records n t) old new
+  pub unique : AreUnique n new.now.trees
+
+module _ (n : Name) where
+  abbrev width : ℕ
+  width = length (table (described n)).columns
+
+  abbrev terms : List Term
+  terms = lit Null ∷ params_shown width
+
+  -- ---- rows are put in
+
+  -- the text of one row puts its parameters in
+  pub record PutsOne : Type 0 where
+    pub is : IsInsert desk_schema (insert_text (described n)) (place_of n) (table (described n))
+    pub given : (x : Of n) → value_rows (row (described n) x) (suc width) (length terms / suc width) terms ≡ (Null ∷ row (described n) x) ∷ []
+    pub kept : (x : Of n) → are_kept (table (described n)).columns (row (described n) x) ≡ true
+
+  pub one_put : PutsOne → (x : Of n) (old new : State) (count : ℕ) → Executes (insert_text (described n)) (row (described n) x) old new (Ok count) → (t : Tables) → Holds desk_layout old.now t → HasPut n (x ∷ []) old new t
+  one_put puts x old new count ran t h =
+      let d = described n in
+      let s = table d in
+      let done = inserted (row d) desk_schema (place_of n) d.tree s.name s.columns s.primary s.uniques s.orders (insert_text d) puts.is (listed n) (quiet n) x (puts.given x) (row_kept s Null (row d x) refl (puts.kept x)) old new count h.0 (records n t) (h.1.stands n).stored ran in
+      let rules : Keeps Unique desk_schema new.now.trees = insert_rules desk_schema (insert_text d) (place_of n) s puts.is (row d x) old new count h.0 done.0.schema_is ran in
+      record { has = record { schema_is = done.0.schema_is; others = done.0.others; stored = done.1 }; unique = each_table (λ u. AllByRecursion (λ r. obeys Unique desk_schema new.now.trees u r ≡ true) (new.now.trees u.tree)) rules n }
+
+  -- the text of sixteen rows puts theirs in
+  pub record PutsSixteen : Type 0 where
+    pub is : IsInsertOfRows desk_schema (insert_sixteen_text (described n)) (place_of n) (table (described n)) 16
+    pub whole : length (rows_shown width 0 16) / suc width ≡ 16
+    pub wide : (x : Of n) → length (row (described n) x) ≡ width
+    pub kept : (x : Of n) → are_kept (table (described n)).columns (row (described n) x) ≡ true
+
+  pub sixteen_put : PutsSixteen → (xs : List (Of n)) → length xs ≡ 16 → (old new : State) (count : ℕ) → Executes (insert_sixteen_text (described n)) (flat_map (row (described n)) xs) old new (Ok count) → (t : Tables) → Holds desk_layout old.now t → HasPut n xs old new t
+  sixteen_put puts xs many old new count ran t h =
+      let d = described n in
+      let s = table d in
+      let done = inserted_rows (row d) desk_schema (place_of n) d.tree s.name s.columns s.primary s.uniques s.orders (insert_sixteen_text d) 16 puts.is (listed n) (quiet n) puts.whole puts.wide (λ x. row_kept s Null (row d x) refl (puts.kept x)) xs many old new count h.0 (records n t) (h.1.stands n).stored ran in
+      let rules : Keeps Unique desk_schema new.now.trees = rows_rules desk_schema (insert_sixteen_text d) (place_of n) s 16 puts.is (flat_map (row d) xs) old new count h.0 done.0.schema_is ran in
+      record { has = record { schema_is = done.0.schema_is; others = done.0.others; stored = done.1 }; unique = each_table (λ u. AllByRecursion (λ r. obeys Unique desk_schema new.now.trees u r ≡ true) (new.now.trees u.tree)) rules n }
+
+  -- ---- rows are changed, or go
+
+  module _ (sql : List ℕ) (tests : List Term) (params : Row) (p : Of n → Bool)
+      (tested : (i : ℤ) (x : Of n) → list_all (holds (params ∷ row_of (row (described n)) (i, x) ∷ [])) tests ≡ p x) (old new : State) (count : ℕ) (ran : Executes sql params old new (Ok count)) (t : Tables) (h : Holds desk_layout old.now t) where
+    pub rows_updated : (sets : List Term) → IsUpdate desk_schema sql (place_of n) (described n).tree tests sets → (f : Of n → Of n) → ((i : ℤ) (x : Of n) → eval_all sets (params ∷ row_of (row (described n)) (i, x) ∷ []) ≡ row (described n) (f x))
+        → ((x : Of n) → are_kept (table (described n)).columns (row (described n) x) ≡ true) → HasRecords n (update_where p f (records n t)) old new × (count ≡ length (filter p (records n t)))
+    rows_updated sets is f made kept =
+        let d = described n in
+        let s = table d in
+        let done = updated_counted (row d) desk_schema (place_of n) d.tree s.name s.columns s.primary s.uniques s.orders sql tests sets is (listed n) (quiet n) params p f tested made (λ i x. row_kept s (Int i) (row d x) refl (kept x)) old new count h.0 (records n t) (h.1.stands n).stored ran in
+        (record { schema_is = done.0.schema_is; others = done.0.others; stored = done.1 }, done.2)
+
+    pub rows_deleted : IsDelete desk_schema sql (place_of n) (described n).tree tests → HasRecords n (delete_where p (records n t)) old new
+    rows_deleted is =
+        let d = described n in
+        let s = table d in
+        let done = deleted (row d) desk_schema (place_of n) d.tree s.name s.columns s.primary s.uniques s.orders sql tests is (listed n) (quiet n) params p tested old new count h.0 (records n t) (h.1.stands n).stored ran in
+        record { schema_is = done.0.schema_is; others = done.0.others; stored = done.1 }
