@@ -25,7 +25,7 @@ use Rattle.sql_migration.proofs.KeptBooks.{book_kept, first_kept}
 use Rattle.sql_migration.proofs.NewTables.{creates_numbers, creates_authorizations, numbered_schema, written_numbers, written_authorizations, not_second}
 use Rattle.sql_migration.proofs.SecondTables.{second_tables, desk_stays, version_set, schema_stays, with_no_numbers}
 
-pub migration_made : (s0 s1 s2 s3 s4 : State) (a b c : ℕ) → GoesOn s0 s1 → GoesOn s1 s2 → GoesOn s2 s3 → Executes (create_text the.sequences) [] s0 s1 (Ok a) → Executes (create_text the.authorizations) [] s1 s2 (Ok b) → Executes update_version [] s2 s3 (Ok c)
+pub migration_made : (s0 s1 s2 s3 s4 : State) (a b c : ℕ) → GoesOn s0 s1 → GoesOn s1 s2 → GoesOn s2 s3 → Executes (create_text the.sequences) [] s0 s1 (Ok a) → Executes (create_text the.authorizations) [] s1 s2 (Ok b) → Executes update_version.text [] s2 s3 (Ok c)
     → Makes seen_layout (if_seen number_entries_edit) s3 s4 → Makes migration_layout migration_edit s0 s4
 migration_made s0 s1 s2 s3 s4 a b c on1 on2 on3 numbers authorizations version entries inside is_open =
     let last = entries (subst IsTrue (sym on3.mode) refl) on3.is_open in

@@ -66,7 +66,7 @@ Versioned = ℕ × DeskRecord
 abbrev its_row : Versioned → Row
 its_row v = versioned_row v.0 v.1
 
-update_version_is : IsUpdate desk_schema update_version 0 0 (is_number 1 (pos 1) ∷ []) (col 1 1 ∷ lit (Int (pos 2)) ∷ col 1 3 ∷ col 1 4 ∷ col 1 5 ∷ col 1 6 ∷ col 1 7 ∷ col 1 8 ∷ [])
+update_version_is : IsUpdate desk_schema update_version.text 0 0 update_version.tests update_version.sets
 unfolding understood everything
 update_version_is = record { updates = refl; body = refl; alone = refl; plain = (refl, refl) }
 
@@ -82,23 +82,23 @@ pub record SetsVersion (d : DeskRecord) (old new : Database) : Type 0 where
   pub others : AllByRecursion (λ t. t.tree ≢ 0 → new.trees t.tree ≡ old.trees t.tree) desk_schema.tables
   pub row : Stores desk_row (new.trees 0) (d ∷ [])
 
-pub version_set : (d : DeskRecord) (old new : State) (count : ℕ) → old.now.schema ≡ desk_schema → Stores (versioned_row 1) (old.now.trees 0) (d ∷ []) → Executes update_version [] old new (Ok count) → SetsVersion d old.now new.now
+pub version_set : (d : DeskRecord) (old new : State) (count : ℕ) → old.now.schema ≡ desk_schema → Stores (versioned_row 1) (old.now.trees 0) (d ∷ []) → Executes update_version.text [] old new (Ok count) → SetsVersion d old.now new.now
 version_set d old new count has stored ran =
     let s = desk_table in
     let was : Stores its_row (old.now.trees 0) ((1, d) ∷ []) = row_as (versioned_row 1) its_row (old.now.trees 0) d (1, d) refl stored in
-    let done = updated its_row desk_schema 0 0 s.name s.columns s.primary s.uniques s.orders update_version (is_number 1 (pos 1) ∷ [])
-    (col 1 1 ∷ lit (Int (pos 2)) ∷ col 1 3 ∷ col 1 4 ∷ col 1 5 ∷ col 1 6 ∷ col 1 7 ∷ col 1 8 ∷ []) update_version_is refl (λ olds news. refl) [] (λ _. true) (λ v. (2, v.1))
+    let done = updated its_row desk_schema 0 0 s.name s.columns s.primary s.uniques s.orders update_version.text update_version.tests update_version.sets
+    update_version_is refl (λ olds news. refl) [] (λ _. true) (λ v. (2, v.1))
     (λ i v. and_true _ ∙ int_is (pos 1) (pos 1)) (λ i v. refl) (λ i v. row_kept s (Int i) (its_row v) refl (versioned_kept v)) old new count has ((1, d) ∷ []) was ran in
     record { schema_is = done.0.schema_is; others = done.0.others; row = row_as its_row desk_row (new.now.trees 0) (2, d) d refl done.1 }
 
 -- the schema stays, whatever rows there are
-pub schema_stays : (old new : State) (count : ℕ) → old.now.schema ≡ desk_schema → Executes update_version [] old new (Ok count) → new.now.schema ≡ desk_schema
+pub schema_stays : (old new : State) (count : ℕ) → old.now.schema ≡ desk_schema → Executes update_version.text [] old new (Ok count) → new.now.schema ≡ desk_schema
 schema_stays old new count has ran =
-    run (command_of (understood desk_schema update_version)) update_version_is.updates (runs_as update_version [] old new desk_schema has (command_of (understood desk_schema update_version)) refl update_version_is.plain count ran)
+    run (command_of (understood desk_schema update_version.text)) update_version_is.updates (runs_as update_version.text [] old new desk_schema has (command_of (understood desk_schema update_version.text)) refl update_version_is.plain count ran)
   where
-    run : (c : Command) → is_update 0 c ≡ true → Runs old new None c (statement_of update_version (understood desk_schema update_version)) [] count → new.now.schema ≡ desk_schema
+    run : (c : Command) → is_update 0 c ≡ true → Runs old new None c (statement_of update_version.text (understood desk_schema update_version.text)) [] count → new.now.schema ≡ desk_schema
     run (Update place q) picks w =
-        let all = subst (λ s. Does old.step_limit (mode_of old) [] (record old.now { schema = s }) (statement_of update_version (understood desk_schema update_version)) None (Update place q) (Ok (w.tally, new.now))) has w.changed in
+        let all = subst (λ s. Does old.step_limit (mode_of old) [] (record old.now { schema = s }) (statement_of update_version.text (understood desk_schema update_version.text)) None (Update place q) (Ok (w.tally, new.now))) has w.changed in
         let here : place ≡ 0 = sym (eqb-true 0 place picks) in
         let listed : slice_get desk_schema.tables place ≡ Some desk_table = rw here refl in
         rows_schema (record { limit = old.step_limit; keys = Enforced; schema = desk_schema; table = desk_table; params = [] }) old (Update place q) old.now.trees w.tally new.now (rw listed at all)

@@ -13,7 +13,6 @@ use Rattle.sqlite.specs.State.{State, Executes}
 use Rattle.sqlite.specs.declared.types.Value.TheVariants.{Null, Int}
 use Rattle.sqlite_keyed.specs.Lists.{insert_sorted, update_where}
 use Rattle.sqlite_rules.specs.Keys.{conflicts}
-use Rattle.sqlite_sql.specs.Term.{col}
 use Rattle.sqlite_value.specs.Keys.{first_key}
 use Rattle.sql_statements.specs.Statements.{IsUpsert}
 use Rattle.sql_statements.specs.StoredRows.{row_of, Stores}
@@ -42,7 +41,7 @@ use Rattle.sql_writes.proofs.Conditions.{number_is, same_text, same_number, equa
 use Rattle.sql_writes.proofs.Keys.{put_in_order}
 use Rattle.sql_writes.specs.LineTexts.{upsert_balance}
 
-upsert_balance_is : IsUpsert desk_schema upsert_balance 11 24 balances_table (1 ∷ 2 ∷ []) (col 1 1 ∷ col 1 2 ∷ col 0 2 ∷ [])
+upsert_balance_is : IsUpsert desk_schema upsert_balance.text 11 24 balances_table (1 ∷ 2 ∷ []) upsert_balance.sets
 unfolding understood everything
 upsert_balance_is = record { update = _; is = refl; body = refl; alone = refl; plain = (refl, refl) }
 
@@ -95,11 +94,11 @@ module _ (n : BalanceRecord) where
       go true e = rises_updated balance_cmp is_it set keeps_order bs rise
       go false e = rises_sorted balance_cmp balance_total n bs ((λ i. list_any (λ y. equal_balances y n i) bs) ∙ e) rise
 
-  pub balance_put : (old new : State) (count : ℕ) → Executes upsert_balance (balance_row n) old new (Ok count) → (t : Tables) → Holds desk_layout old.now t
+  pub balance_put : (old new : State) (count : ℕ) → Executes upsert_balance.text (balance_row n) old new (Ok count) → (t : Tables) → Holds desk_layout old.now t
       → Holds desk_layout new.now (record t { balances = with_balance n.account n.value_day n.cents t.balances })
   balance_put old new count ran t h =
       let s = balances_table in
-      let done = upserted balance_row desk_schema 11 24 s.name s.columns s.primary s.uniques s.orders upsert_balance (1 ∷ 2 ∷ []) (col 1 1 ∷ col 1 2 ∷ col 0 2 ∷ []) upsert_balance_is refl (λ olds news. refl)
+      let done = upserted balance_row desk_schema 11 24 s.name s.columns s.primary s.uniques s.orders upsert_balance.text (1 ∷ 2 ∷ []) upsert_balance.sets upsert_balance_is refl (λ olds news. refl)
       n refl (row_kept s Null (balance_row n) refl refl) (λ i y. row_kept s (Int i) (balance_row y) refl refl) is_it set meets (λ i j k y. and_true _ ∙ int_is i j) (λ i j k y. refl)
       old new count h.0 t.balances (h.1.stands named.balances).stored (one_of _ is_it one_balance t.balances (h.1.stands named.balances).rise) ran in
       (done.0.schema_is, changed named.balances old.now.trees new.now.trees t h.1 done.0.others _ (sorted (list_any is_it t.balances) refl done.1))

@@ -9,9 +9,8 @@ use Rattle.sqlite_value.specs.Keys.{first_key, plain}
 use Rattle.sqlite_schema.specs.Rules.{agree}
 use Rattle.sqlite.specs.State.{State, Executes}
 use Rattle.sqlite_keyed.specs.Lists.{insert_sorted}
-use Rattle.sqlite_sql.specs.Term.{col}
 use Rattle.sqlite_value.specs.declared.value.Value.TheVariants.{Text}
-use Rattle.sql_statements.specs.Statements.{IsInsert, IsUpdate, column_is}
+use Rattle.sql_statements.specs.Statements.{IsInsert}
 use Rattle.sql_statements.specs.StoredRows.{row_of}
 use Rattle.sql_statements.proofs.KeyOrder.{rises_updated}
 use Rattle.sql_statements.proofs.Conditions.{text_is, and_true}
@@ -31,7 +30,7 @@ use Rattle.sql_tables.specs.Layout.{desk_layout}
 use Rattle.sql_tables.specs.RecordRows.{company_row}
 use Rattle.sql_tables.specs.TableReads.{company_in}
 use Rattle.sql_tables.specs.Tables.{Tables}
-use Rattle.sql_writes.proofs.Puts.{holds_with, one_put, place_of, PutsOne, rows_updated}
+use Rattle.sql_writes.proofs.Puts.{holds_with, one_put, IsUpdateOf, place_of, PutsOne, rows_updated}
 use Rattle.sql_writes.specs.Texts.{insert_company, update_limits}
 use Rattle.sql_writes.proofs.Conditions.{same_text, text_itself, taken_first}
 use Rattle.sql_writes.proofs.Keys.{find_none, key_free, put_in_order}
@@ -60,15 +59,14 @@ company_put k old new count ran t h =
       find_none (has_id k.id) t.companies free,
     )
 
-update_limits_is : IsUpdate desk_schema update_limits 2 4 (column_is 1 0 ∷ []) (col 1 1 ∷ col 1 2 ∷ col 1 3 ∷ col 0 1 ∷ col 0 2 ∷ col 0 3 ∷ [])
+update_limits_is : IsUpdateOf named.companies update_limits
 unfolding understood everything
-update_limits_is = record { updates = refl; body = refl; alone = refl; plain = (refl, refl) }
+update_limits_is = record { is = record { updates = refl; body = refl; alone = refl; plain = (refl, refl) } }
 
-pub limits_put : (id : List ℕ) (limits : Limits) (old new : State) (count : ℕ) → Executes update_limits (Text id ∷ number limits.entry ∷ number limits.credit ∷ number limits.debit ∷ []) old new (Ok count)
+pub limits_put : (id : List ℕ) (limits : Limits) (old new : State) (count : ℕ) → Executes update_limits.text (Text id ∷ number limits.entry ∷ number limits.credit ∷ number limits.debit ∷ []) old new (Ok count)
     → (t : Tables) → Holds desk_layout old.now t → Holds desk_layout new.now (record t { companies = map (with_limits id limits) t.companies })
 limits_put id limits old new count ran t h =
     let set : Company → Company = λ k. record k { limits = limits } in
     let kept : (k : Company) → (cond (has_id id k) (set k) k).id ≡ k.id = λ k. elim (has_id id k) as (λ b. (cond b (set k) k).id ≡ k.id) [ true ↦ refl | false ↦ refl ] in
-    let made = rows_updated named.companies update_limits (column_is 1 0 ∷ []) (Text id ∷ number limits.entry ∷ number limits.credit ∷ number limits.debit ∷ []) (has_id id) (λ i k. and_true _ ∙ text_is k.id id) old new count ran t h
-        (col 1 1 ∷ col 1 2 ∷ col 1 3 ∷ col 0 1 ∷ col 0 2 ∷ col 0 3 ∷ []) update_limits_is set (λ i k. refl) (λ k. refl) in
+    let made = rows_updated named.companies update_limits (Text id ∷ number limits.entry ∷ number limits.credit ∷ number limits.debit ∷ []) (has_id id) (λ i k. and_true _ ∙ text_is k.id id) old new count ran t h update_limits_is set (λ i k. refl) (λ k. refl) in
     holds_with named.companies _ h made.0 (record { stored = made.0.stored; rise = rises_updated company_cmp (has_id id) set (λ a b. λ i. text_cmp (kept a i) (kept b i)) t.companies (h.1.stands named.companies).rise })

@@ -7,11 +7,10 @@ use Rattle.sqlite.specs.Listing.{understood}
 use Rattle.sqlite.specs.State.{State, Executes}
 use Rattle.sqlite_keyed.specs.Lists.{insert_sorted, delete_where}
 use Rattle.sqlite_schema.specs.Rules.{agree}
-use Rattle.sqlite_sql.specs.Term.{col}
 use Rattle.sqlite_value.specs.Keys.{first_key, plain}
 use Rattle.sql_statements.proofs.Casts.{are_kept}
 use Rattle.sql_statements.proofs.Conditions.{int_is, and_true}
-use Rattle.sql_statements.specs.Statements.{IsUpdate, IsDelete, IsInsert, number_is as is_number}
+use Rattle.sql_statements.specs.Statements.{IsInsert}
 use Rattle.sql_statements.specs.StoredRows.{row_of, Stores}
 use Rattle.sql_statements.specs.Layouts.{Holds}
 use Rattle.sql_tables.specs.ByName as named
@@ -24,14 +23,14 @@ use Rattle.sql_tables.specs.Layout.{desk_layout}
 use Rattle.sql_tables.specs.RecordRows.{desk_row, holiday_row}
 use Rattle.sql_tables.specs.Tables.{Tables}
 use Rattle.sql_tables.specs.declared.records.DeskRecord.{DeskRecord}
-use Rattle.sql_writes.proofs.Puts.{holds_with, one_put, place_of, PutsOne, rows_deleted, rows_updated}
+use Rattle.sql_writes.proofs.Puts.{holds_with, one_put, IsDeleteOf, IsUpdateOf, place_of, PutsOne, rows_deleted, rows_updated}
 use Rattle.sql_writes.specs.Texts.{update_day, delete_holidays, insert_holiday}
 use Rattle.sql_writes.proofs.Conditions.{number_is, same_number, number_itself, equal_numbers, taken_first}
 use Rattle.sql_writes.proofs.Keys.{key_free, put_in_order}
 
-update_day_is : IsUpdate desk_schema update_day 0 0 (is_number 1 (pos 1) ∷ []) (col 1 1 ∷ col 1 2 ∷ col 1 3 ∷ col 1 4 ∷ col 1 5 ∷ col 1 6 ∷ col 1 7 ∷ col 0 0 ∷ [])
+update_day_is : IsUpdateOf named.desk update_day
 unfolding understood everything
-update_day_is = record { updates = refl; body = refl; alone = refl; plain = (refl, refl) }
+update_day_is = record { is = record { updates = refl; body = refl; alone = refl; plain = (refl, refl) } }
 
 desk_kept : (d : DeskRecord) → are_kept desk_table.columns (desk_row d) ≡ true
 desk_kept d = go d.day
@@ -40,26 +39,25 @@ desk_kept d = go d.day
     go None = refl
     go (Some n) = refl
 
-pub day_set : (day : ℕ) (old new : State) (count : ℕ) → Executes update_day (number day ∷ []) old new (Ok count) → (t : Tables) → Holds desk_layout old.now t
+pub day_set : (day : ℕ) (old new : State) (count : ℕ) → Executes update_day.text (number day ∷ []) old new (Ok count) → (t : Tables) → Holds desk_layout old.now t
     → Holds desk_layout new.now (record t { desk = record t.desk { day = Some day } })
 day_set day old new count ran t h =
-    let made = rows_updated named.desk update_day (is_number 1 (pos 1) ∷ []) (number day ∷ []) (λ _. true) (λ i d. and_true _ ∙ int_is (pos 1) (pos 1)) old new count ran t h
-        (col 1 1 ∷ col 1 2 ∷ col 1 3 ∷ col 1 4 ∷ col 1 5 ∷ col 1 6 ∷ col 1 7 ∷ col 0 0 ∷ []) update_day_is (λ d. record d { day = Some day }) (λ i d. refl) desk_kept in
+    let made = rows_updated named.desk update_day (number day ∷ []) (λ _. true) (λ i d. and_true _ ∙ int_is (pos 1) (pos 1)) old new count ran t h update_day_is (λ d. record d { day = Some day }) (λ i d. refl) desk_kept in
     holds_with named.desk (_ ∷ []) h made.0 (record { stored = made.0.stored; rise = (tt, tt) })
 
 -- ---- the calendar
 
-delete_holidays_is : IsDelete desk_schema delete_holidays 1 2 []
+delete_holidays_is : IsDeleteOf named.holidays delete_holidays
 unfolding understood everything
-delete_holidays_is = record { deletes = refl; body = refl; alone = refl; plain = (refl, refl) }
+delete_holidays_is = record { is = record { deletes = refl; body = refl; alone = refl; plain = (refl, refl) } }
 
 none_left : (days : List ℕ) → delete_where (λ _. true) days ≡ []
 none_left [] = refl
 none_left (d ∷ days) = none_left days
 
-pub holidays_cleared : (old new : State) (count : ℕ) → Executes delete_holidays [] old new (Ok count) → (t : Tables) → Holds desk_layout old.now t → Holds desk_layout new.now (record t { holidays = [] })
+pub holidays_cleared : (old new : State) (count : ℕ) → Executes delete_holidays.text [] old new (Ok count) → (t : Tables) → Holds desk_layout old.now t → Holds desk_layout new.now (record t { holidays = [] })
 holidays_cleared old new count ran t h =
-    let made = rows_deleted named.holidays delete_holidays [] [] (λ _. true) (λ i d. refl) old new count ran t h delete_holidays_is in
+    let made = rows_deleted named.holidays delete_holidays [] (λ _. true) (λ i d. refl) old new count ran t h delete_holidays_is in
     holds_with named.holidays [] h made (record { stored = subst (Stores holiday_row (new.now.trees 2)) (none_left t.holidays) made.stored; rise = tt })
 
 insert_holiday_is : IsInsert desk_schema insert_holiday (place_of named.holidays) (table (described named.holidays))

@@ -9,7 +9,7 @@ use Rattle.sqlite.specs.Listing.{understood}
 use Rattle.sqlite.specs.State.{State, Executes}
 use Rattle.sqlite_keyed.specs.Lists.{update_where}
 use Rattle.sqlite_sql.specs.Ops.{binary, fits_i64, int_or, real_arith, from_int}
-use Rattle.sqlite_sql.specs.Term.{Term, col, op2, holds, eval_all}
+use Rattle.sqlite_sql.specs.Term.{col, holds, eval_all}
 use Rattle.sqlite_sql.specs.declared.ops.BinaryOp.TheVariants.{Arith}
 use Rattle.sqlite_sql.specs.declared.ops.ArithOp.TheVariants.{Add}
 use Rattle.sqlite_value.specs.Order.{Row}
@@ -17,7 +17,6 @@ use Rattle.sqlite_value.specs.declared.value.Value.{Value}
 use Rattle.sqlite_value.specs.declared.value.Value.TheVariants.{Int, Text}
 use Rattle.sql_statements.specs.Edits.{each_edit_from}
 use Rattle.sql_statements.specs.Layouts.{Holds}
-use Rattle.sql_statements.specs.Statements.{IsUpdate, column_is, null_at, at_least, at_most}
 use Rattle.sql_statements.specs.StoredRows.{row_of, Stores}
 use Rattle.sql_statements.proofs.Casts.{row_kept}
 use Rattle.sql_statements.proofs.Conditions.{text_is, int_least, int_most, and_true}
@@ -38,6 +37,7 @@ use Rattle.sql_tables.specs.declared.records.EntryRecord.{EntryRecord}
 use Rattle.sql_writes.proofs.Conditions as conditions
 use Rattle.sql_writes.proofs.KeyTests.{and_joined, none_is, one_entry}
 use Rattle.sql_writes.proofs.PassingUpdates.{updated_passing}
+use Rattle.sql_writes.proofs.Puts.{IsUpdateOf}
 use Rattle.sql_writes.proofs.RunUpdates.{inside, marks, AreThere, still_there, run_is_marks}
 use Rattle.sql_writes.proofs.SubmissionRows.{entry_kept}
 use Rattle.sql_writes.specs.CutTexts.{update_run}
@@ -45,10 +45,9 @@ use Rattle.sql_writes.specs.EntryRuns.{is_numbered, stands_after}
 use Rattle.sql_writes.specs.PlaceEdits.{mark_entry_edit}
 use Rattle.sql_writes.specs.Runs.{is_run}
 
-update_run_is : IsUpdate desk_schema update_run 4 9 (column_is 1 0 ∷ column_is 2 1 ∷ at_least 3 3 ∷ at_most 3 4 ∷ null_at 12 ∷ [])
-    (col 1 1 ∷ col 1 2 ∷ col 1 3 ∷ col 1 4 ∷ col 1 5 ∷ col 1 6 ∷ col 1 7 ∷ col 1 8 ∷ col 1 9 ∷ col 1 10 ∷ col 1 11 ∷ op2 (Arith Add) (col 0 2) (col 1 3) ∷ [])
+update_run_is : IsUpdateOf named.entries update_run
 unfolding understood everything
-update_run_is = record { updates = refl; body = refl; alone = refl; plain = (refl, refl) }
+update_run_is = record { is = record { updates = refl; body = refl; alone = refl; plain = (refl, refl) } }
 
 -- a sum that fits is the sum
 sum_is : (n k : ℕ) → n + k < 2 ^ 63 → binary (Arith Add) (number n) (number k) ≡ number (n + k)
@@ -151,10 +150,7 @@ module _ (first : SentEntry) (before last : ℕ) (room : before + last < 2 ^ 63)
   abbrev is_it : EntryRecord → Bool
   is_it = is_unsent_within first first.index last
 
-  abbrev its_tests : List Term
-  its_tests = column_is 1 0 ∷ column_is 2 1 ∷ at_least 3 3 ∷ at_most 3 4 ∷ null_at 12 ∷ []
-
-  tested : (i : ℤ) (r : EntryRecord) → list_all (holds (its_params ∷ row_of entry_row (i, r) ∷ [])) its_tests ≡ is_it r
+  tested : (i : ℤ) (r : EntryRecord) → list_all (holds (its_params ∷ row_of entry_row (i, r) ∷ [])) update_run.tests ≡ is_it r
   tested i r =
       let v = bytes_eq r.company first.company in
       let w = r.order == first.order in
@@ -182,7 +178,7 @@ module _ (first : SentEntry) (before last : ℕ) (room : before + last < 2 ^ 63)
       most a b e = grind (arith, ints, e)
 
   made : (i : ℤ) (r : EntryRecord) → is_it r ≡ true
-      → eval_all (col 1 1 ∷ col 1 2 ∷ col 1 3 ∷ col 1 4 ∷ col 1 5 ∷ col 1 6 ∷ col 1 7 ∷ col 1 8 ∷ col 1 9 ∷ col 1 10 ∷ col 1 11 ∷ op2 (Arith Add) (col 0 2) (col 1 3) ∷ []) (its_params ∷ row_of entry_row (i, r) ∷ []) ≡ entry_row (set r)
+      → eval_all update_run.sets (its_params ∷ row_of entry_row (i, r) ∷ []) ≡ entry_row (set r)
   made i r h = let parts = parts_of r h in ap put (sum_is before r.index (omega (arith, room, parts.2)))
     where
       put : Value → Row
@@ -202,12 +198,12 @@ module _ (first : SentEntry) (before last : ℕ) (room : before + last < 2 ^ 63)
 
   -- the statement writes the places of a run, if it says that it wrote so many rows
   pub run_marked : (es : List SentEntry) → last + 1 ≡ first.index + length es → slice_get es 0 ≡ Some first → is_run stands_after es ≡ true → (place : ℕ) → place ≡ before + first.index
-      → (old new : State) → Executes update_run its_params old new (Ok (length es)) → (t : Tables) → Holds desk_layout old.now t
+      → (old new : State) → Executes update_run.text its_params old new (Ok (length es)) → (t : Tables) → Holds desk_layout old.now t
       → Holds desk_layout new.now ((each_edit_from mark_entry_edit place es).after t) × (each_edit_from mark_entry_edit place es).Tells t
   run_marked es ends head run place at old new ran t h =
       let names = run_named first es head run in
       let s = entries_table in
-      let done = updated_passing entry_row desk_schema 4 9 s.name s.columns s.primary s.uniques s.orders update_run its_tests _ update_run_is refl (λ olds news. refl)
+      let done = updated_passing entry_row desk_schema 4 9 s.name s.columns s.primary s.uniques s.orders update_run.text update_run.tests update_run.sets update_run_is.is refl (λ olds news. refl)
       its_params is_it set tested made (λ i r. row_kept s (Int i) (entry_row r) refl (entry_kept r)) old new (length es) h.0 t.entries (h.1.stands named.entries).stored ran in
       let key = is_of first in
       let index = λ (r : EntryRecord). r.index in

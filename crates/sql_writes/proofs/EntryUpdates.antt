@@ -6,17 +6,15 @@ use Rattle.std.specs.Ordering.{nat_cmp, ordering_then}
 use Rattle.sqlite_tied.specs.Compute.{everything}
 use Rattle.sqlite.specs.Listing.{understood}
 use Rattle.sqlite.specs.State.{State, Executes}
-use Rattle.sqlite_sql.specs.Term.{col, holds}
+use Rattle.sqlite_sql.specs.Term.{holds}
 use Rattle.sqlite_value.specs.Order.{Row}
 use Rattle.sqlite_value.specs.declared.value.Value.TheVariants.{Text}
-use Rattle.sql_statements.specs.Statements.{IsUpdate, column_is, null_at}
 use Rattle.sql_statements.specs.StoredRows.{row_of, Stores}
 use Rattle.sql_statements.proofs.Conditions.{text_is, and_true}
 use Rattle.sql_statements.proofs.KeyOrder.{rises_updated}
 use Rattle.sql_statements.proofs.OneRow.{one_of, one_found, updates_agree}
 use Rattle.sql_statements.specs.Layouts.{Holds}
 use Rattle.sql_tables.specs.ByName as named
-use Rattle.sql_tables.specs.Schema.{desk_schema}
 use Rattle.desk_history.specs.declared.sent_entry.SentEntry.{SentEntry}
 use Rattle.sql_tables.specs.Columns.{number}
 use Rattle.sql_tables.specs.CutTables.{is_entry_row, mark_entry}
@@ -26,16 +24,15 @@ use Rattle.sql_tables.specs.RecordRows.{entry_row}
 use Rattle.sql_tables.specs.TableEdits.{IsUnsent}
 use Rattle.sql_tables.specs.Tables.{Tables}
 use Rattle.sql_tables.specs.declared.records.EntryRecord.{EntryRecord}
-use Rattle.sql_writes.proofs.Puts.{holds_with, rows_updated}
+use Rattle.sql_writes.proofs.Puts.{holds_with, IsUpdateOf, rows_updated}
 use Rattle.sql_writes.proofs.Conditions as conditions
 use Rattle.sql_writes.proofs.SubmissionRows.{entry_kept}
 use Rattle.sql_writes.specs.CutTexts.{update_entry}
 use Rattle.sql_writes.proofs.KeyTests.{and_joined, none_is, one_entry}
 
-update_entry_is : IsUpdate desk_schema update_entry 4 9 (column_is 1 0 ∷ column_is 2 1 ∷ column_is 3 2 ∷ null_at 12 ∷ [])
-    (col 1 1 ∷ col 1 2 ∷ col 1 3 ∷ col 1 4 ∷ col 1 5 ∷ col 1 6 ∷ col 1 7 ∷ col 1 8 ∷ col 1 9 ∷ col 1 10 ∷ col 1 11 ∷ col 0 3 ∷ [])
+update_entry_is : IsUpdateOf named.entries update_entry
 unfolding understood everything
-update_entry_is = record { updates = refl; body = refl; alone = refl; plain = (refl, refl) }
+update_entry_is = record { is = record { updates = refl; body = refl; alone = refl; plain = (refl, refl) } }
 
 -- WHERE company = ? AND ord = ? AND idx = ? AND seq IS NULL
 abbrev is_unsent_at : List ℕ → ℕ → ℕ → EntryRecord → Bool
@@ -54,7 +51,7 @@ module _ (n : ℕ) (e : SentEntry) where
   abbrev is_it : EntryRecord → Bool
   is_it = is_entry_row e.company e.order e.index
 
-  tested : (i : ℤ) (r : EntryRecord) → list_all (holds (its_params ∷ row_of entry_row (i, r) ∷ [])) (column_is 1 0 ∷ column_is 2 1 ∷ column_is 3 2 ∷ null_at 12 ∷ []) ≡ is_unsent_at e.company e.order e.index r
+  tested : (i : ℤ) (r : EntryRecord) → list_all (holds (its_params ∷ row_of entry_row (i, r) ∷ [])) update_entry.tests ≡ is_unsent_at e.company e.order e.index r
   tested i r =
       let a = text_is r.company e.company in
       let b = conditions.number_is r.order e.order in
@@ -76,11 +73,11 @@ module _ (n : ℕ) (e : SentEntry) where
       index : (d : EntryRecord) → (cond (is_it d) (set d) d).index ≡ d.index
       index d = elim (is_it d) as (λ q. (cond q (set d) d).index ≡ d.index) [ true ↦ refl | false ↦ refl ]
 
-  pub entry_marked : (old new : State) → Executes update_entry its_params old new (Ok 1) → (t : Tables) → Holds desk_layout old.now t
+  pub entry_marked : (old new : State) → Executes update_entry.text its_params old new (Ok 1) → (t : Tables) → Holds desk_layout old.now t
       → Holds desk_layout new.now (record t { entries = mark_entry n e t.entries }) × IsUnsent e t
   entry_marked old new ran t h =
       let test = is_unsent_at e.company e.order e.index in
-      let made = rows_updated named.entries update_entry (column_is 1 0 ∷ column_is 2 1 ∷ column_is 3 2 ∷ null_at 12 ∷ []) its_params test tested old new 1 ran t h _ update_entry_is set (λ i r. refl) entry_kept in
+      let made = rows_updated named.entries update_entry its_params test tested old new 1 ran t h update_entry_is set (λ i r. refl) entry_kept in
       let it = one_found test is_it (λ r here. (unsent_parts e.company e.order e.index r here).0) t.entries (one_of _ is_it (one_entry e.company e.order e.index) t.entries (h.1.stands named.entries).rise) (sym made.1) in
       let parts = unsent_parts e.company e.order e.index it.row it.passes in (
         holds_with named.entries _ h made.0 (record {

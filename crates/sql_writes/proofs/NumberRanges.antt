@@ -17,7 +17,7 @@ use Rattle.sqlite_value.specs.Keys.{first_key, plain}
 use Rattle.sqlite_value.specs.declared.value.ValueRef.{ValueRef}
 use Rattle.sql_statements.specs.Edits.{each_edit, each_edit_from}
 use Rattle.sql_statements.specs.Layouts.{Holds}
-use Rattle.sql_statements.specs.Statements.{IsDelete, IsInsert, at_least, at_most}
+use Rattle.sql_statements.specs.Statements.{IsInsert}
 use Rattle.sql_statements.specs.StoredRows.{row_of}
 use Rattle.sql_statements.proofs.Conditions.{int_least, int_most, and_true}
 use Rattle.sql_statements.proofs.StoredRows.{stores_in}
@@ -34,7 +34,7 @@ use Rattle.sql_tables.specs.Layout.{desk_layout}
 use Rattle.sql_tables.specs.RecordRows.{number_row}
 use Rattle.sql_tables.specs.Tables.{Tables}
 use Rattle.sql_tables.specs.declared.records.NumberRecord.{NumberRecord}
-use Rattle.sql_writes.proofs.Puts.{holds_with, one_put, place_of, PutsOne, PutsSixteen, rows_deleted, sixteen_put}
+use Rattle.sql_writes.proofs.Puts.{holds_with, IsDeleteOf, one_put, place_of, PutsOne, PutsSixteen, rows_deleted, sixteen_put}
 use Rattle.sql_writes.proofs.Conditions.{taken_first, number_itself, equal_numbers, same_number}
 use Rattle.sql_writes.proofs.EntryInserts.{bound_flat}
 use Rattle.sql_writes.proofs.Keys.{few_have, key_number}
@@ -54,9 +54,9 @@ least_is a b = grind (arith, ints)
 most_is : (a b : ℕ) → is_le (int_cmp (pos a) (pos b)) ≡ nat_le a b
 most_is a b = grind (arith, ints)
 
-delete_numbers_is : IsDelete desk_schema delete_numbers 12 32 (at_least 1 0 ∷ at_most 1 1 ∷ [])
+delete_numbers_is : IsDeleteOf named.numbers delete_numbers
 unfolding understood everything
-delete_numbers_is = record { deletes = refl; body = refl; alone = refl; plain = (refl, refl) }
+delete_numbers_is = record { is = record { deletes = refl; body = refl; alone = refl; plain = (refl, refl) } }
 
 insert_number_is : IsInsert desk_schema insert_number (place_of named.numbers) (table (described named.numbers))
 unfolding understood everything
@@ -72,15 +72,15 @@ insert_numbers_is = record { is = refl; plain = (refl, refl) }
 puts_sixteen : PutsSixteen named.numbers
 puts_sixteen = record { is = insert_numbers_is; whole = refl; wide = λ x. refl; kept = λ x. refl }
 
-pub numbers_cleared : (from to : ℕ) (old new : State) (count : ℕ) → Executes delete_numbers (number from ∷ number to ∷ []) old new (Ok count) → (t : Tables) → Holds desk_layout old.now t
+pub numbers_cleared : (from to : ℕ) (old new : State) (count : ℕ) → Executes delete_numbers.text (number from ∷ number to ∷ []) old new (Ok count) → (t : Tables) → Holds desk_layout old.now t
     → Holds desk_layout new.now ((clear_numbers_edit from to).after t) × (clear_numbers_edit from to).Tells t
 numbers_cleared from to old new count ran t h =
-    let made = rows_deleted named.numbers delete_numbers (at_least 1 0 ∷ at_most 1 1 ∷ []) (number from ∷ number to ∷ []) (is_within from to) tested old new count ran t h delete_numbers_is in (
+    let made = rows_deleted named.numbers delete_numbers (number from ∷ number to ∷ []) (is_within from to) tested old new count ran t h delete_numbers_is in (
       holds_with named.numbers _ h made (record { stored = made.stored; rise = rises_kept (λ (n : NumberRecord). n.sequence) (is_within from to) t.numbers (h.1.stands named.numbers).rise }),
       (h.1.stands named.numbers).rise,
     )
   where
-    tested : (i : ℤ) (n : NumberRecord) → list_all (holds ((number from ∷ number to ∷ []) ∷ row_of number_row (i, n) ∷ [])) (at_least 1 0 ∷ at_most 1 1 ∷ []) ≡ is_within from to n
+    tested : (i : ℤ) (n : NumberRecord) → list_all (holds ((number from ∷ number to ∷ []) ∷ row_of number_row (i, n) ∷ [])) delete_numbers.tests ≡ is_within from to n
     tested i n =
         let a = int_least (pos n.sequence) (pos from) ∙ least_is n.sequence from in
         let b = and_true _ ∙ int_most (pos n.sequence) (pos to) ∙ most_is n.sequence to in

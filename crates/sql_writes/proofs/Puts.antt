@@ -23,6 +23,7 @@ use Rattle.sql_statements.specs.StoredRows.{row_of, Stores}
 use Rattle.sql_tables.proofs.ByName.{Others, with_records, changed, each_table}
 use Rattle.sql_tables.specs.ByName as named
 use Rattle.sql_tables.specs.ByName.{Name, Of, described, records, StandsAt}
+use Rattle.sql_tables.specs.Change.{Change}
 use Rattle.sql_tables.specs.Description.{row, table, insert_text, insert_sixteen_text}
 use Rattle.sql_tables.specs.Layout.{desk_layout}
 use Rattle.sql_tables.specs.Schema.{desk_schema}
@@ -139,19 +140,25 @@ module _ (n : Name) where
 
   -- ---- rows are changed, or go
 
-  module _ (sql : List ℕ) (tests : List Term) (params : Row) (p : Of n → Bool)
-      (tested : (i : ℤ) (x : Of n) → list_all (holds (params ∷ row_of (row (described n)) (i, x) ∷ [])) tests ≡ p x) (old new : State) (count : ℕ) (ran : Executes sql params old new (Ok count)) (t : Tables) (h : Holds desk_layout old.now t) where
-    pub rows_updated : (sets : List Term) → IsUpdate desk_schema sql (place_of n) (described n).tree tests sets → (f : Of n → Of n) → ((i : ℤ) (x : Of n) → eval_all sets (params ∷ row_of (row (described n)) (i, x) ∷ []) ≡ row (described n) (f x))
+  pub record IsUpdateOf (change : Change) : Type 0 where
+    pub is : IsUpdate desk_schema change.text (place_of n) (described n).tree change.tests change.sets
+
+  pub record IsDeleteOf (change : Change) : Type 0 where
+    pub is : IsDelete desk_schema change.text (place_of n) (described n).tree change.tests
+
+  module _ (change : Change) (params : Row) (p : Of n → Bool)
+      (tested : (i : ℤ) (x : Of n) → list_all (holds (params ∷ row_of (row (described n)) (i, x) ∷ [])) change.tests ≡ p x) (old new : State) (count : ℕ) (ran : Executes change.text params old new (Ok count)) (t : Tables) (h : Holds desk_layout old.now t) where
+    pub rows_updated : IsUpdateOf change → (f : Of n → Of n) → ((i : ℤ) (x : Of n) → eval_all change.sets (params ∷ row_of (row (described n)) (i, x) ∷ []) ≡ row (described n) (f x))
         → ((x : Of n) → are_kept (table (described n)).columns (row (described n) x) ≡ true) → HasRecords n (update_where p f (records n t)) old new × (count ≡ length (filter p (records n t)))
-    rows_updated sets is f made kept =
+    rows_updated of f made kept =
         let d = described n in
         let s = table d in
-        let done = updated_counted (row d) desk_schema (place_of n) d.tree s.name s.columns s.primary s.uniques s.orders sql tests sets is (listed n) (quiet n) params p f tested made (λ i x. row_kept s (Int i) (row d x) refl (kept x)) old new count h.0 (records n t) (h.1.stands n).stored ran in
+        let done = updated_counted (row d) desk_schema (place_of n) d.tree s.name s.columns s.primary s.uniques s.orders change.text change.tests change.sets of.is (listed n) (quiet n) params p f tested made (λ i x. row_kept s (Int i) (row d x) refl (kept x)) old new count h.0 (records n t) (h.1.stands n).stored ran in
         (record { schema_is = done.0.schema_is; others = done.0.others; stored = done.1 }, done.2)
 
-    pub rows_deleted : IsDelete desk_schema sql (place_of n) (described n).tree tests → HasRecords n (delete_where p (records n t)) old new
-    rows_deleted is =
+    pub rows_deleted : IsDeleteOf change → HasRecords n (delete_where p (records n t)) old new
+    rows_deleted of =
         let d = described n in
         let s = table d in
-        let done = deleted (row d) desk_schema (place_of n) d.tree s.name s.columns s.primary s.uniques s.orders sql tests is (listed n) (quiet n) params p tested old new count h.0 (records n t) (h.1.stands n).stored ran in
+        let done = deleted (row d) desk_schema (place_of n) d.tree s.name s.columns s.primary s.uniques s.orders change.text change.tests of.is (listed n) (quiet n) params p tested old new count h.0 (records n t) (h.1.stands n).stored ran in
         record { schema_is = done.0.schema_is; others = done.0.others; stored = done.1 }

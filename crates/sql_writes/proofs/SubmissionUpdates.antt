@@ -1,5 +1,5 @@
 -- The statements of a cut that write submissions, against their records.
-use Rattle.std.proofs.Common.{◌≡◌, ℕ, ℤ, pos, Bool, true, false, not, is_none, ◌&&◌, ◌==◌, cond, List, [], ◌∷◌, Some, None, Ok, bytes_eq, refl, sym, ◌∙◌, subst}
+use Rattle.std.proofs.Common.{◌≡◌, ℕ, ℤ, Bool, true, false, not, is_none, ◌&&◌, ◌==◌, cond, List, [], ◌∷◌, Some, None, Ok, bytes_eq, refl, sym, ◌∙◌, subst}
 use Rattle.std.proofs.lemmas.Bool.{and_parts}
 use Rattle.std.specs.List.{list_all}
 use Rattle.std.specs.Ordering.{nat_cmp, ordering_then}
@@ -7,17 +7,16 @@ use Rattle.sqlite_tied.specs.Compute.{everything}
 use Rattle.sqlite.specs.Listing.{understood}
 use Rattle.sqlite.specs.State.{State, Executes}
 use Rattle.sqlite_keyed.specs.Lists.{update_where}
-use Rattle.sqlite_sql.specs.Term.{Term, lit, col, holds, eval_all}
+use Rattle.sqlite_sql.specs.Term.{holds, eval_all}
 use Rattle.sqlite_value.specs.Order.{Row}
-use Rattle.sqlite_value.specs.declared.value.Value.TheVariants.{Int, Text}
-use Rattle.sql_statements.specs.Statements.{IsUpdate, column_is, number_is, null_at}
+use Rattle.sqlite_value.specs.declared.value.Value.TheVariants.{Text}
 use Rattle.sql_statements.specs.StoredRows.{row_of, Stores}
 use Rattle.sql_statements.proofs.Conditions.{text_is, and_true}
 use Rattle.sql_statements.proofs.KeyOrder.{rises_updated}
 use Rattle.sql_statements.proofs.OneRow.{one_of, one_found, updates_agree}
 use Rattle.sql_statements.specs.Layouts.{Holds}
+use Rattle.sql_tables.specs.Change.{Set}
 use Rattle.sql_tables.specs.ByName as named
-use Rattle.sql_tables.specs.Schema.{desk_schema}
 use Rattle.desk_book.specs.declared.flat_rows.LapsedRow.{LapsedRow}
 use Rattle.desk_book.specs.declared.flat_rows.SentRow.{SentRow}
 use Rattle.sql_tables.specs.Columns.{number, letter}
@@ -29,21 +28,19 @@ use Rattle.sql_tables.specs.TableEdits.{Waits}
 use Rattle.sql_tables.specs.TableReads.{is_waiting}
 use Rattle.sql_tables.specs.Tables.{Tables}
 use Rattle.sql_tables.specs.declared.records.SubmissionRecord.{SubmissionRecord}
-use Rattle.sql_writes.proofs.Puts.{holds_with, rows_updated}
+use Rattle.sql_writes.proofs.Puts.{holds_with, IsUpdateOf, rows_updated}
 use Rattle.sql_writes.proofs.Conditions as conditions
 use Rattle.sql_writes.proofs.SubmissionRows.{submission_kept}
-use Rattle.sql_writes.specs.CutTexts.{update_sent, update_lapsed}
+use Rattle.sql_writes.specs.CutTexts.{update_waiting, sent_sets, lapsed_sets}
 use Rattle.sql_writes.proofs.KeyTests.{and_joined, none_is, not_is, one_row}
 
-update_sent_is : IsUpdate desk_schema update_sent 3 6 (column_is 1 0 ∷ column_is 2 1 ∷ null_at 11 ∷ number_is 10 (pos 0) ∷ [])
-    (col 1 1 ∷ col 1 2 ∷ col 1 3 ∷ col 1 4 ∷ col 1 5 ∷ col 1 6 ∷ col 1 7 ∷ col 1 8 ∷ col 1 9 ∷ col 1 10 ∷ col 0 2 ∷ col 0 3 ∷ col 0 4 ∷ col 0 5 ∷ [])
+update_sent_is : IsUpdateOf named.submissions (update_waiting sent_sets)
 unfolding understood everything
-update_sent_is = record { updates = refl; body = refl; alone = refl; plain = (refl, refl) }
+update_sent_is = record { is = record { updates = refl; body = refl; alone = refl; plain = (refl, refl) } }
 
-update_lapsed_is : IsUpdate desk_schema update_lapsed 3 6 (column_is 1 0 ∷ column_is 2 1 ∷ null_at 11 ∷ number_is 10 (pos 0) ∷ [])
-    (col 1 1 ∷ col 1 2 ∷ col 1 3 ∷ col 1 4 ∷ col 1 5 ∷ col 1 6 ∷ col 1 7 ∷ col 1 8 ∷ col 1 9 ∷ lit (Int (pos 1)) ∷ col 1 11 ∷ col 1 12 ∷ col 1 13 ∷ col 1 14 ∷ [])
+update_lapsed_is : IsUpdateOf named.submissions (update_waiting lapsed_sets)
 unfolding understood everything
-update_lapsed_is = record { updates = refl; body = refl; alone = refl; plain = (refl, refl) }
+update_lapsed_is = record { is = record { updates = refl; body = refl; alone = refl; plain = (refl, refl) } }
 
 -- WHERE company = ? AND ord = ? AND settled IS NULL AND lapsed = 0
 abbrev waits_at : List ℕ → ℕ → SubmissionRecord → Bool
@@ -56,10 +53,10 @@ waits_parts c o r h =
     (one.0, none_is r.settled two.0, not_is r.lapsed two.1)
 
 -- an UPDATE of the submission of a number, where it waits
-module _ (c : List ℕ) (o : ℕ) (rest : Row) (sql : List ℕ) (sets : List Term) (is : IsUpdate desk_schema sql 3 6 (column_is 1 0 ∷ column_is 2 1 ∷ null_at 11 ∷ number_is 10 (pos 0) ∷ []) sets)
+module _ (c : List ℕ) (o : ℕ) (rest : Row) (sets : List Set) (is : IsUpdateOf named.submissions (update_waiting sets))
     (set : SubmissionRecord → SubmissionRecord) (same_company : (r : SubmissionRecord) → (set r).company ≡ r.company) (same_order : (r : SubmissionRecord) → (set r).order ≡ r.order)
-    (made_row : (i : ℤ) (r : SubmissionRecord) → eval_all sets ((Text c ∷ number o ∷ rest) ∷ row_of submission_row (i, r) ∷ []) ≡ submission_row (set r)) where
-  tested : (i : ℤ) (r : SubmissionRecord) → list_all (holds ((Text c ∷ number o ∷ rest) ∷ row_of submission_row (i, r) ∷ [])) (column_is 1 0 ∷ column_is 2 1 ∷ null_at 11 ∷ number_is 10 (pos 0) ∷ []) ≡ waits_at c o r
+    (made_row : (i : ℤ) (r : SubmissionRecord) → eval_all (update_waiting sets).sets ((Text c ∷ number o ∷ rest) ∷ row_of submission_row (i, r) ∷ []) ≡ submission_row (set r)) where
+  tested : (i : ℤ) (r : SubmissionRecord) → list_all (holds ((Text c ∷ number o ∷ rest) ∷ row_of submission_row (i, r) ∷ [])) (update_waiting sets).tests ≡ waits_at c o r
   tested i r =
       let a = text_is r.company c in
       let b = conditions.number_is r.order o in
@@ -76,10 +73,10 @@ module _ (c : List ℕ) (o : ℕ) (rest : Row) (sql : List ℕ) (sets : List Ter
       order : (d : SubmissionRecord) → (cond (is_row c o d) (set d) d).order ≡ d.order
       order d = elim (is_row c o d) as (λ q. (cond q (set d) d).order ≡ d.order) [ true ↦ same_order d | false ↦ refl ]
 
-  submission_updated : (old new : State) → Executes sql (Text c ∷ number o ∷ rest) old new (Ok 1) → (t : Tables) → Holds desk_layout old.now t
+  submission_updated : (old new : State) → Executes (update_waiting sets).text (Text c ∷ number o ∷ rest) old new (Ok 1) → (t : Tables) → Holds desk_layout old.now t
       → Holds desk_layout new.now (record t { submissions = update_where (is_row c o) set t.submissions }) × Waits c o t
   submission_updated old new ran t h =
-      let made = rows_updated named.submissions sql (column_is 1 0 ∷ column_is 2 1 ∷ null_at 11 ∷ number_is 10 (pos 0) ∷ []) (Text c ∷ number o ∷ rest) (waits_at c o) tested old new 1 ran t h sets is set made_row submission_kept in
+      let made = rows_updated named.submissions (update_waiting sets) (Text c ∷ number o ∷ rest) (waits_at c o) tested old new 1 ran t h is set made_row submission_kept in
       let it = one_found (waits_at c o) (is_row c o) (λ r here. (waits_parts c o r here).0) t.submissions (one_of _ (is_row c o) (one_row c o) t.submissions (h.1.stands named.submissions).rise) (sym made.1) in
       let parts = waits_parts c o it.row it.passes in (
         holds_with named.submissions _ h made.0 (record {
@@ -89,12 +86,12 @@ module _ (c : List ℕ) (o : ℕ) (rest : Row) (sql : List ℕ) (sets : List Ter
         record { submission = it.row; found = it.found; unsettled = parts.1; lasts = parts.2 },
       )
 
-pub submission_sent : (s : SentRow) (old new : State) → Executes update_sent (Text s.company ∷ number s.order ∷ number s.settled ∷ number s.printed.day ∷ letter s.printed.modifier ∷ number s.printed.batch ∷ []) old new (Ok 1)
+pub submission_sent : (s : SentRow) (old new : State) → Executes (update_waiting sent_sets).text (Text s.company ∷ number s.order ∷ number s.settled ∷ number s.printed.day ∷ letter s.printed.modifier ∷ number s.printed.batch ∷ []) old new (Ok 1)
     → (t : Tables) → Holds desk_layout old.now t → Holds desk_layout new.now (record t { submissions = mark_sent s t.submissions }) × Waits s.company s.order t
 submission_sent s =
-    submission_updated s.company s.order (number s.settled ∷ number s.printed.day ∷ letter s.printed.modifier ∷ number s.printed.batch ∷ []) update_sent _ update_sent_is
+    submission_updated s.company s.order (number s.settled ∷ number s.printed.day ∷ letter s.printed.modifier ∷ number s.printed.batch ∷ []) sent_sets update_sent_is
     (λ r. record r { settled = Some s.settled; printed = Some s.printed }) (λ r. refl) (λ r. refl) (λ i r. refl)
 
-pub submission_lapsed : (l : LapsedRow) (old new : State) → Executes update_lapsed (Text l.company ∷ number l.order ∷ []) old new (Ok 1)
+pub submission_lapsed : (l : LapsedRow) (old new : State) → Executes (update_waiting lapsed_sets).text (Text l.company ∷ number l.order ∷ []) old new (Ok 1)
     → (t : Tables) → Holds desk_layout old.now t → Holds desk_layout new.now (record t { submissions = mark_lapsed l t.submissions }) × Waits l.company l.order t
-submission_lapsed l = submission_updated l.company l.order [] update_lapsed _ update_lapsed_is (λ r. record r { lapsed = true }) (λ r. refl) (λ r. refl) (λ i r. refl)
+submission_lapsed l = submission_updated l.company l.order [] lapsed_sets update_lapsed_is (λ r. record r { lapsed = true }) (λ r. refl) (λ r. refl) (λ i r. refl)

@@ -1,23 +1,32 @@
--- The texts of the statements of a cut.
-use Rattle.std.specs.Prelude.{ℕ, List, codes}
+-- The statements of a cut.
+use Rattle.std.specs.Prelude.{ℕ, List, [], ◌∷◌}
+use Rattle.sql_tables.specs.Change.{Change, Pick, Set, delete, is, is_null, is_number, number, parameter, set, sum_with, update, within}
 use Rattle.sql_tables.specs.DeskTables as the
 use Rattle.sql_tables.specs.Description.{insert_sixteen_text, insert_text}
 
-abbrev pub update_sent : List ℕ
-update_sent = codes "UPDATE submissions SET settled = ?3, file_day = ?4, modifier = ?5, batch = ?6 WHERE company = ?1 AND ord = ?2 AND settled IS NULL AND lapsed = 0"
+-- a submission that waits
+abbrev waiting : List Pick
+waiting = is "company" 0 ∷ is "ord" 1 ∷ is_null "settled" ∷ is_number "lapsed" 0 ∷ []
 
-abbrev pub update_lapsed : List ℕ
-update_lapsed = codes "UPDATE submissions SET lapsed = 1 WHERE company = ?1 AND ord = ?2 AND settled IS NULL AND lapsed = 0"
+-- it gets these values
+abbrev pub update_waiting : List Set → Change
+update_waiting sets = update the.submissions sets waiting
 
-abbrev pub update_entry : List ℕ
-update_entry = codes "UPDATE entries SET seq = ?4 WHERE company = ?1 AND ord = ?2 AND idx = ?3 AND seq IS NULL"
+abbrev pub sent_sets : List Set
+sent_sets = set "settled" (parameter 2) ∷ set "file_day" (parameter 3) ∷ set "modifier" (parameter 4) ∷ set "batch" (parameter 5) ∷ []
+
+abbrev pub lapsed_sets : List Set
+lapsed_sets = set "lapsed" (number 1) ∷ []
+
+abbrev pub update_entry : Change
+update_entry = update the.entries (set "seq" (parameter 3) ∷ []) (is "company" 0 ∷ is "ord" 1 ∷ is "idx" 2 ∷ is_null "seq" ∷ [])
 
 -- of entries that follow one another in one submission
-abbrev pub update_run : List ℕ
-update_run = codes "UPDATE entries SET seq = ?3 + idx WHERE company = ?1 AND ord = ?2 AND idx BETWEEN ?4 AND ?5 AND seq IS NULL"
+abbrev pub update_run : Change
+update_run = update the.entries (set "seq" (sum_with 2 "idx") ∷ []) (is "company" 0 ∷ is "ord" 1 ∷ within "idx" 3 4 ∷ is_null "seq" ∷ [])
 
-abbrev pub delete_numbers : List ℕ
-delete_numbers = codes "DELETE FROM numbers WHERE sequence BETWEEN ?1 AND ?2"
+abbrev pub delete_numbers : Change
+delete_numbers = delete the.sequences (within "sequence" 0 1 ∷ [])
 
 abbrev pub insert_number : List ℕ
 insert_number = insert_text the.sequences

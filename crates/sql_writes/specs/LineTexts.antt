@@ -1,5 +1,6 @@
--- The texts of the statements of lines, and of the queries among them.
-use Rattle.std.specs.Prelude.{ℕ, List, codes}
+-- The statements of lines, and the queries among them.
+use Rattle.std.specs.Prelude.{ℕ, List, [], ◌∷◌}
+use Rattle.sql_tables.specs.Change.{Change, parameter, set, upsert}
 use Rattle.sql_tables.specs.Question.{last_row}
 use Rattle.sql_writes.specs.declared.numbering.NumberedTable.{NumberedTable}
 use Rattle.sql_writes.specs.declared.numbering.NumberedTable.TheVariants as tables
@@ -20,5 +21,5 @@ insert_posting = insert_text the.postings
 abbrev pub insert_postings : List ℕ
 insert_postings = insert_sixteen_text the.postings
 
-abbrev pub upsert_balance : List ℕ
-upsert_balance = codes "INSERT INTO balances VALUES (?1, ?2, ?3) ON CONFLICT (account, value_day) DO UPDATE SET cents = ?3"
+abbrev pub upsert_balance : Change
+upsert_balance = upsert the.balances (set "cents" (parameter 2) ∷ [])

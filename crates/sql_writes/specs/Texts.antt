@@ -1,15 +1,16 @@
--- The texts of the writing statements, and of the queries among them.
-use Rattle.std.specs.Prelude.{ℕ, List, codes}
+-- The writing statements of the desk, its calendar, its companies and submissions.
+use Rattle.std.specs.Prelude.{ℕ, List, [], ◌∷◌}
+use Rattle.sql_tables.specs.Change.{Change, delete, is, is_number, parameter, set, update}
 use Rattle.sql_tables.specs.DeskTables as the
 use Rattle.sql_tables.specs.Description.{insert_sixteen_text, insert_text}
 
 -- ---- the desk, its calendar and its companies
 
-abbrev pub update_day : List ℕ
-update_day = codes "UPDATE desk SET day = ?1 WHERE id = 1"
+abbrev pub update_day : Change
+update_day = update the.desk (set "day" (parameter 0) ∷ []) (is_number "id" 1 ∷ [])
 
-abbrev pub delete_holidays : List ℕ
-delete_holidays = codes "DELETE FROM holidays"
+abbrev pub delete_holidays : Change
+delete_holidays = delete the.holidays []
 
 abbrev pub insert_holiday : List ℕ
 insert_holiday = insert_text the.holidays
@@ -17,8 +18,8 @@ insert_holiday = insert_text the.holidays
 abbrev pub insert_company : List ℕ
 insert_company = insert_text the.companies
 
-abbrev pub update_limits : List ℕ
-update_limits = codes "UPDATE companies SET entry_limit = ?2, credit_limit = ?3, debit_limit = ?4 WHERE id = ?1"
+abbrev pub update_limits : Change
+update_limits = update the.companies (set "entry_limit" (parameter 1) ∷ set "credit_limit" (parameter 2) ∷ set "debit_limit" (parameter 3) ∷ []) (is "id" 0 ∷ [])
 
 -- ---- submissions
 

@@ -19,7 +19,7 @@ returns-clause-makes g c clean =
     let new = state g.S.Store c.execute.new.tx.conn.now in
     let all : c.in_ok-count.count ≡ length run = search rules in
     let ran = rw (c.characters.ensures, c.bytes.ensures.value, c.in_ok-order.ensures, c.in_ok-base.ensures, c.in_ok-from.ensures, c.in_ok-to.ensures) at (c.in_ok-count.ensures.ran clean) in
-    let ran_all : Executes update_run (its_params first before last c.in_ok-last.ensures.room) old new (Ok (length run)) = subst (λ n. Executes update_run (its_params first before last c.in_ok-last.ensures.room) old new (Ok n)) all ran in
+    let ran_all : Executes update_run.text (its_params first before last c.in_ok-last.ensures.room) old new (Ok (length run)) = subst (λ n. Executes update_run.text (its_params first before last c.in_ok-last.ensures.room) old new (Ok n)) all ran in
     let place : c.args.place ≡ before + first.index = omega (arith, c.requires.after) in
     makes_of desk_layout (each_edit_from mark_entry_edit c.args.place run) old new (c.in_ok-count.ensures.shown clean)
     (run_marked first before last c.in_ok-last.ensures.room run c.in_ok-last.ensures.last c.requires.first c.requires.run c.args.place place old new ran_all)
