@@ -371,6 +371,7 @@ def one_round():
         submissions(f"submission of {size} in 100000_entries", large, 10, 10, size)
     submissions("submission of 1 in 1000_entries, synced twice", small, 1, 10, 1, "wary")
     cut("cut of 1000", few_held)
+    cut("cut of 1000 single submissions", singles_held)
     cut("cut of 1000 in 101000_entries", held_late)
     cut("cut of 100000", many_held)
     take("500 returns in 1000_entries", small, 501, 500)
@@ -388,6 +389,7 @@ try:
     large = base("100000_entries.db", 10, 10, 10, 100, back=50)
     alone = base("100000_entries_of_one.db", 1, 10, 100, 100, back=50)
     few_held = base("1000_held.db", 10, 0, 1, 100)
+    singles_held = base("1000_singles_held.db", 10, 0, 100, 1)
     held_late = held_beside("1000_held_beside.db", large, 10, 10, 100)
     many_held = base("100000_held.db", 10, 0, 10, 1000)
     with reading(few_held) as db:

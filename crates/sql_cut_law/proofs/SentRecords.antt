@@ -53,7 +53,7 @@ module _ (printed : List SentRow) (s : SentRow) (x : CompanyRow) where
   before = submission_record printed x
 
   pub one_sent : find (is_printed_of s.company s.order) printed ≡ None
-      → submission_record (printed ++ s ∷ []) (send_in s x) ≡ (if bytes_eq x.company s.company && x.row.order == s.order then record before { settled = Some s.settled; printed = Some s.printed } else before)
+      → submission_record (printed ++ s ∷ []) (send_in s x) ≡ (if bytes_eq x.company s.company && x.row.order == s.order then record { head = record before.head { settled = Some s.settled }; printed = Some s.printed } else before)
   one_sent none =
       ap (submission_record (printed ++ s ∷ [])) (in_both s.company s.order (sent_row s.settled) x)
       ∙ elim (cases_Bool (bytes_eq x.company s.company && x.row.order == s.order)) [
@@ -62,19 +62,19 @@ module _ (printed : List SentRow) (s : SentRow) (x : CompanyRow) where
             let own : p s ≡ true = pair_from s.company x.company s.order x.row.order (sym same.0) (sym same.1) in
             let fresh : find p printed ≡ None = subst (λ c. find (is_printed_of c x.row.order) printed ≡ None) (sym same.0) (subst (λ o. find (is_printed_of s.company o) printed ≡ None) (sym same.1) none) in
             ap (λ (t : Bool). submission_record (printed ++ s ∷ []) (if t then record x { row = sent_row s.settled x.row } else x)) is
-            ∙ (λ i. record before { settled = Some s.settled; printed = found own fresh i })
-            ∙ ap (λ (t : Bool). if t then record before { settled = Some s.settled; printed = Some s.printed } else before) (sym is))
+            ∙ (λ i. record { head = record before.head { settled = Some s.settled }; printed = found own fresh i })
+            ∙ ap (λ (t : Bool). if t then record { head = record before.head { settled = Some s.settled }; printed = Some s.printed } else before) (sym is))
         | inr out ↦
             ap (λ (t : Bool). submission_record (printed ++ s ∷ []) (if t then record x { row = sent_row s.settled x.row } else x)) out
             ∙ (λ i. record before { printed = still (pair_not x.company s.company x.row.order s.order out) i })
-            ∙ ap (λ (t : Bool). if t then record before { settled = Some s.settled; printed = Some s.printed } else before) (sym out)
+            ∙ ap (λ (t : Bool). if t then record { head = record before.head { settled = Some s.settled }; printed = Some s.printed } else before) (sym out)
       ]
 
 pub one_lapsed : (printed : List SentRow) (l : LapsedRow) (x : CompanyRow)
-    → submission_record printed (lapse_in l x) ≡ (if bytes_eq x.company l.company && x.row.order == l.order then record (submission_record printed x) { lapsed = true } else submission_record printed x)
+    → submission_record printed (lapse_in l x) ≡ (if bytes_eq x.company l.company && x.row.order == l.order then record (submission_record printed x) { head = record (submission_record printed x).head { lapsed = true } } else submission_record printed x)
 one_lapsed printed l x =
     ap (submission_record printed) (in_both l.company l.order lapsed_row x)
-    ∙ elim (bytes_eq x.company l.company && x.row.order == l.order) as (λ t. submission_record printed (if t then record x { row = lapsed_row x.row } else x) ≡ (if t then record (submission_record printed x) { lapsed = true } else submission_record printed x)) [ true ↦ refl | false ↦ refl ]
+    ∙ elim (bytes_eq x.company l.company && x.row.order == l.order) as (λ t. submission_record printed (if t then record x { row = lapsed_row x.row } else x) ≡ (if t then record (submission_record printed x) { head = record (submission_record printed x).head { lapsed = true } } else submission_record printed x)) [ true ↦ refl | false ↦ refl ]
 
 -- ---- entries
 

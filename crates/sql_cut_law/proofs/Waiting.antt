@@ -36,7 +36,7 @@ waiting_row c o t r are w = go (find (is_submission c o) r.submissions) refl (sy
     go None is h = cc
     go (Some x) is h =
         let same : submission_record r.printed x ≡ w.submission = some_same h in
-        record { row = x; found = is; unsettled = ap (λ (s : SubmissionRecord). s.settled) same ∙ w.unsettled; lasts = ap (λ (s : SubmissionRecord). s.lapsed) same ∙ w.lasts }
+        record { row = x; found = is; unsettled = ap (λ (s : SubmissionRecord). s.head.settled) same ∙ w.unsettled; lasts = ap (λ (s : SubmissionRecord). s.head.lapsed) same ∙ w.lasts }
 
 module _ (c : List ℕ) (o : ℕ) (rows : List CompanyRow) (orders : AreNumbered rows) (w : Waiting c o rows) where
   abbrev pub IsIt : CompanyRow → Type 0

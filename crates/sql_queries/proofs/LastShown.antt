@@ -48,14 +48,14 @@ first_taken : {X Y : Type 0} (show : Y → Row) (f : X → Y) (xs : List X) (row
 first_taken show f [] rows are = ap (λ l. slice_get l 0) are
 first_taken show f (x ∷ xs) rows are = ap (λ l. slice_get l 0) are
 
-pub last_order_shown : (c : List ℕ) → ShowsFirst questions.last_order.text (Text c ∷ []) (λ n. number n ∷ []) (λ t. option_map (λ s. s.order) (slice_get (reverse (filter (is_of c) t.submissions)) 0))
+pub last_order_shown : (c : List ℕ) → ShowsFirst questions.last_order.text (Text c ∷ []) (λ n. number n ∷ []) (λ t. option_map (λ s. s.head.order) (slice_get (reverse (filter (is_of c) t.submissions)) 0))
 last_order_shown c = record {
   row = λ t old new h rows seen.
-      first_taken (λ n. number n ∷ []) (λ s. s.order) (reverse (filter (is_of c) t.submissions)) rows
-      (last_selected submission_row submissions_table.tree (column_is 1 0 ∷ []) (places (2 ∷ [])) (falling 1 ∷ falling 2 ∷ []) (Text c ∷ []) (is_of c) (λ s. number s.order ∷ []) (λ s. Text s.company ∷ number s.order ∷ [])
-      (λ i s. one (text_is s.company c)) (λ i s. refl) (λ i s. refl) desk_schema questions.last_order.text last_order_is.asks old new h.0 t.submissions (h.1.stands named.submissions).stored
-      (ascending_weaker _ _ (λ x y less. by_falling_text_then_number x.company y.company x.order y.order ∙ less) t.submissions (h.1.stands named.submissions).rise) rows seen
-      ∙ ap (λ l. map (λ s. number s.order ∷ []) (take 1 l)) (passing_backwards (is_of c) t.submissions));
+      first_taken (λ n. number n ∷ []) (λ s. s.head.order) (reverse (filter (is_of c) t.submissions)) rows
+      (last_selected submission_row submissions_table.tree (column_is 1 0 ∷ []) (places (2 ∷ [])) (falling 1 ∷ falling 2 ∷ []) (Text c ∷ []) (is_of c) (λ s. number s.head.order ∷ []) (λ s. Text s.head.company ∷ number s.head.order ∷ [])
+      (λ i s. one (text_is s.head.company c)) (λ i s. refl) (λ i s. refl) desk_schema questions.last_order.text last_order_is.asks old new h.0 t.submissions (h.1.stands named.submissions).stored
+      (ascending_weaker _ _ (λ x y less. by_falling_text_then_number x.head.company y.head.company x.head.order y.head.order ∙ less) t.submissions (h.1.stands named.submissions).rise) rows seen
+      ∙ ap (λ l. map (λ s. number s.head.order ∷ []) (take 1 l)) (passing_backwards (is_of c) t.submissions));
 }
 
 pub last_order_found : {c : List ℕ} {old new : State} {o : Option ℕ} {n : ℕ} → ReadsFirst questions.last_order.text (Text c ∷ []) (λ n. number n ∷ []) old new o → unwrap_or o 0 ≡ n → Finds desk_layout (λ t. n ≡ last_order c t) old

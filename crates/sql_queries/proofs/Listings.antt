@@ -55,7 +55,7 @@ abbrev pub companies : Listing (Of named.companies)
 companies = listing named.companies (by 1 ∷ []) (λ k. Text k.id ∷ []) (λ params i x. refl) (λ x y. by_text x.id y.id)
 
 abbrev pub submissions : Listing (Of named.submissions)
-submissions = listing named.submissions (by 1 ∷ by 2 ∷ []) (λ s. Text s.company ∷ number s.order ∷ []) (λ params i x. refl) (λ x y. by_text_then_number x.company y.company x.order y.order)
+submissions = listing named.submissions (by 1 ∷ by 2 ∷ []) (λ s. Text s.head.company ∷ number s.head.order ∷ []) (λ params i x. refl) (λ x y. by_text_then_number x.head.company y.head.company x.head.order y.head.order)
 
 abbrev pub entries : Listing (Of named.entries)
 entries = listing named.entries (by 1 ∷ by 2 ∷ by 3 ∷ []) (λ e. Text e.company ∷ number e.order ∷ number e.index ∷ []) (λ params i x. refl) (λ x y. by_text_then_numbers x.company y.company x.order y.order x.index y.index)

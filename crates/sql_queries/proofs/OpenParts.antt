@@ -40,9 +40,9 @@ settled_part true since (Some on) lapsed = go (nat_le since on)
 open_parts : (c : List ℕ) (since : ℕ) (subs : List SubmissionRecord) → IsPermutation (filter (is_open_of c since) subs) (filter (is_waiting_of c) subs ++ filter (is_settled_of c since) subs)
 open_parts c since subs =
     let waiting : filter is_waiting (filter (is_open_of c since) subs) ≡ filter (is_waiting_of c) subs =
-    filter_both is_waiting (is_open_of c since) subs ∙ filter_same _ _ (λ s. waiting_part (is_of c s) (is_since since s.settled) (is_waiting s)) subs in
+    filter_both is_waiting (is_open_of c since) subs ∙ filter_same _ _ (λ s. waiting_part (is_of c s) (is_since since s.head.settled) (is_waiting s)) subs in
     let settled : filter (λ s. not (is_waiting s)) (filter (is_open_of c since) subs) ≡ filter (is_settled_of c since) subs =
-    filter_both (λ s. not (is_waiting s)) (is_open_of c since) subs ∙ filter_same _ _ (λ s. settled_part (is_of c s) since s.settled s.lapsed) subs in
+    filter_both (λ s. not (is_waiting s)) (is_open_of c since) subs ∙ filter_same _ _ (λ s. settled_part (is_of c s) since s.head.settled s.head.lapsed) subs in
     subst (IsPermutation (filter (is_open_of c since) subs)) (λ i. waiting i ++ settled i) (IsPermutation-filter_both is_waiting (λ s. not (is_waiting s)) (λ s. refl) (filter (is_open_of c since) subs))
 
 -- both, put in their order

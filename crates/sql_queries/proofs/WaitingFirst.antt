@@ -52,7 +52,7 @@ abbrev order : List (Term × Key)
 order = by 1 ∷ by 11 ∷ by 10 ∷ by 2 ∷ []
 
 abbrev sort : SubmissionRecord → Row
-sort s = Text s.company ∷ or_null number s.settled ∷ flag s.lapsed ∷ number s.order ∷ []
+sort s = Text s.head.company ∷ or_null number s.head.settled ∷ flag s.head.lapsed ∷ number s.head.order ∷ []
 
 abbrev waiting_cmp : SubmissionRecord → SubmissionRecord → Ordering
 waiting_cmp a b = key_cmp 0 (map (λ k. k.1) order) (sort a) (sort b)
@@ -61,10 +61,10 @@ waiting_cmp_total : IsTotalOrder waiting_cmp
 waiting_cmp_total = on_total (λ s. (sort s, [])) (output_cmp_total (query_from 6 (column_is 1 0 ∷ []) (columns 11) order))
 
 abbrev within : SubmissionRecord → SubmissionRecord → Ordering
-within a b = ordering_then (value_cmp (or_null number a.settled) (or_null number b.settled)) (ordering_then (value_cmp (flag a.lapsed) (flag b.lapsed)) (nat_cmp a.order b.order))
+within a b = ordering_then (value_cmp (or_null number a.head.settled) (or_null number b.head.settled)) (ordering_then (value_cmp (flag a.head.lapsed) (flag b.head.lapsed)) (nat_cmp a.head.order b.head.order))
 
-compares : (a b : SubmissionRecord) → waiting_cmp a b ≡ ordering_then (text_cmp a.company b.company) (within a b)
-compares a b = by_text_then_more a.company b.company _ _ _ _ a.order b.order
+compares : (a b : SubmissionRecord) → waiting_cmp a b ≡ ordering_then (text_cmp a.head.company b.head.company) (within a b)
+compares a b = by_text_then_more a.head.company b.head.company _ _ _ _ a.head.order b.head.order
 
 untied : (t u f n : Ordering) → ordering_then t n ≡ Less → is_eq (ordering_then t (ordering_then u (ordering_then f n))) ≡ false
 untied Less u f n less = refl
@@ -80,25 +80,25 @@ by_waiting = sort_by waiting_cmp
 
 waiting_rise : (subs : List SubmissionRecord) → IsInOrder submission_cmp subs → IsInOrder waiting_cmp (by_waiting subs)
 waiting_rise subs up =
-    sorts_rise waiting_cmp waiting_cmp_total subs (ascending_weaker _ (λ a b. is_eq (waiting_cmp a b) ≡ false) (λ a b less. ap is_eq (compares a b) ∙ untied (text_cmp a.company b.company) _ _ (nat_cmp a.order b.order) less) subs up)
+    sorts_rise waiting_cmp waiting_cmp_total subs (ascending_weaker _ (λ a b. is_eq (waiting_cmp a b) ≡ false) (λ a b less. ap is_eq (compares a b) ∙ untied (text_cmp a.head.company b.head.company) _ _ (nat_cmp a.head.order b.head.order) less) subs up)
 
 -- ---- within a company
 
-same_company : (c : List ℕ) (a b : SubmissionRecord) → is_of c a ≡ true → is_of c b ≡ true → text_cmp a.company b.company ≡ Equal
+same_company : (c : List ℕ) (a b : SubmissionRecord) → is_of c a ≡ true → is_of c b ≡ true → text_cmp a.head.company b.head.company ≡ Equal
 same_company c a b p q =
-    let x = (bytes_eq-Decides a.company c).0 p in
-    let y = (bytes_eq-Decides b.company c).0 q in
+    let x = (bytes_eq-Decides a.head.company c).0 p in
+    let y = (bytes_eq-Decides b.head.company c).0 q in
     (λ i. text_cmp (x i) (y i)) ∙ tied_itself nat_list_cmp_total c
 
 less_within : (c : List ℕ) (a b : SubmissionRecord) → is_of c a ≡ true → is_of c b ≡ true → waiting_cmp a b ≡ Less → within a b ≡ Less
 less_within c a b p q less = sym (compares a b ∙ ap (λ o. ordering_then o (within a b)) (same_company c a b p q)) ∙ less
 
 abbrev pub by_order : SubmissionRecord → SubmissionRecord → Ordering
-by_order = on (λ s. s.order) nat_cmp
+by_order = on (λ s. s.head.order) nat_cmp
 
 pub rise_by_order : (c : List ℕ) (p : SubmissionRecord → Bool) → ((s : SubmissionRecord) → p s ≡ true → is_of c s ≡ true) → (subs : List SubmissionRecord) → IsInOrder submission_cmp subs → IsInOrder by_order (filter p subs)
 rise_by_order c p are subs up =
-    ascending_passing p _ _ (λ a b m n less. sym (ap (λ o. ordering_then o (nat_cmp a.order b.order)) (same_company c a b (are a m) (are b n))) ∙ less) subs up
+    ascending_passing p _ _ (λ a b m n less. sym (ap (λ o. ordering_then o (nat_cmp a.head.order b.head.order)) (same_company c a b (are a m) (are b n))) ∙ less) subs up
 
 -- one before another that waits
 waits_before : (a b : Option ℕ) (f g : Bool) (n : Ordering) → ordering_then (value_cmp (or_null number a) (or_null number b)) (ordering_then (value_cmp (flag f) (flag g)) n) ≡ Less → (is_none b && not g) ≡ true
@@ -121,13 +121,13 @@ waits_before (Some d) None f false n less waits =
 -- those that wait are in their order
 same_waiting : (c : List ℕ) (subs : List SubmissionRecord) → IsInOrder submission_cmp subs → filter (is_waiting_of c) (by_waiting subs) ≡ filter (is_waiting_of c) subs
 same_waiting c subs up =
-    let total = on_total (λ (s : SubmissionRecord). s.order) nat_cmp_total in
+    let total = on_total (λ (s : SubmissionRecord). s.head.order) nat_cmp_total in
     let rises : IsInOrder by_order (filter (is_waiting_of c) (by_waiting subs)) =
     ascending_passing (is_waiting_of c) (λ a b. waiting_cmp a b ≡ Less) (λ a b. by_order a b ≡ Less)
     (λ a b m n less.
     let p = and_parts _ _ m in
     let q = and_parts _ _ n in
-    (waits_before a.settled b.settled a.lapsed b.lapsed (nat_cmp a.order b.order) (less_within c a b p.0 q.0 less) q.1).1)
+    (waits_before a.head.settled b.head.settled a.head.lapsed b.head.lapsed (nat_cmp a.head.order b.head.order) (less_within c a b p.0 q.0 less) q.1).1)
     _ (waiting_rise subs up) in
     sorted_unique by_order total (filter (is_waiting_of c) subs) _ (rise_by_order c (is_waiting_of c) (λ s h. (and_parts _ _ h).0) subs up)
     (IsPermutation-filter (is_waiting_of c) _ _ (IsPermutation-sym _ _ (IsPermutation-sort_by waiting_cmp waiting_cmp_total subs)))
@@ -138,7 +138,7 @@ waiting_first c subs up =
     while_all waits _
     (ascending-map (λ a b. waits b ≡ true → waits a ≡ true) head_of _
     (ascending_passing (is_of c) (λ a b. waiting_cmp a b ≡ Less) (λ a b. is_waiting b ≡ true → is_waiting a ≡ true)
-    (λ a b p q less later. (waits_before a.settled b.settled a.lapsed b.lapsed (nat_cmp a.order b.order) (less_within c a b p q less) later).0) _ (waiting_rise subs up)))
+    (λ a b p q less later. (waits_before a.head.settled b.head.settled a.head.lapsed b.head.lapsed (nat_cmp a.head.order b.head.order) (less_within c a b p q less) later).0) _ (waiting_rise subs up)))
     ∙ filter-map waits head_of (filter (is_of c) (by_waiting subs)) ∙ ap (map head_of) (filter_both is_waiting (is_of c) (by_waiting subs) ∙ same_waiting c subs up)
 
 -- ---- the query
@@ -148,7 +148,7 @@ by_waiting_shown c = record {
   rows = λ t old new h rows seen.
       let table = (h.1.stands named.submissions) in
       selected submission_row submissions_table.tree (column_is 1 0 ∷ []) (columns 11) order (Text c ∷ []) (is_of c) (λ s. submission_head_row (head_of s)) sort
-      (λ i s. one (text_is s.company c)) (λ i s. refl) (λ i s. refl) desk_schema questions.waiting_submissions.text waiting_submissions_is.asks old new h.0 (by_waiting t.submissions)
+      (λ i s. one (text_is s.head.company c)) (λ i s. refl) (λ i s. refl) desk_schema questions.waiting_submissions.text waiting_submissions_is.asks old new h.0 (by_waiting t.submissions)
       (stores_in submission_row _ t.submissions _ (IsPermutation-sym _ _ (IsPermutation-sort_by waiting_cmp waiting_cmp_total t.submissions)) table.stored)
       (waiting_rise t.submissions table.rise) rows seen
       ∙ sym (map-map submission_head_row head_of _);

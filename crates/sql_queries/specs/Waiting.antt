@@ -12,7 +12,7 @@ waits s = is_none s.settled && not s.lapsed
 
 -- WHERE company = ? AND settled >= ?
 abbrev pub is_settled_of : (company : List ℕ) → (since : ℕ) → SubmissionRecord → Bool
-is_settled_of c since s = is_of c s && is_since since s.settled
+is_settled_of c since s = is_of c s && is_since since s.head.settled
 
 -- by their numbers among those of their company
 abbrev pub by_head_order : SubmissionHead → SubmissionHead → Ordering

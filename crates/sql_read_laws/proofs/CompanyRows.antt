@@ -101,7 +101,7 @@ module _ (t : Tables) (r : Rows) (e : Encodes t r) (rise : IsInOrder submission_
   pub count_found : AreNumbered r.submissions → last_order c t ≡ submission_count c (flat_book r)
   count_found numbered =
       let own : List CompanyRow = filter (is_in c) r.submissions in
-      let number : SubmissionRecord → ℕ = λ s. s.order in
+      let number : SubmissionRecord → ℕ = λ s. s.head.order in
       let count : length (orders_of r.submissions c) ≡ length own = length-map own (λ x. x.row.order) in
       ap (λ l. number_of_last number (filter (is_of c) l)) e.submissions
       ∙ ap (number_of_last number) (filter-map (is_of c) (submission_record r.printed) r.submissions)

@@ -70,16 +70,16 @@ module _ (t : Tables) (day : ℕ) (holidays : List ℕ) where
     closed_debit false None h = absurd (true≢false h)
     closed_debit false (Some on) h = not_yet day (nth_after holidays on 2) (past.past on (below since on h))
 
-    no_credit : (s : SubmissionRecord) → (is_since since s.settled || is_waiting s) ≡ false → credit_of (head_of s) ≡ 0
-    no_credit s h = credit_none t (head_of s) day (closed_credit s.lapsed s.settled h)
+    no_credit : (s : SubmissionRecord) → (is_since since s.head.settled || is_waiting s) ≡ false → credit_of (head_of s) ≡ 0
+    no_credit s h = credit_none t (head_of s) day (closed_credit s.head.lapsed s.head.settled h)
 
-    no_debit : (s : SubmissionRecord) → (is_since since s.settled || is_waiting s) ≡ false → debit_of (head_of s) ≡ 0
-    no_debit s h = debit_none t (head_of s) day holidays (closed_debit s.lapsed s.settled h)
+    no_debit : (s : SubmissionRecord) → (is_since since s.head.settled || is_waiting s) ≡ false → debit_of (head_of s) ≡ 0
+    no_debit s h = debit_none t (head_of s) day holidays (closed_debit s.head.lapsed s.head.settled h)
 
     -- the open submissions have all exposures
     pub open_suffice : (c : List ℕ) → heads_exposures t (heads_in (is_open_of c since) t) day holidays ≡ exposures_in c day holidays t
     open_suffice c =
-        let rest : SubmissionRecord → Bool = λ s. is_since since s.settled || is_waiting s in
+        let rest : SubmissionRecord → Bool = λ s. is_since since s.head.settled || is_waiting s in
         let credit =
         credits_summed (heads_in (is_open_of c since) t) ∙ summed_map credit_of head_of (filter (is_open_of c since) t.submissions)
         ∙ narrowed (λ s. credit_of (head_of s)) (is_of c) rest (λ s own closed. no_credit s closed) t.submissions

@@ -108,26 +108,26 @@ module _ (q : EntryState → Bool) (since : ℕ) where
 
     debits_are : (s : SubmissionRecord) → debits_of (head_of s) ≡ count_of s
     debits_are s =
-        no_debit (is_debit s.direction) (row_facts (whole_row t (head_of s)))
-        (subst (AllByRecursion (λ (f : EntryFact). f.debit ≡ is_debit s.direction)) (facts_are t (head_of s)) (own_debit (head_of s) (amounts_in s.company s.order t)))
+        no_debit (is_debit s.head.direction) (row_facts (whole_row t (head_of s)))
+        (subst (AllByRecursion (λ (f : EntryFact). f.debit ≡ is_debit s.head.direction)) (facts_are t (head_of s)) (own_debit (head_of s) (amounts_in s.head.company s.head.order t)))
 
     -- a submission that did not settle since then counts only where it came back since then
-    came_back : (s : SubmissionRecord) → is_of c s ≡ true → is_since since s.settled ≡ false → (ns : List EntryAmount)
-        → Contains os s.order ⊎ (count_by counts (map (fact_among (head_of s) (returns_in s.company s.order t)) ns) ≡ 0)
+    came_back : (s : SubmissionRecord) → is_of c s ≡ true → is_since since s.head.settled ≡ false → (ns : List EntryAmount)
+        → Contains os s.head.order ⊎ (count_by counts (map (fact_among (head_of s) (returns_in s.head.company s.head.order t)) ns) ≡ 0)
     came_back s own old [] = inr refl
-    came_back s own old (a ∷ ns) = go (q (state_among (head_of s) (returns_in s.company s.order t) a.index)) refl (came_back s own old ns)
+    came_back s own old (a ∷ ns) = go (q (state_among (head_of s) (returns_in s.head.company s.head.order t) a.index)) refl (came_back s own old ns)
       where
         fact : EntryFact
-        fact = fact_among (head_of s) (returns_in s.company s.order t) a
+        fact = fact_among (head_of s) (returns_in s.head.company s.head.order t) a
 
         rest : List EntryFact
-        rest = map (fact_among (head_of s) (returns_in s.company s.order t)) ns
+        rest = map (fact_among (head_of s) (returns_in s.head.company s.head.order t)) ns
 
-        counted : q fact.state ≡ true → Contains os s.order
-        counted is = elim (within s.lapsed s.settled (find (λ r. r.index == a.index) (returns_in s.company s.order t)) is) [
+        counted : q fact.state ≡ true → Contains os s.head.order
+        counted is = elim (within s.head.lapsed s.head.settled (find (λ r. r.index == a.index) (returns_in s.head.company s.head.order t)) is) [
           | inl since_then ↦ absurd (true≢false (sym since_then ∙ old))
-          | inr back ↦ all s.order (subst (λ (d : List ℕ). Contains (map (λ r. r.order) (filter (is_return_since d since) t.returns)) s.order) ((bytes_eq-Decides s.company c).0 own)
-              (taken_since s.company s.order since (λ r. r.index == a.index) t.returns back.0 back.1 back.2))
+          | inr back ↦ all s.head.order (subst (λ (d : List ℕ). Contains (map (λ r. r.order) (filter (is_return_since d since) t.returns)) s.head.order) ((bytes_eq-Decides s.head.company c).0 own)
+              (taken_since s.head.company s.head.order since (λ r. r.index == a.index) t.returns back.0 back.1 back.2))
         ]
 
         and_no : (b : Bool) → ◌≡◌ {A = ℕ} (cond (b && false) 1 0) 0
@@ -140,47 +140,47 @@ module _ (q : EntryState → Bool) (since : ℕ) where
             let first : ◌≡◌ {A = ℕ} (cond (counts fact) 1 0) 0 = ap (λ (x : Bool). cond (is_live_debit fact && x) 1 0) is ∙ and_no (is_live_debit fact) in
             omega arith
 
-        go : (b : Bool) → q fact.state ≡ b → Contains os s.order ⊎ (count_by counts rest ≡ 0) → Contains os s.order ⊎ (count_by counts (fact ∷ rest) ≡ 0)
+        go : (b : Bool) → q fact.state ≡ b → Contains os s.head.order ⊎ (count_by counts rest ≡ 0) → Contains os s.head.order ⊎ (count_by counts (fact ∷ rest) ≡ 0)
         go true is more = inl (counted is)
         go false is (inl has) = inl has
         go false is (inr more) = inr (none is more)
 
     abbrev late_of : SubmissionRecord → ℕ
-    late_of s = cond (is_since since s.settled) 0 (debits_of (head_of s))
+    late_of s = cond (is_since since s.head.settled) 0 (debits_of (head_of s))
 
-    key_or_none : (s : SubmissionRecord) → is_of c s ≡ true → Contains os s.order ⊎ (late_of s ≡ 0)
-    key_or_none s own = go (is_since since s.settled) refl
+    key_or_none : (s : SubmissionRecord) → is_of c s ≡ true → Contains os s.head.order ⊎ (late_of s ≡ 0)
+    key_or_none s own = go (is_since since s.head.settled) refl
       where
-        none : Contains os s.order ⊎ (count_by counts (map (fact_among (head_of s) (returns_in s.company s.order t)) (amounts_in s.company s.order t)) ≡ 0) → Contains os s.order ⊎ (debits_of (head_of s) ≡ 0)
+        none : Contains os s.head.order ⊎ (count_by counts (map (fact_among (head_of s) (returns_in s.head.company s.head.order t)) (amounts_in s.head.company s.head.order t)) ≡ 0) → Contains os s.head.order ⊎ (debits_of (head_of s) ≡ 0)
         none (inl has) = inl has
         none (inr none_counts) = inr (debits_are s ∙ ap (count_by counts) (sym (facts_are t (head_of s))) ∙ none_counts)
 
-        go : (b : Bool) → is_since since s.settled ≡ b → Contains os s.order ⊎ (cond b 0 (debits_of (head_of s)) ≡ 0)
+        go : (b : Bool) → is_since since s.head.settled ≡ b → Contains os s.head.order ⊎ (cond b 0 (debits_of (head_of s)) ≡ 0)
         go true is = inr refl
-        go false is = none (came_back s own is (amounts_in s.company s.order t))
+        go false is = none (came_back s own is (amounts_in s.head.company s.head.order t))
 
     abbrev own : List SubmissionRecord
     own = filter (is_of c) t.submissions
 
-    settled_sum : count_by counts (flat_map (λ head. debit_facts (whole_row t head)) (heads_in (is_settled_of c since) t)) ≡ sum_by (λ s. debits_of (head_of s)) (filter (λ s. is_since since s.settled) own)
+    settled_sum : count_by counts (flat_map (λ head. debit_facts (whole_row t head)) (heads_in (is_settled_of c since) t)) ≡ sum_by (λ s. debits_of (head_of s)) (filter (λ s. is_since since s.head.settled) own)
     settled_sum =
         over_each (count_by counts) (counts_add counts) (λ head. debit_facts (whole_row t head)) (heads_in (is_settled_of c since) t)
         ∙ summed_map debits_of head_of (filter (is_settled_of c since) t.submissions)
-        ∙ ap (sum_by (λ s. debits_of (head_of s))) (sym (filter-both (λ (s : SubmissionRecord). is_since since s.settled) (is_of c) t.submissions))
+        ∙ ap (sum_by (λ s. debits_of (head_of s))) (sym (filter-both (λ (s : SubmissionRecord). is_since since s.head.settled) (is_of c) t.submissions))
 
-    one_order : (o : ℕ) → count_by counts (earlier_facts c since t o) ≡ sum_by late_of (filter (λ s. s.order == o) own)
+    one_order : (o : ℕ) → count_by counts (earlier_facts c since t o) ≡ sum_by late_of (filter (λ s. s.head.order == o) own)
     one_order o =
         over_each (count_by counts) (counts_add counts) (λ head. debit_facts (whole_row t head)) (filter (λ (head : SubmissionHead). not (is_since since head.settled)) (heads_in (is_row c o) t))
         ∙ ap (sum_by debits_of) (filter-map (λ (head : SubmissionHead). not (is_since since head.settled)) head_of (filter (is_row c o) t.submissions))
-        ∙ summed_map debits_of head_of (filter (λ (s : SubmissionRecord). not (is_since since s.settled)) (filter (is_row c o) t.submissions))
-        ∙ others (λ s. debits_of (head_of s)) (λ s. is_since since s.settled) (filter (is_row c o) t.submissions)
-        ∙ ap (sum_by late_of) (sym (filter-both (λ (s : SubmissionRecord). s.order == o) (is_of c) t.submissions))
+        ∙ summed_map debits_of head_of (filter (λ (s : SubmissionRecord). not (is_since since s.head.settled)) (filter (is_row c o) t.submissions))
+        ∙ others (λ s. debits_of (head_of s)) (λ s. is_since since s.head.settled) (filter (is_row c o) t.submissions)
+        ∙ ap (sum_by late_of) (sym (filter-both (λ (s : SubmissionRecord). s.head.order == o) (is_of c) t.submissions))
 
     returned_sum : count_by counts (flat_map (earlier_facts c since t) os) ≡ sum_by late_of own
     returned_sum =
         over_each (count_by counts) (counts_add counts) (earlier_facts c since t) os
-        ∙ summed_same (λ o. count_by counts (earlier_facts c since t o)) (λ o. sum_by late_of (filter (λ s. s.order == o) own)) one_order os
-        ∙ by_key (λ (s : SubmissionRecord). s.order) late_of os rise own (passing_all (is_of c) (λ s. Contains os s.order ⊎ (late_of s ≡ 0)) key_or_none t.submissions)
+        ∙ summed_same (λ o. count_by counts (earlier_facts c since t o)) (λ o. sum_by late_of (filter (λ s. s.head.order == o) own)) one_order os
+        ∙ by_key (λ (s : SubmissionRecord). s.head.order) late_of os rise own (passing_all (is_of c) (λ s. Contains os s.head.order ⊎ (late_of s ≡ 0)) key_or_none t.submissions)
 
     all_sum : count_by counts (facts_in (rows_in (is_of c) t)) ≡ sum_by count_of own
     all_sum =
@@ -194,7 +194,7 @@ module _ (q : EntryState → Bool) (since : ℕ) where
     counted settled returned a b =
         (counts_add counts).both settled returned
         ∙ (let first = ap (count_by counts) a ∙ settled_sum in let second = ap (count_by counts) b ∙ returned_sum in λ i. first i + second i)
-        ∙ apart (λ s. debits_of (head_of s)) (λ s. is_since since s.settled) own
+        ∙ apart (λ s. debits_of (head_of s)) (λ s. is_since since s.head.settled) own
         ∙ summed_same (λ s. debits_of (head_of s)) count_of debits_are own
         ∙ sym all_sum
 

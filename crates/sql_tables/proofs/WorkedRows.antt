@@ -100,7 +100,10 @@ rows = record {
 
 abbrev record_of : List ℕ → ℕ → List ℕ → (asked : ℕ) → Option RetriedEntry → (lapsed : Bool) → Option ℕ → Option FilePlace → SubmissionRecord
 record_of c order reference asked retried lapsed settled printed =
-    record { company = c; order = order; reference = reference; sec = Ccd; direction = Debit; description = codes "DUES"; asked = asked; retried = retried; lapsed = lapsed; settled = settled; printed = printed }
+    record {
+      head = record { company = c; order = order; reference = reference; sec = Ccd; direction = Debit; description = codes "DUES"; asked = asked; retried = retried; lapsed = lapsed; settled = settled };
+      printed = printed;
+    }
 
 abbrev first_of_pay : RetriedEntry
 first_of_pay = record { of = pay; index = 1 }
@@ -181,7 +184,10 @@ submissions : map submission_row tables.submissions ≡
     ∷ (Text mill ∷ Int (pos 4) ∷ Text (codes "PAY-4") ∷ Text (codes "CCD") ∷ Text (codes "debit") ∷ Text (codes "DUES") ∷ Int (pos 20109) ∷ Null ∷ Null ∷ Int (pos 0) ∷ Int (pos 20109) ∷ Int (pos 20107) ∷ Text (codes "B") ∷ Int (pos 1) ∷ []) ∷ []
 submissions = refl
 
-credit : submission_row (record (record_of mill 5 pay 20098 None false None None) { sec = Ppd; direction = Credit })
+abbrev fifth : SubmissionRecord
+fifth = record_of mill 5 pay 20098 None false None None
+
+credit : submission_row (record fifth { head = record fifth.head { sec = Ppd; direction = Credit } })
     ≡ Text mill ∷ Int (pos 5) ∷ Text pay ∷ Text (codes "PPD") ∷ Text (codes "credit") ∷ Text (codes "DUES") ∷ Int (pos 20098) ∷ Null ∷ Null ∷ Int (pos 0) ∷ Null ∷ Null ∷ Null ∷ Null ∷ []
 credit = refl
 

@@ -11,15 +11,15 @@ use Rattle.sql_tables.specs.declared.records.NumberRecord.{NumberRecord}
 use Rattle.sql_tables.specs.declared.records.SubmissionRecord.{SubmissionRecord}
 
 abbrev pub is_row : (company : List ℕ) → (order : ℕ) → SubmissionRecord → Bool
-is_row c order r = bytes_eq r.company c && r.order == order
+is_row c order r = bytes_eq r.head.company c && r.head.order == order
 
 -- a submission is sent
 abbrev pub mark_sent : SentRow → List SubmissionRecord → List SubmissionRecord
-mark_sent s = update_where (is_row s.company s.order) (λ r. record r { settled = Some s.settled; printed = Some s.printed })
+mark_sent s = update_where (is_row s.company s.order) (λ r. record { head = record r.head { settled = Some s.settled }; printed = Some s.printed })
 
 -- a retry lapses
 abbrev pub mark_lapsed : LapsedRow → List SubmissionRecord → List SubmissionRecord
-mark_lapsed l = update_where (is_row l.company l.order) (λ r. record r { lapsed = true })
+mark_lapsed l = update_where (is_row l.company l.order) (λ r. record r { head = record r.head { lapsed = true } })
 
 abbrev pub is_entry_row : (company : List ℕ) → (order : ℕ) → (index : ℕ) → EntryRecord → Bool
 is_entry_row c order index r = bytes_eq r.company c && r.order == order && r.index == index

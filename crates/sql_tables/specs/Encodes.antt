@@ -40,16 +40,18 @@ printed_at printed c order = option_map (λ s. s.printed) (find (is_printed_of c
 
 abbrev pub submission_record : List SentRow → CompanyRow → SubmissionRecord
 submission_record printed x = record {
-  company = x.company;
-  order = x.row.order;
-  reference = x.row.content.reference;
-  sec = x.row.content.sec;
-  direction = x.row.content.direction;
-  description = x.row.content.description;
-  asked = x.row.content.day;
-  retried = option_map retried_entry x.row.retry;
-  lapsed = x.row.lapsed;
-  settled = x.row.settled;
+  head = record {
+    company = x.company;
+    order = x.row.order;
+    reference = x.row.content.reference;
+    sec = x.row.content.sec;
+    direction = x.row.content.direction;
+    description = x.row.content.description;
+    asked = x.row.content.day;
+    retried = option_map retried_entry x.row.retry;
+    lapsed = x.row.lapsed;
+    settled = x.row.settled;
+  };
   printed = printed_at printed x.company x.row.order;
 }
 

@@ -23,24 +23,13 @@ abbrev pub keyed_identity_of : DeskRecord → KeyedIdentity
 keyed_identity_of d = record { identity = d.identity; operator_key = d.operator_key }
 
 abbrev pub head_of : SubmissionRecord → SubmissionHead
-head_of s = record {
-  company = s.company;
-  order = s.order;
-  reference = s.reference;
-  sec = s.sec;
-  direction = s.direction;
-  description = s.description;
-  asked = s.asked;
-  retried = s.retried;
-  lapsed = s.lapsed;
-  settled = s.settled;
-}
+head_of s = s.head
 
 abbrev pub facts_of : SubmissionRecord → SubmissionFacts
-facts_of s = record { reference = s.reference; sec = s.sec; direction = s.direction; settled = s.settled }
+facts_of s = let h = s.head in record { reference = h.reference; sec = h.sec; direction = h.direction; settled = h.settled }
 
 abbrev pub order_of : SubmissionRecord → OrderAndSettlement
-order_of s = record { order = s.order; settled = s.settled }
+order_of s = record { order = s.head.order; settled = s.head.settled }
 
 abbrev pub numbered_of : EntryRecord → NumberedEntry
 numbered_of e = record { index = e.index; entry = e.entry }

@@ -56,16 +56,18 @@ put_limits_edit id limits = record { after = λ t. record t { companies = map (w
 -- a held one
 abbrev pub new_submission_record : (company : List ℕ) → (order : ℕ) → Submission → Option Retry → SubmissionRecord
 new_submission_record c order s retry = record {
-  company = c;
-  order = order;
-  reference = s.reference;
-  sec = s.sec;
-  direction = s.direction;
-  description = s.description;
-  asked = s.day;
-  retried = option_map retried_entry retry;
-  lapsed = false;
-  settled = None;
+  head = record {
+    company = c;
+    order = order;
+    reference = s.reference;
+    sec = s.sec;
+    direction = s.direction;
+    description = s.description;
+    asked = s.day;
+    retried = option_map retried_entry retry;
+    lapsed = false;
+    settled = None;
+  };
   printed = None;
 }
 
@@ -140,8 +142,8 @@ put_lines_edit = each_edit_on (λ t. next_number (λ x. x.number) t.postings) pu
 pub record Waits (company : List ℕ) (order : ℕ) (t : Tables) : Type 0 where
   pub submission : SubmissionRecord
   pub found : find (is_row company order) t.submissions ≡ Some submission
-  pub unsettled : submission.settled ≡ None
-  pub lasts : submission.lapsed ≡ false
+  pub unsettled : submission.head.settled ≡ None
+  pub lasts : submission.head.lapsed ≡ false
 
 -- UPDATE submissions SET settled = ?, file_day = ?, modifier = ?, batch = ? WHERE company = ? AND ord = ? AND settled IS NULL AND lapsed = 0
 abbrev pub send_edit : SentRow → Edit Tables
@@ -181,7 +183,7 @@ commit_cut_edit first x =
 
 -- the number in the company of the submission under a reference
 abbrev pub order_there : (company : List ℕ) → (reference : List ℕ) → Tables → ℕ
-order_there c reference t = unwrap_or (option_map (λ s. s.order) (find (is_under c reference) t.submissions)) 0
+order_there c reference t = unwrap_or (option_map (λ s. s.head.order) (find (is_under c reference) t.submissions)) 0
 
 -- INSERT INTO returns, of an entry of a submission that settles and was not returned before
 abbrev pub put_return_edit : (number : ℕ) → ReturnedRow → Edit Tables
@@ -198,7 +200,7 @@ put_return_edit n x = record {
       info = x.row.info;
     }) t.returns;
   };
-  Tells = λ t. IsSome (option_and_then (λ s. s.settled) (find (is_under x.company x.row.reference) t.submissions))
+  Tells = λ t. IsSome (option_and_then (λ s. s.head.settled) (find (is_under x.company x.row.reference) t.submissions))
       × (find (is_return_at x.company (order_there x.company x.row.reference t) x.row.index) t.returns ≡ None);
 }
 

@@ -48,15 +48,15 @@ company_in id t = find (has_id id) t.companies
 
 -- WHERE company = ?
 abbrev pub is_of : (company : List ℕ) → SubmissionRecord → Bool
-is_of c s = bytes_eq s.company c
+is_of c s = bytes_eq s.head.company c
 
 -- WHERE company = ? AND ref = ?
 abbrev pub is_under : (company : List ℕ) → (reference : List ℕ) → SubmissionRecord → Bool
-is_under c reference s = bytes_eq s.company c && bytes_eq s.reference reference
+is_under c reference s = bytes_eq s.head.company c && bytes_eq s.head.reference reference
 
 -- settled IS NULL AND lapsed = 0
 abbrev pub is_waiting : SubmissionRecord → Bool
-is_waiting s = is_none s.settled && not s.lapsed
+is_waiting s = is_none s.head.settled && not s.head.lapsed
 
 abbrev pub is_since : (since : ℕ) → (settled : Option ℕ) → Bool
 is_since since None = false
@@ -64,7 +64,7 @@ is_since since (Some on) = nat_le since on
 
 -- WHERE company = ? AND (settled >= ? OR settled IS NULL AND lapsed = 0)
 abbrev pub is_open_of : (company : List ℕ) → (since : ℕ) → SubmissionRecord → Bool
-is_open_of c since s = is_of c s && (is_since since s.settled || is_waiting s)
+is_open_of c since s = is_of c s && (is_since since s.head.settled || is_waiting s)
 
 -- WHERE company = ? AND settled IS NULL AND lapsed = 0
 abbrev pub is_waiting_of : (company : List ℕ) → SubmissionRecord → Bool
@@ -76,7 +76,7 @@ tries of index (Some r) = bytes_eq r.of of && r.index == index
 
 -- WHERE company = ? AND of_ref = ? AND of_index = ?
 abbrev pub is_retry_of : (company : List ℕ) → (of : List ℕ) → (index : ℕ) → SubmissionRecord → Bool
-is_retry_of c of index s = is_of c s && tries of index s.retried
+is_retry_of c of index s = is_of c s && tries of index s.head.retried
 
 -- the submissions that pass, by company and order
 abbrev pub heads_in : (SubmissionRecord → Bool) → Tables → List SubmissionHead
@@ -96,7 +96,7 @@ facts_in c order t = option_map facts_of (find (is_row c order) t.submissions)
 
 -- SELECT ord .. WHERE company = ? ORDER BY company DESC, ord DESC LIMIT 1: the last order, 0 before the first
 abbrev pub last_order : (company : List ℕ) → Tables → ℕ
-last_order c t = number_of_last (λ s. s.order) (filter (is_of c) t.submissions)
+last_order c t = number_of_last (λ s. s.head.order) (filter (is_of c) t.submissions)
 
 -- ---- what stands of one submission
 

@@ -1,9 +1,10 @@
 //! The rows of a desk's tables are these records, in the order of the tables.
-use ach_fields::{Id, Ref, ShortText};
+use crate::row::submissions::SubmissionHead;
+use ach_fields::Id;
 use bank_days::Day;
 use desk_accounts::{Account, Posting};
-use desk_history::{FilePlace, Identity, RetriedEntry, SuspenseRow};
-use desk_rules::{Direction, Entry, ReturnCode, RuleDay, SecCode};
+use desk_history::{FilePlace, Identity, SuspenseRow};
+use desk_rules::{Entry, ReturnCode, RuleDay};
 
 /// A `DeskRecord` is the one row of `desk`: whose desk it is.
 pub struct DeskRecord {
@@ -16,22 +17,8 @@ pub struct DeskRecord {
 
 /// A `SubmissionRecord` is a row of `submissions`: an accepted submission or retry.
 pub struct SubmissionRecord {
-    pub company: Id,
-    /// Its number among the company's accepted submissions and retries, from 1.
-    pub order: u64,
-    pub reference: Ref,
-    pub sec: SecCode,
-    pub direction: Direction,
-    pub description: ShortText<10>,
-    /// The day on which the company wants it to settle.
-    pub asked: RuleDay,
-    /// The entry that a retry tries again.
-    pub retried: Option<RetriedEntry>,
-    /// Is it a retry that would have settled too late?
-    pub lapsed: bool,
-    /// The day on which it settles, once a cut has sent it.
-    pub settled: Option<RuleDay>,
-    /// Where that cut printed it.
+    pub head: SubmissionHead,
+    /// Where a cut printed it, once one has sent it.
     pub printed: Option<FilePlace>,
 }
 

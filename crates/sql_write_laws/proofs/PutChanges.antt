@@ -33,7 +33,7 @@ module _ (n : ℕ) (x : ChangedRow) (t : Tables) (r : Rows) (are : AreOf t r) (z
   new = record { number = n; company = x.company; order = order_there x.company x.row.reference t; index = x.row.index; code = x.row.code; day = x.row.day; text = x.row.text }
 
   its_order : order_there x.company x.row.reference t ≡ z.row.order
-  its_order = ap (λ (o : Option SubmissionRecord). unwrap_or (option_map (λ s. s.order) o) 0) (found_under x.company x.row.reference t r are ∙ ap (option_map (submission_record r.printed)) found)
+  its_order = ap (λ (o : Option SubmissionRecord). unwrap_or (option_map (λ s. s.head.order) o) 0) (found_under x.company x.row.reference t r are ∙ ap (option_map (submission_record r.printed)) found)
 
   behind : (put_change_edit n x).after t ≡ record t { changes = t.changes ++ new ∷ [] }
   behind = λ i. record t { changes = insert_last (λ (y : ChangeRecord). y.number) t.changes new 1 (length r.changed) (change_numbers t r are) at i }

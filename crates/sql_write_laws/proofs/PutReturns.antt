@@ -48,16 +48,18 @@ return_numbers t r are = numbers_are (λ (y : ReturnRecord). y.number) (return_r
 -- the row of a submission says the same before and after a return
 same_record : (x : ReturnedRow) (printed : List SentRow) (y : CompanyRow) → submission_record printed (return_in x y) ≡ submission_record printed y
 same_record x printed y = let k = return_keeps x in λ i. record {
-  company = k.company y i;
-  order = k.order y i;
-  reference = (k.content y i).reference;
-  sec = (k.content y i).sec;
-  direction = (k.content y i).direction;
-  description = (k.content y i).description;
-  asked = (k.content y i).day;
-  retried = option_map retried_entry (k.retry y i);
-  lapsed = return_lapses x y i;
-  settled = return_settles x y i;
+  head = record {
+    company = k.company y i;
+    order = k.order y i;
+    reference = (k.content y i).reference;
+    sec = (k.content y i).sec;
+    direction = (k.content y i).direction;
+    description = (k.content y i).description;
+    asked = (k.content y i).day;
+    retried = option_map retried_entry (k.retry y i);
+    lapsed = return_lapses x y i;
+    settled = return_settles x y i;
+  };
   printed = printed_at printed (k.company y i) (k.order y i);
 }
 
@@ -77,7 +79,7 @@ module _ (n : ℕ) (x : ReturnedRow) (t : Tables) (r : Rows) (are : AreOf t r) (
   in_table = found_under x.company x.row.reference t r are ∙ ap (option_map (submission_record r.printed)) found
 
   its_order : order_there x.company x.row.reference t ≡ z.row.order
-  its_order = ap (λ (o : Option SubmissionRecord). unwrap_or (option_map (λ s. s.order) o) 0) in_table
+  its_order = ap (λ (o : Option SubmissionRecord). unwrap_or (option_map (λ s. s.head.order) o) 0) in_table
 
   under : (z.company ≡ x.company) × (is_row_under x.row.reference z.row ≡ true)
   under = let both = and_parts _ _ (found_passes (is_submission_under x.company x.row.reference) rows z found) in ((bytes_eq-Decides z.company x.company).0 both.0, both.1)
@@ -193,13 +195,13 @@ module _ (n : ℕ) (x : ReturnedRow) (t : Tables) (r : Rows) (are : AreOf t r) (
 return_put : (n : ℕ) (x : ReturnedRow) (t : Tables) (r : Rows) → n ≡ length r.returned + 1 → AreOf t r → (put_return_edit n x).Tells t → AreOf ((put_return_edit n x).after t) (with_returned x r)
 return_put n x t r at are told =
     go (find (is_submission_under x.company x.row.reference) r.submissions) refl
-    (subst (λ (o : Option SubmissionRecord). IsSome (option_and_then (λ s. s.settled) o)) (found_under x.company x.row.reference t r are) told.0)
+    (subst (λ (o : Option SubmissionRecord). IsSome (option_and_then (λ s. s.head.settled) o)) (found_under x.company x.row.reference t r are) told.0)
   where
     settled : (z : CompanyRow) → find (is_submission_under x.company x.row.reference) r.submissions ≡ Some z → (o : Option ℕ) → z.row.settled ≡ o → IsSome o → AreOf ((put_return_edit n x).after t) (with_returned x r)
     settled z found None is some = cc
     settled z found (Some on) is some = returned_tables n x t r are z found on is told.1 at
 
-    go : (o : Option CompanyRow) → find (is_submission_under x.company x.row.reference) r.submissions ≡ o → IsSome (option_and_then (λ (s : SubmissionRecord). s.settled) (option_map (submission_record r.printed) o)) → AreOf ((put_return_edit n x).after t) (with_returned x r)
+    go : (o : Option CompanyRow) → find (is_submission_under x.company x.row.reference) r.submissions ≡ o → IsSome (option_and_then (λ (s : SubmissionRecord). s.head.settled) (option_map (submission_record r.printed) o)) → AreOf ((put_return_edit n x).after t) (with_returned x r)
     go None found some = cc
     go (Some z) found some = settled z found z.row.settled refl some
 

@@ -25,16 +25,16 @@ not_is false h = refl
 
 -- ---- submissions
 
-row_parts : (c : List ℕ) (o : ℕ) (r : SubmissionRecord) → is_row c o r ≡ true → (bytes_eq r.company c ≡ true) × ((r.order == o) ≡ true)
-row_parts c o r h = and_parts (bytes_eq r.company c) (r.order == o) h
+row_parts : (c : List ℕ) (o : ℕ) (r : SubmissionRecord) → is_row c o r ≡ true → (bytes_eq r.head.company c ≡ true) × ((r.head.order == o) ≡ true)
+row_parts c o r h = and_parts (bytes_eq r.head.company c) (r.head.order == o) h
 
-equal_rows : (a b : SubmissionRecord) → is_eq (submission_cmp a b) ≡ is_row b.company b.order a
-equal_rows a b = equal_both _ _ ∙ ap₂ (λ p q. p && q) (is_eq-slice_cmp a.company b.company) (equal_numbers a.order b.order)
+equal_rows : (a b : SubmissionRecord) → is_eq (submission_cmp a b) ≡ is_row b.head.company b.head.order a
+equal_rows a b = equal_both _ _ ∙ ap₂ (λ p q. p && q) (is_eq-slice_cmp a.head.company b.head.company) (equal_numbers a.head.order b.head.order)
 
 pub one_row : (c : List ℕ) (o : ℕ) (a b : SubmissionRecord) → is_row c o a ≡ true → is_row c o b ≡ true → submission_cmp a b ≡ Less → ⊥
 one_row c o = not_before submission_cmp (is_row c o) (λ a b here there.
     let it = row_parts c o b there in
-    equal_rows a b ∙ ap₂ (λ k n. is_row k n a) (same_text b.company c it.0) (same_number b.order o it.1) ∙ here)
+    equal_rows a b ∙ ap₂ (λ k n. is_row k n a) (same_text b.head.company c it.0) (same_number b.head.order o it.1) ∙ here)
 
 -- ---- entries
 

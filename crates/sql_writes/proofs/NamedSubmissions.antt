@@ -33,11 +33,11 @@ order_found c reference found old new shows rows shown is =
     (first_found order_and_settlement_row order_and_settlement_rows {x = Some found} (order_shown c reference) (record { was_open = shows.was_open; rows = rows; shown = shown; is = is })).told
 
 module _ (found : OrderAndSettlement) where
-  order_is : (s : Option SubmissionRecord) → Some found ≡ option_map order_of s → unwrap_or (option_map (λ x. x.order) s) 0 ≡ found.order
+  order_is : (s : Option SubmissionRecord) → Some found ≡ option_map order_of s → unwrap_or (option_map (λ x. x.head.order) s) 0 ≡ found.order
   order_is None h = cc
   order_is (Some s) h = let e : found ≡ order_of s = (let k = h in cc) in sym (ap (λ o. o.order) e)
 
-  settles_is : (s : Option SubmissionRecord) → Some found ≡ option_map order_of s → IsSome found.settled → IsSome (option_and_then (λ x. x.settled) s)
+  settles_is : (s : Option SubmissionRecord) → Some found ≡ option_map order_of s → IsSome found.settled → IsSome (option_and_then (λ x. x.head.settled) s)
   settles_is None h is = cc
   settles_is (Some s) h is = let e : found ≡ order_of s = (let k = h in cc) in subst (λ o. IsSome o.settled) e is
 
@@ -49,7 +49,7 @@ module _ (found : OrderAndSettlement) where
     pub order_told : order_there c reference t ≡ found.order
     order_told = order_is (find (is_under c reference) t.submissions) told
 
-    pub settles_told : IsSome found.settled → IsSome (option_and_then (λ s. s.settled) (find (is_under c reference) t.submissions))
+    pub settles_told : IsSome found.settled → IsSome (option_and_then (λ s. s.head.settled) (find (is_under c reference) t.submissions))
     settles_told = settles_is (find (is_under c reference) t.submissions) told
 
     pub there_told : IsSome (find (is_under c reference) t.submissions)

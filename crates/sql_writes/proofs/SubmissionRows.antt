@@ -42,23 +42,23 @@ use Rattle.sql_writes.specs.Texts.{insert_submission, insert_entry, insert_autho
 -- ---- submissions
 
 pub submission_kept : (r : SubmissionRecord) → are_kept submissions_table.columns (submission_row r) ≡ true
-submission_kept r = at_lapsed r.lapsed
+submission_kept r = at_lapsed r.head.lapsed
   where
-    at_printed : (o : _) → are_kept submissions_table.columns (submission_row (record r { lapsed = true; retried = None; settled = None; printed = o })) ≡ true
+    at_printed : (o : _) → are_kept submissions_table.columns (submission_row (record { head = record r.head { lapsed = true; retried = None; settled = None }; printed = o })) ≡ true
     at_printed None = refl
     at_printed (Some p) = refl
 
-    at_settled : (o : Option ℕ) → are_kept submissions_table.columns (submission_row (record r { lapsed = true; retried = None; settled = o })) ≡ true
+    at_settled : (o : Option ℕ) → are_kept submissions_table.columns (submission_row (record r { head = record r.head { lapsed = true; retried = None; settled = o } })) ≡ true
     at_settled None = at_printed r.printed
     at_settled (Some d) = at_printed r.printed
 
-    at_retried : (o : _) → are_kept submissions_table.columns (submission_row (record r { lapsed = true; retried = o })) ≡ true
-    at_retried None = at_settled r.settled
-    at_retried (Some t) = at_settled r.settled
+    at_retried : (o : _) → are_kept submissions_table.columns (submission_row (record r { head = record r.head { lapsed = true; retried = o } })) ≡ true
+    at_retried None = at_settled r.head.settled
+    at_retried (Some t) = at_settled r.head.settled
 
-    at_lapsed : (b : Bool) → are_kept submissions_table.columns (submission_row (record r { lapsed = b })) ≡ true
-    at_lapsed true = at_retried r.retried
-    at_lapsed false = at_retried r.retried
+    at_lapsed : (b : Bool) → are_kept submissions_table.columns (submission_row (record r { head = record r.head { lapsed = b } })) ≡ true
+    at_lapsed true = at_retried r.head.retried
+    at_lapsed false = at_retried r.head.retried
 
 insert_submission_is : IsInsert desk_schema insert_submission (place_of named.submissions) (table (described named.submissions))
 unfolding understood everything
@@ -68,30 +68,30 @@ puts_submission : PutsOne named.submissions
 puts_submission = record { is = insert_submission_is; given = λ x. refl; kept = submission_kept }
 
 pub submission_total : IsTotalOrder submission_cmp
-submission_total = then_total (on_total (λ (r : SubmissionRecord). r.company) nat_list_cmp_total) (on_total (λ (r : SubmissionRecord). r.order) nat_cmp_total)
+submission_total = then_total (on_total (λ (r : SubmissionRecord). r.head.company) nat_list_cmp_total) (on_total (λ (r : SubmissionRecord). r.head.order) nat_cmp_total)
 
 same_row : (c : List ℕ) (n : ℕ) (a b : ℤ × SubmissionRecord) → is_row c n a.1 ≡ true → is_row c n b.1 ≡ true → agree plain (1 ∷ 2 ∷ []) (row_of submission_row b) (1 ∷ 2 ∷ []) (row_of submission_row a) ≡ true
 unfolding first_key
 same_row c n a b h k =
-    let x = and_parts (bytes_eq a.1.company c) (a.1.order == n) h in let y = and_parts (bytes_eq b.1.company c) (b.1.order == n) k in
-    and_from _ _ (key_text a.1.company b.1.company c x.0 y.0) (and_from _ _ (key_number a.1.order b.1.order n x.1 y.1) refl)
+    let x = and_parts (bytes_eq a.1.head.company c) (a.1.head.order == n) h in let y = and_parts (bytes_eq b.1.head.company c) (b.1.head.order == n) k in
+    and_from _ _ (key_text a.1.head.company b.1.head.company c x.0 y.0) (and_from _ _ (key_number a.1.head.order b.1.head.order n x.1 y.1) refl)
 
 same_under : (c reference : List ℕ) (a b : ℤ × SubmissionRecord) → is_under c reference a.1 ≡ true → is_under c reference b.1 ≡ true → agree plain (1 ∷ 3 ∷ []) (row_of submission_row b) (1 ∷ 3 ∷ []) (row_of submission_row a) ≡ true
 unfolding first_key
 same_under c reference a b h k =
-    let x = and_parts (bytes_eq a.1.company c) (bytes_eq a.1.reference reference) h in let y = and_parts (bytes_eq b.1.company c) (bytes_eq b.1.reference reference) k in
-    and_from _ _ (key_text a.1.company b.1.company c x.0 y.0) (and_from _ _ (key_text a.1.reference b.1.reference reference x.1 y.1) refl)
+    let x = and_parts (bytes_eq a.1.head.company c) (bytes_eq a.1.head.reference reference) h in let y = and_parts (bytes_eq b.1.head.company c) (bytes_eq b.1.head.reference reference) k in
+    and_from _ _ (key_text a.1.head.company b.1.head.company c x.0 y.0) (and_from _ _ (key_text a.1.head.reference b.1.head.reference reference x.1 y.1) refl)
 
 pub submission_put : (x : SubmissionRecord) (old new : State) (count : ℕ) → Executes insert_submission (submission_row x) old new (Ok count) → (t : Tables) → Holds desk_layout old.now t
-    → Holds desk_layout new.now (record t { submissions = insert_sorted submission_cmp x t.submissions }) × (find (is_row x.company x.order) t.submissions ≡ None) × (find (is_under x.company x.reference) t.submissions ≡ None)
+    → Holds desk_layout new.now (record t { submissions = insert_sorted submission_cmp x t.submissions }) × (find (is_row x.head.company x.head.order) t.submissions ≡ None) × (find (is_under x.head.company x.head.reference) t.submissions ≡ None)
 submission_put x old new count ran t h =
     let s = submissions_table in
     let made = one_put named.submissions puts_submission x old new count ran t h in
-    let free = key_free submission_row desk_schema s (1 ∷ 2 ∷ []) (is_row x.company x.order) (same_row x.company x.order) (λ db row any. taken_first _ _ any) new.now.trees x t.submissions (and_from _ _ (text_itself x.company) (number_itself x.order)) made.has.stored made.unique in
-    let other = key_free submission_row desk_schema s (1 ∷ 3 ∷ []) (is_under x.company x.reference) (same_under x.company x.reference) (λ db row any. taken_second _ _ _ any) new.now.trees x t.submissions (and_from _ _ (text_itself x.company) (text_itself x.reference)) made.has.stored made.unique in (
-      holds_with named.submissions _ h made.has (put_in_order submission_row submission_cmp submission_total (is_row x.company x.order) new.now.trees s x t.submissions (λ y. equal_both _ _ ∙ (let c = is_eq-slice_cmp y.company x.company in let n = equal_numbers y.order x.order in λ i. c i && n i)) free (h.1.stands named.submissions).rise made.has.stored),
-      find_none (is_row x.company x.order) t.submissions free,
-      find_none (is_under x.company x.reference) t.submissions other,
+    let free = key_free submission_row desk_schema s (1 ∷ 2 ∷ []) (is_row x.head.company x.head.order) (same_row x.head.company x.head.order) (λ db row any. taken_first _ _ any) new.now.trees x t.submissions (and_from _ _ (text_itself x.head.company) (number_itself x.head.order)) made.has.stored made.unique in
+    let other = key_free submission_row desk_schema s (1 ∷ 3 ∷ []) (is_under x.head.company x.head.reference) (same_under x.head.company x.head.reference) (λ db row any. taken_second _ _ _ any) new.now.trees x t.submissions (and_from _ _ (text_itself x.head.company) (text_itself x.head.reference)) made.has.stored made.unique in (
+      holds_with named.submissions _ h made.has (put_in_order submission_row submission_cmp submission_total (is_row x.head.company x.head.order) new.now.trees s x t.submissions (λ y. equal_both _ _ ∙ (let c = is_eq-slice_cmp y.head.company x.head.company in let n = equal_numbers y.head.order x.head.order in λ i. c i && n i)) free (h.1.stands named.submissions).rise made.has.stored),
+      find_none (is_row x.head.company x.head.order) t.submissions free,
+      find_none (is_under x.head.company x.head.reference) t.submissions other,
     )
 
 -- ---- entries

@@ -46,32 +46,32 @@ update_lapsed_is = record { is = record { updates = refl; body = refl; alone = r
 abbrev waits_at : List ℕ → ℕ → SubmissionRecord → Bool
 waits_at c o r = is_row c o r && is_waiting r
 
-waits_parts : (c : List ℕ) (o : ℕ) (r : SubmissionRecord) → waits_at c o r ≡ true → (is_row c o r ≡ true) × (r.settled ≡ None) × (r.lapsed ≡ false)
+waits_parts : (c : List ℕ) (o : ℕ) (r : SubmissionRecord) → waits_at c o r ≡ true → (is_row c o r ≡ true) × (r.head.settled ≡ None) × (r.head.lapsed ≡ false)
 waits_parts c o r h =
     let one = and_parts (is_row c o r) (is_waiting r) h in
-    let two = and_parts (is_none r.settled) (not r.lapsed) one.1 in
-    (one.0, none_is r.settled two.0, not_is r.lapsed two.1)
+    let two = and_parts (is_none r.head.settled) (not r.head.lapsed) one.1 in
+    (one.0, none_is r.head.settled two.0, not_is r.head.lapsed two.1)
 
 -- an UPDATE of the submission of a number, where it waits
 module _ (c : List ℕ) (o : ℕ) (rest : Row) (sets : List Set) (is : IsUpdateOf named.submissions (update_waiting sets))
-    (set : SubmissionRecord → SubmissionRecord) (same_company : (r : SubmissionRecord) → (set r).company ≡ r.company) (same_order : (r : SubmissionRecord) → (set r).order ≡ r.order)
+    (set : SubmissionRecord → SubmissionRecord) (same_company : (r : SubmissionRecord) → (set r).head.company ≡ r.head.company) (same_order : (r : SubmissionRecord) → (set r).head.order ≡ r.head.order)
     (made_row : (i : ℤ) (r : SubmissionRecord) → eval_all (update_waiting sets).sets ((Text c ∷ number o ∷ rest) ∷ row_of submission_row (i, r) ∷ []) ≡ submission_row (set r)) where
   tested : (i : ℤ) (r : SubmissionRecord) → list_all (holds ((Text c ∷ number o ∷ rest) ∷ row_of submission_row (i, r) ∷ [])) (update_waiting sets).tests ≡ waits_at c o r
   tested i r =
-      let a = text_is r.company c in
-      let b = conditions.number_is r.order o in
-      let d = conditions.unset_is r.settled in
-      let e = and_true _ ∙ conditions.unflagged_is r.lapsed in
-      (λ j. a j && (b j && (d j && e j))) ∙ and_joined (bytes_eq r.company c) (r.order == o) (is_waiting r)
+      let a = text_is r.head.company c in
+      let b = conditions.number_is r.head.order o in
+      let d = conditions.unset_is r.head.settled in
+      let e = and_true _ ∙ conditions.unflagged_is r.head.lapsed in
+      (λ j. a j && (b j && (d j && e j))) ∙ and_joined (bytes_eq r.head.company c) (r.head.order == o) (is_waiting r)
 
   keeps_order : (a b : SubmissionRecord) → submission_cmp (cond (is_row c o a) (set a) a) (cond (is_row c o b) (set b) b) ≡ submission_cmp a b
   keeps_order a b = λ i. ordering_then (text_cmp (company a i) (company b i)) (nat_cmp (order a i) (order b i))
     where
-      company : (d : SubmissionRecord) → (cond (is_row c o d) (set d) d).company ≡ d.company
-      company d = elim (is_row c o d) as (λ q. (cond q (set d) d).company ≡ d.company) [ true ↦ same_company d | false ↦ refl ]
+      company : (d : SubmissionRecord) → (cond (is_row c o d) (set d) d).head.company ≡ d.head.company
+      company d = elim (is_row c o d) as (λ q. (cond q (set d) d).head.company ≡ d.head.company) [ true ↦ same_company d | false ↦ refl ]
 
-      order : (d : SubmissionRecord) → (cond (is_row c o d) (set d) d).order ≡ d.order
-      order d = elim (is_row c o d) as (λ q. (cond q (set d) d).order ≡ d.order) [ true ↦ same_order d | false ↦ refl ]
+      order : (d : SubmissionRecord) → (cond (is_row c o d) (set d) d).head.order ≡ d.head.order
+      order d = elim (is_row c o d) as (λ q. (cond q (set d) d).head.order ≡ d.head.order) [ true ↦ same_order d | false ↦ refl ]
 
   submission_updated : (old new : State) → Executes (update_waiting sets).text (Text c ∷ number o ∷ rest) old new (Ok 1) → (t : Tables) → Holds desk_layout old.now t
       → Holds desk_layout new.now (record t { submissions = update_where (is_row c o) set t.submissions }) × Waits c o t
@@ -90,8 +90,8 @@ pub submission_sent : (s : SentRow) (old new : State) → Executes (update_waiti
     → (t : Tables) → Holds desk_layout old.now t → Holds desk_layout new.now (record t { submissions = mark_sent s t.submissions }) × Waits s.company s.order t
 submission_sent s =
     submission_updated s.company s.order (number s.settled ∷ number s.printed.day ∷ letter s.printed.modifier ∷ number s.printed.batch ∷ []) sent_sets update_sent_is
-    (λ r. record r { settled = Some s.settled; printed = Some s.printed }) (λ r. refl) (λ r. refl) (λ i r. refl)
+    (λ r. record { head = record r.head { settled = Some s.settled }; printed = Some s.printed }) (λ r. refl) (λ r. refl) (λ i r. refl)
 
 pub submission_lapsed : (l : LapsedRow) (old new : State) → Executes (update_waiting lapsed_sets).text (Text l.company ∷ number l.order ∷ []) old new (Ok 1)
     → (t : Tables) → Holds desk_layout old.now t → Holds desk_layout new.now (record t { submissions = mark_lapsed l t.submissions }) × Waits l.company l.order t
-submission_lapsed l = submission_updated l.company l.order [] lapsed_sets update_lapsed_is (λ r. record r { lapsed = true }) (λ r. refl) (λ r. refl) (λ i r. refl)
+submission_lapsed l = submission_updated l.company l.order [] lapsed_sets update_lapsed_is (λ r. record r { head = record r.head { lapsed = true } }) (λ r. refl) (λ r. refl) (λ i r. refl)

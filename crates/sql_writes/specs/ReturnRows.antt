@@ -24,7 +24,7 @@ stored_return r =
 
 -- the submission that a return names settles
 abbrev pub Settles : ReturnedRow → Tables → Type 0
-Settles x t = IsSome (option_and_then (λ s. s.settled) (find (is_under x.company x.row.reference) t.submissions))
+Settles x t = IsSome (option_and_then (λ s. s.head.settled) (find (is_under x.company x.row.reference) t.submissions))
 
 -- the row of a return under its number, with the order number of the submission that it names
 abbrev pub return_row_in : Tables → ℕ × ReturnedRow → ReturnRow
