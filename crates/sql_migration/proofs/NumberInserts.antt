@@ -17,9 +17,6 @@ use Rattle.sqlite_resolve.specs.Compile.{first}
 use Rattle.sqlite_value.specs.Order.{Row}
 use Rattle.sql_statements.specs.SelectTexts.{IsSelectText}
 use Rattle.sql_statements.specs.Statements.{IsInsert, IsSelect, query_from, at_least, by, params_shown}
-use Rattle.sql_statements.proofs.Casts.{row_kept}
-use Rattle.sql_statements.proofs.FreeKeys.{insert_rules}
-use Rattle.sql_statements.proofs.Inserts.{inserted}
 use Rattle.sql_statements.specs.Edits.{each_edit_from}
 use Rattle.sql_statements.specs.Layouts.{Holds}
 use Rattle.sql_tables.specs.ByName as named
@@ -29,7 +26,6 @@ use Rattle.sql_tables.specs.Schema.{desk_schema}
 use Rattle.sql_tables.specs.TableDefinitions.{numbers_table}
 use Rattle.sql_tables.specs.Columns.{number}
 use Rattle.sql_tables.specs.Layout.{desk_layout}
-use Rattle.sql_tables.specs.RecordRows.{number_row}
 use Rattle.sql_tables.specs.Tables.{Tables}
 use Rattle.sql_tables.specs.declared.records.EntryRecord.{EntryRecord}
 use Rattle.sql_tables.specs.declared.records.NumberRecord.{NumberRecord}

@@ -16,14 +16,13 @@ use Rattle.sqlite.specs.State.{State, Executes, Runs, mode_of}
 use Rattle.sql_migration.proofs.KeptSchemas.{rows_schema}
 use Rattle.sqlite.specs.Table.{Table}
 use Rattle.sqlite.specs.declared.types.Value.TheVariants.{Int}
-use Rattle.sqlite_sql.specs.Term.{col, lit}
 use Rattle.sqlite_trees.specs.Tree.{Trees}
 use Rattle.sqlite_trees.proofs.ListLemmas.{all-permutation}
 use Rattle.sqlite_value.specs.Order.{Row}
 use Rattle.sql_statements.proofs.Casts.{row_kept, are_kept}
 use Rattle.sql_statements.proofs.Changes.{updated}
 use Rattle.sql_statements.proofs.Conditions.{int_is, and_true}
-use Rattle.sql_statements.specs.Statements.{IsUpdate, is_update, number_is as is_number}
+use Rattle.sql_statements.specs.Statements.{IsUpdate, is_update}
 use Rattle.sql_statements.specs.StoredRows.{row_of, Stores}
 use Rattle.sql_statements.specs.Layouts.{Holds}
 use Rattle.sql_tables.specs.Schema.{desk_schema}
