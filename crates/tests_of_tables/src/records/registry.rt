@@ -4,6 +4,7 @@ use crate::samples::{party_name, routing, short_text};
 use ach_fields::Id;
 use desk_history::Identity;
 use desk_rules::{Company, Limits, RuleDay};
+use sql_tables::KeyedIdentity;
 use std::process::Abort;
 use std::test::Fail;
 
@@ -11,17 +12,26 @@ pub(super) fn id(rt: &impl Abort) -> Id {
     Id::new(b"MILL01").ok().expect(rt, "an identification")
 }
 
-const IDENTITY: [&str; 4] = ["'121042882'", "'OUR BANK'", "'061000146'", "'ACH OPERATOR'"];
+const IDENTITY: [&str; 5] = [
+    "'121042882'",
+    "'OUR BANK'",
+    "'061000146'",
+    "'ACH OPERATOR'",
+    "x'0707070707070707070707070707070707070707070707070707070707070707'",
+];
 
 #[test]
-fn identities(rt: HostRuntime) -> Result<(), Fail> {
+fn identities_and_keys(rt: HostRuntime) -> Result<(), Fail> {
     let identity = Identity {
         odfi: routing(&rt, b"121042882"),
         odfi_name: party_name(&rt, b"OUR BANK"),
         destination: routing(&rt, b"061000146"),
         destination_name: party_name(&rt, b"ACH OPERATOR"),
     };
-    assert!(rt; read(rt.alloc(), &IDENTITY)? == Some(identity));
+    let found: Option<KeyedIdentity> = read(rt.alloc(), &IDENTITY)?;
+    let found = found.expect(&rt, "an identity");
+    assert!(rt; found.identity == identity);
+    assert!(rt; found.operator_key == [7; 32]);
     let bad = [
         (0, "'121042883'"),
         (1, "''"),
@@ -32,10 +42,13 @@ fn identities(rt: HostRuntime) -> Result<(), Fail> {
         (3, "'ACH\u{7f}OPERATOR'"),
         (3, "'A NAME OF 24 CHARACTERS.'"),
         (3, "'X', 'Y'"),
+        (4, "x'07'"),
+        (4, "'07070707070707070707070707070707'"),
+        (4, "NULL"),
     ];
     for (at, value) in bad {
         assert!(rt;
-            is_refused::<Identity>(rt.alloc(), &IDENTITY, at, value)?,
+            is_refused::<KeyedIdentity>(rt.alloc(), &IDENTITY, at, value)?,
             "{value}"
         );
     }
