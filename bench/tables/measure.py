@@ -265,20 +265,13 @@ def item_rows(db, company):
     db.execute("SELECT ord, idx, code, day, text FROM changes WHERE company = ?1 ORDER BY no", (company,)).fetchall()
 
 
-def state_rows(db, company, reference):
-    order, _ = db.execute("SELECT ord, settled FROM submissions WHERE company = ?1 AND ref = ?2 ORDER BY company, ord",
-                          (company, reference)).fetchone()
-    key = (company, order, 1)
-    db.execute("SELECT idx, routing, account, savings, prenote, cents, ident, name, info FROM entries WHERE company = ?1 "
-               "AND ord = ?2 AND idx = ?3 ORDER BY company, ord, idx", key).fetchall()
-    db.execute("SELECT idx, code, day, late FROM returns WHERE company = ?1 AND ord = ?2 AND idx = ?3 ORDER BY no", key).fetchall()
-
-
-def sent_rows(db, sequence):
+def traced_rows(db, sequence):
+    db.execute("SELECT odfi FROM desk").fetchone()
     place, = db.execute("SELECT nth FROM numbers WHERE sequence = ?1", (sequence,)).fetchone()
     entry = db.execute("SELECT company, ord, idx, routing, account, savings, prenote, cents, ident, name, info FROM entries "
                        "WHERE seq = ?1", (place,)).fetchone()
     db.execute(FACTS, entry[:2]).fetchone()
+    db.execute("SELECT idx, code, day, late FROM returns WHERE company = ?1 AND ord = ?2 AND idx = ?3 ORDER BY no", entry[:3]).fetchall()
 
 
 def reads(name, path, weeks):
@@ -300,8 +293,7 @@ def reads(name, path, weeks):
     queries = {what: (lambda text=text: db.execute(text, (company,)).fetchall()) for what, text in texts.items()}
     queries["submission S0"] = lambda: submission_rows(db, company, "S0")
     queries["items"] = lambda: item_rows(db, company)
-    queries["state S0"] = lambda: state_rows(db, company, "S0")
-    queries["sent 60"] = lambda: sent_rows(db, 60)
+    queries["traced 60"] = lambda: traced_rows(db, 60)
     queries["entries"] = lambda: all_submission_rows(db, company)
     for what, query in queries.items():
         word, *rest = what.split()

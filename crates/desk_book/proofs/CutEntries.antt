@@ -1,5 +1,5 @@
 -- The entries that a cut of the book writes are entries of submissions that it sends.
-use Rattle.std.proofs.Common.{◌≡◌, ℕ, ◌+◌, List, [], ◌∷◌, ◌++◌, length, map, Bool, not, refl, sym, subst}
+use Rattle.std.proofs.Common.{◌≡◌, ℕ, ◌+◌, List, [], ◌∷◌, ◌++◌, length, map, not, refl, sym, subst}
 use Rattle.std.specs.Prelude.{All, Contains, filter}
 use Rattle.std.specs.List.{enumerate_from, flat_map}
 use Rattle.std.proofs.lemmas.List.Elements.{All-nil, All-cons, All-head, All-tail, All-append, All-map, All-filter, All-weaker, All-contains_itself, Contains-append_left, Contains-append_right}
@@ -8,7 +8,6 @@ use Rattle.desk_plan.specs.Modifiers.{modifier_at}
 use Rattle.desk_plan.specs.Runs.{flat}
 use Rattle.desk_plan.specs.Sequences.{range_after}
 use Rattle.desk_rules.specs.declared.bodies.company.Company.{Company}
-use Rattle.desk_rules.specs.declared.bodies.submission.Entry.{Entry}
 use Rattle.desk_rules.specs.declared.bodies.submission.Submission.{Submission}
 use Rattle.desk_rules.specs.LimitChecks.{is_debit}
 use Rattle.desk_history.specs.Files.{File, runs_of, files_from}

@@ -15,7 +15,8 @@ use Rattle.desk_history.specs.Resolve as history
 use Rattle.desk_history.specs.Resolve.{ResolvedItem, named_entry, event_of, resolve_entry, resolve, item_event}
 use Rattle.desk_history.proofs.Basics.Elements.{texts_turned, numbers_turned}
 use Rattle.desk_history.proofs.Sent.Resolving.{meets, event_holds}
-use Rattle.desk_book.specs.OnIntake.{NamedEntry, is_same_entry, is_repeated_return, unless_repeated, was_returned, entries_returned_by, resolution_after, resolutions_after}
+use Rattle.desk_book.specs.declared.named_entry.NamedEntry.{NamedEntry}
+use Rattle.desk_book.specs.OnIntake.{is_same_entry, is_repeated_return, unless_repeated, was_returned, entries_returned_by, resolution_after, resolutions_after}
 
 -- has the entry come back, by the parts of the companies?
 abbrev pub came_back : (List ℕ → List Event) → SentEntry → Bool

@@ -32,7 +32,7 @@ use Rattle.desk_book.specs.Reads.{held_submission}
 use Rattle.desk_book.specs.RowLaws.{RowSteps}
 use Rattle.desk_book.specs.Standing.{is_held}
 use Rattle.desk_book.specs.StatusLaws.{TellsStatus}
-use Rattle.desk_book.proofs.CutOnRows.{is_sent_row, is_lapsed_row, sent_by_row, IsCutOf, sent_on_rows, lapsed_on_rows}
+use Rattle.desk_book.proofs.CutOnRows.{is_sent_row, is_lapsed_row, IsCutOf, sent_on_rows, lapsed_on_rows}
 use Rattle.desk_book.proofs.CutSends.{cut_by_book}
 use Rattle.desk_book.proofs.Passing.{passing, same_chosen}
 

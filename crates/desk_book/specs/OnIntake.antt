@@ -1,5 +1,5 @@
 -- The answer to an incoming file, and what it writes, from the book.
-use Rattle.std.specs.Prelude.{ℕ, Bool, true, false, ◌&&◌, ◌||◌, ◌==◌, if◌then◌else◌, List, [], ◌∷◌, ◌++◌, map, filter_map, zip, Option, Some, None, option_map, Result, Ok, Err, bytes_eq}
+use Rattle.std.specs.Prelude.{ℕ, Bool, true, false, ◌&&◌, ◌||◌, ◌==◌, if◌then◌else◌, List, [], ◌∷◌, ◌++◌, map, filter_map, zip, Option, Some, None, option_map, option_and_then, Result, Ok, Err, bytes_eq}
 use Rattle.std.specs.List.{enumerate_from, flat_map, list_any}
 use Rattle.ach_files.specs.declared.facts.ItemFacts.{ItemFacts}
 use Rattle.ach_files.specs.declared.fault.Fault.{Fault}
@@ -16,6 +16,7 @@ use Rattle.desk_history.specs.declared.operations.Intake.{Intake}
 use Rattle.desk_history.specs.declared.operations.TakenFile.{TakenFile}
 use Rattle.desk_history.specs.declared.operations.SuspenseReason.{SuspenseReason}
 use Rattle.desk_history.specs.declared.operations.SuspenseReason.TheVariants.{AlreadyReturned}
+use Rattle.desk_book.specs.declared.named_entry.NamedEntry.{NamedEntry}
 use Rattle.desk_book.specs.declared.row.Row.{Row}
 use Rattle.desk_history.specs.declared.sent_entry.SentEntry.{SentEntry}
 use Rattle.desk_book.specs.Book.{Book}
@@ -24,17 +25,13 @@ use Rattle.desk_history.specs.Operator.{intake_answer}
 use Rattle.desk_history.specs.Part.{Event, Returned, Changed}
 use Rattle.desk_history.specs.Postings.{item_line}
 use Rattle.desk_history.specs.Resolve.{ResolvedItem, named_entry, resolve_entry}
+use Rattle.desk_book.specs.Reads.{sent_as}
 use Rattle.desk_book.specs.Standing.{row_under, state_at}
 use Rattle.desk_book.specs.declared.flat_rows.ChangedRow.{ChangedRow}
 use Rattle.desk_book.specs.declared.flat_rows.ReturnedRow.{ReturnedRow}
 use Rattle.desk_book.specs.Steps.{IntakeWrite, commit_intake}
 
 -- ---- what an item names
-
--- the sent entry that an item's trace names, and whether it was returned before the file
-pub record NamedEntry : Type 0 where
-  pub entry : SentEntry
-  pub returned : Bool
 
 abbrev pub is_returned_state : EntryState → Bool
 is_returned_state (states.Returned on code day late) = true
@@ -48,8 +45,20 @@ is_returned_in (Some row) index = is_returned_state (state_at row index)
 abbrev pub is_returned_on : Book → SentEntry → Bool
 is_returned_on b e = is_returned_in (row_under (b.rows e.company) e.reference) e.index
 
+-- an entry, and whether it came back
+abbrev pub with_return : Book → SentEntry → NamedEntry
+with_return b e = record { entry = e; returned = is_returned_on b e }
+
+-- what an item names
 abbrev pub named_entry_on : Book → ItemFacts → Option NamedEntry
-named_entry_on b item = option_map (λ e. record { entry = e; returned = is_returned_on b e }) (named_entry b.identity.odfi b.sent item)
+named_entry_on b item = option_map (with_return b) (named_entry b.identity.odfi b.sent item)
+
+-- what a trace names, if it is one
+abbrev pub traced_entry : Option (List ℕ) → Book → Option NamedEntry
+traced_entry trace b = option_map (with_return b) (option_and_then (λ t. sent_as t b) trace)
+
+abbrev pub traced_entries : List (Option (List ℕ)) → Book → List (Option NamedEntry)
+traced_entries traces b = map (λ t. traced_entry t b) traces
 
 -- ---- the resolutions of the items
 

@@ -4,7 +4,6 @@ use Rattle.std.specs.List.{flat_map}
 use Rattle.desk_plan.specs.Reuse as plan
 use Rattle.desk_plan.specs.Sequences as plan_sequences
 use Rattle.desk_rules.specs.declared.bodies.company.Company.{Company}
-use Rattle.desk_rules.specs.declared.rules.entry_fact.EntryState.{EntryState}
 use Rattle.desk_book.specs.declared.row.Row.{Row}
 use Rattle.desk_history.specs.declared.sent_entry.SentEntry.{SentEntry}
 use Rattle.desk_book.specs.Book.{Book}
@@ -12,7 +11,7 @@ use Rattle.desk_history.specs.Operator.{has_id}
 use Rattle.desk_history.specs.Resolve.{has_trace}
 use Rattle.desk_history.specs.Sendings as sending
 use Rattle.desk_book.specs.OpenRows.{open_rows}
-use Rattle.desk_book.specs.Standing.{row_under, is_held, original_of_row, state_at, retry_rows}
+use Rattle.desk_book.specs.Standing.{row_under, is_held, original_of_row, retry_rows}
 use Rattle.desk_book.specs.declared.caller.Caller.{Caller}
 use Rattle.desk_book.specs.declared.caller.Caller.TheVariants as callers
 use Rattle.desk_book.specs.declared.returns_and_changes.ReturnsAndChanges.{ReturnsAndChanges}
@@ -40,10 +39,6 @@ open_rows_of c since b = open_rows since (b.rows c)
 -- a company's retries of one entry
 abbrev pub retries_of : (company : List ℕ) → (of : List ℕ) → (index : ℕ) → Book → List Row
 retries_of c of index b = retry_rows (b.rows c) of index
-
--- the state of an entry of a company's submission
-abbrev pub state_of : (company : List ℕ) → (reference : List ℕ) → (index : ℕ) → Book → Option EntryState
-state_of c reference index b = option_map (λ row. state_at row index) (row_under (b.rows c) reference)
 
 -- a held submission with its company, and for a retry the day on which its original settled
 abbrev pub held_submission : Company → List Row → Row → HeldSubmission

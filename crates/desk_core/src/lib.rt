@@ -7,10 +7,10 @@
 #![tactic(auto)]
 
 pub use desk_book::{
-    Caller, ChangedRow, FileRow, HeldSubmission, LapsedRow, ReturnedRow, ReturnsAndChanges, Row,
-    SentRow, book_tells, entries_of_cuts, reads_leave, row_steps, rows_of_part, steps_of_messages,
-    steps_of_operator, tells_cut, tells_intake, tells_operator, tells_replies, tells_status,
-    twice_acts_once, verdicts_on_rows,
+    Caller, ChangedRow, FileRow, HeldSubmission, LapsedRow, NamedEntry, ReturnedRow,
+    ReturnsAndChanges, Row, SentRow, book_tells, entries_of_cuts, reads_leave, row_steps,
+    rows_of_part, steps_of_messages, steps_of_operator, tells_cut, tells_intake, tells_operator,
+    tells_replies, tells_status, twice_acts_once, verdicts_on_rows,
 };
 pub use desk_calls::{Desk, crashes_leave, desk_alone, two_desks};
 pub use desk_cut::{CutFault, CutPlan, NumberedCut, company_status, number_cut, plan_cut};
@@ -23,7 +23,7 @@ pub use desk_history::{
     first_answer_stands, one_message, possible_parts, sent_are_accepted, served_alone, traces_name,
     traces_of_cuts, two_worlds,
 };
-pub use desk_intake::{FoundItem, IntakePlan, NamedEntry, plan_intake};
+pub use desk_intake::{FoundItem, IntakePlan, plan_intake};
 pub use desk_plan::{NumberFault, plan_numbers};
 pub use desk_store::{CutRows, IntakeRows, Store, StoreFault};
 pub use faulty_store::FaultyStore;

@@ -6,7 +6,7 @@ use Rattle.ach_files.specs.declared.facts.ItemFacts.{ItemFacts}
 use Rattle.desk_history.specs.declared.operations.SuspenseReason.{SuspenseReason}
 use Rattle.desk_history.specs.declared.sent_entry.SentEntry.{SentEntry}
 use Rattle.desk_history.specs.Resolve.{ResolvedItem}
-use Rattle.desk_book.specs.OnIntake as intake
+use Rattle.desk_book.specs.declared.named_entry.NamedEntry.{NamedEntry}
 use Rattle.desk_book.specs.OnIntake.{resolution_after, resolutions_after, entries_returned_by}
 use Rattle.desk_intake.specs.declared.found_item.FoundItem.{FoundItem}
 use Rattle.desk_intake.specs.declared.judged_item.JudgedItem.{JudgedItem}
@@ -20,7 +20,7 @@ pub judged_more : (before after : List JudgedItem) (came : List SentEntry) (fs :
     → map judged_as before ++ judged_after came (map found_item_as (drop i fs)) ≡ whole
     → map judged_as after ++ judged_after (entries_returned_by (resolution_as o) ++ came) (map found_item_as (drop (i + 1) fs)) ≡ whole
 judged_more before after came fs i f o whole within is judged pushed so_far =
-    let more : List (ItemFacts × Option intake.NamedEntry) = map found_item_as (drop (i + 1) fs) in
+    let more : List (ItemFacts × Option NamedEntry) = map found_item_as (drop (i + 1) fs) in
     let here : drop i fs ≡ f ∷ drop (i + 1) fs = drop_more fs i f within ∙ ap (λ (x : FoundItem). x ∷ drop (i + 1) fs) (sym is) in
     ap (λ (js : List JudgedItem). map judged_as js ++ judged_after (entries_returned_by (resolution_as o) ++ came) more) pushed
     ∙ ap (λ (ps : List (ItemFacts × Result ResolvedItem SuspenseReason)). ps ++ judged_after (entries_returned_by (resolution_as o) ++ came) more) (map-append judged_as before (record { item = f.item; outcome = o } ∷ []))
@@ -30,14 +30,14 @@ judged_more before after came fs i f o whole within is judged pushed so_far =
     ∙ so_far
 
 -- what is judged is each item with its outcome
-pub judged_zip : (came : List SentEntry) (xs : List (ItemFacts × Option intake.NamedEntry))
+pub judged_zip : (came : List SentEntry) (xs : List (ItemFacts × Option NamedEntry))
     → judged_after came xs ≡ zip (map (λ x. x.0) xs) (resolutions_after came xs)
 judged_zip came [] = refl
 judged_zip came (x ∷ xs) =
     let o = resolution_after came x.0 x.1 in
     ap (λ (ps : List (ItemFacts × Result ResolvedItem SuspenseReason)). (x.0, o) ∷ ps) (judged_zip (entries_returned_by o ++ came) xs)
 
-pub judged_outcomes : (came : List SentEntry) (xs : List (ItemFacts × Option intake.NamedEntry))
+pub judged_outcomes : (came : List SentEntry) (xs : List (ItemFacts × Option NamedEntry))
     → map (λ x. x.1) (judged_after came xs) ≡ resolutions_after came xs
 judged_outcomes came [] = refl
 judged_outcomes came (x ∷ xs) =

@@ -1,14 +1,13 @@
 -- The resolutions of the items of a file, as the values that the plan is made of.
-use Rattle.std.specs.Prelude.{List, [], ◌∷◌, ◌++◌, Option, Some, None, option_map, Result, Ok, Err}
+use Rattle.std.specs.Prelude.{List, [], ◌∷◌, ◌++◌, Option, Some, None, Result, Ok, Err}
 use Rattle.ach_files.specs.declared.facts.ItemFacts.{ItemFacts}
 use Rattle.desk_history.specs.declared.operations.SuspenseReason.{SuspenseReason}
 use Rattle.desk_history.specs.declared.sent_entry.SentEntry.{SentEntry}
 use Rattle.desk_history.specs.Part.{Event, Returned, Changed}
 use Rattle.desk_history.specs.Resolve.{ResolvedItem}
-use Rattle.desk_book.specs.OnIntake as intake
+use Rattle.desk_book.specs.declared.named_entry.NamedEntry.{NamedEntry}
 use Rattle.desk_book.specs.OnIntake.{resolution_after, entries_returned_by}
 use Rattle.desk_intake.specs.declared.found_item.FoundItem.{FoundItem}
-use Rattle.desk_intake.specs.declared.found_item.NamedEntry.{NamedEntry}
 use Rattle.desk_intake.specs.declared.judged_item.JudgedItem.{JudgedItem}
 use Rattle.desk_intake.specs.declared.matched_item.MatchedItem.{MatchedItem}
 use Rattle.desk_intake.specs.declared.matched_item.Reaction.{Reaction}
@@ -16,12 +15,9 @@ use Rattle.desk_intake.specs.declared.matched_item.Reaction.TheVariants as react
 
 -- ---- the items
 
-abbrev pub named_entry_as : NamedEntry → intake.NamedEntry
-named_entry_as n = record { entry = n.entry; returned = n.returned }
-
 -- an item, with what its trace names
-abbrev pub found_item_as : FoundItem → ItemFacts × Option intake.NamedEntry
-found_item_as x = (x.item, option_map named_entry_as x.named)
+abbrev pub found_item_as : FoundItem → ItemFacts × Option NamedEntry
+found_item_as x = (x.item, x.named)
 
 -- ---- their resolutions
 
@@ -44,7 +40,7 @@ abbrev pub judged_as : JudgedItem → ItemFacts × Result ResolvedItem SuspenseR
 judged_as x = (x.item, resolution_of x)
 
 -- each item with its resolution, after others of which these entries came back
-abbrev pub judged_after : List SentEntry → List (ItemFacts × Option intake.NamedEntry) → List (ItemFacts × Result ResolvedItem SuspenseReason)
+abbrev pub judged_after : List SentEntry → List (ItemFacts × Option NamedEntry) → List (ItemFacts × Result ResolvedItem SuspenseReason)
 judged_after earlier [] = []
 judged_after earlier (x ∷ more) =
     (x.0, resolution_after earlier x.0 x.1) ∷ judged_after (entries_returned_by (resolution_after earlier x.0 x.1) ++ earlier) more

@@ -1,14 +1,6 @@
 //! The items of a file come with what their traces name.
 use ach_files::ItemFacts;
-use desk_history::SentEntry;
-
-/// A `NamedEntry` is the sent entry that an item's trace names.
-#[derive(Clone, Copy, Debug, PartialEq, Eq, Drop)]
-pub struct NamedEntry {
-    pub entry: SentEntry,
-    /// Did it come back before the file?
-    pub returned: bool,
-}
+use desk_book::NamedEntry;
 
 /// A `FoundItem` is an item with what its trace names, if a sent entry has it.
 #[derive(Clone, Copy, Debug, PartialEq, Eq, Drop)]

@@ -16,5 +16,5 @@ mod resolution;
 mod returned_entries;
 mod rows;
 
-pub use found_item::{FoundItem, NamedEntry};
+pub use found_item::FoundItem;
 pub use plan::{IntakePlan, plan_intake};

@@ -5,13 +5,14 @@ ghost use Rattle.desk_history.specs.Intake.{is_returned_event};
 ghost use Rattle.desk_history.specs.Resolve.{event_of, resolve_entry};
 ghost use Rattle.desk_book.specs.OnIntake.{is_repeated_return, resolution_after, was_returned};
 ghost use Rattle.desk_intake.specs.ReturnedEntries.{HasEntries};
-ghost use Rattle.desk_intake.specs.Resolutions.{event_as, found_item_as, matched_item_as, named_entry_as, resolution_as};
+ghost use Rattle.desk_intake.specs.Resolutions.{event_as, found_item_as, matched_item_as, resolution_as};
 
 use crate::agreement::{agrees, is_change_code};
-use crate::found_item::{FoundItem, NamedEntry};
+use crate::found_item::FoundItem;
 use crate::matched_item::{MatchedItem, Reaction};
 use crate::returned_entries::ReturnedEntries;
 use ach_files::{ItemFacts, ReturnOrChange};
+use desk_book::NamedEntry;
 use desk_history::{SentEntry, SuspenseReason};
 use desk_rules::ReturnCode;
 
@@ -53,7 +54,7 @@ fn resolve(entry: Option<SentEntry>, item: &ItemFacts) -> Result<MatchedItem, Su
 }
 
 fn entry_of(named: &Option<NamedEntry>) -> Option<SentEntry>
-    ensures { result ≡ option_map (λ n. n.entry) (option_map named_entry_as named.now) }
+    ensures { result ≡ option_map (λ n. n.entry) named.now }
 {
     match named {
         Some(named) => Some(named.entry),
@@ -62,7 +63,7 @@ fn entry_of(named: &Option<NamedEntry>) -> Option<SentEntry>
 }
 
 fn was_returned(named: &Option<NamedEntry>) -> bool
-    ensures { result ≡ was_returned (option_map named_entry_as named.now) }
+    ensures { result ≡ was_returned named.now }
 {
     match named {
         Some(named) => named.returned,

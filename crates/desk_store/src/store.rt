@@ -2,7 +2,8 @@
 ghost use Rattle.std.specs.Prelude.{◌≡◌, length, Option};
 ghost use Rattle.desk_accounts.specs.Balance.{lines_of, day_sums};
 ghost use Rattle.desk_book.specs.Book.{Book};
-ghost use Rattle.desk_book.specs.Reads.{key_of, company, submission, submission_count, open_rows_of, retries_of, state_of, waiting_of, waiting, last_sequence, sent_count, latest_settled, sent_as, items_of};
+ghost use Rattle.desk_book.specs.OnIntake.{traced_entries};
+ghost use Rattle.desk_book.specs.Reads.{key_of, company, submission, submission_count, open_rows_of, retries_of, waiting_of, waiting, last_sequence, sent_count, latest_settled, items_of};
 ghost use Rattle.desk_book.specs.Steps.{set_day, set_holidays, put_company, put_limits, add_submission, commit_cut, commit_intake};
 ghost use Rattle.desk_book.specs.Sums.{exposures_of, rates_of};
 ghost use Rattle.desk_store.specs.Written.{cut_rows, intake_rows};
@@ -13,11 +14,11 @@ use ach_fields::{Id, Ref, Trace};
 use bank_days::{Calendar, Day};
 use desk_accounts::{Account, Posting};
 use desk_book::{
-    Caller, ChangedRow, FileRow, HeldSubmission, LapsedRow, ReturnedRow, ReturnsAndChanges, Row,
-    SentRow, exposures_among, first_open_day, rates_among,
+    Caller, ChangedRow, FileRow, HeldSubmission, LapsedRow, NamedEntry, ReturnedRow,
+    ReturnsAndChanges, Row, SentRow, exposures_among, first_open_day, rates_among,
 };
 use desk_history::{ChangeRow, Identity, ListOf, ReturnRow, SentEntry, SuspenseRow, TakenFile};
-use desk_rules::{Company, EntryState, Limits, Rates, Retry, RuleDay, SizedSubmission};
+use desk_rules::{Company, Limits, Rates, Retry, RuleDay, SizedSubmission};
 use std::alloc::{AllocError, AllocFailed, Global};
 
 /// A `StoreFault` says why a store does not answer.
@@ -174,20 +175,6 @@ pub trait Store {
             ReadsList (holds self.old) result (retries_of company of index) (holds self.new) }
         ensures left { is_clean self.new → LeavesRead (may_leave self.old) (may_leave self.new) };
 
-    /// Reads the state of the entry that has this number in the submission with this reference; there
-    /// is none where the company has no such submission, and a number that no entry has is held.
-    fn state_of(
-        &mut self,
-        alloc: Global,
-        company: Id,
-        reference: Ref,
-        index: u64,
-    ) -> Result<Option<EntryState>, StoreFault>
-        ensures before { is_clean self.new → is_clean self.old }
-        ensures read { is_clean self.new →
-            Reads (holds self.old) result (state_of company reference index) (holds self.new) }
-        ensures left { is_clean self.new → LeavesRead (may_leave self.old) (may_leave self.new) };
-
     /// Reads a company's submissions and retries with their entries, by order number.
     fn entries_of(&mut self, alloc: Global, company: Id) -> Result<Vec<Row>, StoreFault>
         ensures before { is_clean self.new → is_clean self.old }
@@ -282,11 +269,16 @@ pub trait Store {
             Reads (holds self.old) result (λ b. b.files_on day) (holds self.new) }
         ensures left { is_clean self.new → LeavesRead (may_leave self.old) (may_leave self.new) };
 
-    /// Reads the youngest entry that has a trace.
-    fn sent_as(&mut self, alloc: Global, trace: Trace) -> Result<Option<SentEntry>, StoreFault>
+    /// Reads for each trace the youngest entry that has it, and whether that came back; what is no
+    /// trace names nothing.
+    fn traced_entries(
+        &mut self,
+        alloc: Global,
+        traces: &[Option<Trace>],
+    ) -> Result<Vec<Option<NamedEntry>>, StoreFault>
         ensures before { is_clean self.new → is_clean self.old }
         ensures read { is_clean self.new →
-            Reads (holds self.old) result (sent_as trace) (holds self.new) }
+            ReadsList (holds self.old) result (traced_entries traces.now) (holds self.new) }
         ensures left { is_clean self.new → LeavesRead (may_leave self.old) (may_leave self.new) };
 
     /// Reads the returns and changes of a company's entries.

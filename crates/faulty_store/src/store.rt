@@ -4,9 +4,9 @@ ghost use Rattle.std.specs.Prelude.{◌≡◌, ◌↔◌, ◌-◌, Err};
 use ach_fields::{Id, Ref, Trace};
 use bank_days::{Calendar, Day};
 use desk_accounts::{Account, Posting};
-use desk_book::{Caller, HeldSubmission, ReturnsAndChanges, Row};
-use desk_history::{Identity, ListOf, SentEntry, SuspenseRow, TakenFile};
-use desk_rules::{Company, EntryState, Limits, Retry, RuleDay, SizedSubmission};
+use desk_book::{Caller, HeldSubmission, NamedEntry, ReturnsAndChanges, Row};
+use desk_history::{Identity, ListOf, SuspenseRow, TakenFile};
+use desk_rules::{Company, Limits, Retry, RuleDay, SizedSubmission};
 use desk_store::{CutRows, IntakeRows, Store, StoreFault};
 use memory_store::ListStore;
 use std::alloc::Global;
@@ -132,17 +132,6 @@ impl Store for FaultyStore {
         self.store.retries_of(alloc, company, of, index)
     }
 
-    fn state_of(
-        &mut self,
-        alloc: Global,
-        company: Id,
-        reference: Ref,
-        index: u64,
-    ) -> Result<Option<EntryState>, StoreFault> {
-        self.count_call()?;
-        self.store.state_of(alloc, company, reference, index)
-    }
-
     fn entries_of(&mut self, alloc: Global, company: Id) -> Result<Vec<Row>, StoreFault> {
         self.count_call()?;
         self.store.entries_of(alloc, company)
@@ -187,9 +176,13 @@ impl Store for FaultyStore {
         self.store.files_on(alloc, day)
     }
 
-    fn sent_as(&mut self, alloc: Global, trace: Trace) -> Result<Option<SentEntry>, StoreFault> {
+    fn traced_entries(
+        &mut self,
+        alloc: Global,
+        traces: &[Option<Trace>],
+    ) -> Result<Vec<Option<NamedEntry>>, StoreFault> {
         self.count_call()?;
-        self.store.sent_as(alloc, trace)
+        self.store.traced_entries(alloc, traces)
     }
 
     fn items_of(&mut self, alloc: Global, company: Id) -> Result<ReturnsAndChanges, StoreFault> {

@@ -1,7 +1,8 @@
-pub mod RowKeys
+pub mod Finds
 pub mod Indexed
+pub mod Kept
+pub mod Keyed
 pub mod Open
 pub mod Placed
-pub mod Keyed
-pub mod Kept
-pub mod Finds
+pub mod RowKeys
+pub mod Traced

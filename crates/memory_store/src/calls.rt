@@ -10,7 +10,7 @@ ghost use Rattle.memory_store.specs.Kept.{IsBookOf, IsHeld, rows_in};
 
 use crate::balances::day_sums_of;
 use crate::cut::write_cut;
-use crate::entries::{RowFilter, row_of, rows_passing, state_of, submission_among};
+use crate::entries::{RowFilter, row_of, rows_passing, submission_among};
 use crate::intake::write_intake;
 use crate::items::{changes_of, count_on, lines_of, returns_of, taken_file, text_at};
 use crate::list_store::ListStore;
@@ -18,14 +18,15 @@ use crate::place_index::KeyKind;
 use crate::reads::{company_among, copy_of, rows_of};
 use crate::row_key::RowKey;
 use crate::sent::last_of;
+use crate::traced::Traced;
 use crate::waiting::{all_waiting, company_waiting};
 use crate::writes::{held_row, limit_company, place_of};
 use ach_fields::{Id, Ref, Trace};
 use bank_days::{Calendar, Day};
 use desk_accounts::{Account, Posting};
-use desk_book::{Caller, HeldSubmission, ReturnsAndChanges, Row};
-use desk_history::{Identity, ListOf, SentEntry, SuspenseRow, TakenFile};
-use desk_rules::{Company, EntryState, Limits, Retry, RuleDay, SizedSubmission};
+use desk_book::{Caller, HeldSubmission, NamedEntry, ReturnsAndChanges, Row};
+use desk_history::{Identity, ListOf, SuspenseRow, TakenFile};
+use desk_rules::{Company, Limits, Retry, RuleDay, SizedSubmission};
 use desk_store::{CutRows, IntakeRows, Store, StoreFault};
 use std::alloc::Global;
 
@@ -149,23 +150,6 @@ impl Store for ListStore {
         Ok(rows_passing(alloc, kept, places, company, &which)?)
     }
 
-    fn state_of(
-        &mut self,
-        alloc: Global,
-        company: Id,
-        reference: Ref,
-        index: u64,
-    ) -> Result<Option<EntryState>, StoreFault> {
-        let kept = self.submissions.as_slice();
-        self.places
-            .references
-            .cover(alloc, kept, &KeyKind::Reference)?;
-        let key = RowKey::under(company, reference);
-        let places = self.places.references.of(key);
-        let found = submission_among(kept, places, company, reference);
-        Ok(state_of(found, index))
-    }
-
     fn entries_of(&mut self, alloc: Global, company: Id) -> Result<Vec<Row>, StoreFault> {
         Ok(rows_of(alloc, &self.submissions, company)?)
     }
@@ -224,9 +208,21 @@ impl Store for ListStore {
         Ok(count_on(&self.files, day))
     }
 
-    fn sent_as(&mut self, _alloc: Global, trace: Trace) -> Result<Option<SentEntry>, StoreFault> {
+    fn traced_entries(
+        &mut self,
+        alloc: Global,
+        traces: &[Option<Trace>],
+    ) -> Result<Vec<Option<NamedEntry>>, StoreFault> {
         self.traces.cover(&self.sent)?;
-        Ok(self.traces.entry_of(self.identity.odfi, trace))
+        let kept = self.submissions.as_slice();
+        self.places.cover_references(alloc, kept)?;
+        let traced = Traced {
+            odfi: self.identity.odfi,
+            traces: &self.traces,
+            kept,
+            references: &self.places.references,
+        };
+        Ok(traced.entries_of(alloc, traces)?)
     }
 
     fn items_of(&mut self, alloc: Global, company: Id) -> Result<ReturnsAndChanges, StoreFault> {

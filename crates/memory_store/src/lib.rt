@@ -16,6 +16,7 @@ mod row_places;
 mod sent;
 mod settlement_index;
 mod trace_index;
+mod traced;
 mod waiting;
 mod writes;
 

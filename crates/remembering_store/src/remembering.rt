@@ -6,9 +6,11 @@ use crate::known::Known;
 use ach_fields::{Id, Ref, Trace};
 use bank_days::{Calendar, Day};
 use desk_accounts::{Account, Posting};
-use desk_book::{Caller, HeldSubmission, ReturnsAndChanges, Row, exposures_grow, rates_stay};
-use desk_history::{Identity, ListOf, SentEntry, SuspenseRow, TakenFile};
-use desk_rules::{Company, EntryState, Limits, Rates, Retry, RuleDay, SizedSubmission};
+use desk_book::{
+    Caller, HeldSubmission, NamedEntry, ReturnsAndChanges, Row, exposures_grow, rates_stay,
+};
+use desk_history::{Identity, ListOf, SuspenseRow, TakenFile};
+use desk_rules::{Company, Limits, Rates, Retry, RuleDay, SizedSubmission};
 use desk_store::{CutRows, IntakeRows, Store, StoreFault};
 use std::alloc::Global;
 
@@ -131,16 +133,6 @@ impl<S: Store> Store for Remembering<S> {
         self.store.retries_of(alloc, company, of, index)
     }
 
-    fn state_of(
-        &mut self,
-        alloc: Global,
-        company: Id,
-        reference: Ref,
-        index: u64,
-    ) -> Result<Option<EntryState>, StoreFault> {
-        self.store.state_of(alloc, company, reference, index)
-    }
-
     fn entries_of(&mut self, alloc: Global, company: Id) -> Result<Vec<Row>, StoreFault> {
         self.store.entries_of(alloc, company)
     }
@@ -178,8 +170,12 @@ impl<S: Store> Store for Remembering<S> {
         self.store.files_on(alloc, day)
     }
 
-    fn sent_as(&mut self, alloc: Global, trace: Trace) -> Result<Option<SentEntry>, StoreFault> {
-        self.store.sent_as(alloc, trace)
+    fn traced_entries(
+        &mut self,
+        alloc: Global,
+        traces: &[Option<Trace>],
+    ) -> Result<Vec<Option<NamedEntry>>, StoreFault> {
+        self.store.traced_entries(alloc, traces)
     }
 
     fn items_of(&mut self, alloc: Global, company: Id) -> Result<ReturnsAndChanges, StoreFault> {

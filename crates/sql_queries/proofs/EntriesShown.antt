@@ -17,12 +17,12 @@ use Rattle.sql_tables.specs.TableDefinitions.{entries_table}
 use Rattle.sql_tables.specs.declared.records.EntryRecord.{EntryRecord}
 use Rattle.sql_tables.specs.QueryRows.{entry_amount_row, numbered_entry_row, placed_entry_row}
 use Rattle.sql_tables.specs.Selected.{amount_of, numbered_of, placed_of}
-use Rattle.sql_tables.specs.TableReads.{is_entry_of, entries_in, amounts_in, cents_in, entry_at, is_at_place, entry_at_place, place_in, is_between, places_between}
+use Rattle.sql_tables.specs.TableReads.{is_entry_of, entries_in, amounts_in, cents_in, is_at_place, entry_at_place, place_in, is_between, places_between}
 use Rattle.std.specs.Prelude.{◌==◌, ◌&&◌, nat_le}
 use Rattle.sql_queries.proofs.Conditions.{one, two, three, number_is, number_least, number_most, number_if_any_is}
 use Rattle.sql_queries.proofs.Listings.{entries, numbers}
 use Rattle.sql_queries.proofs.Selects.{all_selected, first_selected}
-use Rattle.sql_queries.proofs.Texts.{places, entries_is, amounts_is, cents_is, entry_is, sent_entry_is, places_is}
+use Rattle.sql_queries.proofs.Texts.{places, entries_is, amounts_is, cents_is, sent_entry_is, places_is}
 use Rattle.sql_queries.specs.Shows.{ShowsAll, ShowsFirst}
 use Rattle.sql_queries.specs.Questions as questions
 
@@ -48,11 +48,6 @@ cents_shown c order = record {
       (λ i e. two (text_is e.company c) (number_is e.order order)) (λ i e. refl) desk_schema questions.cents.text cents_is.asks old new h.0 t.entries (h.1.stands named.entries).stored rows seen)
       ∙ ap (λ z. Some (Int z ∷ [])) (whole_sum (filter (is_entry_of c order) t.entries));
 }
-
-pub entry_shown : (c : List ℕ) (order index : ℕ) → ShowsFirst questions.entry.text (Text c ∷ number order ∷ number index ∷ []) numbered_entry_row (entry_at c order index)
-entry_shown c order index =
-    first_selected entries questions.entry.text (column_is 1 0 ∷ column_is 2 1 ∷ column_is 3 2 ∷ []) (places (3 ∷ 4 ∷ 5 ∷ 6 ∷ 7 ∷ 8 ∷ 9 ∷ 10 ∷ 11 ∷ [])) (Text c ∷ number order ∷ number index ∷ []) (is_entry_row c order index) numbered_of numbered_entry_row
-    entry_is.asks (λ i e. three (text_is e.company c) (number_is e.order order) (number_is e.index index)) (λ i e. refl)
 
 pub sent_entry_shown : (place : ℕ) → ShowsFirst questions.sent_entry.text (number place ∷ []) placed_entry_row (entry_at_place place)
 sent_entry_shown place =

@@ -83,10 +83,6 @@ pub cents_is : IsQuestion questions.cents
 unfolding understood first everything
 cents_is = record { selects = refl; asks = record { selects = refl; body = refl; alone = refl; unlisted = refl; plain = (refl, refl) } }
 
-pub entry_is : IsQuestion questions.entry
-unfolding understood first everything
-entry_is = record { selects = refl; asks = record { selects = refl; body = refl; alone = refl; unlisted = refl; plain = (refl, refl) } }
-
 pub sent_entry_is : IsQuestion questions.sent_entry
 unfolding understood first everything
 sent_entry_is = record { selects = refl; asks = record { selects = refl; body = refl; alone = refl; unlisted = refl; plain = (refl, refl) } }

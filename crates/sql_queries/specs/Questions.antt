@@ -76,9 +76,6 @@ amounts = ask the.entries ("idx" ∷ "prenote" ∷ "cents" ∷ []) (is "company"
 abbrev pub cents : Question
 cents = ask_sum the.entries "cents" (is "company" ∷ is "ord" ∷ [])
 
-abbrev pub entry : Question
-entry = ask the.entries numbered_columns (is "company" ∷ is "ord" ∷ is "idx" ∷ []) (rises "company" ∷ rises "ord" ∷ rises "idx" ∷ [])
-
 abbrev pub sent_entry : Question
 sent_entry = ask the.entries ("company" ∷ "ord" ∷ "idx" ∷ "routing" ∷ "account" ∷ "savings" ∷ "prenote" ∷ "cents" ∷ "ident" ∷ "name" ∷ "info" ∷ []) (is "seq" ∷ []) (rises "company" ∷ rises "ord" ∷ rises "idx" ∷ [])
 

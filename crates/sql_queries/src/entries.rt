@@ -2,7 +2,7 @@
 ghost use Rattle.std.specs.Prelude.{◌≡◌};
 ghost use Rattle.sql_statements.specs.Findings.{Finds};
 ghost use Rattle.sql_statements.specs.Promises.{SeesStill, LeavesNothingNew};
-ghost use Rattle.sql_tables.specs.TableReads.{entries_in, amounts_in, cents_in, entry_at, entry_at_place, place_in, places_between, IsLastNumber};
+ghost use Rattle.sql_tables.specs.TableReads.{entries_in, amounts_in, cents_in, entry_at_place, place_in, places_between, IsLastNumber};
 ghost use Rattle.sql_queries.specs.Asking.{Asks};
 
 use crate::rows::{all_of, cell_of, column_of, first_of};
@@ -66,29 +66,6 @@ pub fn cents_of<S: Alter>(conn: &mut Connection<S>, company: Id, order: u64) -> 
         Some(cents) => Ok(cents),
         None => Err(Error::InvalidQuery),
     }
-}
-
-/// Finds the entry with a number in the submission with a number in its company.
-pub fn entry<S: Alter>(
-    conn: &mut Connection<S>,
-    company: Id,
-    order: u64,
-    index: u64,
-) -> Result<Option<NumberedEntry>, Error>
-    ensures answer { Asks S.Store conn.old conn.new result
-        (λ found t. found ≡ entry_at company order index t) }
-    ensures stays { SeesStill S.Store conn.old conn.new }
-    ensures survives { LeavesNothingNew S.Store conn.old conn.new }
-{
-    first_of(
-        conn,
-        "SELECT idx, routing, account, savings, prenote, cents, ident, name, info FROM entries WHERE company = ?1 AND ord = ?2 AND idx = ?3 ORDER BY company, ord, idx",
-        &[
-            characters(company.bytes()),
-            natural(order)?,
-            natural(index)?,
-        ],
-    )
 }
 
 /// Finds the entry that has a place among all sent entries.

@@ -16,9 +16,7 @@ mod rows;
 mod submissions;
 mod waiting;
 
-pub use entries::{
-    amounts_of, cents_of, entries_of, entry, last_number, place, places, sent_entry,
-};
+pub use entries::{amounts_of, cents_of, entries_of, last_number, place, places, sent_entry};
 pub use files::{file_text, modifiers, taken_file};
 pub use items::{
     change_lines, entry_return, last_suspense_number, orders_returned, return_lines, returns,

@@ -7,6 +7,7 @@ pub mod OwnParts
 pub mod Permuted
 pub mod ReadsAs
 pub mod RegistryFound
+pub mod ReturnedFound
 pub mod LastNumbers
 pub mod LatestFound
 pub mod SentFound

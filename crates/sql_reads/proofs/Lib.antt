@@ -6,5 +6,4 @@ pub mod Measures
 pub mod OpenHeads
 pub mod RatedHeads
 pub mod RowFacts
-pub mod TracesOfBank
 pub mod WholeRows

@@ -19,8 +19,7 @@ mod open_row;
 mod rates;
 mod returned;
 mod rows;
-mod sent;
-mod state;
+mod traced;
 
 pub use balances::balances_of;
 pub use fault::or_unavailable;
@@ -34,5 +33,4 @@ pub use open_cents::exposures;
 pub use open_row::open_rows;
 pub use rates::rates_of;
 pub use rows::{entries_of, retries_of, submission};
-pub use sent::sent_as;
-pub use state::state_of;
+pub use traced::traced_entries;

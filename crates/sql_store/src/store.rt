@@ -9,9 +9,9 @@ use crate::whole_write::write;
 use ach_fields::{Id, Ref, Trace};
 use bank_days::{Calendar, Day};
 use desk_accounts::{Account, Posting};
-use desk_book::{Caller, HeldSubmission, ReturnsAndChanges, Row};
-use desk_history::{Identity, ListOf, SentEntry, SuspenseRow, TakenFile};
-use desk_rules::{Company, EntryState, Limits, Rates, Retry, RuleDay, SizedSubmission};
+use desk_book::{Caller, HeldSubmission, NamedEntry, ReturnsAndChanges, Row};
+use desk_history::{Identity, ListOf, SuspenseRow, TakenFile};
+use desk_rules::{Company, Limits, Rates, Retry, RuleDay, SizedSubmission};
 use desk_store::{CutRows, IntakeRows, Store, StoreFault};
 use sql_cut_law::cut_follows;
 use sql_read_laws::{files_of_tables, numbers_of_tables, registry_of_tables, rows_of_tables};
@@ -113,17 +113,6 @@ impl<S: Alter> Store for SqlStore<S> {
         sql_reads::retries_of(&mut self.conn, alloc, company, of, index)
     }
 
-    fn state_of(
-        &mut self,
-        _alloc: Global,
-        company: Id,
-        reference: Ref,
-        index: u64,
-    ) -> Result<Option<EntryState>, StoreFault> {
-        rows_of_tables();
-        sql_reads::state_of(&mut self.conn, company, reference, index)
-    }
-
     fn entries_of(&mut self, alloc: Global, company: Id) -> Result<Vec<Row>, StoreFault> {
         rows_of_tables();
         sql_reads::entries_of(&mut self.conn, alloc, company)
@@ -185,9 +174,13 @@ impl<S: Alter> Store for SqlStore<S> {
         sql_reads::files_on(&mut self.conn, alloc, day)
     }
 
-    fn sent_as(&mut self, _alloc: Global, trace: Trace) -> Result<Option<SentEntry>, StoreFault> {
+    fn traced_entries(
+        &mut self,
+        alloc: Global,
+        traces: &[Option<Trace>],
+    ) -> Result<Vec<Option<NamedEntry>>, StoreFault> {
         numbers_of_tables();
-        sql_reads::sent_as(&mut self.conn, trace)
+        sql_reads::traced_entries(&mut self.conn, alloc, traces)
     }
 
     fn items_of(&mut self, alloc: Global, company: Id) -> Result<ReturnsAndChanges, StoreFault> {

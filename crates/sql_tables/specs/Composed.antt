@@ -1,8 +1,7 @@
 -- What reads make of what several queries find.
-use Rattle.std.specs.Prelude.{ℕ, ℤ, ◌==◌, max, filter_map, List, map, if◌then◌else◌, Option, Some, None, is_some, option_map, option_and_then}
+use Rattle.std.specs.Prelude.{ℕ, ℤ, ◌==◌, ◌&&◌, max, filter_map, List, map, if◌then◌else◌, Option, Some, None, is_some, option_map, option_and_then}
 use Rattle.std.specs.List.{flat_map, reduce}
-use Rattle.ach_fields.specs.Routing.{dfi_of}
-use Rattle.ach_fields.specs.Trace.{dfi_in, sequence_in}
+use Rattle.ach_fields.specs.Trace.{dfi_in, is_trace, sequence_in}
 use Rattle.desk_accounts.specs.declared.account.Account.{Account}
 use Rattle.desk_history.specs.declared.reports.ChangeRow.{ChangeRow}
 use Rattle.desk_history.specs.declared.reports.ReturnRow.{ReturnRow}
@@ -19,6 +18,7 @@ use Rattle.desk_book.specs.Sums.{exposures_on}
 use Rattle.desk_rules.specs.declared.rules.entry_fact.EntryState.TheVariants as states
 use Rattle.desk_book.specs.declared.caller.Caller.{Caller}
 use Rattle.desk_book.specs.declared.caller.Caller.TheVariants as callers
+use Rattle.desk_book.specs.declared.named_entry.NamedEntry.{NamedEntry}
 use Rattle.desk_book.specs.declared.held_submission.HeldSubmission.{HeldSubmission}
 use Rattle.desk_book.specs.declared.row.Row.{Row}
 use Rattle.sql_tables.specs.Encodes.{unless_lapsed}
@@ -37,16 +37,6 @@ use Rattle.sql_tables.specs.declared.row.submissions.SubmissionHead.{SubmissionH
 abbrev pub key_in : Caller → Tables → Option (List ℕ)
 key_in callers.Operator t = Some t.desk.operator_key
 key_in (callers.Company id) t = option_map (λ k. k.digest) (company_in id t)
-
--- the state of the entry with this number, and held where there is none
-abbrev pub state_in : SubmissionHead → (index : ℕ) → Tables → EntryState
-state_in head index t =
-    if is_some (entry_at head.company head.order index t)
-    then unless_lapsed head.lapsed (state_with head.settled (return_at head.company head.order index t))
-    else states.Held
-
-abbrev pub state_under_in : (company : List ℕ) → (reference : List ℕ) → (index : ℕ) → Tables → Option EntryState
-state_under_in company reference index t = option_map (λ head. state_in head index t) (head_under company reference t)
 
 -- ---- what a company's entries come to
 
@@ -129,9 +119,14 @@ sent_at sequence place t = option_and_then (λ placed. sent_with sequence placed
 abbrev pub sent_in : (sequence : ℕ) → Tables → Option SentEntry
 sent_in sequence t = option_and_then (λ place. sent_at sequence place t) (place_in sequence t)
 
--- the youngest that has a trace of this bank
-abbrev pub sent_as_in : (odfi : List ℕ) → (trace : List ℕ) → Tables → Option SentEntry
-sent_as_in odfi trace t = if dfi_of odfi == dfi_in trace then sent_in (sequence_in trace) t else None
+-- an entry, and whether it came back
+abbrev pub with_return_in : Tables → SentEntry → NamedEntry
+with_return_in t e = record { entry = e; returned = is_some (return_at e.company e.order e.index t) }
+
+-- what a trace names where the bank's number has these eight digits
+abbrev pub traced_in : (dfi : ℕ) → Tables → Option (List ℕ) → Option NamedEntry
+traced_in dfi t None = None
+traced_in dfi t (Some trace) = if is_trace trace && dfi == dfi_in trace then option_map (with_return_in t) (sent_in (sequence_in trace) t) else None
 
 -- the day on which the entry at a place settles
 abbrev pub settled_at : (place : ℕ) → Tables → Option ℕ

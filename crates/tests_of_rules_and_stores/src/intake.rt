@@ -4,11 +4,11 @@ use ach_fields::{Cents, Ref, Routing};
 use ach_files::{ItemFacts, ReturnOrChange};
 use bank_days::Calendar;
 use desk_accounts::{Account, Cause, Posting};
-use desk_book::{ChangedRow, ReturnedRow};
+use desk_book::{ChangedRow, NamedEntry, ReturnedRow};
 use desk_history::{
     ChangeRow, Intake, ReturnRow, SentEntry, SuspenseReason, SuspenseRow, TakenFile,
 };
-use desk_intake::{FoundItem, IntakePlan, NamedEntry, plan_intake};
+use desk_intake::{FoundItem, IntakePlan, plan_intake};
 use desk_rules::{AccountKind, Entry, EntryCents, ReturnCode, RuleDay, SecCode};
 use std::alloc::{AllocError, Global};
 use std::process::Abort;

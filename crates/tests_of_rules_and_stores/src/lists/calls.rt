@@ -81,7 +81,7 @@ const CUT: &[Step] = &[
     Step::Read(Read::SentCount(1)),
     Step::Read(Read::Settled(1, 1, Some(b"2025-01-10"))),
     Step::Read(Read::Settled(2, 9, None)),
-    Step::Read(Read::Sent(b"121042880000001", Some((1, b"2025-01-10")))),
+    Step::Read(Read::Sent(b"121042880000001", Some((1, b"2025-01-10", false)))),
     Step::Read(Read::Sent(b"061000140000001", None)),
     Step::Read(Read::FilesOn(b"2025-01-09", 1)),
     Step::Read(Read::FilesOn(b"2025-01-10", 0)),
@@ -93,6 +93,7 @@ const CUT: &[Step] = &[
 const INTAKE: &[Step] = &[
     Step::Write(Write::Intake),
     Step::Read(Read::State(MILL, State::Returned)),
+    Step::Read(Read::Sent(b"121042880000001", Some((1, b"2025-01-10", true)))),
     Step::Read(Read::Return(MILL)),
     Step::Read(Read::Suspense(true)),
     Step::Read(Read::SuspenseCount(1)),

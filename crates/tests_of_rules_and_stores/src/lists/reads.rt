@@ -4,8 +4,7 @@ use crate::samples::{day, id, identity, reference, rule_day};
 use ach_fields::{Id, Trace};
 use bank_days::Day;
 use desk_accounts::Account;
-use desk_book::Caller;
-use desk_history::SentEntry;
+use desk_book::{Caller, NamedEntry};
 use desk_rules::{Company, EntryState, Limits, RuleDay};
 use desk_store::Store;
 use std::alloc::Global;
@@ -45,8 +44,8 @@ pub(super) enum Read {
     SentCount(u64),
     /// From one sequence to another, the latest day.
     Settled(u32, u32, Option<Text>),
-    /// A trace names the entry with this sequence, to settle on this day.
-    Sent(Text, Option<(u32, Text)>),
+    /// A trace names the entry with this sequence, to settle on this day. Did it come back?
+    Sent(Text, Option<(u32, Text, bool)>),
     FilesOn(Text, u64),
     File(Text, u8, Option<Text>),
     /// A company's account has one line, of these cents.
@@ -161,17 +160,17 @@ fn held_submissions<S: Store>(
     (rows.len(), first)
 }
 
-// The entry that a trace names.
-fn sent_as<S: Store>(
+// What a trace names, where one that is no trace stands before it.
+fn traced_entry<S: Store>(
     rt: &(impl Abort + Alloc<A = Global>),
     store: &mut S,
     trace: &[u8],
-) -> Option<SentEntry> {
+) -> Option<NamedEntry> {
     let trace = Trace::parse(trace).ok().expect(rt, "a trace");
-    store
-        .sent_as(rt.alloc(), trace)
-        .ok()
-        .expect(rt, "an answer")
+    let found = store.traced_entries(rt.alloc(), [None, Some(trace)].as_slice());
+    let found = found.ok().expect(rt, "an answer");
+    assert!(rt; found.len() == 2 && found[0] == None);
+    found[1]
 }
 
 fn has_file<S: Store>(
@@ -276,9 +275,12 @@ fn maybe_company(rt: &impl Abort, name: Text, limits: Option<Limits>) -> Option<
     }
 }
 
-fn maybe_sent(rt: &impl Abort, wanted: Option<(u32, Text)>) -> Option<SentEntry> {
+fn maybe_named(rt: &impl Abort, wanted: Option<(u32, Text, bool)>) -> Option<NamedEntry> {
     match wanted {
-        Some((sequence, settled)) => Some(sent_entry(rt, sequence, settled)),
+        Some((sequence, settled, returned)) => Some(NamedEntry {
+            entry: sent_entry(rt, sequence, settled),
+            returned,
+        }),
         None => None,
     }
 }
@@ -308,7 +310,7 @@ pub(super) fn finds<S: Store>(
         Read::Settled(from, to, text) => {
             store.latest_settled(alloc, from, to) == Ok(maybe_day(rt, text))
         }
-        Read::Sent(trace, wanted) => sent_as(rt, store, trace) == maybe_sent(rt, wanted),
+        Read::Sent(trace, wanted) => { traced_entry(rt, store, trace) == maybe_named(rt, wanted) }
         Read::FilesOn(text, count) => store.files_on(alloc, day(rt, text)) == Ok(count),
         Read::File(text, modifier, wanted) => has_file(rt, store, text, modifier, wanted),
         Read::Line(name, wanted) => only_line(rt, store, name) == Some(wanted),

@@ -5,13 +5,13 @@ use super::writes::Write;
 
 const TRACES: &[Step] = &[
     Step::Write(Write::Entries(&[(1, b"2025-01-10"), (2, b"2025-01-10")])),
-    Step::Read(Read::Sent(b"121042880000001", Some((1, b"2025-01-10")))),
-    Step::Read(Read::Sent(b"121042880000002", Some((2, b"2025-01-10")))),
+    Step::Read(Read::Sent(b"121042880000001", Some((1, b"2025-01-10", false)))),
+    Step::Read(Read::Sent(b"121042880000002", Some((2, b"2025-01-10", false)))),
     Step::Read(Read::Sent(b"121042880000003", None)),
     Step::Write(Write::Entries(&[(1, b"2026-02-10"), (3, b"2026-02-10")])),
-    Step::Read(Read::Sent(b"121042880000001", Some((1, b"2026-02-10")))),
-    Step::Read(Read::Sent(b"121042880000002", Some((2, b"2025-01-10")))),
-    Step::Read(Read::Sent(b"121042880000003", Some((3, b"2026-02-10")))),
+    Step::Read(Read::Sent(b"121042880000001", Some((1, b"2026-02-10", false)))),
+    Step::Read(Read::Sent(b"121042880000002", Some((2, b"2025-01-10", false)))),
+    Step::Read(Read::Sent(b"121042880000003", Some((3, b"2026-02-10", false)))),
     Step::Read(Read::Sent(b"061000140000001", None)),
 ];
 

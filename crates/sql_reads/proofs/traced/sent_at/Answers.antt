@@ -3,7 +3,7 @@ use Rattle.sql_tables.specs.Composed.{sent_with}
 use Rattle.sql_tables.specs.TableReads.{facts_in}
 use Rattle.sql_tables.specs.declared.row.entries.PlacedEntry.{PlacedEntry}
 use Rattle.sql_reads.proofs.Joined.{query, asked, answered_last}
-use Rattle.sql_reads.proofs.sent.sent_at.Goals as goal
+use Rattle.sql_reads.proofs.traced.sent_at.Goals as goal
 
 pub returns-in-Some : goal.returns-in-Some
 returns-in-Some g c =

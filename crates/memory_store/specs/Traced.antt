@@ -1,0 +1,20 @@
+-- What traces name, among the lists in memory.
+use Rattle.std.specs.Prelude.{ℕ, Bool, List, find, map, reverse, Option, option_map, option_and_then}
+use Rattle.desk_book.specs.OnIntake.{is_returned_in}
+use Rattle.desk_book.specs.Standing.{row_under}
+use Rattle.desk_book.specs.declared.named_entry.NamedEntry.{NamedEntry}
+use Rattle.desk_history.specs.Resolve.{has_trace}
+use Rattle.desk_history.specs.declared.sent_entry.SentEntry.{SentEntry}
+use Rattle.memory_store.specs.Finds.{rows_for}
+use Rattle.memory_store.specs.declared.list_store.KeptSubmission.{KeptSubmission}
+
+-- has the entry come back?
+abbrev pub is_returned_among : List KeptSubmission → SentEntry → Bool
+is_returned_among kept e = is_returned_in (row_under (rows_for kept e.company) e.reference) e.index
+
+abbrev pub with_return_among : List KeptSubmission → SentEntry → NamedEntry
+with_return_among kept e = record { entry = e; returned = is_returned_among kept e }
+
+-- the youngest sent entry that has a trace, if it is one, and whether it came back; the oldest stands first
+abbrev pub traced_among : (odfi : List ℕ) → (sent : List SentEntry) → List KeptSubmission → Option (List ℕ) → Option NamedEntry
+traced_among odfi sent kept trace = option_map (with_return_among kept) (option_and_then (λ t. find (has_trace odfi t) (reverse sent)) trace)

@@ -1,0 +1,165 @@
+//! What traces name: entries that were sent, and whether they came back.
+ghost use Rattle.std.specs.Prelude.{◌≡◌, Option, option_map};
+ghost use Rattle.desk_book.specs.declared.named_entry.NamedEntry.{NamedEntry};
+ghost use Rattle.sql_tables.specs.Composed.{sent_entry_of, sent_with, sent_at, sent_in, traced_in, with_return_in};
+ghost use Rattle.sql_tables.specs.TableReads.{facts_in};
+ghost use Rattle.sql_reads.specs.Answers.{AnswersOn, LearnsOn};
+ghost use Rattle.sql_reads.specs.TracedEntries.{AreTraced};
+
+use crate::each::{ItemRead, read_each};
+use crate::fault::or_unavailable;
+use ach_fields::Trace;
+use desk_book::NamedEntry;
+use desk_history::SentEntry;
+use desk_store::StoreFault;
+use sql_queries::{entry_return, facts, identity, place, sent_entry};
+use sql_tables::{PlacedEntry, SubmissionFacts};
+use sqlite::{Alter, Connection};
+use std::alloc::Global;
+
+// An entry with the facts of its submission, once that is sent.
+fn sent_entry_from(
+    sequence: u32,
+    placed: &PlacedEntry,
+    facts: &SubmissionFacts,
+) -> Option<SentEntry>
+    ensures { result ≡ option_map (sent_entry_of sequence placed.now facts.now) facts.now.settled }
+{
+    let settled = facts.settled?;
+    Some(SentEntry {
+        sequence,
+        company: placed.company,
+        reference: facts.reference,
+        order: placed.order,
+        index: placed.index,
+        settled,
+        sec: facts.sec,
+        debit: facts.direction.is_debit(),
+        entry: placed.entry,
+    })
+}
+
+// An entry with what its submission says of it.
+fn sent_with<S: Alter>(
+    conn: &mut Connection<S>,
+    sequence: u32,
+    placed: &PlacedEntry,
+) -> Result<Option<SentEntry>, StoreFault>
+    ensures { AnswersOn S.Store conn.old conn.new result
+        (λ found t. found ≡ sent_with sequence placed.now
+        (facts_in placed.now.company placed.now.order t)) }
+{
+    match or_unavailable(facts(conn, placed.company, placed.order))? {
+        Some(facts) => Ok(sent_entry_from(sequence, placed, &facts)),
+        None => Ok(None),
+    }
+}
+
+// The entry that was sent at a place.
+fn sent_at<S: Alter>(
+    conn: &mut Connection<S>,
+    sequence: u32,
+    place: u64,
+) -> Result<Option<SentEntry>, StoreFault>
+    ensures { AnswersOn S.Store conn.old conn.new result
+        (λ found t. found ≡ sent_at sequence place t) }
+{
+    match or_unavailable(sent_entry(conn, place))? {
+        Some(placed) => sent_with(conn, sequence, &placed),
+        None => Ok(None),
+    }
+}
+
+// The youngest that has a sequence.
+fn sent_in<S: Alter>(
+    conn: &mut Connection<S>,
+    sequence: u32,
+) -> Result<Option<SentEntry>, StoreFault>
+    ensures { AnswersOn S.Store conn.old conn.new result (λ found t. found ≡ sent_in sequence t) }
+{
+    match or_unavailable(place(conn, sequence))? {
+        Some(place) => sent_at(conn, sequence, place),
+        None => Ok(None),
+    }
+}
+
+// An entry, and whether it came back.
+fn with_return<S: Alter>(
+    conn: &mut Connection<S>,
+    entry: SentEntry,
+) -> Result<NamedEntry, StoreFault>
+    ensures { AnswersOn S.Store conn.old conn.new result
+        (λ found t. found ≡ with_return_in t entry) }
+{
+    let back = or_unavailable(entry_return(conn, entry.company, entry.order, entry.index))?;
+    let returned = back.is_some();
+    Ok(NamedEntry { entry, returned })
+}
+
+// The youngest that has a sequence, and whether it came back.
+fn named_in<S: Alter>(
+    conn: &mut Connection<S>,
+    sequence: u32,
+) -> Result<Option<NamedEntry>, StoreFault>
+    ensures { AnswersOn S.Store conn.old conn.new result
+        (λ found t. found ≡ option_map (with_return_in t) (sent_in sequence t)) }
+{
+    match sent_in(conn, sequence)? {
+        Some(entry) => {
+            let named = with_return(conn, entry)?;
+            Ok(Some(named))
+        }
+        None => Ok(None),
+    }
+}
+
+// What traces name at a bank whose number has these eight digits.
+#[derive(Clone, Copy)]
+struct TracedItems {
+    dfi: u32,
+}
+
+impl ItemRead for TracedItems {
+    type Item = Option<Trace>;
+
+    type Found = Option<NamedEntry>;
+
+    ghost Shown = { Option NamedEntry };
+
+    ghost shown = { λ found. found };
+
+    ghost value = { λ read t trace. traced_in read.dfi t trace };
+
+    fn read_item<S: Alter>(
+        &self,
+        conn: &mut Connection<S>,
+        _alloc: Global,
+        trace: &Option<Trace>,
+    ) -> Result<Option<NamedEntry>, StoreFault> {
+        let Some(trace) = trace else {
+            return Ok(None);
+        };
+        let _digits = trace.text();
+        if self.dfi != trace.dfi() {
+            return Ok(None);
+        }
+        named_in(conn, trace.sequence())
+    }
+}
+
+/// Finds for each trace the youngest entry that has it, and whether that came back.
+pub fn traced_entries<S: Alter>(
+    conn: &mut Connection<S>,
+    alloc: Global,
+    traces: &[Option<Trace>],
+) -> Result<Vec<Option<NamedEntry>>, StoreFault>
+    ensures { AnswersOn S.Store conn.old conn.new result
+        (λ found t. AreTraced traces.now found.items t) }
+{
+    let identity = or_unavailable(identity(conn))?;
+    let read = TracedItems {
+        dfi: identity.odfi.dfi(),
+    };
+    let traces = Vec::from_slice(alloc, traces)?;
+    read_each(conn, alloc, &read, traces)
+}
