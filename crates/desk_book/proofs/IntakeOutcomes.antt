@@ -40,7 +40,7 @@ again_same parts before earlier e item event back gives =
     (λ code information within. back e)
     (λ code text. refl)
 
-entry_named : (before : SentEntry → Bool) (found : Option SentEntry) → option_map (λ n. n.entry) (named_by before found) ≡ found
+pub entry_named : (before : SentEntry → Bool) (found : Option SentEntry) → option_map (λ n. n.entry) (named_by before found) ≡ found
 entry_named before None = refl
 entry_named before (Some e) = refl
 

@@ -50,6 +50,7 @@ with_change c xs x = if bytes_eq x.company c then xs ++ x.row ∷ [] else xs
 abbrev back_of : List ℕ → ℕ → SentEntry → ℕ → List ℕ → ReturnedRow
 back_of days d e code information = record {
   company = e.company;
+  order = e.order;
   row = record { code = code; day = d; index = e.index; info = information; late = is_late code e.settled d days; reference = e.reference };
 }
 

@@ -11,6 +11,7 @@ pub mod CutSteps
 pub mod CutWrites
 pub mod Growing
 pub mod IntakeAnswers
+pub mod IntakeEntries
 pub mod IntakeItems
 pub mod IntakeOutcomes
 pub mod IntakeRowsOnBook

@@ -99,6 +99,7 @@ resolutions xs = resolutions_after [] xs
 abbrev pub returned_row_of : (holidays : List ℕ) → (day : ℕ) → SentEntry → Event → Option ReturnedRow
 returned_row_of holidays d e (Returned reference index code information) = Some (record {
   company = e.company;
+  order = e.order;
   row = record { code = code; day = d; index = index; info = information; late = is_late code e.settled d holidays; reference = reference };
 })
 returned_row_of holidays d e _ = None
@@ -110,6 +111,7 @@ returned_row holidays d (Err why) = None
 abbrev pub changed_row_of : ℕ → SentEntry → Event → Option ChangedRow
 changed_row_of d e (Changed reference index code text) = Some (record {
   company = e.company;
+  order = e.order;
   row = record { code = code; day = d; index = index; reference = reference; text = text };
 })
 changed_row_of d e _ = None

@@ -147,8 +147,19 @@ put_suspense xs b = record b { suspense = b.suspense ++ xs }
 abbrev pub put_taken_file : TakenFile → Book → Book
 put_taken_file t b = record b { taken = λ key. if bytes_eq t.key key && is_none (b.taken key) then Some t else b.taken key }
 
+-- an entry was sent of the company's submission with this order number and this reference
+pub record WasSent (sent : List SentEntry) (company : List ℕ) (order : ℕ) (reference : List ℕ) : Type 0 where
+  pub entry : SentEntry
+  pub among : Contains sent entry
+  pub names : (entry.company ≡ company) × (entry.order ≡ order) × (entry.reference ≡ reference)
+
+-- what comes back, and what is changed, was sent
+pub record NamesSent (sent : List SentEntry) (x : IntakeWrite) : Type 0 where
+  pub returned : All (λ r. WasSent sent r.company r.order r.row.reference) x.returned
+  pub changed : All (λ c. WasSent sent c.company c.order c.row.reference) x.changed
+
 abbrev pub commit_intake : IntakeWrite → Step
 commit_intake x = record {
-  Admits = λ _. ⊤;
+  Admits = λ b. NamesSent b.sent x;
   after = λ b. put_taken_file x.file (put_postings x.postings (put_suspense x.suspense (fold put_change (fold put_return b x.returned) x.changed)));
 }

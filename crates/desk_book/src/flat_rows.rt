@@ -8,6 +8,8 @@ use desk_rules::RuleDay;
 #[derive(Clone, Copy, Debug, PartialEq, Eq, Drop)]
 pub struct ReturnedRow {
     pub company: Id,
+    /// The order number in the company of the submission that had the entry.
+    pub order: u64,
     pub row: ReturnRow,
 }
 
@@ -15,6 +17,8 @@ pub struct ReturnedRow {
 #[derive(Clone, Copy, Debug, PartialEq, Eq, Drop)]
 pub struct ChangedRow {
     pub company: Id,
+    /// The order number in the company of the submission that had the entry.
+    pub order: u64,
     pub row: ChangeRow,
 }
 

@@ -1,5 +1,5 @@
 //! The law of incoming files.
-ghost use Rattle.desk_book.specs.IntakeLaws.{TellsIntake};
+ghost use Rattle.desk_book.specs.IntakeLaws.{EntriesOfIntakes, TellsIntake};
 
 use crate::row_laws::{row_steps, verdicts_on_rows};
 use crate::steps_of_messages;
@@ -17,3 +17,9 @@ pub fn tells_intake()
     desk_history::sent_are_accepted();
     desk_history::possible_parts();
 }
+
+/// Whatever a book is, each return and each change that a file of it writes is of an entry that was
+/// sent, with the order number and the reference of the submission that had it.
+pub fn entries_of_intakes()
+    ensures { EntriesOfIntakes }
+{}

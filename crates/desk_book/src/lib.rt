@@ -28,7 +28,7 @@ pub use caller::Caller;
 pub use cut_laws::{entries_of_cuts, tells_cut};
 pub use flat_rows::{ChangedRow, FileRow, LapsedRow, ReturnedRow, SentRow};
 pub use held_submission::HeldSubmission;
-pub use intake_laws::tells_intake;
+pub use intake_laws::{entries_of_intakes, tells_intake};
 pub use message_laws::{book_tells, reads_leave, twice_acts_once};
 pub use named_entry::NamedEntry;
 pub use open_rows::{first_open_day, open_rows_suffice};

@@ -8,4 +8,5 @@ pub mod Planned
 pub mod ReadCalls
 pub mod Running
 pub mod Sized
+pub mod Taken
 pub mod Traceless

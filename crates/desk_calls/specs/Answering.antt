@@ -5,6 +5,11 @@ use Rattle.desk_book.specs.Book.{Book}
 use Rattle.desk_book.specs.declared.caller.Caller.{Caller}
 use Rattle.desk_store.specs.declared.store.StoreFault.{StoreFault}
 use Rattle.desk_book.specs.Reads.{key_of}
+use Rattle.desk_book.specs.Steps.{Step}
+
+-- it holds the book, of which the step may be made
+abbrev pub HoldsFor : (holds : Book → Type 0) → Step → Book → Type 0
+HoldsFor holds step b = holds b × step.Admits b
 
 -- The answer is this one of the book, and the store then holds that book; or the store could not act,
 -- and holds the same one.

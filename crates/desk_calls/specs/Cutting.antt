@@ -12,6 +12,7 @@ use Rattle.desk_cut.specs.declared.fault.CutFault.{CutFault}
 use Rattle.desk_cut.specs.declared.fault.CutFault.TheVariants as faults
 use Rattle.desk_cut.specs.declared.plan.CutPlan.{CutPlan}
 use Rattle.desk_cut.specs.Plan.{IsPlan, plan_write}
+use Rattle.desk_calls.specs.Answering.{HoldsFor}
 use Rattle.desk_calls.specs.declared.operator.cut.CutReads.{CutReads}
 
 abbrev pub facts_in : CutReads → CutFacts
@@ -27,12 +28,8 @@ IsPlanned (Ok p) (Ok x) = IsPlan x p
 IsPlanned (Err why) (Err first) = why ≡ first
 IsPlanned _ _ = ⊥
 
--- it holds the book, and what was planned may be written to it
-abbrev pub HoldsFor : (holds : Book → Type 0) → CutPlan → Book → Type 0
-HoldsFor holds p b = holds b × (commit_cut (plan_write p)).Admits b
-
 abbrev pub HoldsPlanned : (holds : Book → Type 0) → Result CutPlan Refusal → Book → Type 0
-HoldsPlanned holds (Ok p) b = HoldsFor holds p b
+HoldsPlanned holds (Ok p) b = HoldsFor holds (commit_cut (plan_write p)) b
 HoldsPlanned holds (Err why) b = holds b
 
 -- What was planned for these facts is the cut of each book that has them, and may be written; or the store
@@ -58,6 +55,6 @@ RefusesOn b x fault =
 
 -- The same with the fault of the plan in place of the refusal.
 abbrev pub PlansOrTells : (Book → Type 0) → CutFacts → Result (Result CutPlan CutFault) StoreFault → (Book → Type 0) → Type 0
-PlansOrTells old x (Ok (Ok p)) new = (b : Book) → old b → x ≡ cut_facts b x.day → IsPlanned (Ok p) (cut_on_day b x.day) × HoldsFor new p b
+PlansOrTells old x (Ok (Ok p)) new = (b : Book) → old b → x ≡ cut_facts b x.day → IsPlanned (Ok p) (cut_on_day b x.day) × HoldsFor new (commit_cut (plan_write p)) b
 PlansOrTells old x (Ok (Err fault)) new = (b : Book) → old b → new b × (x ≡ cut_facts b x.day → RefusesOn b x fault)
 PlansOrTells old x (Err fault) new = (b : Book) → old b → new b

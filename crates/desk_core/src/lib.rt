@@ -8,9 +8,9 @@
 
 pub use desk_book::{
     Caller, ChangedRow, FileRow, HeldSubmission, LapsedRow, NamedEntry, ReturnedRow,
-    ReturnsAndChanges, Row, SentRow, book_tells, entries_of_cuts, reads_leave, row_steps,
-    rows_of_part, steps_of_messages, steps_of_operator, tells_cut, tells_intake, tells_operator,
-    tells_replies, tells_status, twice_acts_once, verdicts_on_rows,
+    ReturnsAndChanges, Row, SentRow, book_tells, entries_of_cuts, entries_of_intakes, reads_leave,
+    row_steps, rows_of_part, steps_of_messages, steps_of_operator, tells_cut, tells_intake,
+    tells_operator, tells_replies, tells_status, twice_acts_once, verdicts_on_rows,
 };
 pub use desk_calls::{Desk, crashes_leave, desk_alone, two_desks};
 pub use desk_cut::{CutFault, CutPlan, NumberedCut, company_status, number_cut, plan_cut};

@@ -35,6 +35,7 @@ fn returned_row(judged: &JudgedItem, day: Day, holidays: &Calendar) -> Option<Re
     };
     Some(ReturnedRow {
         company: met.entry.company,
+        order: met.entry.order,
         row,
     })
 }
@@ -77,6 +78,7 @@ fn changed_row(judged: &JudgedItem, day: Day) -> Option<ChangedRow>
     };
     Some(ChangedRow {
         company: met.entry.company,
+        order: met.entry.order,
         row,
     })
 }

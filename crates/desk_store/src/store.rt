@@ -402,7 +402,8 @@ pub trait Store {
             LeavesWrite keeps (holds self.old) (may_leave self.old) result
             (commit_cut (cut_rows cut.now)) (may_leave self.new) };
 
-    /// Writes all that an incoming file does.
+    /// Writes all that an incoming file does. Each of its returns and changes is of an entry that was
+    /// sent, with the order number and the reference of the submission that had it.
     fn commit_intake(&mut self, alloc: Global, intake: &IntakeRows<'_>) -> Result<(), StoreFault>
         ensures before { is_clean self.new → is_clean self.old }
         ensures write { is_clean self.new →

@@ -1,5 +1,5 @@
 -- What traces name, among the lists in memory.
-use Rattle.std.specs.Prelude.{ℕ, Bool, List, find, map, reverse, Option, option_map, option_and_then}
+use Rattle.std.specs.Prelude.{ℕ, Bool, List, find, reverse, Option, option_map, option_and_then}
 use Rattle.desk_book.specs.OnIntake.{is_returned_in}
 use Rattle.desk_book.specs.Standing.{row_under}
 use Rattle.desk_book.specs.declared.named_entry.NamedEntry.{NamedEntry}

@@ -1,5 +1,5 @@
 //! What traces name, among what is kept.
-ghost use Rattle.std.specs.Prelude.{◌≡◌, List, length, map, option_map, IfOk};
+ghost use Rattle.std.specs.Prelude.{◌≡◌, List, length, map, IfOk};
 ghost use Rattle.desk_book.specs.OnIntake.{is_returned_state};
 ghost use Rattle.desk_history.specs.declared.sent_entry.SentEntry.{SentEntry};
 ghost use Rattle.memory_store.specs.Indexed.{IsIndexed};

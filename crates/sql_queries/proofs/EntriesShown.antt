@@ -10,7 +10,6 @@ use Rattle.sql_statements.proofs.Sums.{summed}
 use Rattle.sql_statements.specs.Statements.{column_is, at_least, at_most, columns}
 use Rattle.sql_tables.specs.ByName as named
 use Rattle.sql_tables.specs.Columns.{number}
-use Rattle.sql_tables.specs.CutTables.{is_entry_row}
 use Rattle.sql_tables.specs.RecordRows.{entry_row}
 use Rattle.sql_tables.specs.Schema.{desk_schema}
 use Rattle.sql_tables.specs.TableDefinitions.{entries_table}
@@ -19,7 +18,7 @@ use Rattle.sql_tables.specs.QueryRows.{entry_amount_row, numbered_entry_row, pla
 use Rattle.sql_tables.specs.Selected.{amount_of, numbered_of, placed_of}
 use Rattle.sql_tables.specs.TableReads.{is_entry_of, entries_in, amounts_in, cents_in, is_at_place, entry_at_place, place_in, is_between, places_between}
 use Rattle.std.specs.Prelude.{◌==◌, ◌&&◌, nat_le}
-use Rattle.sql_queries.proofs.Conditions.{one, two, three, number_is, number_least, number_most, number_if_any_is}
+use Rattle.sql_queries.proofs.Conditions.{one, two, number_is, number_least, number_most, number_if_any_is}
 use Rattle.sql_queries.proofs.Listings.{entries, numbers}
 use Rattle.sql_queries.proofs.Selects.{all_selected, first_selected}
 use Rattle.sql_queries.proofs.Texts.{places, entries_is, amounts_is, cents_is, sent_entry_is, places_is}

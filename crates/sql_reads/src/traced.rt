@@ -3,7 +3,7 @@ ghost use Rattle.std.specs.Prelude.{◌≡◌, Option, option_map};
 ghost use Rattle.desk_book.specs.declared.named_entry.NamedEntry.{NamedEntry};
 ghost use Rattle.sql_tables.specs.Composed.{sent_entry_of, sent_with, sent_at, sent_in, traced_in, with_return_in};
 ghost use Rattle.sql_tables.specs.TableReads.{facts_in};
-ghost use Rattle.sql_reads.specs.Answers.{AnswersOn, LearnsOn};
+ghost use Rattle.sql_reads.specs.Answers.{AnswersOn};
 ghost use Rattle.sql_reads.specs.TracedEntries.{AreTraced};
 
 use crate::each::{ItemRead, read_each};

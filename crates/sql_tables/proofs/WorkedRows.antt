@@ -84,8 +84,8 @@ rows = record {
       ∷ row mill 2 (content (codes "TRY-1") 20103 (dues ∷ [])) (Some (retry (codes "TRY-1") 20103 None)) None true (states.Lapsed ∷ [])
       ∷ row mill 3 (content (codes "TRY-2") 20115 (dues ∷ [])) (Some (retry (codes "TRY-2") 20115 (Some 20104))) None false (states.Held ∷ [])
       ∷ row mill 4 (content (codes "PAY-4") 20109 (dues ∷ [])) None (Some 20109) false (states.Sent 20109 ∷ []) ∷ [];
-  returned = record { company = mill; row = record { code = 1; day = 20102; index = 1; info = codes "GONE "; late = true; reference = pay } } ∷ [];
-  changed = record { company = mill; row = record { code = codes "C01"; day = 20103; index = 2; reference = pay; text = codes "46  " } } ∷ [];
+  returned = record { company = mill; order = 1; row = record { code = 1; day = 20102; index = 1; info = codes "GONE "; late = true; reference = pay } } ∷ [];
+  changed = record { company = mill; order = 1; row = record { code = codes "C01"; day = 20103; index = 2; reference = pay; text = codes "46  " } } ∷ [];
   postings = line ∷ opposite line ∷ [];
   sent = sent_one 1 pay 1 1 20098 dues ∷ sent_one 2 pay 1 2 20098 more_dues ∷ sent_one 1 (codes "PAY-4") 4 1 20109 dues ∷ [];
   printed =

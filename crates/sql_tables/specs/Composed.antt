@@ -10,20 +10,17 @@ use Rattle.desk_rules.specs.LimitChecks.{is_debit}
 use Rattle.desk_rules.specs.declared.bodies.company.Company.{Company}
 use Rattle.desk_rules.specs.declared.bodies.submission.Retry.{Retry}
 use Rattle.desk_rules.specs.declared.rules.entry_fact.EntryFact.{EntryFact}
-use Rattle.desk_rules.specs.declared.rules.entry_fact.EntryState.{EntryState}
 use Rattle.desk_rules.specs.declared.rules.rate.Rates.{Rates}
 use Rattle.desk_rules.specs.ReturnRates.{rates}
 use Rattle.desk_book.specs.Standing as standing
 use Rattle.desk_book.specs.Sums.{exposures_on}
-use Rattle.desk_rules.specs.declared.rules.entry_fact.EntryState.TheVariants as states
 use Rattle.desk_book.specs.declared.caller.Caller.{Caller}
 use Rattle.desk_book.specs.declared.caller.Caller.TheVariants as callers
 use Rattle.desk_book.specs.declared.named_entry.NamedEntry.{NamedEntry}
 use Rattle.desk_book.specs.declared.held_submission.HeldSubmission.{HeldSubmission}
 use Rattle.desk_book.specs.declared.row.Row.{Row}
-use Rattle.sql_tables.specs.Encodes.{unless_lapsed}
-use Rattle.sql_tables.specs.RowParts.{state_with, state_among}
-use Rattle.sql_tables.specs.TableReads.{company_in, sums_in, head_under, entry_at, return_at, order_in, facts_in, rows_in, is_of, is_waiting_of, place_in, entry_at_place, places_between}
+use Rattle.sql_tables.specs.RowParts.{state_among}
+use Rattle.sql_tables.specs.TableReads.{company_in, sums_in, return_at, order_in, facts_in, rows_in, is_of, is_waiting_of, place_in, entry_at_place, places_between}
 use Rattle.sql_tables.specs.Tables.{Tables}
 use Rattle.sql_tables.specs.declared.row.entries.EntryAmount.{EntryAmount}
 use Rattle.sql_tables.specs.declared.row.entries.PlacedEntry.{PlacedEntry}

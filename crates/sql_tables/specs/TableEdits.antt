@@ -1,5 +1,5 @@
 -- What each write of a desk makes of its tables, and what its statements tell of them.
-use Rattle.std.specs.Prelude.{◌≡◌, ⊤, ℕ, ◌+◌, ℤ, pos, ◌+ℤ◌, if◌then◌else◌, false, List, map, find, IsSome, Option, Some, None, option_map, option_and_then, unwrap_or}
+use Rattle.std.specs.Prelude.{◌≡◌, ⊤, ℕ, ◌+◌, ℤ, pos, ◌+ℤ◌, if◌then◌else◌, false, List, map, find, Option, Some, None, option_map, option_and_then, unwrap_or}
 use Rattle.std.specs.Int.{IsInRange}
 use Rattle.std.specs.List.{list_any}
 use Rattle.std.specs.Ordering.{nat_cmp, on}
@@ -30,7 +30,9 @@ use Rattle.sql_tables.specs.KeyOrders.{company_cmp, submission_cmp, entry_cmp, f
 use Rattle.sql_tables.specs.TableReads.{number_of_last, company_in, is_under, is_return_at, sum_in, taken_in}
 use Rattle.sql_tables.specs.Tables.{Tables}
 use Rattle.sql_tables.specs.declared.records.BalanceRecord.{BalanceRecord}
+use Rattle.sql_tables.specs.declared.records.ChangeRecord.{ChangeRecord}
 use Rattle.sql_tables.specs.declared.records.EntryRecord.{EntryRecord}
+use Rattle.sql_tables.specs.declared.records.ReturnRecord.{ReturnRecord}
 use Rattle.sql_tables.specs.declared.records.SubmissionRecord.{SubmissionRecord}
 
 -- ---- the desk, its calendar and its companies
@@ -181,45 +183,41 @@ commit_cut_edit first x =
 
 -- ---- an incoming file
 
--- the number in the company of the submission under a reference
-abbrev pub order_there : (company : List ℕ) → (reference : List ℕ) → Tables → ℕ
-order_there c reference t = unwrap_or (option_map (λ s. s.head.order) (find (is_under c reference) t.submissions)) 0
+-- the row of a return under its number
+abbrev pub return_under : (number : ℕ) → ReturnedRow → ReturnRecord
+return_under n x = record {
+  number = n;
+  company = x.company;
+  order = x.order;
+  index = x.row.index;
+  code = x.row.code;
+  day = x.row.day;
+  late = x.row.late;
+  info = x.row.info;
+}
 
--- INSERT INTO returns, of an entry of a submission that settles and was not returned before
+-- INSERT INTO returns, of an entry that was not returned before
 abbrev pub put_return_edit : (number : ℕ) → ReturnedRow → Edit Tables
 put_return_edit n x = record {
-  after = λ t. record t {
-    returns = insert_sorted (on (λ r. r.number) nat_cmp) (record {
-      number = n;
-      company = x.company;
-      order = order_there x.company x.row.reference t;
-      index = x.row.index;
-      code = x.row.code;
-      day = x.row.day;
-      late = x.row.late;
-      info = x.row.info;
-    }) t.returns;
-  };
-  Tells = λ t. IsSome (option_and_then (λ s. s.head.settled) (find (is_under x.company x.row.reference) t.submissions))
-      × (find (is_return_at x.company (order_there x.company x.row.reference t) x.row.index) t.returns ≡ None);
+  after = λ t. record t { returns = insert_sorted (on (λ r. r.number) nat_cmp) (return_under n x) t.returns };
+  Tells = λ t. find (is_return_at x.company x.order x.row.index) t.returns ≡ None;
 }
 
--- INSERT INTO changes, of an entry of a submission
-abbrev pub put_change_edit : (number : ℕ) → ChangedRow → Edit Tables
-put_change_edit n x = record {
-  after = λ t. record t {
-    changes = insert_sorted (on (λ c. c.number) nat_cmp) (record {
-      number = n;
-      company = x.company;
-      order = order_there x.company x.row.reference t;
-      index = x.row.index;
-      code = x.row.code;
-      day = x.row.day;
-      text = x.row.text;
-    }) t.changes;
-  };
-  Tells = λ t. IsSome (find (is_under x.company x.row.reference) t.submissions);
+-- the row of a change under its number
+abbrev pub change_under : (number : ℕ) → ChangedRow → ChangeRecord
+change_under n x = record {
+  number = n;
+  company = x.company;
+  order = x.order;
+  index = x.row.index;
+  code = x.row.code;
+  day = x.row.day;
+  text = x.row.text;
 }
+
+-- INSERT INTO changes
+abbrev pub put_change_edit : (number : ℕ) → ChangedRow → Edit Tables
+put_change_edit n x = record { after = λ t. record t { changes = insert_sorted (on (λ c. c.number) nat_cmp) (change_under n x) t.changes }; Tells = λ _. ⊤ }
 
 -- INSERT INTO suspense
 abbrev pub put_suspense_edit : (number : ℕ) → SuspenseRow → Edit Tables

@@ -16,4 +16,5 @@ pub mod PutReturns
 pub mod PutSuspense
 pub mod ReturnedStates
 pub mod RowChanges
+pub mod SentSubmissions
 pub mod Upserts

@@ -37,6 +37,7 @@ use Rattle.sql_tables.specs.CutTables.{is_row}
 use Rattle.sql_tables.specs.Encodes.{AsksAs, HasStates, RetryFits, authorization_record, entry_record, entry_records, is_entry, is_submission_under, order_under, place_of_entry, submission_record}
 use Rattle.sql_tables.specs.KeyOrders.{submission_cmp, text_cmp}
 use Rattle.sql_tables.specs.TableEdits.{add_submission_edit, new_submission_record, put_authorization_edit}
+use Rattle.sql_tables.specs.TableReads.{is_under}
 use Rattle.sql_tables.specs.Tables.{Tables}
 use Rattle.sql_tables.specs.declared.records.SubmissionRecord.{SubmissionRecord}
 use Rattle.sql_tables.proofs.CutRecords.{pair_same, pair_from}
@@ -47,7 +48,6 @@ use Rattle.sql_write_laws.proofs.EntryPlaces.{unplaced}
 use Rattle.sql_write_laws.proofs.Found.{find-map, nothing_mapped, none_passes, none_found}
 use Rattle.sql_write_laws.proofs.NewEntries.{row_cmp, text_ties, new_entry, entries_put, entries_above, entries_below, authorization_put}
 use Rattle.sql_write_laws.proofs.Numbered.{range_more}
-use Rattle.sql_write_laws.proofs.PutReturns.{found_under}
 
 -- ---- numbers
 
@@ -347,7 +347,7 @@ submission_made c order s retry trees t b stored h admits told =
     let unnumbered : find (is_submission c order) r.submissions ≡ None =
     none_back (submission_record r.printed) _ (sym (find-map (is_row c order) (submission_record r.printed) r.submissions) ∙ sym (ap (find (is_row c order)) e.submissions) ∙ told.0.0) in
     let unnamed : find (is_submission_under c s.reference) r.submissions ≡ None =
-    none_back (submission_record r.printed) _ (sym (found_under c s.reference t r (e, h.beside)) ∙ told.0.1) in
+    none_back (submission_record r.printed) _ (sym (find-map (is_under c s.reference) (submission_record r.printed) r.submissions) ∙ sym (ap (find (is_under c s.reference)) e.submissions) ∙ told.0.1) in
     let rising = ascending_from_map (λ x y. submission_cmp x y ≡ Less) (submission_record r.printed) r.submissions (subst (IsAscending (λ x y. submission_cmp x y ≡ Less)) e.submissions (stored.stands named.submissions).rise) in
     let at : Split row_cmp it r.submissions =
     split row_cmp it cmp_total r.submissions rising (all_weaker (λ y. is_submission c order y ≡ false) (λ y. row_cmp it y ≡ Equal → ⊥) (key_apart c order s retry) r.submissions (none_passes (is_submission c order) r.submissions unnumbered)) in

@@ -1,6 +1,6 @@
 -- A return goes on behind the others, and its entry is returned.
-use Rattle.std.proofs.Common.{◌≡◌, ℕ, ◌+◌, ◌&&◌, ◌==◌, Bool, true, false, List, [], ◌∷◌, ◌++◌, map, find, length, IsSome, Option, Some, None, option_map, unwrap_or, refl, sym, subst, ap, ◌∙◌, inl, inr, true≢false, append-nil, append_assoc, length-append}
-use Rattle.std.specs.Prelude.{fold, if◌then◌else◌, bytes_eq, is_some, option_and_then}
+use Rattle.std.proofs.Common.{◌≡◌, ℕ, ◌+◌, ◌&&◌, ◌==◌, Bool, true, false, List, [], ◌∷◌, ◌++◌, map, find, length, Option, Some, None, option_map, refl, sym, subst, ap, ◌∙◌, inl, inr, true≢false, append-nil, append_assoc, length-append}
+use Rattle.std.specs.Prelude.{fold, reverse, if◌then◌else◌, bytes_eq, is_some, option_and_then}
 use Rattle.std.specs.List.{AllByRecursion, enumerate_from, range_with_len}
 use Rattle.std.proofs.lemmas.Bool.{cases_Bool, and_parts, false_from_ne_true}
 use Rattle.std.proofs.lemmas.List.{map-append}
@@ -11,26 +11,22 @@ use Rattle.sql_statements.specs.Edits.{Edit}
 use Rattle.desk_book.specs.declared.flat_rows.ReturnedRow.{ReturnedRow}
 use Rattle.desk_book.specs.declared.flat_rows.SentRow.{SentRow}
 use Rattle.desk_book.specs.Standing.{is_row_under}
+use Rattle.desk_book.specs.Steps.{WasSent}
 use Rattle.desk_store.specs.Changes.{return_in, in_turn}
 use Rattle.desk_store.specs.Rows.{CompanyRow, Rows}
 use Rattle.sql_tables.specs.Beside.{LapsesUnsettled, ReturnsSettled, IsSentFrom, is_submission}
 use Rattle.sql_tables.specs.Encodes.{HasStates, RetryFits, is_return_of, is_submission_under, order_under, printed_at, retried_entry, return_record, submission_record}
-use Rattle.sql_tables.specs.TableEdits.{each_edit_on, next_number, order_there, put_return_edit}
-use Rattle.sql_tables.specs.TableReads.{is_under}
+use Rattle.sql_tables.specs.TableEdits.{each_edit_on, next_number, put_return_edit, return_under}
 use Rattle.sql_tables.specs.Tables.{Tables}
 use Rattle.sql_tables.specs.declared.records.ReturnRecord.{ReturnRecord}
-use Rattle.sql_tables.specs.declared.records.SubmissionRecord.{SubmissionRecord}
 use Rattle.sql_tables.proofs.CutRecords.{pair_same, pair_from}
 use Rattle.sql_tables.proofs.KeptRows.{restated, return_keeps, order_kept, authorizations_kept, retries_kept, returns_kept, changes_kept, numbered_more}
-use Rattle.sql_write_laws.proofs.Each.{AreOf, each_numbered}
-use Rattle.sql_write_laws.proofs.Found.{find-map, found_passes, found_holds, alone}
+use Rattle.sql_write_laws.proofs.Each.{AreOf, each_fitting}
+use Rattle.sql_write_laws.proofs.Found.{found_passes, found_holds, alone}
 use Rattle.sql_write_laws.proofs.Numbered.{next_is, insert_last, numbers_are, some_same}
 use Rattle.sql_write_laws.proofs.ReturnedStates.{return_both, return_settles, return_lapses, other_states, own_states}
+use Rattle.sql_write_laws.proofs.SentSubmissions.{settles_of}
 use Rattle.sql_write_laws.proofs.RowChanges.{one_of_order, orders_kept, references_kept, entries_kept, sent_kept, back_kept, printed_kept, Stays}
-
--- the submission under a reference in the table is that of the rows
-pub found_under : (c reference : List ℕ) (t : Tables) (r : Rows) → AreOf t r → find (is_under c reference) t.submissions ≡ option_map (submission_record r.printed) (find (is_submission_under c reference) r.submissions)
-found_under c reference t r are = ap (find (is_under c reference)) are.0.submissions ∙ find-map (is_under c reference) (submission_record r.printed) r.submissions
 
 abbrev with_returned : ReturnedRow → Rows → Rows
 with_returned x r = record r { submissions = map (return_in x) r.submissions; returned = r.returned ++ x ∷ [] }
@@ -65,7 +61,7 @@ same_record x printed y = let k = return_keeps x in λ i. record {
 
 -- ---- one return, of an entry of this submission
 
-module _ (n : ℕ) (x : ReturnedRow) (t : Tables) (r : Rows) (are : AreOf t r) (z : CompanyRow) (found : find (is_submission_under x.company x.row.reference) r.submissions ≡ Some z) where
+module _ (n : ℕ) (x : ReturnedRow) (t : Tables) (r : Rows) (are : AreOf t r) (z : CompanyRow) (found : find (is_submission_under x.company x.row.reference) r.submissions ≡ Some z) (numbered : z.row.order ≡ x.order) where
   abbrev rows : List CompanyRow
   rows = r.submissions
 
@@ -73,13 +69,7 @@ module _ (n : ℕ) (x : ReturnedRow) (t : Tables) (r : Rows) (are : AreOf t r) (
   f = return_in x
 
   abbrev new : ReturnRecord
-  new = record { number = n; company = x.company; order = order_there x.company x.row.reference t; index = x.row.index; code = x.row.code; day = x.row.day; late = x.row.late; info = x.row.info }
-
-  in_table : find (is_under x.company x.row.reference) t.submissions ≡ Some (submission_record r.printed z)
-  in_table = found_under x.company x.row.reference t r are ∙ ap (option_map (submission_record r.printed)) found
-
-  its_order : order_there x.company x.row.reference t ≡ z.row.order
-  its_order = ap (λ (o : Option SubmissionRecord). unwrap_or (option_map (λ s. s.head.order) o) 0) in_table
+  new = return_under n x
 
   under : (z.company ≡ x.company) × (is_row_under x.row.reference z.row ≡ true)
   under = let both = and_parts _ _ (found_passes (is_submission_under x.company x.row.reference) rows z found) in ((bytes_eq-Decides z.company x.company).0 both.0, both.1)
@@ -101,7 +91,7 @@ module _ (n : ℕ) (x : ReturnedRow) (t : Tables) (r : Rows) (are : AreOf t r) (
       found_holds (is_submission_under x.company x.row.reference) (λ y. is_submission x.company z.row.order y ≡ true → find (is_submission x.company z.row.order) rows ≡ Some y) rows z single found (pair_from z.company x.company z.row.order z.row.order under.0 refl) in
       all_weaker _ HasNumber (λ y h is. some_same (sym (h is) ∙ own)) rows single
 
-  module _ (on : ℕ) (settles : z.row.settled ≡ Some on) (first : find (is_return_of x.company (order_there x.company x.row.reference t) x.row.index) t.returns ≡ None) where
+  module _ (on : ℕ) (settles : z.row.settled ≡ Some on) (first : find (is_return_of x.company (x.order) x.row.index) t.returns ≡ None) where
     lasts : LapsesUnsettled z → z.row.lapsed ≡ false
     lasts h = go z.row.lapsed refl
       where
@@ -116,15 +106,15 @@ module _ (n : ℕ) (x : ReturnedRow) (t : Tables) (r : Rows) (are : AreOf t r) (
           let settled : y.row.settled ≡ Some on = ap (λ (v : CompanyRow). v.row.settled) same ∙ settles in
           let lapsed : y.row.lapsed ≡ false = ap (λ (v : CompanyRow). v.row.lapsed) same ∙ lasts (subst LapsesUnsettled same has.1) in
           let company : y.company ≡ x.company = ap (λ (v : CompanyRow). v.company) same ∙ under.0 in
-          let order : order_there x.company x.row.reference t ≡ y.row.order = its_order ∙ sym (ap (λ (v : CompanyRow). v.row.order) same) in
+          let order : x.order ≡ y.row.order = sym numbered ∙ sym (ap (λ (v : CompanyRow). v.row.order) same) in
           subst (HasStates (t.returns ++ new ∷ [])) (sym (return_both x y ∙ ap (λ b. if b then record y { row = restated x y.row } else y) is))
-          (own_states t.returns new x y on settled lapsed (pair_from x.company y.company (order_there x.company x.row.reference t) y.row.order (sym company) order) (refl, refl, refl, refl)
+          (own_states t.returns new x y on settled lapsed (pair_from x.company y.company (x.order) y.row.order (sym company) order) (refl, refl, refl, refl)
           ((λ i. find (is_return_of (company i) (sym order i) x.row.index) t.returns) ∙ first) has.0))
       | inr out ↦
-          (let differs : (bytes_eq x.company y.company && order_there x.company x.row.reference t == y.row.order) ≡ false =
+          (let differs : (bytes_eq x.company y.company && x.order == y.row.order) ≡ false =
           false_from_ne_true _ (λ is.
-          let keys = pair_same x.company y.company (order_there x.company x.row.reference t) y.row.order is in
-          let same : y ≡ z = are_z.1 (pair_from y.company x.company y.row.order z.row.order (sym keys.0) (sym keys.1 ∙ its_order)) in
+          let keys = pair_same x.company y.company (x.order) y.row.order is in
+          let same : y ≡ z = are_z.1 (pair_from y.company x.company y.row.order z.row.order (sym keys.0) (sym keys.1 ∙ sym numbered)) in
           true≢false (sym (subst (λ v. is_submission_under x.company x.row.reference v ≡ true) (sym same) (found_passes (is_submission_under x.company x.row.reference) rows z found)) ∙ out)) in
           subst (HasStates (t.returns ++ new ∷ [])) (sym (return_both x y ∙ ap (λ b. if b then record y { row = restated x y.row } else y) out))
           (other_states t.returns new y differs has.0))
@@ -150,7 +140,7 @@ module _ (n : ℕ) (x : ReturnedRow) (t : Tables) (r : Rows) (are : AreOf t r) (
       made : return_record (map f rows) (length r.returned + 1, x) ≡ Some new
       made =
           (λ i. option_map (λ (order : ℕ). record { number = sym at i; company = x.company; order = order; index = x.row.index; code = x.row.code; day = x.row.day; late = x.row.late; info = x.row.info }) (order_under (map f rows) x.company x.row.reference))
-          ∙ ap (option_map (λ (order : ℕ). record { number = n; company = x.company; order = order; index = x.row.index; code = x.row.code; day = x.row.day; late = x.row.late; info = x.row.info })) (returned_orders x.company x.row.reference ∙ ap (option_map (λ (v : CompanyRow). v.row.order)) found ∙ ap Some (sym its_order))
+          ∙ ap (option_map (λ (order : ℕ). record { number = n; company = x.company; order = order; index = x.row.index; code = x.row.code; day = x.row.day; late = x.row.late; info = x.row.info })) (returned_orders x.company x.row.reference ∙ ap (option_map (λ (v : CompanyRow). v.row.order)) found ∙ ap Some (numbered))
 
       returns_after : map Some (t.returns ++ new ∷ []) ≡ map (return_record (map f rows)) (enumerate_from 1 (r.returned ++ x ∷ []))
       returns_after =
@@ -192,18 +182,14 @@ module _ (n : ℕ) (x : ReturnedRow) (t : Tables) (r : Rows) (are : AreOf t r) (
         },
       )
 
-return_put : (n : ℕ) (x : ReturnedRow) (t : Tables) (r : Rows) → n ≡ length r.returned + 1 → AreOf t r → (put_return_edit n x).Tells t → AreOf ((put_return_edit n x).after t) (with_returned x r)
-return_put n x t r at are told =
-    go (find (is_submission_under x.company x.row.reference) r.submissions) refl
-    (subst (λ (o : Option SubmissionRecord). IsSome (option_and_then (λ s. s.head.settled) o)) (found_under x.company x.row.reference t r are) told.0)
-  where
-    settled : (z : CompanyRow) → find (is_submission_under x.company x.row.reference) r.submissions ≡ Some z → (o : Option ℕ) → z.row.settled ≡ o → IsSome o → AreOf ((put_return_edit n x).after t) (with_returned x r)
-    settled z found None is some = cc
-    settled z found (Some on) is some = returned_tables n x t r are z found on is told.1 at
+-- it is of an entry that was sent
+abbrev pub Fits : Rows → ReturnedRow → Type 0
+Fits r x = WasSent (reverse r.sent) x.company x.order x.row.reference
 
-    go : (o : Option CompanyRow) → find (is_submission_under x.company x.row.reference) r.submissions ≡ o → IsSome (option_and_then (λ (s : SubmissionRecord). s.head.settled) (option_map (submission_record r.printed) o)) → AreOf ((put_return_edit n x).after t) (with_returned x r)
-    go None found some = cc
-    go (Some z) found some = settled z found z.row.settled refl some
+return_put : (n : ℕ) (x : ReturnedRow) (t : Tables) (r : Rows) → n ≡ length r.returned + 1 → Fits r x → AreOf t r → (put_return_edit n x).Tells t → AreOf ((put_return_edit n x).after t) (with_returned x r)
+return_put n x t r at fits are told =
+    let its = settles_of t r are x.company x.order x.row.reference fits in
+    returned_tables n x t r are its.row its.found its.numbered its.on its.settles told at
 
 -- ---- all returns
 
@@ -214,7 +200,7 @@ returned_in_turn (x ∷ xs) r = returned_in_turn xs (with_returned x r) ∙ (λ 
 abbrev pub put_returns : List ReturnedRow → Edit Tables
 put_returns = each_edit_on (λ t. next_number (λ y. y.number) t.returns) put_return_edit
 
-pub returns_put : (xs : List ReturnedRow) (t : Tables) (r : Rows) → AreOf t r → (put_returns xs).Tells t → AreOf ((put_returns xs).after t) (record r { submissions = in_turn return_in xs r.submissions; returned = r.returned ++ xs })
-returns_put xs t r are told =
+pub returns_put : (xs : List ReturnedRow) (t : Tables) (r : Rows) → AllByRecursion (Fits r) xs → AreOf t r → (put_returns xs).Tells t → AreOf ((put_returns xs).after t) (record r { submissions = in_turn return_in xs r.submissions; returned = r.returned ++ xs })
+returns_put xs t r fit are told =
     subst (AreOf ((put_returns xs).after t)) (returned_in_turn xs r)
-    (each_numbered put_return_edit with_returned (λ s. length s.returned) (λ x s. length-append s.returned (x ∷ [])) return_put xs _ t r (next_is (λ (y : ReturnRecord). y.number) t.returns (length r.returned) (return_numbers t r are)) are told)
+    (each_fitting put_return_edit with_returned (λ s. length s.returned) (λ x s. length-append s.returned (x ∷ [])) Fits (λ x y s fits. fits) return_put xs _ t r (next_is (λ (y : ReturnRecord). y.number) t.returns (length r.returned) (return_numbers t r are)) fit are told)

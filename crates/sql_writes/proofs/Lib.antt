@@ -5,7 +5,7 @@
 --   lines and balances        BalanceLists, BalanceUpserts, JoinedLines, LineSums, PendingSums, PostingInserts
 --   cuts                      EntryRuns, EntryUpdates, FileInserts, KeyTests, NumberRanges, PassingUpdates,
 --                             PlacedEntries, RangePuts, RunUpdates, SubmissionUpdates
---   incoming files            ChangeInserts, FoundReturns, NamedSubmissions, ReturnInserts, SuspenseInserts, TakenInserts
+--   incoming files            ChangeInserts, ReturnInserts, SuspenseInserts, TakenInserts
 -- of these stand.
 mod ArrayLoops
 mod BalanceLists
@@ -18,7 +18,6 @@ mod EntryInserts
 mod EntryRuns
 mod EntryUpdates
 mod FileInserts
-mod FoundReturns
 mod Holidays
 mod JoinedLines
 mod KeyTests
@@ -29,7 +28,6 @@ mod ManyEdits
 mod ManyFree
 mod ManyInserts
 mod ManyKeys
-mod NamedSubmissions
 mod NumberRanges
 mod Numbered
 pub mod NumberedRows

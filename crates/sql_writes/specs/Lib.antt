@@ -11,6 +11,5 @@ pub mod Numbering
 pub mod PendingBalances
 pub mod PlaceEdits
 pub mod ReturnRows
-pub mod RowEdits
 pub mod Runs
 pub mod Texts

@@ -27,7 +27,7 @@ fn sent_entry(rt: &impl Abort) -> SentEntry {
         sequence: 1,
         company: mill(rt),
         reference: pay(rt),
-        order: 1,
+        order: 3,
         index: 2,
         settled: RuleDay::read(b"2025-01-10").expect(rt, "a day"),
         sec: SecCode::Ppd,
@@ -114,6 +114,7 @@ fn file(
 fn returned_row(rt: &impl Abort, text: &[u8], late: bool) -> ReturnedRow {
     ReturnedRow {
         company: mill(rt),
+        order: 3,
         row: ReturnRow {
             code: ReturnCode::parse(b"R01").expect(rt, "a code"),
             day: day(rt, text),
@@ -310,6 +311,7 @@ fn an_entry_that_came_back_before_is_suspended(rt: HostRuntime) {
 fn changed_row(rt: &impl Abort, text: &[u8]) -> ChangedRow {
     ChangedRow {
         company: mill(rt),
+        order: 3,
         row: ChangeRow {
             code: *b"C01",
             day: day(rt, text),

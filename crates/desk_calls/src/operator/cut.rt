@@ -8,8 +8,8 @@ ghost use Rattle.desk_book.specs.OnCut.{cut_facts, cut_answer_on, cut_after};
 ghost use Rattle.desk_cut.specs.Plan.{plan_write};
 ghost use Rattle.desk_history.specs.Message.{Cut};
 ghost use Rattle.desk_book.specs.Writes.{writes_on};
-ghost use Rattle.desk_calls.specs.Answering.{Answers, LeavesCall};
-ghost use Rattle.desk_calls.specs.Cutting.{HoldsFor, Plans, PlansOrTells, facts_in, latest_of, refusal_of};
+ghost use Rattle.desk_calls.specs.Answering.{Answers, HoldsFor, LeavesCall};
+ghost use Rattle.desk_calls.specs.Cutting.{Plans, PlansOrTells, facts_in, latest_of, refusal_of};
 ghost use Rattle.desk_calls.specs.Taking.{ReadsAs};
 
 use crate::guards::rule_day;
@@ -119,8 +119,8 @@ fn plan<S: Store>(
 // Writes a plan, and answers.
 fn write<S: Store>(store: &mut S, alloc: Global, plan: CutPlan) -> Result<Answer, StoreFault>
     ensures before { S.is_clean store.new → S.is_clean store.old }
-    ensures answers { S.is_clean store.new → Answers (HoldsFor (S.holds store.old) plan) result (λ b. answers.Done (done.Cut plan.done)) (commit_cut (plan_write plan)).after (S.holds store.new) }
-    ensures left { S.is_clean store.new → LeavesCall S.keeps (HoldsFor (S.holds store.old) plan) (S.may_leave store.old) result (λ b. true) (commit_cut (plan_write plan)).after (S.may_leave store.new) }
+    ensures answers { S.is_clean store.new → Answers (HoldsFor (S.holds store.old) (commit_cut (plan_write plan))) result (λ b. answers.Done (done.Cut plan.done)) (commit_cut (plan_write plan)).after (S.holds store.new) }
+    ensures left { S.is_clean store.new → LeavesCall S.keeps (HoldsFor (S.holds store.old) (commit_cut (plan_write plan))) (S.may_leave store.old) result (λ b. true) (commit_cut (plan_write plan)).after (S.may_leave store.new) }
 {
     let rows = CutRows {
         sent: plan.sent.as_slice(),

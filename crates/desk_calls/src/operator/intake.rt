@@ -10,7 +10,7 @@ ghost use Rattle.desk_store.specs.Words.{LeavesRead};
 ghost use Rattle.desk_book.specs.OnIntake.{New, file_after, file_answer_on, intake_facts, intake_write, taking_answer, taking_file, taking_known, with_taking};
 ghost use Rattle.desk_intake.specs.Plans.{plan_write};
 ghost use Rattle.desk_book.specs.Writes.{is_new_taking, writes_on};
-ghost use Rattle.desk_calls.specs.Answering.{Answers, LeavesCall};
+ghost use Rattle.desk_calls.specs.Answering.{Answers, HoldsFor, LeavesCall};
 ghost use Rattle.desk_calls.specs.Taking.{ReadsAs};
 
 use crate::guards::desk_day;
@@ -47,8 +47,8 @@ fn plan<S: Store>(
 /// Writes a plan, and answers.
 fn write<S: Store>(store: &mut S, alloc: Global, plan: &IntakePlan) -> Result<Answer, StoreFault>
     ensures before { S.is_clean store.new → S.is_clean store.old }
-    ensures answers { S.is_clean store.new → Answers (S.holds store.old) result (λ b. intake_answer (Ok plan.now.file.answer)) (commit_intake (plan_write plan.now)).after (S.holds store.new) }
-    ensures left { S.is_clean store.new → LeavesCall S.keeps (S.holds store.old) (S.may_leave store.old) result (λ b. true) (commit_intake (plan_write plan.now)).after (S.may_leave store.new) }
+    ensures answers { S.is_clean store.new → Answers (HoldsFor (S.holds store.old) (commit_intake (plan_write plan.now))) result (λ b. intake_answer (Ok plan.now.file.answer)) (commit_intake (plan_write plan.now)).after (S.holds store.new) }
+    ensures left { S.is_clean store.new → LeavesCall S.keeps (HoldsFor (S.holds store.old) (commit_intake (plan_write plan.now))) (S.may_leave store.old) result (λ b. true) (commit_intake (plan_write plan.now)).after (S.may_leave store.new) }
 {
     let rows = IntakeRows {
         returned: plan.returned.as_slice(),
@@ -72,6 +72,7 @@ fn take_new<S: Store>(
     ensures answers { S.is_clean store.new → Answers (S.holds store.old) result (λ b. taking_answer (New (intake_facts b day file.now))) (λ b. with_taking (New (intake_facts b day file.now)) b) (S.holds store.new) }
     ensures left { S.is_clean store.new → LeavesCall S.keeps (S.holds store.old) (S.may_leave store.old) result (λ b. true) (λ b. with_taking (New (intake_facts b day file.now)) b) (S.may_leave store.new) }
 {
+    desk_book::entries_of_intakes();
     let plan = plan(store, alloc, day, file)?;
     write(store, alloc, &plan)
 }

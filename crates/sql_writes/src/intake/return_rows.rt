@@ -1,23 +1,19 @@
 //! The rows of returns are written, sixteen by one statement as long as there are so many.
 ghost use Rattle.std.specs.Prelude.{◌≡◌, ◌+◌, ◌<◌, ◌^◌, map, length, IfOk};
 ghost use Rattle.sqlite.specs.Values.{bound};
-ghost use Rattle.sql_statements.specs.Transactions.{Makes};
-ghost use Rattle.sql_statements.specs.Promises.{SucceedsWith, KeepsCommitted, LeavesNothingNew};
 ghost use Rattle.sql_tables.specs.Layout.{desk_layout};
 ghost use Rattle.sql_tables.specs.TableEdits.{put_return_edit};
-ghost use Rattle.sql_writes.specs.ReturnRows.{held_return, stored_return, finds_return, finds_returns};
+ghost use Rattle.sql_writes.specs.ReturnRows.{held_return, held_returns, stored_return};
 
 use crate::batches::BatchBody;
-use crate::intake::orders::order_under;
 use desk_book::ReturnedRow;
 use sql_statements::{RowBody, execute, number};
 use sql_tables::{characters, date, integer, switch};
 use sqlite::types::ValueRef;
 use sqlite::{Alter, Error, Transaction};
 
-/// `ReturnRows` are the rows of returns, each under its number. A return that names no submission of its
-/// company, or one that does not settle, is refused with `Error::InvalidQuery`, and one of an entry that
-/// was returned before by the key of the table.
+/// `ReturnRows` are the rows of returns, each under its number. A return of an entry that was returned
+/// before is refused by the key of the table.
 #[derive(Clone, Copy)]
 pub(crate) struct ReturnRows;
 
@@ -34,7 +30,7 @@ impl RowBody for ReturnRows {
         number: u64,
         returned: &ReturnedRow,
     ) -> Result<(), Error> {
-        let row = row_under(tx, number, returned)?;
+        let row = row_of(number, returned)?;
         let values = values_of(&row);
         execute(
             tx,
@@ -52,7 +48,7 @@ impl BatchBody for ReturnRows {
         first: u64,
         returned: &[ReturnedRow],
     ) -> Result<(), Error> {
-        let rows = rows_under(tx, first, returned)?;
+        let rows = rows_from(first, returned)?;
         let values = values_of_all(&rows);
         execute(
             tx,
@@ -77,57 +73,29 @@ struct ReturnRow {
     returned: ReturnedRow,
 }
 
-// The row of the return that has this number, of an entry of the submission with this order number.
-// `Error::InvalidQuery` says that a number is past the last that a column has.
-fn row_of(number: u64, order: u64, returned: &ReturnedRow) -> Result<ReturnRow, Error>
-    ensures { IfOk result (λ row. row ≡ held_return number order returned.now) }
+// The row of the return that has this number. `Error::InvalidQuery` says that a number is past the last
+// that a column has.
+fn row_of(number: u64, returned: &ReturnedRow) -> Result<ReturnRow, Error>
+    ensures { IfOk result (λ row. row ≡ held_return number returned.now) }
 {
     Ok(ReturnRow {
         number: integer(number)?,
-        order: integer(order)?,
+        order: integer(returned.order)?,
         index: integer(returned.row.index)?,
         code: returned.row.code.text(),
         returned: *returned,
     })
 }
 
-// The row of a return, with the submission that it names, as the transaction sees it.
-fn row_under<S: Alter>(
-    tx: &mut Transaction<'_, S>,
-    number: u64,
-    returned: &ReturnedRow,
-) -> Result<ReturnRow, Error>
-    ensures same_reference { tx.new.conn.ghost_name ≡ tx.old.conn.ghost_name }
-    ensures makes { SucceedsWith S.Store tx.old.conn.now tx.new.conn.now result
-        (λ row. Makes desk_layout (finds_return number returned.now row)) }
-    ensures keeps { KeepsCommitted S.Store tx.old.conn.now tx.new.conn.now }
-    ensures survives { LeavesNothingNew S.Store tx.old.conn.now tx.new.conn.now }
-{
-    let found = order_under(tx, &returned.company, &returned.row.reference)?;
-    if found.settled.is_none() {
-        return Err(Error::InvalidQuery);
-    }
-    let row = row_of(number, found.order, returned)?;
-    Ok(row)
-}
-
 // The rows of sixteen returns, of which the first has this number.
-fn rows_under<S: Alter>(
-    tx: &mut Transaction<'_, S>,
-    first: u64,
-    returned: &[ReturnedRow],
-) -> Result<[ReturnRow; 16], Error>
+fn rows_from(first: u64, returned: &[ReturnedRow]) -> Result<[ReturnRow; 16], Error>
     requires many { length returned.now ≡ 16 }
     requires numbers { first + 16 < 2 ^ 64 }
-    ensures same_reference { tx.new.conn.ghost_name ≡ tx.old.conn.ghost_name }
-    ensures makes { SucceedsWith S.Store tx.old.conn.now tx.new.conn.now result
-        (λ rows. Makes desk_layout (finds_returns first returned.now rows)) }
-    ensures keeps { KeepsCommitted S.Store tx.old.conn.now tx.new.conn.now }
-    ensures survives { LeavesNothingNew S.Store tx.old.conn.now tx.new.conn.now }
+    ensures { IfOk result (λ held. held ≡ held_returns first returned.now) }
 {
-    let mut held = [row_of(first, 0, &returned[0])?; 16];
+    let mut held = [row_of(first, &returned[0])?; 16];
     for at in 0..16 {
-        held[at] = row_under(tx, first + at as u64, &returned[at])?;
+        held[at] = row_of(first + at as u64, &returned[at])?;
     }
     Ok(held)
 }

@@ -11,9 +11,8 @@ use crate::numbering::{NumberedTable, next_after};
 use desk_book::ReturnedRow;
 use sqlite::{Alter, Error, Transaction};
 
-/// Writes the returns of a file, numbered on from the last of the table. A return that names no
-/// submission of its company, or one that does not settle, is refused with `Error::InvalidQuery`, and
-/// one of an entry that was returned before by the key of the table.
+/// Writes the returns of a file, numbered on from the last of the table. A return of an entry that was
+/// returned before is refused by the key of the table.
 pub(crate) fn put_returns<S: Alter>(
     tx: &mut Transaction<'_, S>,
     returned: &[ReturnedRow],

@@ -116,6 +116,7 @@ fn write_intake<S: Store>(
     let intake = IntakeRows {
         returned: &[ReturnedRow {
             company: id(rt, b"MILL01"),
+            order: 1,
             row: return_row(rt),
         }],
         changed: &[],

@@ -1,5 +1,4 @@
-use Rattle.std.proofs.Common.{rules, ◌≡◌, List, Ok, option_map, true, false, refl, sym, ◌∙◌}
-use Rattle.desk_history.specs.declared.sent_entry.SentEntry.{SentEntry}
+use Rattle.std.proofs.Common.{rules, ◌≡◌, Ok, option_map, true, false, refl, sym}
 use Rattle.desk_history.specs.Resolve.{resolve_entry}
 use Rattle.desk_book.specs.OnIntake.{is_repeated_return, was_returned}
 use Rattle.desk_intake.specs.Resolutions.{matched_item_as}

@@ -1,11 +1,14 @@
-use Rattle.std.proofs.Common.{arith}
 use Rattle.sqlite.specs.Held.{state}
-use Rattle.sql_writes.proofs.NamedSubmissions.{change_joined}
+use Rattle.sql_statements.proofs.Edits.{makes_of}
+use Rattle.sql_tables.specs.Layout.{desk_layout}
+use Rattle.sql_tables.specs.TableEdits.{change_under, put_change_edit}
+use Rattle.sql_writes.proofs.ChangeInserts.{change_put}
 use Rattle.sql_writes.proofs.intake.changes.ChangeRowsRowBody.run_row.Goals as goal
 
 pub returns-clause-makes : goal.returns-clause-makes
 returns-clause-makes g c clean =
+    let x = c.args.changed.now in
     let old = state g.S.Store c.args.tx.now.conn.now in
-    let mid = state g.S.Store c.order_under.new.tx.conn.now in
-    let new = state g.S.Store c.put_change.new.tx.conn.now in
-    change_joined c.args.number c.args.changed.now c.in_ok-found.found old mid new (c.in_ok-found.ensures.makes (omega (arith, c.put_change.ensures.survives.clean, clean))) (c.in_ok-put_change.ensures.makes clean)
+    let new = state g.S.Store c.execute.new.tx.conn.now in
+    let ran = rw (c.in_ok-number.ensures, c.characters.ensures, c.bytes.ensures.value, c.in_ok-order.ensures, c.in_ok-index.ensures, c.characters-2.ensures, c.date.ensures, c.characters-3.ensures) at (c.in_ok-execute.ensures.ran clean) in
+    makes_of desk_layout (put_change_edit c.args.number x) old new (c.in_ok-execute.ensures.shown clean) (λ t h. (change_put (change_under c.args.number x) old new c.in_ok-execute.field-0 ran t h, tt))

@@ -1,13 +1,22 @@
-use Rattle.std.proofs.Common.{arith}
+use Rattle.std.proofs.Common.{◌≡◌, map, ap, ◌∙◌}
 use Rattle.sqlite.specs.Held.{state}
-use Rattle.sql_writes.proofs.FoundReturns.{bound_returns, returns_made}
+use Rattle.sqlite.specs.Values.{bound}
+use Rattle.sql_statements.proofs.Edits.{makes_of}
+use Rattle.sql_statements.specs.Edits.{each_edit_from}
+use Rattle.sql_tables.specs.Layout.{desk_layout}
+use Rattle.sql_tables.specs.TableEdits.{put_return_edit}
+use Rattle.sql_writes.specs.ReturnRows.{held_returns, stored_return}
+use Rattle.sql_writes.proofs.ReturnInserts.{bound_returns, returns_put}
 use Rattle.sql_writes.proofs.intake.return_rows.ReturnRowsBatchBody.run_batch.Goals as goal
 
 pub returns-clause-makes : goal.returns-clause-makes
 returns-clause-makes g c clean =
+    let first = c.args.first in
+    let returned = c.args.returned.now in
     let old = state g.S.Store c.args.tx.now.conn.now in
-    let mid = state g.S.Store c.rows_under.new.tx.conn.now in
     let new = state g.S.Store c.execute.new.tx.conn.now in
-    let rows = c.in_ok-rows.rows in
-    let ran = rw (c.as_flattened.ensures.value, bound_returns rows c.values_of_all-values.result c.values_of_all-values.ensures) at (c.in_ok-execute.ensures.ran clean) in
-    returns_made c.args.first c.args.returned.now c.requires.many rows old mid new c.in_ok-execute.field-0 (c.in_ok-rows.ensures.makes (omega (arith, c.execute.ensures.survives.clean, clean))) (c.in_ok-execute.ensures.shown clean) ran
+    let values = c.values_of_all-values.result in
+    let are : map bound values ≡ map stored_return (held_returns first returned) = c.values_of_all-values.ensures ∙ ap (map stored_return) c.in_ok-rows.ensures in
+    let ran = rw (c.as_flattened.ensures.value, bound_returns first returned values are) at (c.in_ok-execute.ensures.ran clean) in
+    makes_of desk_layout (each_edit_from put_return_edit first returned) old new (c.in_ok-execute.ensures.shown clean)
+    (returns_put first returned c.requires.many old new c.in_ok-execute.field-0 ran)
