@@ -1,14 +1,14 @@
-//! What traces name: entries that were sent, and whether they came back.
-ghost use Rattle.std.specs.Prelude.{◌≡◌, Option, option_map};
-ghost use Rattle.desk_book.specs.declared.named_entry.NamedEntry.{NamedEntry};
+//! What traces name: entries that were sent, and whether they came back. Entries that come back one after
+//! another are often of one submission, so what was asked last of a submission is kept for the next entry.
+ghost use Rattle.std.specs.Prelude.{◌≡◌, Some, map, option_map, IfSome, true};
 ghost use Rattle.sql_tables.specs.Composed.{sent_entry_of, sent_with, sent_at, sent_in, traced_in, with_return_in};
 ghost use Rattle.sql_tables.specs.TableReads.{facts_in};
-ghost use Rattle.sql_reads.specs.Answers.{AnswersOn};
-ghost use Rattle.sql_reads.specs.TracedEntries.{AreTraced};
+ghost use Rattle.sql_tables.specs.Tables.{Tables};
+ghost use Rattle.sql_reads.specs.Answers.{AnswersOn, LearnsOn};
+ghost use Rattle.sql_reads.specs.TracedEntries.{AreTraced, IsKnown, Knowing};
 
-use crate::each::{ItemRead, read_each};
 use crate::fault::or_unavailable;
-use ach_fields::Trace;
+use ach_fields::{Id, Trace};
 use desk_book::NamedEntry;
 use desk_history::SentEntry;
 use desk_store::StoreFault;
@@ -39,17 +39,70 @@ fn sent_entry_from(
     })
 }
 
+// What was found last of a submission.
+#[derive(Clone, Copy)]
+struct LastSubmission {
+    company: Id,
+    order: u64,
+    facts: SubmissionFacts,
+}
+
+// Is the entry one of the submission?
+fn is_of(known: &LastSubmission, placed: &PlacedEntry) -> bool
+    ensures company { result ≡ true → known.now.company ≡ placed.now.company }
+    ensures order { result ≡ true → known.now.order ≡ placed.now.order }
+{
+    known.order == placed.order && known.company.bytes() == placed.company.bytes()
+}
+
+// What is known of the submission of an entry, if it was asked for last.
+fn known_of(last: &Option<LastSubmission>, placed: &PlacedEntry) -> Option<SubmissionFacts>
+    ensures { (t : Tables) → IsKnown last.now t → IfSome result
+        (λ facts. Some facts ≡ facts_in placed.now.company placed.now.order t) }
+{
+    match last {
+        Some(known) if is_of(known, placed) => Some(known.facts),
+        _ => None,
+    }
+}
+
+// What the submission of an entry says of it, which is asked for unless it was asked for last.
+fn facts_of<S: Alter>(
+    conn: &mut Connection<S>,
+    last: &mut Option<LastSubmission>,
+    placed: &PlacedEntry,
+) -> Result<Option<SubmissionFacts>, StoreFault>
+    ensures { LearnsOn S.Store conn.old conn.new result
+        (λ found. Knowing last.old last.new
+        (λ t. found ≡ facts_in placed.now.company placed.now.order t)) }
+{
+    let known = known_of(last, placed);
+    if known.is_some() {
+        return Ok(known);
+    }
+    let found = or_unavailable(facts(conn, placed.company, placed.order))?;
+    if let Some(facts) = &found {
+        *last = Some(LastSubmission {
+            company: placed.company,
+            order: placed.order,
+            facts: *facts,
+        });
+    }
+    Ok(found)
+}
+
 // An entry with what its submission says of it.
 fn sent_with<S: Alter>(
     conn: &mut Connection<S>,
+    last: &mut Option<LastSubmission>,
     sequence: u32,
     placed: &PlacedEntry,
 ) -> Result<Option<SentEntry>, StoreFault>
-    ensures { AnswersOn S.Store conn.old conn.new result
-        (λ found t. found ≡ sent_with sequence placed.now
-        (facts_in placed.now.company placed.now.order t)) }
+    ensures { LearnsOn S.Store conn.old conn.new result
+        (λ found. Knowing last.old last.new (λ t. found ≡ sent_with sequence placed.now
+        (facts_in placed.now.company placed.now.order t))) }
 {
-    match or_unavailable(facts(conn, placed.company, placed.order))? {
+    match facts_of(conn, last, placed)? {
         Some(facts) => Ok(sent_entry_from(sequence, placed, &facts)),
         None => Ok(None),
     }
@@ -58,14 +111,15 @@ fn sent_with<S: Alter>(
 // The entry that was sent at a place.
 fn sent_at<S: Alter>(
     conn: &mut Connection<S>,
+    last: &mut Option<LastSubmission>,
     sequence: u32,
     place: u64,
 ) -> Result<Option<SentEntry>, StoreFault>
     ensures { AnswersOn S.Store conn.old conn.new result
-        (λ found t. found ≡ sent_at sequence place t) }
+        (λ found. Knowing last.old last.new (λ t. found ≡ sent_at sequence place t)) }
 {
     match or_unavailable(sent_entry(conn, place))? {
-        Some(placed) => sent_with(conn, sequence, &placed),
+        Some(placed) => sent_with(conn, last, sequence, &placed),
         None => Ok(None),
     }
 }
@@ -73,12 +127,14 @@ fn sent_at<S: Alter>(
 // The youngest that has a sequence.
 fn sent_in<S: Alter>(
     conn: &mut Connection<S>,
+    last: &mut Option<LastSubmission>,
     sequence: u32,
 ) -> Result<Option<SentEntry>, StoreFault>
-    ensures { AnswersOn S.Store conn.old conn.new result (λ found t. found ≡ sent_in sequence t) }
+    ensures { AnswersOn S.Store conn.old conn.new result
+        (λ found. Knowing last.old last.new (λ t. found ≡ sent_in sequence t)) }
 {
     match or_unavailable(place(conn, sequence))? {
-        Some(place) => sent_at(conn, sequence, place),
+        Some(place) => sent_at(conn, last, sequence, place),
         None => Ok(None),
     }
 }
@@ -99,12 +155,14 @@ fn with_return<S: Alter>(
 // The youngest that has a sequence, and whether it came back.
 fn named_in<S: Alter>(
     conn: &mut Connection<S>,
+    last: &mut Option<LastSubmission>,
     sequence: u32,
 ) -> Result<Option<NamedEntry>, StoreFault>
     ensures { AnswersOn S.Store conn.old conn.new result
-        (λ found t. found ≡ option_map (with_return_in t) (sent_in sequence t)) }
+        (λ found. Knowing last.old last.new
+        (λ t. found ≡ option_map (with_return_in t) (sent_in sequence t))) }
 {
-    match sent_in(conn, sequence)? {
+    match sent_in(conn, last, sequence)? {
         Some(entry) => {
             let named = with_return(conn, entry)?;
             Ok(Some(named))
@@ -113,38 +171,42 @@ fn named_in<S: Alter>(
     }
 }
 
-// What traces name at a bank whose number has these eight digits.
-#[derive(Clone, Copy)]
-struct TracedItems {
+// What a trace names at a bank whose number has these eight digits.
+fn traced_entry<S: Alter>(
+    conn: &mut Connection<S>,
+    last: &mut Option<LastSubmission>,
     dfi: u32,
+    trace: &Option<Trace>,
+) -> Result<Option<NamedEntry>, StoreFault>
+    ensures { LearnsOn S.Store conn.old conn.new result
+        (λ found. Knowing last.old last.new (λ t. found ≡ traced_in dfi t trace.now)) }
+{
+    let Some(trace) = trace else {
+        return Ok(None);
+    };
+    let _digits = trace.text();
+    if dfi != trace.dfi() {
+        return Ok(None);
+    }
+    named_in(conn, last, trace.sequence())
 }
 
-impl ItemRead for TracedItems {
-    type Item = Option<Trace>;
-
-    type Found = Option<NamedEntry>;
-
-    ghost Shown = { Option NamedEntry };
-
-    ghost shown = { λ found. found };
-
-    ghost value = { λ read t trace. traced_in read.dfi t trace };
-
-    fn read_item<S: Alter>(
-        &self,
-        conn: &mut Connection<S>,
-        _alloc: Global,
-        trace: &Option<Trace>,
-    ) -> Result<Option<NamedEntry>, StoreFault> {
-        let Some(trace) = trace else {
-            return Ok(None);
-        };
-        let _digits = trace.text();
-        if self.dfi != trace.dfi() {
-            return Ok(None);
-        }
-        named_in(conn, trace.sequence())
+// What each trace names at this bank.
+fn each_traced<S: Alter>(
+    conn: &mut Connection<S>,
+    alloc: Global,
+    dfi: u32,
+    traces: &[Option<Trace>],
+) -> Result<Vec<Option<NamedEntry>>, StoreFault>
+    ensures { LearnsOn S.Store conn.old conn.new result
+        (λ found t. found.items ≡ map (traced_in dfi t) traces.now) }
+{
+    let mut last = None;
+    let mut all = Vec::new(alloc);
+    for trace in traces {
+        all.push(traced_entry(conn, &mut last, dfi, trace)?)?;
     }
+    Ok(all)
 }
 
 /// Finds for each trace the youngest entry that has it, and whether that came back.
@@ -157,9 +219,5 @@ pub fn traced_entries<S: Alter>(
         (λ found t. AreTraced traces.now found.items t) }
 {
     let identity = or_unavailable(identity(conn))?;
-    let read = TracedItems {
-        dfi: identity.odfi.dfi(),
-    };
-    let traces = Vec::from_slice(alloc, traces)?;
-    read_each(conn, alloc, &read, traces)
+    each_traced(conn, alloc, identity.odfi.dfi(), traces)
 }

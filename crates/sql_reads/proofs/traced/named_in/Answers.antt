@@ -8,4 +8,6 @@ returns-in_ok-named-in-Some g c =
     let entry = read c.sent_in.ensures c.in_ok-entry.was in
     let named = read c.with_return.ensures c.in_ok-named-in-Some.was in
     answered (both entry named.so)
-    (λ t told. ap Some told.1 ∙ ap (option_map (with_return_in t)) (sym c.in-Some.is ∙ told.0))
+    (λ t told known.
+    let so = told.0 known in
+    (ap Some told.1 ∙ ap (option_map (with_return_in t)) (sym c.in-Some.is ∙ so.0), so.1))
