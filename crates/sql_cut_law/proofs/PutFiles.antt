@@ -3,7 +3,8 @@ use Rattle.std.proofs.Common.{List, [], ◌∷◌, ◌++◌, refl, subst}
 use Rattle.sql_statements.specs.Edits.{each_edit}
 use Rattle.desk_book.specs.declared.flat_rows.FileRow.{FileRow}
 use Rattle.desk_store.specs.Rows.{Rows}
-use Rattle.sql_tables.specs.KeyOrders.{file_cmp}
+use Rattle.sql_tables.specs.Description.{key_cmp}
+use Rattle.sql_tables.specs.DeskTables as the
 use Rattle.sql_tables.specs.TableEdits.{put_file_edit}
 use Rattle.sql_tables.specs.Tables.{Tables}
 use Rattle.sql_write_laws.proofs.Each.{AreOf, each_made, all_appended}
@@ -24,7 +25,7 @@ file_put f t r are told = (
     changes = are.0.changes;
     postings = are.0.postings;
     suspense = are.0.suspense;
-    files = inserted_among file_cmp f r.files t.files are.0.files;
+    files = inserted_among (key_cmp the.files) f r.files t.files are.0.files;
     taken = are.0.taken;
     numbers = are.0.numbers;
     authorizations = are.0.authorizations;

@@ -11,7 +11,7 @@ use Rattle.desk_book.specs.declared.flat_rows.SentRow.{SentRow}
 use Rattle.desk_store.specs.Rows.{CompanyRow, Rows, is_printed_of}
 use Rattle.sql_tables.specs.Beside.{AreNumbered, ArePrinted, ReturnsSettled, is_submission}
 use Rattle.sql_tables.specs.CutTables.{is_row}
-use Rattle.sql_tables.specs.Encodes.{is_return_of, is_submission_under, return_record, submission_record}
+use Rattle.sql_tables.specs.Encodes.{is_return_of, is_submission_under, return_record, submission_record, return_under}
 use Rattle.sql_tables.specs.TableEdits.{Waits}
 use Rattle.sql_tables.specs.Tables.{Tables}
 use Rattle.sql_tables.specs.declared.records.ReturnRecord.{ReturnRecord}
@@ -59,11 +59,11 @@ module _ (c : List ℕ) (o : ℕ) (rows : List CompanyRow) (orders : AreNumbered
   not_of_it index n x y made settled = false_from_ne_true _ (λ is. go is (find (is_submission_under x.company x.row.reference) rows) refl made settled)
     where
       go : is_return_of c o index y ≡ true → (z : Option CompanyRow) → find (is_submission_under x.company x.row.reference) rows ≡ z
-          → option_map (λ order. record { number = n; company = x.company; order = order; index = x.row.index; code = x.row.code; day = x.row.day; late = x.row.late; info = x.row.info }) (option_map (λ (v : CompanyRow). v.row.order) z) ≡ Some y
+          → option_map (λ order. return_under n (record x { order = order })) (option_map (λ (v : CompanyRow). v.row.order) z) ≡ Some y
           → IsSome (option_and_then (λ (v : CompanyRow). v.row.settled) z) → ⊥
       go is None found made some = cc
       go is (Some z) found made some =
-          let same : record { number = n; company = x.company; order = z.row.order; index = x.row.index; code = x.row.code; day = x.row.day; late = x.row.late; info = x.row.info } ≡ y = some_same made in
+          let same : return_under n (record x { order = z.row.order }) ≡ y = some_same made in
           let keys = pair_same y.company c y.order o (and_parts _ _ is).0 in
           let of : z.company ≡ x.company = (bytes_eq-Decides z.company x.company).0 (and_parts _ _ (found_passes (is_submission_under x.company x.row.reference) rows z found)).0 in
           let company : z.company ≡ c = of ∙ ap (λ (q : ReturnRecord). q.company) same ∙ keys.0 in

@@ -9,17 +9,16 @@ use Rattle.sqlite.specs.Table.{Table}
 use Rattle.sqlite.specs.State.{State, Executes, ExecutesIn}
 use Rattle.sql_statements.specs.Definitions.{IsCreate}
 use Rattle.sql_tables.specs.Schema.{desk_schema}
-use Rattle.sql_tables.specs.TableDefinitions.{numbers_table, authorizations_table}
 use Rattle.sql_tables.specs.DeskTables as the
-use Rattle.sql_tables.specs.Description.{create_text}
+use Rattle.sql_tables.specs.Description.{create_text, table}
 use Rattle.sql_migration.specs.FirstVersion.{first_schema}
 
 -- a text names no tree
 abbrev pub written_numbers : Table
-written_numbers = record numbers_table { tree = 0 }
+written_numbers = record (table the.sequences) { tree = 0 }
 
 abbrev pub written_authorizations : Table
-written_authorizations = record authorizations_table { tree = 0 }
+written_authorizations = record (table the.authorizations) { tree = 0 }
 
 abbrev pub numbered_schema : Schema
 numbered_schema = created first_schema written_numbers

@@ -23,7 +23,6 @@ use Rattle.sql_tables.specs.ByName as named
 use Rattle.sql_tables.specs.ByName.{described}
 use Rattle.sql_tables.specs.Description.{table}
 use Rattle.sql_tables.specs.Schema.{desk_schema}
-use Rattle.sql_tables.specs.TableDefinitions.{numbers_table}
 use Rattle.sql_tables.specs.Columns.{number}
 use Rattle.sql_tables.specs.Layout.{desk_layout}
 use Rattle.sql_tables.specs.Tables.{Tables}
@@ -41,6 +40,7 @@ use Rattle.sql_migration.specs.Migrated.{has_place, with_own_number}
 use Rattle.sql_migration.specs.Migration.{put_number_edit, number_entries_edit, number_in, seen_layout, if_seen}
 use Rattle.sql_migration.proofs.KeptSchemas.{rows_schema}
 use Rattle.sql_migration.specs.MigrationTexts.{insert_number, sent_places_text}
+use Rattle.sql_tables.specs.DeskTables as the
 
 insert_number_is : IsInsert desk_schema insert_number (place_of named.numbers) (table (described named.numbers))
 unfolding understood everything
@@ -53,7 +53,7 @@ number_put : (place : ℕ) (old new : State) (count : ℕ) → Executes insert_n
 number_put place old new count ran t h =
     let n : NumberRecord = record { sequence = place; place = place } in
     let made = one_put named.numbers puts_number n old new count ran t h in
-    holds_with named.numbers _ h made.has (numbered_in_order (λ y. y.sequence) (λ y. number y.place ∷ []) numbers_table (λ db row any. taken_first _ _ any) new.now.trees n t.numbers (h.1.stands named.numbers).rise made.has.stored made.unique)
+    holds_with named.numbers _ h made.has (numbered_in_order (λ y. y.sequence) (λ y. number y.place ∷ []) (table the.sequences) (λ db row any. taken_first _ _ any) new.now.trees n t.numbers (h.1.stands named.numbers).rise made.has.stored made.unique)
 
 -- the schema stays, whatever rows there are
 number_schema : (place : ℕ) (old new : State) (count : ℕ) → Executes insert_number (number place ∷ number place ∷ []) old new (Ok count) → old.now.schema ≡ desk_schema → new.now.schema ≡ desk_schema
@@ -62,7 +62,7 @@ number_schema place old new count ran has =
     let command = Insert 12 (Values (lit Null ∷ params_shown 2) 3) in
     let w = runs_as insert_number params old new desk_schema has command insert_number_is.is insert_number_is.plain count ran in
     let all = subst (λ s. Does old.step_limit (mode_of old) params (record old.now { schema = s }) (statement_of insert_number (understood desk_schema insert_number)) None command (Ok (w.tally, new.now))) has w.changed in
-    rows_schema (record { limit = old.step_limit; keys = Enforced; schema = desk_schema; table = numbers_table; params = params }) old command old.now.trees w.tally new.now all
+    rows_schema (record { limit = old.step_limit; keys = Enforced; schema = desk_schema; table = table the.sequences; params = params }) old command old.now.trees w.tally new.now all
 
 pub number_seen : (place : ℕ) (old new : State) (count : ℕ) → Executes insert_number (number place ∷ number place ∷ []) old new (Ok count) → (o : Option Tables) → Holds seen_layout old.now o
     → Holds seen_layout new.now ((if_seen (put_number_edit place)).after o)

@@ -25,10 +25,10 @@ use Rattle.sql_statements.proofs.Conditions.{int_is, and_true}
 use Rattle.sql_statements.specs.Statements.{IsUpdate, is_update}
 use Rattle.sql_statements.specs.StoredRows.{row_of, Stores}
 use Rattle.sql_statements.specs.Layouts.{Holds}
+use Rattle.sql_tables.specs.Description.{as_row, table}
+use Rattle.sql_tables.specs.DeskTables as the
 use Rattle.sql_tables.specs.Schema.{desk_schema}
-use Rattle.sql_tables.specs.TableDefinitions.{desk_table}
 use Rattle.sql_tables.specs.Layout.{desk_layout}
-use Rattle.sql_tables.specs.RecordRows.{desk_row}
 use Rattle.sql_tables.proofs.ByName.{each_table}
 use Rattle.sql_tables.specs.ByName as named
 use Rattle.sql_tables.specs.ByName.{Name, described, records, StandsAt}
@@ -69,26 +69,26 @@ update_version_is : IsUpdate desk_schema update_version.text 0 0 update_version.
 unfolding understood everything
 update_version_is = record { updates = refl; body = refl; alone = refl; plain = (refl, refl) }
 
-versioned_kept : (v : Versioned) → are_kept desk_table.columns (its_row v) ≡ true
+versioned_kept : (v : Versioned) → are_kept (table the.desk).columns (its_row v) ≡ true
 versioned_kept v = go v.1.day
   where
-    go : (o : Option ℕ) → are_kept desk_table.columns (its_row (v.0, record v.1 { day = o })) ≡ true
+    go : (o : Option ℕ) → are_kept (table the.desk).columns (its_row (v.0, record v.1 { day = o })) ≡ true
     go None = refl
     go (Some n) = refl
 
 pub record SetsVersion (d : DeskRecord) (old new : Database) : Type 0 where
   pub schema_is : new.schema ≡ desk_schema
   pub others : AllByRecursion (λ t. t.tree ≢ 0 → new.trees t.tree ≡ old.trees t.tree) desk_schema.tables
-  pub row : Stores desk_row (new.trees 0) (d ∷ [])
+  pub row : Stores (as_row the.desk) (new.trees 0) (d ∷ [])
 
 pub version_set : (d : DeskRecord) (old new : State) (count : ℕ) → old.now.schema ≡ desk_schema → Stores (versioned_row 1) (old.now.trees 0) (d ∷ []) → Executes update_version.text [] old new (Ok count) → SetsVersion d old.now new.now
 version_set d old new count has stored ran =
-    let s = desk_table in
+    let s = table the.desk in
     let was : Stores its_row (old.now.trees 0) ((1, d) ∷ []) = row_as (versioned_row 1) its_row (old.now.trees 0) d (1, d) refl stored in
     let done = updated its_row desk_schema 0 0 s.name s.columns s.primary s.uniques s.orders update_version.text update_version.tests update_version.sets
     update_version_is refl (λ olds news. refl) [] (λ _. true) (λ v. (2, v.1))
     (λ i v. and_true _ ∙ int_is (pos 1) (pos 1)) (λ i v. refl) (λ i v. row_kept s (Int i) (its_row v) refl (versioned_kept v)) old new count has ((1, d) ∷ []) was ran in
-    record { schema_is = done.0.schema_is; others = done.0.others; row = row_as its_row desk_row (new.now.trees 0) (2, d) d refl done.1 }
+    record { schema_is = done.0.schema_is; others = done.0.others; row = row_as its_row (as_row the.desk) (new.now.trees 0) (2, d) d refl done.1 }
 
 -- the schema stays, whatever rows there are
 pub schema_stays : (old new : State) (count : ℕ) → old.now.schema ≡ desk_schema → Executes update_version.text [] old new (Ok count) → new.now.schema ≡ desk_schema
@@ -99,8 +99,8 @@ schema_stays old new count has ran =
     run (Update place q) picks w =
         let all = subst (λ s. Does old.step_limit (mode_of old) [] (record old.now { schema = s }) (statement_of update_version.text (understood desk_schema update_version.text)) None (Update place q) (Ok (w.tally, new.now))) has w.changed in
         let here : place ≡ 0 = sym (eqb-true 0 place picks) in
-        let listed : slice_get desk_schema.tables place ≡ Some desk_table = rw here refl in
-        rows_schema (record { limit = old.step_limit; keys = Enforced; schema = desk_schema; table = desk_table; params = [] }) old (Update place q) old.now.trees w.tally new.now (rw listed at all)
+        let listed : slice_get desk_schema.tables place ≡ Some (table the.desk) = rw here refl in
+        rows_schema (record { limit = old.step_limit; keys = Enforced; schema = desk_schema; table = table the.desk; params = [] }) old (Update place q) old.now.trees w.tally new.now (rw listed at all)
     run _ picks w = absurd (true≢false (sym picks))
 
 -- ---- all tables

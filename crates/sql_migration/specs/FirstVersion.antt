@@ -9,11 +9,10 @@ use Rattle.sql_statements.specs.Layouts.{Layout}
 use Rattle.desk_book.specs.Book.{Book}
 use Rattle.desk_book.specs.Unauthorized.{AuthorizesNothing}
 use Rattle.desk_store.specs.Rows.{Rows, flat_book}
-use Rattle.sql_tables.specs.TableDefinitions.{desk_table, holidays_table, companies_table, submissions_table, entries_table, returns_table, changes_table, postings_table, suspense_table, files_table, taken_table, balances_table}
 use Rattle.sql_tables.specs.Beside.{Beside}
+use Rattle.sql_tables.specs.Description.{as_row, key_cmp, table}
+use Rattle.sql_tables.specs.DeskTables as the
 use Rattle.sql_tables.specs.Encodes.{Encodes}
-use Rattle.sql_tables.specs.KeyOrders.{company_cmp, submission_cmp, entry_cmp, file_cmp, taken_cmp, balance_cmp}
-use Rattle.sql_tables.specs.RecordRows.{holiday_row, company_row, submission_row, entry_row, return_row, change_row, posting_row, suspense_row, file_row, taken_row, balance_row}
 use Rattle.sql_tables.specs.Tables.{Tables, IsTableOf}
 use Rattle.sql_tables.specs.declared.records.AuthorizationRecord.{AuthorizationRecord}
 use Rattle.sql_tables.specs.declared.records.NumberRecord.{NumberRecord}
@@ -24,18 +23,18 @@ first_version = 1
 
 -- The trees store these records, but for the tables that version 1 has not.
 pub record IsFirstStored (trees : Trees) (t : Tables) : Type 0 where
-  pub desk : Stores (versioned_row first_version) (trees desk_table.tree) (t.desk ∷ [])
-  pub holidays : IsTableOf trees holidays_table holiday_row nat_cmp t.holidays
-  pub companies : IsTableOf trees companies_table company_row company_cmp t.companies
-  pub submissions : IsTableOf trees submissions_table submission_row submission_cmp t.submissions
-  pub entries : IsTableOf trees entries_table entry_row entry_cmp t.entries
-  pub returns : IsTableOf trees returns_table return_row (on (λ r. r.number) nat_cmp) t.returns
-  pub changes : IsTableOf trees changes_table change_row (on (λ c. c.number) nat_cmp) t.changes
-  pub postings : IsTableOf trees postings_table posting_row (on (λ p. p.number) nat_cmp) t.postings
-  pub suspense : IsTableOf trees suspense_table suspense_row (on (λ s. s.number) nat_cmp) t.suspense
-  pub files : IsTableOf trees files_table file_row file_cmp t.files
-  pub taken : IsTableOf trees taken_table taken_row taken_cmp t.taken
-  pub balances : IsTableOf trees balances_table balance_row balance_cmp t.balances
+  pub desk : Stores (versioned_row first_version) (trees (table the.desk).tree) (t.desk ∷ [])
+  pub holidays : IsTableOf trees (table the.holidays) (as_row the.holidays) nat_cmp t.holidays
+  pub companies : IsTableOf trees (table the.companies) (as_row the.companies) (key_cmp the.companies) t.companies
+  pub submissions : IsTableOf trees (table the.submissions) (as_row the.submissions) (key_cmp the.submissions) t.submissions
+  pub entries : IsTableOf trees (table the.entries) (as_row the.entries) (key_cmp the.entries) t.entries
+  pub returns : IsTableOf trees (table the.returns) (as_row the.returns) (on (λ r. r.number) nat_cmp) t.returns
+  pub changes : IsTableOf trees (table the.changes) (as_row the.changes) (on (λ c. c.number) nat_cmp) t.changes
+  pub postings : IsTableOf trees (table the.postings) (as_row the.postings) (on (λ p. p.number) nat_cmp) t.postings
+  pub suspense : IsTableOf trees (table the.suspense) (as_row the.suspense) (on (λ s. s.number) nat_cmp) t.suspense
+  pub files : IsTableOf trees (table the.files) (as_row the.files) (key_cmp the.files) t.files
+  pub taken : IsTableOf trees (table the.taken) (as_row the.taken) (key_cmp the.taken) t.taken
+  pub balances : IsTableOf trees (table the.balances) (as_row the.balances) (key_cmp the.balances) t.balances
   pub numbers : t.numbers ≡ []
   pub authorizations : t.authorizations ≡ []
 

@@ -10,9 +10,9 @@ use Rattle.sql_statements.proofs.Sums.{summed}
 use Rattle.sql_statements.specs.Statements.{column_is, at_least, at_most, columns}
 use Rattle.sql_tables.specs.ByName as named
 use Rattle.sql_tables.specs.Columns.{number}
-use Rattle.sql_tables.specs.RecordRows.{entry_row}
+use Rattle.sql_tables.specs.Description.{as_row, table}
+use Rattle.sql_tables.specs.DeskTables as the
 use Rattle.sql_tables.specs.Schema.{desk_schema}
-use Rattle.sql_tables.specs.TableDefinitions.{entries_table}
 use Rattle.sql_tables.specs.declared.records.EntryRecord.{EntryRecord}
 use Rattle.sql_tables.specs.QueryRows.{entry_amount_row, numbered_entry_row, placed_entry_row}
 use Rattle.sql_tables.specs.Selected.{amount_of, numbered_of, placed_of}
@@ -43,7 +43,7 @@ pub cents_shown : (c : List ℕ) (order : ℕ) → ShowsFirst questions.cents.te
 cents_shown c order = record {
   row = λ t old new h rows seen.
       ap (λ (l : List Row). slice_get l 0)
-      (summed entry_row entries_table.tree (column_is 1 0 ∷ column_is 2 1 ∷ []) 8 (Text c ∷ number order ∷ []) (is_entry_of c order) (λ e. pos e.entry.cents)
+      (summed (as_row the.entries) (table the.entries).tree (column_is 1 0 ∷ column_is 2 1 ∷ []) 8 (Text c ∷ number order ∷ []) (is_entry_of c order) (λ e. pos e.entry.cents)
       (λ i e. two (text_is e.company c) (number_is e.order order)) (λ i e. refl) desk_schema questions.cents.text cents_is.asks old new h.0 t.entries (h.1.stands named.entries).stored rows seen)
       ∙ ap (λ z. Some (Int z ∷ [])) (whole_sum (filter (is_entry_of c order) t.entries));
 }

@@ -22,9 +22,10 @@ use Rattle.desk_rules.specs.declared.bodies.submission.Direction.TheVariants as 
 use Rattle.desk_rules.specs.declared.bodies.submission.Entry.{Entry}
 use Rattle.desk_rules.specs.declared.bodies.submission.SecCode.{SecCode}
 use Rattle.desk_rules.specs.declared.bodies.submission.SecCode.TheVariants as secs
-use Rattle.sql_tables.specs.Columns.{number, flag, letter, line_reference, direction_text, cause_text, reason_text}
+use Rattle.sql_tables.specs.Columns.{number, flag, letter, line_reference, direction_text, cause_text, reason_text, entry_columns}
+use Rattle.sql_tables.specs.Description.{as_row}
+use Rattle.sql_tables.specs.DeskTables as the
 use Rattle.sql_tables.specs.QueryRows.{keyed_identity_row, submission_head_row, submission_facts_row, order_and_settlement_row, entry_amount_row, numbered_entry_row, placed_entry_row, entry_return_row, return_line_row, change_line_row, posting_line_row, suspense_line_row}
-use Rattle.sql_tables.specs.RecordRows.{company_row, taken_row, number_row, entry_columns}
 use Rattle.sql_tables.specs.declared.row.items.EntryReturn.{EntryReturn}
 use Rattle.sql_tables.specs.declared.row.items.ReturnLine.{ReturnLine}
 use Rattle.sql_tables.specs.declared.row.lines.PostingLine.{PostingLine}
@@ -169,9 +170,9 @@ keyed_identity_rows =
     })
     (λ d. refl)
 
-pub company_rows : IsInjective company_row
+pub company_rows : IsInjective (as_row the.companies)
 company_rows =
-    read_back company_row
+    read_back (as_row the.companies)
     (λ r. record {
       id = text_in (column r 0);
       name = text_in (column r 1);
@@ -298,8 +299,8 @@ taken_in r = record {
   answer = record { day = number_in (column r 2); returns = number_in (column r 3); changes = number_in (column r 4); late = number_in (column r 5); suspense = number_in (column r 6) };
 }
 
-pub taken_rows : IsInjective taken_row
-taken_rows = read_back taken_row taken_in (λ t. refl)
+pub taken_rows : IsInjective (as_row the.taken)
+taken_rows = read_back (as_row the.taken) taken_in (λ t. refl)
 
-pub number_rows : IsInjective number_row
-number_rows = read_back number_row (λ r. record { sequence = number_in (column r 0); place = number_in (column r 1) }) (λ n. refl)
+pub number_rows : IsInjective (as_row the.sequences)
+number_rows = read_back (as_row the.sequences) (λ r. record { sequence = number_in (column r 0); place = number_in (column r 1) }) (λ n. refl)

@@ -16,11 +16,11 @@ use Rattle.sql_statements.specs.Statements.{IsSelect, query_within, column_is, c
 use Rattle.sql_statements.specs.StoredRows.{row_of}
 use Rattle.sql_statements.specs.Findings.{Finds}
 use Rattle.sql_tables.specs.ByName as named
+use Rattle.sql_tables.specs.Description.{as_row, table}
+use Rattle.sql_tables.specs.DeskTables as the
 use Rattle.sql_tables.specs.Schema.{desk_schema}
-use Rattle.sql_tables.specs.TableDefinitions.{submissions_table, numbers_table}
 use Rattle.sql_tables.specs.Columns.{number}
 use Rattle.sql_tables.specs.Layout.{desk_layout}
-use Rattle.sql_tables.specs.RecordRows.{submission_row, number_row}
 use Rattle.sql_tables.specs.TableReads.{number_of_last, is_of, last_order, IsLastNumber}
 use Rattle.sql_tables.specs.declared.records.NumberRecord.{NumberRecord}
 use Rattle.sql_queries.proofs.Conditions.{one}
@@ -52,7 +52,7 @@ pub last_order_shown : (c : List ℕ) → ShowsFirst questions.last_order.text (
 last_order_shown c = record {
   row = λ t old new h rows seen.
       first_taken (λ n. number n ∷ []) (λ s. s.head.order) (reverse (filter (is_of c) t.submissions)) rows
-      (last_selected submission_row submissions_table.tree (column_is 1 0 ∷ []) (places (2 ∷ [])) (falling 1 ∷ falling 2 ∷ []) (Text c ∷ []) (is_of c) (λ s. number s.head.order ∷ []) (λ s. Text s.head.company ∷ number s.head.order ∷ [])
+      (last_selected (as_row the.submissions) (table the.submissions).tree (column_is 1 0 ∷ []) (places (2 ∷ [])) (falling 1 ∷ falling 2 ∷ []) (Text c ∷ []) (is_of c) (λ s. number s.head.order ∷ []) (λ s. Text s.head.company ∷ number s.head.order ∷ [])
       (λ i s. one (text_is s.head.company c)) (λ i s. refl) (λ i s. refl) desk_schema questions.last_order.text last_order_is.asks old new h.0 t.submissions (h.1.stands named.submissions).stored
       (ascending_weaker _ _ (λ x y less. by_falling_text_then_number x.head.company y.head.company x.head.order y.head.order ∙ less) t.submissions (h.1.stands named.submissions).rise) rows seen
       ∙ ap (λ l. map (λ s. number s.head.order ∷ []) (take 1 l)) (passing_backwards (is_of c) t.submissions));
@@ -63,17 +63,17 @@ last_order_found {c} read is =
     let found = first_found _ number_columns (last_order_shown c) read in
     record { was_open = found.was_open; told = λ t h. sym is ∙ ap (λ o. unwrap_or o 0) (found.told t h) }
 
-pub last_number_found : {old new : State} {x : Option NumberRecord} → ReadsFirst questions.last_number.text [] number_row old new x → Finds desk_layout (IsLastNumber x) old
+pub last_number_found : {old new : State} {x : Option NumberRecord} → ReadsFirst questions.last_number.text [] (as_row the.sequences) old new x → Finds desk_layout (IsLastNumber x) old
 last_number_found {old} {new} {x} read = record {
   was_open = read.was_open;
   told = λ t h by_place same up.
-      same_option number_row number_rows x (slice_get (reverse by_place) 0)
-      (read.is ∙ first_taken number_row (λ n. n) (reverse by_place) read.rows
-      (last_selected number_row numbers_table.tree [] (columns 2) (falling 2 ∷ []) [] (λ _. true) number_row (λ n. number n.place ∷ []) (λ i n. refl) (λ i n. refl) (λ i n. refl) desk_schema questions.last_number.text last_number_is.asks old new h.0 by_place
-      (stores_in number_row (old.now.trees numbers_table.tree) t.numbers by_place same (h.1.stands named.numbers).stored)
+      same_option (as_row the.sequences) number_rows x (slice_get (reverse by_place) 0)
+      (read.is ∙ first_taken (as_row the.sequences) (λ n. n) (reverse by_place) read.rows
+      (last_selected (as_row the.sequences) (table the.sequences).tree [] (columns 2) (falling 2 ∷ []) [] (λ _. true) (as_row the.sequences) (λ n. number n.place ∷ []) (λ i n. refl) (λ i n. refl) (λ i n. refl) desk_schema questions.last_number.text last_number_is.asks old new h.0 by_place
+      (stores_in (as_row the.sequences) (old.now.trees (table the.sequences).tree) t.numbers by_place same (h.1.stands named.numbers).stored)
       (ascending_weaker _ _ (λ a b less. by_falling_number a.place b.place ∙ less) by_place up) read.rows read.shown
-      ∙ ap (λ l. map number_row (take 1 l)) (all_pass (backwards by_place) ∙ backwards_is by_place))
-      ∙ ap (option_map number_row) (itself (slice_get (reverse by_place) 0)));
+      ∙ ap (λ l. map (as_row the.sequences) (take 1 l)) (all_pass (backwards by_place) ∙ backwards_is by_place))
+      ∙ ap (option_map (as_row the.sequences)) (itself (slice_get (reverse by_place) 0)));
 }
 
 -- the last number of a table that stands in the order of its numbers

@@ -14,6 +14,8 @@ use Rattle.desk_accounts.specs.declared.account.Account.{Account}
 use Rattle.desk_accounts.specs.declared.account.Account.TheVariants as accounts
 use Rattle.desk_accounts.specs.declared.posting.Posting.{Posting}
 use Rattle.sql_tables.specs.Beside.{is_balance_of}
+use Rattle.sql_tables.specs.Description.{as_row}
+use Rattle.sql_tables.specs.DeskTables as the
 use Rattle.sql_tables.specs.Layout.{desk_layout}
 use Rattle.sql_tables.specs.QueryRows.{day_sum_row, posting_line_row}
 use Rattle.sql_tables.specs.Selected.{day_sum_of, posting_line_of}
@@ -21,7 +23,6 @@ use Rattle.sql_tables.specs.declared.records.PostingRecord.{PostingRecord}
 use Rattle.sql_tables.specs.declared.row.lines.PostingLine.{PostingLine}
 use Rattle.sql_queries.specs.Postings.{posting_of}
 use Rattle.sql_tables.specs.Columns.{number, letter, account_text, decimal_text}
-use Rattle.sql_tables.specs.RecordRows.{taken_row}
 use Rattle.sql_tables.specs.TableReads.{lines_in, sums_in, sum_in, modifiers_in, text_in, taken_in}
 use Rattle.sql_queries.proofs.Conditions.{one, two, number_is, letter_is}
 use Rattle.sql_queries.proofs.Listings.{files, taken, balances, postings}
@@ -39,10 +40,10 @@ file_shown day modifier =
     first_selected files questions.file.text (column_is 1 0 ∷ column_is 2 1 ∷ []) (places (3 ∷ [])) (number day ∷ letter modifier ∷ []) (is_file day modifier) (λ f. f.text) (λ text. Blob text ∷ [])
     file_is.asks (λ i f. two (number_is f.day day) (letter_is f.modifier modifier)) (λ i f. refl)
 
-pub taken_shown : (key : List ℕ) → ShowsFirst questions.taken.text (Text key ∷ []) taken_row (taken_in key)
+pub taken_shown : (key : List ℕ) → ShowsFirst questions.taken.text (Text key ∷ []) (as_row the.taken) (taken_in key)
 taken_shown key =
-    subst (ShowsFirst questions.taken.text (Text key ∷ []) taken_row) (λ i t. itself (taken_in key t) i)
-    (first_selected taken questions.taken.text (column_is 1 0 ∷ []) (columns 7) (Text key ∷ []) (has_key key) (λ f. f) taken_row taken_is.asks (λ i f. one (text_is f.key key)) (λ i f. refl))
+    subst (ShowsFirst questions.taken.text (Text key ∷ []) (as_row the.taken)) (λ i t. itself (taken_in key t) i)
+    (first_selected taken questions.taken.text (column_is 1 0 ∷ []) (columns 7) (Text key ∷ []) (has_key key) (λ f. f) (as_row the.taken) taken_is.asks (λ i f. one (text_is f.key key)) (λ i f. refl))
 
 -- an account has a text of its own
 pub accounts_are : (a b : Account) → bytes_eq (account_text a) (account_text b) ≡ same_account a b

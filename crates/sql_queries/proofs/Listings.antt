@@ -12,7 +12,7 @@ use Rattle.sql_statements.specs.StoredRows.{row_of}
 use Rattle.sql_tables.specs.Columns.{number, letter, account_text}
 use Rattle.sql_tables.specs.ByName.{Name, Of, described, records, IsStored}
 use Rattle.sql_tables.specs.ByName as named
-use Rattle.sql_tables.specs.Description.{row, table, key_cmp}
+use Rattle.sql_tables.specs.Description.{as_row, table, key_cmp}
 use Rattle.sql_tables.specs.Tables.{Tables, IsTableOf}
 use Rattle.sql_queries.proofs.Keys.{by_text, by_number, by_number_then_letter, by_text_then_number, by_text_then_numbers}
 
@@ -30,11 +30,11 @@ pub record Listing (X : Type 0) : Type 0 where
 
 -- the table of a name
 abbrev listing : (n : Name) (order : List (Term × Key)) (sort : Of n → Row)
-    → ((params : Row) (i : ℤ) (x : Of n) → eval_all (map (λ k. k.0) order) (params ∷ row_of (row (described n)) (i, x) ∷ []) ≡ sort x)
+    → ((params : Row) (i : ℤ) (x : Of n) → eval_all (map (λ k. k.0) order) (params ∷ row_of (as_row (described n)) (i, x) ∷ []) ≡ sort x)
     → ((x y : Of n) → by_keys 0 (map (λ k. k.1) order) (sort x) (sort y) ≡ key_cmp (described n) x y) → Listing (Of n)
 listing n order sort sorts compares = record {
   table = table (described n);
-  encode = row (described n);
+  encode = as_row (described n);
   cmp = key_cmp (described n);
   records = records n;
   stored = λ trees t h. h.stands n;

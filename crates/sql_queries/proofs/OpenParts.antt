@@ -10,8 +10,10 @@ use Rattle.sqlite_keyed.proofs.SortLemmas.{sorted_unique}
 use Rattle.sqlite.specs.State.{State}
 use Rattle.sql_statements.specs.Findings.{Finds}
 use Rattle.sql_tables.specs.ByName as named
+use Rattle.sql_tables.specs.Description.{key_cmp}
+use Rattle.sql_tables.specs.DeskTables as the
 use Rattle.sql_tables.specs.Layout.{desk_layout}
-use Rattle.sql_tables.specs.KeyOrders.{submission_cmp, IsInOrder}
+use Rattle.sql_tables.specs.KeyOrders.{IsInOrder}
 use Rattle.sql_tables.specs.Selected.{head_of}
 use Rattle.sql_tables.specs.TableReads.{heads_in, is_of, is_open_of, is_since, is_waiting, is_waiting_of}
 use Rattle.sql_tables.specs.declared.records.SubmissionRecord.{SubmissionRecord}
@@ -46,7 +48,7 @@ open_parts c since subs =
     subst (IsPermutation (filter (is_open_of c since) subs)) (λ i. waiting i ++ settled i) (IsPermutation-filter_both is_waiting (λ s. not (is_waiting s)) (λ s. refl) (filter (is_open_of c since) subs))
 
 -- both, put in their order
-pub open_joined : (c : List ℕ) (since : ℕ) (subs : List SubmissionRecord) → IsInOrder submission_cmp subs → (all : List SubmissionHead)
+pub open_joined : (c : List ℕ) (since : ℕ) (subs : List SubmissionRecord) → IsInOrder (key_cmp the.submissions) subs → (all : List SubmissionHead)
     → IsPermutation (map head_of (filter (is_waiting_of c) subs) ++ map head_of (filter (is_settled_of c since) subs)) all → IsSorted by_head_order all → all ≡ map head_of (filter (is_open_of c since) subs)
 open_joined c since subs up all same sorted =
     sorted_unique by_head_order (on_total (λ (s : SubmissionHead). s.order) nat_cmp_total) (map head_of (filter (is_open_of c since) subs)) all

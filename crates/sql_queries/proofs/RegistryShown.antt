@@ -8,8 +8,9 @@ use Rattle.sql_statements.specs.Statements as sql
 use Rattle.std.proofs.Common.{pos}
 use Rattle.desk_history.specs.Operator.{has_id}
 use Rattle.sql_tables.specs.Columns.{number}
+use Rattle.sql_tables.specs.Description.{as_row}
+use Rattle.sql_tables.specs.DeskTables as the
 use Rattle.sql_tables.specs.QueryRows.{keyed_identity_row}
-use Rattle.sql_tables.specs.RecordRows.{company_row, holiday_row}
 use Rattle.sql_tables.specs.Selected.{keyed_identity_of}
 use Rattle.sql_tables.specs.TableReads.{company_in}
 use Rattle.sql_queries.proofs.Conditions.{one, number_is}
@@ -25,17 +26,17 @@ keyed_identity_shown = first_selected desk questions.keyed_identity.text (sql.nu
 pub day_shown : ShowsFirst questions.day.text [] (λ day. or_null number day ∷ []) (λ t. Some t.desk.day)
 day_shown = first_selected desk questions.day.text (sql.number_is 1 (pos 1) ∷ []) (places (8 ∷ [])) [] (λ _. true) (λ d. d.day) (λ day. or_null number day ∷ []) day_is.asks (λ i d. one (number_is 1 1)) (λ i d. refl)
 
-pub company_shown : (id : List ℕ) → ShowsFirst questions.company.text (Text id ∷ []) company_row (company_in id)
+pub company_shown : (id : List ℕ) → ShowsFirst questions.company.text (Text id ∷ []) (as_row the.companies) (company_in id)
 company_shown id =
-    subst (ShowsFirst questions.company.text (Text id ∷ []) company_row) (λ i t. itself (company_in id t) i)
-    (first_selected companies questions.company.text (column_is 1 0 ∷ []) (columns 6) (Text id ∷ []) (has_id id) (λ k. k) company_row company_is.asks (λ i k. one (text_is k.id id)) (λ i k. refl))
+    subst (ShowsFirst questions.company.text (Text id ∷ []) (as_row the.companies)) (λ i t. itself (company_in id t) i)
+    (first_selected companies questions.company.text (column_is 1 0 ∷ []) (columns 6) (Text id ∷ []) (has_id id) (λ k. k) (as_row the.companies) company_is.asks (λ i k. one (text_is k.id id)) (λ i k. refl))
 
-pub companies_shown : ShowsAll questions.companies.text [] company_row (λ t. t.companies)
+pub companies_shown : ShowsAll questions.companies.text [] (as_row the.companies) (λ t. t.companies)
 companies_shown =
-    subst (ShowsAll questions.companies.text [] company_row) (λ i t. (each_itself (filter (λ _. true) t.companies) ∙ all_pass t.companies) i)
-    (all_selected companies questions.companies.text [] (columns 6) [] (λ _. true) (λ k. k) company_row companies_is.asks (λ i k. refl) (λ i k. refl))
+    subst (ShowsAll questions.companies.text [] (as_row the.companies)) (λ i t. (each_itself (filter (λ _. true) t.companies) ∙ all_pass t.companies) i)
+    (all_selected companies questions.companies.text [] (columns 6) [] (λ _. true) (λ k. k) (as_row the.companies) companies_is.asks (λ i k. refl) (λ i k. refl))
 
-pub holidays_shown : ShowsAll questions.holidays.text [] holiday_row (λ t. t.holidays)
+pub holidays_shown : ShowsAll questions.holidays.text [] (as_row the.holidays) (λ t. t.holidays)
 holidays_shown =
-    subst (ShowsAll questions.holidays.text [] holiday_row) (λ i t. (each_itself (filter (λ _. true) t.holidays) ∙ all_pass t.holidays) i)
-    (all_selected holidays questions.holidays.text [] (columns 1) [] (λ _. true) (λ d. d) holiday_row holidays_is.asks (λ i d. refl) (λ i d. refl))
+    subst (ShowsAll questions.holidays.text [] (as_row the.holidays)) (λ i t. (each_itself (filter (λ _. true) t.holidays) ∙ all_pass t.holidays) i)
+    (all_selected holidays questions.holidays.text [] (columns 1) [] (λ _. true) (λ d. d) (as_row the.holidays) holidays_is.asks (λ i d. refl) (λ i d. refl))

@@ -13,7 +13,7 @@ use Rattle.sqlite_keyed.proofs.ListLemmas.{filter-map, map-map, ascending-map, a
 use Rattle.sqlite_keyed.proofs.SortLemmas.{IsPermutation-sort_by, sorted_unique}
 use Rattle.sqlite_keyed.specs.Lists.{sort_by}
 use Rattle.sqlite_sql.proofs.QueryLemmas.{output_cmp_total}
-use Rattle.sqlite_sql.specs.Query.{key_cmp}
+use Rattle.sqlite_sql.specs.Query.{key_cmp as by_keys}
 use Rattle.sqlite_sql.specs.Term.{Term}
 use Rattle.sqlite_value.proofs.OrderLemmas.{value_cmp-Null, value_cmp-apart}
 use Rattle.sqlite_value.specs.declared.keys.Key.{Key}
@@ -25,13 +25,13 @@ use Rattle.sql_statements.proofs.StoredRows.{stores_in}
 use Rattle.sql_statements.specs.Statements.{query_from, column_is, columns, by}
 use Rattle.sql_statements.specs.Findings.{Finds}
 use Rattle.sql_tables.specs.ByName as named
+use Rattle.sql_tables.specs.Description.{as_row, key_cmp, table}
+use Rattle.sql_tables.specs.DeskTables as the
 use Rattle.sql_tables.specs.Schema.{desk_schema}
-use Rattle.sql_tables.specs.TableDefinitions.{submissions_table}
 use Rattle.sql_tables.specs.Columns.{number, flag}
-use Rattle.sql_tables.specs.KeyOrders.{text_cmp, submission_cmp, IsInOrder}
+use Rattle.sql_tables.specs.KeyOrders.{text_cmp, IsInOrder}
 use Rattle.sql_tables.specs.Layout.{desk_layout}
 use Rattle.sql_tables.specs.QueryRows.{submission_head_row}
-use Rattle.sql_tables.specs.RecordRows.{submission_row}
 use Rattle.sql_tables.specs.Selected.{head_of}
 use Rattle.sql_tables.specs.TableReads.{is_of, is_waiting, is_waiting_of, heads_in}
 use Rattle.sql_tables.specs.declared.records.SubmissionRecord.{SubmissionRecord}
@@ -55,7 +55,7 @@ abbrev sort : SubmissionRecord → Row
 sort s = Text s.head.company ∷ or_null number s.head.settled ∷ flag s.head.lapsed ∷ number s.head.order ∷ []
 
 abbrev waiting_cmp : SubmissionRecord → SubmissionRecord → Ordering
-waiting_cmp a b = key_cmp 0 (map (λ k. k.1) order) (sort a) (sort b)
+waiting_cmp a b = by_keys 0 (map (λ k. k.1) order) (sort a) (sort b)
 
 waiting_cmp_total : IsTotalOrder waiting_cmp
 waiting_cmp_total = on_total (λ s. (sort s, [])) (output_cmp_total (query_from 6 (column_is 1 0 ∷ []) (columns 11) order))
@@ -78,7 +78,7 @@ untied Equal Equal Equal n less = ap is_eq less
 abbrev by_waiting : List SubmissionRecord → List SubmissionRecord
 by_waiting = sort_by waiting_cmp
 
-waiting_rise : (subs : List SubmissionRecord) → IsInOrder submission_cmp subs → IsInOrder waiting_cmp (by_waiting subs)
+waiting_rise : (subs : List SubmissionRecord) → IsInOrder (key_cmp the.submissions) subs → IsInOrder waiting_cmp (by_waiting subs)
 waiting_rise subs up =
     sorts_rise waiting_cmp waiting_cmp_total subs (ascending_weaker _ (λ a b. is_eq (waiting_cmp a b) ≡ false) (λ a b less. ap is_eq (compares a b) ∙ untied (text_cmp a.head.company b.head.company) _ _ (nat_cmp a.head.order b.head.order) less) subs up)
 
@@ -96,7 +96,7 @@ less_within c a b p q less = sym (compares a b ∙ ap (λ o. ordering_then o (wi
 abbrev pub by_order : SubmissionRecord → SubmissionRecord → Ordering
 by_order = on (λ s. s.head.order) nat_cmp
 
-pub rise_by_order : (c : List ℕ) (p : SubmissionRecord → Bool) → ((s : SubmissionRecord) → p s ≡ true → is_of c s ≡ true) → (subs : List SubmissionRecord) → IsInOrder submission_cmp subs → IsInOrder by_order (filter p subs)
+pub rise_by_order : (c : List ℕ) (p : SubmissionRecord → Bool) → ((s : SubmissionRecord) → p s ≡ true → is_of c s ≡ true) → (subs : List SubmissionRecord) → IsInOrder (key_cmp the.submissions) subs → IsInOrder by_order (filter p subs)
 rise_by_order c p are subs up =
     ascending_passing p _ _ (λ a b m n less. sym (ap (λ o. ordering_then o (nat_cmp a.head.order b.head.order)) (same_company c a b (are a m) (are b n))) ∙ less) subs up
 
@@ -119,7 +119,7 @@ waits_before (Some d) None f false n less waits =
     absurd cc
 
 -- those that wait are in their order
-same_waiting : (c : List ℕ) (subs : List SubmissionRecord) → IsInOrder submission_cmp subs → filter (is_waiting_of c) (by_waiting subs) ≡ filter (is_waiting_of c) subs
+same_waiting : (c : List ℕ) (subs : List SubmissionRecord) → IsInOrder (key_cmp the.submissions) subs → filter (is_waiting_of c) (by_waiting subs) ≡ filter (is_waiting_of c) subs
 same_waiting c subs up =
     let total = on_total (λ (s : SubmissionRecord). s.head.order) nat_cmp_total in
     let rises : IsInOrder by_order (filter (is_waiting_of c) (by_waiting subs)) =
@@ -133,7 +133,7 @@ same_waiting c subs up =
     (IsPermutation-filter (is_waiting_of c) _ _ (IsPermutation-sym _ _ (IsPermutation-sort_by waiting_cmp waiting_cmp_total subs)))
     (sorted_from_ascending by_order total _ (ascending_weaker _ (λ a b. is_gt (by_order a b) ≡ false) (λ a b less. ap is_gt less) _ rises))
 
-waiting_first : (c : List ℕ) (subs : List SubmissionRecord) → IsInOrder submission_cmp subs → take_while waits (map head_of (filter (is_of c) (by_waiting subs))) ≡ map head_of (filter (is_waiting_of c) subs)
+waiting_first : (c : List ℕ) (subs : List SubmissionRecord) → IsInOrder (key_cmp the.submissions) subs → take_while waits (map head_of (filter (is_of c) (by_waiting subs))) ≡ map head_of (filter (is_waiting_of c) subs)
 waiting_first c subs up =
     while_all waits _
     (ascending-map (λ a b. waits b ≡ true → waits a ≡ true) head_of _
@@ -146,11 +146,11 @@ waiting_first c subs up =
 by_waiting_shown : (c : List ℕ) → ShowsAll questions.waiting_submissions.text (Text c ∷ []) submission_head_row (λ t. map head_of (filter (is_of c) (by_waiting t.submissions)))
 by_waiting_shown c = record {
   rows = λ t old new h rows seen.
-      let table = (h.1.stands named.submissions) in
-      selected submission_row submissions_table.tree (column_is 1 0 ∷ []) (columns 11) order (Text c ∷ []) (is_of c) (λ s. submission_head_row (head_of s)) sort
+      let stands = h.1.stands named.submissions in
+      selected (as_row the.submissions) (table the.submissions).tree (column_is 1 0 ∷ []) (columns 11) order (Text c ∷ []) (is_of c) (λ s. submission_head_row (head_of s)) sort
       (λ i s. one (text_is s.head.company c)) (λ i s. refl) (λ i s. refl) desk_schema questions.waiting_submissions.text waiting_submissions_is.asks old new h.0 (by_waiting t.submissions)
-      (stores_in submission_row _ t.submissions _ (IsPermutation-sym _ _ (IsPermutation-sort_by waiting_cmp waiting_cmp_total t.submissions)) table.stored)
-      (waiting_rise t.submissions table.rise) rows seen
+      (stores_in (as_row the.submissions) _ t.submissions _ (IsPermutation-sym _ _ (IsPermutation-sort_by waiting_cmp waiting_cmp_total t.submissions)) stands.stored)
+      (waiting_rise t.submissions stands.rise) rows seen
       ∙ sym (map-map submission_head_row head_of _);
 }
 

@@ -17,8 +17,10 @@ use Rattle.desk_book.specs.Reads.{submission, submission_count, open_rows_of, re
 use Rattle.desk_book.specs.Standing.{is_row_under, row_under}
 use Rattle.desk_store.specs.Rows.{CompanyRow, Rows, flat_book}
 use Rattle.sql_tables.specs.Beside.{AreNumbered, orders_of}
+use Rattle.sql_tables.specs.Description.{key_cmp}
+use Rattle.sql_tables.specs.DeskTables as the
 use Rattle.sql_tables.specs.Encodes.{Encodes, HasStates, submission_record, retried_entry, unless_lapsed, settled_state, entry_state, is_return_of, is_submission_under}
-use Rattle.sql_tables.specs.KeyOrders.{IsInOrder, submission_cmp}
+use Rattle.sql_tables.specs.KeyOrders.{IsInOrder}
 use Rattle.sql_tables.specs.TableReads.{number_of_last, rows_in, row_under_in, is_of, is_under, is_open_of, is_retry_of, is_since, tries, last_order}
 use Rattle.sql_tables.specs.Tables.{Tables}
 use Rattle.sql_tables.specs.declared.records.ReturnRecord.{ReturnRecord}
@@ -75,7 +77,7 @@ same_tries : (of : List ℕ) (index : ℕ) (retry : Option Retry) → tries of i
 same_tries of index None = refl
 same_tries of index (Some r) = refl
 
-module _ (t : Tables) (r : Rows) (e : Encodes t r) (rise : IsInOrder submission_cmp t.submissions) (c : List ℕ) where
+module _ (t : Tables) (r : Rows) (e : Encodes t r) (rise : IsInOrder (key_cmp the.submissions) t.submissions) (c : List ℕ) where
   pub entries_found : rows_in (is_of c) t ≡ (flat_book r).rows c
   entries_found = rows_found t r e rise (is_of c)
 

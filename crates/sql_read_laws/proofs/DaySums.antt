@@ -18,7 +18,9 @@ use Rattle.desk_accounts.specs.Laws.{BalancesByDay}
 use Rattle.desk_accounts.specs.Posting.{same_account}
 use Rattle.sql_tables.specs.Beside.{AreSums, sum_if_any, balance_of}
 use Rattle.sql_tables.specs.Columns.{account_text}
-use Rattle.sql_tables.specs.KeyOrders.{IsInOrder, balance_cmp, text_cmp}
+use Rattle.sql_tables.specs.Description.{key_cmp}
+use Rattle.sql_tables.specs.DeskTables as the
+use Rattle.sql_tables.specs.KeyOrders.{IsInOrder, text_cmp}
 use Rattle.sql_tables.specs.Selected.{day_sum_of}
 use Rattle.sql_tables.specs.declared.records.BalanceRecord.{BalanceRecord}
 use Rattle.desk_history.specs.declared.operations.DaySum.{DaySum}
@@ -157,18 +159,18 @@ module _ (account : Account) where
   is_its b = same_account b.account account
 
   -- what passes in a key's order stands in the order of what is left of the key
-  days_rise : (balances : List BalanceRecord) → IsInOrder balance_cmp balances → IsAscending (λ a b. a.value_day < b.value_day) (filter is_its balances)
+  days_rise : (balances : List BalanceRecord) → IsInOrder (key_cmp the.balances) balances → IsAscending (λ a b. a.value_day < b.value_day) (filter is_its balances)
   days_rise [] up = tt
   days_rise (b ∷ balances) up = go (is_its b) refl (days_rise balances up.1)
     where
-      below : is_its b ≡ true → (c : BalanceRecord) → is_its c ≡ true → balance_cmp b c ≡ Less → b.value_day < c.value_day
+      below : is_its b ≡ true → (c : BalanceRecord) → is_its c ≡ true → key_cmp the.balances b c ≡ Less → b.value_day < c.value_day
       below own c its less =
           let same : b.account ≡ c.account = one_account b.account account own ∙ sym (one_account c.account account its) in
-          let ties : balance_cmp b c ≡ nat_cmp b.value_day c.value_day = (λ i. ordering_then (text_cmp (account_text (same i)) (account_text c.account)) (nat_cmp b.value_day c.value_day)) ∙ ap (λ o. ordering_then o (nat_cmp b.value_day c.value_day)) (text_ties (account_text c.account)) in
+          let ties : (key_cmp the.balances) b c ≡ nat_cmp b.value_day c.value_day = (λ i. ordering_then (text_cmp (account_text (same i)) (account_text c.account)) (nat_cmp b.value_day c.value_day)) ∙ ap (λ o. ordering_then o (nat_cmp b.value_day c.value_day)) (text_ties (account_text c.account)) in
           less_number b.value_day c.value_day (sym ties ∙ less)
 
-      all_below : is_its b ≡ true → (more : List BalanceRecord) → AllByRecursion (λ c. balance_cmp b c ≡ Less) more → AllByRecursion (λ c. b.value_day < c.value_day) (filter is_its more)
-      all_below own more less = below_passing is_its (λ c. balance_cmp b c ≡ Less) (λ c. b.value_day < c.value_day) (below own) more less
+      all_below : is_its b ≡ true → (more : List BalanceRecord) → AllByRecursion (λ c. key_cmp the.balances b c ≡ Less) more → AllByRecursion (λ c. b.value_day < c.value_day) (filter is_its more)
+      all_below own more less = below_passing is_its (λ c. key_cmp the.balances b c ≡ Less) (λ c. b.value_day < c.value_day) (below own) more less
 
       go : (t : Bool) → is_its b ≡ t → IsAscending (λ a b. a.value_day < b.value_day) (filter is_its balances) → IsAscending (λ a b. a.value_day < b.value_day) (cond t (b ∷ filter is_its balances) (filter is_its balances))
       go true own more = (all_below own balances up.0, more)
@@ -180,7 +182,7 @@ module _ (account : Account) where
       ∙ option_map-map (λ (s : ℕ × ℤ). s.1) (λ b. sum_pair (day_sum_of b)) (find (λ b. b.value_day == day) (filter is_its balances))
       ∙ ap (option_map (λ b. b.cents)) (find-both (λ b. b.value_day == day) is_its balances)
 
-  pub sums_found : BalancesByDay → (balances : List BalanceRecord) (postings : List Posting) → IsInOrder balance_cmp balances → AreSums balances postings → map sum_pair (map day_sum_of (filter is_its balances)) ≡ day_sums account postings
+  pub sums_found : BalancesByDay → (balances : List BalanceRecord) (postings : List Posting) → IsInOrder (key_cmp the.balances) balances → AreSums balances postings → map sum_pair (map day_sum_of (filter is_its balances)) ≡ day_sums account postings
   sums_found law balances postings rise sums =
       map-map sum_pair day_sum_of (filter is_its balances)
       ∙ same_sums (map (λ b. sum_pair (day_sum_of b)) (filter is_its balances)) (day_sums account postings)

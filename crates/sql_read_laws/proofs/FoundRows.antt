@@ -2,8 +2,10 @@
 use Rattle.std.proofs.Common.{◌≡◌, Bool, List, map, filter, find, option_map, ap, ◌∙◌}
 use Rattle.sqlite_keyed.proofs.ListLemmas.{map-map, filter-map, all-filter}
 use Rattle.desk_store.specs.Rows.{CompanyRow, Rows}
+use Rattle.sql_tables.specs.Description.{key_cmp}
+use Rattle.sql_tables.specs.DeskTables as the
 use Rattle.sql_tables.specs.Encodes.{Encodes, submission_record}
-use Rattle.sql_tables.specs.KeyOrders.{IsInOrder, submission_cmp}
+use Rattle.sql_tables.specs.KeyOrders.{IsInOrder}
 use Rattle.sql_tables.specs.Selected.{head_of}
 use Rattle.sql_tables.specs.TableReads.{whole_row, rows_in}
 use Rattle.sql_tables.specs.Tables.{Tables}
@@ -22,7 +24,7 @@ module _ (t : Tables) (r : Rows) (e : Encodes t r) where
       ∙ ap (option_map of) (find-map test stored r.submissions)
       ∙ option_map-map of stored (find (λ x. test (stored x)) r.submissions)
 
-  module _ (rise : IsInOrder submission_cmp t.submissions) (test : SubmissionRecord → Bool) where
+  module _ (rise : IsInOrder (key_cmp the.submissions) t.submissions) (test : SubmissionRecord → Bool) where
     pub rows_found : rows_in test t ≡ map (λ x. x.row) (filter (λ x. test (stored x)) r.submissions)
     rows_found =
         let passing : List CompanyRow = filter (λ x. test (stored x)) r.submissions in

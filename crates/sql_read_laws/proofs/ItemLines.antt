@@ -7,8 +7,10 @@ use Rattle.sqlite_keyed.proofs.ListLemmas.{map-map}
 use Rattle.desk_book.specs.declared.flat_rows.ChangedRow.{ChangedRow}
 use Rattle.desk_book.specs.declared.flat_rows.ReturnedRow.{ReturnedRow}
 use Rattle.desk_store.specs.Rows.{CompanyRow, Rows, flat_book}
-use Rattle.sql_tables.specs.Encodes.{Encodes, submission_record, return_record, change_record, is_submission_under}
-use Rattle.sql_tables.specs.KeyOrders.{IsInOrder, submission_cmp}
+use Rattle.sql_tables.specs.Description.{key_cmp}
+use Rattle.sql_tables.specs.DeskTables as the
+use Rattle.sql_tables.specs.Encodes.{Encodes, submission_record, return_record, change_record, is_submission_under, return_under, change_under}
+use Rattle.sql_tables.specs.KeyOrders.{IsInOrder}
 use Rattle.sql_tables.specs.Selected.{facts_of, return_line_of, change_line_of}
 use Rattle.sql_tables.specs.TableReads.{facts_in, return_lines_in, change_lines_in}
 use Rattle.sql_tables.specs.Tables.{Tables}
@@ -44,7 +46,7 @@ module _ {X Y Z : Type 0} (company_of : X → List ℕ) (company : Y → List �
             ∙ ap (λ t. map (λ y. Some (row y)) (cond t (y ∷ filter (λ y. bytes_eq (company y) c) ys) (filter (λ y. bytes_eq (company y) c) ys))) (sym other)
       ]
 
-module _ (t : Tables) (r : Rows) (e : Encodes t r) (rise : IsInOrder submission_cmp t.submissions) (c : List ℕ) where
+module _ (t : Tables) (r : Rows) (e : Encodes t r) (rise : IsInOrder (key_cmp the.submissions) t.submissions) (c : List ℕ) where
   -- the facts of the submission that has a reference
   facts_under : (company reference : List ℕ) (x : CompanyRow) → company ≡ c → find (is_submission_under company reference) r.submissions ≡ Some x
       → (facts : SubmissionFacts) × (facts_in c x.row.order t ≡ Some facts) × (facts.reference ≡ reference)
@@ -58,11 +60,11 @@ module _ (t : Tables) (r : Rows) (e : Encodes t r) (rise : IsInOrder submission_
   one_return n y x is = go (find (is_submission_under y.company y.row.reference) r.submissions) refl is
     where
       go : (o : Option CompanyRow) → find (is_submission_under y.company y.row.reference) r.submissions ≡ o
-          → Some x ≡ option_map (λ (order : ℕ). record { number = n; company = y.company; order = order; index = y.row.index; code = y.row.code; day = y.row.day; late = y.row.late; info = y.row.info }) (option_map (λ (z : CompanyRow). z.row.order) o)
+          → Some x ≡ option_map (λ (order : ℕ). return_under n (record y { order = order })) (option_map (λ (z : CompanyRow). z.row.order) o)
           → (x.company ≡ y.company) × (y.company ≡ c → return_row_in c t (return_line_of x) ≡ Some y.row)
       go None found some = absurd (let e = some in cc)
       go (Some z) found some =
-          let made : ReturnRecord = record { number = n; company = y.company; order = z.row.order; index = y.row.index; code = y.row.code; day = y.row.day; late = y.row.late; info = y.row.info } in
+          let made : ReturnRecord = return_under n (record y { order = z.row.order }) in
           let same : x ≡ made = (let e = some in cc) in (
             ap (λ (k : ReturnRecord). k.company) same,
             λ own.
@@ -76,11 +78,11 @@ module _ (t : Tables) (r : Rows) (e : Encodes t r) (rise : IsInOrder submission_
   one_change n y x is = go (find (is_submission_under y.company y.row.reference) r.submissions) refl is
     where
       go : (o : Option CompanyRow) → find (is_submission_under y.company y.row.reference) r.submissions ≡ o
-          → Some x ≡ option_map (λ (order : ℕ). record { number = n; company = y.company; order = order; index = y.row.index; code = y.row.code; day = y.row.day; text = y.row.text }) (option_map (λ (z : CompanyRow). z.row.order) o)
+          → Some x ≡ option_map (λ (order : ℕ). change_under n (record y { order = order })) (option_map (λ (z : CompanyRow). z.row.order) o)
           → (x.company ≡ y.company) × (y.company ≡ c → change_row_in c t (change_line_of x) ≡ Some y.row)
       go None found some = absurd (let e = some in cc)
       go (Some z) found some =
-          let made : ChangeRecord = record { number = n; company = y.company; order = z.row.order; index = y.row.index; code = y.row.code; day = y.row.day; text = y.row.text } in
+          let made : ChangeRecord = change_under n (record y { order = z.row.order }) in
           let same : x ≡ made = (let e = some in cc) in (
             ap (λ (k : ChangeRecord). k.company) same,
             λ own.

@@ -18,8 +18,10 @@ use Rattle.sqlite_keyed.proofs.SortLemmas.{IsPermutation-sort_by}
 use Rattle.desk_plan.specs.Sequences.{last_sequence}
 use Rattle.desk_history.specs.declared.sent_entry.SentEntry.{SentEntry}
 use Rattle.desk_history.specs.Sendings.{sent_sequence}
+use Rattle.sql_tables.specs.Description.{key_cmp}
+use Rattle.sql_tables.specs.DeskTables as the
 use Rattle.sql_tables.specs.Encodes.{AreYoungest, youngest_place}
-use Rattle.sql_tables.specs.KeyOrders.{IsInOrder, number_cmp}
+use Rattle.sql_tables.specs.KeyOrders.{IsInOrder}
 use Rattle.sql_tables.specs.declared.records.NumberRecord.{NumberRecord}
 use Rattle.sql_read_laws.proofs.DaySums.{less_number}
 use Rattle.sql_tables.proofs.Lists.{last-cons, found_passes}
@@ -85,7 +87,7 @@ last_tops (n ∷ k ∷ ns) m up is =
 
 -- ---- each number is its sequence's
 
-module _ (newest : List SentEntry) (ns : List NumberRecord) (young : AreYoungest ns (reverse newest)) (rise : IsInOrder number_cmp ns) where
+module _ (newest : List SentEntry) (ns : List NumberRecord) (young : AreYoungest ns (reverse newest)) (rise : IsInOrder (key_cmp the.sequences) ns) where
   abbrev IsIts : NumberRecord → Type 0
   IsIts n = youngest_place (reverse newest) n.sequence ≡ Some n.place
 
@@ -96,7 +98,7 @@ module _ (newest : List SentEntry) (ns : List NumberRecord) (young : AreYoungest
   all_its =
       all_weaker (λ n. filter (has_its n) ns ≡ n ∷ []) IsIts
       (λ n alone. sym (young n.sequence) ∙ ap (option_map (λ m. m.place)) (sym (slice_get-filter (has_its n) ns) ∙ ap (λ l. slice_get l 0) alone)) ns
-      (each_alone (λ a b. number_cmp a b ≡ Less) has_its (λ n. eq-eqb n.sequence n.sequence refl)
+      (each_alone (λ a b. key_cmp the.sequences a b ≡ Less) has_its (λ n. eq-eqb n.sequence n.sequence refl)
       (λ a b less. let below = less_number a.sequence b.sequence less in ne_eqb b.sequence a.sequence (λ same. absurd (omega arith)))
       (λ a b less. let below = less_number a.sequence b.sequence less in ne_eqb a.sequence b.sequence (λ same. absurd (omega arith))) ns rise)
 
@@ -111,12 +113,12 @@ module _ (newest : List SentEntry) (ns : List NumberRecord) (young : AreYoungest
       let entries : one.entry ≡ two.entry = (let e = both in cc) in
       sym (stands_as newest m.sequence m.place one) ∙ ap (λ (e : SentEntry). e.sequence) entries ∙ stands_as newest n.sequence n.place two
 
-  apart_from : (n : NumberRecord) → IsIts n → (ms : List NumberRecord) → AllByRecursion IsIts ms → AllByRecursion (λ m. number_cmp n m ≡ Less) ms → AllByRecursion (λ m. n.place ≡ m.place → ⊥) ms
+  apart_from : (n : NumberRecord) → IsIts n → (ms : List NumberRecord) → AllByRecursion IsIts ms → AllByRecursion (λ m. key_cmp the.sequences n m ≡ Less) ms → AllByRecursion (λ m. n.place ≡ m.place → ⊥) ms
   apart_from n its ms all less =
-      all_both IsIts (λ m. number_cmp n m ≡ Less) (λ m. n.place ≡ m.place → ⊥)
+      all_both IsIts (λ m. key_cmp the.sequences n m ≡ Less) (λ m. n.place ≡ m.place → ⊥)
       (λ m other below same. let lower = less_number n.sequence m.sequence below in let equal = same_place n m its other same in absurd (omega arith)) ms all less
 
-  places_apart : (ms : List NumberRecord) → AllByRecursion IsIts ms → IsInOrder number_cmp ms → IsAscending (λ a b. a.place ≡ b.place → ⊥) ms
+  places_apart : (ms : List NumberRecord) → AllByRecursion IsIts ms → IsInOrder (key_cmp the.sequences) ms → IsAscending (λ a b. a.place ≡ b.place → ⊥) ms
   places_apart [] all up = tt
   places_apart (m ∷ ms) all up = (apart_from m all.0 ms all.1 up.0, places_apart ms all.1 up.1)
 
@@ -125,7 +127,7 @@ module _ (newest : List SentEntry) (ns : List NumberRecord) (young : AreYoungest
 abbrev IsLastOf : List NumberRecord → Option NumberRecord → Type 0
 IsLastOf ns last = (by_place : List NumberRecord) → IsPermutation ns by_place → IsInOrder place_cmp by_place → last ≡ slice_get (reverse by_place) 0
 
-sorted_last : (newest : List SentEntry) (ns : List NumberRecord) → AreYoungest ns (reverse newest) → IsInOrder number_cmp ns → (last : Option NumberRecord) → IsLastOf ns last
+sorted_last : (newest : List SentEntry) (ns : List NumberRecord) → AreYoungest ns (reverse newest) → IsInOrder (key_cmp the.sequences) ns → (last : Option NumberRecord) → IsLastOf ns last
     → (last ≡ slice_get (reverse (sort_by place_cmp ns)) 0) × IsAscending IsLower (sort_by place_cmp ns) × IsPermutation ns (sort_by place_cmp ns)
 sorted_last newest ns young rise last is =
     let up = sorted_rise ns (places_apart newest ns young rise ns (all_its newest ns young rise) rise) in
@@ -136,7 +138,7 @@ none_of_nothing : (s place : ℕ) (ns : List NumberRecord) → 0 ≡ length ns �
 none_of_nothing s place [] short some = (let e = some in cc)
 none_of_nothing s place (n ∷ ns) short some = omega arith
 
-module _ (e : SentEntry) (newest : List SentEntry) (ns : List NumberRecord) (young : AreYoungest ns (reverse (e ∷ newest))) (rise : IsInOrder number_cmp ns) where
+module _ (e : SentEntry) (newest : List SentEntry) (ns : List NumberRecord) (young : AreYoungest ns (reverse (e ∷ newest))) (rise : IsInOrder (key_cmp the.sequences) ns) where
   abbrev long : ℕ
   long = length newest + 1
 
@@ -176,7 +178,7 @@ module _ (e : SentEntry) (newest : List SentEntry) (ns : List NumberRecord) (you
         ap (λ (o : Option NumberRecord). unwrap_or (option_map (λ n. n.sequence) o) 0) last_one ∙ is_top.1,
       )
 
-pub last_is : (newest : List SentEntry) (ns : List NumberRecord) → AreYoungest ns (reverse newest) → IsInOrder number_cmp ns → (last : Option NumberRecord) → IsLastOf ns last
+pub last_is : (newest : List SentEntry) (ns : List NumberRecord) → AreYoungest ns (reverse newest) → IsInOrder (key_cmp the.sequences) ns → (last : Option NumberRecord) → IsLastOf ns last
     → (unwrap_or (option_map (λ n. n.place) last) 0 ≡ length newest) × (unwrap_or (option_map (λ n. n.sequence) last) 0 ≡ last_sequence (map sent_sequence newest))
 last_is [] [] young rise last is =
     let none : last ≡ None = is [] (IsPermutation-refl []) tt in

@@ -7,8 +7,10 @@ use Rattle.std.proofs.lemmas.Bool.{cases_order, eq-eqb, ne_eqb}
 use Rattle.std.proofs.lemmas.Bool.Decides.{nat_tests}
 use Rattle.sqlite_trees.specs.Tree.{IsAscending}
 use Rattle.sqlite_keyed.proofs.ListLemmas.{all_weaker, filter_none, all_of, ascending_weaker}
+use Rattle.sql_tables.specs.Description.{key_cmp}
+use Rattle.sql_tables.specs.DeskTables as the
 use Rattle.sql_tables.specs.Encodes.{place_of_number}
-use Rattle.sql_tables.specs.KeyOrders.{IsInOrder, number_cmp}
+use Rattle.sql_tables.specs.KeyOrders.{IsInOrder}
 use Rattle.sql_tables.specs.TableReads.{is_between}
 use Rattle.sql_tables.specs.declared.records.NumberRecord.{NumberRecord}
 use Rattle.sql_read_laws.proofs.DaySums.{less_number}
@@ -89,5 +91,5 @@ places_of_range (suc k) a b many ns up =
     ap (cons_option (place_of_number ns a)) (places_of_range k (a + 1) b (omega arith) ns up)
     ∙ one_more a b (omega arith) ns up
 
-pub numbers_before : (ns : List NumberRecord) → IsInOrder number_cmp ns → IsAscending IsBefore ns
-numbers_before ns rise = ascending_weaker (λ m n. number_cmp m n ≡ Less) IsBefore (λ m n less. less_number m.sequence n.sequence less) ns rise
+pub numbers_before : (ns : List NumberRecord) → IsInOrder (key_cmp the.sequences) ns → IsAscending IsBefore ns
+numbers_before ns rise = ascending_weaker (λ m n. key_cmp the.sequences m n ≡ Less) IsBefore (λ m n less. less_number m.sequence n.sequence less) ns rise

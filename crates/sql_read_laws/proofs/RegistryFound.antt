@@ -23,8 +23,10 @@ use Rattle.desk_book.specs.declared.caller.Caller.{Caller}
 use Rattle.desk_book.specs.declared.caller.Caller.TheVariants as callers
 use Rattle.desk_book.specs.Reads.{key_of, company}
 use Rattle.desk_store.specs.Rows.{Rows, flat_book}
+use Rattle.sql_tables.specs.Description.{key_cmp}
+use Rattle.sql_tables.specs.DeskTables as the
 use Rattle.sql_tables.specs.Encodes.{Encodes, posting_record, suspense_record}
-use Rattle.sql_tables.specs.KeyOrders.{IsInOrder, file_cmp, taken_cmp}
+use Rattle.sql_tables.specs.KeyOrders.{IsInOrder}
 use Rattle.sql_tables.specs.TableReads.{number_of_last, company_in, lines_in, suspense_in, modifiers_in, text_in, taken_in}
 use Rattle.sql_tables.specs.Tables.{Tables}
 use Rattle.sql_tables.specs.declared.records.PostingRecord.{PostingRecord}
@@ -34,19 +36,19 @@ use Rattle.sql_tables.proofs.Lists.{last_counts, enumerated_numbers, unnumbered,
 use Rattle.sql_read_laws.proofs.Permuted.{found_same}
 use Rattle.sql_read_laws.proofs.WholeRows.{number_ties, text_ties}
 
-file_apart : (day modifier : ℕ) (f g : FileRow) → is_file day modifier f ≡ true → is_file day modifier g ≡ true → file_cmp f g ≡ Less → ⊥
+file_apart : (day modifier : ℕ) (f g : FileRow) → is_file day modifier f ≡ true → is_file day modifier g ≡ true → key_cmp the.files f g ≡ Less → ⊥
 file_apart day modifier f g is at less =
     let one = and_parts _ _ is in
     let two = and_parts _ _ at in
     let days : f.day ≡ g.day = eqb-true f.day day one.0 ∙ sym (eqb-true g.day day two.0) in
     let modifiers : f.modifier ≡ g.modifier = eqb-true f.modifier modifier one.1 ∙ sym (eqb-true g.modifier modifier two.1) in
-    let ties : file_cmp f g ≡ Equal = (λ i. ordering_then (nat_cmp (days i) g.day) (nat_cmp (modifiers i) g.modifier)) ∙ (λ i. ordering_then (number_ties g.day i) (number_ties g.modifier i)) in
+    let ties : (key_cmp the.files) f g ≡ Equal = (λ i. ordering_then (nat_cmp (days i) g.day) (nat_cmp (modifiers i) g.modifier)) ∙ (λ i. ordering_then (number_ties g.day i) (number_ties g.modifier i)) in
     let e : Less ≡ Equal = sym less ∙ ties in cc
 
-taken_apart : (key : List ℕ) (f g : TakenFile) → has_key key f ≡ true → has_key key g ≡ true → taken_cmp f g ≡ Less → ⊥
+taken_apart : (key : List ℕ) (f g : TakenFile) → has_key key f ≡ true → has_key key g ≡ true → key_cmp the.taken f g ≡ Less → ⊥
 taken_apart key f g is at less =
     let keys : f.key ≡ g.key = (bytes_eq-Decides f.key key).0 is ∙ sym ((bytes_eq-Decides g.key key).0 at) in
-    let ties : taken_cmp f g ≡ Equal = (λ i. taken_cmp (record f { key = keys i }) g) ∙ text_ties g.key in
+    let ties : (key_cmp the.taken) f g ≡ Equal = (λ i. key_cmp the.taken (record f { key = keys i }) g) ∙ text_ties g.key in
     let e : Less ≡ Equal = sym less ∙ ties in cc
 
 module _ (t : Tables) (r : Rows) (e : Encodes t r) where
@@ -85,8 +87,8 @@ module _ (t : Tables) (r : Rows) (e : Encodes t r) where
       ∙ length_permutation (filter on r.files) (filter on t.files) (IsPermutation-filter on r.files t.files e.files)
       ∙ length-filter on r.files
 
-  pub text_found : IsInOrder file_cmp t.files → (day modifier : ℕ) → text_in day modifier t ≡ (flat_book r).file day modifier
-  text_found rise day modifier = ap (option_map (λ f. f.text)) (found_same (is_file day modifier) r.files t.files e.files (one_of (λ f g. file_cmp f g ≡ Less) (is_file day modifier) (file_apart day modifier) t.files rise))
+  pub text_found : IsInOrder (key_cmp the.files) t.files → (day modifier : ℕ) → text_in day modifier t ≡ (flat_book r).file day modifier
+  text_found rise day modifier = ap (option_map (λ f. f.text)) (found_same (is_file day modifier) r.files t.files e.files (one_of (λ f g. key_cmp the.files f g ≡ Less) (is_file day modifier) (file_apart day modifier) t.files rise))
 
-  pub taken_found : IsInOrder taken_cmp t.taken → (key : List ℕ) → taken_in key t ≡ (flat_book r).taken key
-  taken_found rise key = found_same (has_key key) r.taken t.taken e.taken (one_of (λ f g. taken_cmp f g ≡ Less) (has_key key) (taken_apart key) t.taken rise)
+  pub taken_found : IsInOrder (key_cmp the.taken) t.taken → (key : List ℕ) → taken_in key t ≡ (flat_book r).taken key
+  taken_found rise key = found_same (has_key key) r.taken t.taken e.taken (one_of (λ f g. key_cmp the.taken f g ≡ Less) (has_key key) (taken_apart key) t.taken rise)

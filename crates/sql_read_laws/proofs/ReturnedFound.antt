@@ -13,8 +13,10 @@ use Rattle.desk_book.specs.Standing.{row_under}
 use Rattle.desk_rules.specs.declared.bodies.submission.Entry.{Entry}
 use Rattle.desk_store.specs.Rows.{CompanyRow, Rows, flat_book}
 use Rattle.sql_tables.specs.Beside.{Beside, IsSentFrom, LapsesUnsettled}
+use Rattle.sql_tables.specs.Description.{key_cmp}
+use Rattle.sql_tables.specs.DeskTables as the
 use Rattle.sql_tables.specs.Encodes.{Encodes, HasStates, entry_record, is_submission_under, submission_record, unless_lapsed}
-use Rattle.sql_tables.specs.KeyOrders.{IsInOrder, submission_cmp}
+use Rattle.sql_tables.specs.KeyOrders.{IsInOrder}
 use Rattle.sql_tables.specs.RowParts.{state_with}
 use Rattle.sql_tables.specs.Selected.{head_of, numbered_of}
 use Rattle.sql_tables.specs.TableReads.{entry_at, return_at}
@@ -50,7 +52,7 @@ by_return false None on back not_lapsed is = cc
 by_return false (Some day) on None not_lapsed is = refl
 by_return false (Some day) on (Some r) not_lapsed is = refl
 
-module _ (t : Tables) (r : Rows) (e : Encodes t r) (rise : IsInOrder submission_cmp t.submissions) (beside : Beside t r) (s : SentEntry) (is : IsSentFrom r.submissions s) where
+module _ (t : Tables) (r : Rows) (e : Encodes t r) (rise : IsInOrder (key_cmp the.submissions) t.submissions) (beside : Beside t r) (s : SentEntry) (is : IsSentFrom r.submissions s) where
   abbrev x : CompanyRow
   x = is.from
 

@@ -16,8 +16,10 @@ use Rattle.desk_rules.specs.declared.bodies.submission.Entry.{Entry}
 use Rattle.desk_store.specs.Rows.{CompanyRow, Rows}
 use Rattle.sql_tables.specs.Beside.{Beside, IsSentFrom, AreApart}
 use Rattle.sql_tables.specs.CutTables.{is_entry_row}
+use Rattle.sql_tables.specs.Description.{key_cmp}
+use Rattle.sql_tables.specs.DeskTables as the
 use Rattle.sql_tables.specs.Encodes.{Encodes, submission_record, entry_record, entry_records, youngest_place}
-use Rattle.sql_tables.specs.KeyOrders.{IsInOrder, submission_cmp}
+use Rattle.sql_tables.specs.KeyOrders.{IsInOrder}
 use Rattle.sql_tables.specs.Selected.{facts_of, placed_of}
 use Rattle.sql_tables.specs.TableReads.{entry_at_place, facts_in, is_at_place, place_in}
 use Rattle.sql_tables.specs.Tables.{Tables}
@@ -42,7 +44,7 @@ turned a b m n i j =
     same_from_decides {P = (bytes_eq a b && m == n && i == j) ≡ true} (bytes_eq a b && m == n && i == j) (bytes_eq b a && n == m && j == i)
     ((λ is. is), (λ is. is)) (turn b a n m j i, turn a b m n i j)
 
-module _ (t : Tables) (r : Rows) (e : Encodes t r) (rise : IsInOrder submission_cmp t.submissions) (beside : Beside t r) where
+module _ (t : Tables) (r : Rows) (e : Encodes t r) (rise : IsInOrder (key_cmp the.submissions) t.submissions) (beside : Beside t r) where
   abbrev placed : SentEntry → PlacedEntry
   placed s = record { company = s.company; order = s.order; index = s.index; entry = s.entry }
 

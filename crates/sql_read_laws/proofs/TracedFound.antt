@@ -22,8 +22,10 @@ use Rattle.desk_book.specs.Reads.{latest_settled}
 use Rattle.desk_store.specs.Rows.{Rows, flat_book}
 use Rattle.desk_store.proofs.Traced.{traced, other_bank, none_found}
 use Rattle.sql_tables.specs.Beside.{Beside, IsSentFrom}
+use Rattle.sql_tables.specs.Description.{key_cmp}
+use Rattle.sql_tables.specs.DeskTables as the
 use Rattle.sql_tables.specs.Encodes.{Encodes}
-use Rattle.sql_tables.specs.KeyOrders.{IsInOrder, submission_cmp, number_cmp}
+use Rattle.sql_tables.specs.KeyOrders.{IsInOrder}
 use Rattle.sql_tables.specs.TableReads.{place_in}
 use Rattle.sql_tables.specs.Tables.{Tables}
 use Rattle.sql_tables.specs.Composed.{sent_in, traced_in, with_return_in, settled_at, latest_in}
@@ -32,7 +34,7 @@ use Rattle.sql_tables.proofs.Lists.{find_agrees, found_agrees}
 use Rattle.sql_read_laws.proofs.ReturnedFound.{returned_found}
 use Rattle.sql_read_laws.proofs.SentFound.{sent_found, settled_found}
 
-module _ (t : Tables) (r : Rows) (e : Encodes t r) (rise : IsInOrder submission_cmp t.submissions) (beside : Beside t r) where
+module _ (t : Tables) (r : Rows) (e : Encodes t r) (rise : IsInOrder (key_cmp the.submissions) t.submissions) (beside : Beside t r) where
   -- sequences have seven digits
   few_digits : AllByRecursion (λ s. s.sequence % 10_000_000 ≡ s.sequence) (reverse r.sent)
   few_digits =
@@ -90,7 +92,7 @@ module _ (t : Tables) (r : Rows) (e : Encodes t r) (rise : IsInOrder submission_
       by_bank true = refl
       by_bank false = refl
 
-  pub latest_found : IsInOrder number_cmp t.numbers → (from to : ℕ) → latest_in from to t ≡ latest_settled from to (flat_book r)
+  pub latest_found : IsInOrder (key_cmp the.sequences) t.numbers → (from to : ℕ) → latest_in from to t ≡ latest_settled from to (flat_book r)
   latest_found order from to =
       ap (λ l. reduce max (filter_map (λ place. settled_at place t) l)) (sym (places_of_range (to + 1 - from) from to refl t.numbers (numbers_before t.numbers order)))
       ∙ ap (reduce max) (sym (filter_map_then (λ place. settled_at place t) (λ s. place_in s t) (range_with_len from (to + 1 - from))))

@@ -9,8 +9,10 @@ use Rattle.desk_book.specs.declared.row.Row.{Row}
 use Rattle.desk_book.specs.Reads.{waiting_of, waiting, held_submission}
 use Rattle.desk_book.specs.Standing.{is_held, row_under, original_of_row}
 use Rattle.desk_store.specs.Rows.{CompanyRow, Rows, flat_book}
+use Rattle.sql_tables.specs.Description.{key_cmp}
+use Rattle.sql_tables.specs.DeskTables as the
 use Rattle.sql_tables.specs.Encodes.{Encodes, submission_record, is_submission_under}
-use Rattle.sql_tables.specs.KeyOrders.{IsInOrder, submission_cmp}
+use Rattle.sql_tables.specs.KeyOrders.{IsInOrder}
 use Rattle.sql_tables.specs.Selected.{order_of}
 use Rattle.sql_tables.specs.TableReads.{order_in, is_under, is_waiting_of}
 use Rattle.sql_tables.specs.Tables.{Tables}
@@ -34,12 +36,12 @@ module _ (t : Tables) (r : Rows) (e : Encodes t r) where
   original_found c None = refl
   original_found c (Some retry) = settled_found c retry.of
 
-  pub waiting_of_found : IsInOrder submission_cmp t.submissions → (k : Company) → waiting_of_in k t ≡ waiting_of k (flat_book r)
+  pub waiting_of_found : IsInOrder (key_cmp the.submissions) t.submissions → (k : Company) → waiting_of_in k t ≡ waiting_of k (flat_book r)
   waiting_of_found rise k =
       ap (map (held_in k t)) (rows_found t r e rise (is_waiting_of k.id) ∙ rows_of r.submissions k.id is_held)
       ∙ map_same (held_in k t) (held_submission k ((flat_book r).rows k.id)) (λ row i. record { company = k; row = row; original_settled = original_found k.id row.retry i }) (filter is_held ((flat_book r).rows k.id))
 
-  pub waiting_found : IsInOrder submission_cmp t.submissions → waiting_in t ≡ waiting (flat_book r)
+  pub waiting_found : IsInOrder (key_cmp the.submissions) t.submissions → waiting_in t ≡ waiting (flat_book r)
   waiting_found rise =
       ap (flat_map (λ (k : Company). waiting_of_in k t)) e.companies
       ∙ flat_map_same_on (λ (k : Company). waiting_of_in k t) (λ k. waiting_of k (flat_book r)) (waiting_of_found rise) r.companies

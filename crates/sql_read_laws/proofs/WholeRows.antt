@@ -15,8 +15,10 @@ use Rattle.desk_rules.specs.declared.bodies.submission.Entry.{Entry}
 use Rattle.desk_rules.specs.declared.bodies.submission.Retry.{Retry}
 use Rattle.desk_store.specs.Rows.{CompanyRow, Rows}
 use Rattle.sql_tables.specs.Beside.{is_submission}
+use Rattle.sql_tables.specs.Description.{key_cmp}
+use Rattle.sql_tables.specs.DeskTables as the
 use Rattle.sql_tables.specs.Encodes.{Encodes, HasStates, RetryFits, AsksAs, submission_record, entry_record, entry_records, authorization_record, retried_entry, entry_state, settled_state, unless_lapsed, is_return_of}
-use Rattle.sql_tables.specs.KeyOrders.{IsInOrder, submission_cmp, text_cmp}
+use Rattle.sql_tables.specs.KeyOrders.{IsInOrder, text_cmp}
 use Rattle.sql_tables.specs.RowParts.{retry_with, state_with, state_among}
 use Rattle.sql_tables.specs.Selected.{head_of, numbered_of, return_of}
 use Rattle.sql_tables.specs.TableReads.{whole_row, is_entry_of, is_return_in, is_authorization_of, authorized_in, entries_in, returns_in}
@@ -155,9 +157,9 @@ module _ (t : Tables) (r : Rows) (e : Encodes t r) where
       states = whole_states states i;
     }
 
-  module _ (rise : IsInOrder submission_cmp t.submissions) where
+  module _ (rise : IsInOrder (key_cmp the.submissions) t.submissions) where
     abbrev is_below : CompanyRow → CompanyRow → Type 0
-    is_below x y = submission_cmp (submission_record r.printed x) (submission_record r.printed y) ≡ Less
+    is_below x y = key_cmp the.submissions (submission_record r.printed x) (submission_record r.printed y) ≡ Less
 
     own_same : (x : CompanyRow) → is_own x x ≡ true
     own_same x = and_from _ _ ((bytes_eq-Decides x.company x.company).1 refl) (eq-eqb x.row.order x.row.order refl)
@@ -172,7 +174,7 @@ module _ (t : Tables) (r : Rows) (e : Encodes t r) where
     pub all_alone : AllByRecursion (λ x. filter (is_own x) r.submissions ≡ x ∷ []) r.submissions
     all_alone =
         each_alone is_below is_own own_same own_ahead own_behind r.submissions
-        (ascending_from_map (λ a b. submission_cmp a b ≡ Less) (submission_record r.printed) r.submissions (subst (IsInOrder submission_cmp) e.submissions rise))
+        (ascending_from_map (λ a b. key_cmp the.submissions a b ≡ Less) (submission_record r.printed) r.submissions (subst (IsInOrder (key_cmp the.submissions)) e.submissions rise))
 
     pub rows_whole : AllByRecursion (λ x. whole_row t (head_of (submission_record r.printed x)) ≡ x.row) r.submissions
     rows_whole =

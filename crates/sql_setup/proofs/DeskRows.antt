@@ -18,22 +18,21 @@ use Rattle.sql_statements.proofs.Inserts.{inserted}
 use Rattle.sql_statements.specs.Layouts.{Holds}
 use Rattle.desk_history.specs.declared.identity.Identity.{Identity}
 use Rattle.sql_tables.specs.Schema.{desk_schema}
-use Rattle.sql_tables.specs.TableDefinitions.{desk_table}
 use Rattle.sql_tables.specs.Layout.{desk_layout}
-use Rattle.sql_tables.specs.RecordRows.{desk_row}
 use Rattle.sql_tables.proofs.ByName.{each_table}
 use Rattle.sql_tables.specs.ByName as named
 use Rattle.sql_tables.specs.ByName.{Name, described, records, StandsAt, IsStored}
-use Rattle.sql_tables.specs.Description.{table}
+use Rattle.sql_tables.specs.Description.{table, as_row}
 use Rattle.sql_tables.specs.Tables.{IsTableOf}
 use Rattle.sql_tables.specs.declared.records.DeskRecord.{DeskRecord}
 use Rattle.sql_setup.specs.Setup.{new_tables}
 use Rattle.std.proofs.Common.{codes}
+use Rattle.sql_tables.specs.DeskTables as the
 
 abbrev pub insert_desk : List ℕ
 insert_desk = codes "INSERT INTO desk VALUES (?1, ?2, ?3, ?4, ?5, ?6, ?7, ?8)"
 
-insert_desk_is : IsInsert desk_schema insert_desk 0 desk_table
+insert_desk_is : IsInsert desk_schema insert_desk 0 (table the.desk)
 unfolding understood everything
 insert_desk_is = record { is = refl; plain = (refl, refl) }
 
@@ -48,7 +47,7 @@ none_in {row = row} trees table none = record { stored = stores_none row (trees 
 abbrev OthersEmpty : Trees → Type 0
 OthersEmpty trees = AllByRecursion (λ t. t.tree ≢ 0 → trees t.tree ≡ []) desk_schema.tables
 
-new_stored : (identity : Identity) (key : List ℕ) (trees : Trees) → OthersEmpty trees → Stores desk_row (trees 0) (record { identity = identity; operator_key = key; day = None } ∷ []) → IsStored trees (new_tables identity key)
+new_stored : (identity : Identity) (key : List ℕ) (trees : Trees) → OthersEmpty trees → Stores (as_row the.desk) (trees 0) (record { identity = identity; operator_key = key; day = None } ∷ []) → IsStored trees (new_tables identity key)
 new_stored identity key trees none desk = record { stands = stands }
   where
     empty : (n : Name) → (described n).tree ≢ 0 → StandsAt trees n []
@@ -70,11 +69,11 @@ new_stored identity key trees none desk = record { stands = stands }
     stands named.numbers = empty named.numbers (λ e. omega (arith, e))
     stands named.authorizations = empty named.authorizations (λ e. omega (arith, e))
 
-pub desk_put : (identity : Identity) (key : List ℕ) (old new : State) (count : ℕ) → Executes insert_desk (desk_row (record { identity = identity; operator_key = key; day = None })) old new (Ok count)
+pub desk_put : (identity : Identity) (key : List ℕ) (old new : State) (count : ℕ) → Executes insert_desk (as_row the.desk (record { identity = identity; operator_key = key; day = None })) old new (Ok count)
     → IsBlank desk_schema old.now → Holds desk_layout new.now (new_tables identity key)
 desk_put identity key old new count ran blank =
     let d : DeskRecord = record { identity = identity; operator_key = key; day = None } in
-    let s = desk_table in
-    let done = inserted desk_row desk_schema 0 0 s.name s.columns s.primary s.uniques s.orders insert_desk insert_desk_is refl (λ olds news. refl) d refl (row_kept s Null (desk_row d) refl refl) old new count blank.schema_is [] (stores_none desk_row (old.now.trees 0) blank.empty.0) ran in
+    let s = table the.desk in
+    let done = inserted (as_row the.desk) desk_schema 0 0 s.name s.columns s.primary s.uniques s.orders insert_desk insert_desk_is refl (λ olds news. refl) d refl (row_kept s Null (as_row the.desk d) refl refl) old new count blank.schema_is [] (stores_none (as_row the.desk) (old.now.trees 0) blank.empty.0) ran in
     let others = all_both (λ t. t.tree ≢ 0 → new.now.trees t.tree ≡ old.now.trees t.tree) (λ t. old.now.trees t.tree ≡ []) (λ t. t.tree ≢ 0 → new.now.trees t.tree ≡ []) (λ t same none apart. same apart ∙ none) desk_schema.tables done.0.others blank.empty in
     (done.0.schema_is, new_stored identity key new.now.trees others done.1)

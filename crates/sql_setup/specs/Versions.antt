@@ -8,12 +8,11 @@ use Rattle.sql_statements.specs.StoredRows.{Stores}
 use Rattle.sql_tables.specs.Columns.{number}
 use Rattle.sql_tables.specs.DeskTables as the
 use Rattle.sql_tables.specs.Question.{ask, is_one, rises}
-use Rattle.sql_tables.specs.RecordRows.{desk_row}
 use Rattle.sql_tables.specs.Schema.{desk_schema}
 pub use Rattle.sql_tables.specs.Schema.{first_schema}
-use Rattle.sql_tables.specs.TableDefinitions.{desk_table}
 use Rattle.sql_tables.specs.declared.records.DeskRecord.{DeskRecord}
 use Rattle.sql_queries.specs.Shows.{ReadsFirst}
+use Rattle.sql_tables.specs.Description.{as_row, table}
 
 abbrev pub version_text : List ℕ
 version_text = (ask the.desk ("version" ∷ []) (is_one "id" ∷ []) (rises "id" ∷ [])).text
@@ -33,10 +32,10 @@ ShowsVersion old new n = ReadsFirst version_text [] version_row old new (Some n)
 
 -- the row of a desk whose tables have this version
 abbrev pub versioned_row : (version : ℕ) → DeskRecord → Row
-versioned_row version d = number 1 ∷ number version ∷ drop 2 (desk_row d)
+versioned_row version d = number 1 ∷ number version ∷ drop 2 (as_row the.desk d)
 
 -- the tables are those of version 1 or of version 2, and the row of the desk has this version
 pub record IsOfVersion (db : Database) (version : ℕ) : Type 0 where
   pub schema : (db.schema ≡ first_schema) ⊎ (db.schema ≡ desk_schema)
   pub desk : DeskRecord
-  pub row : Stores (versioned_row version) (db.trees desk_table.tree) (desk ∷ [])
+  pub row : Stores (versioned_row version) (db.trees (table the.desk).tree) (desk ∷ [])

@@ -15,7 +15,7 @@ use Rattle.desk_book.specs.Standing.{sent_row, lapsed_row, is_row_under}
 use Rattle.desk_book.specs.Steps.{if_order, returned_row_by, returned_state_by}
 use Rattle.desk_store.specs.Changes.{in_company, send_in, lapse_in, return_in, in_turn}
 use Rattle.desk_store.specs.Rows.{CompanyRow}
-use Rattle.sql_tables.specs.Encodes.{order_under, is_submission_under, return_record, change_record, authorization_record, AsksAs, RetryFits}
+use Rattle.sql_tables.specs.Encodes.{order_under, is_submission_under, return_record, change_record, authorization_record, AsksAs, RetryFits, return_under, change_under}
 
 -- the change leaves number, content and retry of a row
 record KeepsRow (change : Row → Row) : Type 0 where
@@ -125,9 +125,9 @@ module _ (old new : List CompanyRow) (same : (c reference : List ℕ) → order_
   -- the rows of returns are those that they were, where order numbers are
   pub returns_kept : (n : ℕ) (xs : List ReturnedRow) → map (return_record new) (enumerate_from n xs) ≡ map (return_record old) (enumerate_from n xs)
   returns_kept n [] = refl
-  returns_kept n (x ∷ xs) = λ i. option_map (λ order. record { number = n; company = x.company; order = order; index = x.row.index; code = x.row.code; day = x.row.day; late = x.row.late; info = x.row.info }) (same x.company x.row.reference i) ∷ returns_kept (n + 1) xs i
+  returns_kept n (x ∷ xs) = λ i. option_map (λ order. return_under n (record x { order = order })) (same x.company x.row.reference i) ∷ returns_kept (n + 1) xs i
 
   -- and so are those of changes
   pub changes_kept : (n : ℕ) (xs : List ChangedRow) → map (change_record new) (enumerate_from n xs) ≡ map (change_record old) (enumerate_from n xs)
   changes_kept n [] = refl
-  changes_kept n (x ∷ xs) = λ i. option_map (λ order. record { number = n; company = x.company; order = order; index = x.row.index; code = x.row.code; day = x.row.day; text = x.row.text }) (same x.company x.row.reference i) ∷ changes_kept (n + 1) xs i
+  changes_kept n (x ∷ xs) = λ i. option_map (λ order. change_under n (record x { order = order })) (same x.company x.row.reference i) ∷ changes_kept (n + 1) xs i

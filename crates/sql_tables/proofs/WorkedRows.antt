@@ -25,9 +25,10 @@ use Rattle.desk_rules.specs.declared.bodies.submission.Submission.{Submission}
 use Rattle.desk_rules.specs.declared.rules.entry_fact.EntryState.{EntryState}
 use Rattle.desk_rules.specs.declared.rules.entry_fact.EntryState.TheVariants as states
 use Rattle.desk_store.specs.Rows.{CompanyRow, Rows}
+use Rattle.sql_tables.specs.Description.{as_row, key_cmp}
+use Rattle.sql_tables.specs.DeskTables as the
 use Rattle.sql_tables.specs.Encodes.{Encodes, AreYoungest, HasStates, RetryFits}
-use Rattle.sql_tables.specs.KeyOrders.{IsInOrder, submission_cmp, entry_cmp, balance_cmp, number_cmp}
-use Rattle.sql_tables.specs.RecordRows.{desk_row, holiday_row, company_row, submission_row, entry_row, return_row, change_row, posting_row, suspense_row, file_row, taken_row, balance_row, number_row, authorization_row}
+use Rattle.sql_tables.specs.KeyOrders.{IsInOrder}
 use Rattle.sql_tables.specs.Tables.{Tables}
 use Rattle.sql_tables.specs.declared.records.EntryRecord.{EntryRecord}
 use Rattle.sql_tables.specs.declared.records.SubmissionRecord.{SubmissionRecord}
@@ -170,13 +171,13 @@ encodes = record {
 
 -- ---- their rows of SQL values
 
-desk : desk_row tables.desk ≡ Int (pos 1) ∷ Int (pos 2) ∷ Text (codes "121042882") ∷ Text (codes "OUR BANK") ∷ Text (codes "061000146") ∷ Text (codes "ACH OPERATOR") ∷ Blob digest ∷ Int (pos 20110) ∷ []
+desk : (as_row the.desk) tables.desk ≡ Int (pos 1) ∷ Int (pos 2) ∷ Text (codes "121042882") ∷ Text (codes "OUR BANK") ∷ Text (codes "061000146") ∷ Text (codes "ACH OPERATOR") ∷ Blob digest ∷ Int (pos 20110) ∷ []
 desk = refl
 
-company : company_row mill_company ≡ Text mill ∷ Text (codes "MILL STREET") ∷ Blob digest ∷ Int (pos 1) ∷ Int (pos 2) ∷ Int (pos 3) ∷ []
+company : (as_row the.companies) mill_company ≡ Text mill ∷ Text (codes "MILL STREET") ∷ Blob digest ∷ Int (pos 1) ∷ Int (pos 2) ∷ Int (pos 3) ∷ []
 company = refl
 
-submissions : map submission_row tables.submissions ≡
+submissions : map (as_row the.submissions) tables.submissions ≡
     (Text bake ∷ Int (pos 1) ∷ Text (codes "B") ∷ Text (codes "CCD") ∷ Text (codes "debit") ∷ Text (codes "DUES") ∷ Int (pos 20120) ∷ Null ∷ Null ∷ Int (pos 0) ∷ Null ∷ Null ∷ Null ∷ Null ∷ [])
     ∷ (Text mill ∷ Int (pos 1) ∷ Text pay ∷ Text (codes "CCD") ∷ Text (codes "debit") ∷ Text (codes "DUES") ∷ Int (pos 20098) ∷ Null ∷ Null ∷ Int (pos 0) ∷ Int (pos 20098) ∷ Int (pos 20096) ∷ Text (codes "A") ∷ Int (pos 3) ∷ [])
     ∷ (Text mill ∷ Int (pos 2) ∷ Text (codes "TRY-1") ∷ Text (codes "CCD") ∷ Text (codes "debit") ∷ Text (codes "DUES") ∷ Int (pos 20103) ∷ Text pay ∷ Int (pos 1) ∷ Int (pos 1) ∷ Null ∷ Null ∷ Null ∷ Null ∷ [])
@@ -187,43 +188,43 @@ submissions = refl
 abbrev fifth : SubmissionRecord
 fifth = record_of mill 5 pay 20098 None false None None
 
-credit : submission_row (record fifth { head = record fifth.head { sec = Ppd; direction = Credit } })
+credit : (as_row the.submissions) (record fifth { head = record fifth.head { sec = Ppd; direction = Credit } })
     ≡ Text mill ∷ Int (pos 5) ∷ Text pay ∷ Text (codes "PPD") ∷ Text (codes "credit") ∷ Text (codes "DUES") ∷ Int (pos 20098) ∷ Null ∷ Null ∷ Int (pos 0) ∷ Null ∷ Null ∷ Null ∷ Null ∷ []
 credit = refl
 
-entries : map entry_row (entry_of mill 1 1 dues (Some 1) ∷ entry_of mill 1 2 more_dues (Some 2) ∷ entry_of mill 3 1 dues None ∷ []) ≡
+entries : map (as_row the.entries) (entry_of mill 1 1 dues (Some 1) ∷ entry_of mill 1 2 more_dues (Some 2) ∷ entry_of mill 3 1 dues None ∷ []) ≡
     (Text mill ∷ Int (pos 1) ∷ Int (pos 1) ∷ Text (codes "091000019") ∷ Text (codes "123") ∷ Int (pos 0) ∷ Int (pos 0) ∷ Int (pos 2500) ∷ Text (codes "E2") ∷ Text (codes "BOB RAY") ∷ Null ∷ Int (pos 1) ∷ [])
     ∷ (Text mill ∷ Int (pos 1) ∷ Int (pos 2) ∷ Text (codes "061000146") ∷ Text (codes "45") ∷ Int (pos 1) ∷ Int (pos 1) ∷ Int (pos 0) ∷ Text (codes "") ∷ Text (codes "ANN LEE") ∷ Text (codes "MAY") ∷ Int (pos 2) ∷ [])
     ∷ (Text mill ∷ Int (pos 3) ∷ Int (pos 1) ∷ Text (codes "091000019") ∷ Text (codes "123") ∷ Int (pos 0) ∷ Int (pos 0) ∷ Int (pos 2500) ∷ Text (codes "E2") ∷ Text (codes "BOB RAY") ∷ Null ∷ Null ∷ []) ∷ []
 entries = refl
 
-returns : map return_row tables.returns ≡ (Int (pos 1) ∷ Text mill ∷ Int (pos 1) ∷ Int (pos 1) ∷ Text (codes "R01") ∷ Int (pos 20102) ∷ Int (pos 1) ∷ Text (codes "GONE ") ∷ []) ∷ []
+returns : map (as_row the.returns) tables.returns ≡ (Int (pos 1) ∷ Text mill ∷ Int (pos 1) ∷ Int (pos 1) ∷ Text (codes "R01") ∷ Int (pos 20102) ∷ Int (pos 1) ∷ Text (codes "GONE ") ∷ []) ∷ []
 returns = refl
 
-changes : map change_row tables.changes ≡ (Int (pos 1) ∷ Text mill ∷ Int (pos 1) ∷ Int (pos 2) ∷ Text (codes "C01") ∷ Int (pos 20103) ∷ Text (codes "46  ") ∷ []) ∷ []
+changes : map (as_row the.changes) tables.changes ≡ (Int (pos 1) ∷ Text mill ∷ Int (pos 1) ∷ Int (pos 2) ∷ Text (codes "C01") ∷ Int (pos 20103) ∷ Text (codes "46  ") ∷ []) ∷ []
 changes = refl
 
-postings : map posting_row tables.postings ≡
+postings : map (as_row the.postings) tables.postings ≡
     (Int (pos 1) ∷ Text (codes "C:MILL01") ∷ Int (pos 20102) ∷ Int (negsuc 2499) ∷ Text (codes "return") ∷ Text pay ∷ Int (pos 1) ∷ [])
     ∷ (Int (pos 2) ∷ Text (codes "O") ∷ Int (pos 20102) ∷ Int (pos 2500) ∷ Text (codes "return") ∷ Text pay ∷ Int (pos 1) ∷ []) ∷ []
 postings = refl
 
-suspended : posting_row (record { number = 3; posting = record { account = accounts.Suspense; value_day = 20102; cents = pos 5; cause = causes.Cut; reference = None; idx = 0 } })
+suspended : (as_row the.postings) (record { number = 3; posting = record { account = accounts.Suspense; value_day = 20102; cents = pos 5; cause = causes.Cut; reference = None; idx = 0 } })
     ≡ Int (pos 3) ∷ Text (codes "S") ∷ Int (pos 20102) ∷ Int (pos 5) ∷ Text (codes "cut") ∷ Text [] ∷ Int (pos 0) ∷ []
 suspended = refl
 
-suspense : map suspense_row tables.suspense ≡ (Int (pos 1) ∷ Text (codes "F") ∷ Int (pos 2) ∷ Text (codes "NoTrace") ∷ Text (codes "R02") ∷ Text (codes "T") ∷ Int (pos 5) ∷ Int (pos 20103) ∷ []) ∷ []
+suspense : map (as_row the.suspense) tables.suspense ≡ (Int (pos 1) ∷ Text (codes "F") ∷ Int (pos 2) ∷ Text (codes "NoTrace") ∷ Text (codes "R02") ∷ Text (codes "T") ∷ Int (pos 5) ∷ Int (pos 20103) ∷ []) ∷ []
 suspense = refl
 
-others : (map file_row tables.files ≡ (Int (pos 20096) ∷ Text (codes "A") ∷ Blob (1 ∷ 2 ∷ []) ∷ []) ∷ [])
-    × (map taken_row tables.taken ≡ (Text (codes "F") ∷ Blob digest ∷ Int (pos 20102) ∷ Int (pos 2) ∷ Int (pos 1) ∷ Int (pos 4) ∷ Int (pos 3) ∷ []) ∷ [])
-    × (map balance_row tables.balances ≡ (Text (codes "C:MILL01") ∷ Int (pos 20102) ∷ Text (signed_decimal (negsuc 2499)) ∷ []) ∷ (Text (codes "O") ∷ Int (pos 20102) ∷ Text (signed_decimal (pos 2500)) ∷ []) ∷ [])
-    × (map number_row tables.numbers ≡ (Int (pos 1) ∷ Int (pos 3) ∷ []) ∷ (Int (pos 2) ∷ Int (pos 2) ∷ []) ∷ [])
-    × (map authorization_row tables.authorizations ≡ (Text mill ∷ Int (pos 3) ∷ Int (pos 20104) ∷ []) ∷ [])
-    × (map holiday_row tables.holidays ≡ (Int (pos 20108) ∷ []) ∷ [])
+others : (map (as_row the.files) tables.files ≡ (Int (pos 20096) ∷ Text (codes "A") ∷ Blob (1 ∷ 2 ∷ []) ∷ []) ∷ [])
+    × (map (as_row the.taken) tables.taken ≡ (Text (codes "F") ∷ Blob digest ∷ Int (pos 20102) ∷ Int (pos 2) ∷ Int (pos 1) ∷ Int (pos 4) ∷ Int (pos 3) ∷ []) ∷ [])
+    × (map (as_row the.balances) tables.balances ≡ (Text (codes "C:MILL01") ∷ Int (pos 20102) ∷ Text (signed_decimal (negsuc 2499)) ∷ []) ∷ (Text (codes "O") ∷ Int (pos 20102) ∷ Text (signed_decimal (pos 2500)) ∷ []) ∷ [])
+    × (map (as_row the.sequences) tables.numbers ≡ (Int (pos 1) ∷ Int (pos 3) ∷ []) ∷ (Int (pos 2) ∷ Int (pos 2) ∷ []) ∷ [])
+    × (map (as_row the.authorizations) tables.authorizations ≡ (Text mill ∷ Int (pos 3) ∷ Int (pos 20104) ∷ []) ∷ [])
+    × (map (as_row the.holidays) tables.holidays ≡ (Int (pos 20108) ∷ []) ∷ [])
 others = (refl, refl, refl, refl, refl, refl)
 
 -- ---- in the order of their keys
 
-rising : IsInOrder submission_cmp tables.submissions × IsInOrder entry_cmp tables.entries × IsInOrder balance_cmp tables.balances × IsInOrder number_cmp tables.numbers
+rising : IsInOrder (key_cmp the.submissions) tables.submissions × IsInOrder (key_cmp the.entries) tables.entries × IsInOrder (key_cmp the.balances) tables.balances × IsInOrder (key_cmp the.sequences) tables.numbers
 rising = (search rules, search rules, search rules, search rules)

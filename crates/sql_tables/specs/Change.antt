@@ -7,7 +7,7 @@ use Rattle.sqlite_sql.specs.declared.ops.BinaryOp.TheVariants.{Arith}
 use Rattle.sqlite_sql.specs.Term.{Term, lit, col, op2}
 use Rattle.sqlite_value.specs.declared.value.Value.TheVariants.{Int}
 use Rattle.sql_statements.specs.Statements.{column_is, number_is, null_at, at_least, at_most}
-use Rattle.sql_tables.specs.Description.{Column, Description, commas, insert_text, is_named, names_text, parameter_names, place_from}
+use Rattle.sql_tables.specs.Description.{Column, Description, commas, insert_text, is_named, names_text, parameter_names, place}
 use Rattle.sql_tables.specs.Question.{all_text}
 
 -- what a column gets: a parameter, a number, or the sum of a parameter and another column
@@ -66,25 +66,22 @@ picks_text (p ∷ ps) = codes " WHERE " ++ all_text (map pick_text (p ∷ ps))
 -- ---- terms
 
 module _ {X : Type 0} (columns : List (Column X)) where
-  abbrev pub place : String → ℕ
-  place name = place_from 1 columns name
-
   abbrev pub source_term : Source → Term
   source_term (parameter n) = col 0 n
   source_term (number n) = lit (Int (pos n))
-  source_term (sum_with n c) = op2 (Arith Add) (col 0 n) (col 1 (place c))
+  source_term (sum_with n c) = op2 (Arith Add) (col 0 n) (col 1 (place columns c))
 
   -- a column that is not set keeps its value
   abbrev pub set_term : List Set → String → Term
-  set_term [] name = col 1 (place name)
+  set_term [] name = col 1 (place columns name)
   set_term (s ∷ ss) name = if is_named s.column name then source_term s.source else set_term ss name
 
   abbrev pub pick_terms : List Pick → List Term
   pick_terms [] = []
-  pick_terms (is c n ∷ ps) = column_is (place c) n ∷ pick_terms ps
-  pick_terms (within c m n ∷ ps) = at_least (place c) m ∷ at_most (place c) n ∷ pick_terms ps
-  pick_terms (is_number c n ∷ ps) = number_is (place c) (pos n) ∷ pick_terms ps
-  pick_terms (is_null c ∷ ps) = null_at (place c) ∷ pick_terms ps
+  pick_terms (is c n ∷ ps) = column_is (place columns c) n ∷ pick_terms ps
+  pick_terms (within c m n ∷ ps) = at_least (place columns c) m ∷ at_most (place columns c) n ∷ pick_terms ps
+  pick_terms (is_number c n ∷ ps) = number_is (place columns c) (pos n) ∷ pick_terms ps
+  pick_terms (is_null c ∷ ps) = null_at (place columns c) ∷ pick_terms ps
 
 -- ---- statements
 

@@ -1,6 +1,8 @@
 -- How a value stands in a column.
-use Rattle.std.specs.Prelude.{ℕ, ℤ, pos, Bool, true, false, List, [], ◌∷◌, ◌++◌, codes, Option, Some, None}
+use Rattle.std.specs.Prelude.{ℕ, ℤ, pos, Bool, true, false, List, [], ◌∷◌, ◌++◌, codes, Option, Some, None, option_map}
 use Rattle.std.specs.Fmt.{signed_decimal}
+use Rattle.sqlite.specs.Values.{or_null}
+use Rattle.sqlite_value.specs.Order.{Row}
 use Rattle.sqlite_value.specs.declared.value.Value.{Value}
 use Rattle.sqlite_value.specs.declared.value.Value.TheVariants.{Null, Int, Text}
 use Rattle.desk_accounts.specs.declared.account.Account.{Account}
@@ -9,8 +11,11 @@ use Rattle.desk_accounts.specs.declared.posting.Cause.{Cause}
 use Rattle.desk_accounts.specs.declared.posting.Cause.TheVariants as causes
 use Rattle.desk_history.specs.declared.operations.SuspenseReason.{SuspenseReason}
 use Rattle.desk_history.specs.declared.operations.SuspenseReason.TheVariants as reasons
+use Rattle.desk_history.specs.Resolve.{is_savings}
+use Rattle.desk_history.specs.declared.reports.RetriedEntry.{RetriedEntry}
 use Rattle.desk_rules.specs.declared.bodies.submission.Direction.{Direction}
 use Rattle.desk_rules.specs.declared.bodies.submission.Direction.TheVariants as directions
+use Rattle.desk_rules.specs.declared.bodies.submission.Entry.{Entry}
 
 -- a number, and a day by its number
 abbrev pub number : ℕ → Value
@@ -54,3 +59,13 @@ abbrev pub account_text : Account → List ℕ
 account_text (accounts.Company id) = codes "C:" ++ id
 account_text accounts.Operator = codes "O"
 account_text accounts.Suspense = codes "S"
+
+-- of_ref, of_index
+abbrev pub retried_columns : Option RetriedEntry → Row
+retried_columns r = or_null Text (option_map (λ t. t.of) r) ∷ or_null number (option_map (λ t. t.index) r) ∷ []
+
+-- routing, account, savings, prenote, cents, ident, name, info
+abbrev pub entry_columns : Entry → Row
+entry_columns e =
+    Text e.routing ∷ Text e.account ∷ flag (is_savings e.kind) ∷ flag e.prenote ∷ number e.cents
+    ∷ Text e.id ∷ Text e.name ∷ or_null Text e.info ∷ []

@@ -5,7 +5,8 @@ use Rattle.sqlite_keyed.specs.Lists.{update_where, insert_sorted}
 use Rattle.desk_history.specs.declared.sent_entry.SentEntry.{SentEntry}
 use Rattle.desk_book.specs.declared.flat_rows.LapsedRow.{LapsedRow}
 use Rattle.desk_book.specs.declared.flat_rows.SentRow.{SentRow}
-use Rattle.sql_tables.specs.KeyOrders.{number_cmp}
+use Rattle.sql_tables.specs.Description.{key_cmp}
+use Rattle.sql_tables.specs.DeskTables as the
 use Rattle.sql_tables.specs.declared.records.EntryRecord.{EntryRecord}
 use Rattle.sql_tables.specs.declared.records.NumberRecord.{NumberRecord}
 use Rattle.sql_tables.specs.declared.records.SubmissionRecord.{SubmissionRecord}
@@ -35,4 +36,4 @@ has_sequence s n = n.sequence == s
 abbrev pub with_number : (sequence : ℕ) → (place : ℕ) → List NumberRecord → List NumberRecord
 with_number s place ns =
     if list_any (has_sequence s) ns then update_where (has_sequence s) (λ n. record n { place = place }) ns
-    else insert_sorted number_cmp (record { sequence = s; place = place }) ns
+    else insert_sorted (key_cmp the.sequences) (record { sequence = s; place = place }) ns

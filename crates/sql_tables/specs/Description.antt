@@ -94,6 +94,9 @@ abbrev pub place_from : {X : Type 0} → ℕ → List (Column X) → String → 
 place_from at [] name = 0
 place_from at (c ∷ cs) name = if is_named c.name name then at else place_from (at + 1) cs name
 
+abbrev pub place : {X : Type 0} → List (Column X) → String → ℕ
+place = place_from 1
+
 abbrev pub fields_named : {X : Type 0} → List (Column X) → String → List (Field X)
 fields_named [] name = []
 fields_named (c ∷ cs) name = if is_named c.name name then c.field ∷ [] else fields_named cs name
@@ -140,9 +143,9 @@ abbrev pub parameter_names : List (List ℕ)
 parameter_names = map codes ("?1" ∷ "?2" ∷ "?3" ∷ "?4" ∷ "?5" ∷ "?6" ∷ "?7" ∷ "?8" ∷ "?9" ∷ "?10" ∷ "?11" ∷ "?12" ∷ "?13" ∷ "?14" ∷ [])
 
 module _ {X : Type 0} (d : Description X) where
-  -- the row of a record
-  abbrev pub row : X → Row
-  row x = map (λ c. stored c.field x) d.columns
+  -- a record as its row
+  abbrev pub as_row : X → Row
+  as_row x = map (λ c. stored c.field x) d.columns
 
   -- the order of the key
   abbrev pub key_cmp : X → X → Ordering
@@ -150,7 +153,7 @@ module _ {X : Type 0} (d : Description X) where
 
   -- the places of columns, from 1
   abbrev pub places : List String → List ℕ
-  places names = map (λ name. place_from 1 d.columns name) names
+  places names = map (place d.columns) names
 
   abbrev pub plain_columns : List PlainColumn
   plain_columns = map (λ c. plain_column (codes c.name) (kind_of c.field) (is_not_null c.field)) d.columns

@@ -126,28 +126,37 @@ is_submission_under c reference x = bytes_eq x.company c && is_row_under referen
 abbrev pub order_under : List CompanyRow → (company : List ℕ) → (reference : List ℕ) → Option ℕ
 order_under rows c reference = option_map (λ x. x.row.order) (find (is_submission_under c reference) rows)
 
+-- the row of a return under its number, with the order number that it has
+abbrev pub return_under : (number : ℕ) → ReturnedRow → ReturnRecord
+return_under n x = record {
+  number = n;
+  company = x.company;
+  order = x.order;
+  index = x.row.index;
+  code = x.row.code;
+  day = x.row.day;
+  late = x.row.late;
+  info = x.row.info;
+}
+
+-- the same with the order number of the submission that it names
 abbrev pub return_record : List CompanyRow → ℕ × ReturnedRow → Option ReturnRecord
-return_record rows p = option_map (λ order. record {
-  number = p.0;
-  company = p.1.company;
-  order = order;
-  index = p.1.row.index;
-  code = p.1.row.code;
-  day = p.1.row.day;
-  late = p.1.row.late;
-  info = p.1.row.info;
-}) (order_under rows p.1.company p.1.row.reference)
+return_record rows p = option_map (λ order. return_under p.0 (record p.1 { order = order })) (order_under rows p.1.company p.1.row.reference)
+
+-- the row of a change under its number
+abbrev pub change_under : (number : ℕ) → ChangedRow → ChangeRecord
+change_under n x = record {
+  number = n;
+  company = x.company;
+  order = x.order;
+  index = x.row.index;
+  code = x.row.code;
+  day = x.row.day;
+  text = x.row.text;
+}
 
 abbrev pub change_record : List CompanyRow → ℕ × ChangedRow → Option ChangeRecord
-change_record rows p = option_map (λ order. record {
-  number = p.0;
-  company = p.1.company;
-  order = order;
-  index = p.1.row.index;
-  code = p.1.row.code;
-  day = p.1.row.day;
-  text = p.1.row.text;
-}) (order_under rows p.1.company p.1.row.reference)
+change_record rows p = option_map (λ order. change_under p.0 (record p.1 { order = order })) (order_under rows p.1.company p.1.row.reference)
 
 abbrev pub posting_record : ℕ × Posting → PostingRecord
 posting_record p = record { number = p.0; posting = p.1 }

@@ -13,12 +13,10 @@ pub mod QueryRows
 pub mod Question
 pub mod Ranges
 pub mod Reading
-pub mod RecordRows
 pub mod RowParts
 pub mod RowRanges
 pub mod Schema
 pub mod Selected
-pub mod TableDefinitions
 pub mod TableEdits
 pub mod TableReads
 pub mod Tables

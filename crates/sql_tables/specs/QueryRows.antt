@@ -7,8 +7,7 @@ use Rattle.desk_history.specs.declared.operations.DaySum.{DaySum}
 use Rattle.desk_history.specs.declared.operations.SuspenseRow.{SuspenseRow}
 use Rattle.desk_rules.specs.Fields.{sec_text}
 use Rattle.desk_rules.specs.ReturnCodes.{code_text}
-use Rattle.sql_tables.specs.Columns.{number, flag, decimal_text, line_reference, direction_text, cause_text, reason_text}
-use Rattle.sql_tables.specs.RecordRows.{entry_columns, retried_columns}
+use Rattle.sql_tables.specs.Columns.{number, flag, decimal_text, line_reference, direction_text, cause_text, reason_text, entry_columns, retried_columns}
 use Rattle.sql_tables.specs.declared.row.entries.EntryAmount.{EntryAmount}
 use Rattle.sql_tables.specs.declared.row.entries.NumberedEntry.{NumberedEntry}
 use Rattle.sql_tables.specs.declared.row.entries.PlacedEntry.{PlacedEntry}

@@ -6,7 +6,7 @@ use Rattle.sqlite_sql.specs.Term.{Term, col}
 use Rattle.sqlite_value.specs.declared.keys.Key.{Key}
 use Rattle.sql_statements.specs.SelectTexts.{IsSelectText}
 use Rattle.sql_statements.specs.Statements.{IsSelect, query_within, sum_query, column_is, number_is, at_least, at_most, by, falling}
-use Rattle.sql_tables.specs.Description.{Column, Description, commas, names_text, parameter_names, place_from}
+use Rattle.sql_tables.specs.Description.{Column, Description, commas, names_text, parameter_names, place}
 use Rattle.sql_tables.specs.Schema.{desk_schema}
 
 pub record Question : Type 0 where
@@ -53,19 +53,16 @@ way_text (rises c) = codes c
 way_text (falls c) = codes c ++ codes " DESC"
 
 module _ {X : Type 0} (columns : List (Column X)) where
-  abbrev pub place : String → ℕ
-  place name = place_from 1 columns name
-
   abbrev pub test_terms : (parameter : ℕ) → List Test → List Term
   test_terms at [] = []
-  test_terms at (is_one c ∷ ts) = number_is (place c) (pos 1) ∷ test_terms at ts
-  test_terms at (is c ∷ ts) = column_is (place c) at ∷ test_terms (at + 1) ts
-  test_terms at (from c ∷ ts) = at_least (place c) at ∷ test_terms (at + 1) ts
-  test_terms at (up_to c ∷ ts) = at_most (place c) at ∷ test_terms (at + 1) ts
+  test_terms at (is_one c ∷ ts) = number_is (place columns c) (pos 1) ∷ test_terms at ts
+  test_terms at (is c ∷ ts) = column_is (place columns c) at ∷ test_terms (at + 1) ts
+  test_terms at (from c ∷ ts) = at_least (place columns c) at ∷ test_terms (at + 1) ts
+  test_terms at (up_to c ∷ ts) = at_most (place columns c) at ∷ test_terms (at + 1) ts
 
   abbrev pub way_term : Way → Term × Key
-  way_term (rises c) = by (place c)
-  way_term (falls c) = falling (place c)
+  way_term (rises c) = by (place columns c)
+  way_term (falls c) = falling (place columns c)
 
 module _ {X : Type 0} (d : Description X) where
   abbrev pub ask_within : ℤ → (limit : List ℕ) → (shown : List String) → List Test → List Way → Question

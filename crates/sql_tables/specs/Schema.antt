@@ -14,12 +14,12 @@ pub data Definition : Type 0 where
   NewIndex : (text : List ℕ) → (at : ℕ) → (of : Table) → Index → Definition
 
 abbrev pub text_of : Definition → List ℕ
-text_of (NewTable text table) = text
-text_of (NewIndex text at table index) = text
+text_of (NewTable text of) = text
+text_of (NewIndex text at of index) = text
 
 abbrev pub with_definition : Schema → Definition → Schema
-with_definition schema (NewTable text table) = created schema table
-with_definition schema (NewIndex text at table index) = indexed schema table index
+with_definition schema (NewTable text of) = created schema of
+with_definition schema (NewIndex text at of index) = indexed schema of index
 
 -- the schema that these make in a blank file
 abbrev pub schema_of : List Definition → Schema

@@ -25,14 +25,13 @@ use Rattle.desk_rules.specs.declared.bodies.submission.Retry.{Retry}
 use Rattle.desk_rules.specs.declared.bodies.submission.Submission.{Submission}
 use Rattle.sql_tables.specs.Beside.{is_balance_of}
 use Rattle.sql_tables.specs.CutTables.{is_row, mark_sent, mark_lapsed, is_entry_row, mark_entry, with_number}
-use Rattle.sql_tables.specs.Encodes.{retried_entry, AsksAs}
-use Rattle.sql_tables.specs.KeyOrders.{company_cmp, submission_cmp, entry_cmp, file_cmp, taken_cmp, balance_cmp, authorization_cmp}
+use Rattle.sql_tables.specs.Description.{key_cmp}
+use Rattle.sql_tables.specs.DeskTables as the
+use Rattle.sql_tables.specs.Encodes.{retried_entry, return_under, change_under, AsksAs}
 use Rattle.sql_tables.specs.TableReads.{number_of_last, company_in, is_under, is_return_at, sum_in, taken_in}
 use Rattle.sql_tables.specs.Tables.{Tables}
 use Rattle.sql_tables.specs.declared.records.BalanceRecord.{BalanceRecord}
-use Rattle.sql_tables.specs.declared.records.ChangeRecord.{ChangeRecord}
 use Rattle.sql_tables.specs.declared.records.EntryRecord.{EntryRecord}
-use Rattle.sql_tables.specs.declared.records.ReturnRecord.{ReturnRecord}
 use Rattle.sql_tables.specs.declared.records.SubmissionRecord.{SubmissionRecord}
 
 -- ---- the desk, its calendar and its companies
@@ -47,7 +46,7 @@ set_holidays_edit days = record { after = λ t. record t { holidays = days }; Te
 
 -- INSERT INTO companies
 abbrev pub put_company_edit : Company → Edit Tables
-put_company_edit k = record { after = λ t. record t { companies = insert_sorted company_cmp k t.companies }; Tells = λ t. company_in k.id t ≡ None }
+put_company_edit k = record { after = λ t. record t { companies = insert_sorted (key_cmp the.companies) k t.companies }; Tells = λ t. company_in k.id t ≡ None }
 
 -- UPDATE companies SET .. WHERE id = ?
 abbrev pub put_limits_edit : (id : List ℕ) → Limits → Edit Tables
@@ -76,14 +75,14 @@ new_submission_record c order s retry = record {
 -- INSERT INTO submissions; its reference is new in the company, and a retry asks under it and for its day
 abbrev pub put_submission_edit : (company : List ℕ) → (order : ℕ) → Submission → Option Retry → Edit Tables
 put_submission_edit c order s retry = record {
-  after = λ t. record t { submissions = insert_sorted submission_cmp (new_submission_record c order s retry) t.submissions };
+  after = λ t. record t { submissions = insert_sorted (key_cmp the.submissions) (new_submission_record c order s retry) t.submissions };
   Tells = λ t. (find (is_row c order) t.submissions ≡ None) × (find (is_under c s.reference) t.submissions ≡ None) × AsksAs s.reference s.day retry;
 }
 
 -- INSERT INTO entries: the entry with this number, not sent
 abbrev pub put_entry_edit : (company : List ℕ) → (order : ℕ) → (index : ℕ) → Entry → Edit Tables
 put_entry_edit c order index e = record {
-  after = λ t. record t { entries = insert_sorted entry_cmp (record { company = c; order = order; index = index; entry = e; place = None }) t.entries };
+  after = λ t. record t { entries = insert_sorted (key_cmp the.entries) (record { company = c; order = order; index = index; entry = e; place = None }) t.entries };
   Tells = λ t. find (is_entry_row c order index) t.entries ≡ None;
 }
 
@@ -91,7 +90,7 @@ put_entry_edit c order index e = record {
 abbrev pub put_authorization_edit : (company : List ℕ) → (order : ℕ) → (authorized : Option ℕ) → Edit Tables
 put_authorization_edit c order None = no_edit
 put_authorization_edit c order (Some day) = record {
-  after = λ t. record t { authorizations = insert_sorted authorization_cmp (record { company = c; order = order; day = day }) t.authorizations };
+  after = λ t. record t { authorizations = insert_sorted (key_cmp the.authorizations) (record { company = c; order = order; day = day }) t.authorizations };
   Tells = λ _. ⊤;
 }
 
@@ -111,7 +110,7 @@ next_number number xs = number_of_last number xs + 1
 abbrev pub with_balance : Account → (value_day : ℕ) → (cents : ℤ) → List BalanceRecord → List BalanceRecord
 with_balance account day cents bs =
     if list_any (is_balance_of account day) bs then update_where (is_balance_of account day) (λ b. record b { cents = cents }) bs
-    else insert_sorted balance_cmp (record { account = account; value_day = day; cents = cents }) bs
+    else insert_sorted (key_cmp the.balances) (record { account = account; value_day = day; cents = cents }) bs
 
 -- the sum of the line's account and value day, with the line
 abbrev pub sum_with : Posting → Tables → ℤ
@@ -170,7 +169,7 @@ place_edit place e = record {
 
 -- INSERT INTO files; the day has none of this modifier
 abbrev pub put_file_edit : FileRow → Edit Tables
-put_file_edit f = record { after = λ t. record t { files = insert_sorted file_cmp f t.files }; Tells = λ t. find (is_file f.day f.modifier) t.files ≡ None }
+put_file_edit f = record { after = λ t. record t { files = insert_sorted (key_cmp the.files) f t.files }; Tells = λ t. find (is_file f.day f.modifier) t.files ≡ None }
 
 -- a cut whose entries get places from a first one on
 abbrev pub commit_cut_edit : (first : ℕ) → CutWrite → Edit Tables
@@ -183,36 +182,11 @@ commit_cut_edit first x =
 
 -- ---- an incoming file
 
--- the row of a return under its number
-abbrev pub return_under : (number : ℕ) → ReturnedRow → ReturnRecord
-return_under n x = record {
-  number = n;
-  company = x.company;
-  order = x.order;
-  index = x.row.index;
-  code = x.row.code;
-  day = x.row.day;
-  late = x.row.late;
-  info = x.row.info;
-}
-
 -- INSERT INTO returns, of an entry that was not returned before
 abbrev pub put_return_edit : (number : ℕ) → ReturnedRow → Edit Tables
 put_return_edit n x = record {
   after = λ t. record t { returns = insert_sorted (on (λ r. r.number) nat_cmp) (return_under n x) t.returns };
   Tells = λ t. find (is_return_at x.company x.order x.row.index) t.returns ≡ None;
-}
-
--- the row of a change under its number
-abbrev pub change_under : (number : ℕ) → ChangedRow → ChangeRecord
-change_under n x = record {
-  number = n;
-  company = x.company;
-  order = x.order;
-  index = x.row.index;
-  code = x.row.code;
-  day = x.row.day;
-  text = x.row.text;
 }
 
 -- INSERT INTO changes
@@ -225,7 +199,7 @@ put_suspense_edit n x = record { after = λ t. record t { suspense = insert_sort
 
 -- INSERT INTO taken; the key is new
 abbrev pub put_taken_edit : TakenFile → Edit Tables
-put_taken_edit f = record { after = λ t. record t { taken = insert_sorted taken_cmp f t.taken }; Tells = λ t. taken_in f.key t ≡ None }
+put_taken_edit f = record { after = λ t. record t { taken = insert_sorted (key_cmp the.taken) f t.taken }; Tells = λ t. taken_in f.key t ≡ None }
 
 abbrev pub commit_intake_edit : IntakeWrite → Edit Tables
 commit_intake_edit x =

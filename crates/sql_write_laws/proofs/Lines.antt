@@ -10,7 +10,8 @@ use Rattle.desk_accounts.specs.Balance.{lines_of, lines_on, total}
 use Rattle.desk_accounts.specs.Posting.{same_account}
 use Rattle.desk_accounts.proofs.Same.{same_is}
 use Rattle.sql_tables.specs.Beside.{is_balance_of, balance_of, sum_if_any, AreSums}
-use Rattle.sql_tables.specs.KeyOrders.{balance_cmp}
+use Rattle.sql_tables.specs.Description.{key_cmp}
+use Rattle.sql_tables.specs.DeskTables as the
 use Rattle.sql_tables.specs.TableEdits.{with_balance}
 use Rattle.sql_tables.specs.declared.records.BalanceRecord.{BalanceRecord}
 use Rattle.sql_write_laws.proofs.Upserts.{put_found}
@@ -27,7 +28,7 @@ key_eq k j = same_account k.0 j.0 && k.1 == j.1
 -- the balance of an account and value day is set, and no other
 pub balance_put : (account : Account) (day : ℕ) (cents : ℤ) (bs : List BalanceRecord) (a : Account) (d : ℕ) → balance_of (with_balance account day cents bs) a d ≡ cond (same_account account a && day == d) (Some cents) (balance_of bs a d)
 balance_put account day cents bs a d =
-    put_found balance_cmp is_key (λ b. b.cents) key_eq (account, day) (record { account = account; value_day = day; cents = cents }) (λ b. record b { cents = cents }) cents
+    put_found (key_cmp the.balances) is_key (λ b. b.cents) key_eq (account, day) (record { account = account; value_day = day; cents = cents }) (λ b. record b { cents = cents }) cents
     (λ j. refl) (λ j b. refl) refl (λ b. refl) mine same bs (a, d)
   where
     mine : (j : Account × ℕ) (b : BalanceRecord) → is_key (account, day) b ≡ true → is_key j b ≡ key_eq (account, day) j

@@ -16,8 +16,10 @@ use Rattle.desk_history.specs.declared.sent_entry.SentEntry.{SentEntry}
 use Rattle.desk_rules.specs.declared.bodies.submission.Entry.{Entry}
 use Rattle.desk_rules.specs.declared.bodies.submission.Retry.{Retry}
 use Rattle.desk_store.specs.Rows.{CompanyRow}
+use Rattle.sql_tables.specs.Description.{key_cmp}
+use Rattle.sql_tables.specs.DeskTables as the
 use Rattle.sql_tables.specs.Encodes.{authorization_record, entry_record, entry_records}
-use Rattle.sql_tables.specs.KeyOrders.{authorization_cmp, by_text_and_number, entry_cmp, text_cmp}
+use Rattle.sql_tables.specs.KeyOrders.{by_text_and_number, text_cmp}
 use Rattle.sql_tables.specs.TableEdits.{put_authorization_edit, put_entry_edit}
 use Rattle.sql_tables.specs.Tables.{Tables}
 use Rattle.sql_tables.specs.declared.records.AuthorizationRecord.{AuthorizationRecord}
@@ -42,18 +44,18 @@ module _ (c : List ℕ) (order : ℕ) where
   new_entry p = record { company = c; order = order; index = p.0; entry = p.1; place = None }
 
   -- an entry of a higher index is above
-  entry_above : (i j : ℕ) (e f : Entry) → j < i → is_gt (entry_cmp (new_entry (i, e)) (new_entry (j, f))) ≡ true
+  entry_above : (i j : ℕ) (e f : Entry) → j < i → is_gt (key_cmp the.entries (new_entry (i, e)) (new_entry (j, f))) ≡ true
   entry_above i j e f up = (λ k. is_gt (ordering_then (ordering_then (text_ties c k) (number_ties order k)) (sym (nat_cmp_is i j Greater up) k)))
 
-  module _ (before after : List EntryRecord) (above : (i : ℕ) (e : Entry) → AllByRecursion (λ y. is_gt (entry_cmp (new_entry (i, e)) y) ≡ true) before) (below : (i : ℕ) (e : Entry) → AllByRecursion (λ y. is_gt (entry_cmp (new_entry (i, e)) y) ≡ false) after) where
+  module _ (before after : List EntryRecord) (above : (i : ℕ) (e : Entry) → AllByRecursion (λ y. is_gt (key_cmp the.entries (new_entry (i, e)) y) ≡ true) before) (below : (i : ℕ) (e : Entry) → AllByRecursion (λ y. is_gt (key_cmp the.entries (new_entry (i, e)) y) ≡ false) after) where
     abbrev around : List (ℕ × Entry) → List EntryRecord
     around ps = (before ++ map new_entry ps) ++ after
 
-    entry_put : (n : ℕ) (e : Entry) (ps : List (ℕ × Entry)) → AllByRecursion (λ p. p.0 < n) ps → insert_sorted entry_cmp (new_entry (n, e)) (around ps) ≡ around (ps ++ (n, e) ∷ [])
+    entry_put : (n : ℕ) (e : Entry) (ps : List (ℕ × Entry)) → AllByRecursion (λ p. p.0 < n) ps → insert_sorted (key_cmp the.entries) (new_entry (n, e)) (around ps) ≡ around (ps ++ (n, e) ∷ [])
     entry_put n e ps low =
-        insert_between entry_cmp (new_entry (n, e)) (before ++ map new_entry ps) after
-        (all-append (λ y. is_gt (entry_cmp (new_entry (n, e)) y) ≡ true) before (map new_entry ps) (above n e)
-        (all_map (λ y. is_gt (entry_cmp (new_entry (n, e)) y) ≡ true) new_entry ps (all_weaker (λ p. p.0 < n) (λ p. is_gt (entry_cmp (new_entry (n, e)) (new_entry p)) ≡ true) (λ p up. entry_above n p.0 e p.1 up) ps low))) (below n e)
+        insert_between (key_cmp the.entries) (new_entry (n, e)) (before ++ map new_entry ps) after
+        (all-append (λ y. is_gt (key_cmp the.entries (new_entry (n, e)) y) ≡ true) before (map new_entry ps) (above n e)
+        (all_map (λ y. is_gt (key_cmp the.entries (new_entry (n, e)) y) ≡ true) new_entry ps (all_weaker (λ p. p.0 < n) (λ p. is_gt (key_cmp the.entries (new_entry (n, e)) (new_entry p)) ≡ true) (λ p up. entry_above n p.0 e p.1 up) ps low))) (below n e)
         ∙ sym (append_assoc (before ++ map new_entry ps) (new_entry (n, e) ∷ []) after)
         ∙ ap (λ l. l ++ after) (append_assoc before (map new_entry ps) (new_entry (n, e) ∷ []) ∙ ap (λ l. before ++ l) (sym (map-append new_entry ps ((n, e) ∷ []))))
 
@@ -63,7 +65,7 @@ module _ (c : List ℕ) (order : ℕ) where
     entries_put (e ∷ es) n ps t low is =
         entries_put es (n + 1) (ps ++ (n, e) ∷ []) ((put_entry_edit c order n e).after t)
         (all-append (λ p. p.0 < n + 1) ps ((n, e) ∷ []) (all_weaker (λ p. p.0 < n) (λ p. p.0 < n + 1) (λ p up. omega (arith, up)) ps low) (omega arith, tt))
-        (ap (insert_sorted entry_cmp (new_entry (n, e))) is ∙ entry_put n e ps low)
+        (ap (insert_sorted (key_cmp the.entries) (new_entry (n, e))) is ∙ entry_put n e ps low)
         ∙ (λ i. record t { entries = around (append_assoc ps ((n, e) ∷ []) (enumerate_from (n + 1) es) i) })
 
 -- ---- authorizations
@@ -86,15 +88,15 @@ authorized_key x y is = go (option_and_then (λ (retry : Retry). retry.authorize
 -- ---- beside submissions below and above the new one
 
 module _ (x : CompanyRow) (before after : List CompanyRow) (above : AllByRecursion (λ y. row_cmp x y ≡ Greater) before) (below : AllByRecursion (λ y. row_cmp x y ≡ Less) after) where
-  pub entries_above : (sent : List SentEntry) (i : ℕ) (e : Entry) → AllByRecursion (λ y. is_gt (entry_cmp (new_entry x.company x.row.order (i, e)) y) ≡ true) (flat_map (entry_records sent) before)
+  pub entries_above : (sent : List SentEntry) (i : ℕ) (e : Entry) → AllByRecursion (λ y. is_gt (key_cmp the.entries (new_entry x.company x.row.order (i, e)) y) ≡ true) (flat_map (entry_records sent) before)
   entries_above sent i e =
-      let P : EntryRecord → Type 0 = λ y. is_gt (entry_cmp (new_entry x.company x.row.order (i, e)) y) ≡ true in
+      let P : EntryRecord → Type 0 = λ y. is_gt (key_cmp the.entries (new_entry x.company x.row.order (i, e)) y) ≡ true in
       all-flat_map P (entry_records sent) before
       (all_weaker (λ y. row_cmp x y ≡ Greater) (λ y. AllByRecursion P (entry_records sent y)) (λ y up. all-map P (entry_record sent y.company y.row.order) (λ q. ap (λ o. is_gt (ordering_then o (nat_cmp i q.0))) up) (enumerate_from 1 y.row.content.entries)) before above)
 
-  pub entries_below : (sent : List SentEntry) (i : ℕ) (e : Entry) → AllByRecursion (λ y. is_gt (entry_cmp (new_entry x.company x.row.order (i, e)) y) ≡ false) (flat_map (entry_records sent) after)
+  pub entries_below : (sent : List SentEntry) (i : ℕ) (e : Entry) → AllByRecursion (λ y. is_gt (key_cmp the.entries (new_entry x.company x.row.order (i, e)) y) ≡ false) (flat_map (entry_records sent) after)
   entries_below sent i e =
-      let P : EntryRecord → Type 0 = λ y. is_gt (entry_cmp (new_entry x.company x.row.order (i, e)) y) ≡ false in
+      let P : EntryRecord → Type 0 = λ y. is_gt (key_cmp the.entries (new_entry x.company x.row.order (i, e)) y) ≡ false in
       all-flat_map P (entry_records sent) after
       (all_weaker (λ y. row_cmp x y ≡ Less) (λ y. AllByRecursion P (entry_records sent y)) (λ y up. all-map P (entry_record sent y.company y.row.order) (λ q. ap (λ o. is_gt (ordering_then o (nat_cmp i q.0))) up) (enumerate_from 1 y.row.content.entries)) after below)
 
@@ -103,12 +105,12 @@ module _ (x : CompanyRow) (before after : List CompanyRow) (above : AllByRecursi
   authorization_put None t is = λ i. record t { authorizations = is i }
   authorization_put (Some day) t is =
       let new : AuthorizationRecord = record { company = x.company; order = x.row.order; day = day } in
-      let put : insert_sorted authorization_cmp new (filter_map authorization_record before ++ filter_map authorization_record after) ≡ filter_map authorization_record before ++ new ∷ filter_map authorization_record after =
-      insert_between authorization_cmp new (filter_map authorization_record before) (filter_map authorization_record after)
-      (all-filter_map (λ y. is_gt (authorization_cmp new y) ≡ true) authorization_record before
-      (all_weaker (λ y. row_cmp x y ≡ Greater) (λ y. (a : AuthorizationRecord) → authorization_record y ≡ Some a → is_gt (authorization_cmp new a) ≡ true)
+      let put : insert_sorted (key_cmp the.authorizations) new (filter_map authorization_record before ++ filter_map authorization_record after) ≡ filter_map authorization_record before ++ new ∷ filter_map authorization_record after =
+      insert_between (key_cmp the.authorizations) new (filter_map authorization_record before) (filter_map authorization_record after)
+      (all-filter_map (λ y. is_gt (key_cmp the.authorizations new y) ≡ true) authorization_record before
+      (all_weaker (λ y. row_cmp x y ≡ Greater) (λ y. (a : AuthorizationRecord) → authorization_record y ≡ Some a → is_gt (key_cmp the.authorizations new a) ≡ true)
       (λ y up a made. let key = authorized_key y a made in (λ i. is_gt (ordering_then (text_cmp x.company (sym key.0 i)) (nat_cmp x.row.order (sym key.1 i)))) ∙ ap is_gt up) before above))
-      (all-filter_map (λ y. is_gt (authorization_cmp new y) ≡ false) authorization_record after
-      (all_weaker (λ y. row_cmp x y ≡ Less) (λ y. (a : AuthorizationRecord) → authorization_record y ≡ Some a → is_gt (authorization_cmp new a) ≡ false)
+      (all-filter_map (λ y. is_gt (key_cmp the.authorizations new y) ≡ false) authorization_record after
+      (all_weaker (λ y. row_cmp x y ≡ Less) (λ y. (a : AuthorizationRecord) → authorization_record y ≡ Some a → is_gt (key_cmp the.authorizations new a) ≡ false)
       (λ y up a made. let key = authorized_key y a made in (λ i. is_gt (ordering_then (text_cmp x.company (sym key.0 i)) (nat_cmp x.row.order (sym key.1 i)))) ∙ ap is_gt up) after below)) in
-      λ i. record t { authorizations = (ap (insert_sorted authorization_cmp new) is ∙ put) i }
+      λ i. record t { authorizations = (ap (insert_sorted (key_cmp the.authorizations) new) is ∙ put) i }

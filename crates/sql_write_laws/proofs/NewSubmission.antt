@@ -34,8 +34,10 @@ use Rattle.desk_store.proofs.Added.{flat-add}
 use Rattle.sql_tables.specs.ByName as named
 use Rattle.sql_tables.specs.Beside.{AreNumbered, IsSentFrom, LapsesUnsettled, ReturnsSettled, is_of_company, is_submission, orders_of}
 use Rattle.sql_tables.specs.CutTables.{is_row}
-use Rattle.sql_tables.specs.Encodes.{AsksAs, HasStates, RetryFits, authorization_record, entry_record, entry_records, is_entry, is_submission_under, order_under, place_of_entry, submission_record}
-use Rattle.sql_tables.specs.KeyOrders.{submission_cmp, text_cmp}
+use Rattle.sql_tables.specs.Description.{key_cmp}
+use Rattle.sql_tables.specs.DeskTables as the
+use Rattle.sql_tables.specs.Encodes.{AsksAs, HasStates, RetryFits, authorization_record, entry_record, entry_records, is_entry, is_submission_under, order_under, place_of_entry, submission_record, return_under, change_under}
+use Rattle.sql_tables.specs.KeyOrders.{text_cmp}
 use Rattle.sql_tables.specs.TableEdits.{add_submission_edit, new_submission_record, put_authorization_edit}
 use Rattle.sql_tables.specs.TableReads.{is_under}
 use Rattle.sql_tables.specs.Tables.{Tables}
@@ -243,14 +245,14 @@ module _ (c : List ℕ) (order : ℕ) (s : Submission) (retry : Option Retry) (t
 
     abbrev made_tables : Tables
     made_tables = record t {
-      submissions = insert_sorted submission_cmp new t.submissions;
+      submissions = insert_sorted (key_cmp the.submissions) new t.submissions;
       entries = (flat_map (entry_records r.sent) before ++ map (new_entry c order) (enumerate_from 1 s.entries)) ++ flat_map (entry_records r.sent) after;
       authorizations = filter_map authorization_record before ++ cons_option (option_map (λ day. record { company = c; order = order; day = day }) authorized) (filter_map authorization_record after);
     }
 
     tables_are : (add_submission_edit c order s retry).after t ≡ made_tables
     tables_are =
-        let t1 : Tables = record t { submissions = insert_sorted submission_cmp new t.submissions } in
+        let t1 : Tables = record t { submissions = insert_sorted (key_cmp the.submissions) new t.submissions } in
         ap (λ u. (put_authorization_edit c order authorized).after u)
         (entries_put c order (flat_map (entry_records r.sent) before) (flat_map (entry_records r.sent) after) (entries_above it before after above below r.sent) (entries_below it before after above below r.sent) s.entries 1 [] t1 tt
         (are.0.entries ∙ flat_map-append (entry_records r.sent) before after ∙ ap (λ l. l ++ flat_map (entry_records r.sent) after) (sym (append-nil (flat_map (entry_records r.sent) before)))))
@@ -262,12 +264,12 @@ module _ (c : List ℕ) (order : ℕ) (s : Submission) (retry : Option Retry) (t
     record_is : as_record it ≡ new
     record_is = λ i. record new { printed = option_map (λ (p : SentRow). p.printed) (not_printed i) }
 
-    submissions_are : insert_sorted submission_cmp new t.submissions ≡ map as_record with_it
+    submissions_are : insert_sorted (key_cmp the.submissions) new t.submissions ≡ map as_record with_it
     submissions_are =
-        ap (insert_sorted submission_cmp new) (are.0.submissions ∙ map-append as_record before after)
-        ∙ insert_between submission_cmp new (map as_record before) (map as_record after)
-        (all_map (λ y. is_gt (submission_cmp new y) ≡ true) as_record before (all_weaker (λ y. row_cmp it y ≡ Greater) (λ y. is_gt (submission_cmp new (as_record y)) ≡ true) (λ y up. ap is_gt up) before above))
-        (all_map (λ y. is_gt (submission_cmp new y) ≡ false) as_record after (all_weaker (λ y. row_cmp it y ≡ Less) (λ y. is_gt (submission_cmp new (as_record y)) ≡ false) (λ y up. ap is_gt up) after below))
+        ap (insert_sorted (key_cmp the.submissions) new) (are.0.submissions ∙ map-append as_record before after)
+        ∙ insert_between (key_cmp the.submissions) new (map as_record before) (map as_record after)
+        (all_map (λ y. is_gt (key_cmp the.submissions new y) ≡ true) as_record before (all_weaker (λ y. row_cmp it y ≡ Greater) (λ y. is_gt (key_cmp the.submissions new (as_record y)) ≡ true) (λ y up. ap is_gt up) before above))
+        (all_map (λ y. is_gt (key_cmp the.submissions new y) ≡ false) as_record after (all_weaker (λ y. row_cmp it y ≡ Less) (λ y. is_gt (key_cmp the.submissions new (as_record y)) ≡ false) (λ y up. ap is_gt up) after below))
         ∙ (λ i. map as_record before ++ sym record_is i ∷ map as_record after)
         ∙ sym (map-append as_record before (it ∷ after))
 
@@ -289,10 +291,10 @@ module _ (c : List ℕ) (order : ℕ) (s : Submission) (retry : Option Retry) (t
         submissions = submissions_are;
         entries = entries_are;
         returns =
-            records_stay (λ (p : ℕ × ReturnedRow) (o : ℕ). record { number = p.0; company = p.1.company; order = o; index = p.1.row.index; code = p.1.row.code; day = p.1.row.day; late = p.1.row.late; info = p.1.row.info })
+            records_stay (λ (p : ℕ × ReturnedRow) (o : ℕ). return_under p.0 (record p.1 { order = o }))
             (λ x. order_under rows x.company x.row.reference) (λ x. order_under with_it x.company x.row.reference) (λ x o is. still_ordered x.company x.row.reference o is) 1 r.returned t.returns are.0.returns;
         changes =
-            records_stay (λ (p : ℕ × ChangedRow) (o : ℕ). record { number = p.0; company = p.1.company; order = o; index = p.1.row.index; code = p.1.row.code; day = p.1.row.day; text = p.1.row.text })
+            records_stay (λ (p : ℕ × ChangedRow) (o : ℕ). change_under p.0 (record p.1 { order = o }))
             (λ x. order_under rows x.company x.row.reference) (λ x. order_under with_it x.company x.row.reference) (λ x o is. still_ordered x.company x.row.reference o is) 1 r.changed t.changes are.0.changes;
         postings = are.0.postings;
         suspense = are.0.suspense;
@@ -348,7 +350,7 @@ submission_made c order s retry trees t b stored h admits told =
     none_back (submission_record r.printed) _ (sym (find-map (is_row c order) (submission_record r.printed) r.submissions) ∙ sym (ap (find (is_row c order)) e.submissions) ∙ told.0.0) in
     let unnamed : find (is_submission_under c s.reference) r.submissions ≡ None =
     none_back (submission_record r.printed) _ (sym (find-map (is_under c s.reference) (submission_record r.printed) r.submissions) ∙ sym (ap (find (is_under c s.reference)) e.submissions) ∙ told.0.1) in
-    let rising = ascending_from_map (λ x y. submission_cmp x y ≡ Less) (submission_record r.printed) r.submissions (subst (IsAscending (λ x y. submission_cmp x y ≡ Less)) e.submissions (stored.stands named.submissions).rise) in
+    let rising = ascending_from_map (λ x y. key_cmp the.submissions x y ≡ Less) (submission_record r.printed) r.submissions (subst (IsAscending (λ x y. key_cmp the.submissions x y ≡ Less)) e.submissions (stored.stands named.submissions).rise) in
     let at : Split row_cmp it r.submissions =
     split row_cmp it cmp_total r.submissions rising (all_weaker (λ y. is_submission c order y ≡ false) (λ y. row_cmp it y ≡ Equal → ⊥) (key_apart c order s retry) r.submissions (none_passes (is_submission c order) r.submissions unnumbered)) in
     let own : order ≡ length (map (λ (x : CompanyRow). x.row) (filter (is_of_company c) r.submissions)) + 1 = admits ∙ ap (λ (k : Book). length (k.rows c) + 1) h.book in

@@ -7,8 +7,8 @@ use Rattle.sql_statements.specs.Edits.{Edit}
 use Rattle.desk_book.specs.declared.flat_rows.ChangedRow.{ChangedRow}
 use Rattle.desk_book.specs.Steps.{WasSent}
 use Rattle.desk_store.specs.Rows.{CompanyRow, Rows}
-use Rattle.sql_tables.specs.Encodes.{change_record, is_submission_under, order_under}
-use Rattle.sql_tables.specs.TableEdits.{each_edit_on, next_number, change_under, put_change_edit}
+use Rattle.sql_tables.specs.Encodes.{change_record, is_submission_under, order_under, change_under}
+use Rattle.sql_tables.specs.TableEdits.{each_edit_on, next_number, put_change_edit}
 use Rattle.sql_tables.specs.Tables.{Tables}
 use Rattle.sql_tables.specs.declared.records.ChangeRecord.{ChangeRecord}
 use Rattle.sql_tables.proofs.KeptRows.{numbered_more}
@@ -22,7 +22,7 @@ with_change x r = record r { changed = r.changed ++ x ∷ [] }
 change_numbers : (t : Tables) (r : Rows) → AreOf t r → map (λ (y : ChangeRecord). y.number) t.changes ≡ range_with_len 1 (length r.changed)
 change_numbers t r are = numbers_are (λ (y : ChangeRecord). y.number) (change_record r.submissions) has 1 r.changed t.changes are.0.changes
   where
-    go : (p : ℕ × ChangedRow) (y : ChangeRecord) (o : Option ℕ) → option_map (λ order. record { number = p.0; company = p.1.company; order = order; index = p.1.row.index; code = p.1.row.code; day = p.1.row.day; text = p.1.row.text }) o ≡ Some y → y.number ≡ p.0
+    go : (p : ℕ × ChangedRow) (y : ChangeRecord) (o : Option ℕ) → option_map (λ order. change_under p.0 (record p.1 { order = order })) o ≡ Some y → y.number ≡ p.0
     go p y None h = cc
     go p y (Some o) h = sym (ap (λ (z : ChangeRecord). z.number) (some_same h))
 
@@ -38,8 +38,8 @@ module _ (n : ℕ) (x : ChangedRow) (t : Tables) (r : Rows) (are : AreOf t r) (z
 
   made : change_record r.submissions (length r.changed + 1, x) ≡ Some new
   made =
-      (λ i. option_map (λ (order : ℕ). record { number = sym at i; company = x.company; order = order; index = x.row.index; code = x.row.code; day = x.row.day; text = x.row.text }) (order_under r.submissions x.company x.row.reference))
-      ∙ ap (option_map (λ (order : ℕ). record { number = n; company = x.company; order = order; index = x.row.index; code = x.row.code; day = x.row.day; text = x.row.text })) (ap (option_map (λ (v : CompanyRow). v.row.order)) found ∙ ap Some numbered)
+      (λ i. option_map (λ (order : ℕ). change_under (sym at i) (record x { order = order })) (order_under r.submissions x.company x.row.reference))
+      ∙ ap (option_map (λ (order : ℕ). change_under n (record x { order = order }))) (ap (option_map (λ (v : CompanyRow). v.row.order)) found ∙ ap Some numbered)
 
   changed_tables : AreOf ((put_change_edit n x).after t) (with_change x r)
   changed_tables = subst (λ u. AreOf u (with_change x r)) (sym behind) (

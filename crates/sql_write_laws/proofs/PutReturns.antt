@@ -15,8 +15,8 @@ use Rattle.desk_book.specs.Steps.{WasSent}
 use Rattle.desk_store.specs.Changes.{return_in, in_turn}
 use Rattle.desk_store.specs.Rows.{CompanyRow, Rows}
 use Rattle.sql_tables.specs.Beside.{LapsesUnsettled, ReturnsSettled, IsSentFrom, is_submission}
-use Rattle.sql_tables.specs.Encodes.{HasStates, RetryFits, is_return_of, is_submission_under, order_under, printed_at, retried_entry, return_record, submission_record}
-use Rattle.sql_tables.specs.TableEdits.{each_edit_on, next_number, put_return_edit, return_under}
+use Rattle.sql_tables.specs.Encodes.{HasStates, RetryFits, is_return_of, is_submission_under, order_under, printed_at, retried_entry, return_record, submission_record, return_under}
+use Rattle.sql_tables.specs.TableEdits.{each_edit_on, next_number, put_return_edit}
 use Rattle.sql_tables.specs.Tables.{Tables}
 use Rattle.sql_tables.specs.declared.records.ReturnRecord.{ReturnRecord}
 use Rattle.sql_tables.proofs.CutRecords.{pair_same, pair_from}
@@ -34,7 +34,7 @@ with_returned x r = record r { submissions = map (return_in x) r.submissions; re
 return_numbers : (t : Tables) (r : Rows) → AreOf t r → map (λ (y : ReturnRecord). y.number) t.returns ≡ range_with_len 1 (length r.returned)
 return_numbers t r are = numbers_are (λ (y : ReturnRecord). y.number) (return_record r.submissions) has 1 r.returned t.returns are.0.returns
   where
-    go : (p : ℕ × ReturnedRow) (y : ReturnRecord) (o : Option ℕ) → option_map (λ order. record { number = p.0; company = p.1.company; order = order; index = p.1.row.index; code = p.1.row.code; day = p.1.row.day; late = p.1.row.late; info = p.1.row.info }) o ≡ Some y → y.number ≡ p.0
+    go : (p : ℕ × ReturnedRow) (y : ReturnRecord) (o : Option ℕ) → option_map (λ order. return_under p.0 (record p.1 { order = order })) o ≡ Some y → y.number ≡ p.0
     go p y None h = cc
     go p y (Some o) h = sym (ap (λ (z : ReturnRecord). z.number) (some_same h))
 
@@ -139,8 +139,8 @@ module _ (n : ℕ) (x : ReturnedRow) (t : Tables) (r : Rows) (are : AreOf t r) (
 
       made : return_record (map f rows) (length r.returned + 1, x) ≡ Some new
       made =
-          (λ i. option_map (λ (order : ℕ). record { number = sym at i; company = x.company; order = order; index = x.row.index; code = x.row.code; day = x.row.day; late = x.row.late; info = x.row.info }) (order_under (map f rows) x.company x.row.reference))
-          ∙ ap (option_map (λ (order : ℕ). record { number = n; company = x.company; order = order; index = x.row.index; code = x.row.code; day = x.row.day; late = x.row.late; info = x.row.info })) (returned_orders x.company x.row.reference ∙ ap (option_map (λ (v : CompanyRow). v.row.order)) found ∙ ap Some (numbered))
+          (λ i. option_map (λ (order : ℕ). return_under (sym at i) (record x { order = order })) (order_under (map f rows) x.company x.row.reference))
+          ∙ ap (option_map (λ (order : ℕ). return_under n (record x { order = order }))) (returned_orders x.company x.row.reference ∙ ap (option_map (λ (v : CompanyRow). v.row.order)) found ∙ ap Some (numbered))
 
       returns_after : map Some (t.returns ++ new ∷ []) ≡ map (return_record (map f rows)) (enumerate_from 1 (r.returned ++ x ∷ []))
       returns_after =

@@ -6,8 +6,9 @@ use Rattle.sql_statements.specs.Edits.{Edit}
 use Rattle.desk_history.specs.declared.operations.SuspenseRow.{SuspenseRow}
 use Rattle.desk_history.specs.declared.operations.TakenFile.{TakenFile}
 use Rattle.desk_store.specs.Rows.{Rows}
+use Rattle.sql_tables.specs.Description.{key_cmp}
+use Rattle.sql_tables.specs.DeskTables as the
 use Rattle.sql_tables.specs.Encodes.{suspense_record}
-use Rattle.sql_tables.specs.KeyOrders.{taken_cmp}
 use Rattle.sql_tables.specs.TableEdits.{each_edit_on, next_number, put_suspense_edit, put_taken_edit}
 use Rattle.sql_tables.specs.Tables.{Tables}
 use Rattle.sql_tables.specs.declared.records.SuspenseRecord.{SuspenseRecord}
@@ -74,4 +75,4 @@ items_put xs t r are told =
     (each_numbered put_suspense_edit with_suspended (λ s. length s.suspense) (λ x s. length-append s.suspense (x ∷ [])) item_put xs _ t r (next_is (λ (y : SuspenseRecord). y.number) t.suspense (length r.suspense) (suspense_numbers t r are)) are told)
 
 pub taken_put : (f : TakenFile) (t : Tables) (r : Rows) → AreOf t r → (put_taken_edit f).Tells t → AreOf ((put_taken_edit f).after t) (record r { taken = r.taken ++ f ∷ [] })
-taken_put f t r are told = of_file t r t.suspense r.suspense _ (r.taken ++ f ∷ []) are.0.suspense (inserted_among taken_cmp f r.taken t.taken are.0.taken) are
+taken_put f t r are told = of_file t r t.suspense r.suspense _ (r.taken ++ f ∷ []) are.0.suspense (inserted_among (key_cmp the.taken) f r.taken t.taken are.0.taken) are

@@ -8,7 +8,9 @@ use Rattle.desk_accounts.proofs.Same.{same_is}
 use Rattle.desk_accounts.specs.Posting.{same_account}
 use Rattle.desk_accounts.specs.declared.account.Account.{Account}
 use Rattle.sql_tables.specs.Beside.{is_balance_of, balance_of}
-use Rattle.sql_tables.specs.KeyOrders.{IsInOrder, balance_cmp}
+use Rattle.sql_tables.specs.Description.{key_cmp}
+use Rattle.sql_tables.specs.DeskTables as the
+use Rattle.sql_tables.specs.KeyOrders.{IsInOrder}
 use Rattle.sql_tables.specs.declared.records.BalanceRecord.{BalanceRecord}
 use Rattle.sql_writes.proofs.Conditions.{same_number, number_itself}
 use Rattle.sql_writes.proofs.BalanceUpserts.{balance_total, equal_balances}
@@ -27,7 +29,7 @@ own_key account day = and_from _ _ ((same_is (same_account account account) acco
 -- ---- one list
 
 abbrev IsBelow : BalanceRecord → List BalanceRecord → Type 0
-IsBelow x xs = AllByRecursion (λ y. balance_cmp x y ≡ Less) xs
+IsBelow x xs = AllByRecursion (λ y. key_cmp the.balances x y ≡ Less) xs
 
 first_found : (x : BalanceRecord) (xs : List BalanceRecord) → balance_of (x ∷ xs) x.account x.value_day ≡ Some x.cents
 first_found x xs = ap (λ b. option_map (λ (y : BalanceRecord). y.cents) (cond b (Some x) (find (is_balance_of x.account x.value_day) xs))) (own_key x.account x.value_day)
@@ -58,19 +60,19 @@ same_behind x xs ys up vp same a d = go (is_balance_of a d x) refl (same a d)
         (λ i. balance_of xs (sym key.0 i) (sym key.1 i)) ∙ none_above x xs up ∙ sym (none_above x ys vp) ∙ (λ i. balance_of ys (key.0 i) (key.1 i))
     go false e h = h
 
-pub same_balances : (xs ys : List BalanceRecord) → IsInOrder balance_cmp xs → IsInOrder balance_cmp ys → ((a : Account) (d : ℕ) → balance_of xs a d ≡ balance_of ys a d) → xs ≡ ys
+pub same_balances : (xs ys : List BalanceRecord) → IsInOrder (key_cmp the.balances) xs → IsInOrder (key_cmp the.balances) ys → ((a : Account) (d : ℕ) → balance_of xs a d ≡ balance_of ys a d) → xs ≡ ys
 same_balances [] [] up vp same = refl
 same_balances [] (y ∷ ys) up vp same = absurd (none_there (same y.account y.value_day ∙ first_found y ys))
 same_balances (x ∷ xs) [] up vp same = absurd (none_there (sym (same x.account x.value_day) ∙ first_found x xs))
-same_balances (x ∷ xs) (y ∷ ys) up vp same = go (balance_cmp x y) refl (same_balances xs ys up.1 vp.1)
+same_balances (x ∷ xs) (y ∷ ys) up vp same = go (key_cmp the.balances x y) refl (same_balances xs ys up.1 vp.1)
   where
-    go : (o : Ordering) → balance_cmp x y ≡ o → (((a : Account) (d : ℕ) → balance_of xs a d ≡ balance_of ys a d) → xs ≡ ys) → x ∷ xs ≡ y ∷ ys
+    go : (o : Ordering) → key_cmp the.balances x y ≡ o → (((a : Account) (d : ℕ) → balance_of xs a d ≡ balance_of ys a d) → xs ≡ ys) → x ∷ xs ≡ y ∷ ys
     go Less e more =
-        let none = none_above x (y ∷ ys) (e, all_weaker _ (λ z. balance_cmp x z ≡ Less) (λ z. balance_total.trans x y z e) ys vp.0) in
+        let none = none_above x (y ∷ ys) (e, all_weaker _ (λ z. key_cmp the.balances x z ≡ Less) (λ z. balance_total.trans x y z e) ys vp.0) in
         absurd (none_there (sym none ∙ sym (same x.account x.value_day) ∙ first_found x xs))
     go Greater e more =
-        let back : balance_cmp y x ≡ Less = balance_total.antisymm y x ∙ ap ordering_reverse e in
-        let none = none_above y (x ∷ xs) (back, all_weaker _ (λ z. balance_cmp y z ≡ Less) (λ z. balance_total.trans y x z back) xs up.0) in
+        let back : (key_cmp the.balances) y x ≡ Less = balance_total.antisymm y x ∙ ap ordering_reverse e in
+        let none = none_above y (x ∷ xs) (back, all_weaker _ (λ z. key_cmp the.balances y z ≡ Less) (λ z. balance_total.trans y x z back) xs up.0) in
         absurd (none_there (sym none ∙ same y.account y.value_day ∙ first_found y ys))
     go Equal e more =
         let key = same_key x.account y.account x.value_day y.value_day (sym (equal_balances x y) ∙ ap is_eq e) in

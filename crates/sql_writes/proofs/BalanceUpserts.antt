@@ -23,15 +23,15 @@ use Rattle.sql_statements.proofs.Upserts.{upserted, put_or_update}
 use Rattle.sql_statements.proofs.OneRow.{one_of}
 use Rattle.sql_statements.specs.Layouts.{Holds}
 use Rattle.sql_tables.specs.ByName as named
+use Rattle.sql_tables.specs.Description.{as_row, key_cmp, table}
+use Rattle.sql_tables.specs.DeskTables as the
 use Rattle.sql_tables.proofs.ByName.{changed}
 use Rattle.sql_tables.specs.Schema.{desk_schema}
-use Rattle.sql_tables.specs.TableDefinitions.{balances_table}
 use Rattle.desk_accounts.specs.Posting.{same_account}
 use Rattle.sql_tables.specs.Beside.{is_balance_of}
 use Rattle.sql_tables.specs.Columns.{account_text}
-use Rattle.sql_tables.specs.KeyOrders.{IsInOrder, balance_cmp, text_cmp}
+use Rattle.sql_tables.specs.KeyOrders.{IsInOrder, text_cmp}
 use Rattle.sql_tables.specs.Layout.{desk_layout}
-use Rattle.sql_tables.specs.RecordRows.{balance_row}
 use Rattle.sql_tables.specs.TableEdits.{with_balance}
 use Rattle.sql_tables.specs.Tables.{Tables, IsTableOf}
 use Rattle.sql_tables.specs.declared.records.BalanceRecord.{BalanceRecord}
@@ -41,14 +41,14 @@ use Rattle.sql_writes.proofs.Conditions.{number_is, same_text, same_number, equa
 use Rattle.sql_writes.proofs.Keys.{put_in_order}
 use Rattle.sql_writes.specs.LineTexts.{upsert_balance}
 
-upsert_balance_is : IsUpsert desk_schema upsert_balance.text 11 24 balances_table (1 ∷ 2 ∷ []) upsert_balance.sets
+upsert_balance_is : IsUpsert desk_schema upsert_balance.text 11 24 (table the.balances) (1 ∷ 2 ∷ []) upsert_balance.sets
 unfolding understood everything
 upsert_balance_is = record { update = _; is = refl; body = refl; alone = refl; plain = (refl, refl) }
 
-pub balance_total : IsTotalOrder balance_cmp
+pub balance_total : IsTotalOrder (key_cmp the.balances)
 balance_total = then_total (on_total (λ (b : BalanceRecord). account_text b.account) nat_list_cmp_total) (on_total (λ (b : BalanceRecord). b.value_day) nat_cmp_total)
 
-pub equal_balances : (a b : BalanceRecord) → is_eq (balance_cmp a b) ≡ is_balance_of b.account b.value_day a
+pub equal_balances : (a b : BalanceRecord) → is_eq (key_cmp the.balances a b) ≡ is_balance_of b.account b.value_day a
 equal_balances a b =
     equal_both _ _ ∙ ap₂ (λ p q. p && q) (is_eq-slice_cmp (account_text a.account) (account_text b.account) ∙ accounts_are a.account b.account) (equal_numbers a.value_day b.value_day)
 
@@ -59,12 +59,12 @@ module _ (n : BalanceRecord) where
   abbrev is_it : BalanceRecord → Bool
   is_it = is_balance_of n.account n.value_day
 
-  meets : (i j : ℤ) (y : BalanceRecord) → conflicts (Some (1 ∷ 2 ∷ [])) desk_schema.indexes balances_table (row_of balance_row (j, n)) (row_of balance_row (i, y)) ≡ is_it y
+  meets : (i j : ℤ) (y : BalanceRecord) → conflicts (Some (1 ∷ 2 ∷ [])) desk_schema.indexes (table the.balances) (row_of (as_row the.balances) (j, n)) (row_of (as_row the.balances) (i, y)) ≡ is_it y
   unfolding first_key
   meets i j y = or-false _ ∙ two (text_is (account_text y.account) (account_text n.account) ∙ accounts_are y.account n.account) (number_is y.value_day n.value_day)
 
   -- two that pass have one key
-  same_key : (a b : BalanceRecord) → is_it a ≡ true → is_it b ≡ true → is_eq (balance_cmp a b) ≡ true
+  same_key : (a b : BalanceRecord) → is_it a ≡ true → is_it b ≡ true → is_eq (key_cmp the.balances a b) ≡ true
   same_key a b here there =
       let x = and_parts (same_account a.account n.account) (a.value_day == n.value_day) here in
       let y = and_parts (same_account b.account n.account) (b.value_day == n.value_day) there in
@@ -74,10 +74,10 @@ module _ (n : BalanceRecord) where
       ∙ ap₂ (λ p q. p && q) (is_eq-slice_cmp (account_text a.account) (account_text b.account) ∙ ap (bytes_eq (account_text a.account)) text ∙ accounts_are a.account n.account)
       (equal_numbers a.value_day b.value_day ∙ ap (λ d. a.value_day == d) day) ∙ here
 
-  one_balance : (a b : BalanceRecord) → is_it a ≡ true → is_it b ≡ true → balance_cmp a b ≡ Less → ⊥
+  one_balance : (a b : BalanceRecord) → is_it a ≡ true → is_it b ≡ true → key_cmp the.balances a b ≡ Less → ⊥
   one_balance a b here there less = true≢false (sym (same_key a b here there) ∙ ap is_eq less)
 
-  keeps_order : (a b : BalanceRecord) → balance_cmp (cond (is_it a) (set a) a) (cond (is_it b) (set b) b) ≡ balance_cmp a b
+  keeps_order : (a b : BalanceRecord) → key_cmp the.balances (cond (is_it a) (set a) a) (cond (is_it b) (set b) b) ≡ key_cmp the.balances a b
   keeps_order a b = λ i. ordering_then (text_cmp (account_text (account a i)) (account_text (account b i))) (nat_cmp (day a i) (day b i))
     where
       account : (d : BalanceRecord) → (cond (is_it d) (set d) d).account ≡ d.account
@@ -87,22 +87,22 @@ module _ (n : BalanceRecord) where
       day d = elim (is_it d) as (λ q. (cond q (set d) d).value_day ≡ d.value_day) [ true ↦ refl | false ↦ refl ]
 
   -- the row is in the order of its key, or stays there
-  pub put_rises : (bs : List BalanceRecord) → IsInOrder balance_cmp bs → IsInOrder balance_cmp (with_balance n.account n.value_day n.cents bs)
+  pub put_rises : (bs : List BalanceRecord) → IsInOrder (key_cmp the.balances) bs → IsInOrder (key_cmp the.balances) (with_balance n.account n.value_day n.cents bs)
   put_rises bs rise = go (list_any is_it bs) refl
     where
-      go : (b : Bool) → list_any is_it bs ≡ b → IsInOrder balance_cmp (cond b (update_where is_it set bs) (insert_sorted balance_cmp n bs))
-      go true e = rises_updated balance_cmp is_it set keeps_order bs rise
-      go false e = rises_sorted balance_cmp balance_total n bs ((λ i. list_any (λ y. equal_balances y n i) bs) ∙ e) rise
+      go : (b : Bool) → list_any is_it bs ≡ b → IsInOrder (key_cmp the.balances) (cond b (update_where is_it set bs) (insert_sorted (key_cmp the.balances) n bs))
+      go true e = rises_updated (key_cmp the.balances) is_it set keeps_order bs rise
+      go false e = rises_sorted (key_cmp the.balances) balance_total n bs ((λ i. list_any (λ y. equal_balances y n i) bs) ∙ e) rise
 
-  pub balance_put : (old new : State) (count : ℕ) → Executes upsert_balance.text (balance_row n) old new (Ok count) → (t : Tables) → Holds desk_layout old.now t
+  pub balance_put : (old new : State) (count : ℕ) → Executes upsert_balance.text (as_row the.balances n) old new (Ok count) → (t : Tables) → Holds desk_layout old.now t
       → Holds desk_layout new.now (record t { balances = with_balance n.account n.value_day n.cents t.balances })
   balance_put old new count ran t h =
-      let s = balances_table in
-      let done = upserted balance_row desk_schema 11 24 s.name s.columns s.primary s.uniques s.orders upsert_balance.text (1 ∷ 2 ∷ []) upsert_balance.sets upsert_balance_is refl (λ olds news. refl)
-      n refl (row_kept s Null (balance_row n) refl refl) (λ i y. row_kept s (Int i) (balance_row y) refl refl) is_it set meets (λ i j k y. and_true _ ∙ int_is i j) (λ i j k y. refl)
+      let s = table the.balances in
+      let done = upserted (as_row the.balances) desk_schema 11 24 s.name s.columns s.primary s.uniques s.orders upsert_balance.text (1 ∷ 2 ∷ []) upsert_balance.sets upsert_balance_is refl (λ olds news. refl)
+      n refl (row_kept s Null (as_row the.balances n) refl refl) (λ i y. row_kept s (Int i) (as_row the.balances y) refl refl) is_it set meets (λ i j k y. and_true _ ∙ int_is i j) (λ i j k y. refl)
       old new count h.0 t.balances (h.1.stands named.balances).stored (one_of _ is_it one_balance t.balances (h.1.stands named.balances).rise) ran in
       (done.0.schema_is, changed named.balances old.now.trees new.now.trees t h.1 done.0.others _ (sorted (list_any is_it t.balances) refl done.1))
     where
-      sorted : (b : Bool) → list_any is_it t.balances ≡ b → Stores balance_row (new.now.trees 24) (put_or_update is_it set n t.balances) → IsTableOf new.now.trees balances_table balance_row balance_cmp (with_balance n.account n.value_day n.cents t.balances)
-      sorted true e stores = rw e (record { stored = rw e at stores; rise = rises_updated balance_cmp is_it set keeps_order t.balances (h.1.stands named.balances).rise })
-      sorted false e stores = rw e (put_in_order balance_row balance_cmp balance_total is_it new.now.trees balances_table n t.balances (λ y. equal_balances y n) e (h.1.stands named.balances).rise (rw e at stores))
+      sorted : (b : Bool) → list_any is_it t.balances ≡ b → Stores (as_row the.balances) (new.now.trees 24) (put_or_update is_it set n t.balances) → IsTableOf new.now.trees (table the.balances) (as_row the.balances) (key_cmp the.balances) (with_balance n.account n.value_day n.cents t.balances)
+      sorted true e stores = rw e (record { stored = rw e at stores; rise = rises_updated (key_cmp the.balances) is_it set keeps_order t.balances (h.1.stands named.balances).rise })
+      sorted false e stores = rw e (put_in_order (as_row the.balances) (key_cmp the.balances) balance_total is_it new.now.trees (table the.balances) n t.balances (λ y. equal_balances y n) e (h.1.stands named.balances).rise (rw e at stores))

@@ -15,27 +15,26 @@ use Rattle.sql_statements.specs.StoredRows.{row_of, Stores}
 use Rattle.sql_statements.specs.Layouts.{Holds}
 use Rattle.sql_tables.specs.ByName as named
 use Rattle.sql_tables.specs.ByName.{described}
-use Rattle.sql_tables.specs.Description.{table}
+use Rattle.sql_tables.specs.Description.{table, as_row}
 use Rattle.sql_tables.specs.Schema.{desk_schema}
-use Rattle.sql_tables.specs.TableDefinitions.{desk_table, holidays_table}
 use Rattle.sql_tables.specs.Columns.{number}
 use Rattle.sql_tables.specs.Layout.{desk_layout}
-use Rattle.sql_tables.specs.RecordRows.{desk_row, holiday_row}
 use Rattle.sql_tables.specs.Tables.{Tables}
 use Rattle.sql_tables.specs.declared.records.DeskRecord.{DeskRecord}
 use Rattle.sql_writes.proofs.Puts.{holds_with, one_put, IsDeleteOf, IsUpdateOf, place_of, PutsOne, rows_deleted, rows_updated}
 use Rattle.sql_writes.specs.Texts.{update_day, delete_holidays, insert_holiday}
 use Rattle.sql_writes.proofs.Conditions.{number_is, same_number, number_itself, equal_numbers, taken_first}
 use Rattle.sql_writes.proofs.Keys.{key_free, put_in_order}
+use Rattle.sql_tables.specs.DeskTables as the
 
 update_day_is : IsUpdateOf named.desk update_day
 unfolding understood everything
 update_day_is = record { is = record { updates = refl; body = refl; alone = refl; plain = (refl, refl) } }
 
-desk_kept : (d : DeskRecord) → are_kept desk_table.columns (desk_row d) ≡ true
+desk_kept : (d : DeskRecord) → are_kept (table the.desk).columns (as_row the.desk d) ≡ true
 desk_kept d = go d.day
   where
-    go : (o : Option ℕ) → are_kept desk_table.columns (desk_row (record d { day = o })) ≡ true
+    go : (o : Option ℕ) → are_kept (table the.desk).columns (as_row the.desk (record d { day = o })) ≡ true
     go None = refl
     go (Some n) = refl
 
@@ -58,7 +57,7 @@ none_left (d ∷ days) = none_left days
 pub holidays_cleared : (old new : State) (count : ℕ) → Executes delete_holidays.text [] old new (Ok count) → (t : Tables) → Holds desk_layout old.now t → Holds desk_layout new.now (record t { holidays = [] })
 holidays_cleared old new count ran t h =
     let made = rows_deleted named.holidays delete_holidays [] (λ _. true) (λ i d. refl) old new count ran t h delete_holidays_is in
-    holds_with named.holidays [] h made (record { stored = subst (Stores holiday_row (new.now.trees 2)) (none_left t.holidays) made.stored; rise = tt })
+    holds_with named.holidays [] h made (record { stored = subst (Stores (as_row the.holidays) (new.now.trees 2)) (none_left t.holidays) made.stored; rise = tt })
 
 insert_holiday_is : IsInsert desk_schema insert_holiday (place_of named.holidays) (table (described named.holidays))
 unfolding understood everything
@@ -67,13 +66,13 @@ insert_holiday_is = record { is = refl; plain = (refl, refl) }
 puts_holiday : PutsOne named.holidays
 puts_holiday = record { is = insert_holiday_is; given = λ x. refl; kept = λ x. refl }
 
-same_day : (day : ℕ) (a b : ℤ × ℕ) → (a.1 == day) ≡ true → (b.1 == day) ≡ true → agree plain (1 ∷ []) (row_of holiday_row b) (1 ∷ []) (row_of holiday_row a) ≡ true
+same_day : (day : ℕ) (a b : ℤ × ℕ) → (a.1 == day) ≡ true → (b.1 == day) ≡ true → agree plain (1 ∷ []) (row_of (as_row the.holidays) b) (1 ∷ []) (row_of (as_row the.holidays) a) ≡ true
 unfolding first_key
 same_day day a b here there = and_true _ ∙ number_is b.1 a.1 ∙ ap (λ n. b.1 == n) (same_number a.1 day here) ∙ there
 
-pub holiday_put : (day : ℕ) (old new : State) (count : ℕ) → Executes insert_holiday (holiday_row day) old new (Ok count) → (t : Tables) → Holds desk_layout old.now t
+pub holiday_put : (day : ℕ) (old new : State) (count : ℕ) → Executes insert_holiday (as_row the.holidays day) old new (Ok count) → (t : Tables) → Holds desk_layout old.now t
     → Holds desk_layout new.now (record t { holidays = insert_sorted nat_cmp day t.holidays })
 holiday_put day old new count ran t h =
-    let s = holidays_table in
+    let s = table the.holidays in
     let made = one_put named.holidays puts_holiday day old new count ran t h in
-    let free = key_free holiday_row desk_schema s (1 ∷ []) (λ d. d == day) (same_day day) (λ db row any. taken_first _ _ any) new.now.trees day t.holidays (number_itself day) made.has.stored made.unique in holds_with named.holidays _ h made.has (put_in_order holiday_row nat_cmp nat_cmp_total (λ d. d == day) new.now.trees s day t.holidays (λ y. equal_numbers y day) free (h.1.stands named.holidays).rise made.has.stored)
+    let free = key_free (as_row the.holidays) desk_schema s (1 ∷ []) (λ d. d == day) (same_day day) (λ db row any. taken_first _ _ any) new.now.trees day t.holidays (number_itself day) made.has.stored made.unique in holds_with named.holidays _ h made.has (put_in_order (as_row the.holidays) nat_cmp nat_cmp_total (λ d. d == day) new.now.trees s day t.holidays (λ y. equal_numbers y day) free (h.1.stands named.holidays).rise made.has.stored)

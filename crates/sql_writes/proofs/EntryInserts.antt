@@ -14,13 +14,10 @@ use Rattle.sql_statements.specs.Layouts.{Holds}
 use Rattle.desk_rules.specs.declared.bodies.submission.Entry.{Entry}
 use Rattle.sql_tables.specs.ByName as named
 use Rattle.sql_tables.specs.ByName.{described}
-use Rattle.sql_tables.specs.Description.{table}
+use Rattle.sql_tables.specs.Description.{table, as_row, key_cmp}
 use Rattle.sql_tables.specs.CutTables.{is_entry_row}
-use Rattle.sql_tables.specs.KeyOrders.{entry_cmp}
 use Rattle.sql_tables.specs.Layout.{desk_layout}
-use Rattle.sql_tables.specs.RecordRows.{entry_row}
 use Rattle.sql_tables.specs.Schema.{desk_schema}
-use Rattle.sql_tables.specs.TableDefinitions.{entries_table}
 use Rattle.sql_tables.specs.TableEdits.{put_entry_edit}
 use Rattle.sql_tables.specs.Tables.{Tables}
 use Rattle.sql_tables.specs.declared.records.EntryRecord.{EntryRecord}
@@ -32,6 +29,7 @@ use Rattle.sql_writes.proofs.Conditions.{taken_first}
 use Rattle.sql_writes.proofs.Keys.{find_none, few_have}
 use Rattle.sql_writes.proofs.ManyKeys.{all_put, AreFree, put_in_turn}
 use Rattle.sql_writes.proofs.SubmissionRows.{entry_kept, entry_total, same_entry, same_entry_key, entry_itself}
+use Rattle.sql_tables.specs.DeskTables as the
 
 insert_entries_is : IsInsertOfRows desk_schema insert_entries (place_of named.entries) (table (described named.entries)) 16
 unfolding understood everything
@@ -43,14 +41,14 @@ puts_sixteen = record { is = insert_entries_is; whole = refl; wide = λ x. refl;
 abbrev has_key_of : EntryRecord → EntryRecord → Bool
 has_key_of x = is_entry_row x.company x.order x.index
 
-records_put : (xs : List EntryRecord) → length xs ≡ 16 → (old new : State) (count : ℕ) → Executes insert_entries (flat_map entry_row xs) old new (Ok count) → (t : Tables) → Holds desk_layout old.now t
-    → Holds desk_layout new.now (record t { entries = all_put entry_cmp xs t.entries }) × AreFree entry_cmp has_key_of xs t.entries
+records_put : (xs : List EntryRecord) → length xs ≡ 16 → (old new : State) (count : ℕ) → Executes insert_entries (flat_map (as_row the.entries) xs) old new (Ok count) → (t : Tables) → Holds desk_layout old.now t
+    → Holds desk_layout new.now (record t { entries = all_put (key_cmp the.entries) xs t.entries }) × AreFree (key_cmp the.entries) has_key_of xs t.entries
 records_put xs many old new count ran t h =
-    let s = entries_table in
+    let s = table the.entries in
     let made = sixteen_put named.entries puts_sixteen xs many old new count ran t h in
-    let few = λ (x : EntryRecord). few_have entry_row desk_schema s (1 ∷ 2 ∷ 3 ∷ []) (has_key_of x) (same_entry x.company x.order x.index) (λ db row any. taken_first _ _ any) new.now.trees (xs ++ t.entries) made.has.stored made.unique in
-    let put = put_in_turn entry_cmp has_key_of entry_total same_entry_key entry_itself xs t.entries few (h.1.stands named.entries).rise in (
-      (holds_with named.entries _ h made.has (record { stored = stores_in entry_row _ _ _ put.0 made.has.stored; rise = put.1 })),
+    let few = λ (x : EntryRecord). few_have (as_row the.entries) desk_schema s (1 ∷ 2 ∷ 3 ∷ []) (has_key_of x) (same_entry x.company x.order x.index) (λ db row any. taken_first _ _ any) new.now.trees (xs ++ t.entries) made.has.stored made.unique in
+    let put = put_in_turn (key_cmp the.entries) has_key_of entry_total same_entry_key entry_itself xs t.entries few (h.1.stands named.entries).rise in (
+      (holds_with named.entries _ h made.has (record { stored = stores_in (as_row the.entries) _ _ _ put.0 made.has.stored; rise = put.1 })),
       put.2,
     )
 
@@ -68,15 +66,15 @@ module _ (company : List ℕ) (order : ℕ) where
   abbrev numbered_edit : ℕ × Entry → Edit Tables
   numbered_edit p = put_entry_edit company order p.0 p.1
 
-  each_put : (ps : List (ℕ × Entry)) (t : Tables) → AreFree entry_cmp has_key_of (map numbered_record ps) t.entries
-      → ((each_edit numbered_edit ps).after t ≡ record t { entries = all_put entry_cmp (map numbered_record ps) t.entries }) × (each_edit numbered_edit ps).Tells t
+  each_put : (ps : List (ℕ × Entry)) (t : Tables) → AreFree (key_cmp the.entries) has_key_of (map numbered_record ps) t.entries
+      → ((each_edit numbered_edit ps).after t ≡ record t { entries = all_put (key_cmp the.entries) (map numbered_record ps) t.entries }) × (each_edit numbered_edit ps).Tells t
   each_put [] t free = (refl, tt)
   each_put (p ∷ ps) t free =
-      let more = each_put ps (record t { entries = insert_sorted entry_cmp (numbered_record p) t.entries }) free.1 in
+      let more = each_put ps (record t { entries = insert_sorted (key_cmp the.entries) (numbered_record p) t.entries }) free.1 in
       (more.0, (find_none (has_key_of (numbered_record p)) t.entries free.0, more.1))
 
   -- it is as if each entry had been put in by a statement of its own
-  pub entries_put : (first : ℕ) (es : List Entry) → length es ≡ 16 → (old new : State) (count : ℕ) → Executes insert_entries (flat_map entry_row (map numbered_record (enumerate_from first es))) old new (Ok count)
+  pub entries_put : (first : ℕ) (es : List Entry) → length es ≡ 16 → (old new : State) (count : ℕ) → Executes insert_entries (flat_map (as_row the.entries) (map numbered_record (enumerate_from first es))) old new (Ok count)
       → (t : Tables) → Holds desk_layout old.now t → Holds desk_layout new.now ((each_edit_from (put_entry_edit company order) first es).after t) × (each_edit_from (put_entry_edit company order) first es).Tells t
   entries_put first es many old new count ran t h =
       let ps = enumerate_from first es in
@@ -90,10 +88,10 @@ module _ (company : List ℕ) (order : ℕ) where
 
   -- ---- the parameters of a statement of many rows
 
-  flat_rows : (ps : List (ℕ × Entry)) → flat_map (λ v. v) (map stored_values (map (λ p. held_entry company order p.0 p.1) ps)) ≡ flat_map entry_row (map numbered_record ps)
+  flat_rows : (ps : List (ℕ × Entry)) → flat_map (λ v. v) (map stored_values (map (λ p. held_entry company order p.0 p.1) ps)) ≡ flat_map (as_row the.entries) (map numbered_record ps)
   flat_rows [] = refl
-  flat_rows (p ∷ ps) = ap (λ l. entry_row (numbered_record p) ++ l) (flat_rows ps)
+  flat_rows (p ∷ ps) = ap (λ l. as_row the.entries (numbered_record p) ++ l) (flat_rows ps)
 
   pub bound_rows : (first : ℕ) (es : List Entry) (vs : List (List ValueRef)) → map bound vs ≡ map stored_values (held_rows company order first es)
-      → bound (flat_map (λ v. v) vs) ≡ flat_map entry_row (map numbered_record (enumerate_from first es))
+      → bound (flat_map (λ v. v) vs) ≡ flat_map (as_row the.entries) (map numbered_record (enumerate_from first es))
   bound_rows first es vs are = bound_flat vs ∙ ap (flat_map (λ v. v)) are ∙ flat_rows (enumerate_from first es)

@@ -15,12 +15,13 @@ use Rattle.sql_statements.proofs.KeyOrder.{rises_updated}
 use Rattle.sql_statements.proofs.OneRow.{one_of, one_found, updates_agree}
 use Rattle.sql_statements.specs.Layouts.{Holds}
 use Rattle.sql_tables.specs.ByName as named
+use Rattle.sql_tables.specs.Description.{as_row, key_cmp}
+use Rattle.sql_tables.specs.DeskTables as the
 use Rattle.desk_history.specs.declared.sent_entry.SentEntry.{SentEntry}
 use Rattle.sql_tables.specs.Columns.{number}
 use Rattle.sql_tables.specs.CutTables.{is_entry_row, mark_entry}
-use Rattle.sql_tables.specs.KeyOrders.{entry_cmp, text_cmp}
+use Rattle.sql_tables.specs.KeyOrders.{text_cmp}
 use Rattle.sql_tables.specs.Layout.{desk_layout}
-use Rattle.sql_tables.specs.RecordRows.{entry_row}
 use Rattle.sql_tables.specs.TableEdits.{IsUnsent}
 use Rattle.sql_tables.specs.Tables.{Tables}
 use Rattle.sql_tables.specs.declared.records.EntryRecord.{EntryRecord}
@@ -51,7 +52,7 @@ module _ (n : ℕ) (e : SentEntry) where
   abbrev is_it : EntryRecord → Bool
   is_it = is_entry_row e.company e.order e.index
 
-  tested : (i : ℤ) (r : EntryRecord) → list_all (holds (its_params ∷ row_of entry_row (i, r) ∷ [])) update_entry.tests ≡ is_unsent_at e.company e.order e.index r
+  tested : (i : ℤ) (r : EntryRecord) → list_all (holds (its_params ∷ row_of (as_row the.entries) (i, r) ∷ [])) update_entry.tests ≡ is_unsent_at e.company e.order e.index r
   tested i r =
       let a = text_is r.company e.company in
       let b = conditions.number_is r.order e.order in
@@ -61,7 +62,7 @@ module _ (n : ℕ) (e : SentEntry) where
       ∙ and_joined (bytes_eq r.company e.company) (r.order == e.order) ((r.index == e.index) && is_none r.place)
       ∙ and_joined (bytes_eq r.company e.company && (r.order == e.order)) (r.index == e.index) (is_none r.place)
 
-  keeps_order : (a b : EntryRecord) → entry_cmp (cond (is_it a) (set a) a) (cond (is_it b) (set b) b) ≡ entry_cmp a b
+  keeps_order : (a b : EntryRecord) → key_cmp the.entries (cond (is_it a) (set a) a) (cond (is_it b) (set b) b) ≡ key_cmp the.entries a b
   keeps_order a b = λ i. ordering_then (ordering_then (text_cmp (company a i) (company b i)) (nat_cmp (order a i) (order b i))) (nat_cmp (index a i) (index b i))
     where
       company : (d : EntryRecord) → (cond (is_it d) (set d) d).company ≡ d.company
@@ -81,8 +82,8 @@ module _ (n : ℕ) (e : SentEntry) where
       let it = one_found test is_it (λ r here. (unsent_parts e.company e.order e.index r here).0) t.entries (one_of _ is_it (one_entry e.company e.order e.index) t.entries (h.1.stands named.entries).rise) (sym made.1) in
       let parts = unsent_parts e.company e.order e.index it.row it.passes in (
         holds_with named.entries _ h made.0 (record {
-          stored = subst (Stores entry_row (new.now.trees 9)) (updates_agree test is_it set t.entries it.same) made.0.stored;
-          rise = rises_updated entry_cmp is_it set keeps_order t.entries (h.1.stands named.entries).rise;
+          stored = subst (Stores (as_row the.entries) (new.now.trees 9)) (updates_agree test is_it set t.entries it.same) made.0.stored;
+          rise = rises_updated (key_cmp the.entries) is_it set keeps_order t.entries (h.1.stands named.entries).rise;
         }),
         record { record_of = it.row; found = it.found; unplaced = parts.1 },
       )

@@ -3,7 +3,8 @@ use Rattle.std.proofs.Common.{◌≡◌, ℕ, Bool, true, false, not, is_none, �
 use Rattle.std.proofs.lemmas.Bool.{and_parts}
 use Rattle.std.proofs.lemmas.Map.Text.{is_eq-slice_cmp}
 use Rattle.sql_tables.specs.CutTables.{is_row, is_entry_row}
-use Rattle.sql_tables.specs.KeyOrders.{submission_cmp, entry_cmp}
+use Rattle.sql_tables.specs.Description.{key_cmp}
+use Rattle.sql_tables.specs.DeskTables as the
 use Rattle.sql_tables.specs.declared.records.EntryRecord.{EntryRecord}
 use Rattle.sql_tables.specs.declared.records.SubmissionRecord.{SubmissionRecord}
 use Rattle.sql_writes.proofs.Conditions.{same_text, same_number, equal_numbers, equal_both}
@@ -28,11 +29,11 @@ not_is false h = refl
 row_parts : (c : List ℕ) (o : ℕ) (r : SubmissionRecord) → is_row c o r ≡ true → (bytes_eq r.head.company c ≡ true) × ((r.head.order == o) ≡ true)
 row_parts c o r h = and_parts (bytes_eq r.head.company c) (r.head.order == o) h
 
-equal_rows : (a b : SubmissionRecord) → is_eq (submission_cmp a b) ≡ is_row b.head.company b.head.order a
+equal_rows : (a b : SubmissionRecord) → is_eq (key_cmp the.submissions a b) ≡ is_row b.head.company b.head.order a
 equal_rows a b = equal_both _ _ ∙ ap₂ (λ p q. p && q) (is_eq-slice_cmp a.head.company b.head.company) (equal_numbers a.head.order b.head.order)
 
-pub one_row : (c : List ℕ) (o : ℕ) (a b : SubmissionRecord) → is_row c o a ≡ true → is_row c o b ≡ true → submission_cmp a b ≡ Less → ⊥
-one_row c o = not_before submission_cmp (is_row c o) (λ a b here there.
+pub one_row : (c : List ℕ) (o : ℕ) (a b : SubmissionRecord) → is_row c o a ≡ true → is_row c o b ≡ true → key_cmp the.submissions a b ≡ Less → ⊥
+one_row c o = not_before (key_cmp the.submissions) (is_row c o) (λ a b here there.
     let it = row_parts c o b there in
     equal_rows a b ∙ ap₂ (λ k n. is_row k n a) (same_text b.head.company c it.0) (same_number b.head.order o it.1) ∙ here)
 
@@ -44,13 +45,13 @@ entry_parts c o n r h =
     let two = and_parts (bytes_eq r.company c) (r.order == o) one.0 in
     (two.0, two.1, one.1)
 
-equal_entries : (a b : EntryRecord) → is_eq (entry_cmp a b) ≡ is_entry_row b.company b.order b.index a
+equal_entries : (a b : EntryRecord) → is_eq (key_cmp the.entries a b) ≡ is_entry_row b.company b.order b.index a
 equal_entries a b =
     equal_both _ _
     ∙ ap₂ (λ p q. p && q) (equal_both _ _ ∙ ap₂ (λ p q. p && q) (is_eq-slice_cmp a.company b.company) (equal_numbers a.order b.order)) (equal_numbers a.index b.index)
 
-pub one_entry : (c : List ℕ) (o n : ℕ) (a b : EntryRecord) → is_entry_row c o n a ≡ true → is_entry_row c o n b ≡ true → entry_cmp a b ≡ Less → ⊥
-one_entry c o n = not_before entry_cmp (is_entry_row c o n) (λ a b here there.
+pub one_entry : (c : List ℕ) (o n : ℕ) (a b : EntryRecord) → is_entry_row c o n a ≡ true → is_entry_row c o n b ≡ true → key_cmp the.entries a b ≡ Less → ⊥
+one_entry c o n = not_before (key_cmp the.entries) (is_entry_row c o n) (λ a b here there.
     let it = entry_parts c o n b there in
     equal_entries a b
     ∙ ap₂ (λ k m. is_entry_row k m b.index a) (same_text b.company c it.0) (same_number b.order o it.1)

@@ -24,14 +24,12 @@ use Rattle.sql_statements.proofs.StoredRows.{stores_in}
 use Rattle.desk_history.specs.declared.sent_entry.SentEntry.{SentEntry}
 use Rattle.sql_tables.specs.ByName as named
 use Rattle.sql_tables.specs.ByName.{described}
-use Rattle.sql_tables.specs.Description.{table}
+use Rattle.sql_tables.specs.Description.{table, as_row, key_cmp}
 use Rattle.sql_tables.specs.Schema.{desk_schema}
-use Rattle.sql_tables.specs.TableDefinitions.{numbers_table}
 use Rattle.sql_tables.specs.Columns.{number}
 use Rattle.sql_tables.specs.CutTables.{has_sequence, with_number}
-use Rattle.sql_tables.specs.KeyOrders.{IsInOrder, number_cmp}
+use Rattle.sql_tables.specs.KeyOrders.{IsInOrder}
 use Rattle.sql_tables.specs.Layout.{desk_layout}
-use Rattle.sql_tables.specs.RecordRows.{number_row}
 use Rattle.sql_tables.specs.Tables.{Tables}
 use Rattle.sql_tables.specs.declared.records.NumberRecord.{NumberRecord}
 use Rattle.sql_writes.proofs.Puts.{holds_with, IsDeleteOf, one_put, place_of, PutsOne, PutsSixteen, rows_deleted, sixteen_put}
@@ -45,6 +43,7 @@ use Rattle.sql_writes.specs.CutTexts.{delete_numbers, insert_number, insert_numb
 use Rattle.sql_writes.specs.ManyRows.{IsInsertOfRows}
 use Rattle.sql_writes.specs.PlaceEdits.{put_number_edit, is_within, clear_numbers_edit, number_record, numbers_from, insert_number_edit, follows_in_sequence}
 use Rattle.sql_writes.specs.Runs.{is_run}
+use Rattle.sql_tables.specs.DeskTables as the
 
 -- ---- the statements
 
@@ -80,44 +79,44 @@ numbers_cleared from to old new count ran t h =
       (h.1.stands named.numbers).rise,
     )
   where
-    tested : (i : ℤ) (n : NumberRecord) → list_all (holds ((number from ∷ number to ∷ []) ∷ row_of number_row (i, n) ∷ [])) delete_numbers.tests ≡ is_within from to n
+    tested : (i : ℤ) (n : NumberRecord) → list_all (holds ((number from ∷ number to ∷ []) ∷ row_of (as_row the.sequences) (i, n) ∷ [])) delete_numbers.tests ≡ is_within from to n
     tested i n =
         let a = int_least (pos n.sequence) (pos from) ∙ least_is n.sequence from in
         let b = and_true _ ∙ int_most (pos n.sequence) (pos to) ∙ most_is n.sequence to in
         λ j. a j && b j
 
-pub number_inserted : (n : NumberRecord) (old new : State) (count : ℕ) → Executes insert_number (number_row n) old new (Ok count) → (t : Tables) → Holds desk_layout old.now t
-    → Holds desk_layout new.now (record t { numbers = insert_sorted number_cmp n t.numbers })
+pub number_inserted : (n : NumberRecord) (old new : State) (count : ℕ) → Executes insert_number (as_row the.sequences n) old new (Ok count) → (t : Tables) → Holds desk_layout old.now t
+    → Holds desk_layout new.now (record t { numbers = insert_sorted (key_cmp the.sequences) n t.numbers })
 number_inserted n old new count ran t h =
     let made = one_put named.numbers puts_number n old new count ran t h in
-    holds_with named.numbers _ h made.has (numbered_in_order (λ (m : NumberRecord). m.sequence) (λ (m : NumberRecord). number m.place ∷ []) numbers_table (λ db row any. taken_first _ _ any) new.now.trees n t.numbers (h.1.stands named.numbers).rise made.has.stored made.unique)
+    holds_with named.numbers _ h made.has (numbered_in_order (λ (m : NumberRecord). m.sequence) (λ (m : NumberRecord). number m.place ∷ []) (table the.sequences) (λ db row any. taken_first _ _ any) new.now.trees n t.numbers (h.1.stands named.numbers).rise made.has.stored made.unique)
 
-same_sequence : (s : ℕ) (a b : ℤ × NumberRecord) → has_sequence s a.1 ≡ true → has_sequence s b.1 ≡ true → agree plain (1 ∷ []) (row_of number_row b) (1 ∷ []) (row_of number_row a) ≡ true
+same_sequence : (s : ℕ) (a b : ℤ × NumberRecord) → has_sequence s a.1 ≡ true → has_sequence s b.1 ≡ true → agree plain (1 ∷ []) (row_of (as_row the.sequences) b) (1 ∷ []) (row_of (as_row the.sequences) a) ≡ true
 unfolding first_key
 same_sequence s a b here there = and_from _ _ (key_number a.1.sequence b.1.sequence s here there) refl
 
-pub records_inserted : (xs : List NumberRecord) → length xs ≡ 16 → (old new : State) (count : ℕ) → Executes insert_numbers (flat_map number_row xs) old new (Ok count) → (t : Tables) → Holds desk_layout old.now t
-    → Holds desk_layout new.now (record t { numbers = all_put number_cmp xs t.numbers })
+pub records_inserted : (xs : List NumberRecord) → length xs ≡ 16 → (old new : State) (count : ℕ) → Executes insert_numbers (flat_map (as_row the.sequences) xs) old new (Ok count) → (t : Tables) → Holds desk_layout old.now t
+    → Holds desk_layout new.now (record t { numbers = all_put (key_cmp the.sequences) xs t.numbers })
 records_inserted xs many old new count ran t h =
-    let s = numbers_table in
+    let s = table the.sequences in
     let made = sixteen_put named.numbers puts_sixteen xs many old new count ran t h in
     let has_key_of = λ (x : NumberRecord). has_sequence x.sequence in
-    let few = λ (x : NumberRecord). few_have number_row desk_schema s (1 ∷ []) (has_key_of x) (same_sequence x.sequence) (λ db row any. taken_first _ _ any) new.now.trees (xs ++ t.numbers) made.has.stored made.unique in
-    let put = put_in_turn number_cmp has_key_of (on_total (λ (m : NumberRecord). m.sequence) nat_cmp_total) (λ x y. equal_numbers y.sequence x.sequence) (λ x. number_itself x.sequence) xs t.numbers few (h.1.stands named.numbers).rise in
-    (holds_with named.numbers _ h made.has (record { stored = stores_in number_row _ _ _ put.0 made.has.stored; rise = put.1 }))
+    let few = λ (x : NumberRecord). few_have (as_row the.sequences) desk_schema s (1 ∷ []) (has_key_of x) (same_sequence x.sequence) (λ db row any. taken_first _ _ any) new.now.trees (xs ++ t.numbers) made.has.stored made.unique in
+    let put = put_in_turn (key_cmp the.sequences) has_key_of (on_total (λ (m : NumberRecord). m.sequence) nat_cmp_total) (λ x y. equal_numbers y.sequence x.sequence) (λ x. number_itself x.sequence) xs t.numbers few (h.1.stands named.numbers).rise in
+    (holds_with named.numbers _ h made.has (record { stored = stores_in (as_row the.sequences) _ _ _ put.0 made.has.stored; rise = put.1 }))
 
 -- ---- each of them
 
-inserts_after : (ps : List (ℕ × SentEntry)) (t : Tables) → (each_edit (λ p. insert_number_edit p.0 p.1) ps).after t ≡ record t { numbers = all_put number_cmp (map (λ p. number_record p.0 p.1) ps) t.numbers }
+inserts_after : (ps : List (ℕ × SentEntry)) (t : Tables) → (each_edit (λ p. insert_number_edit p.0 p.1) ps).after t ≡ record t { numbers = all_put (key_cmp the.sequences) (map (λ p. number_record p.0 p.1) ps) t.numbers }
 inserts_after [] t = refl
-inserts_after (p ∷ ps) t = inserts_after ps (record t { numbers = insert_sorted number_cmp (number_record p.0 p.1) t.numbers })
+inserts_after (p ∷ ps) t = inserts_after ps (record t { numbers = insert_sorted (key_cmp the.sequences) (number_record p.0 p.1) t.numbers })
 
 inserts_tell : (ps : List (ℕ × SentEntry)) (t : Tables) → (each_edit (λ p. insert_number_edit p.0 p.1) ps).Tells t
 inserts_tell [] t = tt
-inserts_tell (p ∷ ps) t = (tt, inserts_tell ps (record t { numbers = insert_sorted number_cmp (number_record p.0 p.1) t.numbers }))
+inserts_tell (p ∷ ps) t = (tt, inserts_tell ps (record t { numbers = insert_sorted (key_cmp the.sequences) (number_record p.0 p.1) t.numbers }))
 
 -- it is as if each number had been put in by a statement of its own
-pub numbers_inserted : (first : ℕ) (es : List SentEntry) → length es ≡ 16 → (old new : State) (count : ℕ) → Executes insert_numbers (flat_map number_row (numbers_from first es)) old new (Ok count)
+pub numbers_inserted : (first : ℕ) (es : List SentEntry) → length es ≡ 16 → (old new : State) (count : ℕ) → Executes insert_numbers (flat_map (as_row the.sequences) (numbers_from first es)) old new (Ok count)
     → (t : Tables) → Holds desk_layout old.now t → Holds desk_layout new.now ((each_edit_from insert_number_edit first es).after t) × (each_edit_from insert_number_edit first es).Tells t
 numbers_inserted first es many old new count ran t h =
     let ps = enumerate_from first es in (
@@ -129,12 +128,12 @@ numbers_inserted first es many old new count ran t h =
     counted first [] = refl
     counted first (e ∷ es) = ap suc (counted (first + 1) es)
 
-pub bound_numbers : (first : ℕ) (es : List SentEntry) (vs : List (List ValueRef)) → map bound vs ≡ map number_row (numbers_from first es) → bound (flat_map (λ v. v) vs) ≡ flat_map number_row (numbers_from first es)
+pub bound_numbers : (first : ℕ) (es : List SentEntry) (vs : List (List ValueRef)) → map bound vs ≡ map (as_row the.sequences) (numbers_from first es) → bound (flat_map (λ v. v) vs) ≡ flat_map (as_row the.sequences) (numbers_from first es)
 bound_numbers first es vs are = bound_flat vs ∙ ap (flat_map (λ v. v)) are ∙ flat_rows (numbers_from first es)
   where
-    flat_rows : (xs : List NumberRecord) → flat_map (λ v. v) (map number_row xs) ≡ flat_map number_row xs
+    flat_rows : (xs : List NumberRecord) → flat_map (λ v. v) (map (as_row the.sequences) xs) ≡ flat_map (as_row the.sequences) xs
     flat_rows [] = refl
-    flat_rows (x ∷ xs) = ap (λ l. number_row x ++ l) (flat_rows xs)
+    flat_rows (x ∷ xs) = ap (λ l. as_row the.sequences x ++ l) (flat_rows xs)
 
 -- ---- the law
 
@@ -144,21 +143,21 @@ sequence_of n = n.sequence
 abbrev counts : ℕ → List SentEntry → Bool
 counts i es = list_all (λ (p : ℕ × SentEntry). p.1.sequence == p.0) (enumerate_from i es)
 
-with_is_put : (s n : ℕ) (xs : List NumberRecord) → IsInOrder number_cmp xs → with_number s n xs ≡ insert_sorted number_cmp (record { sequence = s; place = n }) (delete_where (has_sequence s) xs)
+with_is_put : (s n : ℕ) (xs : List NumberRecord) → IsInOrder (key_cmp the.sequences) xs → with_number s n xs ≡ insert_sorted (key_cmp the.sequences) (record { sequence = s; place = n }) (delete_where (has_sequence s) xs)
 with_is_put s n xs up = put_is sequence_of (record { sequence = s; place = n }) (λ m. record m { place = n }) (λ m has. ap (λ k. record { sequence = k; place = n }) (same_number m.sequence s has)) xs up
 
-puts_are : (es : List SentEntry) (i n : ℕ) (t : Tables) → counts i es ≡ true → IsInOrder number_cmp t.numbers
-    → (each_edit_from put_number_edit n es).after t ≡ record t { numbers = all_put number_cmp (numbers_from n es) (delete_where (in_range sequence_of i (length es)) t.numbers) }
+puts_are : (es : List SentEntry) (i n : ℕ) (t : Tables) → counts i es ≡ true → IsInOrder (key_cmp the.sequences) t.numbers
+    → (each_edit_from put_number_edit n es).after t ≡ record t { numbers = all_put (key_cmp the.sequences) (numbers_from n es) (delete_where (in_range sequence_of i (length es)) t.numbers) }
 puts_are [] i n t all up = ap (λ xs. record t { numbers = xs }) (sym (none_gone sequence_of t.numbers))
 puts_are (e ∷ es) i n t all up =
     let parts = and_parts (e.sequence == i) (counts (i + 1) es) all in
     let is = same_number e.sequence i parts.0 in
     let new = number_record n e in
-    let put : with_number e.sequence n t.numbers ≡ insert_sorted number_cmp new (delete_where (has_sequence i) t.numbers) =
-    with_is_put e.sequence n t.numbers up ∙ ap (λ k. insert_sorted number_cmp new (delete_where (has_sequence k) t.numbers)) is in
-    let rises = subst (IsInOrder number_cmp) (sym put) (rises_put sequence_of i new t.numbers is up) in
+    let put : with_number e.sequence n t.numbers ≡ insert_sorted (key_cmp the.sequences) new (delete_where (has_sequence i) t.numbers) =
+    with_is_put e.sequence n t.numbers up ∙ ap (λ k. insert_sorted (key_cmp the.sequences) new (delete_where (has_sequence k) t.numbers)) is in
+    let rises = subst (IsInOrder (key_cmp the.sequences)) (sym put) (rises_put sequence_of i new t.numbers is up) in
     puts_are es (i + 1) (n + 1) (record t { numbers = with_number e.sequence n t.numbers }) parts.1 rises
-    ∙ ap (λ xs. record t { numbers = all_put number_cmp (numbers_from (n + 1) es) xs })
+    ∙ ap (λ xs. record t { numbers = all_put (key_cmp the.sequences) (numbers_from (n + 1) es) xs })
     (ap (delete_where (in_range sequence_of (i + 1) (length es))) put ∙ range_put sequence_of (length es) i new t.numbers is up)
 
 puts_tell : (es : List SentEntry) (i n : ℕ) (t : Tables) → counts i es ≡ true → 1 ≤ i → i + length es ≤ most_sequence + 1 → (each_edit_from put_number_edit n es).Tells t
@@ -215,6 +214,6 @@ numbers_renewed first es to n head run ends low up t rises told =
     let names = run_counts first es head run in
     let cleared = (clear_numbers_edit first.sequence to).after t in
     let same = deletes_agree (is_within first.sequence to) (in_range sequence_of first.sequence (length es)) (within_is first.sequence to (length es) ends) t.numbers in (
-      puts_are es first.sequence n t names rises ∙ sym (inserts_after (enumerate_from n es) cleared ∙ ap (λ xs. record t { numbers = all_put number_cmp (numbers_from n es) xs }) same),
+      puts_are es first.sequence n t names rises ∙ sym (inserts_after (enumerate_from n es) cleared ∙ ap (λ xs. record t { numbers = all_put (key_cmp the.sequences) (numbers_from n es) xs }) same),
       puts_tell es first.sequence n t names low (omega (arith, ends, up)),
     )

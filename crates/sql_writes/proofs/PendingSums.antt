@@ -15,7 +15,9 @@ use Rattle.desk_accounts.specs.declared.account.Account.{Account}
 use Rattle.desk_accounts.specs.declared.posting.Posting.{Posting}
 use Rattle.sql_tables.specs.ByName as named
 use Rattle.sql_tables.specs.Beside.{balance_of}
-use Rattle.sql_tables.specs.KeyOrders.{IsInOrder, balance_cmp}
+use Rattle.sql_tables.specs.Description.{key_cmp}
+use Rattle.sql_tables.specs.DeskTables as the
+use Rattle.sql_tables.specs.KeyOrders.{IsInOrder}
 use Rattle.sql_tables.specs.Layout.{desk_layout}
 use Rattle.sql_tables.specs.TableEdits.{with_balance}
 use Rattle.sql_tables.specs.declared.records.BalanceRecord.{BalanceRecord}
@@ -93,10 +95,10 @@ set_through xs at b =
 
 -- ---- what they stand for
 
-pub stands_itself : (rows : List BalanceRecord) → IsInOrder balance_cmp rows → StandsFor [] rows rows
+pub stands_itself : (rows : List BalanceRecord) → IsInOrder (key_cmp the.balances) rows → StandsFor [] rows rows
 stands_itself rows rise = record { rise = rise; found = λ a d. refl }
 
-pub none_missing : (rows balances : List BalanceRecord) → IsInOrder balance_cmp rows → StandsFor [] rows balances → rows ≡ balances
+pub none_missing : (rows balances : List BalanceRecord) → IsInOrder (key_cmp the.balances) rows → StandsFor [] rows balances → rows ≡ balances
 none_missing rows balances rise stands = same_balances rows balances rise stands.rise (λ a d. sym (stands.found a d))
 
 pub line_added : (p : Posting) (sum : ℤ) (before after : List PendingBalance) (rows balances : List BalanceRecord) → IsSet p sum before after → sum ≡ unwrap_or (balance_of balances p.account p.value_day) (pos 0) +ℤ p.cents

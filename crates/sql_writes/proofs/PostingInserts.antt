@@ -17,11 +17,9 @@ use Rattle.sql_statements.specs.Layouts.{Holds}
 use Rattle.desk_accounts.specs.declared.posting.Posting.{Posting}
 use Rattle.sql_tables.specs.ByName as named
 use Rattle.sql_tables.specs.ByName.{described}
-use Rattle.sql_tables.specs.Description.{table}
+use Rattle.sql_tables.specs.Description.{table, as_row}
 use Rattle.sql_tables.specs.Schema.{desk_schema}
-use Rattle.sql_tables.specs.TableDefinitions.{postings_table}
 use Rattle.sql_tables.specs.Layout.{desk_layout}
-use Rattle.sql_tables.specs.RecordRows.{posting_row}
 use Rattle.sql_tables.specs.Tables.{Tables}
 use Rattle.sql_tables.specs.declared.records.PostingRecord.{PostingRecord}
 use Rattle.sql_writes.proofs.Puts.{holds_with, one_put, place_of, PutsOne, PutsSixteen, sixteen_put}
@@ -33,15 +31,16 @@ use Rattle.sql_writes.specs.LineEdits.{put_posting_edit}
 use Rattle.sql_writes.specs.LineRows.{held_line, held_lines, stored_line}
 use Rattle.sql_writes.specs.LineTexts.{insert_posting, insert_postings}
 use Rattle.sql_writes.specs.ManyRows.{IsInsertOfRows}
+use Rattle.sql_tables.specs.DeskTables as the
 
 insert_posting_is : IsInsert desk_schema insert_posting (place_of named.postings) (table (described named.postings))
 unfolding understood everything
 insert_posting_is = record { is = refl; plain = (refl, refl) }
 
-posting_kept : (p : PostingRecord) → are_kept postings_table.columns (posting_row p) ≡ true
+posting_kept : (p : PostingRecord) → are_kept (table the.postings).columns (as_row the.postings p) ≡ true
 posting_kept p = at_reference p.posting.reference
   where
-    at_reference : (o : Option (List ℕ)) → are_kept postings_table.columns (posting_row (record p { posting = record p.posting { reference = o } })) ≡ true
+    at_reference : (o : Option (List ℕ)) → are_kept (table the.postings).columns (as_row the.postings (record p { posting = record p.posting { reference = o } })) ≡ true
     at_reference None = refl
     at_reference (Some []) = refl
     at_reference (Some (c ∷ s)) = refl
@@ -49,10 +48,10 @@ posting_kept p = at_reference p.posting.reference
 puts_posting : PutsOne named.postings
 puts_posting = record { is = insert_posting_is; given = λ x. refl; kept = posting_kept }
 
-pub posting_put : (p : PostingRecord) (old new : State) (count : ℕ) → Executes insert_posting (posting_row p) old new (Ok count) → (t : Tables) → Holds desk_layout old.now t
+pub posting_put : (p : PostingRecord) (old new : State) (count : ℕ) → Executes insert_posting (as_row the.postings p) old new (Ok count) → (t : Tables) → Holds desk_layout old.now t
     → Holds desk_layout new.now (record t { postings = insert_sorted (on (λ x. x.number) nat_cmp) p t.postings })
 posting_put p old new count ran t h =
-    let s = postings_table in
+    let s = table the.postings in
     let made = one_put named.postings puts_posting p old new count ran t h in
     (holds_with named.postings _ h made.has (numbered_in_order (λ y. y.number) _ s (λ db row any. taken_first _ _ any) new.now.trees p t.postings (h.1.stands named.postings).rise made.has.stored made.unique))
 
@@ -68,10 +67,10 @@ puts_sixteen = record { is = insert_postings_is; whole = refl; wide = λ x. refl
 abbrev line_cmp : PostingRecord → PostingRecord → Ordering
 line_cmp = on (λ x. x.number) nat_cmp
 
-records_put : (xs : List PostingRecord) → length xs ≡ 16 → (old new : State) (count : ℕ) → Executes insert_postings (flat_map posting_row xs) old new (Ok count) → (t : Tables) → Holds desk_layout old.now t
+records_put : (xs : List PostingRecord) → length xs ≡ 16 → (old new : State) (count : ℕ) → Executes insert_postings (flat_map (as_row the.postings) xs) old new (Ok count) → (t : Tables) → Holds desk_layout old.now t
     → Holds desk_layout new.now (record t { postings = all_put line_cmp xs t.postings })
 records_put xs many old new count ran t h =
-    let s = postings_table in
+    let s = table the.postings in
     let made = sixteen_put named.postings puts_sixteen xs many old new count ran t h in
     (holds_with named.postings _ h made.has (all_in_order (λ y. y.number) _ s (λ db row any. taken_first _ _ any) new.now.trees xs t.postings (h.1.stands named.postings).rise made.has.stored made.unique))
 
@@ -87,7 +86,7 @@ each_put [] t = (refl, tt)
 each_put (p ∷ ps) t = let more = each_put ps (record t { postings = insert_sorted line_cmp (numbered_line p) t.postings }) in (more.0, (tt, more.1))
 
 -- it is as if each line had been put in by a statement of its own
-pub postings_put : (first : ℕ) (lines : List Posting) → length lines ≡ 16 → (old new : State) (count : ℕ) → Executes insert_postings (flat_map posting_row (map numbered_line (enumerate_from first lines))) old new (Ok count)
+pub postings_put : (first : ℕ) (lines : List Posting) → length lines ≡ 16 → (old new : State) (count : ℕ) → Executes insert_postings (flat_map (as_row the.postings) (map numbered_line (enumerate_from first lines))) old new (Ok count)
     → (t : Tables) → Holds desk_layout old.now t → Holds desk_layout new.now ((each_edit_from put_posting_edit first lines).after t) × (each_edit_from put_posting_edit first lines).Tells t
 postings_put first lines many old new count ran t h =
     let ps = enumerate_from first lines in
@@ -96,5 +95,5 @@ postings_put first lines many old new count ran t h =
     (subst (Holds desk_layout new.now) (sym each.0) put, each.1)
 
 -- the parameters of the statement
-pub bound_lines : (first : ℕ) (lines : List Posting) (vs : List (List ValueRef)) → map bound vs ≡ map stored_line (held_lines first lines) → bound (flat_map (λ v. v) vs) ≡ flat_map posting_row (map numbered_line (enumerate_from first lines))
-bound_lines first lines = bound_rows stored_line (λ p. held_line p.0 p.1) posting_row numbered_line (λ p. refl) (enumerate_from first lines)
+pub bound_lines : (first : ℕ) (lines : List Posting) (vs : List (List ValueRef)) → map bound vs ≡ map stored_line (held_lines first lines) → bound (flat_map (λ v. v) vs) ≡ flat_map (as_row the.postings) (map numbered_line (enumerate_from first lines))
+bound_lines first lines = bound_rows stored_line (λ p. held_line p.0 p.1) (as_row the.postings) numbered_line (λ p. refl) (enumerate_from first lines)

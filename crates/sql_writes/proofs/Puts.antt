@@ -24,7 +24,7 @@ use Rattle.sql_tables.proofs.ByName.{Others, with_records, changed, each_table}
 use Rattle.sql_tables.specs.ByName as named
 use Rattle.sql_tables.specs.ByName.{Name, Of, described, records, StandsAt}
 use Rattle.sql_tables.specs.Change.{Change}
-use Rattle.sql_tables.specs.Description.{row, table, insert_text, insert_sixteen_text}
+use Rattle.sql_tables.specs.Description.{as_row, table, insert_text, insert_sixteen_text}
 use Rattle.sql_tables.specs.Layout.{desk_layout}
 use Rattle.sql_tables.specs.Schema.{desk_schema}
 use Rattle.sql_tables.specs.Tables.{Tables}
@@ -85,7 +85,7 @@ quiet named.authorizations olds news = refl
 pub record HasRecords (n : Name) (xs : List (Of n)) (old new : State) : Type 0 where
   pub schema_is : new.now.schema ≡ desk_schema
   pub others : Others n old.now.trees new.now.trees
-  pub stored : Stores (row (described n)) (new.now.trees (described n).tree) xs
+  pub stored : Stores (as_row (described n)) (new.now.trees (described n).tree) xs
 
 -- where they stand in order, the tables hold with them
 pub holds_with : (n : Name) (ys : List (Of n)) {xs : List (Of n)} {old new : State} {t : Tables} → Holds desk_layout old.now t → HasRecords n xs old new → StandsAt new.now.trees n (records n (with_records n ys t)) → Holds desk_layout new.now (with_records n ys t)
@@ -112,30 +112,30 @@ module _ (n : Name) where
   -- the text of one row puts its parameters in
   pub record PutsOne : Type 0 where
     pub is : IsInsert desk_schema (insert_text (described n)) (place_of n) (table (described n))
-    pub given : (x : Of n) → value_rows (row (described n) x) (suc width) (length terms / suc width) terms ≡ (Null ∷ row (described n) x) ∷ []
-    pub kept : (x : Of n) → are_kept (table (described n)).columns (row (described n) x) ≡ true
+    pub given : (x : Of n) → value_rows (as_row (described n) x) (suc width) (length terms / suc width) terms ≡ (Null ∷ as_row (described n) x) ∷ []
+    pub kept : (x : Of n) → are_kept (table (described n)).columns (as_row (described n) x) ≡ true
 
-  pub one_put : PutsOne → (x : Of n) (old new : State) (count : ℕ) → Executes (insert_text (described n)) (row (described n) x) old new (Ok count) → (t : Tables) → Holds desk_layout old.now t → HasPut n (x ∷ []) old new t
+  pub one_put : PutsOne → (x : Of n) (old new : State) (count : ℕ) → Executes (insert_text (described n)) (as_row (described n) x) old new (Ok count) → (t : Tables) → Holds desk_layout old.now t → HasPut n (x ∷ []) old new t
   one_put puts x old new count ran t h =
       let d = described n in
       let s = table d in
-      let done = inserted (row d) desk_schema (place_of n) d.tree s.name s.columns s.primary s.uniques s.orders (insert_text d) puts.is (listed n) (quiet n) x (puts.given x) (row_kept s Null (row d x) refl (puts.kept x)) old new count h.0 (records n t) (h.1.stands n).stored ran in
-      let rules : Keeps Unique desk_schema new.now.trees = insert_rules desk_schema (insert_text d) (place_of n) s puts.is (row d x) old new count h.0 done.0.schema_is ran in
+      let done = inserted (as_row d) desk_schema (place_of n) d.tree s.name s.columns s.primary s.uniques s.orders (insert_text d) puts.is (listed n) (quiet n) x (puts.given x) (row_kept s Null (as_row d x) refl (puts.kept x)) old new count h.0 (records n t) (h.1.stands n).stored ran in
+      let rules : Keeps Unique desk_schema new.now.trees = insert_rules desk_schema (insert_text d) (place_of n) s puts.is (as_row d x) old new count h.0 done.0.schema_is ran in
       record { has = record { schema_is = done.0.schema_is; others = done.0.others; stored = done.1 }; unique = each_table (λ u. AllByRecursion (λ r. obeys Unique desk_schema new.now.trees u r ≡ true) (new.now.trees u.tree)) rules n }
 
   -- the text of sixteen rows puts theirs in
   pub record PutsSixteen : Type 0 where
     pub is : IsInsertOfRows desk_schema (insert_sixteen_text (described n)) (place_of n) (table (described n)) 16
     pub whole : length (rows_shown width 0 16) / suc width ≡ 16
-    pub wide : (x : Of n) → length (row (described n) x) ≡ width
-    pub kept : (x : Of n) → are_kept (table (described n)).columns (row (described n) x) ≡ true
+    pub wide : (x : Of n) → length (as_row (described n) x) ≡ width
+    pub kept : (x : Of n) → are_kept (table (described n)).columns (as_row (described n) x) ≡ true
 
-  pub sixteen_put : PutsSixteen → (xs : List (Of n)) → length xs ≡ 16 → (old new : State) (count : ℕ) → Executes (insert_sixteen_text (described n)) (flat_map (row (described n)) xs) old new (Ok count) → (t : Tables) → Holds desk_layout old.now t → HasPut n xs old new t
+  pub sixteen_put : PutsSixteen → (xs : List (Of n)) → length xs ≡ 16 → (old new : State) (count : ℕ) → Executes (insert_sixteen_text (described n)) (flat_map (as_row (described n)) xs) old new (Ok count) → (t : Tables) → Holds desk_layout old.now t → HasPut n xs old new t
   sixteen_put puts xs many old new count ran t h =
       let d = described n in
       let s = table d in
-      let done = inserted_rows (row d) desk_schema (place_of n) d.tree s.name s.columns s.primary s.uniques s.orders (insert_sixteen_text d) 16 puts.is (listed n) (quiet n) puts.whole puts.wide (λ x. row_kept s Null (row d x) refl (puts.kept x)) xs many old new count h.0 (records n t) (h.1.stands n).stored ran in
-      let rules : Keeps Unique desk_schema new.now.trees = rows_rules desk_schema (insert_sixteen_text d) (place_of n) s 16 puts.is (flat_map (row d) xs) old new count h.0 done.0.schema_is ran in
+      let done = inserted_rows (as_row d) desk_schema (place_of n) d.tree s.name s.columns s.primary s.uniques s.orders (insert_sixteen_text d) 16 puts.is (listed n) (quiet n) puts.whole puts.wide (λ x. row_kept s Null (as_row d x) refl (puts.kept x)) xs many old new count h.0 (records n t) (h.1.stands n).stored ran in
+      let rules : Keeps Unique desk_schema new.now.trees = rows_rules desk_schema (insert_sixteen_text d) (place_of n) s 16 puts.is (flat_map (as_row d) xs) old new count h.0 done.0.schema_is ran in
       record { has = record { schema_is = done.0.schema_is; others = done.0.others; stored = done.1 }; unique = each_table (λ u. AllByRecursion (λ r. obeys Unique desk_schema new.now.trees u r ≡ true) (new.now.trees u.tree)) rules n }
 
   -- ---- rows are changed, or go
@@ -147,18 +147,18 @@ module _ (n : Name) where
     pub is : IsDelete desk_schema change.text (place_of n) (described n).tree change.tests
 
   module _ (change : Change) (params : Row) (p : Of n → Bool)
-      (tested : (i : ℤ) (x : Of n) → list_all (holds (params ∷ row_of (row (described n)) (i, x) ∷ [])) change.tests ≡ p x) (old new : State) (count : ℕ) (ran : Executes change.text params old new (Ok count)) (t : Tables) (h : Holds desk_layout old.now t) where
-    pub rows_updated : IsUpdateOf change → (f : Of n → Of n) → ((i : ℤ) (x : Of n) → eval_all change.sets (params ∷ row_of (row (described n)) (i, x) ∷ []) ≡ row (described n) (f x))
-        → ((x : Of n) → are_kept (table (described n)).columns (row (described n) x) ≡ true) → HasRecords n (update_where p f (records n t)) old new × (count ≡ length (filter p (records n t)))
+      (tested : (i : ℤ) (x : Of n) → list_all (holds (params ∷ row_of (as_row (described n)) (i, x) ∷ [])) change.tests ≡ p x) (old new : State) (count : ℕ) (ran : Executes change.text params old new (Ok count)) (t : Tables) (h : Holds desk_layout old.now t) where
+    pub rows_updated : IsUpdateOf change → (f : Of n → Of n) → ((i : ℤ) (x : Of n) → eval_all change.sets (params ∷ row_of (as_row (described n)) (i, x) ∷ []) ≡ as_row (described n) (f x))
+        → ((x : Of n) → are_kept (table (described n)).columns (as_row (described n) x) ≡ true) → HasRecords n (update_where p f (records n t)) old new × (count ≡ length (filter p (records n t)))
     rows_updated of f made kept =
         let d = described n in
         let s = table d in
-        let done = updated_counted (row d) desk_schema (place_of n) d.tree s.name s.columns s.primary s.uniques s.orders change.text change.tests change.sets of.is (listed n) (quiet n) params p f tested made (λ i x. row_kept s (Int i) (row d x) refl (kept x)) old new count h.0 (records n t) (h.1.stands n).stored ran in
+        let done = updated_counted (as_row d) desk_schema (place_of n) d.tree s.name s.columns s.primary s.uniques s.orders change.text change.tests change.sets of.is (listed n) (quiet n) params p f tested made (λ i x. row_kept s (Int i) (as_row d x) refl (kept x)) old new count h.0 (records n t) (h.1.stands n).stored ran in
         (record { schema_is = done.0.schema_is; others = done.0.others; stored = done.1 }, done.2)
 
     pub rows_deleted : IsDeleteOf change → HasRecords n (delete_where p (records n t)) old new
     rows_deleted of =
         let d = described n in
         let s = table d in
-        let done = deleted (row d) desk_schema (place_of n) d.tree s.name s.columns s.primary s.uniques s.orders change.text change.tests of.is (listed n) (quiet n) params p tested old new count h.0 (records n t) (h.1.stands n).stored ran in
+        let done = deleted (as_row d) desk_schema (place_of n) d.tree s.name s.columns s.primary s.uniques s.orders change.text change.tests of.is (listed n) (quiet n) params p tested old new count h.0 (records n t) (h.1.stands n).stored ran in
         record { schema_is = done.0.schema_is; others = done.0.others; stored = done.1 }

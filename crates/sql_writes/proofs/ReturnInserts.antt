@@ -19,14 +19,13 @@ use Rattle.sql_statements.specs.Statements.{IsInsert}
 use Rattle.sql_statements.specs.StoredRows.{row_of}
 use Rattle.sql_statements.specs.Layouts.{Holds}
 use Rattle.desk_book.specs.declared.flat_rows.ReturnedRow.{ReturnedRow}
+use Rattle.sql_tables.specs.Encodes.{return_under}
 use Rattle.sql_tables.specs.ByName as named
 use Rattle.sql_tables.specs.ByName.{described}
-use Rattle.sql_tables.specs.Description.{table}
+use Rattle.sql_tables.specs.Description.{table, as_row}
 use Rattle.sql_tables.specs.Schema.{desk_schema}
-use Rattle.sql_tables.specs.TableDefinitions.{returns_table}
 use Rattle.sql_tables.specs.Layout.{desk_layout}
-use Rattle.sql_tables.specs.RecordRows.{return_row}
-use Rattle.sql_tables.specs.TableEdits.{put_return_edit, return_under}
+use Rattle.sql_tables.specs.TableEdits.{put_return_edit}
 use Rattle.sql_tables.specs.TableReads.{is_return_at}
 use Rattle.sql_tables.specs.Tables.{Tables}
 use Rattle.sql_tables.specs.declared.records.ReturnRecord.{ReturnRecord}
@@ -41,16 +40,17 @@ use Rattle.sql_writes.specs.IntakeTexts.{insert_return, insert_returns}
 use Rattle.sql_writes.specs.ManyRows.{IsInsertOfRows}
 use Rattle.sql_writes.specs.ReturnRows.{held_return, held_returns, stored_return}
 use Rattle.sql_writes.proofs.NumberedRows.{numbered_in_order, all_in_order}
+use Rattle.sql_tables.specs.DeskTables as the
 
 insert_return_is : IsInsert desk_schema insert_return (place_of named.returns) (table (described named.returns))
 unfolding understood everything
 insert_return_is = record { is = refl; plain = (refl, refl) }
 
-return_kept : (x : ReturnRecord) → are_kept returns_table.columns (return_row x) ≡ true
+return_kept : (x : ReturnRecord) → are_kept (table the.returns).columns (as_row the.returns x) ≡ true
 return_kept x = rw (flag_kept x.late) refl
 
 -- returns of one entry
-same_entry : (c : List ℕ) (n i : ℕ) (a b : ℤ × ReturnRecord) → is_return_at c n i a.1 ≡ true → is_return_at c n i b.1 ≡ true → agree plain (2 ∷ 3 ∷ 4 ∷ []) (row_of return_row b) (2 ∷ 3 ∷ 4 ∷ []) (row_of return_row a) ≡ true
+same_entry : (c : List ℕ) (n i : ℕ) (a b : ℤ × ReturnRecord) → is_return_at c n i a.1 ≡ true → is_return_at c n i b.1 ≡ true → agree plain (2 ∷ 3 ∷ 4 ∷ []) (row_of (as_row the.returns) b) (2 ∷ 3 ∷ 4 ∷ []) (row_of (as_row the.returns) a) ≡ true
 unfolding first_key
 same_entry c n i a b h k =
     let x = and_parts (bytes_eq a.1.company c && (a.1.order == n)) (a.1.index == i) h in let y = and_parts (bytes_eq b.1.company c && (b.1.order == n)) (b.1.index == i) k in
@@ -60,13 +60,13 @@ same_entry c n i a b h k =
 puts_return : PutsOne named.returns
 puts_return = record { is = insert_return_is; given = λ x. refl; kept = return_kept }
 
-pub return_put : (x : ReturnRecord) (old new : State) (count : ℕ) → Executes insert_return (return_row x) old new (Ok count) → (t : Tables) → Holds desk_layout old.now t
+pub return_put : (x : ReturnRecord) (old new : State) (count : ℕ) → Executes insert_return (as_row the.returns x) old new (Ok count) → (t : Tables) → Holds desk_layout old.now t
     → Holds desk_layout new.now (record t { returns = insert_sorted (on (λ r. r.number) nat_cmp) x t.returns }) × (find (is_return_at x.company x.order x.index) t.returns ≡ None)
 return_put x old new count ran t h =
-    let s = returns_table in
+    let s = table the.returns in
     let test = is_return_at x.company x.order x.index in
     let made = one_put named.returns puts_return x old new count ran t h in
-    let free = key_free return_row desk_schema s (2 ∷ 3 ∷ 4 ∷ []) test (same_entry x.company x.order x.index) (λ db row any. taken_second _ _ _ any) new.now.trees x t.returns (and_from _ _ (and_from _ _ (text_itself x.company) (number_itself x.order)) (number_itself x.index)) made.has.stored made.unique in (
+    let free = key_free (as_row the.returns) desk_schema s (2 ∷ 3 ∷ 4 ∷ []) test (same_entry x.company x.order x.index) (λ db row any. taken_second _ _ _ any) new.now.trees x t.returns (and_from _ _ (and_from _ _ (text_itself x.company) (number_itself x.order)) (number_itself x.index)) made.has.stored made.unique in (
       (holds_with named.returns _ h made.has (numbered_in_order (λ r. r.number) _ s (λ db row any. taken_first _ _ any) new.now.trees x t.returns (h.1.stands named.returns).rise made.has.stored made.unique)),
       find_none test t.returns free,
     )
@@ -87,12 +87,12 @@ number_cmp = on (λ r. r.number) nat_cmp
 abbrev is_of_entry : ReturnRecord → ReturnRecord → Bool
 is_of_entry x = is_return_at x.company x.order x.index
 
-records_put : (xs : List ReturnRecord) → length xs ≡ 16 → (old new : State) (count : ℕ) → Executes insert_returns (flat_map return_row xs) old new (Ok count) → (t : Tables) → Holds desk_layout old.now t
+records_put : (xs : List ReturnRecord) → length xs ≡ 16 → (old new : State) (count : ℕ) → Executes insert_returns (flat_map (as_row the.returns) xs) old new (Ok count) → (t : Tables) → Holds desk_layout old.now t
     → Holds desk_layout new.now (record t { returns = all_put number_cmp xs t.returns }) × AreFree number_cmp is_of_entry xs t.returns
 records_put xs many old new count ran t h =
-    let s = returns_table in
+    let s = table the.returns in
     let made = sixteen_put named.returns puts_sixteen xs many old new count ran t h in
-    let few = λ (x : ReturnRecord). few_have return_row desk_schema s (2 ∷ 3 ∷ 4 ∷ []) (is_of_entry x) (same_entry x.company x.order x.index) (λ db row any. taken_second _ _ _ any) new.now.trees (xs ++ t.returns) made.has.stored made.unique in
+    let few = λ (x : ReturnRecord). few_have (as_row the.returns) desk_schema s (2 ∷ 3 ∷ 4 ∷ []) (is_of_entry x) (same_entry x.company x.order x.index) (λ db row any. taken_second _ _ _ any) new.now.trees (xs ++ t.returns) made.has.stored made.unique in
     let free = free_in_turn number_cmp is_of_entry (λ x. and_from _ _ (and_from _ _ (text_itself x.company) (number_itself x.order)) (number_itself x.index)) xs t.returns few in (
       (holds_with named.returns _ h made.has (all_in_order (λ r. r.number) _ s (λ db row any. taken_first _ _ any) new.now.trees xs t.returns (h.1.stands named.returns).rise made.has.stored made.unique)),
       free,
@@ -113,7 +113,7 @@ each_put (p ∷ ps) t free =
     (more.0, (find_none (is_of_entry (numbered_return p)) t.returns free.0, more.1))
 
 -- it is as if each return had been put in by a statement of its own
-pub returns_put : (first : ℕ) (xs : List ReturnedRow) → length xs ≡ 16 → (old new : State) (count : ℕ) → Executes insert_returns (flat_map return_row (map numbered_return (enumerate_from first xs))) old new (Ok count)
+pub returns_put : (first : ℕ) (xs : List ReturnedRow) → length xs ≡ 16 → (old new : State) (count : ℕ) → Executes insert_returns (flat_map (as_row the.returns) (map numbered_return (enumerate_from first xs))) old new (Ok count)
     → (t : Tables) → Holds desk_layout old.now t → Holds desk_layout new.now ((each_edit_from put_return_edit first xs).after t) × (each_edit_from put_return_edit first xs).Tells t
 returns_put first xs many old new count ran t h =
     let ps = enumerate_from first xs in
@@ -122,5 +122,5 @@ returns_put first xs many old new count ran t h =
     (subst (Holds desk_layout new.now) (sym each.0) put.0, each.1)
 
 -- the parameters of the statement
-pub bound_returns : (first : ℕ) (xs : List ReturnedRow) (vs : List (List ValueRef)) → map bound vs ≡ map stored_return (held_returns first xs) → bound (flat_map (λ v. v) vs) ≡ flat_map return_row (map numbered_return (enumerate_from first xs))
-bound_returns first xs = bound_rows stored_return (λ p. held_return p.0 p.1) return_row numbered_return (λ p. refl) (enumerate_from first xs)
+pub bound_returns : (first : ℕ) (xs : List ReturnedRow) (vs : List (List ValueRef)) → map bound vs ≡ map stored_return (held_returns first xs) → bound (flat_map (λ v. v) vs) ≡ flat_map (as_row the.returns) (map numbered_return (enumerate_from first xs))
+bound_returns first xs = bound_rows stored_return (λ p. held_return p.0 p.1) (as_row the.returns) numbered_return (λ p. refl) (enumerate_from first xs)

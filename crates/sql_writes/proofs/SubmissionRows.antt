@@ -17,46 +17,44 @@ use Rattle.sql_statements.specs.StoredRows.{row_of}
 use Rattle.sql_statements.specs.Layouts.{Holds}
 use Rattle.sql_tables.specs.ByName as named
 use Rattle.sql_tables.specs.ByName.{described}
-use Rattle.sql_tables.specs.Description.{table}
+use Rattle.sql_tables.specs.Description.{table, as_row, key_cmp}
 use Rattle.sql_tables.specs.Schema.{desk_schema}
 use Rattle.sql_tables.specs.Layout.{desk_layout}
 use Rattle.sql_tables.specs.Tables.{Tables}
 use Rattle.sql_writes.proofs.Puts.{holds_with, one_put, place_of, PutsOne}
 use Rattle.sql_writes.proofs.Conditions.{text_itself, number_itself, equal_numbers, equal_both, taken_first, taken_second}
 use Rattle.sql_writes.proofs.Keys.{find_none, key_free, put_in_order, key_text, key_number}
-use Rattle.sql_tables.specs.TableDefinitions.{submissions_table, entries_table, authorizations_table}
 use Rattle.sqlite.specs.Values.{or_null}
 use Rattle.sqlite.specs.Kind.TheVariants as kind
 use Rattle.sql_statements.proofs.Casts.{is_kept}
 use Rattle.desk_history.specs.Resolve.{is_savings}
 use Rattle.sql_tables.specs.Columns.{number, flag}
 use Rattle.sql_tables.specs.CutTables.{is_row, is_entry_row}
-use Rattle.sql_tables.specs.KeyOrders.{submission_cmp, entry_cmp, authorization_cmp}
-use Rattle.sql_tables.specs.RecordRows.{submission_row, entry_row, authorization_row}
 use Rattle.sql_tables.specs.TableReads.{is_under, is_authorization_of}
 use Rattle.sql_tables.specs.declared.records.AuthorizationRecord.{AuthorizationRecord}
 use Rattle.sql_tables.specs.declared.records.EntryRecord.{EntryRecord}
 use Rattle.sql_tables.specs.declared.records.SubmissionRecord.{SubmissionRecord}
 use Rattle.sql_writes.specs.Texts.{insert_submission, insert_entry, insert_authorization}
+use Rattle.sql_tables.specs.DeskTables as the
 
 -- ---- submissions
 
-pub submission_kept : (r : SubmissionRecord) → are_kept submissions_table.columns (submission_row r) ≡ true
+pub submission_kept : (r : SubmissionRecord) → are_kept (table the.submissions).columns (as_row the.submissions r) ≡ true
 submission_kept r = at_lapsed r.head.lapsed
   where
-    at_printed : (o : _) → are_kept submissions_table.columns (submission_row (record { head = record r.head { lapsed = true; retried = None; settled = None }; printed = o })) ≡ true
+    at_printed : (o : _) → are_kept (table the.submissions).columns (as_row the.submissions (record { head = record r.head { lapsed = true; retried = None; settled = None }; printed = o })) ≡ true
     at_printed None = refl
     at_printed (Some p) = refl
 
-    at_settled : (o : Option ℕ) → are_kept submissions_table.columns (submission_row (record r { head = record r.head { lapsed = true; retried = None; settled = o } })) ≡ true
+    at_settled : (o : Option ℕ) → are_kept (table the.submissions).columns (as_row the.submissions (record r { head = record r.head { lapsed = true; retried = None; settled = o } })) ≡ true
     at_settled None = at_printed r.printed
     at_settled (Some d) = at_printed r.printed
 
-    at_retried : (o : _) → are_kept submissions_table.columns (submission_row (record r { head = record r.head { lapsed = true; retried = o } })) ≡ true
+    at_retried : (o : _) → are_kept (table the.submissions).columns (as_row the.submissions (record r { head = record r.head { lapsed = true; retried = o } })) ≡ true
     at_retried None = at_settled r.head.settled
     at_retried (Some t) = at_settled r.head.settled
 
-    at_lapsed : (b : Bool) → are_kept submissions_table.columns (submission_row (record r { head = record r.head { lapsed = b } })) ≡ true
+    at_lapsed : (b : Bool) → are_kept (table the.submissions).columns (as_row the.submissions (record r { head = record r.head { lapsed = b } })) ≡ true
     at_lapsed true = at_retried r.head.retried
     at_lapsed false = at_retried r.head.retried
 
@@ -67,29 +65,29 @@ insert_submission_is = record { is = refl; plain = (refl, refl) }
 puts_submission : PutsOne named.submissions
 puts_submission = record { is = insert_submission_is; given = λ x. refl; kept = submission_kept }
 
-pub submission_total : IsTotalOrder submission_cmp
+pub submission_total : IsTotalOrder (key_cmp the.submissions)
 submission_total = then_total (on_total (λ (r : SubmissionRecord). r.head.company) nat_list_cmp_total) (on_total (λ (r : SubmissionRecord). r.head.order) nat_cmp_total)
 
-same_row : (c : List ℕ) (n : ℕ) (a b : ℤ × SubmissionRecord) → is_row c n a.1 ≡ true → is_row c n b.1 ≡ true → agree plain (1 ∷ 2 ∷ []) (row_of submission_row b) (1 ∷ 2 ∷ []) (row_of submission_row a) ≡ true
+same_row : (c : List ℕ) (n : ℕ) (a b : ℤ × SubmissionRecord) → is_row c n a.1 ≡ true → is_row c n b.1 ≡ true → agree plain (1 ∷ 2 ∷ []) (row_of (as_row the.submissions) b) (1 ∷ 2 ∷ []) (row_of (as_row the.submissions) a) ≡ true
 unfolding first_key
 same_row c n a b h k =
     let x = and_parts (bytes_eq a.1.head.company c) (a.1.head.order == n) h in let y = and_parts (bytes_eq b.1.head.company c) (b.1.head.order == n) k in
     and_from _ _ (key_text a.1.head.company b.1.head.company c x.0 y.0) (and_from _ _ (key_number a.1.head.order b.1.head.order n x.1 y.1) refl)
 
-same_under : (c reference : List ℕ) (a b : ℤ × SubmissionRecord) → is_under c reference a.1 ≡ true → is_under c reference b.1 ≡ true → agree plain (1 ∷ 3 ∷ []) (row_of submission_row b) (1 ∷ 3 ∷ []) (row_of submission_row a) ≡ true
+same_under : (c reference : List ℕ) (a b : ℤ × SubmissionRecord) → is_under c reference a.1 ≡ true → is_under c reference b.1 ≡ true → agree plain (1 ∷ 3 ∷ []) (row_of (as_row the.submissions) b) (1 ∷ 3 ∷ []) (row_of (as_row the.submissions) a) ≡ true
 unfolding first_key
 same_under c reference a b h k =
     let x = and_parts (bytes_eq a.1.head.company c) (bytes_eq a.1.head.reference reference) h in let y = and_parts (bytes_eq b.1.head.company c) (bytes_eq b.1.head.reference reference) k in
     and_from _ _ (key_text a.1.head.company b.1.head.company c x.0 y.0) (and_from _ _ (key_text a.1.head.reference b.1.head.reference reference x.1 y.1) refl)
 
-pub submission_put : (x : SubmissionRecord) (old new : State) (count : ℕ) → Executes insert_submission (submission_row x) old new (Ok count) → (t : Tables) → Holds desk_layout old.now t
-    → Holds desk_layout new.now (record t { submissions = insert_sorted submission_cmp x t.submissions }) × (find (is_row x.head.company x.head.order) t.submissions ≡ None) × (find (is_under x.head.company x.head.reference) t.submissions ≡ None)
+pub submission_put : (x : SubmissionRecord) (old new : State) (count : ℕ) → Executes insert_submission (as_row the.submissions x) old new (Ok count) → (t : Tables) → Holds desk_layout old.now t
+    → Holds desk_layout new.now (record t { submissions = insert_sorted (key_cmp the.submissions) x t.submissions }) × (find (is_row x.head.company x.head.order) t.submissions ≡ None) × (find (is_under x.head.company x.head.reference) t.submissions ≡ None)
 submission_put x old new count ran t h =
-    let s = submissions_table in
+    let s = table the.submissions in
     let made = one_put named.submissions puts_submission x old new count ran t h in
-    let free = key_free submission_row desk_schema s (1 ∷ 2 ∷ []) (is_row x.head.company x.head.order) (same_row x.head.company x.head.order) (λ db row any. taken_first _ _ any) new.now.trees x t.submissions (and_from _ _ (text_itself x.head.company) (number_itself x.head.order)) made.has.stored made.unique in
-    let other = key_free submission_row desk_schema s (1 ∷ 3 ∷ []) (is_under x.head.company x.head.reference) (same_under x.head.company x.head.reference) (λ db row any. taken_second _ _ _ any) new.now.trees x t.submissions (and_from _ _ (text_itself x.head.company) (text_itself x.head.reference)) made.has.stored made.unique in (
-      holds_with named.submissions _ h made.has (put_in_order submission_row submission_cmp submission_total (is_row x.head.company x.head.order) new.now.trees s x t.submissions (λ y. equal_both _ _ ∙ (let c = is_eq-slice_cmp y.head.company x.head.company in let n = equal_numbers y.head.order x.head.order in λ i. c i && n i)) free (h.1.stands named.submissions).rise made.has.stored),
+    let free = key_free (as_row the.submissions) desk_schema s (1 ∷ 2 ∷ []) (is_row x.head.company x.head.order) (same_row x.head.company x.head.order) (λ db row any. taken_first _ _ any) new.now.trees x t.submissions (and_from _ _ (text_itself x.head.company) (number_itself x.head.order)) made.has.stored made.unique in
+    let other = key_free (as_row the.submissions) desk_schema s (1 ∷ 3 ∷ []) (is_under x.head.company x.head.reference) (same_under x.head.company x.head.reference) (λ db row any. taken_second _ _ _ any) new.now.trees x t.submissions (and_from _ _ (text_itself x.head.company) (text_itself x.head.reference)) made.has.stored made.unique in (
+      holds_with named.submissions _ h made.has (put_in_order (as_row the.submissions) (key_cmp the.submissions) submission_total (is_row x.head.company x.head.order) new.now.trees s x t.submissions (λ y. equal_both _ _ ∙ (let c = is_eq-slice_cmp y.head.company x.head.company in let n = equal_numbers y.head.order x.head.order in λ i. c i && n i)) free (h.1.stands named.submissions).rise made.has.stored),
       find_none (is_row x.head.company x.head.order) t.submissions free,
       find_none (is_under x.head.company x.head.reference) t.submissions other,
     )
@@ -108,7 +106,7 @@ text_kept : (o : Option (List ℕ)) → is_kept kind.Text (or_null Text o) ≡ t
 text_kept None = refl
 text_kept (Some t) = refl
 
-pub entry_kept : (r : EntryRecord) → are_kept entries_table.columns (entry_row r) ≡ true
+pub entry_kept : (r : EntryRecord) → are_kept (table the.entries).columns (as_row the.entries r) ≡ true
 entry_kept r = rw (flag_kept (is_savings r.entry.kind), flag_kept r.entry.prenote, text_kept r.entry.info, number_kept r.place) refl
 
 insert_entry_is : IsInsert desk_schema insert_entry (place_of named.entries) (table (described named.entries))
@@ -118,17 +116,17 @@ insert_entry_is = record { is = refl; plain = (refl, refl) }
 puts_entry : PutsOne named.entries
 puts_entry = record { is = insert_entry_is; given = λ x. refl; kept = entry_kept }
 
-pub entry_total : IsTotalOrder entry_cmp
+pub entry_total : IsTotalOrder (key_cmp the.entries)
 entry_total = then_total (then_total (on_total (λ (r : EntryRecord). r.company) nat_list_cmp_total) (on_total (λ (r : EntryRecord). r.order) nat_cmp_total)) (on_total (λ (r : EntryRecord). r.index) nat_cmp_total)
 
-pub same_entry : (c : List ℕ) (n i : ℕ) (a b : ℤ × EntryRecord) → is_entry_row c n i a.1 ≡ true → is_entry_row c n i b.1 ≡ true → agree plain (1 ∷ 2 ∷ 3 ∷ []) (row_of entry_row b) (1 ∷ 2 ∷ 3 ∷ []) (row_of entry_row a) ≡ true
+pub same_entry : (c : List ℕ) (n i : ℕ) (a b : ℤ × EntryRecord) → is_entry_row c n i a.1 ≡ true → is_entry_row c n i b.1 ≡ true → agree plain (1 ∷ 2 ∷ 3 ∷ []) (row_of (as_row the.entries) b) (1 ∷ 2 ∷ 3 ∷ []) (row_of (as_row the.entries) a) ≡ true
 unfolding first_key
 same_entry c n i a b h k =
     let x = and_parts (bytes_eq a.1.company c && (a.1.order == n)) (a.1.index == i) h in let y = and_parts (bytes_eq b.1.company c && (b.1.order == n)) (b.1.index == i) k in
     let v = and_parts (bytes_eq a.1.company c) (a.1.order == n) x.0 in let w = and_parts (bytes_eq b.1.company c) (b.1.order == n) y.0 in
     and_from _ _ (key_text a.1.company b.1.company c v.0 w.0) (and_from _ _ (key_number a.1.order b.1.order n v.1 w.1) (and_from _ _ (key_number a.1.index b.1.index i x.1 y.1) refl))
 
-pub same_entry_key : (x y : EntryRecord) → is_eq (entry_cmp y x) ≡ is_entry_row x.company x.order x.index y
+pub same_entry_key : (x y : EntryRecord) → is_eq (key_cmp the.entries y x) ≡ is_entry_row x.company x.order x.index y
 same_entry_key x y =
     equal_both _ _
     ∙ (let f = equal_both _ _ ∙ (let c = is_eq-slice_cmp y.company x.company in let n = equal_numbers y.order x.order in λ i. c i && n i) in let m = equal_numbers y.index x.index in λ i. f i && m i)
@@ -136,13 +134,13 @@ same_entry_key x y =
 pub entry_itself : (x : EntryRecord) → is_entry_row x.company x.order x.index x ≡ true
 entry_itself x = and_from _ _ (and_from _ _ (text_itself x.company) (number_itself x.order)) (number_itself x.index)
 
-pub entry_put : (x : EntryRecord) (old new : State) (count : ℕ) → Executes insert_entry (entry_row x) old new (Ok count) → (t : Tables) → Holds desk_layout old.now t
-    → Holds desk_layout new.now (record t { entries = insert_sorted entry_cmp x t.entries }) × (find (is_entry_row x.company x.order x.index) t.entries ≡ None)
+pub entry_put : (x : EntryRecord) (old new : State) (count : ℕ) → Executes insert_entry (as_row the.entries x) old new (Ok count) → (t : Tables) → Holds desk_layout old.now t
+    → Holds desk_layout new.now (record t { entries = insert_sorted (key_cmp the.entries) x t.entries }) × (find (is_entry_row x.company x.order x.index) t.entries ≡ None)
 entry_put x old new count ran t h =
-    let s = entries_table in
+    let s = table the.entries in
     let made = one_put named.entries puts_entry x old new count ran t h in
-    let free = key_free entry_row desk_schema s (1 ∷ 2 ∷ 3 ∷ []) (is_entry_row x.company x.order x.index) (same_entry x.company x.order x.index) (λ db row any. taken_first _ _ any) new.now.trees x t.entries (entry_itself x) made.has.stored made.unique in (
-      holds_with named.entries _ h made.has (put_in_order entry_row entry_cmp entry_total (is_entry_row x.company x.order x.index) new.now.trees s x t.entries (same_entry_key x) free (h.1.stands named.entries).rise made.has.stored),
+    let free = key_free (as_row the.entries) desk_schema s (1 ∷ 2 ∷ 3 ∷ []) (is_entry_row x.company x.order x.index) (same_entry x.company x.order x.index) (λ db row any. taken_first _ _ any) new.now.trees x t.entries (entry_itself x) made.has.stored made.unique in (
+      holds_with named.entries _ h made.has (put_in_order (as_row the.entries) (key_cmp the.entries) entry_total (is_entry_row x.company x.order x.index) new.now.trees s x t.entries (same_entry_key x) free (h.1.stands named.entries).rise made.has.stored),
       find_none (is_entry_row x.company x.order x.index) t.entries free,
     )
 
@@ -155,21 +153,21 @@ insert_authorization_is = record { is = refl; plain = (refl, refl) }
 puts_authorization : PutsOne named.authorizations
 puts_authorization = record { is = insert_authorization_is; given = λ x. refl; kept = λ x. refl }
 
-pub authorization_total : IsTotalOrder authorization_cmp
+pub authorization_total : IsTotalOrder (key_cmp the.authorizations)
 authorization_total = then_total (on_total (λ (r : AuthorizationRecord). r.company) nat_list_cmp_total) (on_total (λ (r : AuthorizationRecord). r.order) nat_cmp_total)
 
-same_authorization : (c : List ℕ) (n : ℕ) (a b : ℤ × AuthorizationRecord) → is_authorization_of c n a.1 ≡ true → is_authorization_of c n b.1 ≡ true → agree plain (1 ∷ 2 ∷ []) (row_of authorization_row b) (1 ∷ 2 ∷ []) (row_of authorization_row a) ≡ true
+same_authorization : (c : List ℕ) (n : ℕ) (a b : ℤ × AuthorizationRecord) → is_authorization_of c n a.1 ≡ true → is_authorization_of c n b.1 ≡ true → agree plain (1 ∷ 2 ∷ []) (row_of (as_row the.authorizations) b) (1 ∷ 2 ∷ []) (row_of (as_row the.authorizations) a) ≡ true
 unfolding first_key
 same_authorization c n a b h k =
     let x = and_parts (bytes_eq a.1.company c) (a.1.order == n) h in let y = and_parts (bytes_eq b.1.company c) (b.1.order == n) k in
     and_from _ _ (key_text a.1.company b.1.company c x.0 y.0) (and_from _ _ (key_number a.1.order b.1.order n x.1 y.1) refl)
 
-pub authorization_put : (x : AuthorizationRecord) (old new : State) (count : ℕ) → Executes insert_authorization (authorization_row x) old new (Ok count) → (t : Tables) → Holds desk_layout old.now t
-    → Holds desk_layout new.now (record t { authorizations = insert_sorted authorization_cmp x t.authorizations }) × (find (is_authorization_of x.company x.order) t.authorizations ≡ None)
+pub authorization_put : (x : AuthorizationRecord) (old new : State) (count : ℕ) → Executes insert_authorization (as_row the.authorizations x) old new (Ok count) → (t : Tables) → Holds desk_layout old.now t
+    → Holds desk_layout new.now (record t { authorizations = insert_sorted (key_cmp the.authorizations) x t.authorizations }) × (find (is_authorization_of x.company x.order) t.authorizations ≡ None)
 authorization_put x old new count ran t h =
-    let s = authorizations_table in
+    let s = table the.authorizations in
     let made = one_put named.authorizations puts_authorization x old new count ran t h in
-    let free = key_free authorization_row desk_schema s (1 ∷ 2 ∷ []) (is_authorization_of x.company x.order) (same_authorization x.company x.order) (λ db row any. taken_first _ _ any) new.now.trees x t.authorizations (and_from _ _ (text_itself x.company) (number_itself x.order)) made.has.stored made.unique in (
-      holds_with named.authorizations _ h made.has (put_in_order authorization_row authorization_cmp authorization_total (is_authorization_of x.company x.order) new.now.trees s x t.authorizations (λ y. equal_both _ _ ∙ (let c = is_eq-slice_cmp y.company x.company in let n = equal_numbers y.order x.order in λ i. c i && n i)) free (h.1.stands named.authorizations).rise made.has.stored),
+    let free = key_free (as_row the.authorizations) desk_schema s (1 ∷ 2 ∷ []) (is_authorization_of x.company x.order) (same_authorization x.company x.order) (λ db row any. taken_first _ _ any) new.now.trees x t.authorizations (and_from _ _ (text_itself x.company) (number_itself x.order)) made.has.stored made.unique in (
+      holds_with named.authorizations _ h made.has (put_in_order (as_row the.authorizations) (key_cmp the.authorizations) authorization_total (is_authorization_of x.company x.order) new.now.trees s x t.authorizations (λ y. equal_both _ _ ∙ (let c = is_eq-slice_cmp y.company x.company in let n = equal_numbers y.order x.order in λ i. c i && n i)) free (h.1.stands named.authorizations).rise made.has.stored),
       find_none (is_authorization_of x.company x.order) t.authorizations free,
     )

@@ -17,13 +17,14 @@ use Rattle.sql_statements.proofs.OneRow.{one_of, one_found, updates_agree}
 use Rattle.sql_statements.specs.Layouts.{Holds}
 use Rattle.sql_tables.specs.Change.{Set}
 use Rattle.sql_tables.specs.ByName as named
+use Rattle.sql_tables.specs.Description.{as_row, key_cmp}
+use Rattle.sql_tables.specs.DeskTables as the
 use Rattle.desk_book.specs.declared.flat_rows.LapsedRow.{LapsedRow}
 use Rattle.desk_book.specs.declared.flat_rows.SentRow.{SentRow}
 use Rattle.sql_tables.specs.Columns.{number, letter}
 use Rattle.sql_tables.specs.CutTables.{is_row, mark_sent, mark_lapsed}
-use Rattle.sql_tables.specs.KeyOrders.{submission_cmp, text_cmp}
+use Rattle.sql_tables.specs.KeyOrders.{text_cmp}
 use Rattle.sql_tables.specs.Layout.{desk_layout}
-use Rattle.sql_tables.specs.RecordRows.{submission_row}
 use Rattle.sql_tables.specs.TableEdits.{Waits}
 use Rattle.sql_tables.specs.TableReads.{is_waiting}
 use Rattle.sql_tables.specs.Tables.{Tables}
@@ -55,8 +56,8 @@ waits_parts c o r h =
 -- an UPDATE of the submission of a number, where it waits
 module _ (c : List ℕ) (o : ℕ) (rest : Row) (sets : List Set) (is : IsUpdateOf named.submissions (update_waiting sets))
     (set : SubmissionRecord → SubmissionRecord) (same_company : (r : SubmissionRecord) → (set r).head.company ≡ r.head.company) (same_order : (r : SubmissionRecord) → (set r).head.order ≡ r.head.order)
-    (made_row : (i : ℤ) (r : SubmissionRecord) → eval_all (update_waiting sets).sets ((Text c ∷ number o ∷ rest) ∷ row_of submission_row (i, r) ∷ []) ≡ submission_row (set r)) where
-  tested : (i : ℤ) (r : SubmissionRecord) → list_all (holds ((Text c ∷ number o ∷ rest) ∷ row_of submission_row (i, r) ∷ [])) (update_waiting sets).tests ≡ waits_at c o r
+    (made_row : (i : ℤ) (r : SubmissionRecord) → eval_all (update_waiting sets).sets ((Text c ∷ number o ∷ rest) ∷ row_of (as_row the.submissions) (i, r) ∷ []) ≡ as_row the.submissions (set r)) where
+  tested : (i : ℤ) (r : SubmissionRecord) → list_all (holds ((Text c ∷ number o ∷ rest) ∷ row_of (as_row the.submissions) (i, r) ∷ [])) (update_waiting sets).tests ≡ waits_at c o r
   tested i r =
       let a = text_is r.head.company c in
       let b = conditions.number_is r.head.order o in
@@ -64,7 +65,7 @@ module _ (c : List ℕ) (o : ℕ) (rest : Row) (sets : List Set) (is : IsUpdateO
       let e = and_true _ ∙ conditions.unflagged_is r.head.lapsed in
       (λ j. a j && (b j && (d j && e j))) ∙ and_joined (bytes_eq r.head.company c) (r.head.order == o) (is_waiting r)
 
-  keeps_order : (a b : SubmissionRecord) → submission_cmp (cond (is_row c o a) (set a) a) (cond (is_row c o b) (set b) b) ≡ submission_cmp a b
+  keeps_order : (a b : SubmissionRecord) → key_cmp the.submissions (cond (is_row c o a) (set a) a) (cond (is_row c o b) (set b) b) ≡ key_cmp the.submissions a b
   keeps_order a b = λ i. ordering_then (text_cmp (company a i) (company b i)) (nat_cmp (order a i) (order b i))
     where
       company : (d : SubmissionRecord) → (cond (is_row c o d) (set d) d).head.company ≡ d.head.company
@@ -80,8 +81,8 @@ module _ (c : List ℕ) (o : ℕ) (rest : Row) (sets : List Set) (is : IsUpdateO
       let it = one_found (waits_at c o) (is_row c o) (λ r here. (waits_parts c o r here).0) t.submissions (one_of _ (is_row c o) (one_row c o) t.submissions (h.1.stands named.submissions).rise) (sym made.1) in
       let parts = waits_parts c o it.row it.passes in (
         holds_with named.submissions _ h made.0 (record {
-          stored = subst (Stores submission_row (new.now.trees 6)) (updates_agree (waits_at c o) (is_row c o) set t.submissions it.same) made.0.stored;
-          rise = rises_updated submission_cmp (is_row c o) set keeps_order t.submissions (h.1.stands named.submissions).rise;
+          stored = subst (Stores (as_row the.submissions) (new.now.trees 6)) (updates_agree (waits_at c o) (is_row c o) set t.submissions it.same) made.0.stored;
+          rise = rises_updated (key_cmp the.submissions) (is_row c o) set keeps_order t.submissions (h.1.stands named.submissions).rise;
         }),
         record { submission = it.row; found = it.found; unsettled = parts.1; lasts = parts.2 },
       )

@@ -8,7 +8,9 @@ use Rattle.desk_accounts.specs.declared.posting.Posting.{Posting}
 use Rattle.desk_accounts.specs.Posting.{same_account}
 use Rattle.sql_statements.specs.Promises.{GoesOn}
 use Rattle.sql_tables.specs.Beside.{balance_of}
-use Rattle.sql_tables.specs.KeyOrders.{IsInOrder, balance_cmp}
+use Rattle.sql_tables.specs.Description.{key_cmp}
+use Rattle.sql_tables.specs.DeskTables as the
+use Rattle.sql_tables.specs.KeyOrders.{IsInOrder}
 use Rattle.sql_tables.specs.Layout.{desk_layout}
 use Rattle.sql_tables.specs.Tables.{Tables}
 use Rattle.sql_tables.specs.declared.records.BalanceRecord.{BalanceRecord}
@@ -24,7 +26,7 @@ pending_of pending account day = option_map (λ b. b.cents) (find (is_pending_of
 
 -- in these balances the pending ones stand in place of the rows
 pub record StandsFor (pending : List PendingBalance) (rows balances : List BalanceRecord) : Type 0 where
-  pub rise : IsInOrder balance_cmp balances
+  pub rise : IsInOrder (key_cmp the.balances) balances
   pub found : (account : Account) (day : ℕ) → balance_of balances account day ≡ option_or (pending_of pending account day) (balance_of rows account day)
 
 -- the line is added to a pending balance

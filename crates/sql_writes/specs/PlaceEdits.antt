@@ -7,7 +7,9 @@ use Rattle.sql_statements.specs.Edits.{Edit}
 use Rattle.ach_fields.specs.Trace.{most_sequence}
 use Rattle.desk_history.specs.declared.sent_entry.SentEntry.{SentEntry}
 use Rattle.sql_tables.specs.CutTables.{mark_entry, with_number}
-use Rattle.sql_tables.specs.KeyOrders.{IsInOrder, number_cmp}
+use Rattle.sql_tables.specs.Description.{key_cmp}
+use Rattle.sql_tables.specs.DeskTables as the
+use Rattle.sql_tables.specs.KeyOrders.{IsInOrder}
 use Rattle.sql_tables.specs.TableEdits.{IsUnsent}
 use Rattle.sql_tables.specs.Tables.{Tables}
 use Rattle.sql_tables.specs.declared.records.NumberRecord.{NumberRecord}
@@ -30,7 +32,7 @@ is_within from to n = nat_le from n.sequence && nat_le n.sequence to
 
 -- DELETE FROM numbers WHERE sequence BETWEEN ? AND ?; the numbers stand in the order of their sequences
 abbrev pub clear_numbers_edit : (from to : ℕ) → Edit Tables
-clear_numbers_edit from to = record { after = λ t. record t { numbers = delete_where (is_within from to) t.numbers }; Tells = λ t. IsInOrder number_cmp t.numbers }
+clear_numbers_edit from to = record { after = λ t. record t { numbers = delete_where (is_within from to) t.numbers }; Tells = λ t. IsInOrder (key_cmp the.sequences) t.numbers }
 
 -- the number of an entry's sequence, with its place
 abbrev pub number_record : (place : ℕ) → SentEntry → NumberRecord
@@ -41,4 +43,4 @@ numbers_from first es = map (λ p. number_record p.0 p.1) (enumerate_from first 
 
 -- INSERT INTO numbers
 abbrev pub insert_number_edit : (place : ℕ) → SentEntry → Edit Tables
-insert_number_edit place e = record { after = λ t. record t { numbers = insert_sorted number_cmp (number_record place e) t.numbers }; Tells = λ _. ⊤ }
+insert_number_edit place e = record { after = λ t. record t { numbers = insert_sorted (key_cmp the.sequences) (number_record place e) t.numbers }; Tells = λ _. ⊤ }

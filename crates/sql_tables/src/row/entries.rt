@@ -3,7 +3,7 @@ ghost use Rattle.std.specs.Prelude.{◌≡◌, ◌≤◌, ◌+◌, ◌↔◌, []
 ghost use Rattle.sqlite_value.specs.Order.{column};
 ghost use Rattle.desk_rules.specs.Fields.{entry_cents_of};
 ghost use Rattle.sql_tables.specs.QueryRows.{entry_amount_row, numbered_entry_row, placed_entry_row};
-ghost use Rattle.sql_tables.specs.RecordRows.{entry_columns};
+ghost use Rattle.sql_tables.specs.Columns.{entry_columns};
 ghost use Rattle.sql_tables.specs.Reading.{Reads};
 ghost use Rattle.sql_tables.specs.RowRanges.{EntryAmountFits, EntryFits, NumberedEntryFits, PlacedEntryFits};
 

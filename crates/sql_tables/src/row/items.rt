@@ -1,6 +1,7 @@
 //! Rows of returns, changes and suspense, and of the files that had them.
+ghost use Rattle.sql_tables.specs.Description.{as_row};
+ghost use Rattle.sql_tables.specs.DeskTables as the;
 ghost use Rattle.sql_tables.specs.QueryRows.{entry_return_row, return_line_row, change_line_row, suspense_line_row};
-ghost use Rattle.sql_tables.specs.RecordRows.{taken_row};
 ghost use Rattle.sql_tables.specs.RowRanges.{EntryReturnFits, ReturnLineFits, ChangeLineFits, SuspenseFits, TakenFits};
 
 use super::FromRow;
@@ -152,7 +153,7 @@ impl FromRow for SuspenseRow {
 
 // A whole row of taken.
 impl FromRow for TakenFile {
-    ghost stored_row = { taken_row };
+    ghost stored_row = { as_row the.taken };
 
     ghost fits = { TakenFits };
 

@@ -1,6 +1,7 @@
 //! Rows of postings, of their sums and of numbers.
+ghost use Rattle.sql_tables.specs.Description.{as_row};
+ghost use Rattle.sql_tables.specs.DeskTables as the;
 ghost use Rattle.sql_tables.specs.QueryRows.{posting_line_row, day_sum_row};
-ghost use Rattle.sql_tables.specs.RecordRows.{number_row};
 ghost use Rattle.sql_tables.specs.RowRanges.{PostingLineFits, NumberFits, DaySumFits};
 
 use super::FromRow;
@@ -55,7 +56,7 @@ impl FromRow for PostingLine {
 
 // A whole row of numbers.
 impl FromRow for NumberRecord {
-    ghost stored_row = { number_row };
+    ghost stored_row = { as_row the.sequences };
 
     ghost fits = { NumberFits };
 

@@ -1,6 +1,7 @@
 //! Rows of the desk and of its companies.
+ghost use Rattle.sql_tables.specs.Description.{as_row};
+ghost use Rattle.sql_tables.specs.DeskTables as the;
 ghost use Rattle.sql_tables.specs.QueryRows.{keyed_identity_row};
-ghost use Rattle.sql_tables.specs.RecordRows.{company_row};
 ghost use Rattle.sql_tables.specs.RowRanges.{KeyedIdentityFits, CompanyFits};
 
 use super::FromRow;
@@ -51,7 +52,7 @@ impl FromRow for KeyedIdentity {
 
 // A whole row of companies.
 impl FromRow for Company {
-    ghost stored_row = { company_row };
+    ghost stored_row = { as_row the.companies };
 
     ghost fits = { CompanyFits };
 

@@ -4,7 +4,7 @@ ghost use Rattle.sqlite_value.specs.Order.{column};
 ghost use Rattle.sql_tables.specs.QueryRows.{submission_head_row, submission_facts_row, order_and_settlement_row};
 ghost use Rattle.sql_tables.specs.Ranges.{FitsIfAny};
 ghost use Rattle.sql_tables.specs.Reading.{Reads};
-ghost use Rattle.sql_tables.specs.RecordRows.{retried_columns};
+ghost use Rattle.sql_tables.specs.Columns.{retried_columns};
 ghost use Rattle.sql_tables.specs.RowRanges.{RetriedFits, SubmissionHeadFits, SubmissionFactsFits, OrderAndSettlementFits};
 
 use super::FromRow;

@@ -1,7 +1,8 @@
 use Rattle.sqlite.specs.Held.{state}
 use Rattle.sql_statements.proofs.Edits.{makes_of}
+use Rattle.sql_tables.specs.Encodes.{change_under}
 use Rattle.sql_tables.specs.Layout.{desk_layout}
-use Rattle.sql_tables.specs.TableEdits.{change_under, put_change_edit}
+use Rattle.sql_tables.specs.TableEdits.{put_change_edit}
 use Rattle.sql_writes.proofs.ChangeInserts.{change_put}
 use Rattle.sql_writes.proofs.intake.changes.ChangeRowsRowBody.run_row.Goals as goal
 
