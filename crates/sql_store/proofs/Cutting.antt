@@ -16,7 +16,7 @@ use Rattle.sql_tables.specs.TableReads.{IsLastNumber}
 use Rattle.sql_tables.specs.declared.records.NumberRecord.{NumberRecord}
 use Rattle.desk_store.specs.Words.{Writes, LeavesWrite}
 use Rattle.desk_store.specs.declared.store.StoreFault.{StoreFault}
-use Rattle.sql_cut_law.specs.CutMaking.{MakesCut}
+use Rattle.sql_write_laws.specs.Making.{MakesCut}
 
 module _ (x : CutWrite) (first : ℕ) (last : Option NumberRecord) (first_is : first ≡ unwrap_or (option_map (λ n. n.place) last) 0 + 1)
     (counted : Agrees desk_layout IsBookIn (IsLastNumber last) (λ b. unwrap_or (option_map (λ n. n.place) last) 0 ≡ sent_count b)) (makes : MakesCut first x)

@@ -2,7 +2,7 @@
 //!
 //! A `SqlStore` reads by the queries of `sql_queries` and `sql_reads`, and makes each write in one
 //! transaction of the statements of `sql_writes`. That the tables say what the book says stands in the
-//! laws of `sql_read_laws`, `sql_write_laws` and `sql_cut_law`.
+//! laws of `sql_read_laws` and `sql_write_laws`.
 #![tactic(auto)]
 
 mod last_number;

@@ -13,11 +13,10 @@ use desk_book::{Caller, HeldSubmission, NamedEntry, ReturnsAndChanges, Row};
 use desk_history::{Identity, ListOf, SuspenseRow, TakenFile};
 use desk_rules::{Company, Limits, Rates, Retry, RuleDay, SizedSubmission};
 use desk_store::{CutRows, IntakeRows, Store, StoreFault};
-use sql_cut_law::cut_follows;
 use sql_read_laws::{files_of_tables, numbers_of_tables, registry_of_tables, rows_of_tables};
 use sql_reads::or_unavailable;
 use sql_write_laws::{
-    company_follows, day_follows, holidays_follow, intake_follows, limits_follow,
+    company_follows, cut_follows, day_follows, holidays_follow, intake_follows, limits_follow,
     submission_follows,
 };
 use sql_writes::{

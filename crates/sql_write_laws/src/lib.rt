@@ -4,10 +4,12 @@
 //! book after its step.
 #![tactic(auto)]
 
+mod cut;
 mod intake;
 mod operator;
 mod submission;
 
+pub use cut::cut_follows;
 pub use intake::intake_follows;
 pub use operator::{company_follows, day_follows, holidays_follow, limits_follow};
 pub use submission::submission_follows;

@@ -18,9 +18,9 @@ use Rattle.sql_tables.specs.Tables.{Tables}
 use Rattle.sql_tables.proofs.KeptRows.{lapse_keeps, order_kept, authorizations_kept, retries_kept, returns_kept, changes_kept}
 use Rattle.sql_write_laws.proofs.Each.{AreOf}
 use Rattle.sql_write_laws.proofs.RowChanges.{orders_kept, references_kept, entries_kept, sent_kept, back_kept, printed_kept, Stays}
-use Rattle.sql_cut_law.proofs.SentRecords.{each, in_both, one_lapsed}
-use Rattle.sql_cut_law.proofs.SentStates.{lapsed_states}
-use Rattle.sql_cut_law.proofs.Waiting.{Waiting, IsIt, waiting_row, the_waiting}
+use Rattle.sql_write_laws.proofs.SentRecords.{each, in_both, one_lapsed}
+use Rattle.sql_write_laws.proofs.SentStates.{lapsed_states}
+use Rattle.sql_write_laws.proofs.Waiting.{Waiting, IsIt, waiting_row, the_waiting}
 
 abbrev pub with_lapsed : LapsedRow → Rows → Rows
 with_lapsed l r = record r { submissions = map (lapse_in l) r.submissions }

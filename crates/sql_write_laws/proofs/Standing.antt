@@ -24,9 +24,9 @@ use Rattle.sql_tables.proofs.CutRecords.{pair_from}
 use Rattle.sql_tables.proofs.KeptRows.{send_keeps}
 use Rattle.sql_write_laws.proofs.Each.{AreOf}
 use Rattle.sql_write_laws.proofs.Found.{contains-map}
-use Rattle.sql_cut_law.proofs.Lapses.{lapse_keeps_sent}
-use Rattle.sql_cut_law.proofs.SentRecords.{in_both}
-use Rattle.sql_cut_law.proofs.Sends.{send_made, send_keeps_sent, with_sent}
+use Rattle.sql_write_laws.proofs.Lapses.{lapse_keeps_sent}
+use Rattle.sql_write_laws.proofs.SentRecords.{in_both}
+use Rattle.sql_write_laws.proofs.Sends.{send_made, send_keeps_sent, with_sent}
 
 -- the entry stands in a submission of the rows
 pub record StandsIn (rows : List CompanyRow) (e : SentEntry) : Type 0 where

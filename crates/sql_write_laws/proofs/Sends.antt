@@ -21,9 +21,9 @@ use Rattle.sql_tables.proofs.KeptRows.{send_keeps, order_kept, authorizations_ke
 use Rattle.sql_write_laws.proofs.Each.{AreOf}
 use Rattle.sql_write_laws.proofs.Found.{found_passes, filter_found}
 use Rattle.sql_write_laws.proofs.RowChanges.{one_of_order, orders_kept, references_kept, entries_kept, sent_kept, back_kept, filter_kept, same_submission, Stays}
-use Rattle.sql_cut_law.proofs.SentRecords.{each, in_both, one_sent}
-use Rattle.sql_cut_law.proofs.SentStates.{sent_states}
-use Rattle.sql_cut_law.proofs.Waiting.{Waiting, IsIt, waiting_row, the_waiting, not_printed, not_found_printed, no_returns}
+use Rattle.sql_write_laws.proofs.SentRecords.{each, in_both, one_sent}
+use Rattle.sql_write_laws.proofs.SentStates.{sent_states}
+use Rattle.sql_write_laws.proofs.Waiting.{Waiting, IsIt, waiting_row, the_waiting, not_printed, not_found_printed, no_returns}
 
 abbrev pub with_sent : SentRow → Rows → Rows
 with_sent s r = record r { submissions = map (send_in s) r.submissions; printed = r.printed ++ s ∷ [] }

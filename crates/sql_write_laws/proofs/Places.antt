@@ -18,8 +18,8 @@ use Rattle.sql_tables.specs.Tables.{Tables}
 use Rattle.sql_tables.specs.declared.records.EntryRecord.{EntryRecord}
 use Rattle.sql_write_laws.proofs.Each.{AreOf}
 use Rattle.sql_write_laws.proofs.Found.{found_passes, found_holds, none_passes}
-use Rattle.sql_cut_law.proofs.PlacedNumbers.{youngest_placed}
-use Rattle.sql_cut_law.proofs.SentRecords.{three_same, three_not, one_marked}
+use Rattle.sql_write_laws.proofs.PlacedNumbers.{youngest_placed}
+use Rattle.sql_write_laws.proofs.SentRecords.{three_same, three_not, one_marked}
 
 abbrev pub with_placed : SentEntry → Rows → Rows
 with_placed e r = record r { sent = r.sent ++ e ∷ [] }

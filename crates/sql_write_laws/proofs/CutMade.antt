@@ -14,12 +14,12 @@ use Rattle.sql_tables.specs.TableEdits.{send_edit, lapse_edit, place_edit, put_l
 use Rattle.sql_tables.specs.Tables.{Tables}
 use Rattle.sql_write_laws.proofs.Each.{AreOf, in_book, rows_in_book, each_made}
 use Rattle.sql_write_laws.proofs.PutLines.{lines_put}
-use Rattle.sql_cut_law.specs.CutMaking.{MakesCut}
-use Rattle.sql_cut_law.proofs.Lapses.{lapse_made, with_lapsed}
-use Rattle.sql_cut_law.proofs.Places.{places_made}
-use Rattle.sql_cut_law.proofs.PutFiles.{files_put}
-use Rattle.sql_cut_law.proofs.Sends.{send_made, with_sent}
-use Rattle.sql_cut_law.proofs.Standing.{entries_sent}
+use Rattle.sql_write_laws.specs.Making.{MakesCut}
+use Rattle.sql_write_laws.proofs.Lapses.{lapse_made, with_lapsed}
+use Rattle.sql_write_laws.proofs.Places.{places_made}
+use Rattle.sql_write_laws.proofs.PutFiles.{files_put}
+use Rattle.sql_write_laws.proofs.Sends.{send_made, with_sent}
+use Rattle.sql_write_laws.proofs.Standing.{entries_sent}
 
 abbrev all_sent : List SentRow → Rows → Rows
 all_sent ss r = record r { submissions = in_turn send_in ss r.submissions; printed = r.printed ++ ss }

@@ -14,7 +14,7 @@ use Rattle.desk_store.specs.Rows.{CompanyRow}
 use Rattle.sql_tables.specs.Encodes.{HasStates, entry_state, unless_lapsed, settled_state, is_return_of}
 use Rattle.sql_tables.specs.declared.records.ReturnRecord.{ReturnRecord}
 use Rattle.sql_tables.proofs.CutRecords.{pair_same}
-use Rattle.sql_cut_law.proofs.SentRecords.{in_both}
+use Rattle.sql_write_laws.proofs.SentRecords.{in_both}
 
 same_all : {A : Type 0} (k : EntryState) (f g : A → EntryState) → ((a : A) → g a ≡ k) → (xs : List A) → map (λ _. k) (map f xs) ≡ map g xs
 same_all k f g h [] = refl
