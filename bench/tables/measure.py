@@ -1,8 +1,9 @@
 #!/usr/bin/env python3
 """Times of a desk over a database file, and in the same run of stock SQLite with the same rows.
 
-`measure.py PROGRAM [ROUNDS]`: PROGRAM is bench/tables/main.rt.txt as `rt run` builds it. Each round works on
-fresh copies of the same files, the desk and then SQLite, and the best round of each counts. SQLite
+`measure.py PROGRAM [ROUNDS [million]]`: PROGRAM is bench/tables/main.rt.txt as `rt run` builds it. Each round works
+on fresh copies of the same files, the desk and then SQLite, and the best round of each counts. With `million` the
+writes are also made in a file of 1,000,000 entries, which takes some minutes more. SQLite
 is Python's `sqlite3`. It writes the rows that the desk wrote, in one transaction each, by `executemany` where
 that can be, and judges nothing. It has a log (WAL) that is synced at each commit (`synchronous=FULL`) and
 holds its lock, as the desk does. Its file must then have the same rows, or the run fails.
@@ -108,10 +109,17 @@ def rows_of(db, table):
     return db.execute(f"SELECT * FROM {table} ORDER BY rowid").fetchall()
 
 
+def count_of(db, table):
+    return db.execute(f"SELECT count(*) FROM {table}").fetchone()[0]
+
+
 def must_be_same(one, other):
-    with reading(one) as a, reading(other) as b:
+    """Each row has a key of its own, so files of as many rows are the same where none of one is missing in the other."""
+    with reading(one) as db:
+        db.execute("ATTACH ? AS other", (str(other),))
         for table in TABLES:
-            if sorted(map(repr, rows_of(a, table))) != sorted(map(repr, rows_of(b, table))):
+            missing = db.execute(f"SELECT 1 FROM (SELECT * FROM main.{table} EXCEPT SELECT * FROM other.{table})").fetchone()
+            if missing or count_of(db, f"main.{table}") != count_of(db, f"other.{table}"):
                 raise SystemExit(f"{table}: the rows of the desk and of SQLite differ")
 
 
@@ -201,7 +209,7 @@ def balances(db, before):
 
 
 def new_rows(db, old, table):
-    count = len(rows_of(old, table))
+    count = count_of(old, table)
     return db.execute(f"SELECT * FROM {table} WHERE rowid > ? ORDER BY rowid", (count,)).fetchall()
 
 
@@ -368,6 +376,10 @@ def one_round():
     cut("cut of 100000", many_held)
     take("500 returns in 1000_entries", small, 501, 500)
     take("5000 returns in 100000_entries", large, 5001, 5000)
+    if huge:
+        submissions("submission of 1000 in 1000000_entries", huge, 100, 10, 1000)
+        cut("cut of 1000 in 1001000_entries", held_in_huge)
+        take("5000 returns in 1000000_entries", huge, 5001, 5000)
     reads("1000_entries", small, 1)
     reads("100000_entries", large, 10)
     reads("100000_entries_of_one", alone, 10)
@@ -384,6 +396,8 @@ try:
     singles_held = base("1000_singles_held.db", 10, 0, 100, 1)
     held_late = held_beside("1000_held_beside.db", large, 10, 10, 100)
     many_held = base("100000_held.db", 10, 0, 10, 1000)
+    huge = base("1000000_entries.db", 10, 100, 10, 100, back=50) if "million" in sys.argv else None
+    held_in_huge = huge and held_beside("1000_held_in_huge.db", huge, 100, 10, 100)
     with reading(few_held) as db:
         first_number = db.execute("SELECT day FROM desk").fetchone()[0]
     try:
