@@ -14,8 +14,7 @@ use sqlite::{Alter, Error, Transaction};
 
 /// `CommitIntake` writes an incoming file: its returns and notifications of change, what stands in
 /// suspense, the lines of accounts, and the file itself. It fails where the key of the file was taken
-/// before, where a return or a change names no submission of its company, and where a return is of a
-/// submission that does not settle or of an entry that was returned before.
+/// before, and where a return is of an entry that was returned before.
 #[derive(Clone, Copy)]
 pub struct CommitIntake<'a> {
     pub rows: IntakeRows<'a>,
