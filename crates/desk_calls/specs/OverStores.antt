@@ -1,5 +1,6 @@
--- What a function over a store promises where the store is clean as the function ends: what it tells of the book
--- and makes of it, and what a crash may leave then. `g` says which books a store holds and what a crash leaves of it.
+-- What a function over a store promises, by a word for each kind: that the store was clean as it began, what it tells
+-- of the book and makes of it, and what a crash may leave then. `g` says which books a store holds and what a crash
+-- leaves of it.
 use Rattle.std.specs.Prelude.{ℕ, Bool, List, Result, Vec}
 use Rattle.std.specs.declared.alloc.Global.{Global}
 use Rattle.desk_history.specs.declared.answer.Answer.{Answer}
@@ -18,54 +19,62 @@ use Rattle.desk_calls.specs.Taking.{ReadsAs}
 module _ {S : Type 0} (g : Ghosts S) where
   -- ---- what only reads
 
-  -- The result is this value of the book, or the store could not act; it holds the same book.
-  abbrev pub Gives : {A : Type 0} → (old new : S) → Result A StoreFault → (Book → A) → Type 0
-  Gives old new result value = g.is_clean new → Reads (g.holds old) result value (g.holds new)
-
-  -- the same of a list
-  abbrev pub GivesList : {A : Type 0} → (old new : S) → Result (Vec A Global) StoreFault → (Book → List A) → Type 0
-  GivesList old new result value = g.is_clean new → ReadsList (g.holds old) result value (g.holds new)
-
-  -- the same, where contracts see the result as another value
-  abbrev pub GivesAs : {A B : Type 0} → (old new : S) → (A → B) → Result A StoreFault → (Book → B) → Type 0
-  GivesAs old new view result value = g.is_clean new → ReadsAs view (g.holds old) result value (g.holds new)
-
   -- A crash leaves nothing that it could not leave before.
   abbrev pub LeavesNoMore : (old new : S) → Type 0
   LeavesNoMore old new = g.is_clean new → LeavesRead (g.may_leave old) (g.may_leave new)
 
+  -- The store was clean as the function began, if it is clean as it ends. It tells this, and a crash leaves nothing
+  -- that it could not leave before.
+  pub record Tells (old new : S) (Told : Type 0) : Type 0 where
+    pub before : g.is_clean new → g.is_clean old
+    pub read : g.is_clean new → Told
+    pub left : LeavesNoMore old new
+
+  -- The result is this value of the book, or the store could not act; it holds the same book.
+  abbrev pub Gives : {A : Type 0} → (old new : S) → Result A StoreFault → (Book → A) → Type 0
+  Gives old new result value = Tells old new (Reads (g.holds old) result value (g.holds new))
+
+  -- the same of a list
+  abbrev pub GivesList : {A : Type 0} → (old new : S) → Result (Vec A Global) StoreFault → (Book → List A) → Type 0
+  GivesList old new result value = Tells old new (ReadsList (g.holds old) result value (g.holds new))
+
+  -- the same, where contracts see the result as another value
+  abbrev pub GivesAs : {A B : Type 0} → (old new : S) → (A → B) → Result A StoreFault → (Book → B) → Type 0
+  GivesAs old new view result value = Tells old new (ReadsAs view (g.holds old) result value (g.holds new))
+
   -- ---- answers of the desk
 
-  -- The answer is this one of the book, and the store then holds that book; or the store could not act, and holds
-  -- the same one.
-  abbrev pub AnswersWith : (old new : S) → Result Answer StoreFault → (Book → Answer) → (after : Book → Book) → Type 0
-  AnswersWith old new result answer after = g.is_clean new → Answers (g.holds old) result answer after (g.holds new)
+  -- The store was clean as the call began, if it is clean as it ends. This is answered, and a crash leaves this.
+  pub record Acts (old new : S) (Answered Left : Type 0) : Type 0 where
+    pub before : g.is_clean new → g.is_clean old
+    pub answers : g.is_clean new → Answered
+    pub left : g.is_clean new → Left
 
-  -- the answer to what only asks
+  -- The answer to what only asks is this one of the book, or the store could not act; it holds the same book.
   abbrev pub AnswersAsked : (old new : S) → Result Answer StoreFault → (Book → Answer) → Type 0
-  AnswersAsked old new result answer = AnswersWith old new result answer (λ b. b)
+  AnswersAsked old new result answer =
+      Acts old new (Answers (g.holds old) result answer (λ b. b) (g.holds new)) (LeavesRead (g.may_leave old) (g.may_leave new))
 
   -- the reply to a company that only asks
   abbrev pub RepliesAsked : (old new : S) → Result Answer StoreFault → (company : List ℕ) → Request → Type 0
   RepliesAsked old new result company r = AnswersAsked old new result (λ b. reply_on b company r)
 
+  -- The answer is this one of a book of which `Holds` is so, and the store then holds that book; or the store could not
+  -- act, and holds the same one. Where the call wrote, a crash leaves what keeps the book that it made, and where it
+  -- wrote nothing, nothing new; where the store could not act, either.
+  abbrev pub AnswersWhere : (old new : S) → (Holds : Book → Type 0) → Result Answer StoreFault → (writes : Book → Bool) → (Book → Answer) → (after : Book → Book) → Type 0
+  AnswersWhere old new Holds result writes answer after =
+      Acts old new (Answers Holds result answer after (g.holds new)) (LeavesCall g.keeps Holds (g.may_leave old) result writes after (g.may_leave new))
+
+  -- the same of the book that the store holds
+  abbrev pub AnswersWith : (old new : S) → Result Answer StoreFault → (writes : Book → Bool) → (Book → Answer) → (after : Book → Book) → Type 0
+  AnswersWith old new = AnswersWhere old new (g.holds old)
+
+  -- the answer to a message
+  abbrev pub AnswersMessage : (old new : S) → Result Answer StoreFault → Message → (Book → Answer) → (after : Book → Book) → Type 0
+  AnswersMessage old new result m = AnswersWith old new result (λ b. writes_on b m)
+
   -- the reply to a submission or retry, which may add a row
   abbrev pub RepliesAdding : (old new : S) → Result Answer StoreFault → (company : List ℕ) → Request → Type 0
   RepliesAdding old new result company r =
-      AnswersWith old new result (λ b. reply_on b company r) (λ b. with_added_row company (added_row b company r) b)
-
-  -- ---- what a crash leaves then
-
-  -- Where the call wrote, a crash leaves what keeps the book that it made, and where it wrote nothing, nothing new;
-  -- where the store could not act, either.
-  abbrev pub LeavesWith : (old new : S) → Result Answer StoreFault → (writes : Book → Bool) → (after : Book → Book) → Type 0
-  LeavesWith old new result writes after = g.is_clean new → LeavesCall g.keeps (g.holds old) (g.may_leave old) result writes after (g.may_leave new)
-
-  -- after a message
-  abbrev pub LeavesAfter : (old new : S) → Result Answer StoreFault → Message → (after : Book → Book) → Type 0
-  LeavesAfter old new result m after = LeavesWith old new result (λ b. writes_on b m) after
-
-  -- after a submission or retry
-  abbrev pub LeavesAdding : (old new : S) → Result Answer StoreFault → (company : List ℕ) → Request → Type 0
-  LeavesAdding old new result company r =
-      LeavesAfter old new result (Of company r) (λ b. with_added_row company (added_row b company r) b)
+      AnswersMessage old new result (Of company r) (λ b. reply_on b company r) (λ b. with_added_row company (added_row b company r) b)

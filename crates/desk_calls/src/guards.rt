@@ -2,7 +2,7 @@
 ghost use Rattle.desk_rules.specs.declared.refusals.refusal.Refusal.TheVariants.{NoCompany, NoDay};
 ghost use Rattle.desk_history.specs.Words.{some_or};
 ghost use Rattle.desk_book.specs.OnBook.{standing_in};
-ghost use Rattle.desk_calls.specs.OverStores.{Gives, LeavesNoMore};
+ghost use Rattle.desk_calls.specs.OverStores.{Gives};
 
 use ach_fields::Id;
 use bank_days::Day;
@@ -16,10 +16,8 @@ pub(crate) fn company_limits<S: Store>(
     alloc: Global,
     company: Id,
 ) -> Result<Result<Limits, Refusal>, StoreFault>
-    ensures before { S.is_clean store.new → S.is_clean store.old }
-    ensures read { Gives S.Store store.old store.new result
+    ensures { Gives S.Store store.old store.new result
         (λ b. some_or NoCompany (standing_in b company).limits) }
-    ensures left { LeavesNoMore S.Store store.old store.new }
 {
     match store.company(alloc, company)? {
         Some(registered) => Ok(Ok(registered.limits)),
@@ -32,9 +30,7 @@ pub(crate) fn rule_day<S: Store>(
     store: &mut S,
     alloc: Global,
 ) -> Result<Result<RuleDay, Refusal>, StoreFault>
-    ensures before { S.is_clean store.new → S.is_clean store.old }
-    ensures read { Gives S.Store store.old store.new result (λ b. some_or NoDay b.day) }
-    ensures left { LeavesNoMore S.Store store.old store.new }
+    ensures { Gives S.Store store.old store.new result (λ b. some_or NoDay b.day) }
 {
     match store.day(alloc)? {
         Some(day) => Ok(Ok(day)),
@@ -47,9 +43,7 @@ pub(crate) fn desk_day<S: Store>(
     store: &mut S,
     alloc: Global,
 ) -> Result<Result<Day, Refusal>, StoreFault>
-    ensures before { S.is_clean store.new → S.is_clean store.old }
-    ensures read { Gives S.Store store.old store.new result (λ b. some_or NoDay b.day) }
-    ensures left { LeavesNoMore S.Store store.old store.new }
+    ensures { Gives S.Store store.old store.new result (λ b. some_or NoDay b.day) }
 {
     match rule_day(store, alloc)? {
         Ok(day) => Ok(Ok(day.day())),

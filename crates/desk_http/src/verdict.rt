@@ -1,7 +1,7 @@
 //! What a message comes to: a call of the desk, or a fault.
 ghost use Rattle.std.specs.Prelude.{◌≡◌};
 ghost use Rattle.http_message.specs.Message.{asked, message_value, request_value};
-ghost use Rattle.desk_store.specs.Words.{Reads, LeavesRead};
+ghost use Rattle.desk_calls.specs.OverStores.{Gives};
 ghost use Rattle.http_history.specs.Addressee.{addressee_of, addressee_by_framing, route_of_path};
 ghost use Rattle.http_history.specs.Verdict.{verdict_on};
 ghost use Rattle.desk_http.specs.Addressing.{addressee_with};
@@ -29,11 +29,8 @@ pub(crate) fn verdict_of<S: Store>(
     routes: &Routes,
     message: Message<'_>,
 ) -> Result<Result<Call, MessageFault>, StoreFault>
-    ensures before { S.is_clean desk.new → S.is_clean desk.old }
-    ensures read { S.is_clean desk.new →
-        Reads (S.holds desk.old) result (λ b. verdict_on b (message_value message.entry))
-        (S.holds desk.new) }
-    ensures left { S.is_clean desk.new → LeavesRead (S.may_leave desk.old) (S.may_leave desk.new) }
+    ensures { Gives S.Store desk.old desk.new result
+        (λ b. verdict_on b (message_value message.entry)) }
 {
     match message {
         Message::BadHead => Ok(Err(MessageFault::BadHead)),
@@ -47,11 +44,8 @@ fn request_verdict<S: Store>(
     routes: &Routes,
     request: Request<'_>,
 ) -> Result<Result<Call, MessageFault>, StoreFault>
-    ensures before { S.is_clean desk.new → S.is_clean desk.old }
-    ensures read { S.is_clean desk.new →
-        Reads (S.holds desk.old) result (λ b. verdict_on b (asked (request_value request.entry)))
-        (S.holds desk.new) }
-    ensures left { S.is_clean desk.new → LeavesRead (S.may_leave desk.old) (S.may_leave desk.new) }
+    ensures { Gives S.Store desk.old desk.new result
+        (λ b. verdict_on b (asked (request_value request.entry))) }
 {
     match route_of(routes, &request) {
         Ok(Route::Company(route)) => company_verdict(alloc, desk, route, &request),

@@ -1,7 +1,7 @@
 //! A company's limits are asked of its exposures.
 ghost use Rattle.desk_history.specs.Acceptance.{within_limits};
 ghost use Rattle.desk_book.specs.Standing.{facts_in};
-ghost use Rattle.desk_calls.specs.OverStores.{Gives, LeavesNoMore};
+ghost use Rattle.desk_calls.specs.OverStores.{Gives};
 
 use ach_fields::Id;
 use bank_days::Day;
@@ -18,10 +18,8 @@ pub(crate) fn within_limits<S: Store>(
     today: Day,
     content: SizedSubmission,
 ) -> Result<Result<SizedSubmission, Refusal>, StoreFault>
-    ensures before { S.is_clean store.new → S.is_clean store.old }
-    ensures read { Gives S.Store store.old store.new result
+    ensures { Gives S.Store store.old store.new result
         (λ b. within_limits (facts_in (b.rows company)) b.holidays limits.now today content) }
-    ensures left { LeavesNoMore S.Store store.old store.new }
 {
     let exposed = store.exposures(alloc, company, today)?;
     match check_limits(content.submission(), today, limits, exposed) {

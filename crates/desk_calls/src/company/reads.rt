@@ -1,7 +1,7 @@
 //! What a company reads: its returns, changes, submissions, statement, rates and exposure.
 ghost use Rattle.desk_history.specs.Request as request;
 ghost use Rattle.desk_calls.specs.Answering.{Answers};
-ghost use Rattle.desk_calls.specs.OverStores.{LeavesNoMore, RepliesAsked};
+ghost use Rattle.desk_calls.specs.OverStores.{RepliesAsked};
 
 use crate::company::report::report_or_none;
 use crate::company::statement::statement;
@@ -19,9 +19,7 @@ pub(crate) fn returns_of<S: Store>(
     alloc: Global,
     company: Id,
 ) -> Result<Answer, StoreFault>
-    ensures before { S.is_clean store.new → S.is_clean store.old }
-    ensures answers { RepliesAsked S.Store store.old store.new result company request.Returns }
-    ensures left { LeavesNoMore S.Store store.old store.new }
+    ensures { RepliesAsked S.Store store.old store.new result company request.Returns }
 {
     if let Err(why) = company_limits(store, alloc, company)? {
         return Ok(refuse(why));
@@ -36,9 +34,7 @@ pub(crate) fn changes_of<S: Store>(
     alloc: Global,
     company: Id,
 ) -> Result<Answer, StoreFault>
-    ensures before { S.is_clean store.new → S.is_clean store.old }
-    ensures answers { RepliesAsked S.Store store.old store.new result company request.Changes }
-    ensures left { LeavesNoMore S.Store store.old store.new }
+    ensures { RepliesAsked S.Store store.old store.new result company request.Changes }
 {
     if let Err(why) = company_limits(store, alloc, company)? {
         return Ok(refuse(why));
@@ -54,10 +50,7 @@ pub(crate) fn look_up<S: Store>(
     company: Id,
     reference: Ref,
 ) -> Result<Answer, StoreFault>
-    ensures before { S.is_clean store.new → S.is_clean store.old }
-    ensures answers { RepliesAsked S.Store store.old store.new result company
-        (request.LookUp reference) }
-    ensures left { LeavesNoMore S.Store store.old store.new }
+    ensures { RepliesAsked S.Store store.old store.new result company (request.LookUp reference) }
 {
     if let Err(why) = company_limits(store, alloc, company)? {
         return Ok(refuse(why));
@@ -72,9 +65,7 @@ pub(crate) fn statement_of<S: Store>(
     alloc: Global,
     company: Id,
 ) -> Result<Answer, StoreFault>
-    ensures before { S.is_clean store.new → S.is_clean store.old }
-    ensures answers { RepliesAsked S.Store store.old store.new result company request.Statement }
-    ensures left { LeavesNoMore S.Store store.old store.new }
+    ensures { RepliesAsked S.Store store.old store.new result company request.Statement }
 {
     desk_accounts::balances_by_day();
     if let Err(why) = company_limits(store, alloc, company)? {
@@ -96,9 +87,7 @@ pub(crate) fn rates_of<S: Store>(
     alloc: Global,
     company: Id,
 ) -> Result<Answer, StoreFault>
-    ensures before { S.is_clean store.new → S.is_clean store.old }
-    ensures answers { RepliesAsked S.Store store.old store.new result company request.Rates }
-    ensures left { LeavesNoMore S.Store store.old store.new }
+    ensures { RepliesAsked S.Store store.old store.new result company request.Rates }
 {
     if let Err(why) = company_limits(store, alloc, company)? {
         return Ok(refuse(why));
@@ -117,9 +106,7 @@ pub(crate) fn exposure_of<S: Store>(
     alloc: Global,
     company: Id,
 ) -> Result<Answer, StoreFault>
-    ensures before { S.is_clean store.new → S.is_clean store.old }
-    ensures answers { RepliesAsked S.Store store.old store.new result company request.Exposure }
-    ensures left { LeavesNoMore S.Store store.old store.new }
+    ensures { RepliesAsked S.Store store.old store.new result company request.Exposure }
 {
     let limits = match company_limits(store, alloc, company)? {
         Ok(limits) => limits,

@@ -1,7 +1,7 @@
 //! A submission and a retry share what is asked first, the verdict, and its write.
-ghost use Rattle.std.specs.Prelude.{◌≡◌, ◌+◌, length, IfOk};
+ghost use Rattle.std.specs.Prelude.{◌≡◌, ◌+◌, length};
 ghost use Rattle.desk_calls.specs.Verdicts.{limits_and_day, refused_verdict, known_verdict, fresh_verdict, Adds, LeavesAdded};
-ghost use Rattle.desk_calls.specs.OverStores.{Gives, LeavesNoMore};
+ghost use Rattle.desk_calls.specs.OverStores.{Acts, Gives};
 
 use crate::company::receipt::receipt;
 use crate::company::verdict::{NewRow, Verdict};
@@ -21,9 +21,7 @@ pub(crate) fn limits_and_day<S: Store>(
     alloc: Global,
     company: Id,
 ) -> Result<Result<(Limits, Day), Refusal>, StoreFault>
-    ensures before { S.is_clean store.new → S.is_clean store.old }
-    ensures read { Gives S.Store store.old store.new result (λ b. limits_and_day b company) }
-    ensures left { LeavesNoMore S.Store store.old store.new }
+    ensures { Gives S.Store store.old store.new result (λ b. limits_and_day b company) }
 {
     let limits = match company_limits(store, alloc, company)? {
         Ok(limits) => limits,
@@ -41,9 +39,7 @@ pub(crate) fn next_order<S: Store>(
     alloc: Global,
     company: Id,
 ) -> Result<u64, StoreFault>
-    ensures before { S.is_clean store.new → S.is_clean store.old }
-    ensures read { Gives S.Store store.old store.new result (λ b. length (b.rows company) + 1) }
-    ensures left { LeavesNoMore S.Store store.old store.new }
+    ensures { Gives S.Store store.old store.new result (λ b. length (b.rows company) + 1) }
 {
     let count = store.submission_count(alloc, company)?;
     match count.checked_add(1) {
@@ -104,12 +100,10 @@ pub(crate) fn add<S: Store>(
     company: Id,
     verdict: Verdict,
 ) -> Result<Answer, StoreFault>
-    ensures before { S.is_clean store.new → S.is_clean store.old }
-    ensures answers { S.is_clean store.new →
-        Adds (S.holds store.old) result company verdict (S.holds store.new) }
-    ensures left { S.is_clean store.new →
-        LeavesAdded S.keeps (S.holds store.old) (S.may_leave store.old) result company verdict
-        (S.may_leave store.new) }
+    ensures { Acts S.Store store.old store.new
+        (Adds (S.holds store.old) result company verdict (S.holds store.new))
+        (LeavesAdded S.keeps (S.holds store.old) (S.may_leave store.old) result company verdict
+        (S.may_leave store.new)) }
 {
     if let Some(new) = &verdict.added {
         store.add_submission(alloc, company, new.order, &new.content, new.retry)?;

@@ -5,7 +5,7 @@ ghost use Rattle.desk_history.specs.Request as request;
 ghost use Rattle.desk_history.specs.Acceptance.{is_same_submission, new_content};
 ghost use Rattle.desk_book.specs.Standing.{facts_in};
 ghost use Rattle.desk_calls.specs.Verdicts.{limits_and_day, verdict_of_fields, fresh_verdict, submission_on};
-ghost use Rattle.desk_calls.specs.OverStores.{Gives, LeavesNoMore, RepliesAdding, LeavesAdding};
+ghost use Rattle.desk_calls.specs.OverStores.{Gives, RepliesAdding};
 
 use crate::company::limits::within_limits;
 use crate::company::requests::{
@@ -39,11 +39,9 @@ fn new_submission<S: Store>(
     today: Day,
     content: Submission,
 ) -> Result<Verdict, StoreFault>
-    ensures before { S.is_clean store.new → S.is_clean store.old }
-    ensures read { Gives S.Store store.old store.new result (λ b. fresh_verdict
-        (length (b.rows company) + 1) None
+    ensures { Gives S.Store store.old store.new result
+        (λ b. fresh_verdict (length (b.rows company) + 1) None
         (new_content (facts_in (b.rows company)) b.holidays limits.now today content)) }
-    ensures left { LeavesNoMore S.Store store.old store.new }
 {
     let content = match SizedSubmission::new(content) {
         Ok(content) => content,
@@ -63,10 +61,8 @@ fn submission_on<S: Store>(
     today: Day,
     content: Submission,
 ) -> Result<Verdict, StoreFault>
-    ensures before { S.is_clean store.new → S.is_clean store.old }
-    ensures read { Gives S.Store store.old store.new result
+    ensures { Gives S.Store store.old store.new result
         (λ b. submission_on b company limits.now today content) }
-    ensures left { LeavesNoMore S.Store store.old store.new }
 {
     if let Some(row) = store.submission(alloc, company, content.reference)? {
         return Ok(known_verdict(&row, is_plain_row(&content, &row)));
@@ -81,10 +77,9 @@ fn submission_verdict<S: Store>(
     company: Id,
     draft: &Draft,
 ) -> Result<Verdict, StoreFault>
-    ensures before { S.is_clean store.new → S.is_clean store.old }
-    ensures read { Gives S.Store store.old store.new result (λ b. verdict_of_fields
-        (limits_and_day b company) (submission_of draft.now) (submission_on b company)) }
-    ensures left { LeavesNoMore S.Store store.old store.new }
+    ensures { Gives S.Store store.old store.new result
+        (λ b. verdict_of_fields (limits_and_day b company) (submission_of draft.now)
+        (submission_on b company)) }
 {
     let (limits, today) = match limits_and_day(store, alloc, company)? {
         Ok(asked) => asked,
@@ -105,11 +100,7 @@ pub(crate) fn submit<S: Store>(
     company: Id,
     draft: &Draft,
 ) -> Result<Answer, StoreFault>
-    ensures before { S.is_clean store.new → S.is_clean store.old }
-    ensures answers { RepliesAdding S.Store store.old store.new result company
-        (request.Submit draft.now) }
-    ensures left { LeavesAdding S.Store store.old store.new result company
-        (request.Submit draft.now) }
+    ensures { RepliesAdding S.Store store.old store.new result company (request.Submit draft.now) }
 {
     let verdict = submission_verdict(store, alloc, company, draft)?;
     add(store, alloc, company, verdict)

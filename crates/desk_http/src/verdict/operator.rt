@@ -5,7 +5,7 @@ ghost use Rattle.http_routes.specs.Finding.{piece_of};
 ghost use Rattle.http_message.specs.Message.{request_value};
 ghost use Rattle.desk_book.specs.declared.caller.Caller.TheVariants as callers;
 ghost use Rattle.desk_book.specs.Reads.{key_of};
-ghost use Rattle.desk_store.specs.Words.{Reads, LeavesRead};
+ghost use Rattle.desk_calls.specs.OverStores.{Gives};
 ghost use Rattle.http_history.specs.Verdict.{operator_verdict, operator_call, file_text};
 
 use super::object::{company_call, day_call, limits_call};
@@ -27,10 +27,8 @@ pub(crate) fn operator_verdict<S: Store>(
     route: OperatorRoute,
     request: Request<'_>,
 ) -> Result<Result<Call, MessageFault>, StoreFault>
-    ensures before { S.is_clean desk.new → S.is_clean desk.old }
-    ensures read { S.is_clean desk.new → Reads (S.holds desk.old) result
-        (λ b. operator_verdict (key_of callers.Operator b) route (request_value request.entry)) (S.holds desk.new) }
-    ensures left { S.is_clean desk.new → LeavesRead (S.may_leave desk.old) (S.may_leave desk.new) }
+    ensures { Gives S.Store desk.old desk.new result
+        (λ b. operator_verdict (key_of callers.Operator b) route (request_value request.entry)) }
 {
     let Some(key) = value_of(request.fields, b"X-Desk-Key") else {
         return Ok(Err(MessageFault::Denied));

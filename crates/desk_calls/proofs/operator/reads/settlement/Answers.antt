@@ -30,8 +30,13 @@ of_sums by_day b d rows s is_day are_sums is =
     ∙ (λ i. Done (done.Settlement (record { balance = same_balance i; day = d; days = map day_sum (are_sums i) })))
     ∙ ap (λ (r : Result ℕ Refusal). answer_of (r >>= (λ d. Ok (done.Settlement (history.settlement ps d))))) (sym is_day)
 
-pub returns-clause-answers : goal.returns-clause-answers
-returns-clause-answers g c = λ clean b held.
-    let day_read = c.in_ok-day.ensures.read (c.balances_of.ensures.before clean) b held in
-    let rows_read = c.in_ok-rows.ensures.read clean b day_read.1 in
-    (of_sums c.balances_by_day.ensures b c.in-Ok.day c.deref.result.now c.in_ok-settlement.settlement (sym day_read.0 ∙ c.in-Ok.is) (c.deref.ensures.value ∙ rows_read.0) c.in_ok-settlement.ensures, rows_read.1)
+pub returns : goal.returns
+returns g c =
+    record {
+      before = λ clean. c.desk_day.ensures.before (c.balances_of.ensures.before clean);
+      answers = λ clean b held.
+          let day_read = c.in_ok-day.ensures.read (c.balances_of.ensures.before clean) b held in
+          let rows_read = c.in_ok-rows.ensures.read clean b day_read.1 in
+          (of_sums c.balances_by_day.ensures b c.in-Ok.day c.deref.result.now c.in_ok-settlement.settlement (sym day_read.0 ∙ c.in-Ok.is) (c.deref.ensures.value ∙ rows_read.0) c.in_ok-settlement.ensures, rows_read.1);
+      left = λ clean kept may. c.desk_day.ensures.left (c.balances_of.ensures.before clean) kept (c.balances_of.ensures.left clean kept may);
+    }

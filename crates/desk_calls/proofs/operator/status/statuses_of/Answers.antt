@@ -1,5 +1,6 @@
 use Rattle.std.proofs.Common.{◌≡◌, ◌∙◌, ◌+◌, ◌++◌, List, [], ◌∷◌, ap, sym, drop, append_assoc}
 use Rattle.std.proofs.lemmas.List.{drop_more}
+use Rattle.std.proofs.lemmas.Result.{err_from_is_err_and}
 use Rattle.desk_rules.specs.declared.bodies.company.Company.{Company}
 use Rattle.desk_history.specs.declared.status.CompanyStatus.{CompanyStatus}
 use Rattle.desk_calls.specs.Status.{statuses}
@@ -28,5 +29,15 @@ loop-company-preserved g c =
                 ∙ so_far.0,
             read.1,
           );
+      left = λ clean kept may. c.loop-company.invariant.left (c.status_of.ensures.before clean) kept (c.status_of.ensures.left clean kept may);
+    }
+
+pub returns-in_err-push : goal.returns-in_err-push
+returns-in_err-push g c =
+    record {
+      before = λ clean. c.loop-company.invariant.before (c.status_of.ensures.before clean);
+      read = λ clean.
+          let p = err_from_is_err_and c.from_residual-in_err-push.result c.from_residual-in_err-push.ensures.1 in
+          rw p.1 (λ b held. (c.in_ok-status.ensures.read clean b (c.loop-company.invariant.read (c.status_of.ensures.before clean) b held).1).1);
       left = λ clean kept may. c.loop-company.invariant.left (c.status_of.ensures.before clean) kept (c.status_of.ensures.left clean kept may);
     }

@@ -3,13 +3,15 @@ use Rattle.desk_calls.proofs.Adding.{answers_added, leaves_added}
 use Rattle.desk_calls.proofs.Asked.{retry_told}
 use Rattle.desk_calls.proofs.retry.call.retry.Goals as goal
 
-pub returns-clause-answers : goal.returns-clause-answers
-returns-clause-answers g c = λ clean.
-    answers_added c.args.company (request.Retry c.args.draft.now) _ (λ b. retry_told b c.args.company c.args.draft.now) _ _ _
-    c.in_ok-verdict.verdict c.add.result (c.in_ok-verdict.ensures.read (c.add.ensures.before clean)) (c.add.ensures.answers clean)
-
-pub returns-clause-left : goal.returns-clause-left
-returns-clause-left g c = λ clean.
-    leaves_added c.args.company (request.Retry c.args.draft.now) _ (λ b. retry_told b c.args.company c.args.draft.now) g.S.Store.keeps _ _ _ _ _
-    c.in_ok-verdict.verdict c.add.result (c.in_ok-verdict.ensures.read (c.add.ensures.before clean))
-    (c.in_ok-verdict.ensures.left (c.add.ensures.before clean)) (c.add.ensures.left clean)
+pub returns : goal.returns
+returns g c =
+    record {
+      before = λ clean. c.retry_verdict.ensures.before (c.add.ensures.before clean);
+      answers = λ clean.
+          answers_added c.args.company (request.Retry c.args.draft.now) _ (λ b. retry_told b c.args.company c.args.draft.now) _ _ _
+          c.in_ok-verdict.verdict c.add.result (c.in_ok-verdict.ensures.read (c.add.ensures.before clean)) (c.add.ensures.answers clean);
+      left = λ clean.
+          leaves_added c.args.company (request.Retry c.args.draft.now) _ (λ b. retry_told b c.args.company c.args.draft.now) g.S.Store.keeps _ _ _ _ _
+          c.in_ok-verdict.verdict c.add.result (c.in_ok-verdict.ensures.read (c.add.ensures.before clean))
+          (c.in_ok-verdict.ensures.left (c.add.ensures.before clean)) (c.add.ensures.left clean);
+    }
