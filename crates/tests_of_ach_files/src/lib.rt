@@ -9,3 +9,5 @@
 mod files;
 #[cfg(test)]
 mod records;
+#[cfg(test)]
+mod worked;

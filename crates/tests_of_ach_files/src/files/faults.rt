@@ -1,173 +1,137 @@
 //! These files have something wrong.
-use super::samples::{RETURNED, SENT, lines, read, read_in_pieces, return_file};
+use super::samples::{lines, read, reads_as, return_file};
+use crate::worked::{ADDENDA, BATCH, BATCH_CONTROL, CONTROL, ENTRY, FILLER, HEADER, SENT};
 use ach_files::{Fault, FileFault};
+use std::alloc::AllocError;
 use std::test::Fail;
 
-// The file of the return with this byte at an offset from 0 of a record from 1.
-fn with_byte(record: usize, offset: usize, byte: u8) -> [u8; 950] {
+/// Bytes that stand in the file of the return, each in a record from 1 at an offset from 0, and what
+/// is wrong in that record.
+const CHANGES: &[(u32, usize, u8, FileFault)] = &[
+    // Debits and credits of the batch, then of the file.
+    (5, 31, b'1', FileFault::BadTotal),
+    (5, 43, b'1', FileFault::BadTotal),
+    (6, 42, b'1', FileFault::BadTotal),
+    (6, 54, b'1', FileFault::BadTotal),
+    (5, 19, b'9', FileFault::BadHash),
+    (6, 30, b'9', FileFault::BadHash),
+    // Entries of the batch and of the file, and batches.
+    (5, 9, b'3', FileFault::BadCount),
+    (6, 20, b'3', FileFault::BadCount),
+    (6, 6, b'2', FileFault::BadCount),
+    (6, 12, b'2', FileFault::BadBlock),
+    (3, 2, b'2', FileFault::ForwardEntry),
+    (3, 2, b'7', FileFault::ForwardEntry),
+    // A transaction code, an amount, a count, and an entry that stands for an addenda.
+    (3, 1, b' ', FileFault::BadNumber),
+    (3, 38, b'x', FileFault::BadNumber),
+    (5, 4, b' ', FileFault::BadNumber),
+    (4, 0, b'6', FileFault::BadNumber),
+    // A change with an amount, and an addenda of another type.
+    (4, 2, b'8', FileFault::BadAddenda),
+    (4, 2, b'7', FileFault::BadAddenda),
+    // Records of other kinds.
+    (1, 0, b'5', FileFault::BadOrder),
+    (2, 0, b'1', FileFault::BadOrder),
+    (3, 0, b'2', FileFault::BadOrder),
+    (6, 0, b'8', FileFault::BadOrder),
+    (7, 93, b'8', FileFault::BadOrder),
+    (4, 40, 0x7f, FileFault::BadByte),
+    (4, 40, 0x1f, FileFault::BadByte),
+    (1, 0, b'\n', FileFault::BadLength),
+    (3, 50, b'\r', FileFault::BadLength),
+];
+
+fn with_byte(record: u32, offset: usize, byte: u8) -> [u8; 950] {
     let mut file = return_file();
-    if record >= 1 && record <= 10 && offset < 94 {
-        file[95 * (record - 1) + offset] = byte;
+    for line in file
+        .chunks_mut(95)
+        .skip((record as usize).saturating_sub(1))
+        .take(1)
+    {
+        if let Some(place) = line.get_mut(offset) {
+            *place = byte;
+        }
     }
     file
 }
 
-// The first of the changes of one byte that is not that fault, in the record of the byte.
-fn first_without_fault(
-    rt: &HostRuntime,
-    changes: &[(u32, usize, u8)],
-    kind: FileFault,
-) -> Option<(u32, usize)> {
-    for (record, offset, byte) in changes {
-        let file = with_byte(*record as usize, *offset, *byte);
-        let fault = Err(Fault { kind, at: *record });
-        if read(rt, &file) != fault || read_in_pieces(rt, &file, 1) != fault {
-            return Some((*record, *offset));
-        }
+#[test]
+fn changes_of_one_byte(rt: HostRuntime) {
+    for &(at, offset, byte, kind) in CHANGES {
+        let file = with_byte(at, offset, byte);
+        assert!(rt;
+            reads_as(&rt, &file, Err(Fault { kind, at })),
+            "record {at}, from {offset}"
+        );
     }
-    None
+}
+
+/// Texts that stand after so many bytes of the file of the return, of which the last record has the
+/// number 10: 950 bytes end with an LF, 949 with the last nine.
+const TAILS: &[(usize, &[u8], FileFault, u32)] = &[
+    // They begin a record.
+    (950, b" ", FileFault::BadLength, 11),
+    (950, b"9", FileFault::BadLength, 11),
+    (949, b"\r\n9", FileFault::BadLength, 11),
+    (950, b"\x7f", FileFault::BadByte, 11),
+    (949, b"\n\x1f", FileFault::BadByte, 11),
+    // They stand after lines that are empty.
+    (950, b"\n ", FileFault::BadLength, 10),
+    (950, b"\r9", FileFault::BadLength, 10),
+    (950, b"\n\r\x7f", FileFault::BadLength, 10),
+    (949, b"\r ", FileFault::BadLength, 10),
+    (949, b"\r\r9", FileFault::BadLength, 10),
+    (949, b"\n\n9", FileFault::BadLength, 10),
+    (949, b"\r\n\n1", FileFault::BadLength, 10),
+];
+
+fn with_tail(rt: &HostRuntime, length: usize, tail: &[u8]) -> Result<Vec<u8>, AllocError> {
+    let mut text = Vec::new(rt.alloc());
+    text.extend_from_slice(return_file().get(..length).unwrap_or(b""))?;
+    text.extend_from_slice(tail)?;
+    Ok(text)
 }
 
 #[test]
-fn controls(rt: HostRuntime) {
-    // Debits and credits of the batch, then of the file.
-    let totals = [(5, 31, b'1'), (5, 43, b'1'), (6, 42, b'1'), (6, 54, b'1')];
-    assert!(rt; first_without_fault(&rt, &totals, FileFault::BadTotal).is_none());
-    assert!(rt;
-        first_without_fault(&rt, &[(5, 19, b'9'), (6, 30, b'9')], FileFault::BadHash).is_none()
-    );
-    // Entries of the batch and of the file, and batches.
-    let counts = [(5, 9, b'3'), (6, 20, b'3'), (6, 6, b'2')];
-    assert!(rt; first_without_fault(&rt, &counts, FileFault::BadCount).is_none());
-    assert!(rt; first_without_fault(&rt, &[(6, 12, b'2')], FileFault::BadBlock).is_none());
-}
-
-#[test]
-fn fields(rt: HostRuntime) {
-    assert!(rt;
-        first_without_fault(&rt, &[(3, 2, b'2'), (3, 2, b'7')], FileFault::ForwardEntry).is_none()
-    );
-    // A transaction code, an amount, a count, and an entry that stands for an addenda.
-    let numbers = [(3, 1, b' '), (3, 38, b'x'), (5, 4, b' '), (4, 0, b'6')];
-    assert!(rt; first_without_fault(&rt, &numbers, FileFault::BadNumber).is_none());
-    // A change with an amount, and an addenda of another type.
-    assert!(rt;
-        first_without_fault(&rt, &[(4, 2, b'8'), (4, 2, b'7')], FileFault::BadAddenda).is_none()
-    );
-}
-
-#[test]
-fn kinds(rt: HostRuntime) {
-    let orders = [
-        (1, 0, b'5'),
-        (2, 0, b'1'),
-        (3, 0, b'2'),
-        (6, 0, b'8'),
-        (7, 93, b'8'),
-    ];
-    assert!(rt; first_without_fault(&rt, &orders, FileFault::BadOrder).is_none());
-}
-
-#[test]
-fn characters(rt: HostRuntime) {
-    assert!(rt;
-        first_without_fault(&rt, &[(4, 40, 0x7f), (4, 40, 0x1f)], FileFault::BadByte).is_none()
-    );
-    assert!(rt;
-        first_without_fault(&rt, &[(1, 0, b'\n'), (3, 50, b'\r')], FileFault::BadLength).is_none()
-    );
-}
-
-// The first of the texts after so many bytes of the file of the return that is not that fault.
-fn first_text_without_fault(
-    rt: &HostRuntime,
-    rows: &[(usize, &[u8])],
-    kind: FileFault,
-    at: u32,
-) -> Result<Option<usize>, Fail> {
-    let file = return_file();
-    let fault = Err(Fault { kind, at });
-    for (length, more) in rows {
-        let mut text = Vec::new(rt.alloc());
-        if let Some(prefix) = file.get(..*length) {
-            text.extend_from_slice(prefix)?;
-        }
-        text.extend_from_slice(*more)?;
-        if read(rt, &text) != fault || read_in_pieces(rt, &text, 1) != fault {
-            return Ok(Some(*length));
-        }
+fn tails(rt: HostRuntime) -> Result<(), Fail> {
+    for (row, &(length, tail, kind, at)) in TAILS.iter().enumerate() {
+        let text = with_tail(&rt, length, tail)?;
+        assert!(rt; reads_as(&rt, &text, Err(Fault { kind, at })), "row {row}");
     }
-    Ok(None)
-}
-
-// 950 bytes end with an LF, 949 with the last nine.
-#[test]
-fn text_after_the_last_record(rt: HostRuntime) -> Result<(), Fail> {
-    let begun: [(usize, &[u8]); 3] = [(950, b" "), (950, b"9"), (949, b"\r\n9")];
-    assert!(rt; first_text_without_fault(&rt, &begun, FileFault::BadLength, 11)?.is_none());
-    let strange: [(usize, &[u8]); 2] = [(950, b"\x7f"), (949, b"\n\x1f")];
-    assert!(rt; first_text_without_fault(&rt, &strange, FileFault::BadByte, 11)?.is_none());
     Ok(())
 }
 
-#[test]
-fn text_in_the_tail(rt: HostRuntime) -> Result<(), Fail> {
-    let after_a_line: [(usize, &[u8]); 3] = [(950, b"\n "), (950, b"\r9"), (950, b"\n\r\x7f")];
-    assert!(rt; first_text_without_fault(&rt, &after_a_line, FileFault::BadLength, 10)?.is_none());
-    let after_a_record: [(usize, &[u8]); 4] = [
-        (949, b"\r "),
-        (949, b"\r\r9"),
-        (949, b"\n\n9"),
-        (949, b"\r\n\n1"),
-    ];
-    assert!(rt;
-        first_text_without_fault(&rt, &after_a_record, FileFault::BadLength, 10)?.is_none()
-    );
-    Ok(())
-}
-
-// How many items the records have as a file, or their fault.
-fn outcome_of(rt: &HostRuntime, records: &[&[u8; 94]]) -> Result<Result<usize, Fault>, Fail> {
-    let text = lines(rt, records, 0, b"\n")?;
-    Ok(read(rt, &text))
-}
-
-// A fault in that record.
-fn fault(kind: FileFault, at: u32) -> Result<usize, Fault> {
-    Err(Fault { kind, at })
-}
+/// Records of the return in another order, and what is wrong in which record from 1.
+const ORDERS: &[(&[&[u8; 94]], FileFault, u32)] = &[
+    (&[BATCH], FileFault::BadOrder, 1),
+    (&[HEADER, ENTRY], FileFault::BadOrder, 2),
+    (&[HEADER, ADDENDA], FileFault::BadOrder, 2),
+    (&[HEADER, FILLER], FileFault::BadOrder, 2),
+    (&[HEADER, BATCH, ADDENDA], FileFault::BadOrder, 3),
+    (&[HEADER, BATCH, FILLER], FileFault::BadOrder, 3),
+    (&[HEADER, BATCH, ENTRY, CONTROL], FileFault::BadOrder, 4),
+    (&[HEADER, BATCH, ENTRY, ENTRY], FileFault::BadAddenda, 4),
+    (
+        &[HEADER, BATCH, ENTRY, BATCH_CONTROL],
+        FileFault::BadAddenda,
+        4,
+    ),
+    (
+        &[HEADER, BATCH, ENTRY, ADDENDA, ADDENDA],
+        FileFault::BadAddenda,
+        5,
+    ),
+    (&[HEADER, BATCH, BATCH_CONTROL], FileFault::BadCount, 3),
+    (&[HEADER, CONTROL], FileFault::BadCount, 2),
+];
 
 #[test]
 fn records_out_of_order(rt: HostRuntime) -> Result<(), Fail> {
-    let [header, batch, entry, addenda, _, control] = RETURNED;
-    let fillers = &[b'9'; 94];
-    assert!(rt; outcome_of(&rt, &[batch])? == fault(FileFault::BadOrder, 1));
-    assert!(rt; outcome_of(&rt, &[header, entry])? == fault(FileFault::BadOrder, 2));
-    assert!(rt; outcome_of(&rt, &[header, addenda])? == fault(FileFault::BadOrder, 2));
-    assert!(rt; outcome_of(&rt, &[header, fillers])? == fault(FileFault::BadOrder, 2));
-    assert!(rt; outcome_of(&rt, &[header, batch, addenda])? == fault(FileFault::BadOrder, 3));
-    assert!(rt; outcome_of(&rt, &[header, batch, fillers])? == fault(FileFault::BadOrder, 3));
-    assert!(rt;
-        outcome_of(&rt, &[header, batch, entry, control])? == fault(FileFault::BadOrder, 4)
-    );
-    Ok(())
-}
-
-#[test]
-fn addenda_out_of_place(rt: HostRuntime) -> Result<(), Fail> {
-    let [header, batch, entry, addenda, batch_control, control] = RETURNED;
-    assert!(rt;
-        outcome_of(&rt, &[header, batch, entry, entry])? == fault(FileFault::BadAddenda, 4)
-    );
-    assert!(rt;
-        outcome_of(&rt, &[header, batch, entry, batch_control])? == fault(FileFault::BadAddenda, 4)
-    );
-    assert!(rt;
-        outcome_of(&rt, &[header, batch, entry, addenda, addenda])?
-            == fault(FileFault::BadAddenda, 5)
-    );
-    assert!(rt; outcome_of(&rt, &[header, batch, batch_control])? == fault(FileFault::BadCount, 3));
-    assert!(rt; outcome_of(&rt, &[header, control])? == fault(FileFault::BadCount, 2));
+    for (row, &(records, kind, at)) in ORDERS.iter().enumerate() {
+        let text = lines(&rt, records, 0, b"\n")?;
+        assert!(rt; read(&rt, &text) == Err(Fault { kind, at }), "row {row}");
+    }
     Ok(())
 }
 
@@ -181,24 +145,25 @@ fn live_entry(rt: HostRuntime) -> Result<(), Fail> {
     Ok(())
 }
 
+const FAULTS: &[(FileFault, u8, &str)] = &[
+    (FileFault::TooLarge, 1, "TooLarge"),
+    (FileFault::BadLength, 2, "BadLength"),
+    (FileFault::BadByte, 3, "BadByte"),
+    (FileFault::BadOrder, 4, "BadOrder"),
+    (FileFault::BadNumber, 5, "BadNumber"),
+    (FileFault::ForwardEntry, 6, "ForwardEntry"),
+    (FileFault::BadAddenda, 7, "BadAddenda"),
+    (FileFault::BadCount, 8, "BadCount"),
+    (FileFault::BadHash, 9, "BadHash"),
+    (FileFault::BadTotal, 10, "BadTotal"),
+    (FileFault::BadBlock, 11, "BadBlock"),
+    (FileFault::NoMemory, 12, "NoMemory"),
+    (FileFault::Failed, 13, "Failed"),
+];
+
 #[test]
 fn names_and_numbers(rt: HostRuntime) {
-    let faults = [
-        (FileFault::TooLarge, 1, "TooLarge"),
-        (FileFault::BadLength, 2, "BadLength"),
-        (FileFault::BadByte, 3, "BadByte"),
-        (FileFault::BadOrder, 4, "BadOrder"),
-        (FileFault::BadNumber, 5, "BadNumber"),
-        (FileFault::ForwardEntry, 6, "ForwardEntry"),
-        (FileFault::BadAddenda, 7, "BadAddenda"),
-        (FileFault::BadCount, 8, "BadCount"),
-        (FileFault::BadHash, 9, "BadHash"),
-        (FileFault::BadTotal, 10, "BadTotal"),
-        (FileFault::BadBlock, 11, "BadBlock"),
-        (FileFault::NoMemory, 12, "NoMemory"),
-        (FileFault::Failed, 13, "Failed"),
-    ];
-    for (fault, number, name) in faults {
+    for &(fault, number, name) in FAULTS {
         assert!(rt; fault.number() == number);
         assert!(rt; fault.name() == name);
     }

@@ -1,78 +1,83 @@
 //! These files come in pieces.
-use super::samples::{RETURNED_DIGEST, return_file};
-use ach_files::{Fault, FileFault, Reader};
-use std::test::Fail;
+use super::samples::{FAILED, RETURNED_DIGEST, end, return_file};
+use ach_files::{Fault, FileFault, Reader, Taken};
 
-const FAILED: Fault = Fault {
-    kind: FileFault::Failed,
-    at: 0,
-};
+/// The key, the digest and the number of the items of a file.
+type Told = ([u8; 21], [u8; 32], usize);
 
-#[test]
-fn two_pieces(rt: HostRuntime) -> Result<(), Fail> {
-    let file = return_file();
-    for first in 0..951 {
-        let mut reader = Reader::new(rt.alloc());
-        reader.feed(&file[..first])?;
-        reader.feed(b"")?;
-        reader.feed(&file[first..])?;
-        let taken = reader.finish()?;
-        assert!(rt;
-            &taken.key() == b" 0610001462501140930A",
-            "after {first} bytes"
-        );
-        assert!(rt; taken.digest() == RETURNED_DIGEST, "after {first} bytes");
-        assert!(rt; taken.items().len() == 1, "after {first} bytes");
-        assert!(rt; reader.feed(b"1") == Err(FAILED));
+fn told(taken: Result<Taken, Fault>) -> Result<Told, Fault> {
+    match taken {
+        Ok(taken) => Ok((taken.key(), taken.digest(), taken.items().len())),
+        Err(fault) => Err(fault),
     }
-    Ok(())
+}
+
+// What is told of two pieces with an empty one between them. Where a byte after the end is not
+// refused it is a fault that no test wants.
+fn told_of_two(rt: &HostRuntime, first: &[u8], second: &[u8]) -> Result<Told, Fault> {
+    let mut reader = Reader::new(rt.alloc());
+    for piece in [first, b"", second] {
+        reader.feed(piece)?;
+    }
+    let told = told(reader.finish());
+    match reader.feed(b"1") {
+        Err(FAILED) => told,
+        _ => Err(FAILED),
+    }
 }
 
 #[test]
-fn fault_is_told_once(rt: HostRuntime) -> Result<(), Fail> {
+fn two_pieces(rt: HostRuntime) {
+    let file = return_file();
+    for first in 0..951 {
+        assert!(rt;
+            told_of_two(&rt, &file[..first], &file[first..])
+                == Ok((*b" 0610001462501140930A", RETURNED_DIGEST, 1)),
+            "after {first} bytes"
+        );
+    }
+}
+
+// The outcome of a byte of a file whose batch control, the fifth record, says another hash.
+fn outcome_of_byte(place: usize) -> Result<(), Fault> {
+    if place < 4 * 95 + 93 {
+        Ok(())
+    } else if place == 4 * 95 + 93 {
+        Err(Fault {
+            kind: FileFault::BadHash,
+            at: 5,
+        })
+    } else {
+        Err(FAILED)
+    }
+}
+
+#[test]
+fn fault_is_told_once(rt: HostRuntime) {
     let mut file = return_file();
     file[4 * 95 + 19] = b'9';
     let mut reader = Reader::new(rt.alloc());
-    for place in 0..950 {
-        let outcome = reader.feed(&file[place..place + 1]);
-        if place < 4 * 95 + 93 {
-            assert!(rt; outcome == Ok(()));
-        } else if place == 4 * 95 + 93 {
-            let hash = Fault {
-                kind: FileFault::BadHash,
-                at: 5,
-            };
-            assert!(rt; outcome == Err(hash));
-        } else {
-            assert!(rt; outcome == Err(FAILED));
-        }
+    for (place, byte) in file.iter().enumerate() {
+        assert!(rt;
+            reader.feed(&[*byte]) == outcome_of_byte(place),
+            "byte {place}"
+        );
     }
     assert!(rt; reader.feed(b"") == Err(FAILED));
-    match reader.finish() {
-        Ok(_) => assert!(rt; false, "finished after a fault"),
-        Err(fault) => assert!(rt; fault == FAILED),
-    }
-    Ok(())
+    assert!(rt; end(&mut reader) == Err(FAILED));
 }
 
 #[test]
-fn end_is_told_by_finish(rt: HostRuntime) -> Result<(), Fail> {
+fn end_is_told_by_finish(rt: HostRuntime) {
     let file = return_file();
     let mut reader = Reader::new(rt.alloc());
     for byte in file.iter().take(2 * 95 + 40) {
-        reader.feed(&[*byte])?;
+        assert!(rt; reader.feed(&[*byte]) == Ok(()));
     }
-    for wanted in [
-        Fault {
-            kind: FileFault::BadLength,
-            at: 3,
-        },
-        FAILED,
-    ] {
-        match reader.finish() {
-            Ok(_) => assert!(rt; false, "a prefix is no file"),
-            Err(fault) => assert!(rt; fault == wanted),
-        }
-    }
-    Ok(())
+    let early = Fault {
+        kind: FileFault::BadLength,
+        at: 3,
+    };
+    assert!(rt; end(&mut reader) == Err(early));
+    assert!(rt; end(&mut reader) == Err(FAILED));
 }

@@ -1,15 +1,31 @@
 //! These files are printed.
-use super::samples::{RETURNED, SENT, lines, read};
-use ach_fields::{Cents, FieldFault, Routing, Trace, Ymd};
+use super::samples::{lines, only_item, read, return_file};
+use crate::worked::{SENT, SENT_BATCH, returned_batch, returned_header, sent_batch, sent_header};
+use ach_fields::{Cents, Trace};
 use ach_files::{
     Addenda, Outgoing, OutgoingBatch, OutgoingEntry, PrintFault, Printer, ReturnOrChange,
-    print_file, read_file,
+    print_file,
 };
-use ach_records::{BatchHeaderText, Change98Text, FileHeaderText, Return99Text};
+use ach_records::{Change98Text, FileHeaderText, Return99Text};
+use std::alloc::AllocError;
+use std::process::Abort;
 use std::test::Fail;
 
-fn cents_of(cents: u64) -> Result<Cents, FieldFault> {
-    Cents::new(cents).ok_or(FieldFault::TooLong)
+/// A file as it is printed, or why there is none.
+type Printed = Result<Vec<u8>, PrintFault>;
+
+/// No test wants this fault. It stands for what goes wrong before a file is printed, and for two ways
+/// of printing one that differ.
+const UNWANTED: PrintFault = PrintFault::NoMemory;
+
+/// The largest amount of an entry has ten digits.
+const LARGEST: u64 = 9_999_999_999;
+
+fn cents_and_trace(cents: u64, dfi: u32, sequence: u32) -> Result<(Cents, Trace), PrintFault> {
+    match (Cents::new(cents), Trace::new(dfi, sequence)) {
+        (Some(cents), Ok(trace)) => Ok((cents, trace)),
+        _ => Err(UNWANTED),
+    }
 }
 
 fn sent_entry(name: &[u8], cents: Cents, trace: Trace) -> OutgoingEntry<'_> {
@@ -54,37 +70,30 @@ fn return_of(
     }
 }
 
-// So many entries, and so many returns.
-fn sent_entries<'a>(
+// These entries, so many times.
+fn repeated<'a>(
     rt: &HostRuntime,
+    entries: &[OutgoingEntry<'a>],
     count: usize,
-    name: &'a [u8],
-) -> Result<Vec<OutgoingEntry<'a>>, Fail> {
-    let trace = Trace::new(12_104_288, 1)?;
-    let cents = cents_of(9_999_999_999)?;
-    let mut entries = Vec::new(rt.alloc());
+) -> Result<Vec<OutgoingEntry<'a>>, AllocError> {
+    let mut all = Vec::new(rt.alloc());
     for _ in 0..count {
-        entries.extend_from_slice(&[sent_entry(name, cents, trace)])?;
+        all.extend_from_slice(entries)?;
     }
-    Ok(entries)
+    Ok(all)
 }
 
-fn returns<'a>(
+// So many entries of the largest amount.
+fn largest_entries<'a>(
     rt: &HostRuntime,
-    count: usize,
     name: &'a [u8],
-) -> Result<Vec<OutgoingEntry<'a>>, Fail> {
-    let trace = Trace::new(9_100_001, 7)?;
-    let cents = cents_of(2500)?;
-    let mut entries = Vec::new(rt.alloc());
-    for _ in 0..count {
-        entries.extend_from_slice(&[return_of(name, 12_104_288, 2, cents, trace)])?;
-    }
-    Ok(entries)
+    count: usize,
+) -> Result<Vec<OutgoingEntry<'a>>, PrintFault> {
+    let (cents, trace) = cents_and_trace(LARGEST, 12_104_288, 1)?;
+    Ok(repeated(rt, &[sent_entry(name, cents, trace)], count)?)
 }
 
-// A file batch by batch.
-fn print_batches(rt: &HostRuntime, file: &Outgoing) -> Result<Vec<u8>, PrintFault> {
+fn print_batches(rt: &HostRuntime, file: &Outgoing) -> Printed {
     let mut printer = Printer::new(rt.alloc(), &file.header)?;
     for batch in file.batches {
         printer.put(batch)?;
@@ -92,176 +101,171 @@ fn print_batches(rt: &HostRuntime, file: &Outgoing) -> Result<Vec<u8>, PrintFaul
     printer.finish()
 }
 
-// A file printed both ways. Where the outcomes differ it is a fault that no test wants.
-fn print_both_ways(rt: &HostRuntime, file: &Outgoing) -> Result<Vec<u8>, PrintFault> {
-    let whole = print_file(rt.alloc(), file);
-    let is_same = match (&whole, &print_batches(rt, file)) {
+fn are_same(whole: &Printed, batches: &Printed) -> bool {
+    match (whole, batches) {
         (Ok(whole), Ok(batches)) => whole.as_slice() == batches.as_slice(),
         (Err(whole), Err(batches)) => whole == batches,
         _ => false,
-    };
-    if is_same {
+    }
+}
+
+// A file printed whole and batch by batch.
+fn print_both_ways(rt: &HostRuntime, file: &Outgoing) -> Printed {
+    let whole = print_file(rt.alloc(), file);
+    if are_same(&whole, &print_batches(rt, file)) {
         whole
     } else {
-        Err(PrintFault::NoMemory)
+        Err(UNWANTED)
     }
 }
 
 // A file of one batch that is sent.
-fn print_sent(
-    rt: &HostRuntime,
-    entries: &[OutgoingEntry],
-) -> Result<Result<Vec<u8>, PrintFault>, FieldFault> {
-    let batches = [OutgoingBatch {
-        header: BatchHeaderText {
-            service_class: 220,
-            company_name: b"MILL STREET",
-            company: b"MILL01",
-            sec: b"PPD",
-            description: b"PAYROLL",
-            effective: Ymd::new(25, 1, 10)?,
-            settlement: None,
-            odfi: 12_104_288,
-            number: 1,
-        },
-        entries,
-    }];
-    let file = Outgoing {
-        header: FileHeaderText {
-            destination: Routing::parse(b"061000146")?,
-            origin: Routing::parse(b"121042882")?,
-            date: Ymd::new(25, 1, 8)?,
-            time: None,
-            modifier: b"A",
-            destination_name: b"ACH OPERATOR",
-            origin_name: b"OUR BANK",
-        },
-        batches: &batches,
-    };
-    Ok(print_both_ways(rt, &file))
+fn print_sent(rt: &HostRuntime, entries: &[OutgoingEntry]) -> Printed {
+    match (sent_header(), sent_batch(1)) {
+        (Ok(header), Ok(first)) => {
+            let batches = [OutgoingBatch {
+                header: first,
+                entries,
+            }];
+            let file = Outgoing {
+                header,
+                batches: &batches,
+            };
+            print_both_ways(rt, &file)
+        }
+        _ => Err(UNWANTED),
+    }
+}
+
+// A file that comes in, with these batches.
+fn print_incoming(rt: &HostRuntime, batches: &[OutgoingBatch]) -> Printed {
+    match returned_header() {
+        Ok(header) => print_both_ways(rt, &Outgoing { header, batches }),
+        Err(_) => Err(UNWANTED),
+    }
+}
+
+// A file of one batch that comes in.
+fn print_returns(rt: &HostRuntime, entries: &[OutgoingEntry]) -> Printed {
+    match returned_batch() {
+        Ok(header) => {
+            let batches = [OutgoingBatch { header, entries }];
+            print_incoming(rt, &batches)
+        }
+        Err(_) => Err(UNWANTED),
+    }
+}
+
+/// What stands in a record from 1, from an offset from 0.
+type Part<'a> = (usize, usize, &'a [u8]);
+
+fn stands(text: &[u8], (record, offset, bytes): Part) -> bool {
+    match text.chunks(95).nth(record.saturating_sub(1)) {
+        Some(line) => line.get(offset..offset.saturating_add(bytes.len())) == Some(bytes),
+        None => false,
+    }
+}
+
+fn assert_parts<R: Abort>(rt: &R, text: &[u8], parts: &[Part]) {
+    for &(record, offset, bytes) in parts {
+        assert!(*rt;
+            stands(text, (record, offset, bytes)),
+            "record {record}, from {offset}"
+        );
+    }
 }
 
 #[test]
 fn sent_file(rt: HostRuntime) -> Result<(), Fail> {
-    let entries = [sent_entry(b"ANN LEE", cents_of(150_000)?, Trace::new(12_104_288, 1)?)];
-    let text = print_sent(&rt, &entries)??;
+    let (cents, trace) = cents_and_trace(150_000, 12_104_288, 1)?;
+    let text = print_sent(&rt, &[sent_entry(b"ANN LEE", cents, trace)])?;
     assert!(rt; text.as_slice() == lines(&rt, &SENT, 5, b"\n")?.as_slice());
     Ok(())
 }
 
-// A file that comes in, with these batches.
-fn print_incoming(
-    rt: &HostRuntime,
-    batches: &[OutgoingBatch],
-) -> Result<Result<Vec<u8>, PrintFault>, FieldFault> {
-    let file = Outgoing {
-        header: FileHeaderText {
-            destination: Routing::parse(b"121042882")?,
-            origin: Routing::parse(b"061000146")?,
-            date: Ymd::new(25, 1, 14)?,
-            time: Some(930),
-            modifier: b"A",
-            destination_name: b"OUR BANK",
-            origin_name: b"ACH OPERATOR",
-        },
-        batches,
-    };
-    Ok(print_both_ways(rt, &file))
-}
-
-fn print_returns(
-    rt: &HostRuntime,
-    entries: &[OutgoingEntry],
-) -> Result<Result<Vec<u8>, PrintFault>, FieldFault> {
-    let batches = [OutgoingBatch {
-        header: BatchHeaderText {
-            service_class: 225,
-            company_name: b"MILL STREET",
-            company: b"MILL01",
-            sec: b"PPD",
-            description: b"DUES",
-            effective: Ymd::new(25, 1, 14)?,
-            settlement: Some(14),
-            odfi: 9_100_001,
-            number: 1,
-        },
-        entries,
-    }];
-    print_incoming(rt, &batches)
-}
-
 #[test]
 fn returned_file(rt: HostRuntime) -> Result<(), Fail> {
-    let trace = Trace::new(9_100_001, 7)?;
-    let entries = [return_of(b"BOB RAY", 12_104_288, 2, cents_of(2500)?, trace)];
-    let text = print_returns(&rt, &entries)??;
-    assert!(rt; text.as_slice() == lines(&rt, &RETURNED, 4, b"\n")?.as_slice());
+    let (cents, trace) = cents_and_trace(2_500, 9_100_001, 7)?;
+    let text = print_returns(&rt, &[return_of(b"BOB RAY", 12_104_288, 2, cents, trace)])?;
+    assert!(rt; text.as_slice() == return_file().as_slice());
     Ok(())
 }
 
-// The bytes of a record, by its number from 1.
-fn record(text: &[u8], number: usize) -> &[u8] {
-    match text.chunks(95).nth(number.saturating_sub(1)) {
-        Some(record) => record,
-        None => b"",
-    }
-}
+const HASHES: &[Part] = &[(7, 10, b"0011200003"), (8, 21, b"0011200003")];
 
 #[test]
 fn hashes(rt: HostRuntime) -> Result<(), Fail> {
-    let trace = Trace::new(9_100_001, 7)?;
-    let cents = cents_of(2500)?;
+    let (cents, trace) = cents_and_trace(2_500, 9_100_001, 7)?;
     let two = [
         return_of(b"BOB RAY", 9_100_001, 9, cents, trace),
         return_of(b"BOB RAY", 2_100_002, 1, cents, trace),
     ];
-    let text = print_returns(&rt, &two)??;
-    assert!(rt; record(&text, 7).get(10..20) == Some(b"0011200003".as_slice()));
-    assert!(rt; record(&text, 8).get(21..31) == Some(b"0011200003".as_slice()));
+    let text = print_returns(&rt, &two)?;
+    assert_parts(&rt, &text, HASHES);
     assert!(rt; read(&rt, &text) == Ok(2));
+    Ok(())
+}
 
-    // 1,000 entries, whose sum has eleven digits.
-    let many = returns(&rt, 1_000, b"BOB RAY")?;
-    let text = print_returns(&rt, &many)??;
-    assert!(rt; record(&text, 2_003).get(10..20) == Some(b"2104288000".as_slice()));
-    assert!(rt; record(&text, 2_004).get(21..31) == Some(b"2104288000".as_slice()));
+/// The low ten digits of a sum of eleven.
+const LONG_HASHES: &[Part] = &[(2_003, 10, b"2104288000"), (2_004, 21, b"2104288000")];
+
+fn print_many_returns(rt: &HostRuntime) -> Printed {
+    let (cents, trace) = cents_and_trace(2_500, 9_100_001, 7)?;
+    let one = [return_of(b"BOB RAY", 12_104_288, 2, cents, trace)];
+    print_returns(rt, &repeated(rt, &one, 1_000)?)
+}
+
+#[test]
+fn long_hashes(rt: HostRuntime) -> Result<(), Fail> {
+    let text = print_many_returns(&rt)?;
+    assert_parts(&rt, &text, LONG_HASHES);
     assert!(rt; read(&rt, &text) == Ok(1_000));
     Ok(())
 }
 
+/// How many entries there are, how long their file is, and how many blocks its control says.
+const BLOCKS: &[(usize, usize, Part)] = &[
+    (1, 10 * 95, (5, 7, b"000001")),
+    (6, 10 * 95, (10, 7, b"000001")),
+    (7, 20 * 95, (11, 7, b"000002")),
+];
+
+fn print_largest(rt: &HostRuntime, count: usize) -> Printed {
+    print_sent(rt, &largest_entries(rt, b"ANN LEE", count)?)
+}
+
 #[test]
 fn blocks(rt: HostRuntime) -> Result<(), Fail> {
-    for (count, records, blocks) in [(1, 10, b"000001"), (6, 10, b"000001"), (7, 20, b"000002")] {
-        let entries = sent_entries(&rt, count, b"ANN LEE")?;
-        let text = print_sent(&rt, &entries)??;
-        assert!(rt; text.len() == records * 95, "of {count} entries");
-        let control = record(&text, count + 4);
-        assert!(rt;
-            control.get(7..13) == Some(blocks.as_slice()),
-            "of {count} entries"
-        );
+    for &(count, length, blocks) in BLOCKS {
+        let text = print_largest(&rt, count)?;
+        assert!(rt; text.len() == length, "of {count} entries");
+        assert!(rt; stands(&text, blocks), "of {count} entries");
     }
     Ok(())
 }
 
+/// The addenda indicator, and the addenda of a payment.
+const PAYMENT: &[Part] = &[
+    (3, 78, b"1"),
+    (4, 0, b"705INVOICE 7 "),
+    (4, 83, b"00010000001"),
+];
+
 #[test]
 fn payment(rt: HostRuntime) -> Result<(), Fail> {
-    let trace = Trace::new(12_104_288, 1)?;
+    let (cents, trace) = cents_and_trace(150_000, 12_104_288, 1)?;
     let paid = OutgoingEntry {
         addenda: Addenda::Payment(b"INVOICE 7"),
-        ..sent_entry(b"ANN LEE", cents_of(150_000)?, trace)
+        ..sent_entry(b"ANN LEE", cents, trace)
     };
-    let text = print_sent(&rt, &[paid])??;
+    let text = print_sent(&rt, &[paid])?;
     assert!(rt; text.len() == 950);
-    assert!(rt; record(&text, 3).get(78..79) == Some(b"1".as_slice()));
-    assert!(rt; record(&text, 4).get(..13) == Some(b"705INVOICE 7 ".as_slice()));
-    assert!(rt; record(&text, 4).get(83..94) == Some(b"00010000001".as_slice()));
+    assert_parts(&rt, &text, PAYMENT);
     Ok(())
 }
 
-#[test]
-fn change(rt: HostRuntime) -> Result<(), Fail> {
-    let trace = Trace::new(9_100_001, 8)?;
+fn print_change(rt: &HostRuntime) -> Printed {
+    let (cents, trace) = cents_and_trace(0, 9_100_001, 8)?;
     let entry = OutgoingEntry {
         addenda: Addenda::Change(Change98Text {
             code: b"C01",
@@ -270,64 +274,70 @@ fn change(rt: HostRuntime) -> Result<(), Fail> {
             corrected: b"987654321",
             trace,
         }),
-        ..return_of(b"BOB RAY", 12_104_288, 2, cents_of(0)?, trace)
+        ..return_of(b"BOB RAY", 12_104_288, 2, cents, trace)
     };
-    let text = print_returns(&rt, &[entry])??;
-    let incoming = read_file(rt.alloc(), &text)?;
-    assert!(rt; incoming.len() == 1);
-    if incoming.len() == 1 {
-        let facts = incoming.item(0).facts();
-        assert!(rt; &facts.code == b"C01");
-        assert!(rt; facts.cents.get() == 0);
-        assert!(rt;
-            facts.return_or_change == ReturnOrChange::Change(*b"987654321                    ")
-        );
-    }
+    print_returns(rt, &[entry])
+}
+
+#[test]
+fn change(rt: HostRuntime) -> Result<(), Fail> {
+    let facts = only_item(&rt, &print_change(&rt)?)?;
+    assert!(rt; &facts.code == b"C01");
+    assert!(rt; facts.cents.get() == 0);
+    assert!(rt;
+        facts.return_or_change == ReturnOrChange::Change(*b"987654321                    ")
+    );
     Ok(())
 }
 
 // How long the text is, or why there is none.
-fn outcome(text: Result<Vec<u8>, PrintFault>) -> Result<usize, PrintFault> {
+fn length(text: &Printed) -> Result<usize, PrintFault> {
     match text {
         Ok(text) => Ok(text.len()),
-        Err(fault) => Err(fault),
+        Err(fault) => Err(*fault),
     }
 }
 
-// The outcome of 100 entries of the largest amount and a last one.
-fn with_last(rt: &HostRuntime, cents: u64, name: &[u8]) -> Result<Result<usize, PrintFault>, Fail> {
-    let trace = Trace::new(12_104_288, 1)?;
-    let mut entries = sent_entries(rt, 100, name)?;
-    entries.extend_from_slice(&[sent_entry(name, cents_of(cents)?, trace)])?;
-    Ok(outcome(print_sent(rt, &entries)?))
+/// The amount of an entry after 100 of the largest one, the name of all, and the outcome.
+const TOTALS: &[(u64, &[u8], Result<usize, PrintFault>)] = &[
+    (99, b"ANN LEE", Ok(110 * 95)),
+    (100, b"ANN LEE", Err(PrintFault::TotalTooLarge)),
+    // A bad field is told first, wherever it stands.
+    (100, b"TAB\t", Err(PrintFault::BadField)),
+    // This amount has eleven digits.
+    (10_000_000_000, b"ANN LEE", Err(PrintFault::BadField)),
+];
+
+fn with_last(rt: &HostRuntime, cents: u64, name: &[u8]) -> Result<usize, PrintFault> {
+    let (cents, trace) = cents_and_trace(cents, 12_104_288, 1)?;
+    let mut entries = largest_entries(rt, name, 100)?;
+    entries.extend_from_slice(&[sent_entry(name, cents, trace)])?;
+    length(&print_sent(rt, &entries))
 }
 
 #[test]
-fn totals(rt: HostRuntime) -> Result<(), Fail> {
-    assert!(rt; with_last(&rt, 99, b"ANN LEE")? == Ok(110 * 95));
-    assert!(rt; with_last(&rt, 100, b"ANN LEE")? == Err(PrintFault::TotalTooLarge));
-    assert!(rt;
-        with_last(&rt, 100, b"TAB\t")? == Err(PrintFault::BadField),
-        "a bad field is told first, wherever it stands"
-    );
-    assert!(rt;
-        with_last(&rt, 10_000_000_000, b"ANN LEE")? == Err(PrintFault::BadField),
-        "an amount of eleven digits"
-    );
-    Ok(())
+fn totals(rt: HostRuntime) {
+    for (row, &(cents, name, outcome)) in TOTALS.iter().enumerate() {
+        assert!(rt; with_last(&rt, cents, name) == outcome, "row {row}");
+    }
 }
+
+const FAULTS: &[(PrintFault, u8)] = &[
+    (PrintFault::BadField, 1),
+    (PrintFault::TotalTooLarge, 2),
+    (PrintFault::TooManyRecords, 3),
+    (PrintFault::NoMemory, 4),
+];
 
 #[test]
 fn numbers(rt: HostRuntime) {
-    let faults = [
-        PrintFault::BadField,
-        PrintFault::TotalTooLarge,
-        PrintFault::TooManyRecords,
-        PrintFault::NoMemory,
-    ];
-    for (index, fault) in faults.iter().enumerate() {
-        assert!(rt; (fault.number() as usize) == index + 1);
+    for &(fault, number) in FAULTS {
+        assert!(rt; fault.number() == number);
     }
+}
+
+fn is_refused(printer: &mut Printer, batch: &OutgoingBatch) -> bool {
+    printer.put(batch) == Err(PrintFault::BadField)
 }
 
 // A file of one batch, before and after which another one is refused for a bad field.
@@ -336,109 +346,98 @@ fn print_around_refused(
     header: &FileHeaderText,
     good: &OutgoingBatch,
     bad: &OutgoingBatch,
-) -> Result<Vec<u8>, PrintFault> {
+) -> Printed {
     let mut printer = Printer::new(rt.alloc(), header)?;
-    let first = printer.put(bad);
-    printer.put(good)?;
-    let last = printer.put(bad);
-    if first == Err(PrintFault::BadField) && last == Err(PrintFault::BadField) {
+    if is_refused(&mut printer, bad) && printer.put(good).is_ok() && is_refused(&mut printer, bad) {
         printer.finish()
     } else {
-        Err(PrintFault::NoMemory)
+        Err(UNWANTED)
     }
 }
 
 // A file of one batch of one entry of the largest amount, beside refused ones.
-fn print_beside_refused(rt: &HostRuntime) -> Result<Result<Vec<u8>, PrintFault>, Fail> {
-    let entries = sent_entries(rt, 1, b"ANN LEE")?;
-    let refused = sent_entries(rt, 1, b"ANN\tLEE")?;
-    let header = FileHeaderText {
-        destination: Routing::parse(b"061000146")?,
-        origin: Routing::parse(b"121042882")?,
-        date: Ymd::new(25, 1, 8)?,
-        time: None,
-        modifier: b"A",
-        destination_name: b"ACH OPERATOR",
-        origin_name: b"OUR BANK",
-    };
-    let first = BatchHeaderText {
-        service_class: 220,
-        company_name: b"MILL STREET",
-        company: b"MILL01",
-        sec: b"PPD",
-        description: b"PAYROLL",
-        effective: Ymd::new(25, 1, 10)?,
-        settlement: None,
-        odfi: 12_104_288,
-        number: 1,
-    };
-    let second = BatchHeaderText { number: 2, ..first };
-    let good = OutgoingBatch {
-        header: first,
-        entries: &entries,
-    };
-    let bad = OutgoingBatch {
-        header: second,
-        entries: &refused,
-    };
-    Ok(print_around_refused(rt, &header, &good, &bad))
+fn print_beside_refused(rt: &HostRuntime) -> Printed {
+    let (cents, trace) = cents_and_trace(LARGEST, 12_104_288, 1)?;
+    let entries = [sent_entry(b"ANN LEE", cents, trace)];
+    let refused = [sent_entry(b"ANN\tLEE", cents, trace)];
+    match (sent_header(), sent_batch(1), sent_batch(2)) {
+        (Ok(header), Ok(first), Ok(second)) => {
+            let good = OutgoingBatch {
+                header: first,
+                entries: &entries,
+            };
+            let bad = OutgoingBatch {
+                header: second,
+                entries: &refused,
+            };
+            print_around_refused(rt, &header, &good, &bad)
+        }
+        _ => Err(UNWANTED),
+    }
 }
+
+/// The header of the batch, and the control of the file.
+const BESIDE_REFUSED: &[Part] = &[
+    (2, 0, SENT_BATCH),
+    (2, 94, b"\n"),
+    (
+        5,
+        0,
+        b"9000001000001000000010009100001000000000000009999999999",
+    ),
+];
 
 #[test]
 fn refused_batch(rt: HostRuntime) -> Result<(), Fail> {
-    let text = print_beside_refused(&rt)??;
+    let text = print_beside_refused(&rt)?;
     assert!(rt; text.len() == 950);
-    assert!(rt; record(&text, 2) == lines(&rt, &[SENT[1]], 0, b"\n")?.as_slice());
-    assert!(rt;
-        record(&text, 5).get(..55)
-            == Some(b"9000001000001000000010009100001000000000000009999999999".as_slice())
-    );
+    assert_parts(&rt, &text, BESIDE_REFUSED);
     Ok(())
 }
 
 #[test]
 fn no_batch(rt: HostRuntime) -> Result<(), Fail> {
-    let text = print_incoming(&rt, &[])??;
+    let text = print_incoming(&rt, &[])?;
     assert!(rt; text.len() == 950);
     assert!(rt; read(&rt, &text) == Ok(0));
     Ok(())
 }
 
-// Two batches of so many entries of the largest amount each.
-fn print_two(rt: &HostRuntime, count: usize) -> Result<Result<usize, PrintFault>, Fail> {
-    let entries = sent_entries(rt, count, b"ANN LEE")?;
-    let first = BatchHeaderText {
-        service_class: 220,
-        company_name: b"MILL STREET",
-        company: b"MILL01",
-        sec: b"PPD",
-        description: b"PAYROLL",
-        effective: Ymd::new(25, 1, 14)?,
-        settlement: None,
-        odfi: 12_104_288,
-        number: 1,
-    };
-    let second = BatchHeaderText { number: 2, ..first };
-    let batches = [
-        OutgoingBatch {
-            header: first,
-            entries: &entries,
-        },
-        OutgoingBatch {
-            header: second,
-            entries: &entries,
-        },
-    ];
-    Ok(outcome(print_incoming(rt, &batches)?))
+/// How many entries of the largest amount two batches have each, and the outcome.
+const TWO_BATCHES: &[(usize, Result<usize, PrintFault>)] = &[
+    (1, Ok(10 * 95)),
+    (50, Ok(110 * 95)),
+    // Each batch is small enough, and the file is not.
+    (51, Err(PrintFault::TotalTooLarge)),
+];
+
+fn print_twice(rt: &HostRuntime, entries: &[OutgoingEntry]) -> Printed {
+    match (sent_batch(1), sent_batch(2)) {
+        (Ok(first), Ok(second)) => {
+            let batches = [
+                OutgoingBatch {
+                    header: first,
+                    entries,
+                },
+                OutgoingBatch {
+                    header: second,
+                    entries,
+                },
+            ];
+            print_incoming(rt, &batches)
+        }
+        _ => Err(UNWANTED),
+    }
+}
+
+fn print_two(rt: &HostRuntime, count: usize) -> Result<usize, PrintFault> {
+    let entries = largest_entries(rt, b"ANN LEE", count)?;
+    length(&print_twice(rt, &entries))
 }
 
 #[test]
-fn two_batches(rt: HostRuntime) -> Result<(), Fail> {
-    assert!(rt; print_two(&rt, 1)? == Ok(950));
-    assert!(rt; print_two(&rt, 50)? == Ok(110 * 95));
-    assert!(rt;
-        print_two(&rt, 51)? == Err(PrintFault::TotalTooLarge),
-        "each batch is small enough, and the file is not"
-    );
-    Ok(())
+fn two_batches(rt: HostRuntime) {
+    for &(count, outcome) in TWO_BATCHES {
+        assert!(rt; print_two(&rt, count) == outcome, "of {count} entries each");
+    }
 }

@@ -1,32 +1,38 @@
 //! These files are read.
 ghost use Rattle.std.specs.Prelude.{◌≤◌};
 
-use super::samples::{RETURNED, RETURNED_DIGEST, lines, read, read_in_pieces, return_file};
+use super::samples::{
+    RETURNED_DIGEST, lines, only_item, put_lines, read, read_in_pieces, reads_as, return_file,
+};
+use crate::worked::{ADDENDA, BATCH, ENTRY, HEADER, RETURNED};
 use ach_files::{Fault, FileFault, ReturnOrChange, read_file};
+use std::alloc::AllocError;
 use std::test::Fail;
 
 #[test]
-fn returned_entry(rt: HostRuntime) -> Result<(), Fail> {
+fn key_and_digest(rt: HostRuntime) -> Result<(), Fail> {
     let file = return_file();
     let incoming = read_file(rt.alloc(), &file)?;
     assert!(rt; &incoming.key() == b" 0610001462501140930A");
     assert!(rt; incoming.digest() == RETURNED_DIGEST);
-    assert!(rt; incoming.len() == 1);
-    if incoming.len() == 1 {
-        let facts = incoming.item(0).facts();
-        assert!(rt; &facts.sec_code == b"PPD");
-        assert!(rt; facts.transaction_code == 26);
-        assert!(rt; facts.cents.get() == 2500);
-        assert!(rt; &facts.code == b"R01");
-        assert!(rt; &facts.original_trace == b"121042880000001");
-        assert!(rt; &facts.original_dfi == b"09100001");
-        assert!(rt; facts.return_or_change == ReturnOrChange::Return([b' '; 44]));
-    }
+    Ok(())
+}
+
+#[test]
+fn returned_entry(rt: HostRuntime) -> Result<(), Fail> {
+    let facts = only_item(&rt, &return_file())?;
+    assert!(rt; &facts.sec_code == b"PPD");
+    assert!(rt; facts.transaction_code == 26);
+    assert!(rt; facts.cents.get() == 2500);
+    assert!(rt; &facts.code == b"R01");
+    assert!(rt; &facts.original_trace == b"121042880000001");
+    assert!(rt; &facts.original_dfi == b"09100001");
+    assert!(rt; facts.return_or_change == ReturnOrChange::Return([b' '; 44]));
     Ok(())
 }
 
 // A file control of no batch, for which there is one block, and one that says two.
-const CONTROL: &[u8; 94] =
+const NO_BATCH_CONTROL: &[u8; 94] =
     b"9000000000001000000000000000000000000000000000000000000                                       ";
 
 const CONTROL_OF_TWO_BLOCKS: &[u8; 94] =
@@ -34,25 +40,37 @@ const CONTROL_OF_TWO_BLOCKS: &[u8; 94] =
 
 #[test]
 fn no_batch(rt: HostRuntime) -> Result<(), Fail> {
-    assert!(rt; read(&rt, &lines(&rt, &[RETURNED[0], CONTROL], 0, b"\n")?) == Ok(0));
-    let two = lines(&rt, &[RETURNED[0], CONTROL_OF_TWO_BLOCKS], 0, b"\n")?;
-    assert!(rt;
-        read(&rt, &two)
-            == Err(Fault {
-                kind: FileFault::BadBlock,
-                at: 2
-            })
-    );
+    let one = lines(&rt, &[HEADER, NO_BATCH_CONTROL], 0, b"\n")?;
+    assert!(rt; read(&rt, &one) == Ok(0));
+    let two = lines(&rt, &[HEADER, CONTROL_OF_TWO_BLOCKS], 0, b"\n")?;
+    let block = Fault {
+        kind: FileFault::BadBlock,
+        at: 2,
+    };
+    assert!(rt; read(&rt, &two) == Err(block));
     Ok(())
 }
 
+/// What ends each line, and how many fillers there are.
+const LINES: &[(&[u8], usize)] = &[
+    (b"\n", 0),
+    (b"\n", 4),
+    (b"\n", 40),
+    (b"\r\n", 0),
+    (b"\r\n", 4),
+    (b"\r\n", 40),
+    (b"", 0),
+    (b"", 4),
+    (b"", 40),
+];
+
 #[test]
 fn line_ends(rt: HostRuntime) -> Result<(), Fail> {
-    let ends: [&[u8]; 3] = [b"\n", b"\r\n", b""];
-    for end in ends {
-        for fillers in [0, 4, 40] {
-            assert!(rt; read(&rt, &lines(&rt, &RETURNED, fillers, end)?) == Ok(1));
-        }
+    for (row, &(end, fillers)) in LINES.iter().enumerate() {
+        assert!(rt;
+            read(&rt, &lines(&rt, &RETURNED, fillers, end)?) == Ok(1),
+            "row {row}"
+        );
     }
     Ok(())
 }
@@ -83,26 +101,18 @@ fn outcome_of_prefix(length: usize) -> Result<usize, Fault>
 }
 
 #[test]
-fn prefixes(rt: HostRuntime) -> Result<(), Fail> {
+fn prefixes(rt: HostRuntime) {
     let file = return_file();
     for length in 0..951 {
-        let prefix = &file[..length];
-        let wanted = outcome_of_prefix(length);
-        assert!(rt; read(&rt, prefix) == wanted, "of {length} bytes");
         assert!(rt;
-            read_in_pieces(&rt, prefix, 1) == wanted,
-            "of {length} bytes"
-        );
-        assert!(rt;
-            read_in_pieces(&rt, prefix, 100) == wanted,
+            reads_as(&rt, &file[..length], outcome_of_prefix(length)),
             "of {length} bytes"
         );
     }
-    Ok(())
 }
 
 // A byte, so many times, after the text.
-fn add(text: &mut Vec<u8>, byte: u8, count: u32) -> Result<(), Fail> {
+fn add(text: &mut Vec<u8>, byte: u8, count: u32) -> Result<(), AllocError> {
     for _ in 0..count {
         text.push(byte)?;
     }
@@ -113,11 +123,11 @@ fn add(text: &mut Vec<u8>, byte: u8, count: u32) -> Result<(), Fail> {
 fn blanks(rt: HostRuntime) -> Result<(), Fail> {
     let mut text = Vec::new(rt.alloc());
     add(&mut text, b' ', 4_194_305)?;
-    let order = Err(Fault {
+    let order = Fault {
         kind: FileFault::BadOrder,
         at: 1,
-    });
-    assert!(rt; read(&rt, &text) == order);
+    };
+    assert!(rt; read(&rt, &text) == Err(order));
     Ok(())
 }
 
@@ -126,12 +136,12 @@ fn longest(rt: HostRuntime) -> Result<(), Fail> {
     let mut text = lines(&rt, &RETURNED, 4, b"\n")?;
     add(&mut text, b'\n', 4_194_304 - 950)?;
     assert!(rt; read(&rt, &text) == Ok(1));
-    text.push(b'\n')?;
-    let large = Err(Fault {
+    add(&mut text, b'\n', 1)?;
+    let large = Fault {
         kind: FileFault::TooLarge,
         at: 10,
-    });
-    assert!(rt; read_in_pieces(&rt, &text, 65_536) == large);
+    };
+    assert!(rt; read_in_pieces(&rt, &text, 65_536) == Err(large));
     Ok(())
 }
 
@@ -143,16 +153,19 @@ const FULL_BATCH_CONTROL: &[u8; 94] =
 const FULL_CONTROL: &[u8; 94] =
     b"9000001004462000446160022456704000055770000000000000000                                       ";
 
+// The first records of the file, up to its controls.
+fn returns(rt: &HostRuntime) -> Result<Vec<u8>, AllocError> {
+    let mut text = lines(rt, &[HEADER, BATCH], 0, b"")?;
+    for _ in 0..22_308 {
+        put_lines(&mut text, &[ENTRY, ADDENDA], b"")?;
+    }
+    Ok(text)
+}
+
 #[test]
 fn as_many_items_as_fit(rt: HostRuntime) -> Result<(), Fail> {
-    let [header, batch, entry, addenda, _, _] = RETURNED;
-    let mut text = lines(&rt, &[header, batch], 0, b"")?;
-    for _ in 0..22_308 {
-        text.extend_from_slice(entry.as_slice())?;
-        text.extend_from_slice(addenda.as_slice())?;
-    }
-    text.extend_from_slice(FULL_BATCH_CONTROL.as_slice())?;
-    text.extend_from_slice(FULL_CONTROL.as_slice())?;
+    let mut text = returns(&rt)?;
+    put_lines(&mut text, &[FULL_BATCH_CONTROL, FULL_CONTROL], b"")?;
     add(&mut text, b'\r', 24)?;
     assert!(rt; text.len() == 4_194_304);
     assert!(rt; read(&rt, &text) == Ok(22_308));

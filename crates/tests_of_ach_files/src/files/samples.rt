@@ -1,50 +1,53 @@
-//! Banks exchange two files: one has entries, and the other a return that answers one.
+//! Files are made of records, and read whole and in pieces.
 ghost use Rattle.std.specs.Prelude.{◌<◌};
 
-use ach_files::{Fault, Reader, read_file};
-use std::test::Fail;
+use crate::worked::{FILLER, RETURNED};
+use ach_files::{Fault, FileFault, ItemFacts, Reader, read_file};
+use std::alloc::AllocError;
 
-/// This file is sent, with one credit.
-pub const SENT: [&[u8; 94]; 5] = [
-    b"101 061000146 121042882250108    A094101ACH OPERATOR           OUR BANK                       ",
-    b"5220MILL STREET                         MILL01    PPDPAYROLL         250110   1121042880000001",
-    b"622091000019123456789        0000150000E1             ANN LEE                 0121042880000001",
-    b"82200000010009100001000000000000000000150000MILL01                             121042880000001",
-    b"9000001000001000000010009100001000000000000000000150000                                       ",
-];
-
-/// This file comes in, with the return of one debit.
-pub const RETURNED: [&[u8; 94]; 6] = [
-    b"101 121042882 0610001462501140930A094101OUR BANK               ACH OPERATOR                   ",
-    b"5225MILL STREET                         MILL01    PPDDUES            2501140141091000010000001",
-    b"626121042882123456789        0000002500E2             BOB RAY                 1091000010000007",
-    b"799R01121042880000001      09100001                                            091000010000007",
-    b"82250000020012104288000000002500000000000000MILL01                             091000010000001",
-    b"9000001000001000000020012104288000000002500000000000000                                       ",
-];
-
-/// `sha256sum` gives this SHA-256 of its six records.
+/// `sha256sum` gives this SHA-256 of the six records of the return.
 pub const RETURNED_DIGEST: [u8; 32] = [
     0x79, 0x4d, 0xeb, 0x5e, 0x59, 0xad, 0x2c, 0x6e, 0x54, 0xfd, 0xbf, 0xf5, 0x62, 0x47, 0xd6, 0xb6,
     0xda, 0xcd, 0x4d, 0x1f, 0x98, 0xe3, 0x63, 0xa8, 0xc9, 0x2d, 0x8c, 0x48, 0x1c, 0x01, 0xed, 0xb7,
 ];
 
+/// Readers tell this of what comes after a fault or a file.
+pub const FAILED: Fault = Fault {
+    kind: FileFault::Failed,
+    at: 0,
+};
+
 fn put_record(file: &mut [u8; 950], number: usize, record: &[u8; 94])
     requires { number < 10 }
 {
     file[95 * number..95 * number + 94].copy_from_slice(record.as_slice());
+    file[95 * number + 94] = b'\n';
 }
 
 /// Gives the file of the return: six records and four fillers, each with an LF.
 pub fn return_file() -> [u8; 950] {
     let mut file = [b'9'; 950];
-    for number in 0..6 {
-        put_record(&mut file, number, RETURNED[number]);
-    }
     for number in 0..10 {
-        file[95 * number + 94] = b'\n';
+        let record = match RETURNED.get(number) {
+            Some(record) => *record,
+            None => FILLER,
+        };
+        put_record(&mut file, number, record);
     }
     file
+}
+
+fn put_line(text: &mut Vec<u8>, record: &[u8; 94], end: &[u8]) -> Result<(), AllocError> {
+    text.extend_from_slice(record.as_slice())?;
+    text.extend_from_slice(end)
+}
+
+/// Puts records, each with what ends its line, after a text.
+pub fn put_lines(text: &mut Vec<u8>, records: &[&[u8; 94]], end: &[u8]) -> Result<(), AllocError> {
+    for record in records {
+        put_line(text, record, end)?;
+    }
+    Ok(())
 }
 
 /// Gives records, each with what ends its line, and then fillers.
@@ -53,15 +56,11 @@ pub fn lines(
     records: &[&[u8; 94]],
     fillers: usize,
     end: &[u8],
-) -> Result<Vec<u8>, Fail> {
+) -> Result<Vec<u8>, AllocError> {
     let mut text = Vec::new(rt.alloc());
-    for record in records {
-        text.extend_from_slice(record.as_slice())?;
-        text.extend_from_slice(end)?;
-    }
+    put_lines(&mut text, records, end)?;
     for _ in 0..fillers {
-        text.extend_from_slice([b'9'; 94].as_slice())?;
-        text.extend_from_slice(end)?;
+        put_line(&mut text, FILLER, end)?;
     }
     Ok(text)
 }
@@ -74,12 +73,36 @@ pub fn read(rt: &HostRuntime, bytes: &[u8]) -> Result<usize, Fault> {
     }
 }
 
+/// Ends what a reader takes. It says how many items there are, or gives the fault.
+pub fn end(reader: &mut Reader) -> Result<usize, Fault> {
+    match reader.finish() {
+        Ok(taken) => Ok(taken.items().len()),
+        Err(fault) => Err(fault),
+    }
+}
+
 /// Says the same by a reader that takes them in pieces of a size.
 pub fn read_in_pieces(rt: &HostRuntime, bytes: &[u8], size: usize) -> Result<usize, Fault> {
     let mut reader = Reader::new(rt.alloc());
     for piece in bytes.chunks(size.max(1)) {
         reader.feed(piece)?;
     }
-    let taken = reader.finish()?;
-    Ok(taken.items().len())
+    end(&mut reader)
+}
+
+/// Is this the outcome of the bytes, whole and in pieces?
+pub fn reads_as(rt: &HostRuntime, bytes: &[u8], outcome: Result<usize, Fault>) -> bool {
+    read(rt, bytes) == outcome
+        && read_in_pieces(rt, bytes, 1) == outcome
+        && read_in_pieces(rt, bytes, 100) == outcome
+}
+
+/// Gives what the only item of a file says.
+pub fn only_item(rt: &HostRuntime, bytes: &[u8]) -> Result<ItemFacts, Fault> {
+    let incoming = read_file(rt.alloc(), bytes)?;
+    if incoming.len() == 1 {
+        Ok(incoming.item(0).facts())
+    } else {
+        Err(FAILED)
+    }
 }

@@ -1,64 +1,80 @@
 //! The first fault of records that were changed, and of fields that have no text.
-use super::{INFORMATION, PAYMENT, RETURN};
+use super::INFORMATION;
+use crate::worked::{
+    ADDENDA, SENT_BATCH_CONTROL, SENT_CONTROL, SENT_ENTRY, SENT_HEADER, sent_batch,
+};
 use ach_fields::{FieldFault, Ymd};
 use ach_records::{BatchHeaderText, RecordFault, print_batch_header, view};
-use std::test::Fail;
 
-// The fault of a record in which this offset holds this byte.
-fn fault_of(record: &[u8; 94], at: usize, byte: u8) -> Option<RecordFault> {
+/// Records, the bytes that stand at offsets from 0 in place of theirs, and the first fault.
+const CHANGES: &[(&[u8; 94], &[(usize, u8)], Option<RecordFault>)] = &[
+    (SENT_ENTRY, &[(0, b'2')], Some(RecordFault::BadType)),
+    (SENT_ENTRY, &[(0, b'7')], Some(RecordFault::BadAddendaType)),
+    (SENT_ENTRY, &[(1, b' ')], Some(RecordFault::BadNumber(2))),
+    (SENT_ENTRY, &[(10, b'X')], Some(RecordFault::BadNumber(11))),
+    (SENT_ENTRY, &[(11, b'X')], None),
+    (SENT_ENTRY, &[(28, b'X')], None),
+    (SENT_ENTRY, &[(29, b' ')], Some(RecordFault::BadNumber(30))),
+    (SENT_ENTRY, &[(38, b'-')], Some(RecordFault::BadNumber(39))),
+    (SENT_ENTRY, &[(93, 0x7f)], Some(RecordFault::BadByte(94))),
+    (ADDENDA, &[(2, b'7')], Some(RecordFault::BadAddendaType)),
+    (INFORMATION, &[(93, b' ')], Some(RecordFault::BadNumber(94))),
+    (
+        SENT_BATCH_CONTROL,
+        &[(43, b' ')],
+        Some(RecordFault::BadNumber(44)),
+    ),
+    (
+        SENT_CONTROL,
+        &[(54, b' ')],
+        Some(RecordFault::BadNumber(55)),
+    ),
+    (SENT_CONTROL, &[(55, b'X')], None),
+    // Of several faults the first is told.
+    (
+        SENT_ENTRY,
+        &[(38, b'-'), (3, b'-')],
+        Some(RecordFault::BadNumber(4)),
+    ),
+    (
+        SENT_ENTRY,
+        &[(38, b'-'), (3, b'-'), (0, b'2')],
+        Some(RecordFault::BadType),
+    ),
+    (
+        SENT_ENTRY,
+        &[(38, b'-'), (3, b'-'), (0, b'2'), (93, 0x80), (40, b'\n')],
+        Some(RecordFault::BadByte(41)),
+    ),
+];
+
+fn changed(record: &[u8; 94], changes: &[(usize, u8)]) -> [u8; 94] {
     let mut text = *record;
-    if at < 94 {
-        text[at] = byte;
+    for &(at, byte) in changes {
+        if let Some(place) = text.get_mut(at) {
+            *place = byte;
+        }
     }
-    view(&text).err()
+    text
 }
 
 #[test]
-fn faults_of_an_entry(rt: HostRuntime) {
-    let cases: [(usize, u8, Option<RecordFault>); 9] = [
-        (0, b'2', Some(RecordFault::BadType)),
-        (0, b'7', Some(RecordFault::BadAddendaType)),
-        (1, b' ', Some(RecordFault::BadNumber(2))),
-        (10, b'X', Some(RecordFault::BadNumber(11))),
-        (11, b'X', None),
-        (28, b'X', None),
-        (29, b' ', Some(RecordFault::BadNumber(30))),
-        (38, b'-', Some(RecordFault::BadNumber(39))),
-        (93, 0x7f, Some(RecordFault::BadByte(94))),
-    ];
-    for (at, byte, wanted) in cases {
-        assert!(rt; fault_of(PAYMENT[2], at, byte) == wanted);
+fn first_faults(rt: HostRuntime) {
+    for (row, &(record, changes, fault)) in CHANGES.iter().enumerate() {
+        assert!(rt; view(&changed(record, changes)).err() == fault, "row {row}");
     }
 }
 
-#[test]
-fn faults_of_other_records(rt: HostRuntime) {
-    assert!(rt; fault_of(RETURN[3], 2, b'7') == Some(RecordFault::BadAddendaType));
-    assert!(rt; fault_of(INFORMATION, 93, b' ') == Some(RecordFault::BadNumber(94)));
-    assert!(rt; fault_of(PAYMENT[3], 43, b' ') == Some(RecordFault::BadNumber(44)));
-    assert!(rt; fault_of(PAYMENT[4], 54, b' ') == Some(RecordFault::BadNumber(55)));
-    assert!(rt; fault_of(PAYMENT[4], 55, b'X').is_none());
-}
+/// Names of a company that stand before a company identification with an LF, and the first fault.
+const NAMES: &[(&[u8], FieldFault)] = &[
+    (b"A NAME OF SEVENTEEN", FieldFault::TooLong),
+    (b"MILL STREET", FieldFault::NotText),
+];
 
-#[test]
-fn the_first_fault(rt: HostRuntime) {
-    let mut text = *PAYMENT[2];
-    text[38] = b'-';
-    text[3] = b'-';
-    assert!(rt; view(&text).err() == Some(RecordFault::BadNumber(4)));
-    text[0] = b'2';
-    assert!(rt; view(&text).err() == Some(RecordFault::BadType));
-    text[93] = 0x80;
-    text[40] = b'\n';
-    assert!(rt; view(&text).err() == Some(RecordFault::BadByte(41)));
-}
-
-#[test]
-fn a_refusal_leaves_the_record(rt: HostRuntime) -> Result<(), Fail> {
-    let mut record = *PAYMENT[0];
+fn print_onto(record: &mut [u8; 94], company_name: &[u8]) -> Result<(), FieldFault> {
     let header = BatchHeaderText {
         service_class: 220,
-        company_name: b"A NAME OF SEVENTEEN",
+        company_name,
         company: b"MILL01\n",
         sec: b"PPD",
         description: b"PAYROLL",
@@ -67,20 +83,28 @@ fn a_refusal_leaves_the_record(rt: HostRuntime) -> Result<(), Fail> {
         odfi: 12_104_288,
         number: 1,
     };
-    assert!(rt; print_batch_header(&header, &mut record) == Err(FieldFault::TooLong));
-    let header = BatchHeaderText {
-        company_name: b"MILL STREET",
-        ..header
-    };
-    assert!(rt; print_batch_header(&header, &mut record) == Err(FieldFault::NotText));
-    assert!(rt; &record == PAYMENT[0]);
-    Ok(())
+    print_batch_header(&header, record)
 }
 
 #[test]
+fn a_refusal_leaves_the_record(rt: HostRuntime) {
+    let mut record = *SENT_HEADER;
+    for &(name, fault) in NAMES {
+        assert!(rt; print_onto(&mut record, name) == Err(fault));
+        assert!(rt; &record == SENT_HEADER);
+    }
+}
+
+const FAULTS: &[(RecordFault, u8)] = &[
+    (RecordFault::BadType, 1),
+    (RecordFault::BadAddendaType, 2),
+    (RecordFault::BadNumber(5), 3),
+    (RecordFault::BadByte(5), 4),
+];
+
+#[test]
 fn fault_numbers(rt: HostRuntime) {
-    assert!(rt; RecordFault::BadType.number() == 1);
-    assert!(rt; RecordFault::BadAddendaType.number() == 2);
-    assert!(rt; RecordFault::BadNumber(5).number() == 3);
-    assert!(rt; RecordFault::BadByte(5).number() == 4);
+    for &(fault, number) in FAULTS {
+        assert!(rt; fault.number() == number);
+    }
 }

@@ -1,102 +1,82 @@
 //! What views say of records from outside.
-use super::{CHANGE, INFORMATION, PAYMENT, RETURN};
+use super::{CHANGE, INFORMATION};
+use crate::worked::{ADDENDA, BATCH, BATCH_CONTROL, HEADER, SENT_CONTROL, SENT_ENTRY, SENT_HEADER};
 use ach_records::{Kind, Record, has_digits, header_key, kind_of, view};
 
-#[test]
-fn file_header(rt: HostRuntime) {
-    match view(RETURN[0]) {
-        Ok(Record::FileHeader(h)) => {
-            assert!(rt; h.immediate_origin() == b" 061000146".as_slice());
-            assert!(rt; h.creation_time() == b"0930".as_slice());
-            assert!(rt; h.origin_name() == b"ACH OPERATOR           ".as_slice());
-        }
-        _ => assert!(rt; false, "no file header"),
+const NO_TEXTS: [&[u8]; 3] = [b"", b"", b""];
+
+fn texts_of<'a>(record: &Record<'a>) -> [&'a [u8]; 3] {
+    match record {
+        Record::FileHeader(h) => [h.immediate_origin(), h.creation_time(), h.origin_name()],
+        Record::BatchHeader(h) => [h.sec_code(), h.settlement_date(), h.originating_dfi()],
+        Record::Entry(e) => [e.account(), e.trace(), b""],
+        Record::Change98(c) => [c.change_code(), c.corrected_data(), c.trace()],
+        Record::Return99(r) => [
+            r.return_code(),
+            r.original_trace(),
+            r.original_receiving_dfi(),
+        ],
+        Record::BatchControl(c) => [c.company_identification(), b"", b""],
+        _ => NO_TEXTS,
     }
 }
 
-#[test]
-fn batch_header(rt: HostRuntime) {
-    match view(RETURN[1]) {
-        Ok(Record::BatchHeader(h)) => {
-            assert!(rt; h.sec_code() == b"PPD".as_slice());
-            assert!(rt; h.settlement_date() == b"014".as_slice());
-            assert!(rt; h.originating_dfi() == b"09100001".as_slice());
+fn numbers_of(record: &Record) -> [u64; 3] {
+    match record {
+        Record::Entry(e) => [
+            e.transaction_code() as u64,
+            e.receiving_dfi() as u64,
+            e.cents().get(),
+        ],
+        Record::Addenda05(a) => [a.sequence() as u64, a.entry_sequence() as u64, 0],
+        Record::BatchControl(c) => [c.count() as u64, c.entry_hash(), c.total_debits().get()],
+        Record::FileControl(c) => {
+            [
+                c.block_count() as u64,
+                c.entry_hash(),
+                c.total_credits().get(),
+            ]
         }
-        _ => assert!(rt; false, "no batch header"),
+        _ => [0; 3],
     }
 }
 
-#[test]
-fn entry(rt: HostRuntime) {
-    match view(PAYMENT[2]) {
-        Ok(Record::Entry(e)) => {
-            assert!(rt; e.transaction_code() == 22);
-            assert!(rt; e.receiving_dfi() == 9_100_001);
-            assert!(rt; e.cents().get() == 150_000);
-            assert!(rt; e.account() == b"123456789        ".as_slice());
-            assert!(rt; e.trace() == b"121042880000001".as_slice());
-        }
-        _ => assert!(rt; false, "no entry"),
-    }
-}
+/// Records, each with texts and with numbers that its view says. No other view says the same.
+const RECORDS: &[(&[u8; 94], [&[u8]; 3], [u64; 3])] = &[
+    (
+        HEADER,
+        [b" 061000146", b"0930", b"ACH OPERATOR           "],
+        [0; 3],
+    ),
+    (BATCH, [b"PPD", b"014", b"09100001"], [0; 3]),
+    (
+        SENT_ENTRY,
+        [b"123456789        ", b"121042880000001", b""],
+        [22, 9_100_001, 150_000],
+    ),
+    (INFORMATION, NO_TEXTS, [1, 1, 0]),
+    (
+        CHANGE,
+        [b"C01", b"987654321                    ", b"091000010000007"],
+        [0; 3],
+    ),
+    (ADDENDA, [b"R01", b"121042880000001", b"09100001"], [0; 3]),
+    (
+        BATCH_CONTROL,
+        [b"MILL01    ", b"", b""],
+        [2, 12_104_288, 2_500],
+    ),
+    (SENT_CONTROL, NO_TEXTS, [1, 9_100_001, 150_000]),
+];
 
 #[test]
-fn information(rt: HostRuntime) {
-    match view(INFORMATION) {
-        Ok(Record::Addenda05(a)) => {
-            assert!(rt; a.sequence() == 1);
-            assert!(rt; a.entry_sequence() == 1);
-        }
-        _ => assert!(rt; false, "no addenda 05"),
-    }
-}
-
-#[test]
-fn change(rt: HostRuntime) {
-    match view(CHANGE) {
-        Ok(Record::Change98(c)) => {
-            assert!(rt; c.change_code() == b"C01".as_slice());
-            assert!(rt; c.corrected_data() == b"987654321                    ".as_slice());
-            assert!(rt; c.trace() == b"091000010000007".as_slice());
-        }
-        _ => assert!(rt; false, "no change"),
-    }
-}
-
-#[test]
-fn a_return(rt: HostRuntime) {
-    match view(RETURN[3]) {
-        Ok(Record::Return99(r)) => {
-            assert!(rt; r.return_code() == b"R01".as_slice());
-            assert!(rt; r.original_trace() == b"121042880000001".as_slice());
-            assert!(rt; r.original_receiving_dfi() == b"09100001".as_slice());
-        }
-        _ => assert!(rt; false, "no return"),
-    }
-}
-
-#[test]
-fn batch_control(rt: HostRuntime) {
-    match view(RETURN[4]) {
-        Ok(Record::BatchControl(c)) => {
-            assert!(rt; c.count() == 2);
-            assert!(rt; c.entry_hash() == 12_104_288);
-            assert!(rt; c.total_debits().get() == 2_500);
-            assert!(rt; c.company_identification() == b"MILL01    ".as_slice());
-        }
-        _ => assert!(rt; false, "no batch control"),
-    }
-}
-
-#[test]
-fn file_control(rt: HostRuntime) {
-    match view(PAYMENT[4]) {
-        Ok(Record::FileControl(c)) => {
-            assert!(rt; c.block_count() == 1);
-            assert!(rt; c.entry_hash() == 9_100_001);
-            assert!(rt; c.total_credits().get() == 150_000);
-        }
-        _ => assert!(rt; false, "no file control"),
+fn records(rt: HostRuntime) {
+    for (row, &(text, texts, numbers)) in RECORDS.iter().enumerate() {
+        let is_right = match view(text) {
+            Ok(record) => texts_of(&record) == texts && numbers_of(&record) == numbers,
+            Err(_) => false,
+        };
+        assert!(rt; is_right, "row {row}");
     }
 }
 
@@ -111,7 +91,7 @@ fn nines_are_a_filler(rt: HostRuntime) {
 
 #[test]
 fn fields_by_place(rt: HostRuntime) {
-    assert!(rt; header_key(RETURN[0]) == *b" 0610001462501140930A");
-    assert!(rt; has_digits(Kind::FileControl, PAYMENT[4]));
-    assert!(rt; !has_digits(Kind::FileControl, PAYMENT[0]));
+    assert!(rt; header_key(HEADER) == *b" 0610001462501140930A");
+    assert!(rt; has_digits(Kind::FileControl, SENT_CONTROL));
+    assert!(rt; !has_digits(Kind::FileControl, SENT_HEADER));
 }
