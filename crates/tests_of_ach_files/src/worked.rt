@@ -1,5 +1,5 @@
-//! Banks exchange two files: one has entries, and the other a return that answers one. Their records
-//! are as the layouts prescribe, and their headers have these values.
+//! Banks exchange two files: one has entries, and the other a return that answers one. Their
+//! records are as the layouts prescribe, and their headers have these values.
 use ach_fields::{FieldFault, Routing, Ymd};
 use ach_records::{BatchHeaderText, FileHeaderText};
 

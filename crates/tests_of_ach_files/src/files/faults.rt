@@ -5,8 +5,8 @@ use ach_files::{Fault, FileFault};
 use std::alloc::AllocError;
 use std::test::Fail;
 
-/// Bytes that stand in the file of the return, each in a record from 1 at an offset from 0, and what
-/// is wrong in that record.
+/// Bytes that stand in the file of the return, each in a record from 1 at an offset from 0, and
+/// what is wrong in that record.
 const CHANGES: &[(u32, usize, u8, FileFault)] = &[
     // Debits and credits of the batch, then of the file.
     (5, 31, b'1', FileFault::BadTotal),

@@ -14,8 +14,8 @@ use std::test::Fail;
 /// A file as it is printed, or why there is none.
 type Printed = Result<Vec<u8>, PrintFault>;
 
-/// No test wants this fault. It stands for what goes wrong before a file is printed, and for two ways
-/// of printing one that differ.
+/// No test wants this fault. It stands for what goes wrong before a file is printed, and for two
+/// ways of printing one that differ.
 const UNWANTED: PrintFault = PrintFault::NoMemory;
 
 /// The largest amount of an entry has ten digits.
