@@ -1,99 +1,82 @@
 //! What commands did.
-use super::{body_of, cents, day, reference};
+use super::{cents, day, list, reference, says};
 use ach_fields::Id;
-use desk_history::{CutSummary, Intake, ListOf, Outcome, Receipt};
-use std::test::Fail;
+use desk_history::{CutSummary, Intake, Outcome, Receipt};
+
+const ACCEPTED: &[u8] = b">{\"cents\":150000,\"entries\":1,\"order\":1,\"ref\":\"PAY-1\"}";
 
 #[test]
-fn an_accepted_submission(rt: HostRuntime) -> Result<(), Fail> {
+fn an_accepted_submission(rt: HostRuntime) {
     let receipt = Receipt {
-        cents: cents(150_000)?,
+        cents: cents(&rt, 150_000),
         entries: 1,
         order: 1,
-        reference: reference(b"PAY-1")?,
+        reference: reference(&rt, b"PAY-1"),
     };
-    let text = body_of(rt.alloc(), Outcome::Submitted(receipt))?;
-    let body = b">{\"cents\":150000,\"entries\":1,\"order\":1,\"ref\":\"PAY-1\"}";
-    assert!(rt; text.as_slice() == body.as_slice());
-    assert!(rt; text.len() == 53);
-    Ok(())
+    says(&rt, Outcome::Submitted(receipt), ACCEPTED);
+    assert!(rt; ACCEPTED.len() == 53);
 }
 
 #[test]
-fn settings(rt: HostRuntime) -> Result<(), Fail> {
-    let day = body_of(rt.alloc(), Outcome::Day(day(b"2025-01-08")?))?;
-    assert!(rt; day.as_slice() == b">{\"day\":\"2025-01-08\"}".as_slice());
-    let holidays = body_of(rt.alloc(), Outcome::Holidays(400))?;
-    assert!(rt; holidays.as_slice() == b">{\"holidays\":400}".as_slice());
-    let id = Id::new(b"MILL01").map_err(|_| "MILL01")?;
-    let company = body_of(rt.alloc(), Outcome::Company(id))?;
-    assert!(rt; company.as_slice() == b">{\"id\":\"MILL01\"}".as_slice());
-    Ok(())
+fn settings(rt: HostRuntime) {
+    let day = Outcome::Day(day(&rt, b"2025-01-08"));
+    says(&rt, day, b">{\"day\":\"2025-01-08\"}");
+    says(&rt, Outcome::Holidays(400), b">{\"holidays\":400}");
+    let company = Outcome::Company(Id::new(b"MILL01").expect(&rt, "MILL01"));
+    says(&rt, company, b">{\"id\":\"MILL01\"}");
 }
 
+/// The entries and the lapsed retries of a cut, its files, and what is said of it.
+const CUTS: &[(u64, u64, &[u8], &[u8])] = &[
+    (
+        1,
+        0,
+        b"A",
+        b">{\"day\":\"2025-01-08\",\"entries\":1,\"files\":[\"A\"],\"lapsed\":0}",
+    ),
+    (
+        0,
+        2,
+        b"",
+        b">{\"day\":\"2025-01-08\",\"entries\":0,\"files\":[],\"lapsed\":2}",
+    ),
+    (
+        37,
+        0,
+        b"Z01",
+        b">{\"day\":\"2025-01-08\",\"entries\":37,\"files\":[\"Z\",\"0\",\"1\"],\"lapsed\":0}",
+    ),
+    // With all files of a day, and numbers of twenty digits.
+    (
+        u64::MAX,
+        u64::MAX,
+        b"ABCDEFGHIJKLMNOPQRSTUVWXYZ0123456789",
+        b">{\"day\":\"2025-01-08\",\"entries\":18446744073709551615,\"files\":[\"A\",\"B\",\"C\",\"D\",\"E\",\"F\",\"G\",\"H\",\"I\",\"J\",\"K\",\"L\",\"M\",\"N\",\"O\",\"P\",\"Q\",\"R\",\"S\",\"T\",\"U\",\"V\",\"W\",\"X\",\"Y\",\"Z\",\"0\",\"1\",\"2\",\"3\",\"4\",\"5\",\"6\",\"7\",\"8\",\"9\"],\"lapsed\":18446744073709551615}",
+    ),
+];
+
 #[test]
-fn cuts(rt: HostRuntime) -> Result<(), Fail> {
-    let rows: [(u64, u64, &[u8], &[u8]); 3] = [
-        (
-            1,
-            0,
-            b"A",
-            b">{\"day\":\"2025-01-08\",\"entries\":1,\"files\":[\"A\"],\"lapsed\":0}",
-        ),
-        (
-            0,
-            2,
-            b"",
-            b">{\"day\":\"2025-01-08\",\"entries\":0,\"files\":[],\"lapsed\":2}",
-        ),
-        (
-            37,
-            0,
-            b"Z01",
-            b">{\"day\":\"2025-01-08\",\"entries\":37,\"files\":[\"Z\",\"0\",\"1\"],\"lapsed\":0}",
-        ),
-    ];
-    for (entries, lapsed, files, body) in rows {
+fn cuts(rt: HostRuntime) {
+    for &(entries, lapsed, files, body) in CUTS {
         let cut = CutSummary {
-            day: day(b"2025-01-08")?,
+            day: day(&rt, b"2025-01-08"),
             entries,
-            files: ListOf::new(Vec::from_slice(rt.alloc(), files)?),
+            files: list(&rt, files),
             lapsed,
         };
-        let text = body_of(rt.alloc(), Outcome::Cut(cut))?;
-        assert!(rt; text.as_slice() == body);
+        says(&rt, Outcome::Cut(cut), body);
     }
-    Ok(())
-}
-
-// With all files of a day, and numbers of twenty digits.
-#[test]
-fn the_longest_cut(rt: HostRuntime) -> Result<(), Fail> {
-    let files = b"ABCDEFGHIJKLMNOPQRSTUVWXYZ0123456789";
-    let cut = CutSummary {
-        day: day(b"2025-01-08")?,
-        entries: u64::MAX,
-        files: ListOf::new(Vec::from_slice(rt.alloc(), files)?),
-        lapsed: u64::MAX,
-    };
-    let text = body_of(rt.alloc(), Outcome::Cut(cut))?;
-    let body =
-        b">{\"day\":\"2025-01-08\",\"entries\":18446744073709551615,\"files\":[\"A\",\"B\",\"C\",\"D\",\"E\",\"F\",\"G\",\"H\",\"I\",\"J\",\"K\",\"L\",\"M\",\"N\",\"O\",\"P\",\"Q\",\"R\",\"S\",\"T\",\"U\",\"V\",\"W\",\"X\",\"Y\",\"Z\",\"0\",\"1\",\"2\",\"3\",\"4\",\"5\",\"6\",\"7\",\"8\",\"9\"],\"lapsed\":18446744073709551615}";
-    assert!(rt; text.as_slice() == body.as_slice());
-    Ok(())
 }
 
 #[test]
-fn a_file_that_was_taken(rt: HostRuntime) -> Result<(), Fail> {
+fn a_file_that_was_taken(rt: HostRuntime) {
     let intake = Intake {
         changes: 0,
-        day: day(b"2025-01-14")?,
+        day: day(&rt, b"2025-01-14"),
         late: 0,
         returns: 1,
         suspense: 0,
     };
-    let text = body_of(rt.alloc(), Outcome::Taken(intake))?;
     let body = b">{\"changes\":0,\"day\":\"2025-01-14\",\"late\":0,\"returns\":1,\"suspense\":0}";
-    assert!(rt; text.as_slice() == body.as_slice());
-    Ok(())
+    says(&rt, Outcome::Taken(intake), body);
 }

@@ -1,37 +1,44 @@
 //! Files that a cut made.
-use super::{body_of, body_of_answer};
-use desk_history::{Answer, Call, ListOf, Outcome};
+use super::{body_of, list};
+use desk_history::{Answer, Call, Outcome};
 use http::StatusCode;
 use http_answers::{CallKind, content_of, kind_of_call, status_of};
 use http_response::Content;
-use std::test::Fail;
+use std::alloc::Global;
+use std::process::Abort;
 
-#[test]
-fn a_file_is_its_text(rt: HostRuntime) -> Result<(), Fail> {
-    let file = Vec::from_slice(rt.alloc(), b"101 061000146\n\"9\n")?;
-    let answer = Answer::Done(Outcome::File(Some(ListOf::new(file))));
-    assert!(rt; content_of(&answer) == Content::PlainText);
-    assert!(rt; status_of(CallKind::LooksUp, &answer) == StatusCode::OK);
-    let text = body_of_answer(rt.alloc(), answer)?;
-    assert!(rt; text.as_slice() == b">101 061000146\n\"9\n".as_slice());
-    Ok(())
+/// The answer to who looked a file up has this form, status and body.
+fn looks_up(
+    rt: &(impl Abort + Alloc<A = Global>),
+    answer: Answer,
+    content: Content,
+    status: StatusCode,
+    body: &[u8],
+) {
+    assert!(rt; content_of(&answer) == content);
+    assert!(rt; status_of(CallKind::LooksUp, &answer) == status);
+    assert!(rt; body_of(rt, answer).as_slice() == body);
 }
 
 #[test]
-fn no_file(rt: HostRuntime) -> Result<(), Fail> {
-    let text = body_of(rt.alloc(), Outcome::File(None))?;
-    assert!(rt; text.as_slice() == b">{\"error\":\"NoFile\"}".as_slice());
+fn a_file_is_its_text(rt: HostRuntime) {
+    let file = list(&rt, b"101 061000146\n\"9\n");
+    let answer = Answer::Done(Outcome::File(Some(file)));
+    let body = b">101 061000146\n\"9\n";
+    looks_up(&rt, answer, Content::PlainText, StatusCode::OK, body);
+}
+
+#[test]
+fn no_file(rt: HostRuntime) {
     let answer = Answer::Done(Outcome::File(None));
-    assert!(rt; content_of(&answer) == Content::Json);
-    assert!(rt; status_of(CallKind::LooksUp, &answer) == StatusCode::NOT_FOUND);
-    Ok(())
+    let body = b">{\"error\":\"NoFile\"}";
+    looks_up(&rt, answer, Content::Json, StatusCode::NOT_FOUND, body);
 }
 
 #[test]
-fn what_is_created(rt: HostRuntime) -> Result<(), Fail> {
+fn what_is_created(rt: HostRuntime) {
     let answer = Answer::Done(Outcome::Holidays(1));
     assert!(rt; kind_of_call(&Call::Cut) == CallKind::Other);
     assert!(rt; status_of(CallKind::Other, &answer) == StatusCode::OK);
     assert!(rt; status_of(CallKind::Creates, &answer) == StatusCode::CREATED);
-    Ok(())
 }

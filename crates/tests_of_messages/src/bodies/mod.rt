@@ -1,4 +1,4 @@
-//! Several tests write bodies, and take these days and references.
+//! Several tests compare bodies, and take these days, references and lists.
 mod commands;
 mod company;
 mod files;
@@ -7,34 +7,38 @@ mod refusals;
 
 use ach_fields::{Cents, Ref};
 use bank_days::Day;
-use desk_history::{Answer, Outcome};
+use desk_history::{Answer, ListOf, Outcome};
 use http_answers::{BODY_ROOM, write_answer};
 use std::alloc::Global;
-use std::test::Fail;
+use std::process::Abort;
 
-/// The body of what was done, after a byte that stands before it.
-fn body_of(alloc: Global, outcome: Outcome) -> Result<Vec<u8>, Fail> {
-    body_of_answer(alloc, Answer::Done(outcome))
+/// The body of an answer, after a byte that stands before it.
+fn body_of(rt: &(impl Abort + Alloc<A = Global>), answer: Answer) -> Vec<u8> {
+    let mut text = Vec::with_capacity(rt.alloc(), 1 + BODY_ROOM).expect(rt, "memory");
+    text.push(b'>').expect(rt, "memory");
+    assert!(rt; text.capacity() - text.len() >= BODY_ROOM);
+    write_answer(rt.alloc(), &mut text, answer).expect(rt, "memory");
+    text
 }
 
-fn body_of_answer(alloc: Global, answer: Answer) -> Result<Vec<u8>, Fail> {
-    let mut text = Vec::with_capacity(alloc, 1 + BODY_ROOM)?;
-    text.push(b'>')?;
-    if text.capacity() - text.len() < BODY_ROOM {
-        return Err(Fail::from("room"));
-    }
-    write_answer(alloc, &mut text, answer)?;
-    Ok(text)
+/// What was done or found has this body.
+fn says(rt: &(impl Abort + Alloc<A = Global>), outcome: Outcome, body: &[u8]) {
+    let text = body_of(rt, Answer::Done(outcome));
+    assert!(rt; text.as_slice() == body);
 }
 
-fn day(text: &[u8]) -> Result<Day, Fail> {
-    Ok(Day::read(text).ok_or("day")?)
+fn day(rt: &impl Abort, text: &[u8]) -> Day {
+    Day::read(text).expect(rt, "a day")
 }
 
-fn reference(text: &[u8]) -> Result<Ref, Fail> {
-    Ok(Ref::new(text).map_err(|_| "reference")?)
+fn reference(rt: &impl Abort, text: &[u8]) -> Ref {
+    Ref::new(text).expect(rt, "a reference")
 }
 
-fn cents(cents: u64) -> Result<Cents, Fail> {
-    Ok(Cents::new(cents).ok_or("cents")?)
+fn cents(rt: &impl Abort, cents: u64) -> Cents {
+    Cents::new(cents).expect(rt, "cents")
+}
+
+fn list<T: Copy>(rt: &(impl Abort + Alloc<A = Global>), items: &[T]) -> ListOf<T> {
+    ListOf::new(Vec::from_slice(rt.alloc(), items).expect(rt, "memory"))
 }

@@ -1,109 +1,139 @@
 //! Readers and writers that fail, or are interrupted.
 use crate::sessions::readers::Pieces;
-use crate::sessions::texts::{ABC, EMPTY, GET, POST_ABC, join_texts, run, sink};
+use crate::sessions::texts::{ABC, EMPTY, GET, POST_ABC, front, join_texts, runs, sink};
 use http_session::{Ended, SessionFault};
-use std::test::Fail;
+use std::alloc::Global;
+use std::process::Abort;
+
+/// Here end a GET, a POST and a GET.
+const FIRST: usize = GET.len();
+
+const SECOND: usize = GET.len() + POST_ABC.len();
+
+const THIRD: usize = 2 * GET.len() + POST_ABC.len();
+
+/// The answers that are written where so many of their bytes are read.
+fn answers_to(read: usize) -> &'static [&'static [u8]] {
+    if read < FIRST {
+        &[]
+    } else if read < SECOND {
+        &[EMPTY]
+    } else if read < THIRD {
+        &[EMPTY, ABC]
+    } else {
+        &[EMPTY, ABC, EMPTY]
+    }
+}
 
 /// The k-th read fails, for each k: what was written are the answers to the messages that were whole.
 #[test]
-fn tells_a_read_that_fails(rt: HostRuntime) -> Result<(), Fail> {
+fn tells_a_read_that_fails(rt: HostRuntime) {
     let bytes = join_texts(&rt, &[GET, POST_ABC, GET]);
-    let second = GET.len() + POST_ABC.len();
     for good in 0..25 {
-        let given = (good as usize * 6).min(bytes.len());
-        let wanted = if given < GET.len() {
-            join_texts(&rt, &[])
-        } else if given < second {
-            join_texts(&rt, &[EMPTY])
-        } else if given < bytes.len() {
-            join_texts(&rt, &[EMPTY, ABC])
-        } else {
-            join_texts(&rt, &[EMPTY, ABC, EMPTY])
-        };
-        let mut reader = Pieces::new(&bytes, 6);
-        reader.good = good;
-        let mut writer = sink(&rt);
-        let ended = run(&rt, &mut reader, &mut writer);
-        let end = if good as usize * 6 < bytes.len() + 6 {
+        let read = good as usize * 6;
+        let end = if read < bytes.len() + 6 {
             Err(SessionFault::Read)
         } else {
             Ok(Ended::Closed)
         };
-        assert!(rt; ended == end);
-        assert!(rt; writer.taken == wanted);
+        let mut reader = Pieces::new(&bytes, 6);
+        reader.good = good;
+        let written = join_texts(&rt, answers_to(read));
+        runs(&rt, front(&rt), reader, sink(&rt), end, &written);
     }
-    Ok(())
 }
 
-/// A writer fails after j bytes, for each j of two answers: just these were written.
+/// A writer that takes at most so many bytes a write fails after so many: just these were written.
+fn tells_a_full_writer(rt: &(impl Abort + Alloc<A = Global>), room: usize, most: usize) {
+    let bytes = join_texts(rt, &[POST_ABC, GET, GET]);
+    let answers = join_texts(rt, &[ABC, EMPTY, EMPTY]);
+    let mut writer = sink(rt);
+    writer.room = room;
+    writer.most = most;
+    let written = answers.get(..room).expect(rt, "no more than the answers");
+    let reader = Pieces::new(&bytes, 50);
+    runs(
+        rt,
+        front(rt),
+        reader,
+        writer,
+        Err(SessionFault::Write),
+        written,
+    );
+}
+
+/// A writer fails after j bytes, for each j of two answers.
 #[test]
-fn tells_a_write_that_fails(rt: HostRuntime) -> Result<(), Fail> {
-    let bytes = join_texts(&rt, &[POST_ABC, GET, GET]);
-    let answers = join_texts(&rt, &[ABC, EMPTY, EMPTY]);
+fn tells_a_write_that_fails(rt: HostRuntime) {
     for room in 0..ABC.len() + EMPTY.len() {
-        for most in [1, 13, usize::MAX] {
-            let mut writer = sink(&rt);
-            writer.room = room;
-            writer.most = most;
-            let ended = run(&rt, &mut Pieces::new(&bytes, 50), &mut writer);
-            assert!(rt; ended == Err(SessionFault::Write));
-            assert!(rt; room <= answers.len());
-            assert!(rt; writer.taken.as_slice() == &answers[..room]);
-        }
+        tells_a_full_writer(&rt, room, 1);
+        tells_a_full_writer(&rt, room, 13);
+        tells_a_full_writer(&rt, room, usize::MAX);
     }
-    Ok(())
 }
 
 /// A write that takes none of its bytes has failed.
 #[test]
-fn tells_a_write_that_takes_nothing(rt: HostRuntime) -> Result<(), Fail> {
+fn tells_a_write_that_takes_nothing(rt: HostRuntime) {
     let mut writer = sink(&rt);
     writer.most = 0;
-    let ended = run(&rt, &mut Pieces::new(GET, 50), &mut writer);
-    assert!(rt; ended == Err(SessionFault::Write));
-    assert!(rt; writer.taken.len() == 0);
-    Ok(())
+    let reader = Pieces::new(GET, 50);
+    runs(
+        &rt,
+        front(&rt),
+        reader,
+        writer,
+        Err(SessionFault::Write),
+        b"",
+    );
 }
+
+/// How many flushes are good, and the answers that are written.
+const FLUSHES: &[(u32, &[&[u8]])] = &[(0, &[ABC]), (1, &[ABC, EMPTY]), (2, &[ABC, EMPTY, EMPTY])];
 
 /// A flush that fails is a write that failed, though the writer took the whole answer: nothing more is
 /// answered.
 #[test]
-fn tells_a_flush_that_fails(rt: HostRuntime) -> Result<(), Fail> {
+fn tells_a_flush_that_fails(rt: HostRuntime) {
     let bytes = join_texts(&rt, &[POST_ABC, GET, GET]);
-    let answers: [&[&[u8]]; 3] = [&[ABC], &[ABC, EMPTY], &[ABC, EMPTY, EMPTY]];
-    for good in 0..3 {
+    for &(good, answers) in FLUSHES {
         let mut writer = sink(&rt);
         writer.good_flushes = good;
-        let ended = run(&rt, &mut Pieces::new(&bytes, 50), &mut writer);
-        assert!(rt; ended == Err(SessionFault::Write));
-        assert!(rt; writer.taken == join_texts(&rt, answers[good as usize]));
+        let written = join_texts(&rt, answers);
+        let reader = Pieces::new(&bytes, 50);
+        runs(
+            &rt,
+            front(&rt),
+            reader,
+            writer,
+            Err(SessionFault::Write),
+            &written,
+        );
     }
-    Ok(())
 }
+
+/// The interruptions of reads, of writes and of flushes, how the session ends, and what it wrote.
+const INTERRUPTIONS: &[(u32, u32, u32, Result<Ended, SessionFault>, &[u8])] = &[
+    (1_000, 0, 0, Ok(Ended::Closed), EMPTY),
+    (1_001, 0, 0, Err(SessionFault::Read), b""),
+    (0, 1_000, 0, Ok(Ended::Closed), EMPTY),
+    (0, 1_001, 0, Err(SessionFault::Write), b""),
+    (0, 0, 1_000, Ok(Ended::Closed), EMPTY),
+    (0, 0, 1_001, Err(SessionFault::Write), EMPTY),
+    (400, 600, 0, Ok(Ended::Closed), EMPTY),
+    (400, 601, 0, Err(SessionFault::Write), b""),
+    (400, 300, 301, Err(SessionFault::Write), EMPTY),
+];
 
 /// A session bears 1,000 interruptions of reads, writes and flushes together, and no more.
 #[test]
-fn bears_a_thousand_interruptions(rt: HostRuntime) -> Result<(), Fail> {
-    let cases: [(u32, u32, u32, Result<Ended, SessionFault>, &[u8]); 9] = [
-        (1_000, 0, 0, Ok(Ended::Closed), EMPTY),
-        (1_001, 0, 0, Err(SessionFault::Read), b""),
-        (0, 1_000, 0, Ok(Ended::Closed), EMPTY),
-        (0, 1_001, 0, Err(SessionFault::Write), b""),
-        (0, 0, 1_000, Ok(Ended::Closed), EMPTY),
-        (0, 0, 1_001, Err(SessionFault::Write), EMPTY),
-        (400, 600, 0, Ok(Ended::Closed), EMPTY),
-        (400, 601, 0, Err(SessionFault::Write), b""),
-        (400, 300, 301, Err(SessionFault::Write), EMPTY),
-    ];
-    for (reads, writes, flushes, end, written) in cases {
+fn bears_a_thousand_interruptions(rt: HostRuntime) {
+    for &(reads, writes, flushes, end, written) in INTERRUPTIONS {
         let mut reader = Pieces::new(GET, 9);
         reader.interruptions = reads;
         let mut writer = sink(&rt);
         writer.interruptions = writes;
         writer.flush_interruptions = flushes;
-        let ended = run(&rt, &mut reader, &mut writer);
-        assert!(rt; ended == end);
-        assert!(rt; writer.taken.as_slice() == written);
+        runs(&rt, front(&rt), reader, writer, end, written);
     }
-    Ok(())
 }

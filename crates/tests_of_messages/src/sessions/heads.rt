@@ -14,19 +14,7 @@ fn head_of(rt: &(impl Abort + Alloc<A = Global>), start: &[u8], size: usize) -> 
     head
 }
 
-/// A head has at most 16,384 bytes, with the empty lines before it.
-#[test]
-fn takes_heads_to_their_size(rt: HostRuntime) {
-    let cases: [(usize, &[&[u8]]); 2] = [(16_384, &[EMPTY, EMPTY]), (16_385, &[BAD_HEAD])];
-    for start in [b"".as_slice(), b"\r\n\n\r\n".as_slice()] {
-        for (size, answers) in cases {
-            let head = head_of(&rt, start, size);
-            assert!(rt; head.len() == size);
-            ends_by_reads(&rt, &[&head, GET], Ended::Closed, answers);
-        }
-    }
-}
-
+/// It is so where a read gives a byte, many or all.
 fn ends_by_reads(
     rt: &(impl Abort + Alloc<A = Global>),
     texts: &[&[u8]],
@@ -38,17 +26,37 @@ fn ends_by_reads(
     }
 }
 
+/// A beginning, a size, and what is written for a head of these and a GET.
+const SIZES: &[(&[u8], usize, &[&[u8]])] = &[
+    (b"", 16_384, &[EMPTY, EMPTY]),
+    (b"", 16_385, &[BAD_HEAD]),
+    (b"\r\n\n\r\n", 16_384, &[EMPTY, EMPTY]),
+    (b"\r\n\n\r\n", 16_385, &[BAD_HEAD]),
+];
+
+/// A head has at most 16,384 bytes, with the empty lines before it.
+#[test]
+fn takes_heads_to_their_size(rt: HostRuntime) {
+    for &(start, size, answers) in SIZES {
+        let head = head_of(&rt, start, size);
+        assert!(rt; head.len() == size);
+        ends_by_reads(&rt, &[&head, GET], Ended::Closed, answers);
+    }
+}
+
+/// A byte, how many of it are sent, how the session ends, and what it writes.
+const ENDLESS: &[(&[u8], usize, Ended, &[u8])] = &[
+    (b"G", 16_383, Ended::Cut, b""),
+    (b"G", 16_385, Ended::Closed, BAD_HEAD),
+    (b"\n", 16_383, Ended::Cut, b""),
+    (b"\n", 16_385, Ended::Closed, BAD_HEAD),
+];
+
 /// 16,384 bytes without a whole head are a bad head; one less that end are cut.
 #[test]
 fn tells_heads_without_an_end(rt: HostRuntime) {
-    let cases: [(usize, Ended, &[u8]); 2] = [
-        (16_383, Ended::Cut, b""),
-        (16_385, Ended::Closed, BAD_HEAD),
-    ];
-    for byte in [b"G".as_slice(), b"\n".as_slice()] {
-        for (count, end, answer) in cases {
-            ends_by_reads(&rt, &[&many(&rt, byte, count)], end, &[answer]);
-        }
+    for &(byte, count, end, answer) in ENDLESS {
+        ends_by_reads(&rt, &[&many(&rt, byte, count)], end, &[answer]);
     }
 }
 
@@ -62,15 +70,16 @@ fn takes_heads_of_thirty_two_fields(rt: HostRuntime) {
     }
 }
 
+const NOT_ASCII: &[(&[u8], &[u8])] = &[
+    (b"GET /c/X/rates HTTP/1.1\r\nA: \xff\xfe\r\n\r\n", EMPTY),
+    (b"GET /c/\xc3\xa9/rates HTTP/1.1\r\n\r\n", EMPTY),
+    (b"GET /c/\xff/rates HTTP/1.1\r\n\r\n", BAD_HEAD),
+];
+
 /// Bytes over 127 may stand in values and bodies, and in a target where it is UTF-8.
 #[test]
 fn takes_bytes_that_are_not_ascii(rt: HostRuntime) {
-    let cases: [(&[u8], &[u8]); 3] = [
-        (b"GET /c/X/rates HTTP/1.1\r\nA: \xff\xfe\r\n\r\n", EMPTY),
-        (b"GET /c/\xc3\xa9/rates HTTP/1.1\r\n\r\n", EMPTY),
-        (b"GET /c/\xff/rates HTTP/1.1\r\n\r\n", BAD_HEAD),
-    ];
-    for (bytes, answer) in cases {
+    for &(bytes, answer) in NOT_ASCII {
         ends_over_pieces(&rt, &[bytes], usize::MAX, Ended::Closed, &[answer]);
     }
 }

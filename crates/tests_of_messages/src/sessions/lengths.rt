@@ -1,70 +1,72 @@
 //! What heads say of their bodies.
 use crate::sessions::texts::{
-    ABC, BAD_HEAD, EMPTY, GET, LENGTH_REQUIRED, TOO_LARGE, ends, ends_over_pieces, join_texts,
-    many, over_pieces,
+    ABC, BAD_HEAD, EMPTY, GET, LENGTH_REQUIRED, TOO_LARGE, ends, ends_over_pieces, many,
 };
 use http_session::Ended;
 
 /// What is written for a POST with these fields, then the bytes `abc`, then a GET.
+const LENGTHS: &[(&[u8], &[&[u8]])] = &[
+    (b"Content-Length: 3\r\n", &[ABC, EMPTY]),
+    (b"content-LENGTH:   3  \r\n", &[ABC, EMPTY]),
+    (
+        b"Content-Length: 00000000000000000000003\r\n",
+        &[ABC, EMPTY],
+    ),
+    (b"Content-Length: +5\r\n", &[BAD_HEAD]),
+    (b"Content-Length:\r\n", &[BAD_HEAD]),
+    (b"Content-Length: 5, 5\r\n", &[BAD_HEAD]),
+    (b"Content-Length: 3x\r\n", &[BAD_HEAD]),
+    (b"Content-Length: -3\r\n", &[BAD_HEAD]),
+    (b"Content-Length: 3\r\nContent-Length: 3\r\n", &[BAD_HEAD]),
+    (b"Content-Length: 3\r\ncontent-length: x\r\n", &[BAD_HEAD]),
+    (b"", &[LENGTH_REQUIRED]),
+    (b"Transfer-Encoding: chunked\r\n", &[LENGTH_REQUIRED]),
+    (
+        b"Transfer-Encoding: chunked\r\nContent-Length: 3\r\n",
+        &[LENGTH_REQUIRED],
+    ),
+    (
+        b"Transfer-Encoding:\r\nContent-Length: 4194305\r\n",
+        &[LENGTH_REQUIRED],
+    ),
+    (
+        b"Transfer-Encoding: chunked\r\nContent-Length: x\r\n",
+        &[BAD_HEAD],
+    ),
+    (b"Content-Length: 4194305\r\n", &[TOO_LARGE]),
+    (b"Content-Length: 99999999999999999999\r\n", &[TOO_LARGE]),
+    (b"Content-Length: 18446744073709551619\r\n", &[TOO_LARGE]),
+];
+
 #[test]
 fn reads_bodies_by_their_lengths(rt: HostRuntime) {
-    let cases: [(&[u8], &[&[u8]]); 18] = [
-        (b"Content-Length: 3\r\n", &[ABC, EMPTY]),
-        (b"content-LENGTH:   3  \r\n", &[ABC, EMPTY]),
-        (
-            b"Content-Length: 00000000000000000000003\r\n",
-            &[ABC, EMPTY],
-        ),
-        (b"Content-Length: +5\r\n", &[BAD_HEAD]),
-        (b"Content-Length:\r\n", &[BAD_HEAD]),
-        (b"Content-Length: 5, 5\r\n", &[BAD_HEAD]),
-        (b"Content-Length: 3x\r\n", &[BAD_HEAD]),
-        (b"Content-Length: -3\r\n", &[BAD_HEAD]),
-        (b"Content-Length: 3\r\nContent-Length: 3\r\n", &[BAD_HEAD]),
-        (b"Content-Length: 3\r\ncontent-length: x\r\n", &[BAD_HEAD]),
-        (b"", &[LENGTH_REQUIRED]),
-        (b"Transfer-Encoding: chunked\r\n", &[LENGTH_REQUIRED]),
-        (
-            b"Transfer-Encoding: chunked\r\nContent-Length: 3\r\n",
-            &[LENGTH_REQUIRED],
-        ),
-        (
-            b"Transfer-Encoding:\r\nContent-Length: 4194305\r\n",
-            &[LENGTH_REQUIRED],
-        ),
-        (
-            b"Transfer-Encoding: chunked\r\nContent-Length: x\r\n",
-            &[BAD_HEAD],
-        ),
-        (b"Content-Length: 4194305\r\n", &[TOO_LARGE]),
-        (b"Content-Length: 99999999999999999999\r\n", &[TOO_LARGE]),
-        (b"Content-Length: 18446744073709551619\r\n", &[TOO_LARGE]),
-    ];
-    for (fields, answers) in cases {
+    for &(fields, answers) in LENGTHS {
         let texts: [&[u8]; 4] = [b"POST /ops/returns HTTP/1.1\r\n", fields, b"\r\nabc", GET];
         ends(&rt, &texts, Ended::Closed, answers);
     }
 }
 
+/// What is written for these messages, and then a GET.
+const GETS: &[(&[u8], &[&[u8]])] = &[
+    (b"GET /ops/settlement HTTP/1.1\r\n\r\n", &[EMPTY, EMPTY]),
+    (
+        b"GET /ops/settlement HTTP/1.1\r\nContent-Length: 3\r\n\r\nabc",
+        &[ABC, EMPTY],
+    ),
+    (
+        b"GET /ops/settlement HTTP/1.1\r\nContent-Length: 4194305\r\n\r\nabc",
+        &[TOO_LARGE],
+    ),
+    (
+        b"GET /ops/settlement HTTP/1.1\r\nTransfer-Encoding: chunked\r\n\r\n",
+        &[LENGTH_REQUIRED],
+    ),
+];
+
 /// Another method than POST has no body where it has no length; a GET's body is read.
 #[test]
 fn reads_bodies_of_every_method(rt: HostRuntime) {
-    let cases: [(&[u8], &[&[u8]]); 4] = [
-        (b"GET /ops/settlement HTTP/1.1\r\n\r\n", &[EMPTY, EMPTY]),
-        (
-            b"GET /ops/settlement HTTP/1.1\r\nContent-Length: 3\r\n\r\nabc",
-            &[ABC, EMPTY],
-        ),
-        (
-            b"GET /ops/settlement HTTP/1.1\r\nContent-Length: 4194305\r\n\r\nabc",
-            &[TOO_LARGE],
-        ),
-        (
-            b"GET /ops/settlement HTTP/1.1\r\nTransfer-Encoding: chunked\r\n\r\n",
-            &[LENGTH_REQUIRED],
-        ),
-    ];
-    for (text, answers) in cases {
+    for &(text, answers) in GETS {
         ends_over_pieces(&rt, &[text, GET], usize::MAX, Ended::Closed, answers);
     }
 }
@@ -83,7 +85,5 @@ fn reads_the_longest_body(rt: HostRuntime) {
         &body,
         EMPTY,
     ];
-    let (ended, written) = over_pieces(&rt, &join_texts(&rt, &texts), 10_000);
-    assert!(rt; ended == Ok(Ended::Closed));
-    assert!(rt; written == join_texts(&rt, &answers));
+    ends_over_pieces(&rt, &texts, 10_000, Ended::Closed, &answers);
 }

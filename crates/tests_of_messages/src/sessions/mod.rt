@@ -6,5 +6,5 @@ mod heads;
 mod lengths;
 mod readers;
 mod routes;
-mod texts;
+pub mod texts;
 mod writers;

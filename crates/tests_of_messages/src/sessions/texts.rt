@@ -6,7 +6,6 @@ use http_routes::Routes;
 use http_session::{Ended, SessionFault, session};
 use io_retries::Tries;
 use std::alloc::Global;
-use std::io::{Read, Write};
 use std::process::Abort;
 
 pub const UNAVAILABLE: &[u8] =
@@ -46,7 +45,7 @@ pub const GET: &[u8] = b"GET /c/MILL01/rates HTTP/1.1\r\nA: b c d\r\n\r\n";
 pub const POST_ABC: &[u8] = b"POST /ops/returns HTTP/1.1\r\nContent-Length: 3\r\n\r\nabc";
 
 pub fn add(rt: &impl Abort, out: &mut Vec<u8>, bytes: &[u8]) {
-    out.extend_from_slice(bytes).ok().expect(rt, "memory");
+    out.extend_from_slice(bytes).expect(rt, "memory");
 }
 
 /// Joins the texts, one after another.
@@ -69,7 +68,7 @@ pub fn many(rt: &(impl Abort + Alloc<A = Global>), text: &[u8], count: usize) ->
 
 pub fn front(rt: &(impl Abort + Alloc<A = Global>)) -> Front {
     Front {
-        routes: Routes::new(rt.alloc()).ok().expect(rt, "memory"),
+        routes: Routes::new(rt.alloc()).expect(rt, "memory"),
         left: usize::MAX,
     }
 }
@@ -85,26 +84,24 @@ pub fn sink(rt: &(impl Abort + Alloc<A = Global>)) -> Sink {
     }
 }
 
-/// How a session ends, and what it wrote.
-pub fn run<R: Read, W: Write>(
+/// A session with this desk, reader and writer ends so, and the writer took these bytes.
+pub fn runs(
     rt: &(impl Abort + Alloc<A = Global>),
-    reader: &mut R,
-    writer: &mut W,
-) -> Result<Ended, SessionFault> {
-    let mut front = front(rt);
-    session(rt.alloc(), &mut front, reader, writer, &mut Tries::new())
-}
-
-/// How a session over the bytes ends, and what it wrote, where a read gives at most so many.
-pub fn over_pieces(
-    rt: &(impl Abort + Alloc<A = Global>),
-    bytes: &[u8],
-    most: usize,
-) -> (Result<Ended, SessionFault>, Vec<u8>) {
-    let mut writer = sink(rt);
-    let ended = run(rt, &mut Pieces::new(bytes, most), &mut writer);
-    let Sink { taken, .. } = writer;
-    (ended, taken)
+    mut desk: Front,
+    mut reader: Pieces<'_>,
+    mut writer: Sink,
+    end: Result<Ended, SessionFault>,
+    written: &[u8],
+) {
+    let (text, _) = reader.bytes.split_at(reader.bytes.len().min(80));
+    let most = reader.most;
+    let mut tries = Tries::new();
+    let ended = session(rt.alloc(), &mut desk, &mut reader, &mut writer, &mut tries);
+    assert!(rt; ended == end, "{ended:?}: {text:?}.. in pieces of {most}");
+    assert!(rt;
+        writer.taken.as_slice() == written,
+        "{text:?}.. in pieces of {most}"
+    );
 }
 
 /// A session over the texts, joined, ends so and writes these answers, where a read gives at most so
@@ -116,9 +113,10 @@ pub fn ends_over_pieces(
     end: Ended,
     answers: &[&[u8]],
 ) {
-    let (ended, written) = over_pieces(rt, &join_texts(rt, texts), most);
-    assert!(rt; ended == Ok(end), "in pieces of {most}");
-    assert!(rt; written == join_texts(rt, answers), "in pieces of {most}");
+    let bytes = join_texts(rt, texts);
+    let written = join_texts(rt, answers);
+    let reader = Pieces::new(&bytes, most);
+    runs(rt, front(rt), reader, sink(rt), Ok(end), &written);
 }
 
 /// So it is in one read and in many.

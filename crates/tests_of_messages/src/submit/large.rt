@@ -1,8 +1,7 @@
 //! Long lists, and lists at the limit of bytes.
-use super::{HEADER, OPTIONS, fault_of};
+use super::{HEADER, OPTIONS, fails, list_makes};
+use crate::sessions::texts::{join_texts, many};
 use cli_submit::{InputFault, submit_message};
-use std::alloc::{AllocError, Global};
-use std::test::Fail;
 
 /// A row, and what it has in a body, without a comma.
 const ROW: &[u8] = b"1,2,3,,4,5,6,\n";
@@ -13,62 +12,40 @@ const ENTRY: &[u8] =
 /// A body without entries has so many bytes.
 const EMPTY_BODY: usize = 104;
 
-// The header and so many copies of a row.
-fn copies(alloc: Global, count: usize) -> Result<Vec<u8>, AllocError> {
-    let mut list = Vec::from_slice(alloc, HEADER)?;
-    for _ in 0..count {
-        list.extend_from_slice(ROW)?;
-    }
-    Ok(list)
-}
+/// So the body of a list of such rows ends.
+const END: &[u8] =
+    b"},{\"account\":\"2\",\"cents\":4,\"id\":\"5\",\"kind\":\"3\",\"name\":\"6\",\"routing\":\"1\"}],\"ref\":\"PAY-1\",\"sec\":\"PPD\"}";
 
-// The header and blank lines after it, up to a length.
-fn blank_lines(alloc: Global, len: usize) -> Result<Vec<u8>, AllocError> {
-    let mut list = Vec::from_slice(alloc, HEADER)?;
-    let more = len.saturating_sub(list.len());
-    for _ in 0..more {
-        list.push(b'\n')?;
-    }
-    Ok(list)
-}
+/// How many rows there are, and how many bytes the body has.
+const SIZES: &[(usize, usize)] = &[
+    (1_000, EMPTY_BODY + 1_000 * (ENTRY.len() + 1) - 1),
+    (1_001, EMPTY_BODY + 1_001 * (ENTRY.len() + 1) - 1),
+];
 
 // A desk takes 1,000 entries and refuses one more, so the message of that is made too.
 #[test]
-fn a_thousand_rows_and_one_more(rt: HostRuntime) -> Result<(), Fail> {
-    for count in [1_000, 1_001] {
-        let list = copies(rt.alloc(), count)?;
-        let message = submit_message(rt.alloc(), &OPTIONS, list.as_slice())?;
+fn a_thousand_rows_and_one_more(rt: HostRuntime) {
+    for &(count, size) in SIZES {
+        let list = join_texts(&rt, &[HEADER, &many(&rt, ROW, count)]);
+        let message = submit_message(rt.alloc(), &OPTIONS, &list).expect(&rt, "a message");
         let text = message.as_slice();
-        let body = text
-            .split_at(
-                text.len()
-                    .saturating_sub(EMPTY_BODY + count * (ENTRY.len() + 1) - 1),
-            )
-            .1;
+        let body = text.split_at(text.len().saturating_sub(size)).1;
         assert!(rt; body.starts_with(b"{\"day\":"), "{count}");
-        assert!(rt;
-            text.ends_with(
-                b"},{\"account\":\"2\",\"cents\":4,\"id\":\"5\",\"kind\":\"3\",\"name\":\"6\",\"routing\":\"1\"}],\"ref\":\"PAY-1\",\"sec\":\"PPD\"}"
-            ),
-            "{count}"
-        );
+        assert!(rt; body.ends_with(END), "{count}");
     }
-    Ok(())
 }
 
+/// A list has at most so many bytes.
+const MOST: usize = 4_194_304;
+
+/// So many blank lines stand under the header of a list of the most bytes.
+const LINES: usize = MOST - HEADER.len();
+
 #[test]
-fn the_most_bytes_and_one_more(rt: HostRuntime) -> Result<(), Fail> {
-    let alloc = rt.alloc();
-    let most = blank_lines(alloc, 4_194_304)?;
-    assert!(rt; most.len() == 4_194_304);
-    assert!(rt; fault_of(alloc, most.as_slice()).is_none());
-    let message = submit_message(alloc, &OPTIONS, most.as_slice())?;
-    assert!(rt;
-        message
-            .as_slice()
-            .ends_with(b"\"entries\":[],\"ref\":\"PAY-1\",\"sec\":\"PPD\"}")
-    );
-    let more = blank_lines(alloc, 4_194_305)?;
-    assert!(rt; fault_of(alloc, more.as_slice()) == Some(InputFault::TooLarge));
-    Ok(())
+fn the_most_bytes_and_one_more(rt: HostRuntime) {
+    let most = join_texts(&rt, &[HEADER, &many(&rt, b"\n", LINES)]);
+    assert!(rt; most.len() == MOST);
+    list_makes(&rt, &most, b"[]");
+    let more = join_texts(&rt, &[&most, b"\n"]);
+    fails(&rt, &OPTIONS, &more, InputFault::TooLarge);
 }

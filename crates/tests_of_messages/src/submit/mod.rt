@@ -1,11 +1,13 @@
-//! Several tests take these options, and look at the fault of a list.
+//! Several tests take these options, and look at the message or the fault of a list.
 mod large;
 mod messages;
 mod order;
 mod rows;
 
+use crate::sessions::texts::join_texts;
 use cli_submit::{InputFault, SubmitFault, SubmitOptions, submit_message};
 use std::alloc::Global;
+use std::process::Abort;
 
 /// The first row of each list.
 const HEADER: &[u8] = b"routing,account,kind,prenote,cents,id,name,info\n";
@@ -21,48 +23,53 @@ const OPTIONS: SubmitOptions<'static> = SubmitOptions {
     day: "2025-01-10",
 };
 
-// Why a list makes no message, if it makes none.
-fn fault_of(alloc: Global, list: &[u8]) -> Option<InputFault> {
-    match submit_message(alloc, &OPTIONS, list) {
-        Err(SubmitFault::Input(fault)) => Some(fault),
-        _ => None,
-    }
+/// What stands before the entries of a message's body, and behind them.
+const BEFORE: &[u8] =
+    b"\r\n\r\n{\"day\":\"2025-01-10\",\"description\":\"PAYROLL\",\"direction\":\"credit\",\"entries\":";
+
+const BEHIND: &[u8] = b",\"ref\":\"PAY-1\",\"sec\":\"PPD\"}";
+
+/// The list makes no message with these options, for this fault.
+fn fails(
+    rt: &(impl Abort + Alloc<A = Global>),
+    options: &SubmitOptions<'_>,
+    list: &[u8],
+    fault: InputFault,
+) {
+    let found = submit_message(rt.alloc(), options, list).err();
+    assert!(rt;
+        found == Some(SubmitFault::Input(fault)),
+        "{found:?}: not {fault:?}"
+    );
 }
 
-// Why these rows under the header make no message, if they make none.
-fn rows_fault(alloc: Global, rows: &[u8]) -> Option<InputFault> {
-    let mut list = Vec::new(alloc);
-    if list.extend_from_slice(HEADER).is_err() || list.extend_from_slice(rows).is_err() {
-        return None;
-    }
-    fault_of(alloc, list.as_slice())
+/// The list makes a message with these options, and so the message ends.
+fn ends(
+    rt: &(impl Abort + Alloc<A = Global>),
+    options: &SubmitOptions<'_>,
+    list: &[u8],
+    end: &[u8],
+) {
+    let message = submit_message(rt.alloc(), options, list).expect(rt, "a message");
+    assert!(rt; message.as_slice().ends_with(end), "{end:?}");
 }
 
-// Do these rows under the header make a message whose body has this list of entries?
-fn makes(alloc: Global, rows: &[u8], entries: &[u8]) -> bool {
-    let mut list = Vec::new(alloc);
-    if list.extend_from_slice(HEADER).is_err() || list.extend_from_slice(rows).is_err() {
-        return false;
-    }
-    list_makes(alloc, list.as_slice(), entries)
+/// The list makes a message whose body has this list of entries.
+fn list_makes(rt: &(impl Abort + Alloc<A = Global>), list: &[u8], entries: &[u8]) {
+    ends(
+        rt,
+        &OPTIONS,
+        list,
+        &join_texts(rt, &[BEFORE, entries, BEHIND]),
+    );
 }
 
-// Does this list make a message whose body has this list of entries?
-fn list_makes(alloc: Global, list: &[u8], entries: &[u8]) -> bool {
-    let before =
-        b"\r\n\r\n{\"day\":\"2025-01-10\",\"description\":\"PAYROLL\",\"direction\":\"credit\",\"entries\":";
-    let behind = b",\"ref\":\"PAY-1\",\"sec\":\"PPD\"}";
-    match submit_message(alloc, &OPTIONS, list) {
-        Ok(message) => {
-            let text = message.as_slice();
-            let Some(text) = text.strip_suffix(behind) else {
-                return false;
-            };
-            let Some(text) = text.strip_suffix(entries) else {
-                return false;
-            };
-            text.ends_with(before)
-        }
-        Err(_) => false,
+/// Rows and the list of entries in the body of the message that they make, under the header.
+type Made = (&'static [u8], &'static [u8]);
+
+/// All these rows make their entries.
+fn make(rt: &(impl Abort + Alloc<A = Global>), made: &[Made]) {
+    for &(rows, entries) in made {
+        list_makes(rt, &join_texts(rt, &[HEADER, rows]), entries);
     }
 }
