@@ -74,7 +74,8 @@ fn reads_bodies_of_every_method(rt: HostRuntime) {
 /// A body of 4,194,304 bytes is read whole.
 #[test]
 fn reads_the_longest_body(rt: HostRuntime) {
-    let body = many(&rt, b"x", 4_194_304);
+    let body = many(&rt, b"xxxxxxxxxxxxxxxx", 262_144);
+    assert!(rt; body.len() == 4_194_304);
     let texts: [&[u8]; 3] = [
         b"POST /ops/returns HTTP/1.1\r\nContent-Length: 4194304\r\n\r\n",
         &body,

@@ -38,12 +38,14 @@ fn a_thousand_rows_and_one_more(rt: HostRuntime) {
 /// A list has at most so many bytes.
 const MOST: usize = 4_194_304;
 
-/// So many blank lines stand under the header of a list of the most bytes.
-const LINES: usize = MOST - HEADER.len();
+/// So many times stand sixteen blank lines under the header of a list of the most bytes.
+const TIMES: usize = (MOST - HEADER.len()) / 16;
+
+const BLANKS: &[u8] = b"\n\n\n\n\n\n\n\n\n\n\n\n\n\n\n\n";
 
 #[test]
 fn the_most_bytes_and_one_more(rt: HostRuntime) {
-    let most = join_texts(&rt, &[HEADER, &many(&rt, b"\n", LINES)]);
+    let most = join_texts(&rt, &[HEADER, &many(&rt, BLANKS, TIMES)]);
     assert!(rt; most.len() == MOST);
     list_makes(&rt, &most, b"[]");
     let more = join_texts(&rt, &[&most, b"\n"]);
