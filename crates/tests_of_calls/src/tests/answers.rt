@@ -1,4 +1,5 @@
 //! The words in which a script writes an answer.
+use ach_fields::Ref;
 use bank_days::Day;
 use desk_core::{
     Answer, CallRefusal, ChangeRow, CompanyStatus, CutSummary, DayRates, DeskStatus, Exposure,
@@ -7,7 +8,7 @@ use desk_core::{
 };
 use desk_rules::{EntryState, Rate};
 use std::alloc::Global;
-use std::fmt::Write;
+use std::fmt::{Debug, Display, Write};
 use std::process::Abort;
 
 fn put(rt: &impl Abort, out: &mut String, text: &str) {
@@ -22,21 +23,34 @@ fn put_bytes(rt: &impl Abort, out: &mut String, bytes: &[u8]) {
     );
 }
 
+// A number and what stands before it. No other function has to format one: each `write!` is dear to
+// prove.
+fn put_number(rt: &impl Abort, out: &mut String, before: &str, number: &impl Display) {
+    put(rt, out, before);
+    write!(out, "{number}").ok().expect(rt, "memory");
+}
+
+// A value by the name that it has in the code.
+fn put_name(rt: &impl Abort, out: &mut String, value: &impl Debug) {
+    write!(out, "{value:?}").ok().expect(rt, "memory");
+}
+
 fn put_day(rt: &impl Abort, out: &mut String, day: Day) {
     put_bytes(rt, out, &day.text());
 }
 
+// Which entry of which submission.
+fn put_place(rt: &impl Abort, out: &mut String, index: u64, reference: Ref) {
+    put_number(rt, out, " ", &index);
+    put(rt, out, " ");
+    put_bytes(rt, out, reference.bytes());
+}
+
 fn receipt(rt: &impl Abort, out: &mut String, r: &Receipt) {
     put_bytes(rt, out, r.reference.bytes());
-    write!(
-        out,
-        " order {} entries {} cents {}",
-        r.order,
-        r.entries,
-        r.cents.get()
-    )
-    .ok()
-    .expect(rt, "memory");
+    put_number(rt, out, " order ", &r.order);
+    put_number(rt, out, " entries ", &r.entries);
+    put_number(rt, out, " cents ", &r.cents.get());
 }
 
 fn state(rt: &impl Abort, out: &mut String, state: EntryState) {
@@ -62,81 +76,69 @@ fn state(rt: &impl Abort, out: &mut String, state: EntryState) {
 
 fn submission_report(rt: &impl Abort, out: &mut String, f: &SubmissionReport) {
     put_bytes(rt, out, f.reference.bytes());
-    write!(out, " order {} ", f.order).ok().expect(rt, "memory");
+    put_number(rt, out, " order ", &f.order);
+    put(rt, out, " ");
     put_day(rt, out, f.day);
     for entry in f.entries.as_slice() {
-        write!(out, "; {} {} ", entry.index, entry.cents.get())
-            .ok()
-            .expect(rt, "memory");
+        put_number(rt, out, "; ", &entry.index);
+        put_number(rt, out, " ", &entry.cents.get());
+        put(rt, out, " ");
         state(rt, out, entry.state);
     }
 }
 
 fn exposure(rt: &impl Abort, out: &mut String, e: &Exposure) {
-    write!(
-        out,
-        "credit {} of {}, debit {} of {}",
-        e.credit, e.limits.credit, e.debit, e.limits.debit
-    )
-    .ok()
-    .expect(rt, "memory");
+    put_number(rt, out, "credit ", &e.credit);
+    put_number(rt, out, " of ", &e.limits.credit);
+    put_number(rt, out, ", debit ", &e.debit);
+    put_number(rt, out, " of ", &e.limits.debit);
 }
 
 fn statement(rt: &impl Abort, out: &mut String, s: &Statement) {
-    write!(out, "balance {}", s.balance)
-        .ok()
-        .expect(rt, "memory");
+    put_number(rt, out, "balance ", &s.balance);
     for line in s.lines.as_slice() {
-        write!(out, "; {} ", line.cents).ok().expect(rt, "memory");
+        put_number(rt, out, "; ", &line.cents);
+        put(rt, out, " ");
         put_day(rt, out, line.day);
-        write!(out, " {} ", line.index).ok().expect(rt, "memory");
-        put_bytes(rt, out, line.reference.bytes());
+        put_place(rt, out, line.index, line.reference);
     }
 }
 
 fn settlement(rt: &impl Abort, out: &mut String, s: &Settlement) {
-    write!(out, "balance {}", s.balance)
-        .ok()
-        .expect(rt, "memory");
+    put_number(rt, out, "balance ", &s.balance);
     for sum in s.days.as_slice() {
-        write!(out, "; {} ", sum.cents).ok().expect(rt, "memory");
+        put_number(rt, out, "; ", &sum.cents);
+        put(rt, out, " ");
         put_day(rt, out, sum.day);
     }
 }
 
 fn rate(rt: &impl Abort, out: &mut String, name: &str, rate: Rate) {
-    let over = if rate.over { " over" } else { "" };
-    write!(out, "{name} {} of {}{over}", rate.n, rate.d)
-        .ok()
-        .expect(rt, "memory");
+    put_number(rt, out, name, &rate.n);
+    put_number(rt, out, " of ", &rate.d);
+    put(rt, out, if rate.over { " over" } else { "" });
 }
 
 fn rates(rt: &impl Abort, out: &mut String, r: &DayRates) {
-    rate(rt, out, "unauthorized", r.rates.unauthorized);
-    rate(rt, out, ", administrative", r.rates.administrative);
-    rate(rt, out, ", overall", r.rates.overall);
+    rate(rt, out, "unauthorized ", r.rates.unauthorized);
+    rate(rt, out, ", administrative ", r.rates.administrative);
+    rate(rt, out, ", overall ", r.rates.overall);
 }
 
 fn cut(rt: &impl Abort, out: &mut String, c: &CutSummary) {
     put_day(rt, out, c.day);
-    write!(out, " sent {} in [", c.entries)
-        .ok()
-        .expect(rt, "memory");
+    put_number(rt, out, " sent ", &c.entries);
+    put(rt, out, " in [");
     put_bytes(rt, out, c.files.as_slice());
-    write!(out, "], lapsed {}", c.lapsed)
-        .ok()
-        .expect(rt, "memory");
+    put_number(rt, out, "], lapsed ", &c.lapsed);
 }
 
 fn intake(rt: &impl Abort, out: &mut String, i: &Intake) {
     put_day(rt, out, i.day);
-    write!(
-        out,
-        " returns {} late {} changes {} suspense {}",
-        i.returns, i.late, i.changes, i.suspense
-    )
-    .ok()
-    .expect(rt, "memory");
+    put_number(rt, out, " returns ", &i.returns);
+    put_number(rt, out, " late ", &i.late);
+    put_number(rt, out, " changes ", &i.changes);
+    put_number(rt, out, " suspense ", &i.suspense);
 }
 
 // Of each return its code, day and place, and whether it was late.
@@ -147,8 +149,7 @@ fn returns(rt: &impl Abort, out: &mut String, rows: &ListOf<ReturnRow>) {
         put_bytes(rt, out, &row.code.text());
         put(rt, out, if row.late { " late " } else { " " });
         put_day(rt, out, row.day);
-        write!(out, " {} ", row.index).ok().expect(rt, "memory");
-        put_bytes(rt, out, row.reference.bytes());
+        put_place(rt, out, row.index, row.reference);
     }
 }
 
@@ -159,8 +160,7 @@ fn changes(rt: &impl Abort, out: &mut String, rows: &ListOf<ChangeRow>) {
         put_bytes(rt, out, &row.code);
         put(rt, out, " ");
         put_day(rt, out, row.day);
-        write!(out, " {} ", row.index).ok().expect(rt, "memory");
-        put_bytes(rt, out, row.reference.bytes());
+        put_place(rt, out, row.index, row.reference);
         put(rt, out, " ");
         put_bytes(rt, out, row.text.trim_ascii_end());
     }
@@ -169,17 +169,17 @@ fn changes(rt: &impl Abort, out: &mut String, rows: &ListOf<ChangeRow>) {
 fn suspense(rt: &impl Abort, out: &mut String, rows: &ListOf<SuspenseRow>) {
     put(rt, out, "suspense");
     for row in rows.as_slice() {
-        write!(out, "; {} {} {:?}", row.item, row.cents.get(), row.why)
-            .ok()
-            .expect(rt, "memory");
+        put_number(rt, out, "; ", &row.item);
+        put_number(rt, out, " ", &row.cents.get());
+        put(rt, out, " ");
+        put_name(rt, out, &row.why);
     }
 }
 
 // How many submissions, and their cents.
 fn tally(rt: &impl Abort, out: &mut String, tally: Tally) {
-    write!(out, " {}/{}", tally.submissions, tally.cents)
-        .ok()
-        .expect(rt, "memory");
+    put_number(rt, out, " ", &tally.submissions);
+    put_number(rt, out, "/", &tally.cents);
 }
 
 // Of credits, then of debits.
@@ -193,9 +193,7 @@ fn company_status(rt: &impl Abort, out: &mut String, s: &CompanyStatus) {
     put_bytes(rt, out, s.id.bytes());
     put(rt, out, " held");
     tallies(rt, out, s.held);
-    write!(out, " lapsing {}", s.lapsing)
-        .ok()
-        .expect(rt, "memory");
+    put_number(rt, out, " lapsing ", &s.lapsing);
     for due in s.due.as_slice() {
         put(rt, out, ", ");
         put_day(rt, out, due.day);
@@ -210,20 +208,12 @@ fn status(rt: &impl Abort, out: &mut String, s: &DeskStatus) {
     }
     put(rt, out, ", files [");
     put_bytes(rt, out, s.files.as_slice());
-    write!(
-        out,
-        "], suspense {}, holidays {}, sent {}",
-        s.suspense, s.holidays, s.sent
-    )
-    .ok()
-    .expect(rt, "memory");
+    put_number(rt, out, "], suspense ", &s.suspense);
+    put_number(rt, out, ", holidays ", &s.holidays);
+    put_number(rt, out, ", sent ", &s.sent);
     for company in s.companies.as_slice() {
         company_status(rt, out, company);
     }
-}
-
-fn holidays(rt: &impl Abort, out: &mut String, count: u64) {
-    write!(out, "holidays {count}").ok().expect(rt, "memory");
 }
 
 fn company_done(rt: &impl Abort, out: &mut String, done: &Outcome) {
@@ -242,7 +232,7 @@ fn company_done(rt: &impl Abort, out: &mut String, done: &Outcome) {
 fn operator_done(rt: &impl Abort, out: &mut String, done: &Outcome) {
     match done {
         Outcome::Day(set) => put_day(rt, out, *set),
-        Outcome::Holidays(count) => holidays(rt, out, *count),
+        Outcome::Holidays(count) => put_number(rt, out, "holidays ", count),
         Outcome::Company(id) => put_bytes(rt, out, id.bytes()),
         Outcome::Cut(made) => cut(rt, out, made),
         Outcome::Taken(counts) => intake(rt, out, counts),
@@ -261,13 +251,10 @@ pub(super) fn words_of(rt: &(impl Abort + Alloc<A = Global>), answer: &Answer) -
         Answer::Done(done) => company_done(rt, &mut out, done),
         Answer::Refused(CallRefusal::Rule(why)) => put(rt, &mut out, why.name().text()),
         Answer::Refused(CallRefusal::BadFile(fault)) => {
-            write!(out, "{:?} at record {}", fault.kind, fault.at)
-                .ok()
-                .expect(rt, "memory");
+            put_name(rt, &mut out, &fault.kind);
+            put_number(rt, &mut out, " at record ", &fault.at);
         }
-        Answer::Refused(CallRefusal::BadCalendar(fault)) => {
-            write!(out, "{fault:?}").ok().expect(rt, "memory");
-        }
+        Answer::Refused(CallRefusal::BadCalendar(fault)) => put_name(rt, &mut out, fault),
     }
     out
 }

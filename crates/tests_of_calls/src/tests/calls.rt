@@ -41,88 +41,88 @@ fn id(rt: &impl Abort, word: &str) -> Id {
     Id::new(word.as_bytes()).ok().expect(rt, "a company")
 }
 
+// The text, which is left out where it is empty.
+fn optional(rt: &(impl Abort + Alloc<A = Global>), text: &str) -> Optional<DraftText> {
+    if text.is_empty() {
+        Optional::Absent
+    } else {
+        Optional::Given(draft_text(rt, text))
+    }
+}
+
+// The part of an item with this number; empty where there are fewer.
+fn part(item: &str, number: usize) -> &str {
+    item.splitn(4, '/').nth(number).unwrap_or("")
+}
+
+// Of an entry the bank, the kind of account, the cents and the information. An item is
+// `ROUTING/KIND/CENTS[/INFORMATION]`; where it is `CENTS[*COUNT]` the line has the bank.
+fn fields<'a>(line: &'a str, item: &'a str) -> [&'a str; 4] {
+    if item.contains('/') {
+        [part(item, 0), part(item, 1), part(item, 2), part(item, 3)]
+    } else {
+        let cents = item.split('*').next().unwrap_or("");
+        [word(line, 5), "checking", cents, ""]
+    }
+}
+
+// How many entries an item stands for.
+fn count(rt: &impl Abort, item: &str) -> u64 {
+    if item.contains('/') {
+        1
+    } else {
+        number(rt, item.split('*').nth(1).unwrap_or("1"))
+    }
+}
+
 // A prenote where there are no cents.
-fn entry(rt: &(impl Abort + Alloc<A = Global>), routing: &str, cents: u64) -> EntryDraft {
+fn entry(rt: &(impl Abort + Alloc<A = Global>), fields: [&str; 4]) -> EntryDraft {
+    let [routing, kind, cents, info] = fields;
+    let cents = number(rt, cents);
     EntryDraft {
         routing: text(rt, routing),
         account: text(rt, "123456789"),
-        kind: text(rt, "checking"),
+        kind: text(rt, kind),
         prenote: Optional::Given(cents == 0),
         cents: Some(cents),
         id: text(rt, "E1"),
         name: text(rt, "ANN LEE"),
-        info: Optional::Absent,
+        info: optional(rt, info),
     }
 }
 
-// Behind five words stand the amounts.
+fn add_entries(
+    rt: &(impl Abort + Alloc<A = Global>),
+    entries: &mut Vec<Option<EntryDraft>>,
+    line: &str,
+    item: &str,
+) {
+    for _ in 0..count(rt, item) {
+        let entry = entry(rt, fields(line, item));
+        entries.push(Some(entry)).ok().expect(rt, "memory");
+    }
+}
+
+// Behind six words stand the items.
 fn entries(rt: &(impl Abort + Alloc<A = Global>), line: &str) -> EntryDrafts {
     let mut entries = Vec::new(rt.alloc());
-    for cents in line.split(' ').skip(6) {
-        let entry = entry(rt, word(line, 5), number(rt, cents));
-        entries.push(Some(entry)).ok().expect(rt, "memory");
+    for item in line.split(' ').skip(6) {
+        add_entries(rt, &mut entries, line, item);
     }
     EntryDrafts::new(entries)
 }
 
-// `COMPANY submit REFERENCE DIRECTION DAY ROUTING CENTS ..`
-fn draft(rt: &(impl Abort + Alloc<A = Global>), line: &str) -> Draft {
+// `COMPANY submit REFERENCE DIRECTION DAY ROUTING CENTS[*COUNT] ..` in the class PPD, or
+// `COMPANY enter REFERENCE DIRECTION DAY SEC ROUTING/KIND/CENTS[/INFORMATION] ..`
+fn draft(rt: &(impl Abort + Alloc<A = Global>), line: &str, sec: &str) -> Draft {
     let debit = word(line, 3) == "debit";
     Draft {
         reference: text(rt, word(line, 2)),
-        sec: text(rt, "PPD"),
+        sec: text(rt, sec),
         direction: text(rt, word(line, 3)),
         description: text(rt, if debit { "DUES" } else { "PAYROLL" }),
         day: text(rt, word(line, 4)),
         entries: Some(entries(rt, line)),
-    }
-}
-
-// `ROUTING/KIND/CENTS/INFORMATION`; the last may be left out.
-fn whole_entry(rt: &(impl Abort + Alloc<A = Global>), word: &str) -> EntryDraft {
-    let mut parts = word.splitn(4, '/');
-    let routing = parts.next().unwrap_or("");
-    let kind = text(rt, parts.next().unwrap_or(""));
-    let cents = number(rt, parts.next().unwrap_or(""));
-    let info = match parts.next() {
-        Some(info) => Optional::Given(draft_text(rt, info)),
-        None => Optional::Absent,
-    };
-    EntryDraft {
-        kind,
-        info,
-        ..entry(rt, routing, cents)
-    }
-}
-
-// Behind six words stand the entries.
-fn whole_entries(rt: &(impl Abort + Alloc<A = Global>), line: &str) -> EntryDrafts {
-    let mut entries = Vec::new(rt.alloc());
-    for word in line.split(' ').skip(6) {
-        let entry = whole_entry(rt, word);
-        entries.push(Some(entry)).ok().expect(rt, "memory");
-    }
-    EntryDrafts::new(entries)
-}
-
-// `COMPANY enter REFERENCE SEC DIRECTION DAY ENTRY ..`
-fn whole_draft(rt: &(impl Abort + Alloc<A = Global>), line: &str) -> Draft {
-    let debit = word(line, 4) == "debit";
-    Draft {
-        reference: text(rt, word(line, 2)),
-        sec: text(rt, word(line, 3)),
-        direction: text(rt, word(line, 4)),
-        description: text(rt, if debit { "DUES" } else { "PAYROLL" }),
-        day: text(rt, word(line, 5)),
-        entries: Some(whole_entries(rt, line)),
-    }
-}
-
-fn authorization(rt: &(impl Abort + Alloc<A = Global>), day: &str) -> Optional<DraftText> {
-    if day.is_empty() {
-        Optional::Absent
-    } else {
-        Optional::Given(draft_text(rt, day))
     }
 }
 
@@ -133,7 +133,7 @@ fn retry(rt: &(impl Abort + Alloc<A = Global>), line: &str) -> RetryDraft {
         of: text(rt, word(line, 3)),
         index: Some(number(rt, word(line, 4))),
         day: text(rt, word(line, 5)),
-        authorized: authorization(rt, word(line, 6)),
+        authorized: optional(rt, word(line, 6)),
     }
 }
 
@@ -195,8 +195,8 @@ fn operator_call(rt: &(impl Abort + Alloc<A = Global>), line: &str) -> Call {
 
 fn company_call(rt: &(impl Abort + Alloc<A = Global>), company: Id, line: &str) -> Call {
     match word(line, 1) {
-        "submit" => Call::Submit(company, draft(rt, line)),
-        "enter" => Call::Submit(company, whole_draft(rt, line)),
+        "submit" => Call::Submit(company, draft(rt, line, "PPD")),
+        "enter" => Call::Submit(company, draft(rt, line, word(line, 5))),
         "retry" => Call::Retry(company, retry(rt, line)),
         "look" => {
             let reference = Ref::new(word(line, 2).as_bytes());

@@ -1,36 +1,11 @@
 //! These scripts try the files that cuts make.
-use super::script::{DAY, HOLIDAYS, MILL, MOST_CALLS, PAY_1, PAY_2, follow, holds, new_lists};
+use super::script::{
+    CUT_9, DAY, HOLIDAYS, MILL, MOST_CALLS, NINTH, PAY_1, PAY_2_SECOND, Script, follow, holds,
+    new_lists,
+};
 use desk_core::{Desk, FaultyStore, Store};
 use std::alloc::Global;
 use std::process::Abort;
-
-// A credit goes out two banking days ahead, a debit one; Saturday rolls over the holiday.
-#[test]
-fn what_is_due(rt: HostRuntime) {
-    holds(
-        &rt,
-        &[
-            MILL,
-            HOLIDAYS,
-            ("desk cut", "NoDay"),
-            ("desk day 2025-01-16", "2025-01-16"),
-            (
-                "MILL01 submit C credit 2025-01-18 091000019 100",
-                "C order 1 entries 1 cents 100",
-            ),
-            (
-                "MILL01 submit D debit 2025-01-18 091000019 100",
-                "D order 2 entries 1 cents 100",
-            ),
-            ("desk cut", "2025-01-16 sent 1 in [A], lapsed 0"),
-            (
-                "MILL01 look C",
-                "C order 1 2025-01-18; 1 100 sent 2025-01-21",
-            ),
-            ("MILL01 look D", "D order 2 2025-01-18; 1 100 held"),
-        ],
-    );
-}
 
 /// This is the file of one credit that is cut on 2025-01-08.
 const FIRST_FILE: &str = concat!(
@@ -46,103 +21,131 @@ const FIRST_FILE: &str = concat!(
     "9999999999999999999999999999999999999999999999999999999999999999999999999999999999999999999999\n",
 );
 
+// A credit goes out two banking days ahead, a debit one; Saturday rolls over the holiday.
+const DUE: Script = &[
+    MILL,
+    HOLIDAYS,
+    ("desk cut", "NoDay"),
+    ("desk day 2025-01-16", "2025-01-16"),
+    (
+        "MILL01 submit C credit 2025-01-18 091000019 100",
+        "C order 1 entries 1 cents 100",
+    ),
+    (
+        "MILL01 submit D debit 2025-01-18 091000019 100",
+        "D order 2 entries 1 cents 100",
+    ),
+    ("desk cut", "2025-01-16 sent 1 in [A], lapsed 0"),
+    (
+        "MILL01 look C",
+        "C order 1 2025-01-18; 1 100 sent 2025-01-21",
+    ),
+    ("MILL01 look D", "D order 2 2025-01-18; 1 100 held"),
+];
+
+#[test]
+fn what_is_due(rt: HostRuntime) {
+    holds(&rt, DUE);
+}
+
+const TWO_DAYS: Script = &[
+    MILL,
+    HOLIDAYS,
+    DAY,
+    PAY_1,
+    PAY_2_SECOND,
+    ("desk cut", "2025-01-08 sent 1 in [A], lapsed 0"),
+    ("desk file 2025-01-08 A", FIRST_FILE),
+    ("desk file 2025-01-08 B", "none"),
+    ("desk cut", "2025-01-08 sent 0 in [], lapsed 0"),
+    NINTH,
+    CUT_9,
+    (
+        "MILL01 look PAY-2",
+        "PAY-2 order 2 2025-01-10; 1 2500 sent 2025-01-10",
+    ),
+];
+
 #[test]
 fn files_of_two_days(rt: HostRuntime) {
-    holds(
-        &rt,
-        &[
-            MILL,
-            HOLIDAYS,
-            DAY,
-            PAY_1,
-            (PAY_2.0, "PAY-2 order 2 entries 1 cents 2500"),
-            ("desk cut", "2025-01-08 sent 1 in [A], lapsed 0"),
-            ("desk file 2025-01-08 A", FIRST_FILE),
-            ("desk file 2025-01-08 B", "none"),
-            ("desk cut", "2025-01-08 sent 0 in [], lapsed 0"),
-            ("desk day 2025-01-09", "2025-01-09"),
-            ("desk cut", "2025-01-09 sent 1 in [A], lapsed 0"),
-            (
-                "MILL01 look PAY-2",
-                "PAY-2 order 2 2025-01-10; 1 2500 sent 2025-01-10",
-            ),
-        ],
-    );
+    holds(&rt, TWO_DAYS);
 }
 
-// So many entries of the largest amount and one of 99 cents: as much as one file holds.
-fn full_submission(rt: &(impl Abort + Alloc<A = Global>), reference: u64) -> String {
-    let mut line = format!(in rt.alloc();
-        "MILL01 submit S{reference} credit 2025-01-09 091000019 99"
-    ).ok()
-        .expect(rt, "memory");
-    for _ in 0..100 {
-        line.push_str(" 9999999999").ok().expect(rt, "memory");
-    }
-    line
+// A file holds so many entries of the largest amount and one of 99 cents, and not one cent more.
+const NEXT_FILE: Script = &[
+    MILL,
+    DAY,
+    (
+        "MILL01 submit S1 credit 2025-01-09 091000019 99 9999999999*100",
+        "S1 order 1 entries 101 cents 999999999999",
+    ),
+    (
+        "MILL01 submit CENT credit 2025-01-09 091000019 1",
+        "CENT order 2 entries 1 cents 1",
+    ),
+    ("desk cut", "2025-01-08 sent 102 in [AB], lapsed 0"),
+];
+
+#[test]
+fn the_next_file(rt: HostRuntime) {
+    holds(&rt, NEXT_FILE);
 }
 
-fn receipt_words(rt: &(impl Abort + Alloc<A = Global>), reference: u64) -> String {
-    format!(in rt.alloc(); "S{reference} order {reference} entries 101 cents 999999999999")
-        .ok()
-        .expect(rt, "memory")
-}
+const DAY_BEGINS: Script = &[MILL, DAY];
 
-// Fills a day with 36 files; was a call asked again? What does not fit a file goes into the next one.
-fn fill_day<S: Store>(rt: &(impl Abort + Alloc<A = Global>), desk: &mut Desk<S>) -> bool {
-    let mut asked_again = follow(rt, desk, &[MILL, DAY]);
-    for reference in 1..37 {
-        let line = full_submission(rt, reference);
-        let receipt = receipt_words(rt, reference);
-        asked_again |= follow(rt, desk, &[(line.as_str(), receipt.as_str())]);
-    }
-    let cut = (
+// The 36 files of the day, and no more; the next day begins anew.
+const DAY_ENDS: Script = &[
+    (
         "desk cut",
         "2025-01-08 sent 3636 in [ABCDEFGHIJKLMNOPQRSTUVWXYZ0123456789], lapsed 0",
+    ),
+    (
+        "MILL01 submit CENT credit 2025-01-09 091000019 1",
+        "CENT order 37 entries 1 cents 1",
+    ),
+    ("desk cut", "ModifiersSpent"),
+    ("MILL01 look CENT", "CENT order 37 2025-01-09; 1 1 held"),
+    NINTH,
+    CUT_9,
+];
+
+// Hands in a submission that fills a file: was it asked again?
+fn fill_file<S: Store>(
+    rt: &(impl Abort + Alloc<A = Global>),
+    desk: &mut Desk<S>,
+    number: u64,
+) -> bool {
+    let line = format!(in rt.alloc();
+        "MILL01 submit S{number} credit 2025-01-09 091000019 99 9999999999*100"
     );
-    asked_again |= follow(rt, desk, &[cut]);
-    asked_again
+    let line = line.ok().expect(rt, "memory");
+    let receipt = format!(in rt.alloc(); "S{number} order {number} entries 101 cents 999999999999");
+    let receipt = receipt.ok().expect(rt, "memory");
+    follow(
+        rt,
+        desk,
+        "files of a day",
+        &[(line.as_str(), receipt.as_str())],
+    )
 }
 
-// A day has 36 files, and not one more; the next day begins anew.
+// Fills a day with 36 files: was a call asked again? What does not fit a file goes into the next one.
+fn fill_day<S: Store>(rt: &(impl Abort + Alloc<A = Global>), desk: &mut Desk<S>) -> bool {
+    let mut asked_again = follow(rt, desk, DAY_BEGINS);
+    for number in 1..37 {
+        asked_again |= fill_file(rt, desk, number);
+    }
+    follow(rt, desk, DAY_ENDS) || asked_again
+}
+
+// A day has 36 files, and not one more.
 #[test]
 fn files_of_a_day(rt: HostRuntime) {
-    let end = [
-        (
-            "MILL01 submit CENT credit 2025-01-09 091000019 1",
-            "CENT order 37 entries 1 cents 1",
-        ),
-        ("desk cut", "ModifiersSpent"),
-        ("MILL01 look CENT", "CENT order 37 2025-01-09; 1 1 held"),
-        ("desk day 2025-01-09", "2025-01-09"),
-        ("desk cut", "2025-01-09 sent 1 in [A], lapsed 0"),
-    ];
     for call in 1..MOST_CALLS {
         let mut desk = Desk::new(FaultyStore::new(new_lists(&rt), call));
-        let asked_again = fill_day(&rt, &mut desk);
-        if !follow(&rt, &mut desk, &end) && !asked_again {
+        if !fill_day(&rt, &mut desk) {
             return;
         }
     }
     assert!(rt; false, "the script makes more calls of the store");
-}
-
-// One cent more than a file holds.
-#[test]
-fn the_next_file(rt: HostRuntime) {
-    let line = full_submission(&rt, 1);
-    let words = receipt_words(&rt, 1);
-    holds(
-        &rt,
-        &[
-            MILL,
-            DAY,
-            (line.as_str(), words.as_str()),
-            (
-                "MILL01 submit CENT credit 2025-01-09 091000019 1",
-                "CENT order 2 entries 1 cents 1",
-            ),
-            ("desk cut", "2025-01-08 sent 102 in [AB], lapsed 0"),
-        ],
-    );
 }

@@ -10,6 +10,9 @@ use sqlite::MemStore;
 use std::alloc::Global;
 use std::process::Abort;
 
+/// A script has lines, each with the answer that it must have.
+pub(super) type Script = &'static [(&'static str, &'static str)];
+
 /// This is the digest of the operator's key.
 pub(super) const OPERATOR_DIGEST: [u8; 32] = [7; 32];
 
@@ -28,6 +31,16 @@ pub(super) const HOLIDAYS: (&str, &str) = ("desk holidays 2025-01-20", "holidays
 
 pub(super) const DAY: (&str, &str) = ("desk day 2025-01-08", "2025-01-08");
 
+pub(super) const NINTH: (&str, &str) = ("desk day 2025-01-09", "2025-01-09");
+
+pub(super) const FOURTEENTH: (&str, &str) = ("desk day 2025-01-14", "2025-01-14");
+
+/// One entry is sent on that day.
+pub(super) const CUT_9: (&str, &str) = ("desk cut", "2025-01-09 sent 1 in [A], lapsed 0");
+
+/// This is the answer to a file of one return, on that day.
+pub(super) const ONE_RETURN: &str = "2025-01-14 returns 1 late 0 changes 0 suspense 0";
+
 pub(super) const PAY_1: (&str, &str) = (
     "MILL01 submit PAY-1 credit 2025-01-10 091000019 150000",
     "PAY-1 order 1 entries 1 cents 150000",
@@ -36,6 +49,12 @@ pub(super) const PAY_1: (&str, &str) = (
 pub(super) const PAY_2: (&str, &str) = (
     "MILL01 submit PAY-2 debit 2025-01-10 091000019 2500",
     "PAY-2 order 1 entries 1 cents 2500",
+);
+
+/// The same after the first.
+pub(super) const PAY_2_SECOND: (&str, &str) = (
+    "MILL01 submit PAY-2 debit 2025-01-10 091000019 2500",
+    "PAY-2 order 2 entries 1 cents 2500",
 );
 
 /// A script makes fewer calls of the store.
@@ -70,8 +89,24 @@ pub(super) fn new_tables(rt: &(impl Abort + Alloc<A = Global>)) -> SqlStore<MemS
         .expect(rt, "tables")
 }
 
-/// Each call of a script is answered as beside it. What the store could not act on is asked once more:
-/// was that so?
+// What the call of a line is answered, in words. What the store could not act on is asked once more:
+// was that so?
+fn words_for<S: Store>(
+    rt: &(impl Abort + Alloc<A = Global>),
+    desk: &mut Desk<S>,
+    line: &str,
+) -> (String, bool) {
+    let mut given = desk.apply(rt.alloc(), call_of(rt, line));
+    let asked_again = given.is_err();
+    if asked_again {
+        given = desk.apply(rt.alloc(), call_of(rt, line));
+    }
+    let answer = given.ok().expect(rt, "an answer");
+    (words_of(rt, &answer), asked_again)
+}
+
+/// Each call of a script is answered as beside it. Was one asked once more, since the store could not
+/// act on it?
 pub(super) fn follow<S: Store>(
     rt: &(impl Abort + Alloc<A = Global>),
     desk: &mut Desk<S>,
@@ -79,14 +114,9 @@ pub(super) fn follow<S: Store>(
 ) -> bool {
     let mut asked_again = false;
     for (line, wanted) in script {
-        let mut given = desk.apply(rt.alloc(), call_of(rt, line));
-        if given.is_err() {
-            asked_again = true;
-            given = desk.apply(rt.alloc(), call_of(rt, line));
-        }
-        let answer = given.ok().expect(rt, "an answer");
-        let words = words_of(rt, &answer);
+        let (words, again) = words_for(rt, desk, line);
         assert!(rt; words.as_str() == *wanted, "{line}");
+        asked_again |= again;
     }
     asked_again
 }
@@ -100,18 +130,26 @@ fn after<S: Store>(rt: &(impl Abort + Alloc<A = Global>), store: S, sequences: &
     store
 }
 
-// Runs a script over a store that refuses nothing.
-fn follow_once<S: Store + Drop>(
-    rt: &(impl Abort + Alloc<A = Global>),
-    store: S,
-    script: &[(&str, &str)],
-) {
-    assert!(rt; !follow(rt, &mut Desk::new(store), script));
-}
-
 // A store that remembers.
 fn remembering<S: Store>(rt: &(impl Abort + Alloc<A = Global>), store: S) -> Remembering<S> {
     Remembering::new(rt.alloc(), store)
+}
+
+// Runs a script over a store: was a call asked once more?
+fn run<S: Store + Drop>(rt: &(impl Abort + Alloc<A = Global>), store: S, script: Script) -> bool {
+    follow(rt, &mut Desk::new(store), script)
+}
+
+// Runs a script over tables and over lists, and over the same where they remember.
+fn holds_everywhere(rt: &(impl Abort + Alloc<A = Global>), sequences: &[u32], script: Script) {
+    let tables = after(rt, new_tables(rt), sequences);
+    assert!(rt; !run(rt, tables, script));
+    let lists = after(rt, new_lists(rt), sequences);
+    assert!(rt; !run(rt, lists, script));
+    let tables = after(rt, new_tables(rt), sequences);
+    assert!(rt; !run(rt, remembering(rt, tables), script));
+    let lists = after(rt, new_lists(rt), sequences);
+    assert!(rt; !run(rt, remembering(rt, lists), script));
 }
 
 /// Runs a script over tables and over lists, over the same where they remember, and with each call of
@@ -119,23 +157,12 @@ fn remembering<S: Store>(rt: &(impl Abort + Alloc<A = Global>), store: S) -> Rem
 pub(super) fn holds_after(
     rt: &(impl Abort + Alloc<A = Global>),
     sequences: &[u32],
-    script: &[(&str, &str)],
+    script: Script,
 ) {
-    follow_once(rt, after(rt, new_tables(rt), sequences), script);
-    follow_once(rt, after(rt, new_lists(rt), sequences), script);
-    follow_once(
-        rt,
-        remembering(rt, after(rt, new_tables(rt), sequences)),
-        script,
-    );
-    follow_once(
-        rt,
-        remembering(rt, after(rt, new_lists(rt), sequences)),
-        script,
-    );
+    holds_everywhere(rt, sequences, script);
     for call in 1..MOST_CALLS {
-        let store = FaultyStore::new(after(rt, new_lists(rt), sequences), call);
-        if !follow(rt, &mut Desk::new(store), script) {
+        let lists = after(rt, new_lists(rt), sequences);
+        if !run(rt, FaultyStore::new(lists, call), script) {
             return;
         }
     }
@@ -144,10 +171,10 @@ pub(super) fn holds_after(
 
 /// Runs a script over a store that remembers, with each call of the one that it stands around refused
 /// in turn, until none is.
-pub(super) fn holds_remembering(rt: &(impl Abort + Alloc<A = Global>), script: &[(&str, &str)]) {
+pub(super) fn holds_remembering(rt: &(impl Abort + Alloc<A = Global>), script: Script) {
     for call in 1..MOST_CALLS {
         let store = remembering(rt, FaultyStore::new(new_lists(rt), call));
-        if !follow(rt, &mut Desk::new(store), script) {
+        if !run(rt, store, script) {
             return;
         }
     }
@@ -155,6 +182,6 @@ pub(super) fn holds_remembering(rt: &(impl Abort + Alloc<A = Global>), script: &
 }
 
 /// Does the same over the store of a new desk.
-pub(super) fn holds(rt: &(impl Abort + Alloc<A = Global>), script: &[(&str, &str)]) {
+pub(super) fn holds(rt: &(impl Abort + Alloc<A = Global>), script: Script) {
     holds_after(rt, &[], script);
 }
