@@ -121,12 +121,7 @@ fn fill_file<S: Store>(
     let line = line.ok().expect(rt, "memory");
     let receipt = format!(in rt.alloc(); "S{number} order {number} entries 101 cents 999999999999");
     let receipt = receipt.ok().expect(rt, "memory");
-    follow(
-        rt,
-        desk,
-        "files of a day",
-        &[(line.as_str(), receipt.as_str())],
-    )
+    follow(rt, desk, &[(line.as_str(), receipt.as_str())])
 }
 
 // Fills a day with 36 files: was a call asked again? What does not fit a file goes into the next one.
