@@ -1,17 +1,17 @@
 //! What companies ask and are told.
-use super::exchanges::holds;
+use super::exchanges::all_hold;
 use super::samples::{
-    BAKE, DAY_8, DAY_9, DAY_14, HOLIDAYS, MILL, PAY_1, PAY_1_ACCEPTED, RETURN_1, SUBMIT_1,
-    SUBMIT_2, TAKEN,
+    BAKE, CUT_9, DAY_8, DAY_9, DAY_14, HOLIDAYS, MILL, PAY_1, PAY_1_ACCEPTED, RETURN_1_TAKEN,
+    SUBMIT_1, SUBMIT_2, Script,
 };
 
 const PAY_1_OF_150001: &str =
     r#"{"ref":"PAY-1","sec":"PPD","direction":"credit","description":"PAYROLL","day":"2025-01-10","entries":[{"routing":"091000019","account":"123456789","kind":"checking","cents":150001,"id":"E1","name":"ANN LEE"}]}"#;
 
-#[test]
-fn a_submission_is_accepted_and_found(rt: HostRuntime) {
-    holds(
-        &rt,
+/// Scripts by what they try.
+const SCRIPTS: &[Script] = &[
+    (
+        "a submission is accepted and found",
         &[
             HOLIDAYS,
             MILL,
@@ -24,13 +24,9 @@ fn a_submission_is_accepted_and_found(rt: HostRuntime) {
                 r#"{"cents":150000,"day":"2025-01-10","direction":"credit","entries":[{"cents":150000,"index":1,"state":"held"}],"order":1,"ref":"PAY-1","sec":"PPD"}"#,
             ),
         ],
-    );
-}
-
-#[test]
-fn a_submission_that_comes_again_is_answered_as_before(rt: HostRuntime) {
-    holds(
-        &rt,
+    ),
+    (
+        "a submission that comes again is answered as before",
         &[
             HOLIDAYS,
             MILL,
@@ -50,13 +46,9 @@ fn a_submission_that_comes_again_is_answered_as_before(rt: HostRuntime) {
                 r#"{"credit":"150000","credit_limit":999999999999999,"day":"2025-01-08","debit":"0","debit_limit":999999999999999,"entry_limit":9999999999}"#,
             ),
         ],
-    );
-}
-
-#[test]
-fn each_company_has_its_own_references(rt: HostRuntime) {
-    holds(
-        &rt,
+    ),
+    (
+        "each company has its own references",
         &[
             HOLIDAYS,
             MILL,
@@ -82,28 +74,19 @@ fn each_company_has_its_own_references(rt: HostRuntime) {
                 PAY_1_ACCEPTED,
             ),
         ],
-    );
-}
-
-#[test]
-fn a_return_is_told_once(rt: HostRuntime) {
-    holds(
-        &rt,
+    ),
+    (
+        "a return is told once",
         &[
             HOLIDAYS,
             MILL,
             DAY_8,
             SUBMIT_2,
             DAY_9,
-            (
-                "desk POST /ops/cut",
-                "",
-                "200 OK",
-                r#"{"day":"2025-01-09","entries":1,"files":["A"],"lapsed":0}"#,
-            ),
+            CUT_9,
             DAY_14,
-            ("desk POST /ops/returns", RETURN_1, "200 OK", TAKEN),
-            ("desk POST /ops/returns", RETURN_1, "200 OK", TAKEN),
+            RETURN_1_TAKEN,
+            RETURN_1_TAKEN,
             (
                 "MILL01 GET /c/MILL01/returns",
                 "",
@@ -130,5 +113,10 @@ fn a_return_is_told_once(rt: HostRuntime) {
             ),
             ("desk GET /ops/suspense", "", "200 OK", r#"{"items":[]}"#),
         ],
-    );
+    ),
+];
+
+#[test]
+fn what_companies_are_told(rt: HostRuntime) {
+    all_hold(&rt, SCRIPTS);
 }

@@ -1,6 +1,6 @@
 //! Connections to a desk.
-use super::exchanges::{UNAVAILABLE, follow, http_desk};
-use super::samples::{MILL, new_lists};
+use super::exchanges::{LENGTH_REQUIRED, UNAVAILABLE, follow, http_desk};
+use super::samples::{Exchange, MILL, new_lists};
 use desk_core::Store;
 use desk_http::HttpDesk;
 use http_session::{CountedListener, ServeFault, serve};
@@ -33,111 +33,102 @@ where
 const ASKED: &[u8] =
     b"GET /c/MILL01/exposure HTTP/1.1\r\nX-Desk-Key: mill-street-key\r\nConnection: close\r\n\r\n";
 
+/// A part of its head.
+const PART: &[u8] = b"GET /c/MILL01/exposu";
+
 const NO_DAY: &[u8] =
     b"HTTP/1.1 409 Conflict\r\nContent-Type: application/json\r\nContent-Length: 28\r\nConnection: close\r\n\r\n{\"error\":\"NoDay\",\"number\":1}";
 
+/// A POST without a length.
+const UNREAD: &[u8] = b"POST /ops/returns HTTP/1.1\r\n\r\n";
+
+/// This is what its client sends a hundred times before it reads.
+const PIECE: &[u8] = &[b'9'; 1_000];
+
+const COMPANY: &[Exchange] = &[MILL];
+
+// A listener at a free port of this machine.
+fn listening(rt: &(impl Abort + Net<Listener = TcpListener, Stream = TcpStream>)) -> TcpListener {
+    TcpListener::bind(rt, "127.0.0.1:0")
+        .ok()
+        .expect(rt, "a port")
+}
+
+// A client of the listener that sent these bytes.
+fn client_sent(
+    rt: &(impl Abort + Net<Listener = TcpListener, Stream = TcpStream>),
+    listener: &TcpListener,
+    bytes: &[u8],
+) -> TcpStream {
+    let address = listener.local_addr().ok().expect(rt, "an address");
+    let mut client = TcpStream::connect(rt, address)
+        .ok()
+        .expect(rt, "a connection");
+    client.write_all(bytes).ok().expect(rt, "bytes sent");
+    client
+}
+
+// What a client gets until its connection ends.
+fn answer_of(rt: &(impl Abort + Alloc<A = Global>), client: TcpStream) -> Vec<u8> {
+    let mut client = client;
+    let mut out = Vec::new(rt.alloc());
+    client.read_to_end(&mut out).ok().expect(rt, "an answer");
+    out
+}
+
+// A desk of one company serves so many connections.
+fn serve_mill(rt: &(impl Abort + Alloc<A = Global>), listener: TcpListener, connections: u64) {
+    let mut desk = http_desk(rt, new_lists(rt));
+    follow(rt, &mut desk, "a company", COMPANY);
+    assert!(rt; serve_all(rt, &mut desk, listener, connections) == Ok(()));
+}
+
 #[test]
 fn a_connection_is_answered(rt: HostRuntime) {
-    let mut desk = http_desk(&rt, new_lists(&rt));
-    follow(&rt, &mut desk, &[MILL]);
-    let listener = TcpListener::bind(&rt, "127.0.0.1:0")
-        .ok()
-        .expect(&rt, "a port");
-    let address = listener.local_addr().ok().expect(&rt, "an address");
-    let mut client = TcpStream::connect(&rt, address)
-        .ok()
-        .expect(&rt, "a connection");
-    client.write_all(ASKED).ok().expect(&rt, "a message sent");
-    assert!(rt; serve_all(&rt, &mut desk, listener, 1) == Ok(()));
-    let mut out = Vec::new(rt.alloc());
-    client.read_to_end(&mut out).ok().expect(&rt, "an answer");
-    assert!(rt; out.as_slice() == NO_DAY);
+    let listener = listening(&rt);
+    let client = client_sent(&rt, &listener, ASKED);
+    serve_mill(&rt, listener, 1);
+    assert!(rt; answer_of(&rt, client).as_slice() == NO_DAY);
 }
 
 #[test]
 fn a_client_that_goes_away_ends_its_own_connection(rt: HostRuntime) {
-    let mut desk = http_desk(&rt, new_lists(&rt));
-    follow(&rt, &mut desk, &[MILL]);
-    let listener = TcpListener::bind(&rt, "127.0.0.1:0")
-        .ok()
-        .expect(&rt, "a port");
-    let address = listener.local_addr().ok().expect(&rt, "an address");
-    let mut first = TcpStream::connect(&rt, address)
-        .ok()
-        .expect(&rt, "a connection");
-    first
-        .write_all(&ASKED[..20])
-        .ok()
-        .expect(&rt, "a part of a message sent");
-    drop(first);
-    let mut second = TcpStream::connect(&rt, address)
-        .ok()
-        .expect(&rt, "a connection");
-    second.write_all(ASKED).ok().expect(&rt, "a message sent");
-    assert!(rt; serve_all(&rt, &mut desk, listener, 2) == Ok(()));
-    let mut out = Vec::new(rt.alloc());
-    second.read_to_end(&mut out).ok().expect(&rt, "an answer");
-    assert!(rt; out.as_slice() == NO_DAY);
+    let listener = listening(&rt);
+    drop(client_sent(&rt, &listener, PART));
+    let next = client_sent(&rt, &listener, ASKED);
+    serve_mill(&rt, listener, 2);
+    assert!(rt; answer_of(&rt, next).as_slice() == NO_DAY);
 }
 
 #[test]
 fn a_silent_client_ends_its_own_connection(rt: HostRuntime) {
-    let mut desk = http_desk(&rt, new_lists(&rt));
-    follow(&rt, &mut desk, &[MILL]);
-    let listener = TcpListener::bind(&rt, "127.0.0.1:0")
-        .ok()
-        .expect(&rt, "a port");
-    let address = listener.local_addr().ok().expect(&rt, "an address");
+    let listener = listening(&rt);
     // It stops inside its head, and stays.
-    let mut silent = TcpStream::connect(&rt, address)
-        .ok()
-        .expect(&rt, "a connection");
-    silent
-        .write_all(&ASKED[..20])
-        .ok()
-        .expect(&rt, "a part of a message sent");
-    let mut next = TcpStream::connect(&rt, address)
-        .ok()
-        .expect(&rt, "a connection");
-    next.write_all(ASKED).ok().expect(&rt, "a message sent");
-    assert!(rt; serve_all(&rt, &mut desk, listener, 2) == Ok(()));
-    let mut out = Vec::new(rt.alloc());
-    next.read_to_end(&mut out).ok().expect(&rt, "an answer");
-    assert!(rt; out.as_slice() == NO_DAY);
-    out.clear();
-    silent.read_to_end(&mut out).ok().expect(&rt, "the end");
-    assert!(rt; out.is_empty());
+    let silent = client_sent(&rt, &listener, PART);
+    let next = client_sent(&rt, &listener, ASKED);
+    serve_mill(&rt, listener, 2);
+    assert!(rt; answer_of(&rt, next).as_slice() == NO_DAY);
+    assert!(rt; answer_of(&rt, silent).is_empty());
 }
 
-// A POST without a length, and what its client sends before it reads.
-const UNREAD: &[u8] = b"POST /ops/returns HTTP/1.1\r\n\r\n";
-
-const LENGTH_REQUIRED: &[u8] =
-    b"HTTP/1.1 411 Length Required\r\nContent-Type: application/json\r\nContent-Length: 26\r\nConnection: close\r\n\r\n{\"error\":\"LengthRequired\"}";
-
-#[test]
-fn a_client_that_sends_before_it_reads_gets_its_answer(rt: HostRuntime) {
-    let mut desk = http_desk(&rt, new_lists(&rt));
-    let listener = TcpListener::bind(&rt, "127.0.0.1:0")
-        .ok()
-        .expect(&rt, "a port");
-    let address = listener.local_addr().ok().expect(&rt, "an address");
-    let mut client = TcpStream::connect(&rt, address)
-        .ok()
-        .expect(&rt, "a connection");
-    client.write_all(UNREAD).ok().expect(&rt, "a head sent");
-    let piece = [b'9'; 1_000];
+// Sends a hundred pieces, and ends.
+fn send_pieces(rt: &impl Abort, client: &mut TcpStream) {
     for _ in 0..100 {
-        client.write_all(&piece).ok().expect(&rt, "a piece sent");
+        client.write_all(PIECE).ok().expect(rt, "a piece sent");
     }
     client
         .shutdown(Shutdown::Write)
         .ok()
-        .expect(&rt, "the end sent");
-    assert!(rt; serve_all(&rt, &mut desk, listener, 1) == Ok(()));
-    let mut out = Vec::new(rt.alloc());
-    client.read_to_end(&mut out).ok().expect(&rt, "an answer");
-    assert!(rt; out.as_slice() == LENGTH_REQUIRED);
+        .expect(rt, "the end sent");
+}
+
+#[test]
+fn a_client_that_sends_before_it_reads_gets_its_answer(rt: HostRuntime) {
+    let listener = listening(&rt);
+    let mut client = client_sent(&rt, &listener, UNREAD);
+    send_pieces(&rt, &mut client);
+    serve_mill(&rt, listener, 1);
+    assert!(rt; answer_of(&rt, client).as_slice() == LENGTH_REQUIRED);
 }
 
 // A connection that can do less: its waiting is bounded or not, and it has no second handle.
@@ -203,19 +194,13 @@ impl OpenListener for BareListener {
     }
 }
 
-// What a client gets that sends a message over a bare connection, which is counted.
+// What a client gets that sends nothing over a bare connection, which is counted.
 fn answer_over(
     rt: &(impl Abort + Alloc<A = Global> + Net<Listener = TcpListener, Stream = TcpStream>),
     waits_at_most: bool,
 ) -> Vec<u8> {
-    let mut desk = http_desk(rt, new_lists(rt));
-    let listener = TcpListener::bind(rt, "127.0.0.1:0")
-        .ok()
-        .expect(rt, "a port");
-    let address = listener.local_addr().ok().expect(rt, "an address");
-    let mut client = TcpStream::connect(rt, address)
-        .ok()
-        .expect(rt, "a connection");
+    let listener = listening(rt);
+    let client = client_sent(rt, &listener, b"");
     client
         .shutdown(Shutdown::Write)
         .ok()
@@ -224,10 +209,9 @@ fn answer_over(
         listener,
         waits_at_most,
     };
+    let mut desk = http_desk(rt, new_lists(rt));
     assert!(rt; serve_all(rt, &mut desk, listener, 1) == Ok(()));
-    let mut out = Vec::new(rt.alloc());
-    client.read_to_end(&mut out).ok().expect(rt, "an answer");
-    out
+    answer_of(rt, client)
 }
 
 #[test]
@@ -242,18 +226,12 @@ fn a_connection_that_would_wait_for_ever_is_closed(rt: HostRuntime) {
 
 #[test]
 fn what_cannot_be_accepted_ends_the_service(rt: HostRuntime) {
-    let mut desk = http_desk(&rt, new_lists(&rt));
-    let listener = TcpListener::bind(&rt, "127.0.0.1:0")
-        .ok()
-        .expect(&rt, "a port");
-    let address = listener.local_addr().ok().expect(&rt, "an address");
+    let listener = listening(&rt);
     listener
         .set_nonblocking(true)
         .ok()
         .expect(&rt, "a listener that waits for none");
-    let client = TcpStream::connect(&rt, address)
-        .ok()
-        .expect(&rt, "a connection");
-    drop(client);
+    drop(client_sent(&rt, &listener, b""));
+    let mut desk = http_desk(&rt, new_lists(&rt));
     assert!(rt; serve_all(&rt, &mut desk, listener, 2) == Err(ServeFault::Accept(1)));
 }

@@ -1,5 +1,5 @@
 //! Messages and answers as bytes, and sessions over them.
-use super::samples::{Exchange, new_lists, new_tables};
+use super::samples::{Exchange, Script, new_lists, new_tables};
 use desk_core::{Desk, Store};
 use desk_http::HttpDesk;
 use http_routes::Routes;
@@ -10,6 +10,9 @@ use std::process::Abort;
 
 pub(super) const UNAVAILABLE: &[u8] =
     b"HTTP/1.1 503 Service Unavailable\r\nContent-Type: application/json\r\nContent-Length: 23\r\nConnection: close\r\n\r\n{\"error\":\"Unavailable\"}";
+
+pub(super) const LENGTH_REQUIRED: &[u8] =
+    b"HTTP/1.1 411 Length Required\r\nContent-Type: application/json\r\nContent-Length: 26\r\nConnection: close\r\n\r\n{\"error\":\"LengthRequired\"}";
 
 // The word with this number; empty where there are fewer.
 fn word(line: &str, number: usize) -> &str {
@@ -96,22 +99,28 @@ pub(super) fn run<S: Store>(
 pub(super) fn follow<S: Store>(
     rt: &(impl Abort + Alloc<A = Global>),
     desk: &mut HttpDesk<S>,
-    script: &[Exchange],
+    name: &str,
+    exchanges: &[(&str, &str, &str, &str)],
 ) {
     let mut input = Vec::new(rt.alloc());
     let mut wanted = Vec::new(rt.alloc());
-    for (asks, body, status, answer) in script {
+    for (asks, body, status, answer) in exchanges {
         add_request(rt, &mut input, asks, body);
         add_response(rt, &mut wanted, asks, status, answer);
     }
     let out = run(rt, desk, &input);
-    assert!(rt; out.as_slice() == wanted.as_slice());
+    assert!(rt; out.as_slice() == wanted.as_slice(), "{name}");
 }
 
 /// Does so over lists and over tables, each the store of a new desk of the sample bank.
-pub(super) fn holds(rt: &(impl Abort + Alloc<A = Global>), script: &[Exchange]) {
-    let mut over_lists = http_desk(rt, new_lists(rt));
-    follow(rt, &mut over_lists, script);
-    let mut over_tables = http_desk(rt, new_tables(rt));
-    follow(rt, &mut over_tables, script);
+pub(super) fn holds(rt: &(impl Abort + Alloc<A = Global>), name: &str, exchanges: &[Exchange]) {
+    follow(rt, &mut http_desk(rt, new_lists(rt)), name, exchanges);
+    follow(rt, &mut http_desk(rt, new_tables(rt)), name, exchanges);
+}
+
+/// Does so with each of these scripts.
+pub(super) fn all_hold(rt: &(impl Abort + Alloc<A = Global>), scripts: &[Script]) {
+    for (name, exchanges) in scripts {
+        holds(rt, name, exchanges);
+    }
 }

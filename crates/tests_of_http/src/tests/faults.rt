@@ -1,15 +1,13 @@
 //! Messages that make no call, and the order in which that is told.
-use super::exchanges::{holds, http_desk, run};
-use super::samples::{DAY_8, HOLIDAYS, MILL, PAY_1, PAY_1_ACCEPTED, new_lists};
-use std::alloc::Global;
-use std::process::Abort;
+use super::exchanges::{LENGTH_REQUIRED, all_hold, http_desk, run};
+use super::samples::{DAY_8, HOLIDAYS, MILL, PAY_1, PAY_1_ACCEPTED, Script, new_lists};
 
 const DENIED: &str = r#"{"error":"Denied"}"#;
 
-#[test]
-fn a_wrong_key_and_an_unknown_company_are_denied_alike(rt: HostRuntime) {
-    holds(
-        &rt,
+/// Scripts by what they try.
+const SCRIPTS: &[Script] = &[
+    (
+        "a wrong key and an unknown company are denied alike",
         &[
             MILL,
             ("wrong-key GET /c/MILL01/rates", "", "403 Forbidden", DENIED),
@@ -25,13 +23,9 @@ fn a_wrong_key_and_an_unknown_company_are_denied_alike(rt: HostRuntime) {
             ("MILL01 POST /ops/cut", "", "403 Forbidden", DENIED),
             ("desk GET /c/MILL01/rates", "", "403 Forbidden", DENIED),
         ],
-    );
-}
-
-#[test]
-fn the_path_is_told_before_the_method_and_that_before_the_key(rt: HostRuntime) {
-    holds(
-        &rt,
+    ),
+    (
+        "the path is told before the method and that before the key",
         &[
             (
                 "wrong-key GET /nowhere",
@@ -65,13 +59,9 @@ fn the_path_is_told_before_the_method_and_that_before_the_key(rt: HostRuntime) {
                 r#"{"error":"BadField","field":"day","index":0,"number":2}"#,
             ),
         ],
-    );
-}
-
-#[test]
-fn what_is_not_there_is_not_found(rt: HostRuntime) {
-    holds(
-        &rt,
+    ),
+    (
+        "what is not there is not found",
         &[
             MILL,
             (
@@ -111,67 +101,9 @@ fn what_is_not_there_is_not_found(rt: HostRuntime) {
                 r#"{"error":"NoDay","number":1}"#,
             ),
         ],
-    );
-}
-
-// What a session with a new desk writes that reads these bytes.
-fn answer_to(rt: &(impl Abort + Alloc<A = Global>), input: &[u8]) -> Vec<u8> {
-    run(rt, &mut http_desk(rt, new_lists(rt)), input)
-}
-
-#[test]
-fn a_fault_of_the_head_ends_the_session(rt: HostRuntime) {
-    let out = answer_to(
-        &rt,
-        b"POST /ops/day HTTP/1.1\r\nX-Desk-Key: operator-key\r\n\r\nGET /nowhere HTTP/1.1\r\n\r\n",
-    );
-    assert!(rt;
-        out.as_slice()
-            == b"HTTP/1.1 411 Length Required\r\nContent-Type: application/json\r\nContent-Length: 26\r\nConnection: close\r\n\r\n{\"error\":\"LengthRequired\"}".as_slice()
-    );
-    let out = answer_to(
-        &rt,
-        b"POST /ops/returns HTTP/1.1\r\nContent-Length: 4194305\r\n\r\n",
-    );
-    assert!(rt;
-        out.as_slice()
-            == b"HTTP/1.1 413 Payload Too Large\r\nContent-Type: application/json\r\nContent-Length: 20\r\nConnection: close\r\n\r\n{\"error\":\"TooLarge\"}".as_slice()
-    );
-    let out = answer_to(&rt, b"GET /nowhere HTTP/1.1\r\nContent-Length: +0\r\n\r\n");
-    assert!(rt;
-        out.as_slice()
-            == b"HTTP/1.1 400 Bad Request\r\nContent-Type: application/json\r\nContent-Length: 19\r\nConnection: close\r\n\r\n{\"error\":\"BadHead\"}".as_slice()
-    );
-}
-
-#[test]
-fn a_message_without_a_key_is_denied(rt: HostRuntime) {
-    let out = answer_to(
-        &rt,
-        b"GET /ops/suspense HTTP/1.1\r\nConnection: Close\r\n\r\n",
-    );
-    assert!(rt;
-        out.as_slice()
-            == b"HTTP/1.1 403 Forbidden\r\nContent-Type: application/json\r\nContent-Length: 18\r\nConnection: close\r\n\r\n{\"error\":\"Denied\"}".as_slice()
-    );
-}
-
-#[test]
-fn the_first_key_counts_and_its_name_has_no_case(rt: HostRuntime) {
-    let out = answer_to(
-        &rt,
-        b"GET /ops/suspense?all HTTP/1.0\r\nx-desk-KEY:  operator-key \r\nX-Desk-Key: other-key\r\n\r\n",
-    );
-    assert!(rt;
-        out.as_slice()
-            == b"HTTP/1.1 200 OK\r\nContent-Type: application/json\r\nContent-Length: 12\r\nConnection: close\r\n\r\n{\"items\":[]}".as_slice()
-    );
-}
-
-#[test]
-fn a_company_that_was_refused_may_come_again(rt: HostRuntime) {
-    holds(
-        &rt,
+    ),
+    (
+        "a company that was refused may come again",
         &[
             HOLIDAYS,
             (
@@ -195,5 +127,47 @@ fn a_company_that_was_refused_may_come_again(rt: HostRuntime) {
                 PAY_1_ACCEPTED,
             ),
         ],
-    );
+    ),
+];
+
+#[test]
+fn messages_that_make_no_call(rt: HostRuntime) {
+    all_hold(&rt, SCRIPTS);
+}
+
+/// Bytes that a session with a new desk reads, and what it writes before it ends.
+const HEADS: &[(&str, &[u8], &[u8])] = &[
+    (
+        "no length: nothing behind it is read",
+        b"POST /ops/day HTTP/1.1\r\nX-Desk-Key: operator-key\r\n\r\nGET /nowhere HTTP/1.1\r\n\r\n",
+        LENGTH_REQUIRED,
+    ),
+    (
+        "a length that is too large",
+        b"POST /ops/returns HTTP/1.1\r\nContent-Length: 4194305\r\n\r\n",
+        b"HTTP/1.1 413 Payload Too Large\r\nContent-Type: application/json\r\nContent-Length: 20\r\nConnection: close\r\n\r\n{\"error\":\"TooLarge\"}",
+    ),
+    (
+        "a length that is no number",
+        b"GET /nowhere HTTP/1.1\r\nContent-Length: +0\r\n\r\n",
+        b"HTTP/1.1 400 Bad Request\r\nContent-Type: application/json\r\nContent-Length: 19\r\nConnection: close\r\n\r\n{\"error\":\"BadHead\"}",
+    ),
+    (
+        "no key",
+        b"GET /ops/suspense HTTP/1.1\r\nConnection: Close\r\n\r\n",
+        b"HTTP/1.1 403 Forbidden\r\nContent-Type: application/json\r\nContent-Length: 18\r\nConnection: close\r\n\r\n{\"error\":\"Denied\"}",
+    ),
+    (
+        "the first of two keys, whose name has no case",
+        b"GET /ops/suspense?all HTTP/1.0\r\nx-desk-KEY:  operator-key \r\nX-Desk-Key: other-key\r\n\r\n",
+        b"HTTP/1.1 200 OK\r\nContent-Type: application/json\r\nContent-Length: 12\r\nConnection: close\r\n\r\n{\"items\":[]}",
+    ),
+];
+
+#[test]
+fn heads_that_end_the_session(rt: HostRuntime) {
+    for (name, input, wanted) in HEADS {
+        let out = run(&rt, &mut http_desk(&rt, new_lists(&rt)), input);
+        assert!(rt; out.as_slice() == *wanted, "{name}");
+    }
 }

@@ -1,8 +1,8 @@
 //! A company gets the same bytes whatever others do, and from a desk that serves no one else.
-use super::exchanges::{add_request, follow, http_desk, run};
+use super::exchanges::{follow, http_desk};
 use super::samples::{
-    BAKE, DAY_8, DAY_9, DAY_14, Exchange, HOLIDAYS, MILL, RETURN_1, SUBMIT_2, TAKEN, new_lists,
-    new_tables,
+    BAKE, CUT_9, DAY_8, DAY_9, DAY_14, Exchange, HOLIDAYS, MILL, RETURN_1_TAKEN, SUBMIT_2, TAKEN,
+    new_lists, new_tables,
 };
 use desk_core::Store;
 use desk_http::HttpDesk;
@@ -24,7 +24,7 @@ const RETURN_41: &str = concat!(
 );
 
 /// What the company asks after its debit came back, with the answers.
-const AFTER: [Exchange; 6] = [
+const AFTER: &[Exchange] = &[
     (
         "MILL01 GET /c/MILL01/returns",
         "",
@@ -89,47 +89,64 @@ fn debits(rt: &(impl Abort + Alloc<A = Global>), count: usize) -> String {
     body
 }
 
-fn has_cut(entries: &'static str) -> Exchange {
-    ("desk POST /ops/cut", "", "200 OK", entries)
+/// A company is served alone.
+const ALONE: &[Exchange] = &[
+    HOLIDAYS,
+    MILL,
+    DAY_8,
+    SUBMIT_2,
+    DAY_9,
+    CUT_9,
+    DAY_14,
+    RETURN_1_TAKEN,
+];
+
+/// Another company is registered beside it.
+const BESIDE: &[Exchange] = &[HOLIDAYS, MILL, BAKE, DAY_8, SUBMIT_2];
+
+/// What the other company sent goes out before.
+const BEHIND: &[Exchange] = &[
+    DAY_9,
+    (
+        "desk POST /ops/cut",
+        "",
+        "200 OK",
+        r#"{"day":"2025-01-09","entries":41,"files":["A"],"lapsed":0}"#,
+    ),
+    DAY_14,
+    ("desk POST /ops/returns", RETURN_41, "200 OK", TAKEN),
+];
+
+fn serve_alone<S: Store + Drop>(rt: &(impl Abort + Alloc<A = Global>), store: S) {
+    let mut desk = http_desk(rt, store);
+    follow(rt, &mut desk, "alone", ALONE);
+    follow(rt, &mut desk, "told alone", AFTER);
 }
 
-fn serve_alone<S: Store>(rt: &(impl Abort + Alloc<A = Global>), store: S) -> HttpDesk<S> {
-    let mut desk = http_desk(rt, store);
-    let cut = has_cut(r#"{"day":"2025-01-09","entries":1,"files":["A"],"lapsed":0}"#);
-    let returned = ("desk POST /ops/returns", RETURN_1, "200 OK", TAKEN);
-    follow(
-        rt,
-        &mut desk,
-        &[
-            HOLIDAYS, MILL, DAY_8, SUBMIT_2, DAY_9, cut, DAY_14, returned,
-        ],
-    );
-    desk
-}
-
-fn serve_beside_another<S: Store>(rt: &(impl Abort + Alloc<A = Global>), store: S) -> HttpDesk<S> {
-    let mut desk = http_desk(rt, store);
-    follow(rt, &mut desk, &[HOLIDAYS, MILL, BAKE, DAY_8, SUBMIT_2]);
-    let mut input = Vec::new(rt.alloc());
+// The other company sends forty debits.
+fn serve_other<S: Store>(rt: &(impl Abort + Alloc<A = Global>), desk: &mut HttpDesk<S>) {
     let body = debits(rt, 40);
-    add_request(
-        rt,
-        &mut input,
+    let sent = (
         "BAKE01 POST /c/BAKE01/submissions",
         body.as_str(),
+        "201 Created",
+        r#"{"cents":4000,"entries":40,"order":1,"ref":"PAY-9"}"#,
     );
-    let out = run(rt, &mut desk, &input);
-    assert!(rt; out.starts_with(b"HTTP/1.1 201 Created\r\n"));
-    let cut = has_cut(r#"{"day":"2025-01-09","entries":41,"files":["A"],"lapsed":0}"#);
-    let returned = ("desk POST /ops/returns", RETURN_41, "200 OK", TAKEN);
-    follow(rt, &mut desk, &[DAY_9, cut, DAY_14, returned]);
-    desk
+    follow(rt, desk, "forty debits", &[sent]);
+}
+
+fn serve_beside_another<S: Store + Drop>(rt: &(impl Abort + Alloc<A = Global>), store: S) {
+    let mut desk = http_desk(rt, store);
+    follow(rt, &mut desk, "beside another", BESIDE);
+    serve_other(rt, &mut desk);
+    follow(rt, &mut desk, "behind another", BEHIND);
+    follow(rt, &mut desk, "told beside another", AFTER);
 }
 
 #[test]
 fn what_others_send_changes_no_byte(rt: HostRuntime) {
-    follow(&rt, &mut serve_alone(&rt, new_lists(&rt)), &AFTER);
-    follow(&rt, &mut serve_alone(&rt, new_tables(&rt)), &AFTER);
-    follow(&rt, &mut serve_beside_another(&rt, new_lists(&rt)), &AFTER);
-    follow(&rt, &mut serve_beside_another(&rt, new_tables(&rt)), &AFTER);
+    serve_alone(&rt, new_lists(&rt));
+    serve_alone(&rt, new_tables(&rt));
+    serve_beside_another(&rt, new_lists(&rt));
+    serve_beside_another(&rt, new_tables(&rt));
 }

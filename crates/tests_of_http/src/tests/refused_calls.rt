@@ -33,7 +33,7 @@ fn is_answered<S: Store>(
 fn refused_messages(rt: &(impl Abort + Alloc<A = Global>), call: u64) -> u64 {
     let mut desk = http_desk(rt, FaultyStore::new(new_lists(rt), call));
     let mut refused: u64 = 0;
-    for exchange in DAYS.iter() {
+    for exchange in DAYS {
         if !is_answered(rt, &mut desk, exchange) {
             refused = refused.saturating_add(1);
             assert!(rt; is_answered(rt, &mut desk, exchange));

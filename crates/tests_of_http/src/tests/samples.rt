@@ -11,6 +11,9 @@ use std::process::Abort;
 /// body.
 pub(super) type Exchange = (&'static str, &'static str, &'static str, &'static str);
 
+/// A script has a name, and exchanges that follow one another.
+pub(super) type Script = (&'static str, &'static [Exchange]);
+
 pub(super) const PAY_1: &str =
     r#"{"ref":"PAY-1","sec":"PPD","direction":"credit","description":"PAYROLL","day":"2025-01-10","entries":[{"routing":"091000019","account":"123456789","kind":"checking","cents":150000,"id":"E1","name":"ANN LEE"}]}"#;
 
@@ -77,7 +80,7 @@ pub(super) const SUBMIT_2: Exchange = (
 );
 
 /// The one return that a file has, of a debit that was sent with the first sequence.
-pub(super) const RETURN_1: &str = concat!(
+const RETURN_1: &str = concat!(
     "101 121042882 0610001462501140930A094101OUR BANK               ACH OPERATOR                   \n",
     "5225MILL STREET                         MILL01    PPDDUES            2501140141091000010000001\n",
     "626121042882123456789        0000002500E2             BOB RAY                 1091000010000007\n",
@@ -92,6 +95,16 @@ pub(super) const RETURN_1: &str = concat!(
 
 pub(super) const TAKEN: &str =
     r#"{"changes":0,"day":"2025-01-14","late":0,"returns":1,"suspense":0}"#;
+
+pub(super) const RETURN_1_TAKEN: Exchange = ("desk POST /ops/returns", RETURN_1, "200 OK", TAKEN);
+
+/// One entry is sent on that day.
+pub(super) const CUT_9: Exchange = (
+    "desk POST /ops/cut",
+    "",
+    "200 OK",
+    r#"{"day":"2025-01-09","entries":1,"files":["A"],"lapsed":0}"#,
+);
 
 fn name(rt: &impl Abort, text: &[u8]) -> PartyName {
     PartyName::new(text).ok().expect(rt, "a name")

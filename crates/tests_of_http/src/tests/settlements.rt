@@ -1,6 +1,8 @@
 //! A bank's days: what was cut, what came back, and the accounts.
 use super::exchanges::holds;
-use super::samples::{DAY_8, DAY_9, DAY_14, Exchange, HOLIDAYS, MILL, PAY_2, SUBMIT_1, TAKEN};
+use super::samples::{
+    CUT_9, DAY_8, DAY_9, DAY_14, Exchange, HOLIDAYS, MILL, PAY_2, SUBMIT_1, TAKEN,
+};
 
 /// The return of the second entry that the desk sent.
 const RETURN_2: &str = concat!(
@@ -31,7 +33,7 @@ const FILE_A: &str = concat!(
 );
 
 /// A credit and a debit are sent, and the debit comes back.
-pub(super) const DAYS: [Exchange; 13] = [
+pub(super) const DAYS: &[Exchange] = &[
     HOLIDAYS,
     MILL,
     DAY_8,
@@ -50,12 +52,7 @@ pub(super) const DAYS: [Exchange; 13] = [
         r#"{"cents":2500,"entries":1,"order":2,"ref":"PAY-2"}"#,
     ),
     DAY_9,
-    (
-        "desk POST /ops/cut",
-        "",
-        "200 OK",
-        r#"{"day":"2025-01-09","entries":1,"files":["A"],"lapsed":0}"#,
-    ),
+    CUT_9,
     DAY_14,
     ("desk POST /ops/returns", RETURN_2, "200 OK", TAKEN),
     (
@@ -74,5 +71,5 @@ pub(super) const DAYS: [Exchange; 13] = [
 
 #[test]
 fn what_was_sent_and_came_back_is_in_the_accounts(rt: HostRuntime) {
-    holds(&rt, &DAYS);
+    holds(&rt, "days", DAYS);
 }
