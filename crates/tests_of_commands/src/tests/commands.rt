@@ -1,169 +1,148 @@
 //! Commands that are carried out, and words that name none.
-use super::{PAY_1, PAY_1_LINE};
-use desk_cli::{Command, LineFault, Status, VERSION_LINE, print_line_fault, run, run_words};
+use super::{NOBODY, PAY_1, PAY_1_LINE, prints};
+use desk_cli::{Command, LineFault, Status, VERSION_LINE, print_line_fault, run_words};
+use std::alloc::Global;
 use std::test::Fail;
 
-const NOBODY: &[u8] = b"";
+/// Words, the exit status, and what the first line begins with.
+const WORDS: &[(&[&str], u8, &str)] = &[
+    (&[], 0, PAY_1_LINE),
+    (&["check", "no such file"], 3, "unavailable\n"),
+    (
+        &["--help"],
+        0,
+        "The ACH desk of an originating bank.\n\nWithout words it reads a submission in JSON from standard input",
+    ),
+    (&["--version"], 0, "achdesk "),
+    (&["-V"], 0, "achdesk "),
+    (&["check", "--version"], 2, "error: "),
+    (&["help"], 0, "The ACH desk of an originating bank."),
+    (&["help", "help"], 0, "Print this message"),
+    (
+        &["help", "bogus"],
+        2,
+        "error: unrecognized subcommand 'bogus'",
+    ),
+    (&["check", "--help"], 0, "Checks an incoming ACH file"),
+    (&["check"], 2, "error: "),
+    (
+        &[
+            "submit",
+            "no such list",
+            "--company=MILL01",
+            "--key=mill-street-key",
+            "--ref=PAY-1",
+            "--sec=PPD",
+            "--direction=credit",
+            "--description=PAYROLL",
+            "--day=2025-01-10",
+        ],
+        3,
+        "unavailable\n",
+    ),
+    (&["submit", "--help"], 0, "Prints the message"),
+    (&["submit"], 2, "error: "),
+    (&["stdio"], 1, ""),
+    (&["stdio", "--help"], 0, "Answers HTTP/1.1 messages"),
+    (&["stdio", "no such desk"], 1, "NotADesk\n"),
+    (&["init", "--help"], 0, "Makes a new desk in a file"),
+    (&["init", "desk.db"], 2, "error: "),
+    (
+        &["migrate", "--help"],
+        0,
+        "Brings a desk's file of version 1",
+    ),
+    (&["migrate"], 2, "error: "),
+    (&["migrate", "no such desk"], 1, "NotADesk\n"),
+    (
+        &["serve", "--help"],
+        0,
+        "Answers HTTP/1.1 messages on connections",
+    ),
+    (&["serve", "no such desk"], 2, "error: "),
+    (&["serve", "no such desk", "0"], 2, "error: "),
+    (&["serve", "no such desk", "65536"], 2, "error: "),
+    (&["serve", "no such desk", "port"], 2, "error: "),
+    (
+        &["serve", "no such desk", "8080", "--connections", "0"],
+        2,
+        "error: ",
+    ),
+    (
+        &["serve", "no such desk", "8080", "--connections=1000001"],
+        2,
+        "error: ",
+    ),
+    (
+        &["serve", "no such desk", "8080", "--patience", "0"],
+        2,
+        "error: ",
+    ),
+    (
+        &["serve", "no such desk", "8080", "--patience=3601"],
+        2,
+        "error: ",
+    ),
+    (&["serve", "no such desk", "8080"], 1, "NotADesk\n"),
+];
+
+/// The commands that have a help of their own.
+const COMMANDS: &[&str] = &["check", "submit", "stdio", "init", "serve", "migrate"];
+
+// Do these words give this exit status, and does what is printed begin so?
+fn begins(rt: &HostRuntime, words: &[&str], code: u8, start: &str) -> bool {
+    let mut output = Vec::new(rt.alloc());
+    let given = run_words(rt, words, PAY_1, &mut output);
+    given == code && output.as_slice().starts_with(start.as_bytes())
+}
+
+// Is the help of a command the same whether it is asked for before or after its name?
+fn has_one_help(rt: &HostRuntime, command: &str) -> bool {
+    let mut before = Vec::new(rt.alloc());
+    let mut after = Vec::new(rt.alloc());
+    let first = run_words(rt, &["help", command], NOBODY, &mut before);
+    let second = run_words(rt, &[command, "--help"], NOBODY, &mut after);
+    first == 0 && second == 0 && before.as_slice() == after.as_slice()
+}
+
+// Does a line fault give this exit status, and print this?
+fn tells(alloc: Global, fault: LineFault, code: u8, line: &str) -> bool {
+    let mut output = Vec::new(alloc);
+    let given = print_line_fault(&mut output, &fault);
+    given == code && output.as_slice() == line.as_bytes()
+}
 
 #[test]
 fn a_submission_and_a_file_that_is_not_there(rt: HostRuntime) {
-    let mut output = Vec::new(rt.alloc());
-    let status = run(
-        &rt,
-        &Command::AnswerSubmission,
-        PAY_1.as_bytes(),
-        &mut output,
-    );
-    assert!(rt; status == Status::Done);
-    assert!(rt; output.as_slice() == PAY_1_LINE.as_bytes());
-
-    let mut output = Vec::new(rt.alloc());
-    let status = run(
-        &rt,
-        &Command::Check("out/no such folder/no such file"),
-        NOBODY,
-        &mut output,
-    );
-    assert!(rt; status == Status::Failed);
-    assert!(rt; output.as_slice() == b"unavailable\n".as_slice());
+    let answer = Command::AnswerSubmission;
+    assert!(rt; prints(&rt, &answer, PAY_1, Status::Done, PAY_1_LINE.as_bytes()));
+    let check = Command::Check("out/no such folder/no such file");
+    assert!(rt; prints(&rt, &check, NOBODY, Status::Failed, b"unavailable\n"));
 }
 
 #[test]
 fn words_and_their_exit_status(rt: HostRuntime) {
-    // The words, the exit status, and what the first line begins with.
-    let rows: [(&[&str], u8, &[u8]); 22] = [
-        (&[], 0, PAY_1_LINE.as_bytes()),
-        (&["check", "no such file"], 3, b"unavailable\n"),
-        (
-            &["--help"],
-            0,
-            b"The ACH desk of an originating bank.\n\nWithout words it reads a submission in JSON from standard input",
-        ),
-        (&["--version"], 0, b"achdesk "),
-        (&["-V"], 0, b"achdesk "),
-        (&["check", "--version"], 2, b"error: "),
-        (&["help"], 0, b"The ACH desk of an originating bank."),
-        (&["help", "help"], 0, b"Print this message"),
-        (
-            &["help", "bogus"],
-            2,
-            b"error: unrecognized subcommand 'bogus'",
-        ),
-        (&["check", "--help"], 0, b"Checks an incoming ACH file"),
-        (&["check"], 2, b"error: "),
-        (
-            &[
-                "submit",
-                "no such list",
-                "--company=MILL01",
-                "--key=mill-street-key",
-                "--ref=PAY-1",
-                "--sec=PPD",
-                "--direction=credit",
-                "--description=PAYROLL",
-                "--day=2025-01-10",
-            ],
-            3,
-            b"unavailable\n",
-        ),
-        (&["submit", "--help"], 0, b"Prints the message"),
-        (&["submit"], 2, b"error: "),
-        (&["stdio"], 1, b""),
-        (&["stdio", "--help"], 0, b"Answers HTTP/1.1 messages"),
-        (&["stdio", "no such desk"], 1, b"NotADesk\n"),
-        (&["init", "--help"], 0, b"Makes a new desk in a file"),
-        (&["init", "desk.db"], 2, b"error: "),
-        (
-            &["migrate", "--help"],
-            0,
-            b"Brings a desk's file of version 1",
-        ),
-        (&["migrate"], 2, b"error: "),
-        (&["migrate", "no such desk"], 1, b"NotADesk\n"),
-    ];
-    for (words, code, start) in rows {
-        let mut output = Vec::new(rt.alloc());
-        assert!(rt; run_words(&rt, words, PAY_1.as_bytes(), &mut output) == code);
-        assert!(rt; output.as_slice().starts_with(start));
-    }
-}
-
-#[test]
-fn words_of_serve_and_their_exit_status(rt: HostRuntime) {
-    // The words, the exit status, and what the first line begins with.
-    let rows: [(&[&str], u8, &[u8]); 10] = [
-        (
-            &["serve", "--help"],
-            0,
-            b"Answers HTTP/1.1 messages on connections",
-        ),
-        (&["serve", "no such desk"], 2, b"error: "),
-        (&["serve", "no such desk", "0"], 2, b"error: "),
-        (&["serve", "no such desk", "65536"], 2, b"error: "),
-        (&["serve", "no such desk", "port"], 2, b"error: "),
-        (
-            &["serve", "no such desk", "8080", "--connections", "0"],
-            2,
-            b"error: ",
-        ),
-        (
-            &["serve", "no such desk", "8080", "--connections=1000001"],
-            2,
-            b"error: ",
-        ),
-        (
-            &["serve", "no such desk", "8080", "--patience", "0"],
-            2,
-            b"error: ",
-        ),
-        (
-            &["serve", "no such desk", "8080", "--patience=3601"],
-            2,
-            b"error: ",
-        ),
-        (&["serve", "no such desk", "8080"], 1, b"NotADesk\n"),
-    ];
-    for (words, code, start) in rows {
-        let mut output = Vec::new(rt.alloc());
-        assert!(rt; run_words(&rt, words, PAY_1.as_bytes(), &mut output) == code);
-        assert!(rt; output.as_slice().starts_with(start));
+    for &(words, code, start) in WORDS {
+        assert!(rt; begins(&rt, words, code, start), "{words:?}");
     }
 }
 
 #[test]
 fn help_before_and_after_a_command(rt: HostRuntime) {
-    for command in ["check", "submit", "stdio", "init", "serve", "migrate"] {
-        let mut before = Vec::new(rt.alloc());
-        let mut after = Vec::new(rt.alloc());
-        assert!(rt; run_words(&rt, &["help", command], NOBODY, &mut before) == 0);
-        assert!(rt; run_words(&rt, &[command, "--help"], NOBODY, &mut after) == 0);
-        assert!(rt; before.as_slice() == after.as_slice(), "{command}");
+    for &command in COMMANDS {
+        assert!(rt; has_one_help(&rt, command), "{command}");
     }
 }
 
 #[test]
-fn the_version_is_one_line(rt: HostRuntime) {
-    let mut output = Vec::new(rt.alloc());
-    assert!(rt; print_line_fault(&mut output, &LineFault::Version) == 0);
-    assert!(rt; output.as_slice() == VERSION_LINE.as_bytes());
+fn line_faults(rt: HostRuntime) -> Result<(), Fail> {
+    let alloc = rt.alloc();
+    let help = LineFault::Help(String::from_str(alloc, "Usage: achdesk\n")?);
+    assert!(rt; tells(alloc, help, 0, "Usage: achdesk\n"));
+    let usage = LineFault::Usage(String::from_str(alloc, "error: wrong words\n")?);
+    assert!(rt; tells(alloc, usage, 2, "error: wrong words\n"));
+    assert!(rt; tells(alloc, LineFault::NoMemory, 3, "unavailable\n"));
+    assert!(rt; tells(alloc, LineFault::Version, 0, VERSION_LINE));
     assert!(rt; VERSION_LINE.lines().count() == 1);
-}
-
-#[test]
-fn help_and_usage(rt: HostRuntime) -> Result<(), Fail> {
-    let text = String::from_str(rt.alloc(), "Usage: achdesk\n")?;
-    let rows = [
-        (LineFault::Help(text), 0, "Usage: achdesk\n"),
-        (LineFault::NoMemory, 3, "unavailable\n"),
-    ];
-    for (fault, code, line) in &rows {
-        let mut output = Vec::new(rt.alloc());
-        assert!(rt; print_line_fault(&mut output, fault) == *code);
-        assert!(rt; output.as_slice() == line.as_bytes());
-    }
-    let mut output = Vec::new(rt.alloc());
-    let text = String::from_str(rt.alloc(), "error: wrong words\n")?;
-    assert!(rt; print_line_fault(&mut output, &LineFault::Usage(text)) == 2);
-    assert!(rt; output.as_slice() == b"error: wrong words\n".as_slice());
     Ok(())
 }

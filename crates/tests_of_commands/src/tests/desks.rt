@@ -1,5 +1,6 @@
 //! Desks in files: they are made once, and what an option or a file has wrong is told.
-use desk_cli::{Command, InitOptions, Status, run, run_words};
+use super::{NOBODY, prints};
+use desk_cli::{Command, InitOptions, Status, run_words};
 use std::fs;
 use std::os::unix::fs::MetadataExt;
 use std::test::Fail;
@@ -13,16 +14,82 @@ pub const SAMPLE_BANK: InitOptions<'static> = InitOptions {
     key: "operator-key",
 };
 
-const NOBODY: &[u8] = b"";
+/// Options of which one after the other is mended, and the line that is printed.
+const BAD_OPTIONS: &[(InitOptions<'static>, &str)] = &[
+    (
+        InitOptions {
+            odfi: "121042881",
+            odfi_name: " OUR BANK",
+            destination: "06100014",
+            destination_name: "AN OPERATOR OF 24 LETTERS",
+            key: "no key",
+        },
+        "bad odfi\n",
+    ),
+    (
+        InitOptions {
+            odfi: "121042882",
+            odfi_name: " OUR BANK",
+            destination: "06100014",
+            destination_name: "AN OPERATOR OF 24 LETTERS",
+            key: "no key",
+        },
+        "bad odfi-name\n",
+    ),
+    (
+        InitOptions {
+            odfi: "121042882",
+            odfi_name: "OUR BANK",
+            destination: "06100014",
+            destination_name: "AN OPERATOR OF 24 LETTERS",
+            key: "no key",
+        },
+        "bad destination\n",
+    ),
+    (
+        InitOptions {
+            odfi: "121042882",
+            odfi_name: "OUR BANK",
+            destination: "061000146",
+            destination_name: "AN OPERATOR OF 24 LETTERS",
+            key: "no key",
+        },
+        "bad destination-name\n",
+    ),
+    (
+        InitOptions {
+            odfi: "121042882",
+            odfi_name: "OUR BANK",
+            destination: "061000146",
+            destination_name: "ACH OPERATOR",
+            key: "no key",
+        },
+        "bad key\n",
+    ),
+];
 
 /// No bank and no operator can have one of these as its name.
-const NO_NAMES: [&str; 6] = [
+const NO_NAMES: &[&str] = &[
     "",
     " OUR BANK",
     "OUR BANK ",
     "OUR\tBANK",
     "OUR BÄNK",
     "A NAME OF 24 CHARACTERS.",
+];
+
+/// The words that make a desk of the sample bank.
+const WORDS: &[&str] = &[
+    "init",
+    "words.db",
+    "--odfi",
+    "121042882",
+    "--odfi-name",
+    "OUR BANK",
+    "--destination=061000146",
+    "--destination-name",
+    "ACH OPERATOR",
+    "--key=operator-key",
 ];
 
 /// Removes a desk's file and its log, where they are there.
@@ -33,6 +100,17 @@ pub fn clear(rt: &HostRuntime, path: &str) -> Result<(), Fail> {
     Ok(())
 }
 
+/// Is there no file at this path?
+pub fn is_absent(rt: &HostRuntime, path: &str) -> bool {
+    fs::metadata(rt, path).is_err()
+}
+
+/// Is a desk of the sample bank made at this path, where nothing is left of an earlier one?
+pub fn is_made(rt: &HostRuntime, path: &str) -> Result<bool, Fail> {
+    clear(rt, path)?;
+    Ok(says(rt, path, SAMPLE_BANK, Status::Done, "created\n"))
+}
+
 // Does `init` with these options end so, and print this line?
 fn says(
     rt: &HostRuntime,
@@ -41,9 +119,13 @@ fn says(
     status: Status,
     line: &str,
 ) -> bool {
-    let mut printed = Vec::new(rt.alloc());
-    let ended = run(rt, &Command::Init(path, options), NOBODY, &mut printed);
-    ended == status && printed.as_slice() == line.as_bytes()
+    prints(
+        rt,
+        &Command::Init(path, options),
+        NOBODY,
+        status,
+        line.as_bytes(),
+    )
 }
 
 // Does nobody but its owner read the file?
@@ -55,12 +137,9 @@ fn is_private(rt: &HostRuntime, path: &str) -> Result<bool, Fail> {
 #[test]
 fn a_desk_is_made_once(rt: HostRuntime) -> Result<(), Fail> {
     let path = "made.db";
-    clear(&rt, path)?;
-    assert!(rt; says(&rt, path, SAMPLE_BANK, Status::Done, "created\n"));
-    let is_file_private = is_private(&rt, path)?;
-    assert!(rt; is_file_private);
-    let is_log_private = is_private(&rt, "made.db-wal")?;
-    assert!(rt; is_log_private);
+    assert!(rt; is_made(&rt, path)?);
+    assert!(rt; is_private(&rt, path)?);
+    assert!(rt; is_private(&rt, "made.db-wal")?);
     assert!(rt; says(&rt, path, SAMPLE_BANK, Status::Refused, "Exists\n"));
     clear(&rt, path)
 }
@@ -74,58 +153,28 @@ fn what_is_no_desk_stays_as_it_is(rt: HostRuntime) -> Result<(), Fail> {
     assert!(rt; says(&rt, path, SAMPLE_BANK, Status::Failed, "unavailable\n"));
     let kept = fs::read(&rt, path)?;
     assert!(rt; kept.as_slice() == text);
-    clear(&rt, path)?;
-    assert!(rt;
-        says(
-            &rt,
-            "no such folder/made.db",
-            SAMPLE_BANK,
-            Status::Failed,
-            "unavailable\n"
-        )
-    );
-    assert!(rt;
-        says(
-            &rt,
-            ":memory:",
-            SAMPLE_BANK,
-            Status::Failed,
-            "unavailable\n"
-        )
-    );
-    Ok(())
+    clear(&rt, path)
+}
+
+#[test]
+fn no_desk_is_made_where_no_file_can_be(rt: HostRuntime) {
+    for &path in &["no such folder/made.db", ":memory:"] {
+        assert!(rt;
+            says(&rt, path, SAMPLE_BANK, Status::Failed, "unavailable\n"),
+            "{path}"
+        );
+    }
 }
 
 #[test]
 fn the_first_bad_option_is_told(rt: HostRuntime) -> Result<(), Fail> {
     let path = "none.db";
     clear(&rt, path)?;
-    let mut options = InitOptions {
-        odfi: "121042881",
-        odfi_name: " OUR BANK",
-        destination: "06100014",
-        destination_name: "AN OPERATOR OF 24 LETTERS",
-        key: "no key",
-    };
-    assert!(rt; says(&rt, path, options, Status::Refused, "bad odfi\n"));
-    options.odfi = SAMPLE_BANK.odfi;
-    assert!(rt; says(&rt, path, options, Status::Refused, "bad odfi-name\n"));
-    options.odfi_name = SAMPLE_BANK.odfi_name;
-    assert!(rt; says(&rt, path, options, Status::Refused, "bad destination\n"));
-    options.destination = SAMPLE_BANK.destination;
-    assert!(rt;
-        says(
-            &rt,
-            path,
-            options,
-            Status::Refused,
-            "bad destination-name\n"
-        )
-    );
-    options.destination_name = SAMPLE_BANK.destination_name;
-    assert!(rt; says(&rt, path, options, Status::Refused, "bad key\n"));
+    for &(options, line) in BAD_OPTIONS {
+        assert!(rt; says(&rt, path, options, Status::Refused, line), "{line}");
+    }
     // No file was made meanwhile.
-    assert!(rt; fs::metadata(&rt, path).is_err());
+    assert!(rt; is_absent(&rt, path));
     Ok(())
 }
 
@@ -133,26 +182,39 @@ fn the_first_bad_option_is_told(rt: HostRuntime) -> Result<(), Fail> {
 fn a_desk_has_names(rt: HostRuntime) -> Result<(), Fail> {
     let path = "named.db";
     clear(&rt, path)?;
-    for name in NO_NAMES {
+    for &name in NO_NAMES {
         let mut options = SAMPLE_BANK;
         options.odfi_name = name;
-        let is_told = says(&rt, path, options, Status::Refused, "bad odfi-name\n");
-        assert!(rt; is_told, "{name}");
+        assert!(rt;
+            says(&rt, path, options, Status::Refused, "bad odfi-name\n"),
+            "{name}"
+        );
         options = SAMPLE_BANK;
         options.destination_name = name;
-        let is_told = says(
-            &rt,
-            path,
-            options,
-            Status::Refused,
-            "bad destination-name\n",
+        assert!(rt;
+            says(
+                &rt,
+                path,
+                options,
+                Status::Refused,
+                "bad destination-name\n"
+            ),
+            "{name}"
         );
-        assert!(rt; is_told, "{name}");
     }
-    assert!(rt; fs::metadata(&rt, path).is_err());
-    let mut options = SAMPLE_BANK;
-    options.odfi_name = "A NAME OF 23 CHARACTERS";
-    options.destination_name = "~";
+    assert!(rt; is_absent(&rt, path));
+    Ok(())
+}
+
+#[test]
+fn the_longest_and_the_shortest_name(rt: HostRuntime) -> Result<(), Fail> {
+    let path = "longest.db";
+    clear(&rt, path)?;
+    let options = InitOptions {
+        odfi_name: "A NAME OF 23 CHARACTERS",
+        destination_name: "~",
+        ..SAMPLE_BANK
+    };
     assert!(rt; says(&rt, path, options, Status::Done, "created\n"));
     clear(&rt, path)
 }
@@ -161,21 +223,9 @@ fn a_desk_has_names(rt: HostRuntime) -> Result<(), Fail> {
 fn the_words_of_a_new_desk(rt: HostRuntime) -> Result<(), Fail> {
     let path = "words.db";
     clear(&rt, path)?;
-    let words = [
-        "init",
-        path,
-        "--odfi",
-        "121042882",
-        "--odfi-name",
-        "OUR BANK",
-        "--destination=061000146",
-        "--destination-name",
-        "ACH OPERATOR",
-        "--key=operator-key",
-    ];
     let mut printed = Vec::new(rt.alloc());
-    assert!(rt; run_words(&rt, &words, NOBODY, &mut printed) == 0);
-    assert!(rt; run_words(&rt, &words, NOBODY, &mut printed) == 1);
+    assert!(rt; run_words(&rt, WORDS, NOBODY, &mut printed) == 0);
+    assert!(rt; run_words(&rt, WORDS, NOBODY, &mut printed) == 1);
     assert!(rt; printed.as_slice() == b"created\nExists\n".as_slice());
     clear(&rt, path)
 }

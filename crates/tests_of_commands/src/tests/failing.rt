@@ -3,6 +3,7 @@ use super::files::{LINE, RECORDS};
 use super::lists::{OPTIONS, PAY_LIST, PAY_MESSAGE};
 use super::{PAY_1, PAY_1_LINE};
 use desk_cli::{LineFault, Status, check_file, first_run, print_line_fault, submit_list};
+use std::alloc::Global;
 use std::io;
 use std::io::{ErrorKind, Read, Write};
 use std::test::Fail;
@@ -136,12 +137,12 @@ enum Run {
     Submit,
 }
 
-const RUNS: [Run; 3] = [Run::Answer, Run::Check, Run::Submit];
+const RUNS: &[Run] = &[Run::Answer, Run::Check, Run::Submit];
 
 impl Run {
     fn input(self) -> &'static [u8] {
         match self {
-            Run::Answer => PAY_1.as_bytes(),
+            Run::Answer => PAY_1,
             Run::Check => RECORDS,
             Run::Submit => PAY_LIST,
         }
@@ -163,95 +164,167 @@ impl Run {
             Run::Submit => submit_list(rt.alloc(), &OPTIONS, reader, writer),
         }
     }
+
+    // Does a run with so many interruptions of its reader and of its writer give its text, or else
+    // fail with this one?
+    fn shares_tries(self, rt: &HostRuntime, reads: u32, writes: u32, failed: Option<&str>) -> bool {
+        let reader = FaultyReader {
+            interruptions: reads,
+            failure: None,
+            left: 0,
+            rest: self.input(),
+        };
+        let mut writer = FaultyWriter {
+            text: Vec::new(rt.alloc()),
+            interruptions: writes,
+            failure: None,
+            room: usize::MAX,
+        };
+        let (status, text) = match failed {
+            None => (Status::Done, self.text()),
+            Some(text) => (Status::Failed, text),
+        };
+        let ended = self.over(rt, reader, &mut writer);
+        ended == status && writer.text.as_slice() == text.as_bytes()
+    }
+
+    // Does a run fail whose reader does so once, with so many bytes left?
+    fn fails(self, rt: &HostRuntime, kind: ErrorKind, left: usize) -> bool {
+        let reader = FaultyReader {
+            interruptions: 3,
+            failure: Some(kind),
+            left,
+            rest: self.input(),
+        };
+        self.ends(rt, reader, Status::Failed, "unavailable\n")
+    }
+
+    // Does a run over this reader end so, and print this line?
+    fn ends<R: Read + Drop>(self, rt: &HostRuntime, reader: R, status: Status, line: &str) -> bool {
+        let mut output = Vec::new(rt.alloc());
+        let ended = self.over(rt, reader, &mut output);
+        ended == status && output.as_slice() == line.as_bytes()
+    }
 }
 
-// A run with so many interruptions of its reader and of its writer; how it ends, and what the writer
-// has then.
-fn run_interrupted(rt: &HostRuntime, run: Run, reads: u32, writes: u32) -> (Status, Vec<u8>) {
-    let reader = FaultyReader {
-        interruptions: reads,
-        failure: None,
-        left: 0,
-        rest: run.input(),
-    };
+/// Interruptions of the reader and of the writer, and what a run prints that fails then; where none
+/// is told, the run gives its answer.
+const INTERRUPTIONS: &[(u32, u32, Option<&str>)] = &[
+    (0, 0, None),
+    (1_000, 0, None),
+    (0, 1_000, None),
+    (600, 400, None),
+    (400, 600, None),
+    (0, 1_001, Some("")),
+    (600, 401, Some("")),
+    (600, 600, Some("")),
+    (1_000, 1, Some("")),
+    (1_001, 0, Some("unavailable\n")),
+];
+
+/// These failures are not tried again.
+const FAILURES: &[ErrorKind] = &[
+    ErrorKind::ConnectionReset,
+    ErrorKind::WouldBlock,
+    ErrorKind::TimedOut,
+    ErrorKind::UnexpectedEof,
+];
+
+/// A run, and how many bytes are left where its reader fails: before the first byte, in the middle,
+/// and before the end.
+const STOPS: &[(Run, usize)] = &[
+    (Run::Answer, usize::MAX),
+    (Run::Answer, 90),
+    (Run::Answer, 20),
+    (Run::Answer, 0),
+    (Run::Check, usize::MAX),
+    (Run::Check, 90),
+    (Run::Check, 20),
+    (Run::Check, 0),
+    (Run::Submit, usize::MAX),
+    (Run::Submit, 90),
+    (Run::Submit, 20),
+    (Run::Submit, 0),
+];
+
+/// How many bytes a writer takes, and how a run ends whose line has 53.
+const ROOMS: &[(usize, Status)] = &[
+    (0, Status::Failed),
+    (1, Status::Failed),
+    (52, Status::Failed),
+    (53, Status::Done),
+    (60, Status::Done),
+];
+
+/// How often a flush fails and how, and whether the line is out in the end.
+const FLUSHES: &[(u32, ErrorKind, bool)] = &[
+    (0, ErrorKind::StorageFull, true),
+    (1, ErrorKind::StorageFull, false),
+    (1_000, ErrorKind::Interrupted, true),
+    (1_001, ErrorKind::Interrupted, false),
+];
+
+/// The most bytes that a run asks for at once, and the line that it prints of an input without end.
+const ENDLESS: &[(Run, usize, &str)] = &[
+    (Run::Answer, usize::MAX, "{\"error\":\"TooLarge\"}\n"),
+    (Run::Check, 65_536, "TooLarge at record 6\n"),
+    (Run::Submit, usize::MAX, "too large\n"),
+];
+
+// Does a run end so whose writer is interrupted so many times, takes so many bytes, and fails then
+// in this way or takes no more?
+fn takes(
+    alloc: Global,
+    interruptions: u32,
+    failure: Option<ErrorKind>,
+    room: usize,
+    status: Status,
+) -> bool {
     let mut writer = FaultyWriter {
-        text: Vec::new(rt.alloc()),
-        interruptions: writes,
-        failure: None,
-        room: usize::MAX,
+        text: Vec::new(alloc),
+        interruptions,
+        failure,
+        room,
     };
-    let status = run.over(rt, reader, &mut writer);
-    (status, writer.text)
+    let ended = first_run(alloc, PAY_1, &mut writer);
+    let taken = PAY_1_LINE.as_bytes().get(..room.min(PAY_1_LINE.len()));
+    ended == status && taken == Some(writer.text.as_slice())
+}
+
+fn buffered(alloc: Global, failures: u32, kind: ErrorKind) -> BufferedWriter {
+    BufferedWriter {
+        text: Vec::new(alloc),
+        buffer: Vec::new(alloc),
+        failures,
+        kind,
+    }
 }
 
 #[test]
 fn reads_and_writes_share_the_tries(rt: HostRuntime) {
-    // Interruptions of the reader and of the writer, and whether the run gives its answer.
-    let rows = [
-        (0, 0, true),
-        (1_000, 0, true),
-        (0, 1_000, true),
-        (600, 400, true),
-        (400, 600, true),
-        (0, 1_001, false),
-        (600, 401, false),
-        (600, 600, false),
-        (1_000, 1, false),
-    ];
-    for (reads, writes, is_done) in rows {
-        for run in RUNS {
-            let (status, text) = run_interrupted(&rt, run, reads, writes);
-            let (wanted, printed) = if is_done {
-                (Status::Done, run.text())
-            } else {
-                (Status::Failed, "")
-            };
-            assert!(rt; status == wanted, "{reads} {writes}");
-            assert!(rt; text.as_slice() == printed.as_bytes(), "{reads} {writes}");
+    for &(reads, writes, failed) in INTERRUPTIONS {
+        for &run in RUNS {
+            let is_shared = run.shares_tries(&rt, reads, writes, failed);
+            assert!(rt; is_shared, "{run:?} {reads} {writes}");
         }
-    }
-    for run in RUNS {
-        let (status, text) = run_interrupted(&rt, run, 1_001, 0);
-        assert!(rt; status == Status::Failed);
-        assert!(rt; text.as_slice() == b"unavailable\n".as_slice());
     }
 }
 
 #[test]
-fn no_other_failure_is_tried_again(rt: HostRuntime) {
-    let kinds = [
-        ErrorKind::ConnectionReset,
-        ErrorKind::WouldBlock,
-        ErrorKind::TimedOut,
-        ErrorKind::UnexpectedEof,
-    ];
-    for kind in kinds {
-        // The reader fails before its first byte, in its middle and before its end.
-        for left in [0, 20, 90, usize::MAX] {
-            for run in RUNS {
-                let reader = FaultyReader {
-                    interruptions: 3,
-                    failure: Some(kind),
-                    left,
-                    rest: run.input(),
-                };
-                let mut output = Vec::new(rt.alloc());
-                let status = run.over(&rt, reader, &mut output);
-                assert!(rt; status == Status::Failed, "{left}");
-                assert!(rt; output.as_slice() == b"unavailable\n".as_slice(), "{left}");
-            }
+fn no_other_failure_of_a_reader_is_tried_again(rt: HostRuntime) {
+    for &kind in FAILURES {
+        for &(run, left) in STOPS {
+            assert!(rt; run.fails(&rt, kind, left), "{run:?} {left}");
         }
-        for room in [0, 1, 52] {
-            let mut writer = FaultyWriter {
-                text: Vec::new(rt.alloc()),
-                interruptions: 3,
-                failure: Some(kind),
-                room,
-            };
-            let status = first_run(rt.alloc(), PAY_1.as_bytes(), &mut writer);
-            assert!(rt; status == Status::Failed, "{room}");
+    }
+}
+
+#[test]
+fn no_other_failure_of_a_writer_is_tried_again(rt: HostRuntime) {
+    for &kind in FAILURES {
+        for &room in &[0, 1, 52] {
             assert!(rt;
-                Some(writer.text.as_slice()) == PAY_1_LINE.as_bytes().get(..room),
+                takes(rt.alloc(), 3, Some(kind), room, Status::Failed),
                 "{room}"
             );
         }
@@ -260,59 +333,32 @@ fn no_other_failure_is_tried_again(rt: HostRuntime) {
 
 #[test]
 fn a_writer_takes_a_prefix(rt: HostRuntime) {
-    for room in [0, 1, 52, 53, 60] {
-        let mut writer = FaultyWriter {
-            text: Vec::new(rt.alloc()),
-            interruptions: 7,
-            failure: None,
-            room,
-        };
-        let status = first_run(rt.alloc(), PAY_1.as_bytes(), &mut writer);
-        let taken = room.min(PAY_1_LINE.len());
-        let wanted = if room < 53 {
-            Status::Failed
-        } else {
-            Status::Done
-        };
-        assert!(rt; status == wanted, "{room}");
-        assert!(rt;
-            Some(writer.text.as_slice()) == PAY_1_LINE.as_bytes().get(..taken),
-            "{room}"
-        );
+    for &(room, status) in ROOMS {
+        assert!(rt; takes(rt.alloc(), 7, None, room, status), "{room}");
     }
 }
 
 #[test]
-fn a_flush_that_fails_is_a_failed_write(rt: HostRuntime) -> Result<(), Fail> {
-    // How often a flush fails and how, and whether the line is out in the end.
-    let rows = [
-        (0, ErrorKind::StorageFull, true),
-        (1, ErrorKind::StorageFull, false),
-        (1_000, ErrorKind::Interrupted, true),
-        (1_001, ErrorKind::Interrupted, false),
-    ];
-    for (failures, kind, is_out) in rows {
-        let mut writer = BufferedWriter {
-            text: Vec::new(rt.alloc()),
-            buffer: Vec::new(rt.alloc()),
-            failures,
-            kind,
-        };
-        let status = first_run(rt.alloc(), PAY_1.as_bytes(), &mut writer);
+fn an_answer_whose_flush_fails_is_a_failed_write(rt: HostRuntime) {
+    for &(failures, kind, is_out) in FLUSHES {
+        let mut writer = buffered(rt.alloc(), failures, kind);
+        let status = first_run(rt.alloc(), PAY_1, &mut writer);
         let (wanted, line) = if is_out {
             (Status::Done, PAY_1_LINE)
         } else {
             (Status::Failed, "")
         };
-        assert!(rt; status == wanted, "{failures}");
-        assert!(rt; writer.text.as_slice() == line.as_bytes(), "{failures}");
+        assert!(rt;
+            status == wanted && writer.text.as_slice() == line.as_bytes(),
+            "{failures}"
+        );
+    }
+}
 
-        let mut writer = BufferedWriter {
-            text: Vec::new(rt.alloc()),
-            buffer: Vec::new(rt.alloc()),
-            failures,
-            kind,
-        };
+#[test]
+fn a_fault_whose_flush_fails_is_a_failed_write(rt: HostRuntime) -> Result<(), Fail> {
+    for &(failures, kind, is_out) in FLUSHES {
+        let mut writer = buffered(rt.alloc(), failures, kind);
         let text = String::from_str(rt.alloc(), "error: wrong words\n")?;
         let code = print_line_fault(&mut writer, &LineFault::Usage(text));
         assert!(rt; code == if is_out { 2 } else { 3 }, "{failures}");
@@ -322,30 +368,12 @@ fn a_flush_that_fails_is_a_failed_write(rt: HostRuntime) -> Result<(), Fail> {
 
 #[test]
 fn no_more_is_read_than_decides(rt: HostRuntime) {
-    let mut output = Vec::new(rt.alloc());
-    let body = LongReader {
-        rest: PAY_1.as_bytes(),
-        left: 4_194_305,
-        most: usize::MAX,
-    };
-    assert!(rt; first_run(rt.alloc(), body, &mut output) == Status::Refused);
-    assert!(rt; output.as_slice() == b"{\"error\":\"TooLarge\"}\n".as_slice());
-
-    let mut output = Vec::new(rt.alloc());
-    let file = LongReader {
-        rest: RECORDS,
-        left: 4_194_305,
-        most: 65_536,
-    };
-    assert!(rt; check_file(rt.alloc(), file, &mut output) == Status::Refused);
-    assert!(rt; output.as_slice() == b"TooLarge at record 6\n".as_slice());
-
-    let mut output = Vec::new(rt.alloc());
-    let list = LongReader {
-        rest: PAY_LIST,
-        left: 4_194_305,
-        most: usize::MAX,
-    };
-    assert!(rt; submit_list(rt.alloc(), &OPTIONS, list, &mut output) == Status::Refused);
-    assert!(rt; output.as_slice() == b"too large\n".as_slice());
+    for &(run, most, line) in ENDLESS {
+        let reader = LongReader {
+            rest: run.input(),
+            left: 4_194_305,
+            most,
+        };
+        assert!(rt; run.ends(&rt, reader, Status::Refused, line), "{line}");
+    }
 }

@@ -1,4 +1,5 @@
 //! Incoming files: what is printed of them, where they are read from a reader and from a path.
+use super::NOBODY;
 use desk_cli::{Command, Status, check_file, run};
 use std::alloc::{AllocError, Global};
 use std::fs;
@@ -13,32 +14,80 @@ pub const RECORDS: &[u8] =
 82250000020012104288000000002500000000000000MILL01                             091000010000001\n\
 9000001000001000000020012104288000000002500000000000000                                       \n";
 
-const FILLER: &[u8; 94] = &[b'9'; 94];
+const FILLER: &[u8] =
+    b"9999999999999999999999999999999999999999999999999999999999999999999999999999999999999999999999\n";
 
 /// This line is the answer to it.
 pub const LINE: &str = "ok 1 returns 0 changes\n";
+
+/// Where bytes stand in the file of one return, counted from 0, in place of what should, and the
+/// line that is printed. A record and its line feed have 95 bytes.
+const FAULTS: &[(usize, &[u8], &str)] = &[
+    (95 * 2 + 50, b"\n", "BadLength at record 3\n"),
+    (95 * 3 + 10, b"\x7f", "BadByte at record 4\n"),
+    (0, b" ", "BadOrder at record 1\n"),
+    (95 * 2 + 29, b"x", "BadNumber at record 3\n"),
+    (95 * 2 + 1, b"22", "ForwardEntry at record 3\n"),
+    (95 * 3 + 1, b"05", "BadAddenda at record 4\n"),
+    (95 * 4 + 9, b"3", "BadCount at record 5\n"),
+    (95 * 4 + 19, b"1", "BadHash at record 5\n"),
+    (95 * 4 + 43, b"1", "BadTotal at record 5\n"),
+    (95 * 5 + 20, b"3", "BadCount at record 6\n"),
+    (95 * 5 + 54, b"1", "BadTotal at record 6\n"),
+    (95 * 5 + 12, b"2", "BadBlock at record 6\n"),
+];
+
+/// How many bytes there are of the file's records, and the line that is printed.
+const SHORT: &[(usize, &str)] = &[
+    (0, "BadOrder at record 1\n"),
+    (94, "BadOrder at record 2\n"),
+    (568, "BadLength at record 6\n"),
+];
+
+/// The length up to which line feeds follow the file of one return, what follows them, how a check
+/// ends, and its line.
+const LONG: &[(usize, &[u8], Status, &str)] = &[
+    (70_000, b"", Status::Done, LINE),
+    (70_000, b"x", Status::Refused, "BadLength at record 10\n"),
+    (4_194_304, b"", Status::Done, LINE),
+    (4_194_304, b"\n", Status::Refused, "TooLarge at record 10\n"),
+];
 
 // The file of one return with its four fillers.
 fn one_return(alloc: Global) -> Result<Vec<u8>, AllocError> {
     let mut file = Vec::from_slice(alloc, RECORDS)?;
     for _ in 0..4 {
         file.extend_from_slice(FILLER)?;
-        file.push(b'\n')?;
     }
     Ok(file)
 }
 
+// The file of one return with these bytes at a place.
+fn with_bytes(alloc: Global, place: usize, bytes: &[u8]) -> Result<Vec<u8>, Fail> {
+    let whole = one_return(alloc)?;
+    let end = place.saturating_add(bytes.len());
+    let mut file = Vec::new(alloc);
+    file.extend_from_slice(whole.as_slice().get(..place).ok_or("place")?)?;
+    file.extend_from_slice(bytes)?;
+    file.extend_from_slice(whole.as_slice().get(end..).ok_or("place")?)?;
+    Ok(file)
+}
+
+// The file of one return with line feeds after it, up to a length, and then these bytes.
+fn with_line_feeds(alloc: Global, len: usize, last: &[u8]) -> Result<Vec<u8>, AllocError> {
+    let mut file = one_return(alloc)?;
+    file.resize(len, b'\n')?;
+    file.extend_from_slice(last)?;
+    Ok(file)
+}
+
 // A file with a header and a control alone, which tells so many blocks.
-fn no_batches(alloc: Global, blocks: &[u8; 6]) -> Result<Vec<u8>, AllocError> {
+fn no_batches(alloc: Global, blocks: &[u8]) -> Result<Vec<u8>, AllocError> {
     let mut file = Vec::from_slice(alloc, &RECORDS[..95])?;
     file.extend_from_slice(b"9000000")?;
     file.extend_from_slice(blocks)?;
-    for _ in 0..42 {
-        file.push(b'0')?;
-    }
-    for _ in 0..39 {
-        file.push(b' ')?;
-    }
+    file.resize(95 + 55, b'0')?;
+    file.resize(95 + 94, b' ')?;
     Ok(file)
 }
 
@@ -50,8 +99,7 @@ fn answers(rt: &HostRuntime, file: &[u8], status: Status, line: &str) -> Result<
     let read = check_file(rt.alloc(), file, &mut from_reader);
     let path = "incoming.ach";
     fs::write(rt, path, file)?;
-    let nobody: &[u8] = b"";
-    let opened = run(rt, &Command::Check(path), nobody, &mut from_path);
+    let opened = run(rt, &Command::Check(path), NOBODY, &mut from_path);
     fs::remove_file(rt, path)?;
     Ok(
         read == status
@@ -61,23 +109,17 @@ fn answers(rt: &HostRuntime, file: &[u8], status: Status, line: &str) -> Result<
     )
 }
 
-// The file of one return with line feeds after it, up to a length.
-fn with_line_feeds(alloc: Global, len: usize) -> Result<Vec<u8>, AllocError> {
-    let mut file = one_return(alloc)?;
-    let more = len.saturating_sub(file.len());
-    for _ in 0..more {
-        file.push(b'\n')?;
-    }
-    Ok(file)
+#[test]
+fn whole_files(rt: HostRuntime) -> Result<(), Fail> {
+    let file = one_return(rt.alloc())?;
+    assert!(rt; answers(&rt, file.as_slice(), Status::Done, LINE)?);
+    assert!(rt; answers(&rt, RECORDS, Status::Done, LINE)?);
+    Ok(())
 }
 
 #[test]
-fn whole_files(rt: HostRuntime) -> Result<(), Fail> {
-    let alloc = rt.alloc();
-    let file = one_return(alloc)?;
-    assert!(rt; answers(&rt, file.as_slice(), Status::Done, LINE)?);
-    assert!(rt; answers(&rt, RECORDS, Status::Done, LINE)?);
-    let empty = no_batches(alloc, b"000001")?;
+fn files_without_batches(rt: HostRuntime) -> Result<(), Fail> {
+    let empty = no_batches(rt.alloc(), b"000001")?;
     assert!(rt;
         answers(
             &rt,
@@ -86,7 +128,7 @@ fn whole_files(rt: HostRuntime) -> Result<(), Fail> {
             "ok 0 returns 0 changes\n"
         )?
     );
-    let faulty = no_batches(alloc, b"000002")?;
+    let faulty = no_batches(rt.alloc(), b"000002")?;
     assert!(rt;
         answers(
             &rt,
@@ -100,40 +142,19 @@ fn whole_files(rt: HostRuntime) -> Result<(), Fail> {
 
 #[test]
 fn faults(rt: HostRuntime) -> Result<(), Fail> {
-    // What stands at a place of a record, both counted from 0, in place of what should.
-    let rows: [(usize, usize, &[u8], &str); 12] = [
-        (2, 50, b"\n", "BadLength at record 3\n"),
-        (3, 10, b"\x7f", "BadByte at record 4\n"),
-        (0, 0, b" ", "BadOrder at record 1\n"),
-        (2, 29, b"x", "BadNumber at record 3\n"),
-        (2, 1, b"22", "ForwardEntry at record 3\n"),
-        (3, 1, b"05", "BadAddenda at record 4\n"),
-        (4, 9, b"3", "BadCount at record 5\n"),
-        (4, 19, b"1", "BadHash at record 5\n"),
-        (4, 43, b"1", "BadTotal at record 5\n"),
-        (5, 20, b"3", "BadCount at record 6\n"),
-        (5, 54, b"1", "BadTotal at record 6\n"),
-        (5, 12, b"2", "BadBlock at record 6\n"),
-    ];
-    for (record, position, bytes, line) in rows {
-        let whole = one_return(rt.alloc())?;
-        let place = 95 * record + position;
-        let mut file = Vec::new(rt.alloc());
-        file.extend_from_slice(whole.as_slice().get(..place).ok_or("place")?)?;
-        file.extend_from_slice(bytes)?;
-        let after = whole.as_slice().get(place + bytes.len()..);
-        file.extend_from_slice(after.ok_or("place")?)?;
+    for &(place, bytes, line) in FAULTS {
+        let file = with_bytes(rt.alloc(), place, bytes)?;
         assert!(rt;
             answers(&rt, file.as_slice(), Status::Refused, line)?,
             "{line}"
         );
     }
-    let short: [(usize, &str); 3] = [
-        (0, "BadOrder at record 1\n"),
-        (94, "BadOrder at record 2\n"),
-        (568, "BadLength at record 6\n"),
-    ];
-    for (len, line) in short {
+    Ok(())
+}
+
+#[test]
+fn short_files(rt: HostRuntime) -> Result<(), Fail> {
+    for &(len, line) in SHORT {
         let file = RECORDS.get(..len).ok_or("length")?;
         assert!(rt; answers(&rt, file, Status::Refused, line)?, "{line}");
     }
@@ -142,28 +163,12 @@ fn faults(rt: HostRuntime) -> Result<(), Fail> {
 
 #[test]
 fn long_files(rt: HostRuntime) -> Result<(), Fail> {
-    let alloc = rt.alloc();
-    let mut file = with_line_feeds(alloc, 70_000)?;
-    assert!(rt; answers(&rt, file.as_slice(), Status::Done, LINE)?);
-    file.push(b'x')?;
-    assert!(rt;
-        answers(
-            &rt,
-            file.as_slice(),
-            Status::Refused,
-            "BadLength at record 10\n"
-        )?
-    );
-    let mut file = with_line_feeds(alloc, 4_194_304)?;
-    assert!(rt; answers(&rt, file.as_slice(), Status::Done, LINE)?);
-    file.push(b'\n')?;
-    assert!(rt;
-        answers(
-            &rt,
-            file.as_slice(),
-            Status::Refused,
-            "TooLarge at record 10\n"
-        )?
-    );
+    for &(len, last, status, line) in LONG {
+        let file = with_line_feeds(rt.alloc(), len, last)?;
+        assert!(rt;
+            answers(&rt, file.as_slice(), status, line)?,
+            "{len} {line}"
+        );
+    }
     Ok(())
 }

@@ -27,114 +27,139 @@ fn submission(alloc: Global, count: usize, entry: &str, last: &str) -> Result<Ve
 
 // A body that has an object with so many lists in one another under a key that nobody reads.
 fn nested_lists(alloc: Global, depth: usize) -> Result<Vec<u8>, AllocError> {
-    let mut body = Vec::from_slice(alloc, b"{\"x\":")?;
-    for _ in 0..depth {
-        body.push(b'[')?;
-    }
-    for _ in 0..depth {
-        body.push(b']')?;
-    }
+    let prefix = b"{\"x\":";
+    let middle = prefix.len().saturating_add(depth);
+    let mut body = Vec::from_slice(alloc, prefix)?;
+    body.resize(middle, b'[')?;
+    body.resize(middle.saturating_add(depth), b']')?;
     body.push(b'}')?;
     Ok(body)
 }
 
 // PAY-1 with blanks after it, up to a length.
 fn with_blanks(alloc: Global, len: usize) -> Result<Vec<u8>, AllocError> {
-    let mut body = Vec::from_slice(alloc, PAY_1.as_bytes())?;
-    let more = len.saturating_sub(body.len());
-    for _ in 0..more {
-        body.push(b' ')?;
-    }
+    let mut body = Vec::from_slice(alloc, PAY_1)?;
+    body.resize(len, b' ')?;
+    Ok(body)
+}
+
+/// How many copies of which entry stand before which one, how a run over the submission ends, and
+/// the line that it prints.
+const SUBMISSIONS: &[(usize, &str, &str, Status, &str)] = &[
+    (
+        100,
+        ENTRY,
+        SMALL_ENTRY,
+        Status::Done,
+        "{\"cents\":999999999999,\"entries\":101,\"order\":1,\"ref\":\"P\"}\n",
+    ),
+    (
+        100,
+        ENTRY,
+        LARGER_ENTRY,
+        Status::Refused,
+        "{\"error\":\"TotalTooLarge\",\"number\":5}\n",
+    ),
+    (
+        999,
+        SMALL_ENTRY,
+        SMALL_ENTRY,
+        Status::Done,
+        "{\"cents\":99000,\"entries\":1000,\"order\":1,\"ref\":\"P\"}\n",
+    ),
+    (
+        1_000,
+        SMALL_ENTRY,
+        SMALL_ENTRY,
+        Status::Refused,
+        "{\"error\":\"TooManyEntries\",\"number\":4}\n",
+    ),
+    (
+        1_500,
+        SMALL_ENTRY,
+        SMALL_ENTRY,
+        Status::Refused,
+        "{\"error\":\"TooManyEntries\",\"number\":4}\n",
+    ),
+    (
+        1_000,
+        SMALL_ENTRY,
+        "null",
+        Status::Refused,
+        "{\"error\":\"BadField\",\"field\":\"entries\",\"index\":1001,\"number\":2}\n",
+    ),
+];
+
+/// How many lists stand in one another, and the line that is printed of the body.
+const DEPTHS: &[(usize, &str)] = &[
+    (
+        126,
+        "{\"error\":\"BadField\",\"field\":\"ref\",\"index\":0,\"number\":2}\n",
+    ),
+    (127, "{\"error\":\"BadJson\"}\n"),
+    (130, "{\"error\":\"BadJson\"}\n"),
+];
+
+/// Lengths of PAY-1 with blanks after it, and how a run over each ends, with its line.
+const LENGTHS: &[(usize, Status, &str)] = &[
+    (4_194_304, Status::Done, PAY_1_LINE),
+    (4_194_305, Status::Refused, "{\"error\":\"TooLarge\"}\n"),
+];
+
+/// What stands before and after a text of 10,000 bytes, under each key that wants one, and under a
+/// key that nobody reads; and the line that is printed of the body.
+const LONG_TEXTS: &[(&str, &str, &str)] = &[
+    (
+        "{\"ref\":\"",
+        "\"}",
+        "{\"error\":\"BadField\",\"field\":\"ref\",\"index\":0,\"number\":2}\n",
+    ),
+    (
+        "{\"ref\":\"P\",\"sec\":\"",
+        "\"}",
+        "{\"error\":\"BadField\",\"field\":\"sec\",\"index\":0,\"number\":2}\n",
+    ),
+    (
+        "{\"note\":\"",
+        "\",\"ref\":\"P\",\"sec\":\"PPD\"}",
+        "{\"error\":\"BadField\",\"field\":\"direction\",\"index\":0,\"number\":2}\n",
+    ),
+    (
+        "{\"ref\":\"P\",\"sec\":\"CCD\",\"direction\":\"debit\",\"description\":\"DUES\",\"day\":\"2024-02-29\",\"entries\":[{\"routing\":\"091000019\",\"account\":\"1\",\"kind\":\"checking\",\"cents\":99,\"id\":\"\",\"name\":\"BOB\"},{\"routing\":\"091000019\",\"account\":\"1\",\"kind\":\"checking\",\"cents\":99,\"id\":\"\",\"name\":\"",
+        "\"}]}",
+        "{\"error\":\"BadField\",\"field\":\"name\",\"index\":2,\"number\":2}\n",
+    ),
+];
+
+/// The text of 10,000 bytes.
+const LONG_TEXT: &[u8; 10_000] = &[b'A'; 10_000];
+
+// A body with the text of 10,000 bytes between these two.
+fn around_long_text(alloc: Global, before: &str, after: &str) -> Result<Vec<u8>, AllocError> {
+    let mut body = Vec::from_slice(alloc, before.as_bytes())?;
+    body.extend_from_slice(LONG_TEXT)?;
+    body.extend_from_slice(after.as_bytes())?;
     Ok(body)
 }
 
 #[test]
-fn totals(rt: HostRuntime) -> Result<(), Fail> {
-    let alloc = rt.alloc();
-    let most = submission(alloc, 100, ENTRY, SMALL_ENTRY)?;
-    assert!(rt;
-        answers(
-            alloc,
-            most.as_slice(),
-            Status::Done,
-            "{\"cents\":999999999999,\"entries\":101,\"order\":1,\"ref\":\"P\"}\n"
-        )
-    );
-    let more = submission(alloc, 100, ENTRY, LARGER_ENTRY)?;
-    assert!(rt;
-        answers(
-            alloc,
-            more.as_slice(),
-            Status::Refused,
-            "{\"error\":\"TotalTooLarge\",\"number\":5}\n"
-        )
-    );
-    Ok(())
-}
-
-#[test]
-fn counts(rt: HostRuntime) -> Result<(), Fail> {
-    let alloc = rt.alloc();
-    let thousand = submission(alloc, 999, SMALL_ENTRY, SMALL_ENTRY)?;
-    assert!(rt;
-        answers(
-            alloc,
-            thousand.as_slice(),
-            Status::Done,
-            "{\"cents\":99000,\"entries\":1000,\"order\":1,\"ref\":\"P\"}\n"
-        )
-    );
-    let more = submission(alloc, 1_000, SMALL_ENTRY, SMALL_ENTRY)?;
-    assert!(rt;
-        answers(
-            alloc,
-            more.as_slice(),
-            Status::Refused,
-            "{\"error\":\"TooManyEntries\",\"number\":4}\n"
-        )
-    );
-    let many = submission(alloc, 1_500, SMALL_ENTRY, SMALL_ENTRY)?;
-    assert!(rt;
-        answers(
-            alloc,
-            many.as_slice(),
-            Status::Refused,
-            "{\"error\":\"TooManyEntries\",\"number\":4}\n"
-        )
-    );
-    let bad = submission(alloc, 1_000, SMALL_ENTRY, "null")?;
-    assert!(rt;
-        answers(
-            alloc,
-            bad.as_slice(),
-            Status::Refused,
-            "{\"error\":\"BadField\",\"field\":\"entries\",\"index\":1001,\"number\":2}\n"
-        )
-    );
+fn totals_and_counts(rt: HostRuntime) -> Result<(), Fail> {
+    for &(count, entry, last, status, line) in SUBMISSIONS {
+        let body = submission(rt.alloc(), count, entry, last)?;
+        assert!(rt;
+            answers(rt.alloc(), body.as_slice(), status, line),
+            "{count} {last}"
+        );
+    }
     Ok(())
 }
 
 #[test]
 fn depths(rt: HostRuntime) -> Result<(), Fail> {
-    let alloc = rt.alloc();
-    let read = nested_lists(alloc, 126)?;
-    assert!(rt;
-        answers(
-            alloc,
-            read.as_slice(),
-            Status::Refused,
-            "{\"error\":\"BadField\",\"field\":\"ref\",\"index\":0,\"number\":2}\n"
-        )
-    );
-    for depth in [127, 130] {
-        let deep = nested_lists(alloc, depth)?;
+    for &(depth, line) in DEPTHS {
+        let body = nested_lists(rt.alloc(), depth)?;
         assert!(rt;
-            answers(
-                alloc,
-                deep.as_slice(),
-                Status::Refused,
-                "{\"error\":\"BadJson\"}\n"
-            ),
+            answers(rt.alloc(), body.as_slice(), Status::Refused, line),
             "{depth}"
         );
     }
@@ -143,60 +168,21 @@ fn depths(rt: HostRuntime) -> Result<(), Fail> {
 
 #[test]
 fn lengths(rt: HostRuntime) -> Result<(), Fail> {
-    let alloc = rt.alloc();
-    let longest = with_blanks(alloc, 4_194_304)?;
-    assert!(rt; answers(alloc, longest.as_slice(), Status::Done, PAY_1_LINE));
-    let longer = with_blanks(alloc, 4_194_305)?;
-    assert!(rt;
-        answers(
-            alloc,
-            longer.as_slice(),
-            Status::Refused,
-            "{\"error\":\"TooLarge\"}\n"
-        )
-    );
+    for &(len, status, line) in LENGTHS {
+        let body = with_blanks(rt.alloc(), len)?;
+        assert!(rt; answers(rt.alloc(), body.as_slice(), status, line), "{len}");
+    }
     Ok(())
 }
 
 #[test]
 fn long_texts(rt: HostRuntime) -> Result<(), Fail> {
-    let alloc = rt.alloc();
-    let mut text = String::new(alloc);
-    for _ in 0..10_000 {
-        text.push('A')?;
-    }
-    // A text of 10,000 bytes under each key that wants one, and under a key that nobody reads.
-    let rows = [
-        ("{\"ref\":\"", "\"}", "ref", 0),
-        ("{\"ref\":\"P\",\"sec\":\"", "\"}", "sec", 0),
-        (
-            "{\"note\":\"",
-            "\",\"ref\":\"P\",\"sec\":\"PPD\"}",
-            "direction",
-            0,
-        ),
-    ];
-    for (before, after, field, index) in rows {
-        let body = format!(in alloc; "{before}{text}{after}")?;
-        let line = format!(in alloc;
-            "{{\"error\":\"BadField\",\"field\":\"{field}\",\"index\":{index},\"number\":2}}\n"
-        )?;
+    for &(before, after, line) in LONG_TEXTS {
+        let body = around_long_text(rt.alloc(), before, after)?;
         assert!(rt;
-            answers(alloc, body.as_bytes(), Status::Refused, line.as_str()),
-            "{field}"
+            answers(rt.alloc(), body.as_slice(), Status::Refused, line),
+            "{line}"
         );
     }
-    let entry = format!(in alloc;
-        "{{\"routing\":\"091000019\",\"account\":\"1\",\"kind\":\"checking\",\"cents\":99,\"id\":\"\",\"name\":\"{text}\"}}"
-    )?;
-    let body = submission(alloc, 1, SMALL_ENTRY, entry.as_str())?;
-    assert!(rt;
-        answers(
-            alloc,
-            body.as_slice(),
-            Status::Refused,
-            "{\"error\":\"BadField\",\"field\":\"name\",\"index\":2,\"number\":2}\n"
-        )
-    );
     Ok(())
 }

@@ -12,12 +12,12 @@ mod migrated;
 mod served;
 mod words;
 
-use desk_cli::{Status, first_run};
+use desk_cli::{Command, Status, first_run, run};
 use std::alloc::Global;
 
 /// A credit of 1500.00 to a checking account.
-const PAY_1: &str =
-    "{\"ref\":\"PAY-1\",\"sec\":\"PPD\",\"direction\":\"credit\",\"description\":\"PAYROLL\",\"day\":\"2025-01-10\",\"entries\":[{\"routing\":\"091000019\",\"account\":\"123456789\",\"kind\":\"checking\",\"cents\":150000,\"id\":\"E1\",\"name\":\"ANN LEE\"}]}";
+const PAY_1: &[u8] =
+    b"{\"ref\":\"PAY-1\",\"sec\":\"PPD\",\"direction\":\"credit\",\"description\":\"PAYROLL\",\"day\":\"2025-01-10\",\"entries\":[{\"routing\":\"091000019\",\"account\":\"123456789\",\"kind\":\"checking\",\"cents\":150000,\"id\":\"E1\",\"name\":\"ANN LEE\"}]}";
 
 /// What it is answered.
 const PAY_1_LINE: &str = "{\"cents\":150000,\"entries\":1,\"order\":1,\"ref\":\"PAY-1\"}\n";
@@ -26,9 +26,25 @@ const PAY_1_LINE: &str = "{\"cents\":150000,\"entries\":1,\"order\":1,\"ref\":\"
 const PREFIX: &str =
     "{\"ref\":\"P\",\"sec\":\"CCD\",\"direction\":\"debit\",\"description\":\"DUES\",\"day\":\"2024-02-29\",\"entries\":[";
 
+/// Nothing is read by a command that reads no input.
+const NOBODY: &[u8] = b"";
+
 // Does a run over this body end so, and print this line?
 fn answers(alloc: Global, body: &[u8], status: Status, line: &str) -> bool {
     let mut output = Vec::new(alloc);
     let ended = first_run(alloc, body, &mut output);
     ended == status && output.as_slice() == line.as_bytes()
+}
+
+// Is the command carried out over this input so, and is this printed?
+fn prints(
+    rt: &HostRuntime,
+    command: &Command<'_>,
+    input: &[u8],
+    status: Status,
+    text: &[u8],
+) -> bool {
+    let mut printed = Vec::new(rt.alloc());
+    let ended = run(rt, command, input, &mut printed);
+    ended == status && printed.as_slice() == text
 }

@@ -1,46 +1,55 @@
 //! A desk that is served on loopback alone, and desks that cannot be served, each told as the command says.
 //! What a desk answers that is served, clients of other make show (`judge/clients.py`).
-use super::desks::{SAMPLE_BANK, clear};
+use super::desks::{clear, is_absent, is_made};
+use super::{NOBODY, prints};
 use desk_cli::{Command, ServeOptions, Status, run};
 use std::io::{Read, Write};
 use std::net::{Ipv4Addr, OpenListener, TcpListener, TcpStream};
-use std::process::Abort;
 use std::test::Fail;
 use std::{fs, io};
 
-const NOBODY: &[u8] = b"";
-
-// Does `serve` of this file on this port end so, and print this line?
-fn says(rt: &HostRuntime, path: &str, port: u16, status: Status, line: &str) -> bool {
+// `serve` of this file on this port, for one connection.
+fn serve(path: &str, port: u16) -> Command<'_> {
     let options = ServeOptions {
         port,
         connections: 1,
         patience: 1,
     };
-    let mut printed = Vec::new(rt.alloc());
-    let ended = run(rt, &Command::Serve(path, options), NOBODY, &mut printed);
-    ended == status && printed.as_slice() == line.as_bytes()
+    Command::Serve(path, options)
+}
+
+// Is no desk of this file served on this port, as it is not one?
+fn is_no_desk(rt: &HostRuntime, path: &str, port: u16) -> bool {
+    prints(
+        rt,
+        &serve(path, port),
+        NOBODY,
+        Status::Refused,
+        b"NotADesk\n",
+    )
+}
+
+// A listener on a port of loopback, and the port.
+fn listen(rt: &HostRuntime) -> Result<(TcpListener, u16), Fail> {
+    let listener = TcpListener::bind(rt, "127.0.0.1:0")?;
+    let port = listener.local_addr()?.port();
+    Ok((listener, port))
 }
 
 #[test]
 fn a_port_that_is_taken(rt: HostRuntime) -> Result<(), Fail> {
     let path = "served.db";
-    clear(&rt, path)?;
-    let mut printed = Vec::new(rt.alloc());
-    let made = run(&rt, &Command::Init(path, SAMPLE_BANK), NOBODY, &mut printed);
-    assert!(rt; made == Status::Done);
-    let listener = TcpListener::bind(&rt, "127.0.0.1:0")
-        .ok()
-        .expect(&rt, "a port");
-    let port = listener.local_addr().ok().expect(&rt, "an address").port();
-    assert!(rt; says(&rt, path, port, Status::Failed, "unavailable\n"));
+    assert!(rt; is_made(&rt, path)?);
+    let (_listener, port) = listen(&rt)?;
+    let command = serve(path, port);
+    assert!(rt; prints(&rt, &command, NOBODY, Status::Failed, b"unavailable\n"));
     // The desk is looked for before the port.
     clear(&rt, path)?;
     fs::write(&rt, path, b"")?;
-    assert!(rt; says(&rt, path, port, Status::Refused, "NotADesk\n"));
+    assert!(rt; is_no_desk(&rt, path, port));
     clear(&rt, path)?;
-    assert!(rt; says(&rt, path, port, Status::Refused, "NotADesk\n"));
-    assert!(rt; fs::metadata(&rt, path).is_err());
+    assert!(rt; is_no_desk(&rt, path, port));
+    assert!(rt; is_absent(&rt, path));
     Ok(())
 }
 
@@ -74,21 +83,25 @@ impl<'a> Write for Caller<'a> {
     }
 }
 
+// Is this the line of a server that listens on this port?
+fn is_listening(rt: &HostRuntime, port: u16, line: &[u8]) -> Result<bool, Fail> {
+    let wanted = format!(in rt.alloc(); "listening on 127.0.0.1:{port}\n")?;
+    Ok(line == wanted.as_bytes())
+}
+
+// Is this all that the server sends to its client?
+fn is_sent(rt: &HostRuntime, client: Option<TcpStream>, wanted: &[u8]) -> Result<bool, Fail> {
+    let mut answer = Vec::new(rt.alloc());
+    client.ok_or("a connection")?.read_to_end(&mut answer)?;
+    Ok(answer.as_slice() == wanted)
+}
+
 #[test]
 fn a_desk_is_reached_on_loopback_alone(rt: HostRuntime) -> Result<(), Fail> {
     let path = "loopback.db";
-    clear(&rt, path)?;
-    let mut printed = Vec::new(rt.alloc());
-    let made = run(&rt, &Command::Init(path, SAMPLE_BANK), NOBODY, &mut printed);
-    assert!(rt; made == Status::Done);
-    let listener = TcpListener::bind(&rt, "127.0.0.1:0")?;
-    let port = listener.local_addr()?.port();
+    assert!(rt; is_made(&rt, path)?);
+    let (listener, port) = listen(&rt)?;
     drop(listener);
-    let options = ServeOptions {
-        port,
-        connections: 1,
-        patience: 1,
-    };
     let mut caller = Caller {
         rt: &rt,
         port,
@@ -96,14 +109,10 @@ fn a_desk_is_reached_on_loopback_alone(rt: HostRuntime) -> Result<(), Fail> {
         client: None,
         is_reached_elsewhere: false,
     };
-    let ended = run(&rt, &Command::Serve(path, options), NOBODY, &mut caller);
+    let ended = run(&rt, &serve(path, port), NOBODY, &mut caller);
     assert!(rt; ended == Status::Done);
-    let line = format!(in rt.alloc(); "listening on 127.0.0.1:{port}\n")?;
-    assert!(rt; caller.printed.as_slice() == line.as_bytes());
     assert!(rt; !caller.is_reached_elsewhere);
-    let mut client = caller.client.expect(&rt, "a connection");
-    let mut answer = Vec::new(rt.alloc());
-    client.read_to_end(&mut answer)?;
-    assert!(rt; answer.as_slice() == NOT_FOUND);
+    assert!(rt; is_listening(&rt, port, caller.printed.as_slice())?);
+    assert!(rt; is_sent(&rt, caller.client, NOT_FOUND)?);
     clear(&rt, path)
 }

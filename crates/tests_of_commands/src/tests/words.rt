@@ -16,13 +16,171 @@ const NOTHING: SubmitOptions<'static> = SubmitOptions {
     day: "",
 };
 
-fn serve_options(port: u16, connections: u32, patience: u16) -> ServeOptions {
-    ServeOptions {
-        port,
-        connections,
-        patience,
-    }
-}
+/// Words, and the command that they name.
+const COMMANDS: &[(&[&str], Command<'static>)] = &[
+    (&[], Command::AnswerSubmission),
+    (
+        &[
+            "submit",
+            "pay.csv",
+            "--company",
+            "MILL01",
+            "--key",
+            "mill-street-key",
+            "--ref",
+            "PAY-1",
+            "--sec",
+            "PPD",
+            "--direction",
+            "credit",
+            "--description",
+            "PAYROLL",
+            "--day",
+            "2025-01-10",
+        ],
+        Command::Submit("pay.csv", OPTIONS),
+    ),
+    (
+        &[
+            "submit",
+            "--day=2025-01-10",
+            "--description=PAYROLL",
+            "--direction=credit",
+            "--sec=PPD",
+            "--ref=PAY-1",
+            "--key=mill-street-key",
+            "--company=MILL01",
+            "pay.csv",
+        ],
+        Command::Submit("pay.csv", OPTIONS),
+    ),
+    (
+        &[
+            "submit",
+            "--company=",
+            "--key=",
+            "--ref=",
+            "--sec=",
+            "--direction=",
+            "--description=",
+            "--day=",
+            "--",
+            "--list",
+        ],
+        Command::Submit("--list", NOTHING),
+    ),
+    (&["check", "returns.ach"], Command::Check("returns.ach")),
+    (&["check", ""], Command::Check("")),
+    (&["check", "--", "-"], Command::Check("-")),
+    (&["stdio"], Command::AnswerMessages),
+    (&["stdio", "desk.db"], Command::AnswerByFile("desk.db")),
+    (&["migrate", "desk.db"], Command::Migrate("desk.db")),
+    (
+        &["serve", "desk.db", "1"],
+        Command::Serve(
+            "desk.db",
+            ServeOptions {
+                port: 1,
+                connections: 1_000,
+                patience: 30,
+            },
+        ),
+    ),
+    (
+        &[
+            "serve",
+            "desk.db",
+            "65535",
+            "--connections",
+            "1",
+            "--patience=3600",
+        ],
+        Command::Serve(
+            "desk.db",
+            ServeOptions {
+                port: 65_535,
+                connections: 1,
+                patience: 3_600,
+            },
+        ),
+    ),
+    (
+        &["serve", "--connections=1000000", "desk.db", "8080"],
+        Command::Serve(
+            "desk.db",
+            ServeOptions {
+                port: 8080,
+                connections: 1_000_000,
+                patience: 30,
+            },
+        ),
+    ),
+    (
+        &[
+            "init",
+            "desk.db",
+            "--key=operator-key",
+            "--odfi",
+            "121042882",
+            "--odfi-name=OUR BANK",
+            "--destination",
+            "061000146",
+            "--destination-name",
+            "ACH OPERATOR",
+        ],
+        Command::Init("desk.db", SAMPLE_BANK),
+    ),
+];
+
+/// Words that ask for help, and a part of its text.
+const HELP: &[(&[&str], &str)] = &[
+    (&["--help"], "submit"),
+    (&["submit", "--help"], "Usage: achdesk submit "),
+    (&["submit", "a", "-h"], "--description <TEXT>"),
+    (&["help", "submit"], "Usage: achdesk submit "),
+    (&["submit", "a", "--help"], "--direction <DIRECTION>"),
+    (&["--help"], "check"),
+    (&["-h"], "check"),
+    (&["check", "--help"], "Usage: achdesk check <FILE>"),
+    (&["check", "a", "-h"], "FILE"),
+    (&["help"], "check"),
+    (&["help", "check"], "Usage: achdesk check <FILE>"),
+    (&["--help"], "stdio"),
+    (&["stdio", "--help"], "Usage: achdesk stdio"),
+    (&["--help"], "init"),
+    (&["init", "--help"], "--odfi-name <ODFI_NAME>"),
+    (&["--help"], "serve"),
+    (&["serve", "--help"], "--connections"),
+    (&["--help"], "migrate"),
+    (&["migrate", "--help"], "Usage: achdesk migrate <DB>"),
+];
+
+/// Words that name no command, and a part of what is told of them.
+const USAGE: &[(&[&str], &str)] = &[
+    (&["submit"], "--company <COMPANY>"),
+    (&["submit", "a", "--key", "k"], "--day <DAY>"),
+    (
+        &["submit", "a", "--key", "k", "--key", "k"],
+        "'--key <KEY>'",
+    ),
+    (&["submit", "a", "--amount", "1"], "'--amount'"),
+    (&["check"], "FILE"),
+    (&["check", "a", "b"], "'b'"),
+    (&["check", "a", "check"], "'check'"),
+    (&["bogus"], "'bogus'"),
+    (&["bogus", "check", "a"], "'bogus'"),
+    (&["Check", "a"], "'Check'"),
+    (&["help", "bogus"], "'bogus'"),
+    (&[""], "''"),
+    (&["check", "--fast", "a"], "'--fast'"),
+    (&["stdio", "desk.db", "more.db"], "'more.db'"),
+    (&["--fast"], "'--fast'"),
+    (
+        &["init", "desk.db", "--odfi", "121042882"],
+        "--destination-name <DESTINATION_NAME>",
+    ),
+    (&["init", "desk.db", "more.db"], "'more.db'"),
+];
 
 // Do the words name this command?
 fn names(alloc: Global, words: &[&str], wanted: Command<'_>) -> bool {
@@ -32,179 +190,32 @@ fn names(alloc: Global, words: &[&str], wanted: Command<'_>) -> bool {
     }
 }
 
-#[test]
-fn commands_without_a_desk(rt: HostRuntime) {
-    let rows: [(&[&str], Command); 7] = [
-        (&[], Command::AnswerSubmission),
-        (
-            &[
-                "submit",
-                "pay.csv",
-                "--company",
-                "MILL01",
-                "--key",
-                "mill-street-key",
-                "--ref",
-                "PAY-1",
-                "--sec",
-                "PPD",
-                "--direction",
-                "credit",
-                "--description",
-                "PAYROLL",
-                "--day",
-                "2025-01-10",
-            ],
-            Command::Submit("pay.csv", OPTIONS),
-        ),
-        (
-            &[
-                "submit",
-                "--day=2025-01-10",
-                "--description=PAYROLL",
-                "--direction=credit",
-                "--sec=PPD",
-                "--ref=PAY-1",
-                "--key=mill-street-key",
-                "--company=MILL01",
-                "pay.csv",
-            ],
-            Command::Submit("pay.csv", OPTIONS),
-        ),
-        (
-            &[
-                "submit",
-                "--company=",
-                "--key=",
-                "--ref=",
-                "--sec=",
-                "--direction=",
-                "--description=",
-                "--day=",
-                "--",
-                "--list",
-            ],
-            Command::Submit("--list", NOTHING),
-        ),
-        (&["check", "returns.ach"], Command::Check("returns.ach")),
-        (&["check", ""], Command::Check("")),
-        (&["check", "--", "-"], Command::Check("-")),
-    ];
-    for (words, wanted) in rows {
-        assert!(rt; names(rt.alloc(), words, wanted), "{wanted:?}");
+// Are the words told a text with this part, as help or else as wrong usage?
+fn tells(alloc: Global, words: &[&str], is_help: bool, part: &str) -> bool {
+    match command_of(alloc, words) {
+        Err(LineFault::Help(text)) => is_help && text.as_str().contains(part),
+        Err(LineFault::Usage(text)) => !is_help && text.as_str().contains(part),
+        Err(LineFault::Version | LineFault::NoMemory) | Ok(_) => false,
     }
 }
 
 #[test]
-fn commands_of_a_desk(rt: HostRuntime) {
-    let rows: [(&[&str], Command); 7] = [
-        (&["stdio"], Command::AnswerMessages),
-        (&["stdio", "desk.db"], Command::AnswerByFile("desk.db")),
-        (&["migrate", "desk.db"], Command::Migrate("desk.db")),
-        (
-            &["serve", "desk.db", "1"],
-            Command::Serve("desk.db", serve_options(1, 1000, 30)),
-        ),
-        (
-            &[
-                "serve",
-                "desk.db",
-                "65535",
-                "--connections",
-                "1",
-                "--patience=3600",
-            ],
-            Command::Serve("desk.db", serve_options(65_535, 1, 3_600)),
-        ),
-        (
-            &["serve", "--connections=1000000", "desk.db", "8080"],
-            Command::Serve("desk.db", serve_options(8080, 1_000_000, 30)),
-        ),
-        (
-            &[
-                "init",
-                "desk.db",
-                "--key=operator-key",
-                "--odfi",
-                "121042882",
-                "--odfi-name=OUR BANK",
-                "--destination",
-                "061000146",
-                "--destination-name",
-                "ACH OPERATOR",
-            ],
-            Command::Init("desk.db", SAMPLE_BANK),
-        ),
-    ];
-    for (words, wanted) in rows {
-        assert!(rt; names(rt.alloc(), words, wanted), "{wanted:?}");
+fn commands(rt: HostRuntime) {
+    for &(words, wanted) in COMMANDS {
+        assert!(rt; names(rt.alloc(), words, wanted), "{words:?}");
     }
 }
 
 #[test]
 fn help(rt: HostRuntime) {
-    let rows: [(&[&str], &str); 19] = [
-        (&["--help"], "submit"),
-        (&["submit", "--help"], "Usage: achdesk submit "),
-        (&["submit", "a", "-h"], "--description <TEXT>"),
-        (&["help", "submit"], "Usage: achdesk submit "),
-        (&["submit", "a", "--help"], "--direction <DIRECTION>"),
-        (&["--help"], "check"),
-        (&["-h"], "check"),
-        (&["check", "--help"], "Usage: achdesk check <FILE>"),
-        (&["check", "a", "-h"], "FILE"),
-        (&["help"], "check"),
-        (&["help", "check"], "Usage: achdesk check <FILE>"),
-        (&["--help"], "stdio"),
-        (&["stdio", "--help"], "Usage: achdesk stdio"),
-        (&["--help"], "init"),
-        (&["init", "--help"], "--odfi-name <ODFI_NAME>"),
-        (&["--help"], "serve"),
-        (&["serve", "--help"], "--connections"),
-        (&["--help"], "migrate"),
-        (&["migrate", "--help"], "Usage: achdesk migrate <DB>"),
-    ];
-    for (words, part) in rows {
-        match command_of(rt.alloc(), words) {
-            Err(LineFault::Help(text)) => assert!(rt; text.as_str().contains(part), "{text}"),
-            Err(LineFault::Usage(_text)) => assert!(rt; false, "{part}"),
-            Err(LineFault::Version | LineFault::NoMemory) | Ok(_) => assert!(rt; false, "{part}"),
-        }
+    for &(words, part) in HELP {
+        assert!(rt; tells(rt.alloc(), words, true, part), "{words:?}");
     }
 }
 
 #[test]
 fn usage(rt: HostRuntime) {
-    let rows: [(&[&str], &str); 17] = [
-        (&["submit"], "--company <COMPANY>"),
-        (&["submit", "a", "--key", "k"], "--day <DAY>"),
-        (
-            &["submit", "a", "--key", "k", "--key", "k"],
-            "'--key <KEY>'",
-        ),
-        (&["submit", "a", "--amount", "1"], "'--amount'"),
-        (&["check"], "FILE"),
-        (&["check", "a", "b"], "'b'"),
-        (&["check", "a", "check"], "'check'"),
-        (&["bogus"], "'bogus'"),
-        (&["bogus", "check", "a"], "'bogus'"),
-        (&["Check", "a"], "'Check'"),
-        (&["help", "bogus"], "'bogus'"),
-        (&[""], "''"),
-        (&["check", "--fast", "a"], "'--fast'"),
-        (&["stdio", "desk.db", "more.db"], "'more.db'"),
-        (&["--fast"], "'--fast'"),
-        (
-            &["init", "desk.db", "--odfi", "121042882"],
-            "--destination-name <DESTINATION_NAME>",
-        ),
-        (&["init", "desk.db", "more.db"], "'more.db'"),
-    ];
-    for (words, part) in rows {
-        match command_of(rt.alloc(), words) {
-            Err(LineFault::Usage(text)) => assert!(rt; text.as_str().contains(part), "{text}"),
-            Err(LineFault::Help(_text)) => assert!(rt; false),
-            Err(LineFault::Version | LineFault::NoMemory) | Ok(_) => assert!(rt; false),
-        }
+    for &(words, part) in USAGE {
+        assert!(rt; tells(rt.alloc(), words, false, part), "{words:?}");
     }
 }
