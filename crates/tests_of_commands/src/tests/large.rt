@@ -131,13 +131,10 @@ const LONG_TEXTS: &[(&str, &str, &str)] = &[
     ),
 ];
 
-/// The text of 10,000 bytes.
-const LONG_TEXT: &[u8; 10_000] = &[b'A'; 10_000];
-
 // A body with the text of 10,000 bytes between these two.
 fn around_long_text(alloc: Global, before: &str, after: &str) -> Result<Vec<u8>, AllocError> {
     let mut body = Vec::from_slice(alloc, before.as_bytes())?;
-    body.extend_from_slice(LONG_TEXT)?;
+    body.resize(before.len().saturating_add(10_000), b'A')?;
     body.extend_from_slice(after.as_bytes())?;
     Ok(body)
 }
