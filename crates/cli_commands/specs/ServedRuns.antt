@@ -1,9 +1,13 @@
 -- What is printed where the desk of a store is served on a port.
-use Rattle.std.specs.Prelude.{◌⊎◌, ℕ, Bool, true, List, ◌++◌, codes, Option}
+use Rattle.std.specs.Prelude.{◌≡◌, ◌≢◌, ◌⊎◌, ℕ, Bool, true, List, ◌++◌, codes, Option}
 use Rattle.std.specs.Fmt.{decimal}
+use Rattle.desk_store.specs.declared.store.Store.{Ghosts}
 use Rattle.io_retries.specs.Prefixes.{AppendsPrefix}
+use Rattle.http_session.specs.Serving.{HasServed}
+use Rattle.desk_http.specs.Answering.{IsAnswered, StandsBehind}
 use Rattle.cli_commands.specs.Printing.{unavailable, with_line_feed, PrintsAnswer}
 use Rattle.cli_commands.specs.declared.status.Status.{Status}
+use Rattle.cli_commands.specs.declared.status.Status.TheVariants.{Failed}
 
 -- where it listens
 abbrev pub listening_text : (port : ℕ) → List ℕ
@@ -19,3 +23,11 @@ HasServedConnections port old new status = PrintsAnswer old new (listening_answe
 -- it could not listen; or it told where it listens, and then a connection could not be accepted; or a write failed
 abbrev pub FailsToServe : (port : ℕ) → (old new : Option (List ℕ)) → Type 0
 FailsToServe port old new = AppendsPrefix old new unavailable ⊎ AppendsPrefix old new ((listening_answer port).1 ++ unavailable)
+
+-- The desk of a store was served, and the store given back. It was clean before, if it is clean in the end; it then stands
+-- for each history for which it stood, with the messages that were answered. `g` says which books a store holds.
+pub record Serves {S : Type 0} (g : Ghosts S) (store back : S) (port : ℕ) (old new : Option (List ℕ)) (status : Status) : Type 0 where
+  pub before : g.is_clean back → g.is_clean store
+  pub served : HasServed IsAnswered (g.is_clean back) (StandsBehind (g.holds store)) (StandsBehind (g.holds back))
+  pub answered : status ≢ Failed → HasServedConnections port old new status
+  pub failed : status ≡ Failed → FailsToServe port old new

@@ -1,13 +1,15 @@
 -- A session with the desk of a store, for each history for which the store stands.
-use Rattle.std.specs.Prelude.{◌≡◌, ◌⊎◌, ℕ, List, Option, Result, Err}
+use Rattle.std.specs.Prelude.{◌≡◌, ◌≢◌, ◌⊎◌, ℕ, List, Option, Result, Err}
+use Rattle.desk_store.specs.declared.store.Store.{Ghosts}
 use Rattle.io_retries.specs.Prefixes.{AppendsPrefix}
 use Rattle.http_session.specs.Session.{SessionRan}
 use Rattle.http_session.specs.declared.sessions.Ended.{Ended}
 use Rattle.http_session.specs.declared.sessions.SessionFault.{SessionFault}
-use Rattle.desk_http.specs.Answering.{DeskHistory, IsAnswered}
+use Rattle.desk_http.specs.Answering.{DeskHistory, IsAnswered, StandsBehind}
 use Rattle.cli_commands.specs.MessageRuns.{status_of_session}
 use Rattle.cli_commands.specs.Printing.{unavailable}
 use Rattle.cli_commands.specs.declared.status.Status.{Status}
+use Rattle.cli_commands.specs.declared.status.Status.TheVariants.{Failed}
 
 -- A session answered what the input spells: for each history for which the desk stood, each answer is the text of its
 -- message after those before it, and the desk stands for that history with these messages, and no other, if it is clean.
@@ -29,3 +31,10 @@ abbrev pub BreaksOffFrom : (is_clean : Type 0) → (stood stands : DeskHistory �
 BreaksOffFrom is_clean stood stands input old new =
     (AppendsPrefix old new unavailable × StandsStill is_clean stood stands)
     ⊎ ((fault : SessionFault) × RanFrom is_clean stood stands input old new (Err fault))
+
+-- A session was answered by the desk of a store, and the store given back. It was clean before, if it is clean in the end.
+-- `g` says which books a store holds.
+pub record AnswersBy {S : Type 0} (g : Ghosts S) (store back : S) (input old new : Option (List ℕ)) (status : Status) : Type 0 where
+  pub before : g.is_clean back → g.is_clean store
+  pub answered : status ≢ Failed → HasAnsweredFrom (g.is_clean back) (StandsBehind (g.holds store)) (StandsBehind (g.holds back)) input old new status
+  pub failed : status ≡ Failed → BreaksOffFrom (g.is_clean back) (StandsBehind (g.holds store)) (StandsBehind (g.holds back)) input old new

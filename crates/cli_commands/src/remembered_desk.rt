@@ -1,9 +1,6 @@
 //! The desk of a store answers and is served by what it remembers of the store.
-ghost use Rattle.std.specs.Prelude.{◌≡◌, ◌≢◌};
-ghost use Rattle.http_session.specs.Serving.{HasServed};
-ghost use Rattle.desk_http.specs.Answering.{IsAnswered, StandsBehind};
-ghost use Rattle.cli_commands.specs.ServedRuns.{HasServedConnections, FailsToServe};
-ghost use Rattle.cli_commands.specs.StoreRuns.{BreaksOffFrom, HasAnsweredFrom};
+ghost use Rattle.cli_commands.specs.ServedRuns.{Serves};
+ghost use Rattle.cli_commands.specs.StoreRuns.{AnswersBy};
 
 use crate::served_store::serve_by_store;
 use crate::status::Status;
@@ -22,13 +19,8 @@ pub fn serve_remembering<S: Store + Drop, W: Write>(
     options: ServeOptions,
     writer: &mut W,
 ) -> (Status, S)
-    ensures before { S.is_clean result.1 → S.is_clean store }
-    ensures served { HasServed IsAnswered (S.is_clean result.1) (StandsBehind (S.holds store))
-        (StandsBehind (S.holds result.1)) }
-    ensures answered { result.0 ≢ Status.Failed →
-        HasServedConnections options.port (W.contents writer.old) (W.contents writer.new) result.0 }
-    ensures failed { result.0 ≡ Status.Failed →
-        FailsToServe options.port (W.contents writer.old) (W.contents writer.new) }
+    ensures { Serves S.Store store result.1 options.port (W.contents writer.old)
+        (W.contents writer.new) result.0 }
 {
     let store = Remembering::new(rt.alloc(), store);
     let (status, store) = serve_by_store(rt, store, options, writer);
@@ -43,13 +35,8 @@ pub fn answer_remembering<S: Store + Drop, R: Read + Drop, W: Write>(
     reader: R,
     writer: &mut W,
 ) -> (Status, S)
-    ensures before { S.is_clean result.1 → S.is_clean store }
-    ensures answered { result.0 ≢ Status.Failed →
-        HasAnsweredFrom (S.is_clean result.1) (StandsBehind (S.holds store)) (StandsBehind (S.holds result.1))
-        (R.remaining reader) (W.contents writer.old) (W.contents writer.new) result.0 }
-    ensures failed { result.0 ≡ Status.Failed →
-        BreaksOffFrom (S.is_clean result.1) (StandsBehind (S.holds store)) (StandsBehind (S.holds result.1))
-        (R.remaining reader) (W.contents writer.old) (W.contents writer.new) }
+    ensures { AnswersBy S.Store store result.1 (R.remaining reader) (W.contents writer.old)
+        (W.contents writer.new) result.0 }
 {
     let store = Remembering::new(alloc, store);
     let (status, store) = answer_by_store(alloc, store, reader, writer);

@@ -2,10 +2,9 @@
 ghost use Rattle.std.specs.Prelude.{◌≡◌, ◌≢◌, ◌++◌, true, IfSome};
 ghost use Rattle.io_retries.specs.Prefixes.{AppendsPrefix};
 ghost use Rattle.http_session.specs.Serving.{HasServed, IsUnasked};
-ghost use Rattle.desk_http.specs.Answering.{IsAnswered, StandsBehind};
 ghost use Rattle.cli_commands.specs.BodyAnswers.{IsAnswer};
 ghost use Rattle.cli_commands.specs.Printing.{unavailable, PrintsAnswer};
-ghost use Rattle.cli_commands.specs.ServedRuns.{listening_answer, HasServedConnections, FailsToServe};
+ghost use Rattle.cli_commands.specs.ServedRuns.{listening_answer, Serves};
 
 use crate::output::{end_line, print_unavailable};
 use crate::status::Status;
@@ -27,7 +26,7 @@ use std::time::Duration;
 /// Once it listens it prints `listening on 127.0.0.1:8080`. It is done after as many connections as the
 /// options say, and waits no longer for a client than they say. Where the port cannot be had, or a connection cannot be accepted, `unavailable` is printed.
 ///
-/// By the clause `served` the store stands for each history for which it stood, with the messages that
+/// By `served` the store stands for each history for which it stood, with the messages that
 /// were answered since, each by its text, where it is clean in the end.
 pub fn serve_by_store<S: Store + Drop, W: Write>(
     rt: &HostRuntime,
@@ -35,13 +34,8 @@ pub fn serve_by_store<S: Store + Drop, W: Write>(
     options: ServeOptions,
     writer: &mut W,
 ) -> (Status, S)
-    ensures before { S.is_clean result.1 → S.is_clean store }
-    ensures served { HasServed IsAnswered (S.is_clean result.1) (StandsBehind (S.holds store))
-        (StandsBehind (S.holds result.1)) }
-    ensures answered { result.0 ≢ Status.Failed →
-        HasServedConnections options.port (W.contents writer.old) (W.contents writer.new) result.0 }
-    ensures failed { result.0 ≡ Status.Failed →
-        FailsToServe options.port (W.contents writer.old) (W.contents writer.new) }
+    ensures { Serves S.Store store result.1 options.port (W.contents writer.old)
+        (W.contents writer.new) result.0 }
 {
     let Ok(routes) = Routes::new(rt.alloc()) else {
         return (print_unavailable(writer, Tries::new()), store);

@@ -1,7 +1,5 @@
 //! Messages of HTTP/1.1 are answered by the desk of a store.
-ghost use Rattle.std.specs.Prelude.{◌≡◌, ◌≢◌};
-ghost use Rattle.desk_http.specs.Answering.{StandsBehind};
-ghost use Rattle.cli_commands.specs.StoreRuns.{BreaksOffFrom, HasAnsweredFrom};
+ghost use Rattle.cli_commands.specs.StoreRuns.{AnswersBy};
 
 use crate::message_session::status_of_session;
 use crate::output::print_unavailable;
@@ -27,13 +25,8 @@ pub fn answer_by_store<S: Store + Drop, R: Read + Drop, W: Write>(
     reader: R,
     writer: &mut W,
 ) -> (Status, S)
-    ensures before { S.is_clean result.1 → S.is_clean store }
-    ensures answered { result.0 ≢ Status.Failed →
-        HasAnsweredFrom (S.is_clean result.1) (StandsBehind (S.holds store)) (StandsBehind (S.holds result.1))
-        (R.remaining reader) (W.contents writer.old) (W.contents writer.new) result.0 }
-    ensures failed { result.0 ≡ Status.Failed →
-        BreaksOffFrom (S.is_clean result.1) (StandsBehind (S.holds store)) (StandsBehind (S.holds result.1))
-        (R.remaining reader) (W.contents writer.old) (W.contents writer.new) }
+    ensures { AnswersBy S.Store store result.1 (R.remaining reader) (W.contents writer.old)
+        (W.contents writer.new) result.0 }
 {
     let Ok(routes) = Routes::new(alloc) else {
         return (print_unavailable(writer, Tries::new()), store);
