@@ -10,7 +10,8 @@ use Rattle.desk_book.specs.Book.{Book}
 use Rattle.desk_book.specs.OnBook.{reply_on}
 use Rattle.desk_book.specs.Requests.{added_row, with_added_row}
 use Rattle.desk_book.specs.Writes.{writes_on}
-use Rattle.desk_store.specs.Words.{Reads, ReadsList, LeavesRead}
+use Rattle.desk_store.specs.Promises.{CallTells, CallGives, CallGivesList}
+use Rattle.desk_store.specs.Words.{LeavesRead}
 use Rattle.desk_store.specs.declared.store.Store.{Ghosts}
 use Rattle.desk_store.specs.declared.store.StoreFault.{StoreFault}
 use Rattle.desk_calls.specs.Answering.{Answers, LeavesCall}
@@ -23,20 +24,17 @@ module _ {S : Type 0} (g : Ghosts S) where
   abbrev pub LeavesNoMore : (old new : S) → Type 0
   LeavesNoMore old new = g.is_clean new → LeavesRead (g.may_leave old) (g.may_leave new)
 
-  -- The store was clean as the function began, if it is clean as it ends. It tells this, and a crash leaves nothing
-  -- that it could not leave before.
-  pub record Tells (old new : S) (Told : Type 0) : Type 0 where
-    pub before : g.is_clean new → g.is_clean old
-    pub read : g.is_clean new → Told
-    pub left : LeavesNoMore old new
+  -- The function tells this, and a crash leaves nothing that it could not leave before.
+  abbrev pub Tells : (old new : S) → (Told : Type 0) → Type 0
+  Tells = CallTells g.is_clean g.may_leave
 
   -- The result is this value of the book, or the store could not act; it holds the same book.
   abbrev pub Gives : {A : Type 0} → (old new : S) → Result A StoreFault → (Book → A) → Type 0
-  Gives old new result value = Tells old new (Reads (g.holds old) result value (g.holds new))
+  Gives = CallGives g.is_clean g.holds g.may_leave
 
   -- the same of a list
   abbrev pub GivesList : {A : Type 0} → (old new : S) → Result (Vec A Global) StoreFault → (Book → List A) → Type 0
-  GivesList old new result value = Tells old new (ReadsList (g.holds old) result value (g.holds new))
+  GivesList = CallGivesList g.is_clean g.holds g.may_leave
 
   -- the same, where contracts see the result as another value
   abbrev pub GivesAs : {A B : Type 0} → (old new : S) → (A → B) → Result A StoreFault → (Book → B) → Type 0

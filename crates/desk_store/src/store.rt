@@ -8,7 +8,7 @@ ghost use Rattle.desk_book.specs.Steps.{set_day, set_holidays, put_company, put_
 ghost use Rattle.desk_book.specs.Sums.{exposures_of, rates_of};
 ghost use Rattle.desk_store.specs.Written.{cut_rows, intake_rows};
 ghost use Rattle.desk_store.specs.declared.store.StoreFault.TheVariants.{Unavailable};
-ghost use Rattle.desk_store.specs.Words.{Reads, ReadsList, Writes, LeavesRead, LeavesWrite};
+ghost use Rattle.desk_store.specs.Promises.{CallGives, CallGivesList, CallTakes};
 
 use ach_fields::{Id, Ref, Trace};
 use bank_days::{Calendar, Day};
@@ -94,45 +94,28 @@ pub trait Store {
 
     /// Reads the identity of the desk.
     fn identity(&mut self, alloc: Global) -> Result<Identity, StoreFault>
-        ensures before { is_clean self.new → is_clean self.old }
-        ensures read { is_clean self.new →
-            Reads (holds self.old) result (λ b. b.identity) (holds self.new) }
-        ensures left { is_clean self.new → LeavesRead (may_leave self.old) (may_leave self.new) };
+        ensures { CallGives is_clean holds may_leave self.old self.new result (λ b. b.identity) };
 
     /// Reads the digest of a caller's key; there is none where the company is not registered.
     fn key_of(&mut self, alloc: Global, caller: Caller) -> Result<Option<[u8; 32]>, StoreFault>
-        ensures before { is_clean self.new → is_clean self.old }
-        ensures read { is_clean self.new →
-            Reads (holds self.old) result (key_of caller) (holds self.new) }
-        ensures left { is_clean self.new → LeavesRead (may_leave self.old) (may_leave self.new) };
+        ensures { CallGives is_clean holds may_leave self.old self.new result (key_of caller) };
 
     /// Reads the desk day, once one was set.
     fn day(&mut self, alloc: Global) -> Result<Option<RuleDay>, StoreFault>
-        ensures before { is_clean self.new → is_clean self.old }
-        ensures read { is_clean self.new →
-            Reads (holds self.old) result (λ b. b.day) (holds self.new) }
-        ensures left { is_clean self.new → LeavesRead (may_leave self.old) (may_leave self.new) };
+        ensures { CallGives is_clean holds may_leave self.old self.new result (λ b. b.day) };
 
     /// Reads the holidays.
     fn calendar(&mut self, alloc: Global) -> Result<Calendar, StoreFault>
-        ensures before { is_clean self.new → is_clean self.old }
-        ensures read { is_clean self.new →
-            Reads (holds self.old) result (λ b. b.holidays) (holds self.new) }
-        ensures left { is_clean self.new → LeavesRead (may_leave self.old) (may_leave self.new) };
+        ensures { CallGives is_clean holds may_leave self.old self.new result (λ b. b.holidays) };
 
     /// Reads a registered company, with its present limits.
     fn company(&mut self, alloc: Global, id: Id) -> Result<Option<Company>, StoreFault>
-        ensures before { is_clean self.new → is_clean self.old }
-        ensures read { is_clean self.new →
-            Reads (holds self.old) result (company id) (holds self.new) }
-        ensures left { is_clean self.new → LeavesRead (may_leave self.old) (may_leave self.new) };
+        ensures { CallGives is_clean holds may_leave self.old self.new result (company id) };
 
     /// Reads all registered companies, with their present limits, by identification.
     fn companies(&mut self, alloc: Global) -> Result<Vec<Company>, StoreFault>
-        ensures before { is_clean self.new → is_clean self.old }
-        ensures read { is_clean self.new →
-            ReadsList (holds self.old) result (λ b. b.companies) (holds self.new) }
-        ensures left { is_clean self.new → LeavesRead (may_leave self.old) (may_leave self.new) };
+        ensures { CallGivesList is_clean holds may_leave self.old self.new result
+            (λ b. b.companies) };
 
     /// Reads a company's submission or retry with its entries, by its reference.
     fn submission(
@@ -141,25 +124,19 @@ pub trait Store {
         company: Id,
         reference: Ref,
     ) -> Result<Option<Row>, StoreFault>
-        ensures before { is_clean self.new → is_clean self.old }
-        ensures read { is_clean self.new →
-            Reads (holds self.old) result (submission company reference) (holds self.new) }
-        ensures left { is_clean self.new → LeavesRead (may_leave self.old) (may_leave self.new) };
+        ensures { CallGives is_clean holds may_leave self.old self.new result
+            (submission company reference) };
 
     /// Says how many submissions and retries a company has.
     fn submission_count(&mut self, alloc: Global, company: Id) -> Result<u64, StoreFault>
-        ensures before { is_clean self.new → is_clean self.old }
-        ensures read { is_clean self.new →
-            Reads (holds self.old) result (submission_count company) (holds self.new) }
-        ensures left { is_clean self.new → LeavesRead (may_leave self.old) (may_leave self.new) };
+        ensures { CallGives is_clean holds may_leave self.old self.new result
+            (submission_count company) };
 
     /// Reads a company's submissions and retries with their entries, by order number, of which an
     /// entry is held or settled on a day or later, also where it came back.
     fn open_rows(&mut self, alloc: Global, company: Id, since: Day) -> Result<Vec<Row>, StoreFault>
-        ensures before { is_clean self.new → is_clean self.old }
-        ensures read { is_clean self.new →
-            ReadsList (holds self.old) result (open_rows_of company since) (holds self.new) }
-        ensures left { is_clean self.new → LeavesRead (may_leave self.old) (may_leave self.new) };
+        ensures { CallGivesList is_clean holds may_leave self.old self.new result
+            (open_rows_of company since) };
 
     /// Reads a company's retries of the entry that has this number in the submission with this
     /// reference, by order number.
@@ -170,17 +147,13 @@ pub trait Store {
         of: Ref,
         index: u64,
     ) -> Result<Vec<Row>, StoreFault>
-        ensures before { is_clean self.new → is_clean self.old }
-        ensures read { is_clean self.new →
-            ReadsList (holds self.old) result (retries_of company of index) (holds self.new) }
-        ensures left { is_clean self.new → LeavesRead (may_leave self.old) (may_leave self.new) };
+        ensures { CallGivesList is_clean holds may_leave self.old self.new result
+            (retries_of company of index) };
 
     /// Reads a company's submissions and retries with their entries, by order number.
     fn entries_of(&mut self, alloc: Global, company: Id) -> Result<Vec<Row>, StoreFault>
-        ensures before { is_clean self.new → is_clean self.old }
-        ensures read { is_clean self.new →
-            ReadsList (holds self.old) result (λ b. b.rows company) (holds self.new) }
-        ensures left { is_clean self.new → LeavesRead (may_leave self.old) (may_leave self.new) };
+        ensures { CallGivesList is_clean holds may_leave self.old self.new result
+            (λ b. b.rows company) };
 
     /// Reads a company's credit exposure and its debit exposure on a day. Where a store has nothing
     /// better, it reads the holidays and the rows that still count: the open ones, and all where
@@ -191,10 +164,8 @@ pub trait Store {
         company: Id,
         today: Day,
     ) -> Result<(u128, u128), StoreFault>
-        ensures before { is_clean self.new → is_clean self.old }
-        ensures read { is_clean self.new →
-            Reads (holds self.old) result (exposures_of company today) (holds self.new) }
-        ensures left { is_clean self.new → LeavesRead (may_leave self.old) (may_leave self.new) }
+        ensures { CallGives is_clean holds may_leave self.old self.new result
+            (exposures_of company today) }
     {
         desk_book::open_rows_suffice();
         let calendar = self.calendar(alloc)?;
@@ -208,10 +179,8 @@ pub trait Store {
     /// Reads a company's return rates on a day. Where a store has nothing better, it reads all the
     /// company's rows.
     fn rates(&mut self, alloc: Global, company: Id, today: Day) -> Result<Rates, StoreFault>
-        ensures before { is_clean self.new → is_clean self.old }
-        ensures read { is_clean self.new →
-            Reads (holds self.old) result (rates_of company today) (holds self.new) }
-        ensures left { is_clean self.new → LeavesRead (may_leave self.old) (may_leave self.new) }
+        ensures { CallGives is_clean holds may_leave self.old self.new result
+            (rates_of company today) }
     {
         let rows = self.entries_of(alloc, company)?;
         Ok(rates_among(alloc, &rows, today)?)
@@ -223,31 +192,20 @@ pub trait Store {
         alloc: Global,
         company: Company,
     ) -> Result<Vec<HeldSubmission>, StoreFault>
-        ensures before { is_clean self.new → is_clean self.old }
-        ensures read { is_clean self.new →
-            ReadsList (holds self.old) result (waiting_of company) (holds self.new) }
-        ensures left { is_clean self.new → LeavesRead (may_leave self.old) (may_leave self.new) };
+        ensures { CallGivesList is_clean holds may_leave self.old self.new result
+            (waiting_of company) };
 
     /// Reads the held submissions of all companies, by identification and then by order number.
     fn waiting(&mut self, alloc: Global) -> Result<Vec<HeldSubmission>, StoreFault>
-        ensures before { is_clean self.new → is_clean self.old }
-        ensures read { is_clean self.new →
-            ReadsList (holds self.old) result (waiting) (holds self.new) }
-        ensures left { is_clean self.new → LeavesRead (may_leave self.old) (may_leave self.new) };
+        ensures { CallGivesList is_clean holds may_leave self.old self.new result waiting };
 
     /// Reads the sequence of the last sent entry, 0 before the first.
     fn last_sequence(&mut self, alloc: Global) -> Result<u32, StoreFault>
-        ensures before { is_clean self.new → is_clean self.old }
-        ensures read { is_clean self.new →
-            Reads (holds self.old) result (last_sequence) (holds self.new) }
-        ensures left { is_clean self.new → LeavesRead (may_leave self.old) (may_leave self.new) };
+        ensures { CallGives is_clean holds may_leave self.old self.new result last_sequence };
 
     /// Says how many entries were sent.
     fn sent_count(&mut self, alloc: Global) -> Result<u64, StoreFault>
-        ensures before { is_clean self.new → is_clean self.old }
-        ensures read { is_clean self.new →
-            Reads (holds self.old) result (sent_count) (holds self.new) }
-        ensures left { is_clean self.new → LeavesRead (may_leave self.old) (may_leave self.new) };
+        ensures { CallGives is_clean holds may_leave self.old self.new result sent_count };
 
     /// Reads the latest day on which a youngest entry settled that has a sequence from the first to
     /// the last.
@@ -257,17 +215,13 @@ pub trait Store {
         from: u32,
         to: u32,
     ) -> Result<Option<Day>, StoreFault>
-        ensures before { is_clean self.new → is_clean self.old }
-        ensures read { is_clean self.new →
-            Reads (holds self.old) result (latest_settled from to) (holds self.new) }
-        ensures left { is_clean self.new → LeavesRead (may_leave self.old) (may_leave self.new) };
+        ensures { CallGives is_clean holds may_leave self.old self.new result
+            (latest_settled from to) };
 
     /// Says how many files a day has.
     fn files_on(&mut self, alloc: Global, day: Day) -> Result<u64, StoreFault>
-        ensures before { is_clean self.new → is_clean self.old }
-        ensures read { is_clean self.new →
-            Reads (holds self.old) result (λ b. b.files_on day) (holds self.new) }
-        ensures left { is_clean self.new → LeavesRead (may_leave self.old) (may_leave self.new) };
+        ensures { CallGives is_clean holds may_leave self.old self.new result
+            (λ b. b.files_on day) };
 
     /// Reads for each trace the youngest entry that has it, and whether that came back; what is no
     /// trace names nothing.
@@ -276,24 +230,17 @@ pub trait Store {
         alloc: Global,
         traces: &[Option<Trace>],
     ) -> Result<Vec<Option<NamedEntry>>, StoreFault>
-        ensures before { is_clean self.new → is_clean self.old }
-        ensures read { is_clean self.new →
-            ReadsList (holds self.old) result (traced_entries traces.now) (holds self.new) }
-        ensures left { is_clean self.new → LeavesRead (may_leave self.old) (may_leave self.new) };
+        ensures { CallGivesList is_clean holds may_leave self.old self.new result
+            (traced_entries traces.now) };
 
     /// Reads the returns and changes of a company's entries.
     fn items_of(&mut self, alloc: Global, company: Id) -> Result<ReturnsAndChanges, StoreFault>
-        ensures before { is_clean self.new → is_clean self.old }
-        ensures read { is_clean self.new →
-            Reads (holds self.old) result (items_of company) (holds self.new) }
-        ensures left { is_clean self.new → LeavesRead (may_leave self.old) (may_leave self.new) };
+        ensures { CallGives is_clean holds may_leave self.old self.new result (items_of company) };
 
     /// Reads the lines of an account, in the order in which they came.
     fn postings_of(&mut self, alloc: Global, account: Account) -> Result<Vec<Posting>, StoreFault>
-        ensures before { is_clean self.new → is_clean self.old }
-        ensures read { is_clean self.new →
-            ReadsList (holds self.old) result (λ b. lines_of account b.postings) (holds self.new) }
-        ensures left { is_clean self.new → LeavesRead (may_leave self.old) (may_leave self.new) };
+        ensures { CallGivesList is_clean holds may_leave self.old self.new result
+            (λ b. lines_of account b.postings) };
 
     /// Reads the sums of an account's lines by value day, ascending, in cents.
     fn balances_of(
@@ -301,24 +248,18 @@ pub trait Store {
         alloc: Global,
         account: Account,
     ) -> Result<Vec<(Day, i128)>, StoreFault>
-        ensures before { is_clean self.new → is_clean self.old }
-        ensures read { is_clean self.new →
-            ReadsList (holds self.old) result (λ b. day_sums account b.postings) (holds self.new) }
-        ensures left { is_clean self.new → LeavesRead (may_leave self.old) (may_leave self.new) };
+        ensures { CallGivesList is_clean holds may_leave self.old self.new result
+            (λ b. day_sums account b.postings) };
 
     /// Reads what stands in suspense, in the order in which it came.
     fn suspense(&mut self, alloc: Global) -> Result<Vec<SuspenseRow>, StoreFault>
-        ensures before { is_clean self.new → is_clean self.old }
-        ensures read { is_clean self.new →
-            ReadsList (holds self.old) result (λ b. b.suspense) (holds self.new) }
-        ensures left { is_clean self.new → LeavesRead (may_leave self.old) (may_leave self.new) };
+        ensures { CallGivesList is_clean holds may_leave self.old self.new result
+            (λ b. b.suspense) };
 
     /// Says how many items stand in suspense.
     fn suspense_count(&mut self, alloc: Global) -> Result<u64, StoreFault>
-        ensures before { is_clean self.new → is_clean self.old }
-        ensures read { is_clean self.new →
-            Reads (holds self.old) result (λ b. length b.suspense) (holds self.new) }
-        ensures left { is_clean self.new → LeavesRead (may_leave self.old) (may_leave self.new) };
+        ensures { CallGives is_clean holds may_leave self.old self.new result
+            (λ b. length b.suspense) };
 
     /// Reads the text of a file, by its day and modifier.
     fn file(
@@ -327,53 +268,31 @@ pub trait Store {
         day: Day,
         modifier: u8,
     ) -> Result<Option<ListOf<u8>>, StoreFault>
-        ensures before { is_clean self.new → is_clean self.old }
-        ensures read { is_clean self.new →
-            Reads (holds self.old) result (λ b. b.file day modifier) (holds self.new) }
-        ensures left { is_clean self.new → LeavesRead (may_leave self.old) (may_leave self.new) };
+        ensures { CallGives is_clean holds may_leave self.old self.new result
+            (λ b. b.file day modifier) };
 
     /// Reads an incoming file that was taken, by its key.
     fn taken(&mut self, alloc: Global, key: [u8; 21]) -> Result<Option<TakenFile>, StoreFault>
-        ensures before { is_clean self.new → is_clean self.old }
-        ensures read { is_clean self.new →
-            Reads (holds self.old) result (λ b. b.taken key) (holds self.new) }
-        ensures left { is_clean self.new → LeavesRead (may_leave self.old) (may_leave self.new) };
+        ensures { CallGives is_clean holds may_leave self.old self.new result (λ b. b.taken key) };
 
     /// Sets the desk day.
     fn set_day(&mut self, alloc: Global, day: RuleDay) -> Result<(), StoreFault>
-        ensures before { is_clean self.new → is_clean self.old }
-        ensures write { is_clean self.new →
-            Writes (holds self.old) result (set_day day) (holds self.new) }
-        ensures left { is_clean self.new →
-            LeavesWrite keeps (holds self.old) (may_leave self.old) result (set_day day)
-            (may_leave self.new) };
+        ensures { CallTakes is_clean holds may_leave keeps self.old self.new result (set_day day) };
 
     /// Sets the holidays.
     fn set_holidays(&mut self, alloc: Global, holidays: Calendar) -> Result<(), StoreFault>
-        ensures before { is_clean self.new → is_clean self.old }
-        ensures write { is_clean self.new →
-            Writes (holds self.old) result (set_holidays holidays) (holds self.new) }
-        ensures left { is_clean self.new →
-            LeavesWrite keeps (holds self.old) (may_leave self.old) result (set_holidays holidays)
-            (may_leave self.new) };
+        ensures { CallTakes is_clean holds may_leave keeps self.old self.new result
+            (set_holidays holidays) };
 
     /// Registers a company.
     fn put_company(&mut self, alloc: Global, company: Company) -> Result<(), StoreFault>
-        ensures before { is_clean self.new → is_clean self.old }
-        ensures write { is_clean self.new →
-            Writes (holds self.old) result (put_company company) (holds self.new) }
-        ensures left { is_clean self.new →
-            LeavesWrite keeps (holds self.old) (may_leave self.old) result (put_company company)
-            (may_leave self.new) };
+        ensures { CallTakes is_clean holds may_leave keeps self.old self.new result
+            (put_company company) };
 
     /// Sets a company's limits.
     fn put_limits(&mut self, alloc: Global, company: Id, limits: Limits) -> Result<(), StoreFault>
-        ensures before { is_clean self.new → is_clean self.old }
-        ensures write { is_clean self.new →
-            Writes (holds self.old) result (put_limits company limits) (holds self.new) }
-        ensures left { is_clean self.new →
-            LeavesWrite keeps (holds self.old) (may_leave self.old) result
-            (put_limits company limits) (may_leave self.new) };
+        ensures { CallTakes is_clean holds may_leave keeps self.old self.new result
+            (put_limits company limits) };
 
     /// Adds a company's next submission or retry, with what a retry asked.
     fn add_submission(
@@ -384,32 +303,18 @@ pub trait Store {
         content: &SizedSubmission,
         retry: Option<Retry>,
     ) -> Result<(), StoreFault>
-        ensures before { is_clean self.new → is_clean self.old }
-        ensures write { is_clean self.new →
-            Writes (holds self.old) result (add_submission company order content.now retry)
-            (holds self.new) }
-        ensures left { is_clean self.new →
-            LeavesWrite keeps (holds self.old) (may_leave self.old) result
-            (add_submission company order content.now retry) (may_leave self.new) };
+        ensures { CallTakes is_clean holds may_leave keeps self.old self.new result
+            (add_submission company order content.now retry) };
 
     /// Writes all that a cut does. Each of its entries is one of a submission that it sends, as the
     /// book has that submission.
     fn commit_cut(&mut self, alloc: Global, cut: &CutRows<'_>) -> Result<(), StoreFault>
-        ensures before { is_clean self.new → is_clean self.old }
-        ensures write { is_clean self.new →
-            Writes (holds self.old) result (commit_cut (cut_rows cut.now)) (holds self.new) }
-        ensures left { is_clean self.new →
-            LeavesWrite keeps (holds self.old) (may_leave self.old) result
-            (commit_cut (cut_rows cut.now)) (may_leave self.new) };
+        ensures { CallTakes is_clean holds may_leave keeps self.old self.new result
+            (commit_cut (cut_rows cut.now)) };
 
     /// Writes all that an incoming file does. Each of its returns and changes is of an entry that was
     /// sent, with the order number and the reference of the submission that had it.
     fn commit_intake(&mut self, alloc: Global, intake: &IntakeRows<'_>) -> Result<(), StoreFault>
-        ensures before { is_clean self.new → is_clean self.old }
-        ensures write { is_clean self.new →
-            Writes (holds self.old) result (commit_intake (intake_rows intake.now))
-            (holds self.new) }
-        ensures left { is_clean self.new →
-            LeavesWrite keeps (holds self.old) (may_leave self.old) result
-            (commit_intake (intake_rows intake.now)) (may_leave self.new) };
+        ensures { CallTakes is_clean holds may_leave keeps self.old self.new result
+            (commit_intake (intake_rows intake.now)) };
 }

@@ -2,6 +2,7 @@ pub mod Finds
 pub mod Indexed
 pub mod Kept
 pub mod Keyed
+pub mod OnLists
 pub mod Open
 pub mod Placed
 pub mod RowKeys

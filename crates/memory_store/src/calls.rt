@@ -2,11 +2,11 @@
 //!
 //! A call that takes no memory always answers. What a read copies takes some, unless there is nothing to
 //! copy; what finds a row by an index may have the index grow.
-ghost use Rattle.std.specs.Prelude.{◌≡◌, ◌≢◌, [], None, IsOk, OnErr, find, length};
+ghost use Rattle.std.specs.Prelude.{◌≢◌, [], None, IsOk, OnErr, find, length};
 ghost use Rattle.desk_book.specs.Reads.{key_of, company, last_sequence, sent_count};
 ghost use Rattle.desk_book.specs.Steps.{is_file, set_day, set_holidays, put_limits};
-ghost use Rattle.desk_store.specs.Words.{Reads, ReadsList, Writes, LeavesRead, LeavesWrite};
-ghost use Rattle.memory_store.specs.Kept.{IsBookOf, IsHeld, rows_in};
+ghost use Rattle.memory_store.specs.Kept.{rows_in};
+ghost use Rattle.memory_store.specs.OnLists.{GivesHeld, GivesHeldList, TakesHeld};
 
 use crate::balances::day_sums_of;
 use crate::cut::write_cut;
@@ -48,16 +48,14 @@ impl Store for ListStore {
 
     fn identity(&mut self, _alloc: Global) -> Result<Identity, StoreFault>
         ensures ok { IsOk result }
-        ensures read { Reads (IsHeld self.old) result (λ b. b.identity) (IsHeld self.new) }
-        ensures left { LeavesRead (IsBookOf self.old) (IsBookOf self.new) }
+        ensures gives { GivesHeld self.old self.new result (λ b. b.identity) }
     {
         Ok(self.identity)
     }
 
     fn key_of(&mut self, _alloc: Global, caller: Caller) -> Result<Option<[u8; 32]>, StoreFault>
         ensures ok { IsOk result }
-        ensures read { Reads (IsHeld self.old) result (key_of caller) (IsHeld self.new) }
-        ensures left { LeavesRead (IsBookOf self.old) (IsBookOf self.new) }
+        ensures gives { GivesHeld self.old self.new result (key_of caller) }
     {
         let company = match caller {
             Caller::Operator => return Ok(Some(self.operator_key)),
@@ -71,32 +69,28 @@ impl Store for ListStore {
 
     fn day(&mut self, _alloc: Global) -> Result<Option<RuleDay>, StoreFault>
         ensures ok { IsOk result }
-        ensures read { Reads (IsHeld self.old) result (λ b. b.day) (IsHeld self.new) }
-        ensures left { LeavesRead (IsBookOf self.old) (IsBookOf self.new) }
+        ensures gives { GivesHeld self.old self.new result (λ b. b.day) }
     {
         Ok(self.day)
     }
 
     fn calendar(&mut self, alloc: Global) -> Result<Calendar, StoreFault>
         ensures memory { OnErr result ((rows_in self.old).holidays ≢ []) }
-        ensures read { Reads (IsHeld self.old) result (λ b. b.holidays) (IsHeld self.new) }
-        ensures left { LeavesRead (IsBookOf self.old) (IsBookOf self.new) }
+        ensures gives { GivesHeld self.old self.new result (λ b. b.holidays) }
     {
         Ok(self.holidays.try_clone(alloc)?)
     }
 
     fn company(&mut self, _alloc: Global, id: Id) -> Result<Option<Company>, StoreFault>
         ensures ok { IsOk result }
-        ensures read { Reads (IsHeld self.old) result (company id) (IsHeld self.new) }
-        ensures left { LeavesRead (IsBookOf self.old) (IsBookOf self.new) }
+        ensures gives { GivesHeld self.old self.new result (company id) }
     {
         Ok(company_among(&self.companies, id))
     }
 
     fn companies(&mut self, alloc: Global) -> Result<Vec<Company>, StoreFault>
         ensures memory { OnErr result ((rows_in self.old).companies ≢ []) }
-        ensures read { ReadsList (IsHeld self.old) result (λ b. b.companies) (IsHeld self.new) }
-        ensures left { LeavesRead (IsBookOf self.old) (IsBookOf self.new) }
+        ensures gives { GivesHeldList self.old self.new result (λ b. b.companies) }
     {
         Ok(copy_of(alloc, &self.companies)?)
     }
@@ -176,16 +170,14 @@ impl Store for ListStore {
 
     fn last_sequence(&mut self, _alloc: Global) -> Result<u32, StoreFault>
         ensures ok { IsOk result }
-        ensures read { Reads (IsHeld self.old) result (last_sequence) (IsHeld self.new) }
-        ensures left { LeavesRead (IsBookOf self.old) (IsBookOf self.new) }
+        ensures gives { GivesHeld self.old self.new result last_sequence }
     {
         Ok(last_of(&self.sent))
     }
 
     fn sent_count(&mut self, _alloc: Global) -> Result<u64, StoreFault>
         ensures ok { IsOk result }
-        ensures read { Reads (IsHeld self.old) result (sent_count) (IsHeld self.new) }
-        ensures left { LeavesRead (IsBookOf self.old) (IsBookOf self.new) }
+        ensures gives { GivesHeld self.old self.new result sent_count }
     {
         Ok(self.sent.len() as u64)
     }
@@ -202,8 +194,7 @@ impl Store for ListStore {
 
     fn files_on(&mut self, _alloc: Global, day: Day) -> Result<u64, StoreFault>
         ensures ok { IsOk result }
-        ensures read { Reads (IsHeld self.old) result (λ b. b.files_on day) (IsHeld self.new) }
-        ensures left { LeavesRead (IsBookOf self.old) (IsBookOf self.new) }
+        ensures gives { GivesHeld self.old self.new result (λ b. b.files_on day) }
     {
         Ok(count_on(&self.files, day))
     }
@@ -248,16 +239,14 @@ impl Store for ListStore {
 
     fn suspense(&mut self, alloc: Global) -> Result<Vec<SuspenseRow>, StoreFault>
         ensures memory { OnErr result ((rows_in self.old).suspense ≢ []) }
-        ensures read { ReadsList (IsHeld self.old) result (λ b. b.suspense) (IsHeld self.new) }
-        ensures left { LeavesRead (IsBookOf self.old) (IsBookOf self.new) }
+        ensures gives { GivesHeldList self.old self.new result (λ b. b.suspense) }
     {
         Ok(copy_of(alloc, &self.suspense)?)
     }
 
     fn suspense_count(&mut self, _alloc: Global) -> Result<u64, StoreFault>
         ensures ok { IsOk result }
-        ensures read { Reads (IsHeld self.old) result (λ b. length b.suspense) (IsHeld self.new) }
-        ensures left { LeavesRead (IsBookOf self.old) (IsBookOf self.new) }
+        ensures gives { GivesHeld self.old self.new result (λ b. length b.suspense) }
     {
         Ok(self.suspense.len() as u64)
     }
@@ -269,25 +258,21 @@ impl Store for ListStore {
         modifier: u8,
     ) -> Result<Option<ListOf<u8>>, StoreFault>
         ensures memory { OnErr result (find (is_file day modifier) (rows_in self.old).files ≢ None) }
-        ensures read { Reads (IsHeld self.old) result (λ b. b.file day modifier) (IsHeld self.new) }
-        ensures left { LeavesRead (IsBookOf self.old) (IsBookOf self.new) }
+        ensures gives { GivesHeld self.old self.new result (λ b. b.file day modifier) }
     {
         Ok(text_at(alloc, &self.files, day, modifier)?)
     }
 
     fn taken(&mut self, _alloc: Global, key: [u8; 21]) -> Result<Option<TakenFile>, StoreFault>
         ensures ok { IsOk result }
-        ensures read { Reads (IsHeld self.old) result (λ b. b.taken key) (IsHeld self.new) }
-        ensures left { LeavesRead (IsBookOf self.old) (IsBookOf self.new) }
+        ensures gives { GivesHeld self.old self.new result (λ b. b.taken key) }
     {
         Ok(taken_file(&self.taken, key))
     }
 
     fn set_day(&mut self, _alloc: Global, day: RuleDay) -> Result<(), StoreFault>
         ensures ok { IsOk result }
-        ensures write { Writes (IsHeld self.old) result (set_day day) (IsHeld self.new) }
-        ensures left { LeavesWrite (λ k b. k ≡ b) (IsHeld self.old) (IsBookOf self.old) result (set_day day)
-            (IsBookOf self.new) }
+        ensures takes { TakesHeld self.old self.new result (set_day day) }
     {
         self.day = Some(day);
         Ok(())
@@ -295,9 +280,7 @@ impl Store for ListStore {
 
     fn set_holidays(&mut self, _alloc: Global, holidays: Calendar) -> Result<(), StoreFault>
         ensures ok { IsOk result }
-        ensures write { Writes (IsHeld self.old) result (set_holidays holidays) (IsHeld self.new) }
-        ensures left { LeavesWrite (λ k b. k ≡ b) (IsHeld self.old) (IsBookOf self.old) result (set_holidays holidays)
-            (IsBookOf self.new) }
+        ensures takes { TakesHeld self.old self.new result (set_holidays holidays) }
     {
         self.holidays = holidays;
         Ok(())
@@ -311,9 +294,7 @@ impl Store for ListStore {
 
     fn put_limits(&mut self, _alloc: Global, company: Id, limits: Limits) -> Result<(), StoreFault>
         ensures ok { IsOk result }
-        ensures write { Writes (IsHeld self.old) result (put_limits company limits) (IsHeld self.new) }
-        ensures left { LeavesWrite (λ k b. k ≡ b) (IsHeld self.old) (IsBookOf self.old) result
-            (put_limits company limits) (IsBookOf self.new) }
+        ensures takes { TakesHeld self.old self.new result (put_limits company limits) }
     {
         limit_company(&mut self.companies, company, limits);
         Ok(())

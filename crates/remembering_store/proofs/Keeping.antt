@@ -10,7 +10,7 @@ use Rattle.desk_book.specs.Steps.{Step}
 use Rattle.desk_book.specs.Sums.{exposures_of}
 use Rattle.desk_book.specs.SumLaws.{more_exposed}
 use Rattle.desk_store.specs.declared.store.StoreFault.{StoreFault}
-use Rattle.desk_store.specs.Words.{Writes}
+use Rattle.desk_store.specs.Words.{Writes, LeavesWrite}
 use Rattle.remembering_store.specs.CompanyKeys.{company_cmp}
 use Rattle.remembering_store.specs.Remembered.{IsRight, KnowsRight, KnowsNothing, HoldsKnown, HasSame, Grows, kept_with}
 use Rattle.remembering_store.specs.declared.company_key.CompanyKey.{CompanyKey}
@@ -22,6 +22,12 @@ pub forgotten : (old new : Book → Type 0) (m n : Known) (result : Result (Unit
     → Writes old result step new → Writes (HoldsKnown old m) result step (HoldsKnown new n)
 forgotten old new m n (Ok done) step none writes = λ b held admits. (writes b held.0 admits, none (step.after b))
 forgotten old new m n (Err fault) step none writes = λ b held. (writes b held.0, none b)
+
+-- a crash leaves the same, whatever was known
+pub left_known : {Kept : Type 0} (keeps : Kept → Book → Type 0) (old : Book → Type 0) (m : Known) (before after : Kept → Type 0) (result : Result (Unit {0}) StoreFault) (step : Step)
+    → LeavesWrite keeps old before result step after → LeavesWrite keeps (HoldsKnown old m) before result step after
+left_known keeps old m before after (Ok done) step leaves = λ b k held. leaves b k held.0
+left_known keeps old m before after (Err fault) step leaves = λ b k held. leaves b k held.0
 
 -- ---- one company's sums are put
 

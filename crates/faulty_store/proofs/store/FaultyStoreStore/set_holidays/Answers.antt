@@ -1,4 +1,6 @@
 use Rattle.faulty_store.proofs.store.FaultyStoreStore.set_holidays.Goals as goal
 
-pub returns-clause-left : goal.returns-clause-left
-returns-clause-left c clean = rw c.in_ok-count_call.ensures.counted at c.set_holidays.ensures.left
+pub returns : goal.returns
+returns c =
+    let took = rw c.in_ok-count_call.ensures.counted at c.set_holidays.ensures.takes in
+    record { before = λ clean. clean; write = took.write; left = took.left }

@@ -30,14 +30,15 @@ added c b held next =
     ∙ sym (flat-add (rows_in s) c.args.company c.args.order c.args.content.now c.args.retry (next ∙ ap (λ (d : Book). length (d.rows c.args.company) + 1) held))
     ∙ sym (ap (λ (rows : List CompanyRow). flat_book (record (rows_in s) { submissions = rows })) (pushed c))
 
-pub returns-clause-write : goal.returns-clause-write
-returns-clause-write c = λ _ b held next. record {
-  book = added c b held.book next;
-  indexed = held.indexed;
-  settled = held.settled;
-  bounded = subst (λ (rows : List CompanyRow). All IsBounded rows) (sym (pushed c)) (added_keeps (map row_in c.args.self.now.submissions.items) (held_row c.args.company c.args.order c.args.content.now c.args.retry) held.bounded (λ since. refl));
-  placed = placed_before (map row_in c.args.self.now.submissions.items) (map row_in c.push.new.self.items) (held_row c.args.company c.args.order c.args.content.now c.args.retry ∷ []) c.args.self.now.places (pushed c) held.placed;
+pub returns : goal.returns
+returns c = record {
+  before = λ clean. clean;
+  write = λ _ b held next. record {
+    book = added c b held.book next;
+    indexed = held.indexed;
+    settled = held.settled;
+    bounded = subst (λ (rows : List CompanyRow). All IsBounded rows) (sym (pushed c)) (added_keeps (map row_in c.args.self.now.submissions.items) (held_row c.args.company c.args.order c.args.content.now c.args.retry) held.bounded (λ since. refl));
+    placed = placed_before (map row_in c.args.self.now.submissions.items) (map row_in c.push.new.self.items) (held_row c.args.company c.args.order c.args.content.now c.args.retry ∷ []) c.args.self.now.places (pushed c) held.placed;
+  };
+  left = λ _ b found held next is. is ∙ sym (added c b held.book next);
 }
-
-pub returns-clause-left : goal.returns-clause-left
-returns-clause-left c = λ _ b found held next is. is ∙ sym (added c b held.book next)

@@ -7,17 +7,21 @@ use Rattle.memory_store.specs.declared.place_index.PlaceIndex.{PlaceIndex}
 use Rattle.memory_store.proofs.HeldRows.{waiting_covered}
 use Rattle.memory_store.proofs.calls.ListStoreStore.waiting_of.Goals as goal
 
-pub returns-clause-read : goal.returns-clause-read
-returns-clause-read c = λ _ b held.
-    let s = c.args.self.now in
-    let own = c.as_slice-kept.result.now in
-    let kept = s.submissions.items in
-    let same = c.as_slice-kept.ensures.value in
-    let places = c.cover_held.new.self in
-    let covered = waiting_covered own kept s.places places same held.placed c.in_ok-cover_held.ensures.right c.in_ok-cover_held.ensures.whole in
-    let find = subst (λ (index : PlaceIndex). FindWaiting (map row_in own) index places.references) (sym c.held-index.ensures) covered.1 in (
-      c.in_ok-company_waiting.ensures find
-          ∙ ap (λ (xs : List KeptSubmission). waiting_for c.args.company (rows_for xs c.args.company.id)) same
-          ∙ ap (waiting_of c.args.company) (sym held.book),
-      record { book = held.book; indexed = held.indexed; settled = held.settled; bounded = held.bounded; placed = covered.0 },
-    )
+pub returns : goal.returns
+returns c = record {
+  before = λ clean. clean;
+  read = λ _ b held.
+      let s = c.args.self.now in
+      let own = c.as_slice-kept.result.now in
+      let kept = s.submissions.items in
+      let same = c.as_slice-kept.ensures.value in
+      let places = c.cover_held.new.self in
+      let covered = waiting_covered own kept s.places places same held.placed c.in_ok-cover_held.ensures.right c.in_ok-cover_held.ensures.whole in
+      let find = subst (λ (index : PlaceIndex). FindWaiting (map row_in own) index places.references) (sym c.held-index.ensures) covered.1 in (
+        c.in_ok-company_waiting.ensures find
+            ∙ ap (λ (xs : List KeptSubmission). waiting_for c.args.company (rows_for xs c.args.company.id)) same
+            ∙ ap (waiting_of c.args.company) (sym held.book),
+        record { book = held.book; indexed = held.indexed; settled = held.settled; bounded = held.bounded; placed = covered.0 },
+      );
+  left = λ _ _ is. is;
+}

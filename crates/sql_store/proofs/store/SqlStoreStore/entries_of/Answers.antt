@@ -3,6 +3,6 @@ use Rattle.sql_tables.specs.TableReads.{rows_in, is_of}
 use Rattle.sql_store.proofs.Reading.{reads_list}
 use Rattle.sql_store.proofs.store.SqlStoreStore.entries_of.Goals as goal
 
-pub returns-clause-read : goal.returns-clause-read
-returns-clause-read g c clean =
-    reads_list (λ x t. x ≡ rows_in (is_of c.args.company) t) (λ b. b.rows c.args.company) (c.rows_of_tables.ensures.entries_of c.args.company) c.entries_of.result c.entries_of.ensures clean
+pub returns : goal.returns
+returns g c =
+    reads_list g.S.Store _ _ (λ x t. x ≡ rows_in (is_of c.args.company) t) (λ b. b.rows c.args.company) (c.rows_of_tables.ensures.entries_of c.args.company) c.entries_of.result c.entries_of.ensures

@@ -2,6 +2,6 @@ use Rattle.std.specs.Prelude.{◌≡◌}
 use Rattle.sql_store.proofs.Reading.{answers, reads}
 use Rattle.sql_store.proofs.store.SqlStoreStore.identity.Goals as goal
 
-pub returns-clause-read : goal.returns-clause-read
-returns-clause-read g c clean =
-    reads (λ x t. x ≡ t.desk.identity) (λ b. b.identity) (c.registry_of_tables.ensures.identity) c.or_unavailable.result (answers _ _ _ _ _ c.or_unavailable.ensures c.identity.ensures.answer c.identity.ensures.stays c.identity.ensures.survives) clean
+pub returns : goal.returns
+returns g c =
+    reads g.S.Store _ _ (λ x t. x ≡ t.desk.identity) (λ b. b.identity) (c.registry_of_tables.ensures.identity) c.or_unavailable.result (answers _ _ _ _ _ c.or_unavailable.ensures c.identity.ensures)

@@ -6,11 +6,11 @@ use Rattle.sql_tables.specs.Tables.{Tables}
 use Rattle.sql_store.proofs.Reading.{made_of, reads}
 use Rattle.sql_store.proofs.store.SqlStoreStore.last_sequence.Goals as goal
 
-pub returns-clause-read : goal.returns-clause-read
-returns-clause-read g c clean =
+pub returns : goal.returns
+returns g c =
     let old = state g.S.Store c.args.self.now.conn in
     let new = state g.S.Store c.last_number.new.conn in
     let last = c.in_ok-last.last in
     let Tells : ℕ → Tables → Type 0 = λ y t. (y ≡ unwrap_or (option_map (λ n. n.sequence) last) 0) × IsLastNumber last t in
-    reads Tells last_sequence (λ y trees t b stored encodes is. is.0 ∙ c.numbers_of_tables.ensures.last_sequence last trees t b stored encodes is.1) (Ok c.sequence_of.result)
-    (made_of IsLastNumber Tells c.last_number.result last (Ok c.sequence_of.result) old new c.in_ok-last.ensures (λ t is. (c.sequence_of.ensures, is)) c.last_number.ensures.answer c.last_number.ensures.stays c.last_number.ensures.survives) clean
+    reads g.S.Store _ _ Tells last_sequence (λ y trees t b stored encodes is. is.0 ∙ c.numbers_of_tables.ensures.last_sequence last trees t b stored encodes is.1) (Ok c.sequence_of.result)
+    (made_of IsLastNumber Tells c.last_number.result last (Ok c.sequence_of.result) old new c.in_ok-last.ensures (λ t is. (c.sequence_of.ensures, is)) c.last_number.ensures)

@@ -4,6 +4,6 @@ use Rattle.sql_tables.specs.Composed.{rates_in}
 use Rattle.sql_store.proofs.Reading.{reads}
 use Rattle.sql_store.proofs.store.SqlStoreStore.rates.Goals as goal
 
-pub returns-clause-read : goal.returns-clause-read
-returns-clause-read g c clean =
-    reads (λ x t. x ≡ rates_in c.args.company c.args.today t) (rates_of c.args.company c.args.today) (c.rows_of_tables.ensures.rates c.args.company c.args.today) c.rates_of.result c.rates_of.ensures clean
+pub returns : goal.returns
+returns g c =
+    reads g.S.Store _ _ (λ x t. x ≡ rates_in c.args.company c.args.today t) (rates_of c.args.company c.args.today) (c.rows_of_tables.ensures.rates c.args.company c.args.today) c.rates_of.result c.rates_of.ensures

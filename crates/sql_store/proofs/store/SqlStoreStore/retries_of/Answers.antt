@@ -4,6 +4,6 @@ use Rattle.desk_book.specs.Reads.{retries_of}
 use Rattle.sql_store.proofs.Reading.{reads_list}
 use Rattle.sql_store.proofs.store.SqlStoreStore.retries_of.Goals as goal
 
-pub returns-clause-read : goal.returns-clause-read
-returns-clause-read g c clean =
-    reads_list (λ x t. x ≡ rows_in (is_retry_of c.args.company c.args.of c.args.index) t) (retries_of c.args.company c.args.of c.args.index) (c.rows_of_tables.ensures.retries_of c.args.company c.args.of c.args.index) c.retries_of.result c.retries_of.ensures clean
+pub returns : goal.returns
+returns g c =
+    reads_list g.S.Store _ _ (λ x t. x ≡ rows_in (is_retry_of c.args.company c.args.of c.args.index) t) (retries_of c.args.company c.args.of c.args.index) (c.rows_of_tables.ensures.retries_of c.args.company c.args.of c.args.index) c.retries_of.result c.retries_of.ensures

@@ -4,6 +4,6 @@ use Rattle.desk_book.specs.Reads.{submission}
 use Rattle.sql_store.proofs.Reading.{reads}
 use Rattle.sql_store.proofs.store.SqlStoreStore.submission.Goals as goal
 
-pub returns-clause-read : goal.returns-clause-read
-returns-clause-read g c clean =
-    reads (λ x t. x ≡ row_under_in c.args.company c.args.reference t) (submission c.args.company c.args.reference) (c.rows_of_tables.ensures.submission c.args.company c.args.reference) c.submission.result c.submission.ensures clean
+pub returns : goal.returns
+returns g c =
+    reads g.S.Store _ _ (λ x t. x ≡ row_under_in c.args.company c.args.reference t) (submission c.args.company c.args.reference) (c.rows_of_tables.ensures.submission c.args.company c.args.reference) c.submission.result c.submission.ensures

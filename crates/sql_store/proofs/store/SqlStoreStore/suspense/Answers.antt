@@ -3,6 +3,6 @@ use Rattle.sql_tables.specs.TableReads.{suspense_in}
 use Rattle.sql_store.proofs.Reading.{answers, reads_list}
 use Rattle.sql_store.proofs.store.SqlStoreStore.suspense.Goals as goal
 
-pub returns-clause-read : goal.returns-clause-read
-returns-clause-read g c clean =
-    reads_list (λ x t. x ≡ suspense_in t) (λ b. b.suspense) (c.files_of_tables.ensures.suspense) c.or_unavailable.result (answers _ _ _ _ _ c.or_unavailable.ensures c.suspense.ensures.answer c.suspense.ensures.stays c.suspense.ensures.survives) clean
+pub returns : goal.returns
+returns g c =
+    reads_list g.S.Store _ _ (λ x t. x ≡ suspense_in t) (λ b. b.suspense) (c.files_of_tables.ensures.suspense) c.or_unavailable.result (answers _ _ _ _ _ c.or_unavailable.ensures c.suspense.ensures)

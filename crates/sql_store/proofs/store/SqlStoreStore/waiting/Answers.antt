@@ -4,6 +4,6 @@ use Rattle.desk_book.specs.Reads.{waiting}
 use Rattle.sql_store.proofs.Reading.{reads_list}
 use Rattle.sql_store.proofs.store.SqlStoreStore.waiting.Goals as goal
 
-pub returns-clause-read : goal.returns-clause-read
-returns-clause-read g c clean =
-    reads_list (λ x t. x ≡ waiting_in t) (waiting) (c.rows_of_tables.ensures.waiting) c.waiting.result c.waiting.ensures clean
+pub returns : goal.returns
+returns g c =
+    reads_list g.S.Store _ _ (λ x t. x ≡ waiting_in t) (waiting) (c.rows_of_tables.ensures.waiting) c.waiting.result c.waiting.ensures

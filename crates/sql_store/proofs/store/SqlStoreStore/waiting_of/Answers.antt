@@ -4,6 +4,6 @@ use Rattle.desk_book.specs.Reads.{waiting_of}
 use Rattle.sql_store.proofs.Reading.{reads_list}
 use Rattle.sql_store.proofs.store.SqlStoreStore.waiting_of.Goals as goal
 
-pub returns-clause-read : goal.returns-clause-read
-returns-clause-read g c clean =
-    reads_list (λ x t. x ≡ waiting_of_in c.args.company t) (waiting_of c.args.company) (c.rows_of_tables.ensures.waiting_of c.args.company) c.waiting_of.result c.waiting_of.ensures clean
+pub returns : goal.returns
+returns g c =
+    reads_list g.S.Store _ _ (λ x t. x ≡ waiting_of_in c.args.company t) (waiting_of c.args.company) (c.rows_of_tables.ensures.waiting_of c.args.company) c.waiting_of.result c.waiting_of.ensures
