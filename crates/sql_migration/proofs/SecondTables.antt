@@ -87,7 +87,7 @@ version_set d old new count has stored ran =
     let was : Stores its_row (old.now.trees 0) ((1, d) ∷ []) = row_as (versioned_row 1) its_row (old.now.trees 0) d (1, d) refl stored in
     let done = updated its_row desk_schema 0 0 s.name s.columns s.primary s.uniques s.orders update_version.text update_version.tests update_version.sets
     update_version_is refl (λ olds news. refl) [] (λ _. true) (λ v. (2, v.1))
-    (λ i v. and_true _ ∙ int_is (pos 1) (pos 1)) (λ i v. refl) (λ i v. row_kept s (Int i) (its_row v) refl (versioned_kept v)) old new count has ((1, d) ∷ []) was ran in
+    (λ i v. and_true _ ∙ int_is (pos 1) (pos 1)) (λ i v _. refl) (λ i v. row_kept s (Int i) (its_row v) refl (versioned_kept v)) old new count has ((1, d) ∷ []) was ran in
     record { schema_is = done.0.schema_is; others = done.0.others; row = row_as its_row (as_row the.desk) (new.now.trees 0) (2, d) d refl done.1 }
 
 -- the schema stays, whatever rows there are

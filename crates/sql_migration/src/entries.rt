@@ -1,7 +1,6 @@
 //! Each sent entry's place becomes the number of the sequence that it has.
-ghost use Rattle.std.specs.Prelude.{◌≡◌};
 ghost use Rattle.sql_statements.specs.Transactions.{Makes};
-ghost use Rattle.sql_statements.specs.Promises.{SucceedsIn, KeepsCommitted, LeavesNothingNew};
+ghost use Rattle.sql_statements.specs.Promises.{Runs};
 ghost use Rattle.sql_migration.specs.Migration.{put_number_edit, number_entries_edit, number_in, seen_layout, if_seen};
 
 use sql_statements::{RowBody, execute, number, query_inside, run_each};
@@ -10,11 +9,8 @@ use sqlite::{Alter, Error, Row, Transaction};
 
 /// Writes a number for each entry that was sent: its sequence was used once, and is its place.
 pub(crate) fn number_entries<S: Alter>(tx: &mut Transaction<'_, S>) -> Result<(), Error>
-    ensures same_reference { tx.new.conn.ghost_name ≡ tx.old.conn.ghost_name }
-    ensures makes { SucceedsIn S.Store tx.old.conn.now tx.new.conn.now result
+    ensures { Runs S.Store tx.old.conn tx.new.conn result
         (Makes seen_layout (if_seen number_entries_edit)) }
-    ensures keeps { KeepsCommitted S.Store tx.old.conn.now tx.new.conn.now }
-    ensures survives { LeavesNothingNew S.Store tx.old.conn.now tx.new.conn.now }
 {
     let rows = query_inside(
         tx,
@@ -51,11 +47,8 @@ impl RowBody for NumberEntries {
 
 // Writes the place of the one entry that has a sequence, which is the sequence.
 fn put_number<S: Alter>(tx: &mut Transaction<'_, S>, place: u64) -> Result<(), Error>
-    ensures same_reference { tx.new.conn.ghost_name ≡ tx.old.conn.ghost_name }
-    ensures makes { SucceedsIn S.Store tx.old.conn.now tx.new.conn.now result
+    ensures { Runs S.Store tx.old.conn tx.new.conn result
         (Makes seen_layout (if_seen (put_number_edit place))) }
-    ensures keeps { KeepsCommitted S.Store tx.old.conn.now tx.new.conn.now }
-    ensures survives { LeavesNothingNew S.Store tx.old.conn.now tx.new.conn.now }
 {
     let sequence = natural(place)?;
     let at = natural(place)?;

@@ -1,7 +1,5 @@
 //! Entries, and the places of those that were sent.
 ghost use Rattle.std.specs.Prelude.{◌≡◌};
-ghost use Rattle.sql_statements.specs.Findings.{Finds};
-ghost use Rattle.sql_statements.specs.Promises.{SeesStill, LeavesNothingNew};
 ghost use Rattle.sql_tables.specs.TableReads.{entries_in, amounts_in, cents_in, entry_at_place, place_in, places_between, IsLastNumber};
 ghost use Rattle.sql_queries.specs.Asking.{Asks};
 
@@ -18,10 +16,8 @@ pub fn entries_of<S: Alter>(
     company: Id,
     order: u64,
 ) -> Result<Vec<NumberedEntry>, Error>
-    ensures answer { Asks S.Store conn.old conn.new result
+    ensures { Asks S.Store conn.old conn.new result
         (λ found t. found.items ≡ entries_in company order t) }
-    ensures stays { SeesStill S.Store conn.old conn.new }
-    ensures survives { LeavesNothingNew S.Store conn.old conn.new }
 {
     all_of(
         conn,
@@ -38,10 +34,8 @@ pub fn amounts_of<S: Alter>(
     company: Id,
     order: u64,
 ) -> Result<Vec<EntryAmount>, Error>
-    ensures answer { Asks S.Store conn.old conn.new result
+    ensures { Asks S.Store conn.old conn.new result
         (λ found t. found.items ≡ amounts_in company order t) }
-    ensures stays { SeesStill S.Store conn.old conn.new }
-    ensures survives { LeavesNothingNew S.Store conn.old conn.new }
 {
     all_of(
         conn,
@@ -53,10 +47,7 @@ pub fn amounts_of<S: Alter>(
 
 /// Gives the sum of their cents. `Error::InvalidQuery` says that it is past 2^63 - 1.
 pub fn cents_of<S: Alter>(conn: &mut Connection<S>, company: Id, order: u64) -> Result<u64, Error>
-    ensures answer { Asks S.Store conn.old conn.new result
-        (λ found t. found ≡ cents_in company order t) }
-    ensures stays { SeesStill S.Store conn.old conn.new }
-    ensures survives { LeavesNothingNew S.Store conn.old conn.new }
+    ensures { Asks S.Store conn.old conn.new result (λ found t. found ≡ cents_in company order t) }
 {
     match cell_of(
         conn,
@@ -73,10 +64,7 @@ pub fn sent_entry<S: Alter>(
     conn: &mut Connection<S>,
     place: u64,
 ) -> Result<Option<PlacedEntry>, Error>
-    ensures answer { Asks S.Store conn.old conn.new result
-        (λ found t. found ≡ entry_at_place place t) }
-    ensures stays { SeesStill S.Store conn.old conn.new }
-    ensures survives { LeavesNothingNew S.Store conn.old conn.new }
+    ensures { Asks S.Store conn.old conn.new result (λ found t. found ≡ entry_at_place place t) }
 {
     first_of(
         conn,
@@ -91,10 +79,7 @@ const PLACES: &str =
 
 /// Finds the place of the youngest sent entry that has a sequence.
 pub fn place<S: Alter>(conn: &mut Connection<S>, sequence: u32) -> Result<Option<u64>, Error>
-    ensures answer { Asks S.Store conn.old conn.new result
-        (λ found t. found ≡ place_in sequence t) }
-    ensures stays { SeesStill S.Store conn.old conn.new }
-    ensures survives { LeavesNothingNew S.Store conn.old conn.new }
+    ensures { Asks S.Store conn.old conn.new result (λ found t. found ≡ place_in sequence t) }
 {
     cell_of(
         conn,
@@ -110,10 +95,8 @@ pub fn places<S: Alter>(
     from: u32,
     to: u32,
 ) -> Result<Vec<u64>, Error>
-    ensures answer { Asks S.Store conn.old conn.new result
+    ensures { Asks S.Store conn.old conn.new result
         (λ found t. found.items ≡ places_between from to t) }
-    ensures stays { SeesStill S.Store conn.old conn.new }
-    ensures survives { LeavesNothingNew S.Store conn.old conn.new }
 {
     column_of(
         conn,
@@ -125,9 +108,7 @@ pub fn places<S: Alter>(
 
 /// Finds the sequence of the last place among all sent entries, with that place.
 pub fn last_number<S: Alter>(conn: &mut Connection<S>) -> Result<Option<NumberRecord>, Error>
-    ensures answer { Asks S.Store conn.old conn.new result IsLastNumber }
-    ensures stays { SeesStill S.Store conn.old conn.new }
-    ensures survives { LeavesNothingNew S.Store conn.old conn.new }
+    ensures { Asks S.Store conn.old conn.new result IsLastNumber }
 {
     first_of(
         conn,

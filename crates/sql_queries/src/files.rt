@@ -1,7 +1,5 @@
 //! Files: those that were cut, and those that were taken.
 ghost use Rattle.std.specs.Prelude.{◌≡◌, option_map};
-ghost use Rattle.sql_statements.specs.Findings.{Finds};
-ghost use Rattle.sql_statements.specs.Promises.{SeesStill, LeavesNothingNew};
 ghost use Rattle.sql_tables.specs.TableReads.{modifiers_in, text_in, taken_in};
 ghost use Rattle.sql_queries.specs.Asking.{Asks};
 
@@ -18,10 +16,7 @@ pub fn modifiers<S: Alter>(
     alloc: Global,
     day: Day,
 ) -> Result<Vec<u8>, Error>
-    ensures answer { Asks S.Store conn.old conn.new result
-        (λ found t. found.items ≡ modifiers_in day t) }
-    ensures stays { SeesStill S.Store conn.old conn.new }
-    ensures survives { LeavesNothingNew S.Store conn.old conn.new }
+    ensures { Asks S.Store conn.old conn.new result (λ found t. found.items ≡ modifiers_in day t) }
 {
     column_of(
         conn,
@@ -36,9 +31,7 @@ pub fn taken_file<S: Alter>(
     conn: &mut Connection<S>,
     key: [u8; 21],
 ) -> Result<Option<TakenFile>, Error>
-    ensures answer { Asks S.Store conn.old conn.new result (λ found t. found ≡ taken_in key t) }
-    ensures stays { SeesStill S.Store conn.old conn.new }
-    ensures survives { LeavesNothingNew S.Store conn.old conn.new }
+    ensures { Asks S.Store conn.old conn.new result (λ found t. found ≡ taken_in key t) }
 {
     first_of(
         conn,
@@ -54,10 +47,8 @@ pub fn file_text<S: Alter>(
     day: Day,
     modifier: u8,
 ) -> Result<Option<Vec<u8>>, Error>
-    ensures answer { Asks S.Store conn.old conn.new result
+    ensures { Asks S.Store conn.old conn.new result
         (λ found t. option_map (λ v. v.items) found ≡ text_in day modifier t) }
-    ensures stays { SeesStill S.Store conn.old conn.new }
-    ensures survives { LeavesNothingNew S.Store conn.old conn.new }
 {
     let letter = [modifier];
     blob_of(

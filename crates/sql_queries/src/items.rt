@@ -1,7 +1,5 @@
 //! What came back of entries.
 ghost use Rattle.std.specs.Prelude.{◌≡◌, IsPermutation, IsSorted};
-ghost use Rattle.sql_statements.specs.Findings.{Finds};
-ghost use Rattle.sql_statements.specs.Promises.{SeesStill, LeavesNothingNew};
 ghost use Rattle.sql_queries.specs.ByNumber.{by_line_number};
 ghost use Rattle.sql_tables.specs.TableReads.{number_of_last, returns_in, return_at, orders_returned, return_lines_in, change_lines_in, suspense_in};
 ghost use Rattle.sql_queries.specs.Asking.{Asks};
@@ -20,10 +18,8 @@ pub fn returns<S: Alter>(
     company: Id,
     order: u64,
 ) -> Result<Vec<EntryReturn>, Error>
-    ensures answer { Asks S.Store conn.old conn.new result
+    ensures { Asks S.Store conn.old conn.new result
         (λ found t. found.items ≡ returns_in company order t) }
-    ensures stays { SeesStill S.Store conn.old conn.new }
-    ensures survives { LeavesNothingNew S.Store conn.old conn.new }
 {
     all_of(
         conn,
@@ -40,10 +36,8 @@ pub fn entry_return<S: Alter>(
     order: u64,
     index: u64,
 ) -> Result<Option<EntryReturn>, Error>
-    ensures answer { Asks S.Store conn.old conn.new result
+    ensures { Asks S.Store conn.old conn.new result
         (λ found t. found ≡ return_at company order index t) }
-    ensures stays { SeesStill S.Store conn.old conn.new }
-    ensures survives { LeavesNothingNew S.Store conn.old conn.new }
 {
     first_of(
         conn,
@@ -64,10 +58,8 @@ pub fn orders_returned<S: Alter>(
     company: Id,
     since: u64,
 ) -> Result<Vec<u64>, Error>
-    ensures answer { Asks S.Store conn.old conn.new result
+    ensures { Asks S.Store conn.old conn.new result
         (λ found t. found.items ≡ orders_returned company since t) }
-    ensures stays { SeesStill S.Store conn.old conn.new }
-    ensures survives { LeavesNothingNew S.Store conn.old conn.new }
 {
     column_of(
         conn,
@@ -83,10 +75,8 @@ pub fn return_lines<S: Alter>(
     alloc: Global,
     company: Id,
 ) -> Result<Vec<ReturnLine>, Error>
-    ensures answer { Asks S.Store conn.old conn.new result
+    ensures { Asks S.Store conn.old conn.new result
         (λ found t. found.items ≡ return_lines_in company t) }
-    ensures stays { SeesStill S.Store conn.old conn.new }
-    ensures survives { LeavesNothingNew S.Store conn.old conn.new }
 {
     // No index gives them by their numbers, and the engine would hold all of them to sort them.
     let lines = all_of(
@@ -113,10 +103,8 @@ pub fn change_lines<S: Alter>(
     alloc: Global,
     company: Id,
 ) -> Result<Vec<ChangeLine>, Error>
-    ensures answer { Asks S.Store conn.old conn.new result
+    ensures { Asks S.Store conn.old conn.new result
         (λ found t. found.items ≡ change_lines_in company t) }
-    ensures stays { SeesStill S.Store conn.old conn.new }
-    ensures survives { LeavesNothingNew S.Store conn.old conn.new }
 {
     all_of(
         conn,
@@ -131,10 +119,7 @@ pub fn suspense<S: Alter>(
     conn: &mut Connection<S>,
     alloc: Global,
 ) -> Result<Vec<SuspenseRow>, Error>
-    ensures answer { Asks S.Store conn.old conn.new result
-        (λ found t. found.items ≡ suspense_in t) }
-    ensures stays { SeesStill S.Store conn.old conn.new }
-    ensures survives { LeavesNothingNew S.Store conn.old conn.new }
+    ensures { Asks S.Store conn.old conn.new result (λ found t. found.items ≡ suspense_in t) }
 {
     all_of(
         conn,
@@ -146,10 +131,8 @@ pub fn suspense<S: Alter>(
 
 /// Gives the number of the last item in suspense, 0 before the first.
 pub fn last_suspense_number<S: Alter>(conn: &mut Connection<S>) -> Result<u64, Error>
-    ensures answer { Asks S.Store conn.old conn.new result
+    ensures { Asks S.Store conn.old conn.new result
         (λ found t. found ≡ number_of_last (λ s. s.number) t.suspense) }
-    ensures stays { SeesStill S.Store conn.old conn.new }
-    ensures survives { LeavesNothingNew S.Store conn.old conn.new }
 {
     match cell_of(
         conn,

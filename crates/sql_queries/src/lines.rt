@@ -1,6 +1,5 @@
 //! The lines of accounts, and their sums.
 ghost use Rattle.std.specs.Prelude.{◌≡◌, IfOk, map};
-ghost use Rattle.sql_statements.specs.Promises.{SeesStill, LeavesNothingNew};
 ghost use Rattle.sql_tables.specs.TableReads.{lines_in, sums_in};
 ghost use Rattle.sql_queries.specs.Postings.{posting_of};
 ghost use Rattle.sql_queries.specs.Asking.{Asks};
@@ -19,10 +18,7 @@ pub fn postings<S: Alter>(
     alloc: Global,
     account: Account,
 ) -> Result<Vec<Posting>, Error>
-    ensures answer { Asks S.Store conn.old conn.new result
-        (λ found t. found.items ≡ lines_in account t) }
-    ensures stays { SeesStill S.Store conn.old conn.new }
-    ensures survives { LeavesNothingNew S.Store conn.old conn.new }
+    ensures { Asks S.Store conn.old conn.new result (λ found t. found.items ≡ lines_in account t) }
 {
     let text = account_text(&account);
     let lines = all_of(
@@ -63,10 +59,7 @@ pub fn sums<S: Alter>(
     alloc: Global,
     account: Account,
 ) -> Result<Vec<DaySum>, Error>
-    ensures answer { Asks S.Store conn.old conn.new result
-        (λ found t. found.items ≡ sums_in account t) }
-    ensures stays { SeesStill S.Store conn.old conn.new }
-    ensures survives { LeavesNothingNew S.Store conn.old conn.new }
+    ensures { Asks S.Store conn.old conn.new result (λ found t. found.items ≡ sums_in account t) }
 {
     let text = account_text(&account);
     all_of(

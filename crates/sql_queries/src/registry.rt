@@ -1,7 +1,5 @@
 //! The desk, its calendar and its companies.
 ghost use Rattle.std.specs.Prelude.{◌≡◌};
-ghost use Rattle.sql_statements.specs.Findings.{Finds};
-ghost use Rattle.sql_statements.specs.Promises.{SeesStill, LeavesNothingNew};
 ghost use Rattle.sql_tables.specs.Selected.{keyed_identity_of};
 ghost use Rattle.sql_tables.specs.TableReads.{company_in};
 ghost use Rattle.sql_queries.specs.Asking.{Asks};
@@ -17,10 +15,7 @@ use std::alloc::Global;
 
 // Whose desk it is, and the digest of the operator's key.
 fn keyed_identity<S: Alter>(conn: &mut Connection<S>) -> Result<KeyedIdentity, Error>
-    ensures answer { Asks S.Store conn.old conn.new result
-        (λ found t. found ≡ keyed_identity_of t.desk) }
-    ensures stays { SeesStill S.Store conn.old conn.new }
-    ensures survives { LeavesNothingNew S.Store conn.old conn.new }
+    ensures { Asks S.Store conn.old conn.new result (λ found t. found ≡ keyed_identity_of t.desk) }
 {
     match first_of(
         conn,
@@ -34,9 +29,7 @@ fn keyed_identity<S: Alter>(conn: &mut Connection<S>) -> Result<KeyedIdentity, E
 
 /// Gives the identity of the desk: whose files it makes, and for whom.
 pub fn identity<S: Alter>(conn: &mut Connection<S>) -> Result<Identity, Error>
-    ensures answer { Asks S.Store conn.old conn.new result (λ found t. found ≡ t.desk.identity) }
-    ensures stays { SeesStill S.Store conn.old conn.new }
-    ensures survives { LeavesNothingNew S.Store conn.old conn.new }
+    ensures { Asks S.Store conn.old conn.new result (λ found t. found ≡ t.desk.identity) }
 {
     let found = keyed_identity(conn)?;
     Ok(found.identity)
@@ -44,10 +37,7 @@ pub fn identity<S: Alter>(conn: &mut Connection<S>) -> Result<Identity, Error>
 
 /// Gives the SHA-256 digest of the operator's key.
 pub fn operator_key<S: Alter>(conn: &mut Connection<S>) -> Result<[u8; 32], Error>
-    ensures answer { Asks S.Store conn.old conn.new result
-        (λ found t. found ≡ t.desk.operator_key) }
-    ensures stays { SeesStill S.Store conn.old conn.new }
-    ensures survives { LeavesNothingNew S.Store conn.old conn.new }
+    ensures { Asks S.Store conn.old conn.new result (λ found t. found ≡ t.desk.operator_key) }
 {
     let found = keyed_identity(conn)?;
     Ok(found.operator_key)
@@ -55,9 +45,7 @@ pub fn operator_key<S: Alter>(conn: &mut Connection<S>) -> Result<[u8; 32], Erro
 
 /// Gives the desk day, once one was set.
 pub fn day<S: Alter>(conn: &mut Connection<S>) -> Result<Option<RuleDay>, Error>
-    ensures answer { Asks S.Store conn.old conn.new result (λ found t. found ≡ t.desk.day) }
-    ensures stays { SeesStill S.Store conn.old conn.new }
-    ensures survives { LeavesNothingNew S.Store conn.old conn.new }
+    ensures { Asks S.Store conn.old conn.new result (λ found t. found ≡ t.desk.day) }
 {
     match cell_of(conn, "SELECT day FROM desk WHERE id = 1 ORDER BY id", &[])? {
         Some(found) => Ok(found),
@@ -67,18 +55,14 @@ pub fn day<S: Alter>(conn: &mut Connection<S>) -> Result<Option<RuleDay>, Error>
 
 /// Gives the holidays of the calendar, from the first.
 pub fn holidays<S: Alter>(conn: &mut Connection<S>, alloc: Global) -> Result<Vec<Day>, Error>
-    ensures answer { Asks S.Store conn.old conn.new result (λ found t. found.items ≡ t.holidays) }
-    ensures stays { SeesStill S.Store conn.old conn.new }
-    ensures survives { LeavesNothingNew S.Store conn.old conn.new }
+    ensures { Asks S.Store conn.old conn.new result (λ found t. found.items ≡ t.holidays) }
 {
     column_of(conn, alloc, "SELECT day FROM holidays ORDER BY day", &[])
 }
 
 /// Gives the companies, by their identification.
 pub fn companies<S: Alter>(conn: &mut Connection<S>, alloc: Global) -> Result<Vec<Company>, Error>
-    ensures answer { Asks S.Store conn.old conn.new result (λ found t. found.items ≡ t.companies) }
-    ensures stays { SeesStill S.Store conn.old conn.new }
-    ensures survives { LeavesNothingNew S.Store conn.old conn.new }
+    ensures { Asks S.Store conn.old conn.new result (λ found t. found.items ≡ t.companies) }
 {
     all_of(
         conn,
@@ -90,9 +74,7 @@ pub fn companies<S: Alter>(conn: &mut Connection<S>, alloc: Global) -> Result<Ve
 
 /// Finds a company.
 pub fn company<S: Alter>(conn: &mut Connection<S>, id: Id) -> Result<Option<Company>, Error>
-    ensures answer { Asks S.Store conn.old conn.new result (λ found t. found ≡ company_in id t) }
-    ensures stays { SeesStill S.Store conn.old conn.new }
-    ensures survives { LeavesNothingNew S.Store conn.old conn.new }
+    ensures { Asks S.Store conn.old conn.new result (λ found t. found ≡ company_in id t) }
 {
     first_of(
         conn,

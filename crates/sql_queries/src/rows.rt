@@ -7,7 +7,7 @@ ghost use Rattle.sqlite.specs.State.{HasCleanDisk, IsUnchanged, Fails};
 ghost use Rattle.sqlite.specs.Values.{bound};
 ghost use Rattle.sqlite_value.specs.declared.value.Value.TheVariants.{Blob};
 ghost use Rattle.sql_statements.specs.SelectTexts.{IsSelectText};
-ghost use Rattle.sql_statements.specs.Promises.{SucceedsWith, LeavesNothingNew, SeesStill};
+ghost use Rattle.sql_statements.specs.Promises.{AskedOn, SucceedsWith, LeavesNothingNew, SeesStill};
 ghost use Rattle.sql_tables.specs.Ranges.{FitsIfAny};
 ghost use Rattle.sql_queries.specs.Shows.{ReadsAll, ReadsFirst};
 
@@ -66,9 +66,9 @@ pub(crate) fn all_of<S: Alter, T: FromRow>(
     ensures answer { SucceedsWith S.Store conn.old conn.new result
         (λ xs before after. ReadsAll sql.now (bound params.now) T.FromRow.stored_row
         before after xs.items) }
-    ensures fit { IfOk result (λ xs. AllByRecursion T.FromRow.fits xs.items) }
     ensures stays { SeesStill S.Store conn.old conn.new }
     ensures survives { LeavesNothingNew S.Store conn.old conn.new }
+    ensures fit { IfOk result (λ xs. AllByRecursion T.FromRow.fits xs.items) }
 {
     if !conn.is_autocommit() {
         return Err(Error::InvalidQuery);
@@ -93,11 +93,9 @@ pub(crate) fn first_of<S: Alter, T: FromRow>(
     params: &[ValueRef<'_>],
 ) -> Result<Option<T>, Error>
     requires { IsSelectText sql.now }
-    ensures answer { SucceedsWith S.Store conn.old conn.new result
+    ensures { AskedOn S.Store conn.old conn.new result
         (λ x before after. ReadsFirst sql.now (bound params.now) T.FromRow.stored_row
         before after x) }
-    ensures stays { SeesStill S.Store conn.old conn.new }
-    ensures survives { LeavesNothingNew S.Store conn.old conn.new }
 {
     let rows = query(conn, sql, params)?;
     read_first(&rows)
@@ -140,11 +138,9 @@ pub(crate) fn column_of<S: Alter, T: FromColumn>(
     params: &[ValueRef<'_>],
 ) -> Result<Vec<T>, Error>
     requires { IsSelectText sql.now }
-    ensures answer { SucceedsWith S.Store conn.old conn.new result
+    ensures { AskedOn S.Store conn.old conn.new result
         (λ xs before after. ReadsAll sql.now (bound params.now)
         (λ x. T.FromColumn.stored x ∷ []) before after xs.items) }
-    ensures stays { SeesStill S.Store conn.old conn.new }
-    ensures survives { LeavesNothingNew S.Store conn.old conn.new }
 {
     let rows = query(conn, sql, params)?;
     read_column_of_all(alloc, &rows)
@@ -158,12 +154,10 @@ pub(crate) fn cell_of<S: Alter, T: FromColumn>(
     params: &[ValueRef<'_>],
 ) -> Result<Option<T>, Error>
     requires { IsSelectText sql.now }
-    ensures answer { SucceedsWith S.Store conn.old conn.new result
+    ensures asked { AskedOn S.Store conn.old conn.new result
         (λ x before after. ReadsFirst sql.now (bound params.now)
         (λ x. T.FromColumn.stored x ∷ []) before after x) }
     ensures fits { IfOk result (FitsIfAny T.FromColumn.fits) }
-    ensures stays { SeesStill S.Store conn.old conn.new }
-    ensures survives { LeavesNothingNew S.Store conn.old conn.new }
 {
     let rows = query(conn, sql, params)?;
     read_first_cell(&rows)
@@ -195,11 +189,9 @@ pub(crate) fn blob_of<S: Alter>(
     params: &[ValueRef<'_>],
 ) -> Result<Option<Vec<u8>>, Error>
     requires { IsSelectText sql.now }
-    ensures answer { SucceedsWith S.Store conn.old conn.new result
+    ensures { AskedOn S.Store conn.old conn.new result
         (λ x before after. ReadsFirst sql.now (bound params.now)
         (λ b. Blob b ∷ []) before after (option_map (λ v. v.items) x)) }
-    ensures stays { SeesStill S.Store conn.old conn.new }
-    ensures survives { LeavesNothingNew S.Store conn.old conn.new }
 {
     let rows = query(conn, sql, params)?;
     read_first_blob(alloc, &rows)

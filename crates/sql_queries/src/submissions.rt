@@ -1,7 +1,5 @@
 //! Submissions.
 ghost use Rattle.std.specs.Prelude.{◌≡◌, ◌++◌, IfOk, IsPermutation, IsSorted};
-ghost use Rattle.sql_statements.specs.Findings.{Finds};
-ghost use Rattle.sql_statements.specs.Promises.{SeesStill, LeavesNothingNew};
 ghost use Rattle.sql_tables.specs.CutTables.{is_row};
 ghost use Rattle.sql_tables.specs.TableReads.{is_of, is_open_of, is_waiting_of, is_retry_of, heads_in, head_under, order_in, facts_in, last_order, authorized_in};
 ghost use Rattle.sql_queries.specs.Waiting.{by_head_order, is_settled_of};
@@ -23,10 +21,8 @@ pub fn submissions_of<S: Alter>(
     alloc: Global,
     company: Id,
 ) -> Result<Vec<SubmissionHead>, Error>
-    ensures answer { Asks S.Store conn.old conn.new result
+    ensures { Asks S.Store conn.old conn.new result
         (λ found t. found.items ≡ heads_in (is_of company) t) }
-    ensures stays { SeesStill S.Store conn.old conn.new }
-    ensures survives { LeavesNothingNew S.Store conn.old conn.new }
 {
     all_of(
         conn,
@@ -43,10 +39,8 @@ pub fn open_submissions<S: Alter>(
     company: Id,
     since: Day,
 ) -> Result<Vec<SubmissionHead>, Error>
-    ensures answer { Asks S.Store conn.old conn.new result
+    ensures { Asks S.Store conn.old conn.new result
         (λ found t. found.items ≡ heads_in (is_open_of company since) t) }
-    ensures stays { SeesStill S.Store conn.old conn.new }
-    ensures survives { LeavesNothingNew S.Store conn.old conn.new }
 {
     let waiting = waiting_submissions(conn, alloc, company)?;
     let settled = settled_submissions(conn, alloc, company, number_of(since))?;
@@ -73,10 +67,8 @@ pub fn settled_submissions<S: Alter>(
     company: Id,
     since: u64,
 ) -> Result<Vec<SubmissionHead>, Error>
-    ensures answer { Asks S.Store conn.old conn.new result
+    ensures { Asks S.Store conn.old conn.new result
         (λ found t. found.items ≡ heads_in (is_settled_of company since) t) }
-    ensures stays { SeesStill S.Store conn.old conn.new }
-    ensures survives { LeavesNothingNew S.Store conn.old conn.new }
 {
     all_of(
         conn,
@@ -92,10 +84,8 @@ pub fn waiting_submissions<S: Alter>(
     alloc: Global,
     company: Id,
 ) -> Result<Vec<SubmissionHead>, Error>
-    ensures answer { Asks S.Store conn.old conn.new result
+    ensures { Asks S.Store conn.old conn.new result
         (λ found t. found.items ≡ heads_in (is_waiting_of company) t) }
-    ensures stays { SeesStill S.Store conn.old conn.new }
-    ensures survives { LeavesNothingNew S.Store conn.old conn.new }
 {
     first_that_wait(
         conn,
@@ -114,10 +104,8 @@ pub fn retries<S: Alter>(
     of: Ref,
     index: u64,
 ) -> Result<Vec<SubmissionHead>, Error>
-    ensures answer { Asks S.Store conn.old conn.new result
+    ensures { Asks S.Store conn.old conn.new result
         (λ found t. found.items ≡ heads_in (is_retry_of company of index) t) }
-    ensures stays { SeesStill S.Store conn.old conn.new }
-    ensures survives { LeavesNothingNew S.Store conn.old conn.new }
 {
     all_of(
         conn,
@@ -138,10 +126,8 @@ pub fn numbered_submission<S: Alter>(
     company: Id,
     order: u64,
 ) -> Result<Vec<SubmissionHead>, Error>
-    ensures answer { Asks S.Store conn.old conn.new result
+    ensures { Asks S.Store conn.old conn.new result
         (λ found t. found.items ≡ heads_in (is_row company order) t) }
-    ensures stays { SeesStill S.Store conn.old conn.new }
-    ensures survives { LeavesNothingNew S.Store conn.old conn.new }
 {
     all_of(
         conn,
@@ -157,10 +143,8 @@ pub fn submission<S: Alter>(
     company: Id,
     reference: Ref,
 ) -> Result<Option<SubmissionHead>, Error>
-    ensures answer { Asks S.Store conn.old conn.new result
+    ensures { Asks S.Store conn.old conn.new result
         (λ found t. found ≡ head_under company reference t) }
-    ensures stays { SeesStill S.Store conn.old conn.new }
-    ensures survives { LeavesNothingNew S.Store conn.old conn.new }
 {
     first_of(
         conn,
@@ -175,10 +159,8 @@ pub fn order_and_settlement<S: Alter>(
     company: Id,
     reference: Ref,
 ) -> Result<Option<OrderAndSettlement>, Error>
-    ensures answer { Asks S.Store conn.old conn.new result
+    ensures { Asks S.Store conn.old conn.new result
         (λ found t. found ≡ order_in company reference t) }
-    ensures stays { SeesStill S.Store conn.old conn.new }
-    ensures survives { LeavesNothingNew S.Store conn.old conn.new }
 {
     first_of(
         conn,
@@ -193,10 +175,7 @@ pub fn facts<S: Alter>(
     company: Id,
     order: u64,
 ) -> Result<Option<SubmissionFacts>, Error>
-    ensures answer { Asks S.Store conn.old conn.new result
-        (λ found t. found ≡ facts_in company order t) }
-    ensures stays { SeesStill S.Store conn.old conn.new }
-    ensures survives { LeavesNothingNew S.Store conn.old conn.new }
+    ensures { Asks S.Store conn.old conn.new result (λ found t. found ≡ facts_in company order t) }
 {
     first_of(
         conn,
@@ -211,10 +190,8 @@ pub fn authorization<S: Alter>(
     company: Id,
     order: u64,
 ) -> Result<Option<Day>, Error>
-    ensures answer { Asks S.Store conn.old conn.new result
+    ensures { Asks S.Store conn.old conn.new result
         (λ found t. found ≡ authorized_in company order t) }
-    ensures stays { SeesStill S.Store conn.old conn.new }
-    ensures survives { LeavesNothingNew S.Store conn.old conn.new }
 {
     cell_of(
         conn,
@@ -225,10 +202,7 @@ pub fn authorization<S: Alter>(
 
 /// Gives the number of the last submission or retry of a company, 0 before the first.
 pub fn last_order<S: Alter>(conn: &mut Connection<S>, company: Id) -> Result<u64, Error>
-    ensures answer { Asks S.Store conn.old conn.new result
-        (λ found t. found ≡ last_order company t) }
-    ensures stays { SeesStill S.Store conn.old conn.new }
-    ensures survives { LeavesNothingNew S.Store conn.old conn.new }
+    ensures { Asks S.Store conn.old conn.new result (λ found t. found ≡ last_order company t) }
 {
     match cell_of(
         conn,

@@ -1,7 +1,7 @@
 //! The sums of an account.
 ghost use Rattle.std.specs.Prelude.{◌≡◌, map, IfOk};
 ghost use Rattle.sql_tables.specs.Composed.{day_sums_in};
-ghost use Rattle.sql_reads.specs.Answers.{AnswersOn};
+ghost use Rattle.sql_queries.specs.Asking.{Asks};
 
 use crate::fault::or_unavailable;
 use bank_days::Day;
@@ -29,7 +29,7 @@ pub fn balances_of<S: Alter>(
     alloc: Global,
     account: Account,
 ) -> Result<Vec<(Day, i128)>, StoreFault>
-    ensures { AnswersOn S.Store conn.old conn.new result
+    ensures { Asks S.Store conn.old conn.new result
         (λ found t. found.items ≡ day_sums_in account t) }
 {
     let sums = or_unavailable(sums(conn, alloc, account))?;

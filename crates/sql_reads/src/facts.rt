@@ -3,7 +3,8 @@ ghost use Rattle.std.specs.Prelude.{◌≡◌, List};
 ghost use Rattle.std.specs.List.{flat_map};
 ghost use Rattle.desk_book.specs.Standing.{row_facts};
 ghost use Rattle.sql_tables.specs.TableReads.{whole_row};
-ghost use Rattle.sql_reads.specs.Answers.{AnswersOn, LearnsOn};
+ghost use Rattle.sql_queries.specs.Asking.{Asks};
+ghost use Rattle.sql_reads.specs.Answers.{LearnsOn};
 ghost use Rattle.sql_reads.specs.Counted.{debit_facts};
 ghost use Rattle.desk_rules.specs.declared.rules.entry_fact.EntryFact.{EntryFact as Fact};
 
@@ -23,7 +24,7 @@ pub(crate) fn facts<S: Alter>(
     alloc: Global,
     head: &SubmissionHead,
 ) -> Result<Vec<EntryFact>, StoreFault>
-    ensures { AnswersOn S.Store conn.old conn.new result
+    ensures { Asks S.Store conn.old conn.new result
         (λ found t. found.items ≡ row_facts (whole_row t head.now)) }
 {
     let amounts = or_unavailable(amounts_of(conn, alloc, head.company, head.order))?;

@@ -1,7 +1,7 @@
 //! Files that were cut.
 ghost use Rattle.std.specs.Prelude.{◌≡◌, length};
 ghost use Rattle.sql_tables.specs.TableReads.{modifiers_in, text_in};
-ghost use Rattle.sql_reads.specs.Answers.{AnswersOn};
+ghost use Rattle.sql_queries.specs.Asking.{Asks};
 
 use crate::fault::or_unavailable;
 use bank_days::Day;
@@ -17,7 +17,7 @@ pub fn files_on<S: Alter>(
     alloc: Global,
     day: Day,
 ) -> Result<u64, StoreFault>
-    ensures { AnswersOn S.Store conn.old conn.new result
+    ensures { Asks S.Store conn.old conn.new result
         (λ found t. found ≡ length (modifiers_in day t)) }
 {
     let modifiers = or_unavailable(modifiers(conn, alloc, day))?;
@@ -31,8 +31,7 @@ pub fn file<S: Alter>(
     day: Day,
     modifier: u8,
 ) -> Result<Option<ListOf<u8>>, StoreFault>
-    ensures { AnswersOn S.Store conn.old conn.new result
-        (λ found t. found ≡ text_in day modifier t) }
+    ensures { Asks S.Store conn.old conn.new result (λ found t. found ≡ text_in day modifier t) }
 {
     match or_unavailable(file_text(conn, alloc, day, modifier))? {
         Some(text) => Ok(Some(ListOf::new(text))),

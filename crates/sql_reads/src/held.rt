@@ -3,7 +3,8 @@ ghost use Rattle.std.specs.Prelude.{◌≡◌, List};
 ghost use Rattle.desk_book.specs.declared.held_submission.HeldSubmission.{HeldSubmission};
 ghost use Rattle.sql_tables.specs.Composed.{original_in, held_in, waiting_of_in, waiting_in};
 ghost use Rattle.sql_tables.specs.TableReads.{whole_row};
-ghost use Rattle.sql_reads.specs.Answers.{AnswersOn, LearnsOn};
+ghost use Rattle.sql_queries.specs.Asking.{Asks};
+ghost use Rattle.sql_reads.specs.Answers.{LearnsOn};
 
 use crate::each::{ItemRead, joined, read_each};
 use crate::fault::or_unavailable;
@@ -74,7 +75,7 @@ pub fn waiting_of<S: Alter>(
     alloc: Global,
     company: &Company,
 ) -> Result<Vec<HeldSubmission>, StoreFault>
-    ensures { AnswersOn S.Store conn.old conn.new result
+    ensures { Asks S.Store conn.old conn.new result
         (λ found t. found.items ≡ waiting_of_in company.now t) }
 {
     let heads = or_unavailable(waiting_submissions(conn, alloc, company.id))?;
@@ -113,7 +114,7 @@ pub fn waiting<S: Alter>(
     conn: &mut Connection<S>,
     alloc: Global,
 ) -> Result<Vec<HeldSubmission>, StoreFault>
-    ensures { AnswersOn S.Store conn.old conn.new result (λ found t. found.items ≡ waiting_in t) }
+    ensures { Asks S.Store conn.old conn.new result (λ found t. found.items ≡ waiting_in t) }
 {
     let companies = or_unavailable(companies(conn, alloc))?;
     let lists = read_each(conn, alloc, &HeldByCompany, companies)?;

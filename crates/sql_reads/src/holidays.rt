@@ -2,7 +2,7 @@
 ghost use Rattle.std.specs.Prelude.{◌≡◌, nat_le, IfOk};
 ghost use Rattle.std.specs.List.{list_all};
 ghost use Rattle.desk_rules.specs.Deadlines.{last_rule_day};
-ghost use Rattle.sql_reads.specs.Answers.{AnswersOn};
+ghost use Rattle.sql_queries.specs.Asking.{Asks};
 
 use crate::fault::or_unavailable;
 use bank_days::{Calendar, Day};
@@ -40,7 +40,7 @@ fn calendar_of(alloc: Global, days: &[Day]) -> Result<Calendar, StoreFault>
 
 /// Reads the holidays of the operator's calendar.
 pub fn calendar<S: Alter>(conn: &mut Connection<S>, alloc: Global) -> Result<Calendar, StoreFault>
-    ensures { AnswersOn S.Store conn.old conn.new result (λ found t. found ≡ t.holidays) }
+    ensures { Asks S.Store conn.old conn.new result (λ found t. found ≡ t.holidays) }
 {
     let days = or_unavailable(holidays(conn, alloc))?;
     calendar_of(alloc, &days)

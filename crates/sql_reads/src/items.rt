@@ -2,9 +2,9 @@
 ghost use Rattle.std.specs.Prelude.{◌≡◌, Option, Some, map};
 ghost use Rattle.desk_history.specs.declared.reports.ChangeRow.{ChangeRow};
 ghost use Rattle.desk_history.specs.declared.reports.ReturnRow.{ReturnRow};
-ghost use Rattle.sql_tables.specs.Composed.{return_row_of, change_row_of, return_row_in, change_row_in};
+ghost use Rattle.sql_tables.specs.Composed.{return_row_in, change_row_in};
 ghost use Rattle.sql_tables.specs.TableReads.{return_lines_in, change_lines_in};
-ghost use Rattle.sql_reads.specs.Answers.{AnswersOn};
+ghost use Rattle.sql_queries.specs.Asking.{Asks};
 ghost use Rattle.sql_reads.specs.ItemsFound.{AreItemsOf};
 
 use crate::each::{ItemRead, read_each};
@@ -97,7 +97,7 @@ fn returns_of<S: Alter>(
     alloc: Global,
     company: Id,
 ) -> Result<Vec<ReturnRow>, StoreFault>
-    ensures { AnswersOn S.Store conn.old conn.new result
+    ensures { Asks S.Store conn.old conn.new result
         (λ found t. map Some found.items ≡ map (return_row_in company t)
         (return_lines_in company t)) }
 {
@@ -111,7 +111,7 @@ fn changes_of<S: Alter>(
     alloc: Global,
     company: Id,
 ) -> Result<Vec<ChangeRow>, StoreFault>
-    ensures { AnswersOn S.Store conn.old conn.new result
+    ensures { Asks S.Store conn.old conn.new result
         (λ found t. map Some found.items ≡ map (change_row_in company t)
         (change_lines_in company t)) }
 {
@@ -126,7 +126,7 @@ pub fn items_of<S: Alter>(
     alloc: Global,
     company: Id,
 ) -> Result<ReturnsAndChanges, StoreFault>
-    ensures { AnswersOn S.Store conn.old conn.new result (AreItemsOf company) }
+    ensures { Asks S.Store conn.old conn.new result (AreItemsOf company) }
 {
     let returns = returns_of(conn, alloc, company)?;
     let changes = changes_of(conn, alloc, company)?;

@@ -1,7 +1,7 @@
 //! The digests of keys.
 ghost use Rattle.std.specs.Prelude.{◌≡◌};
 ghost use Rattle.sql_tables.specs.Composed.{key_in};
-ghost use Rattle.sql_reads.specs.Answers.{AnswersOn};
+ghost use Rattle.sql_queries.specs.Asking.{Asks};
 
 use crate::fault::or_unavailable;
 use desk_book::Caller;
@@ -14,7 +14,7 @@ pub fn key_of<S: Alter>(
     conn: &mut Connection<S>,
     caller: Caller,
 ) -> Result<Option<[u8; 32]>, StoreFault>
-    ensures { AnswersOn S.Store conn.old conn.new result (λ found t. found ≡ key_in caller t) }
+    ensures { Asks S.Store conn.old conn.new result (λ found t. found ≡ key_in caller t) }
 {
     match caller {
         Caller::Operator => {

@@ -3,7 +3,8 @@ ghost use Rattle.std.specs.Prelude.{◌≡◌, ℕ, Option, filter_map, max, opt
 ghost use Rattle.std.specs.List.{reduce};
 ghost use Rattle.sql_tables.specs.Composed.{settled_at, latest_in};
 ghost use Rattle.sql_tables.specs.TableReads.{facts_in};
-ghost use Rattle.sql_reads.specs.Answers.{AnswersOn, LearnsOn};
+ghost use Rattle.sql_queries.specs.Asking.{Asks};
+ghost use Rattle.sql_reads.specs.Answers.{LearnsOn};
 
 use crate::each::{ItemRead, read_each};
 use crate::fault::or_unavailable;
@@ -83,7 +84,7 @@ pub fn latest_settled<S: Alter>(
     from: u32,
     to: u32,
 ) -> Result<Option<Day>, StoreFault>
-    ensures { AnswersOn S.Store conn.old conn.new result (λ found t. found ≡ latest_in from to t) }
+    ensures { Asks S.Store conn.old conn.new result (λ found t. found ≡ latest_in from to t) }
 {
     let places = or_unavailable(places(conn, alloc, from, to))?;
     let days = read_each(conn, alloc, &Settlements, places)?;

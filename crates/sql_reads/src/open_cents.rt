@@ -5,7 +5,8 @@ ghost use Rattle.desk_rules.specs.Exposure.{credit_exposure, debit_exposure, is_
 ghost use Rattle.desk_rules.specs.LimitChecks.{is_debit};
 ghost use Rattle.sql_tables.specs.Composed.{exposures_in};
 ghost use Rattle.sql_tables.specs.TableReads.{whole_row};
-ghost use Rattle.sql_reads.specs.Answers.{AnswersOn, LearnsOn};
+ghost use Rattle.sql_queries.specs.Asking.{Asks};
+ghost use Rattle.sql_reads.specs.Answers.{LearnsOn};
 ghost use Rattle.sql_reads.specs.Counted.{IsWhole, heads_exposures, row_exposures, state_alone};
 
 use crate::each::{ItemRead, read_each};
@@ -187,7 +188,7 @@ fn exposed_submissions<S: Alter>(
     today: Day,
     calendar: &Calendar,
 ) -> Result<Vec<SubmissionHead>, StoreFault>
-    ensures { AnswersOn S.Store conn.old conn.new result
+    ensures { Asks S.Store conn.old conn.new result
         (λ found t. heads_exposures t found.items today calendar.now ≡ exposures_in company today
         calendar.now t) }
 {
@@ -211,7 +212,7 @@ pub fn exposures<S: Alter>(
     company: Id,
     today: Day,
 ) -> Result<(u128, u128), StoreFault>
-    ensures { AnswersOn S.Store conn.old conn.new result
+    ensures { Asks S.Store conn.old conn.new result
         (λ found t. found ≡ exposures_in company today t.holidays t) }
 {
     let calendar = calendar(conn, alloc)?;

@@ -2,7 +2,7 @@
 ghost use Rattle.std.specs.Prelude.{◌≡◌, filter};
 ghost use Rattle.desk_book.specs.OpenRows.{is_open_row};
 ghost use Rattle.sql_tables.specs.TableReads.{rows_in, is_open_of};
-ghost use Rattle.sql_reads.specs.Answers.{AnswersOn};
+ghost use Rattle.sql_queries.specs.Asking.{Asks};
 
 use crate::fault::or_unavailable;
 use crate::rows::rows;
@@ -33,7 +33,7 @@ pub fn open_rows<S: Alter>(
     company: Id,
     since: Day,
 ) -> Result<Vec<Row>, StoreFault>
-    ensures { AnswersOn S.Store conn.old conn.new result
+    ensures { Asks S.Store conn.old conn.new result
         (λ found t. found.items ≡ filter (is_open_row since)
         (rows_in (is_open_of company since) t)) }
 {

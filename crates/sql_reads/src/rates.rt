@@ -6,7 +6,7 @@ ghost use Rattle.std.specs.List.Sorted.{IsStrictlySortedBy};
 ghost use Rattle.sql_tables.specs.Composed.{rates_in};
 ghost use Rattle.sql_tables.specs.TableReads.{heads_in, is_since, whole_row};
 ghost use Rattle.sql_queries.specs.Waiting.{is_settled_of};
-ghost use Rattle.sql_reads.specs.Answers.{AnswersOn};
+ghost use Rattle.sql_queries.specs.Asking.{Asks};
 ghost use Rattle.sql_reads.specs.Counted.{AreReturned, debit_facts, earlier_facts};
 ghost use Rattle.desk_rules.specs.declared.rules.entry_fact.EntryFact.{EntryFact as Fact};
 
@@ -85,7 +85,7 @@ fn returned_facts<S: Alter>(
     company: Id,
     since: u64,
 ) -> Result<Vec<EntryFact>, StoreFault>
-    ensures { AnswersOn S.Store conn.old conn.new result
+    ensures { Asks S.Store conn.old conn.new result
         (λ found t. AreReturned company since t found.items) }
 {
     let orders = or_unavailable(orders_returned(conn, alloc, company, since))?;
@@ -102,7 +102,7 @@ fn settled_facts<S: Alter>(
     company: Id,
     since: u64,
 ) -> Result<Vec<EntryFact>, StoreFault>
-    ensures { AnswersOn S.Store conn.old conn.new result
+    ensures { Asks S.Store conn.old conn.new result
         (λ found t. found.items ≡ flat_map (λ head. debit_facts (whole_row t head))
         (heads_in (is_settled_of company since) t)) }
 {
@@ -119,8 +119,7 @@ pub fn rates_of<S: Alter>(
     company: Id,
     today: Day,
 ) -> Result<Rates, StoreFault>
-    ensures { AnswersOn S.Store conn.old conn.new result
-        (λ found t. found ≡ rates_in company today t) }
+    ensures { Asks S.Store conn.old conn.new result (λ found t. found ≡ rates_in company today t) }
 {
     let since = number_of(today).saturating_sub(DAYS_BEFORE);
     let mut all = settled_facts(conn, alloc, company, since)?;

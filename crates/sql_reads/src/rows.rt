@@ -3,7 +3,8 @@ ghost use Rattle.std.specs.Prelude.{◌≡◌, map, option_map};
 ghost use Rattle.desk_book.specs.declared.row.Row.{Row};
 ghost use Rattle.sql_tables.specs.RowParts.{retry_with};
 ghost use Rattle.sql_tables.specs.TableReads.{authorized_in, whole_row, row_under_in, rows_in, is_of, is_retry_of};
-ghost use Rattle.sql_reads.specs.Answers.{AnswersOn, LearnsOn};
+ghost use Rattle.sql_queries.specs.Asking.{Asks};
+ghost use Rattle.sql_reads.specs.Answers.{LearnsOn};
 
 use crate::each::{ItemRead, read_each};
 use crate::fault::or_unavailable;
@@ -40,7 +41,7 @@ pub(crate) fn row<S: Alter>(
     alloc: Global,
     head: &SubmissionHead,
 ) -> Result<Row, StoreFault>
-    ensures { AnswersOn S.Store conn.old conn.new result (λ found t. found ≡ whole_row t head.now) }
+    ensures { Asks S.Store conn.old conn.new result (λ found t. found ≡ whole_row t head.now) }
 {
     let entries = or_unavailable(sql_queries::entries_of(conn, alloc, head.company, head.order))?;
     let returns = returns_for(conn, alloc, head)?;
@@ -93,7 +94,7 @@ pub fn submission<S: Alter>(
     company: Id,
     reference: Ref,
 ) -> Result<Option<Row>, StoreFault>
-    ensures { AnswersOn S.Store conn.old conn.new result
+    ensures { Asks S.Store conn.old conn.new result
         (λ found t. found ≡ row_under_in company reference t) }
 {
     match or_unavailable(sql_queries::submission(conn, company, reference))? {
@@ -111,7 +112,7 @@ pub fn entries_of<S: Alter>(
     alloc: Global,
     company: Id,
 ) -> Result<Vec<Row>, StoreFault>
-    ensures { AnswersOn S.Store conn.old conn.new result
+    ensures { Asks S.Store conn.old conn.new result
         (λ found t. found.items ≡ rows_in (is_of company) t) }
 {
     let heads = or_unavailable(sql_queries::submissions_of(conn, alloc, company))?;
@@ -127,7 +128,7 @@ pub fn retries_of<S: Alter>(
     of: Ref,
     index: u64,
 ) -> Result<Vec<Row>, StoreFault>
-    ensures { AnswersOn S.Store conn.old conn.new result
+    ensures { Asks S.Store conn.old conn.new result
         (λ found t. found.items ≡ rows_in (is_retry_of company of index) t) }
 {
     let heads = or_unavailable(sql_queries::retries(conn, alloc, company, of, index))?;

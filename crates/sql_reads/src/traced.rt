@@ -4,7 +4,8 @@ ghost use Rattle.std.specs.Prelude.{◌≡◌, Some, map, option_map, IfSome, tr
 ghost use Rattle.sql_tables.specs.Composed.{sent_entry_of, sent_with, sent_at, sent_in, traced_in, with_return_in};
 ghost use Rattle.sql_tables.specs.TableReads.{facts_in};
 ghost use Rattle.sql_tables.specs.Tables.{Tables};
-ghost use Rattle.sql_reads.specs.Answers.{AnswersOn, LearnsOn};
+ghost use Rattle.sql_queries.specs.Asking.{Asks};
+ghost use Rattle.sql_reads.specs.Answers.{LearnsOn};
 ghost use Rattle.sql_reads.specs.TracedEntries.{AreTraced, IsKnown, Knowing};
 
 use crate::fault::or_unavailable;
@@ -115,7 +116,7 @@ fn sent_at<S: Alter>(
     sequence: u32,
     place: u64,
 ) -> Result<Option<SentEntry>, StoreFault>
-    ensures { AnswersOn S.Store conn.old conn.new result
+    ensures { Asks S.Store conn.old conn.new result
         (λ found. Knowing last.old last.new (λ t. found ≡ sent_at sequence place t)) }
 {
     match or_unavailable(sent_entry(conn, place))? {
@@ -130,7 +131,7 @@ fn sent_in<S: Alter>(
     last: &mut Option<LastSubmission>,
     sequence: u32,
 ) -> Result<Option<SentEntry>, StoreFault>
-    ensures { AnswersOn S.Store conn.old conn.new result
+    ensures { Asks S.Store conn.old conn.new result
         (λ found. Knowing last.old last.new (λ t. found ≡ sent_in sequence t)) }
 {
     match or_unavailable(place(conn, sequence))? {
@@ -144,8 +145,7 @@ fn with_return<S: Alter>(
     conn: &mut Connection<S>,
     entry: SentEntry,
 ) -> Result<NamedEntry, StoreFault>
-    ensures { AnswersOn S.Store conn.old conn.new result
-        (λ found t. found ≡ with_return_in t entry) }
+    ensures { Asks S.Store conn.old conn.new result (λ found t. found ≡ with_return_in t entry) }
 {
     let back = or_unavailable(entry_return(conn, entry.company, entry.order, entry.index))?;
     let returned = back.is_some();
@@ -158,7 +158,7 @@ fn named_in<S: Alter>(
     last: &mut Option<LastSubmission>,
     sequence: u32,
 ) -> Result<Option<NamedEntry>, StoreFault>
-    ensures { AnswersOn S.Store conn.old conn.new result
+    ensures { Asks S.Store conn.old conn.new result
         (λ found. Knowing last.old last.new
         (λ t. found ≡ option_map (with_return_in t) (sent_in sequence t))) }
 {
@@ -215,7 +215,7 @@ pub fn traced_entries<S: Alter>(
     alloc: Global,
     traces: &[Option<Trace>],
 ) -> Result<Vec<Option<NamedEntry>>, StoreFault>
-    ensures { AnswersOn S.Store conn.old conn.new result
+    ensures { Asks S.Store conn.old conn.new result
         (λ found t. AreTraced traces.now found.items t) }
 {
     let identity = or_unavailable(identity(conn))?;

@@ -1,6 +1,6 @@
 //! The tables and indexes of a desk's file are made in a blank file.
 ghost use Rattle.std.specs.Prelude.{◌≡◌, [], map};
-ghost use Rattle.sql_statements.specs.Promises.{SucceedsIn, KeepsCommitted, LeavesNothingNew};
+ghost use Rattle.sql_statements.specs.Promises.{Runs};
 ghost use Rattle.sql_tables.specs.Schema.{desk_definitions, text_of};
 ghost use Rattle.sql_setup.specs.Creation.{MakesUpTo};
 
@@ -39,11 +39,7 @@ fn definitions() -> [&'static str; 20]
 ///
 /// After an error the transaction has part of them, and is to be rolled back.
 pub(crate) fn create_tables<S: Alter>(tx: &mut Transaction<'_, S>) -> Result<(), Error>
-    ensures same_reference { tx.new.conn.ghost_name ≡ tx.old.conn.ghost_name }
-    ensures makes { SucceedsIn S.Store tx.old.conn.now tx.new.conn.now result
-        (MakesUpTo [] desk_definitions) }
-    ensures keeps { KeepsCommitted S.Store tx.old.conn.now tx.new.conn.now }
-    ensures survives { LeavesNothingNew S.Store tx.old.conn.now tx.new.conn.now }
+    ensures { Runs S.Store tx.old.conn tx.new.conn result (MakesUpTo [] desk_definitions) }
 {
     let all = definitions();
     for sql in &all {

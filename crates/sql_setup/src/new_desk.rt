@@ -4,7 +4,7 @@ ghost use Rattle.sqlite.specs.Held.{state};
 ghost use Rattle.sqlite.specs.State.{Survives};
 ghost use Rattle.sql_statements.specs.Definitions.{IsBlank};
 ghost use Rattle.sql_statements.specs.Layouts.{Holds};
-ghost use Rattle.sql_statements.specs.Promises.{SucceedsIn, FailsUnchanged, KeepsCommitted, LeavesNothingNew, GoesOn};
+ghost use Rattle.sql_statements.specs.Promises.{Runs, SucceedsIn, FailsUnchanged, GoesOn};
 ghost use Rattle.desk_book.specs.Book.{book_of};
 ghost use Rattle.sql_tables.specs.Schema.{desk_schema, schema_of};
 ghost use Rattle.sql_tables.specs.Layout.{desk_layout, Keeps};
@@ -33,13 +33,10 @@ struct NewRow {
 fn put_desk<S: Alter>(tx: &mut Transaction<'_, S>, row: &NewRow) -> Result<(), Error>
     requires { (row.now.odfi ≡ row.now.identity.odfi)
         × (row.now.destination ≡ row.now.identity.destination) }
-    ensures same_reference { tx.new.conn.ghost_name ≡ tx.old.conn.ghost_name }
-    ensures makes { SucceedsIn S.Store tx.old.conn.now tx.new.conn.now result
-        (λ before after. IsBlank desk_schema before.now
-        → Holds desk_layout after.now (new_tables row.now.identity row.now.operator_key)) }
-    ensures shown { SucceedsIn S.Store tx.old.conn.now tx.new.conn.now result GoesOn }
-    ensures keeps { KeepsCommitted S.Store tx.old.conn.now tx.new.conn.now }
-    ensures survives { LeavesNothingNew S.Store tx.old.conn.now tx.new.conn.now }
+    ensures { Runs S.Store tx.old.conn tx.new.conn result
+        (λ before after. (IsBlank desk_schema before.now
+        → Holds desk_layout after.now (new_tables row.now.identity row.now.operator_key))
+        × GoesOn before after) }
 {
     execute(
         tx,

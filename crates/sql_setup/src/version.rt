@@ -1,7 +1,7 @@
 //! The version of the tables.
 ghost use Rattle.std.specs.Prelude.{◌≡◌, [], IfOk, option_map, slice_get};
 ghost use Rattle.sql_statements.specs.SelectTexts.{IsSelectText};
-ghost use Rattle.sql_statements.specs.Promises.{SucceedsWith, LeavesNothingNew, SeesStill};
+ghost use Rattle.sql_statements.specs.Promises.{AskedOn};
 ghost use Rattle.sql_queries.specs.Shows.{ReadsFirst};
 ghost use Rattle.sql_setup.specs.Versions.{version_text, version_row};
 
@@ -28,10 +28,8 @@ fn read_version(rows: &[Row]) -> Result<Option<i64>, Error>
 // Gives the version that the first row of a query has. The text has to be a SELECT.
 fn version_of<S: Alter>(conn: &mut Connection<S>, sql: &str) -> Result<Option<i64>, Error>
     requires { IsSelectText sql.now }
-    ensures answer { SucceedsWith S.Store conn.old conn.new result
+    ensures { AskedOn S.Store conn.old conn.new result
         (λ found before after. ReadsFirst sql.now [] version_row before after found) }
-    ensures stays { SeesStill S.Store conn.old conn.new }
-    ensures survives { LeavesNothingNew S.Store conn.old conn.new }
 {
     let rows = query(conn, sql, &[])?;
     read_version(&rows)
@@ -39,10 +37,8 @@ fn version_of<S: Alter>(conn: &mut Connection<S>, sql: &str) -> Result<Option<i6
 
 /// Gives the version that the row of the desk says, where there is a row.
 pub(crate) fn found_version<S: Alter>(conn: &mut Connection<S>) -> Result<Option<i64>, Error>
-    ensures answer { SucceedsWith S.Store conn.old conn.new result
+    ensures { AskedOn S.Store conn.old conn.new result
         (λ found before after. ReadsFirst version_text [] version_row before after found) }
-    ensures stays { SeesStill S.Store conn.old conn.new }
-    ensures survives { LeavesNothingNew S.Store conn.old conn.new }
 {
     version_of(conn, "SELECT version FROM desk WHERE id = 1 ORDER BY id")
 }

@@ -1,5 +1,5 @@
 -- From the tables to the book: what a store says of a write and of a read.
-use Rattle.std.proofs.Common.{◌⊎◌, inl, inr, subst, sym, arith, IsTrue, ◌≡◌}
+use Rattle.std.proofs.Common.{◌⊎◌, inl, inr, subst, sym, arith}
 use Rattle.sqlite_trees.specs.Tree.{Trees}
 use Rattle.sqlite.specs.State.{State, HasCleanDisk, Survives}
 use Rattle.sql_statements.specs.Queries.{Stays}

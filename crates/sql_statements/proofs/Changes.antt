@@ -1,5 +1,5 @@
 -- What an UPDATE or a DELETE of one plain table leaves.
-use Rattle.std.proofs.Common.{◌≡◌, ◌≢◌, ℕ, ℤ, Bool, true, cond, List, [], ◌∷◌, map, filter, length, drop, slice_get, Some, None, Option, unwrap_or, Ok, refl, sym, ap, ◌∙◌, subst, IsPermutation, true≢false}
+use Rattle.std.proofs.Common.{◌≡◌, ◌≢◌, ℕ, ℤ, Bool, true, false, cond, List, [], ◌∷◌, map, filter, length, drop, slice_get, Some, None, Option, unwrap_or, Ok, refl, sym, ap, ◌∙◌, subst, IsPermutation, true≢false}
 use Rattle.std.specs.List.{AllByRecursion, list_all}
 use Rattle.std.proofs.lemmas.Bool.{eqb-true}
 use Rattle.sqlite.specs.declared.types.Value.TheVariants.{Null, Int}
@@ -47,23 +47,30 @@ given_news (r ∷ news) rows = ap (λ l. r ∷ l) (given_news news (put_row r ro
 
 module _ {X : Type 0} (encode : X → Row) (tree : ℕ) (tests shown : List Term) (params : Row) (p : ℤ × X → Bool) (full : ℤ × X → Row)
     (tested : (i : ℤ) (x : X) → list_all (holds (params ∷ row_of encode (i, x) ∷ [])) tests ≡ p (i, x))
-    (shows : (i : ℤ) (x : X) → eval_all shown (params ∷ row_of encode (i, x) ∷ []) ≡ full (i, x)) where
+    (shows : (i : ℤ) (x : X) → p (i, x) ≡ true → eval_all shown (params ∷ row_of encode (i, x) ∷ []) ≡ full (i, x)) where
   abbrev picked_query : Query
   picked_query = query_from tree tests shown []
 
   abbrev out : ℤ × X → Output
   out r = ([], full r)
 
-  outputs_are : (rs : List (ℤ × X)) → map (output picked_query) (map (λ r. params ∷ row_of encode r ∷ []) rs) ≡ map out rs
+  abbrev shown_of : List (ℤ × X) → List Output
+  shown_of rs = map (output picked_query) (map (λ r. params ∷ row_of encode r ∷ []) rs)
+
+  outputs_are : (ps : List (ℤ × X)) → shown_of (filter p ps) ≡ map out (filter p ps)
   outputs_are [] = refl
-  outputs_are (r ∷ rs) = rw (shows r.0 r.1, outputs_are rs) refl
+  outputs_are (r ∷ ps) = go (p r) refl (outputs_are ps)
+    where
+      go : (b : Bool) → p r ≡ b → shown_of (filter p ps) ≡ map out (filter p ps) → shown_of (cond b (r ∷ filter p ps) (filter p ps)) ≡ map out (cond b (r ∷ filter p ps) (filter p ps))
+      go true e more = rw (shows r.0 r.1 e, more) refl
+      go false e more = more
 
   -- the rows that pass, in some order
   pub picked : (db : Trees) (ps : List (ℤ × X)) → db tree ≡ map (row_of encode) ps → (rows : List Row) → IsAnswer picked_query db params rows
       → (sel : List (ℤ × X)) × (rows ≡ map full sel) × IsPermutation (filter p ps) sel
   picked db ps are rows a =
       let kept : a.kept ≡ map out (filter p ps) =
-      a.distinct ∙ ap (map (output picked_query)) (a.grouped ∙ passing encode tree tests params p tested db ps are) ∙ outputs_are _ in
+      a.distinct ∙ ap (map (output picked_query)) (a.grouped ∙ passing encode tree tests params p tested db ps are) ∙ outputs_are ps in
       let found = unmapped out _ a.ordered (subst (λ l. IsPermutation l a.ordered) kept a.same) in
       (found.0, a.shown ∙ ap (map (λ (o : Output). o.1)) found.1 ∙ map-map (λ (o : Output). o.1) out _, found.2)
 
@@ -75,12 +82,13 @@ module _ {X : Type 0} (encode : X → Row) (tree : ℕ) (tests shown : List Term
 some_is : {A : Type 0} (a b : A) → Some a ≡ Some b → a ≡ b
 some_is a b e = cc
 
--- an UPDATE of the rows that pass, as a statement or as a part of an upsert; its WHERE may read the rowid
+-- An UPDATE of the rows that pass, as a statement or as a part of an upsert. Its WHERE may read the rowid, and what it sets
+-- is told of the rows alone that pass, as sums are, which have to fit.
 module _ {X : Type 0} (encode : X → Row) (schema : Schema) (tree : ℕ) (name : List ℕ) (columns : List Column) (primary : List ℕ) (uniques : List (List ℕ)) (orders : List Order)
     (tests sets : List Term) (quiet : (olds news : List Row) → works schema Enforced 0 tree olds news ≡ [])
     (given : Row) (p : X → Bool) (f : X → X) (at_id : ℤ × X → Bool)
     (tested : (i : ℤ) (x : X) → list_all (holds (given ∷ row_of encode (i, x) ∷ [])) tests ≡ at_id (i, x))
-    (made : (i : ℤ) (x : X) → eval_all sets (given ∷ row_of encode (i, x) ∷ []) ≡ encode (f x))
+    (made : (i : ℤ) (x : X) → at_id (i, x) ≡ true → eval_all sets (given ∷ row_of encode (i, x) ∷ []) ≡ encode (f x))
     (suits : (i : ℤ) (x : X) → cast_row (plain_table_at tree name columns primary uniques orders) (row_of encode (i, x)) ≡ row_of encode (i, x)) where
   abbrev its_table : Table
   its_table = plain_table_at tree name columns primary uniques orders
@@ -106,7 +114,7 @@ module _ {X : Type 0} (encode : X → Row) (schema : Schema) (tree : ℕ) (name 
       let trees : w.trees ≡ written.0 = ap (λ (it : Written). it.trees) w_is in
       let edit = edit_of db its_table (ids_of answer.0) Given 1 answer.0 in
       let step = one_step schema Enforced db written.0 edit (quiet (taken_by db edit) edit.news) written.1 in
-      let sel = picked_in encode tree tests (col 1 0 ∷ col 1 0 ∷ sets) given at_id full tested (λ i x. ap (λ l. Int i ∷ Int i ∷ l) (made i x)) (Update 0 q) q db stored.numbered stored.are body none answer.0 answer.1.answer in
+      let sel = picked_in encode tree tests (col 1 0 ∷ col 1 0 ∷ sets) given at_id full tested (λ i x passes. ap (λ l. Int i ∷ Int i ∷ l) (made i x passes)) (Update 0 q) q db stored.numbered stored.are body none answer.0 answer.1.answer in
       let gone : edit.gone ≡ map (λ (r : ℤ × X). r.0) sel.0 = ap ids_of sel.1 ∙ map-map _ full sel.0 in
       let news : edit.news ≡ map (row_of encode) (map moved sel.0) = given_news _ _ ∙ ap (map (λ s. cast_row its_table (drop 1 s))) sel.1 ∙ news_are sel.0 in
       let fresh = subst (λ n. are_fresh (without_all (db tree) (map (λ (r : ℤ × X). r.0) sel.0)) n ≡ true) news (subst (λ g. are_fresh (without_all (db tree) g) edit.news ≡ true) gone step.fresh) in
@@ -128,7 +136,7 @@ module _ {X : Type 0} (encode : X → Row) (schema : Schema) (at tree : ℕ) (na
       (quiet : (olds news : List Row) → works schema Enforced 0 tree olds news ≡ [])
       (params : Row) (p : X → Bool) (f : X → X)
       (tested : (i : ℤ) (x : X) → list_all (holds (params ∷ row_of encode (i, x) ∷ [])) tests ≡ p x)
-      (made : (i : ℤ) (x : X) → eval_all sets (params ∷ row_of encode (i, x) ∷ []) ≡ encode (f x))
+      (made : (i : ℤ) (x : X) → p x ≡ true → eval_all sets (params ∷ row_of encode (i, x) ∷ []) ≡ encode (f x))
       (suits : (i : ℤ) (x : X) → cast_row table (row_of encode (i, x)) ≡ row_of encode (i, x)) where
     on_rows : (old new : State) (tally : Tally) (q : Program) → q.body ≡ query_from tree tests (col 1 0 ∷ col 1 0 ∷ sets) [] → Rattle.sqlite_schema.specs.Program.lets_of q ≡ []
         → (xs : List X) → Stores encode (old.now.trees tree) xs
@@ -193,7 +201,7 @@ module _ {X : Type 0} (encode : X → Row) (schema : Schema) (at tree : ℕ) (na
         let trees : done.0.trees ≡ written.0 = ap (λ (it : Written). it.trees) (same_value written.2) in
         let edit = edit_of db table (ids_of answer.0) Given 0 [] in
         let step = one_step schema Enforced db written.0 edit (quiet (taken_by db edit) edit.news) written.1 in
-        let sel = picked_in encode tree tests (col 1 0 ∷ []) params (λ r. p r.1) name_of tested (λ i x. refl) (Delete at q) q db stored.numbered stored.are body none answer.0 answer.1.answer in
+        let sel = picked_in encode tree tests (col 1 0 ∷ []) params (λ r. p r.1) name_of tested (λ i x _. refl) (Delete at q) q db stored.numbered stored.are body none answer.0 answer.1.answer in
         let gone : edit.gone ≡ map (λ (r : ℤ × X). r.0) sel.0 = ap ids_of sel.1 ∙ map-map _ name_of sel.0 in
         let trees_are : new.now.trees ≡ written.0 = ap (λ (d : Database). d.trees) now ∙ trees in
         let next = ap (λ (t : Trees). t tree) trees_are ∙ step.rows ∙ ap (λ g. put_all (without_all (db tree) g) []) gone in (

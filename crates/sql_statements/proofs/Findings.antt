@@ -1,5 +1,5 @@
 -- What several reads found.
-use Rattle.std.proofs.Common.{◌≡◌, subst, sym, ◌∙◌, IsTrue}
+use Rattle.std.proofs.Common.{subst, sym, ◌∙◌}
 use Rattle.sqlite.specs.State.{State}
 use Rattle.sql_statements.specs.Queries.{Stays}
 use Rattle.sql_statements.specs.Findings.{Finds}

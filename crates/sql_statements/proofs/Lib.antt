@@ -8,6 +8,7 @@ pub mod EmptyText
 pub mod Findings
 pub mod FreeKeys
 pub mod Inserts
+pub mod Inside
 pub mod KeyOrder
 pub mod LastRows
 pub mod NewIndexes

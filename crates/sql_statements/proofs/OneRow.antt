@@ -23,7 +23,7 @@ module _ {X : Type 0} where
       go false e more = rw e more
 
   module _ (p q : X → Bool) (within : (x : X) → p x ≡ true → q x ≡ true) where
-    no_more : (xs : List X) → length (filter p xs) ≤ length (filter q xs)
+    pub no_more : (xs : List X) → length (filter p xs) ≤ length (filter q xs)
     no_more [] = omega arith
     no_more (x ∷ xs) = go (p x) (q x) refl refl (no_more xs)
       where
@@ -34,7 +34,7 @@ module _ {X : Type 0} where
         go false false e f more = rw (e, f) more
 
     -- a narrower test that passes as often is the same
-    tests_agree : (xs : List X) → length (filter q xs) ≤ length (filter p xs) → AllByRecursion (λ x. p x ≡ q x) xs
+    pub tests_agree : (xs : List X) → length (filter q xs) ≤ length (filter p xs) → AllByRecursion (λ x. p x ≡ q x) xs
     tests_agree [] few = tt
     tests_agree (x ∷ xs) few = go (p x) (q x) refl refl (tests_agree xs)
       where

@@ -1,5 +1,5 @@
 -- A SELECT has no RETURNING.
-use Rattle.std.proofs.Common.{◌≡◌, ◌+◌, cond, ℕ, Bool, true, false, List, None, Option, Result, Ok, Err, refl, subst, sym, true≢false}
+use Rattle.std.proofs.Common.{◌≡◌, ◌+◌, cond, ℕ, true, false, List, None, Option, Result, Ok, Err, refl, subst, sym, true≢false}
 use Rattle.sqlite_ast.specs.declared.Statement.{Statement}
 use Rattle.sqlite_ast.specs.declared.Statement.TheVariants as written
 use Rattle.sqlite_syntax.specs.declared.statement.Parsed.{Parsed}

@@ -159,7 +159,7 @@ module _ {X : Type 0} (encode : X → Row) (schema : Schema) (at tree : ℕ) (na
           subst (λ n. n ≤ 1) (length_permutation _ _ (IsPermutation-filter p _ _ stored.same) ∙ ap length (filter-map p (λ (r : ℤ × X). r.1) stored.numbered) ∙ Rattle.std.proofs.lemmas.List.length-map (filter (passes p) stored.numbered) (λ (r : ℤ × X). r.1)) few in
           let same = only_one p stored.numbered j y stored.rise has ok few_there in
           let it = update_part encode schema tree name columns primary uniques orders (op2 (Compare Eq Binary) (col 1 0) (col 0 (length columns)) ∷ []) sets quiet (encode x ++ Int j ∷ shown table new) p f (λ r. int_eq r.0 j)
-          (λ i z. finds i j k z) (λ i z. made i j k z) kept limit (encode x) is.update db one is.body is.alone xs stored same part in
+          (λ i z. finds i j k z) (λ i z _. made i j k z) kept limit (encode x) is.update db one is.body is.alone xs stored same part in
           let some : list_any p xs ≡ true = sym any_is ∙ some_from p values y (has_image p (λ (r : ℤ × X). r.1) stored.numbered (j, y) has) ok in
           record { stores = rw some it.0; others = it.1 }
 

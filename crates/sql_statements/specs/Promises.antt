@@ -1,9 +1,11 @@
 -- What is promised of a connection, or of a transaction on it, by whatever runs there: `old` is the connection before,
 -- `new` after, and `g` says what a database over this storage holds.
-use Rattle.std.specs.Prelude.{true, Result, IfOk, OnOk, OnErr}
+use Rattle.std.specs.Prelude.{◌≡◌, ℕ, IsTrue, true, List, Result, Ok, IfOk, OnOk, OnErr}
+use Rattle.std.specs.Borrow.{MutBor}
 use Rattle.sqlite_trees.specs.declared.store.Store.{Ghosts}
 use Rattle.sqlite.specs.Held.{Held, state}
-use Rattle.sqlite.specs.State.{State, HasCleanDisk, KeepsCommit, Shows, Survives}
+use Rattle.sqlite.specs.State.{State, Executes, HasCleanDisk, KeepsCommit, Shows, Survives}
+use Rattle.sqlite_value.specs.Order.{Row}
 use Rattle.sql_statements.specs.Queries.{Stays}
 
 -- The transaction goes on with what is there now, and nothing is committed.
@@ -14,7 +16,24 @@ GoesOn before after = Shows before after after.now before.committed true
 abbrev pub SeesInside : State → State → Type 0
 SeesInside before after = Shows before after before.now before.committed true
 
+-- A statement ran inside a transaction and wrote so many rows; the transaction goes on with what is there now.
+pub record Ran (sql : List ℕ) (params : Row) (count : ℕ) (before after : State) : Type 0 where
+  pub inside : IsTrue before.in_transaction
+  pub ran : Executes sql params before after (Ok count)
+  pub shown : GoesOn before after
+
+-- What a query promises. Where the disk is clean as it ends, this holds of what it gave, the same database is seen
+-- still, and a crash leaves nothing that it could not leave before.
+pub record Asked {A E : Type 0} (old new : State) (result : Result A E) (Holds : A → State → State → Type 0) : Type 0 where
+  pub answer : HasCleanDisk new → IfOk result (λ given. Holds given old new)
+  pub stays : HasCleanDisk new → Stays old new
+  pub survives : Survives old new (λ _. ⊥)
+
 module _ {S : Type 0} (g : Ghosts S) where
+  -- the same of a query on a connection
+  abbrev pub AskedOn : {A E : Type 0} → (old new : Held S) → Result A E → (Holds : A → State → State → Type 0) → Type 0
+  AskedOn old new = Asked (state g old) (state g new)
+
   -- Where it went well, and the disk is clean as it ends, this holds of the database before and after.
   abbrev pub SucceedsIn : {A E : Type 0} → (old new : Held S) → Result A E → (Holds : State → State → Type 0) → Type 0
   SucceedsIn old new result Holds = HasCleanDisk (state g new) → OnOk result (Holds (state g old) (state g new))
@@ -38,3 +57,19 @@ module _ {S : Type 0} (g : Ghosts S) where
   -- A crash leaves nothing that it could not leave before.
   abbrev pub LeavesNothingNew : (old new : Held S) → Type 0
   LeavesNothingNew old new = Survives (state g old) (state g new) (λ _. ⊥)
+
+  -- What runs inside a transaction promises: it is that of the same connection, this is made of it, nothing is committed,
+  -- and a crash leaves nothing that it could not leave before.
+  pub record Inside (old new : MutBor (Held S)) (Made : Type 0) : Type 0 where
+    pub same_reference : new.ghost_name ≡ old.ghost_name
+    pub makes : Made
+    pub keeps : KeepsCommitted old.now new.now
+    pub survives : LeavesNothingNew old.now new.now
+
+  -- Where it went well, this holds of the database before and after.
+  abbrev pub Runs : {A E : Type 0} → (old new : MutBor (Held S)) → Result A E → (Holds : State → State → Type 0) → Type 0
+  Runs old new result Holds = Inside old new (SucceedsIn old.now new.now result Holds)
+
+  -- the same, of what it gives too
+  abbrev pub RunsWith : {A E : Type 0} → (old new : MutBor (Held S)) → Result A E → (Holds : A → State → State → Type 0) → Type 0
+  RunsWith old new result Holds = Inside old new (SucceedsWith old.now new.now result Holds)

@@ -1,10 +1,10 @@
 //! A statement is run inside a transaction, and a query outside one.
-ghost use Rattle.std.specs.Prelude.{◌≡◌, IsTrue, Ok};
+ghost use Rattle.std.specs.Prelude.{IsTrue};
 ghost use Rattle.sqlite.specs.Held.{state};
-ghost use Rattle.sqlite.specs.State.{HasCleanDisk, Executes, Shown};
+ghost use Rattle.sqlite.specs.State.{HasCleanDisk, Shown};
 ghost use Rattle.sqlite.specs.Values.{bound};
 ghost use Rattle.sql_statements.specs.SelectTexts.{IsSelectText};
-ghost use Rattle.sql_statements.specs.Promises.{SucceedsWith, KeepsCommitted, LeavesNothingNew, SeesStill, GoesOn};
+ghost use Rattle.sql_statements.specs.Promises.{Ran, RunsWith, SucceedsWith, SeesStill, LeavesNothingNew};
 
 use sqlite::types::ValueRef;
 use sqlite::{Alter, Connection, Error, Row, Transaction};
@@ -16,14 +16,7 @@ pub fn execute<S: Alter>(
     sql: &str,
     params: &[ValueRef<'_>],
 ) -> Result<usize, Error>
-    ensures same_reference { tx.new.conn.ghost_name ≡ tx.old.conn.ghost_name }
-    ensures inside { SucceedsWith S.Store tx.old.conn.now tx.new.conn.now result
-        (λ count before after. IsTrue before.in_transaction) }
-    ensures ran { SucceedsWith S.Store tx.old.conn.now tx.new.conn.now result
-        (λ count before after. Executes sql.now (bound params.now) before after (Ok count)) }
-    ensures shown { SucceedsWith S.Store tx.old.conn.now tx.new.conn.now result (λ count. GoesOn) }
-    ensures keeps { KeepsCommitted S.Store tx.old.conn.now tx.new.conn.now }
-    ensures survives { LeavesNothingNew S.Store tx.old.conn.now tx.new.conn.now }
+    ensures { RunsWith S.Store tx.old.conn tx.new.conn result (Ran sql.now (bound params.now)) }
 {
     tx.execute(sql, params)
 }

@@ -19,6 +19,7 @@ use Rattle.sql_statements.specs.Edits.{each_edit_from}
 use Rattle.sql_statements.specs.Layouts.{Holds}
 use Rattle.sql_statements.specs.StoredRows.{row_of, Stores}
 use Rattle.sql_statements.proofs.Casts.{row_kept}
+use Rattle.sql_statements.proofs.Changes.{updated_counted}
 use Rattle.sql_statements.proofs.Conditions.{text_is, int_least, int_most, and_true}
 use Rattle.sql_statements.proofs.KeyOrder.{rises_updated}
 use Rattle.sql_statements.proofs.OneRow.{one_of}
@@ -36,7 +37,6 @@ use Rattle.sql_tables.specs.Tables.{Tables}
 use Rattle.sql_tables.specs.declared.records.EntryRecord.{EntryRecord}
 use Rattle.sql_writes.proofs.Conditions as conditions
 use Rattle.sql_writes.proofs.KeyTests.{and_joined, none_is, one_entry}
-use Rattle.sql_writes.proofs.PassingUpdates.{updated_passing}
 use Rattle.sql_writes.proofs.Puts.{IsUpdateOf}
 use Rattle.sql_writes.proofs.RunUpdates.{inside, marks, AreThere, still_there, run_is_marks}
 use Rattle.sql_writes.proofs.SubmissionRows.{entry_kept}
@@ -203,7 +203,7 @@ module _ (first : SentEntry) (before last : ℕ) (room : before + last < 2 ^ 63)
   run_marked es ends head run place at old new ran t h =
       let names = run_named first es head run in
       let s = table the.entries in
-      let done = updated_passing (as_row the.entries) desk_schema 4 9 s.name s.columns s.primary s.uniques s.orders update_run.text update_run.tests update_run.sets update_run_is.is refl (λ olds news. refl)
+      let done = updated_counted (as_row the.entries) desk_schema 4 9 s.name s.columns s.primary s.uniques s.orders update_run.text update_run.tests update_run.sets update_run_is.is refl (λ olds news. refl)
       its_params is_it set tested made (λ i r. row_kept s (Int i) (as_row the.entries r) refl (entry_kept r)) old new (length es) h.0 t.entries (h.1.stands named.entries).stored ran in
       let key = is_of first in
       let index = λ (r : EntryRecord). r.index in

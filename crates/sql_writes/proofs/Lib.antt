@@ -3,8 +3,8 @@
 --   many rows at once         ArrayLoops, ManyEdits, ManyFree, ManyInserts, ManyKeys, Puts, ValueRows
 --   days, companies, limits   Companies, Days, Holidays
 --   lines and balances        BalanceLists, BalanceUpserts, JoinedLines, LineSums, PendingSums, PostingInserts
---   cuts                      EntryRuns, EntryUpdates, FileInserts, KeyTests, NumberRanges, PassingUpdates,
---                             PlacedEntries, RangePuts, RunUpdates, SubmissionUpdates
+--   cuts                      EntryRuns, EntryUpdates, FileInserts, KeyTests, NumberRanges, PlacedEntries,
+--                             RangePuts, RunUpdates, SubmissionUpdates
 --   incoming files            ChangeInserts, ReturnInserts, SuspenseInserts, TakenInserts
 -- of these stand.
 mod ArrayLoops
@@ -31,7 +31,6 @@ mod ManyKeys
 mod NumberRanges
 mod Numbered
 pub mod NumberedRows
-mod PassingUpdates
 mod PendingSums
 mod PlacedEntries
 mod PostingInserts

@@ -153,7 +153,7 @@ module _ (n : Name) where
     rows_updated of f made kept =
         let d = described n in
         let s = table d in
-        let done = updated_counted (as_row d) desk_schema (place_of n) d.tree s.name s.columns s.primary s.uniques s.orders change.text change.tests change.sets of.is (listed n) (quiet n) params p f tested made (λ i x. row_kept s (Int i) (as_row d x) refl (kept x)) old new count h.0 (records n t) (h.1.stands n).stored ran in
+        let done = updated_counted (as_row d) desk_schema (place_of n) d.tree s.name s.columns s.primary s.uniques s.orders change.text change.tests change.sets of.is (listed n) (quiet n) params p f tested (λ i x _. made i x) (λ i x. row_kept s (Int i) (as_row d x) refl (kept x)) old new count h.0 (records n t) (h.1.stands n).stored ran in
         (record { schema_is = done.0.schema_is; others = done.0.others; stored = done.1 }, done.2)
 
     pub rows_deleted : IsDeleteOf change → HasRecords n (delete_where p (records n t)) old new

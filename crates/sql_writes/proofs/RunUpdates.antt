@@ -3,30 +3,9 @@ use Rattle.std.proofs.Common.{◌≡◌, ◌≤◌, ◌<◌, ◌+◌, ◌==◌, 
 use Rattle.std.proofs.lemmas.Bool.{eqb-true, and_parts}
 use Rattle.std.specs.List.{AllByRecursion}
 use Rattle.sqlite_keyed.specs.Lists.{update_where}
+use Rattle.sql_statements.proofs.OneRow.{no_more, tests_agree}
 
 module _ {X : Type 0} where
-  module _ (p q : X → Bool) (within : (x : X) → p x ≡ true → q x ≡ true) where
-    no_more : (xs : List X) → length (filter p xs) ≤ length (filter q xs)
-    no_more [] = omega arith
-    no_more (x ∷ xs) = go (p x) (q x) refl refl (no_more xs)
-      where
-        go : (b c : Bool) → p x ≡ b → q x ≡ c → length (filter p xs) ≤ length (filter q xs) → length (filter p (x ∷ xs)) ≤ length (filter q (x ∷ xs))
-        go true true e f more = rw (e, f) (omega (arith, more))
-        go true false e f more = absurd (let h = within x e in cc)
-        go false true e f more = rw (e, f) (omega (arith, more))
-        go false false e f more = rw (e, f) more
-
-    -- a narrower test that passes as often is the same
-    tests_agree : (xs : List X) → length (filter q xs) ≤ length (filter p xs) → AllByRecursion (λ x. p x ≡ q x) xs
-    tests_agree [] few = tt
-    tests_agree (x ∷ xs) few = go (p x) (q x) refl refl (tests_agree xs)
-      where
-        go : (b c : Bool) → p x ≡ b → q x ≡ c → (length (filter q xs) ≤ length (filter p xs) → AllByRecursion (λ x. p x ≡ q x) xs) → AllByRecursion (λ x. p x ≡ q x) (x ∷ xs)
-        go true true e f more = (e ∙ sym f, more (let h = rw (e, f) at few in omega (arith, h)))
-        go true false e f more = absurd (let h = within x e in cc)
-        go false true e f more = absurd (let h = rw (e, f) at few in omega (arith, h, no_more xs))
-        go false false e f more = (e ∙ sym f, more (rw (e, f) at few))
-
   updates_agree : (p q : X → Bool) (f : X → X) (xs : List X) → AllByRecursion (λ x. p x ≡ q x) xs → update_where p f xs ≡ update_where q f xs
   updates_agree p q f [] same = refl
   updates_agree p q f (x ∷ xs) same = rw (same.0, updates_agree p q f xs same.1) refl

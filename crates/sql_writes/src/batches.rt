@@ -3,7 +3,7 @@
 ghost use Rattle.std.specs.Prelude.{◌≡◌, ◌+◌, ◌<◌, ◌^◌, length};
 ghost use Rattle.sql_statements.specs.Edits.{each_edit_from};
 ghost use Rattle.sql_statements.specs.Transactions.{Makes};
-ghost use Rattle.sql_statements.specs.Promises.{SucceedsIn, KeepsCommitted, LeavesNothingNew};
+ghost use Rattle.sql_statements.specs.Promises.{Runs};
 
 use sql_statements::{RowBody, run_each};
 use sqlite::{Alter, Error, ErrorCode, Transaction};
@@ -21,11 +21,8 @@ pub(crate) trait BatchBody: RowBody {
     ) -> Result<(), Error>
         requires many { length rows.now ≡ 16 }
         requires numbers { first + 16 < 2 ^ 64 }
-        ensures same_reference { tx.new.conn.ghost_name ≡ tx.old.conn.ghost_name }
-        ensures makes { SucceedsIn S.Store tx.old.conn.now tx.new.conn.now result
-            (Makes Self.layout (each_edit_from (Self.edit self.now) first rows.now)) }
-        ensures keeps { KeepsCommitted S.Store tx.old.conn.now tx.new.conn.now }
-        ensures survives { LeavesNothingNew S.Store tx.old.conn.now tx.new.conn.now };
+        ensures { Runs S.Store tx.old.conn tx.new.conn result
+            (Makes Self.layout (each_edit_from (Self.edit self.now) first rows.now)) };
 }
 
 /// Runs the statements of each row, in order, with numbers from the first on: of sixteen rows at once, and
@@ -37,11 +34,8 @@ pub(crate) fn run_batches<S: Alter, B: BatchBody>(
     first: u64,
     rows: &[B::Row],
 ) -> Result<(), Error>
-    ensures same_reference { tx.new.conn.ghost_name ≡ tx.old.conn.ghost_name }
-    ensures makes { SucceedsIn S.Store tx.old.conn.now tx.new.conn.now result
+    ensures { Runs S.Store tx.old.conn tx.new.conn result
         (Makes B.RowBody.layout (each_edit_from (B.RowBody.edit body.now) first rows.now)) }
-    ensures keeps { KeepsCommitted S.Store tx.old.conn.now tx.new.conn.now }
-    ensures survives { LeavesNothingNew S.Store tx.old.conn.now tx.new.conn.now }
 {
     let mut number = first;
     let mut rest = rows;

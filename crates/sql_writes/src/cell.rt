@@ -1,8 +1,8 @@
 //! One value is read inside a transaction.
-ghost use Rattle.std.specs.Prelude.{◌≡◌, [], ◌∷◌, IfOk};
+ghost use Rattle.std.specs.Prelude.{[], ◌∷◌, IfOk};
 ghost use Rattle.sqlite.specs.Values.{bound};
 ghost use Rattle.sql_statements.specs.SelectTexts.{IsSelectText};
-ghost use Rattle.sql_statements.specs.Promises.{SucceedsIn, SucceedsWith, KeepsCommitted, LeavesNothingNew, SeesInside};
+ghost use Rattle.sql_statements.specs.Promises.{RunsWith, SeesInside};
 ghost use Rattle.sql_tables.specs.Ranges.{FitsIfAny};
 ghost use Rattle.sql_queries.specs.Shows.{ReadsFirst};
 
@@ -20,14 +20,10 @@ pub fn cell_inside<S: Alter, T: FromColumn>(
     params: &[ValueRef<'_>],
 ) -> Result<Option<T>, Error>
     requires { IsSelectText sql.now }
-    ensures same_reference { tx.new.conn.ghost_name ≡ tx.old.conn.ghost_name }
-    ensures answer { SucceedsWith S.Store tx.old.conn.now tx.new.conn.now result
+    ensures runs { RunsWith S.Store tx.old.conn tx.new.conn result
         (λ x before after. ReadsFirst sql.now (bound params.now)
-        (λ x. T.FromColumn.stored x ∷ []) before after x) }
+        (λ x. T.FromColumn.stored x ∷ []) before after x × SeesInside before after) }
     ensures fits { IfOk result (FitsIfAny T.FromColumn.fits) }
-    ensures same { SucceedsIn S.Store tx.old.conn.now tx.new.conn.now result SeesInside }
-    ensures keeps { KeepsCommitted S.Store tx.old.conn.now tx.new.conn.now }
-    ensures survives { LeavesNothingNew S.Store tx.old.conn.now tx.new.conn.now }
 {
     let Some(row) = query_first_inside(tx, sql, params)? else {
         return Ok(None);

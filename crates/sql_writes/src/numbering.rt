@@ -1,7 +1,7 @@
 //! Some tables number their rows from 1 on, in the order in which they came.
 ghost use Rattle.std.specs.Prelude.{◌≡◌};
 ghost use Rattle.sql_statements.specs.Transactions.{Makes};
-ghost use Rattle.sql_statements.specs.Promises.{SucceedsWith, KeepsCommitted, LeavesNothingNew};
+ghost use Rattle.sql_statements.specs.Promises.{RunsWith};
 ghost use Rattle.sql_tables.specs.Layout.{desk_layout};
 ghost use Rattle.sql_writes.specs.Numbering.{next_is};
 ghost use Rattle.sql_writes.specs.LineTexts.{last_text};
@@ -40,11 +40,8 @@ pub(crate) fn next_after<S: Alter>(
     tx: &mut Transaction<'_, S>,
     table: NumberedTable,
 ) -> Result<u64, Error>
-    ensures same_reference { tx.new.conn.ghost_name ≡ tx.old.conn.ghost_name }
-    ensures makes { SucceedsWith S.Store tx.old.conn.now tx.new.conn.now result
+    ensures { RunsWith S.Store tx.old.conn tx.new.conn result
         (λ n. Makes desk_layout (next_is table n)) }
-    ensures keeps { KeepsCommitted S.Store tx.old.conn.now tx.new.conn.now }
-    ensures survives { LeavesNothingNew S.Store tx.old.conn.now tx.new.conn.now }
 {
     let last: Option<u64> = cell_inside(tx, last_query(table), &[])?;
     match last.unwrap_or(0).checked_add(1) {

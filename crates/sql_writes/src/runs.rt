@@ -3,7 +3,7 @@ ghost use Rattle.std.specs.Prelude.{◌≡◌, ◌≤◌, ◌<◌, ◌+◌, ◌^
 ghost use Rattle.sql_statements.specs.Edits.{Edit, each_edit_from};
 ghost use Rattle.sql_statements.specs.Layouts.{Layout};
 ghost use Rattle.sql_statements.specs.Transactions.{Makes};
-ghost use Rattle.sql_statements.specs.Promises.{SucceedsIn, KeepsCommitted, LeavesNothingNew};
+ghost use Rattle.sql_statements.specs.Promises.{Runs};
 ghost use Rattle.sql_writes.specs.Runs.{is_run};
 
 use sqlite::{Alter, Error, ErrorCode, Transaction};
@@ -37,11 +37,8 @@ pub(crate) trait RunBody {
         requires some { 0 < length rows.now }
         requires run { is_run (stands_after self.now) rows.now ≡ true }
         requires numbers { first + length rows.now < 2 ^ 64 }
-        ensures same_reference { tx.new.conn.ghost_name ≡ tx.old.conn.ghost_name }
-        ensures makes { SucceedsIn S.Store tx.old.conn.now tx.new.conn.now result
-            (Makes layout (each_edit_from (edit self.now) first rows.now)) }
-        ensures keeps { KeepsCommitted S.Store tx.old.conn.now tx.new.conn.now }
-        ensures survives { LeavesNothingNew S.Store tx.old.conn.now tx.new.conn.now };
+        ensures { Runs S.Store tx.old.conn tx.new.conn result
+            (Makes layout (each_edit_from (edit self.now) first rows.now)) };
 }
 
 // How many rows at the start of a list are a run.
@@ -68,11 +65,8 @@ pub(crate) fn run_runs<S: Alter, B: RunBody>(
     first: u64,
     rows: &[B::Row],
 ) -> Result<(), Error>
-    ensures same_reference { tx.new.conn.ghost_name ≡ tx.old.conn.ghost_name }
-    ensures makes { SucceedsIn S.Store tx.old.conn.now tx.new.conn.now result
+    ensures { Runs S.Store tx.old.conn tx.new.conn result
         (Makes B.layout (each_edit_from (B.edit body.now) first rows.now)) }
-    ensures keeps { KeepsCommitted S.Store tx.old.conn.now tx.new.conn.now }
-    ensures survives { LeavesNothingNew S.Store tx.old.conn.now tx.new.conn.now }
 {
     let mut number = first;
     let mut rest = rows;

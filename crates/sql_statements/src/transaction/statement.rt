@@ -1,10 +1,10 @@
 //! A transaction runs a statement of one row, and reads what it sees.
-ghost use Rattle.std.specs.Prelude.{◌≡◌, Ok, List, slice_get};
-ghost use Rattle.sqlite.specs.State.{Shown, Executes};
+ghost use Rattle.std.specs.Prelude.{◌≡◌, List, slice_get};
+ghost use Rattle.sqlite.specs.State.{Shown};
 ghost use Rattle.sqlite.specs.Values.{bound};
 ghost use Rattle.sqlite_value.specs.Order.{Row};
 ghost use Rattle.sql_statements.specs.SelectTexts.{IsSelectText};
-ghost use Rattle.sql_statements.specs.Promises.{SucceedsIn, SucceedsWith, KeepsCommitted, LeavesNothingNew, GoesOn, SeesInside};
+ghost use Rattle.sql_statements.specs.Promises.{Ran, Runs, RunsWith, SeesInside};
 
 use crate::statement::execute;
 use crate::transaction::live::check_live;
@@ -18,12 +18,7 @@ pub fn execute_one<S: Alter>(
     sql: &str,
     params: &[ValueRef<'_>],
 ) -> Result<(), Error>
-    ensures same_reference { tx.new.conn.ghost_name ≡ tx.old.conn.ghost_name }
-    ensures ran { SucceedsIn S.Store tx.old.conn.now tx.new.conn.now result
-        (λ before after. Executes sql.now (bound params.now) before after (Ok 1)) }
-    ensures shown { SucceedsIn S.Store tx.old.conn.now tx.new.conn.now result GoesOn }
-    ensures keeps { KeepsCommitted S.Store tx.old.conn.now tx.new.conn.now }
-    ensures survives { LeavesNothingNew S.Store tx.old.conn.now tx.new.conn.now }
+    ensures { Runs S.Store tx.old.conn tx.new.conn result (Ran sql.now (bound params.now) 1) }
 {
     let count = execute(tx, sql, params)?;
     if count == 1 {
@@ -39,13 +34,9 @@ pub fn query_inside<S: Alter>(
     sql: &str,
     params: &[ValueRef<'_>],
 ) -> Result<Vec<Row>, Error>
-    ensures same_reference { tx.new.conn.ghost_name ≡ tx.old.conn.ghost_name }
-    ensures answer { IsSelectText sql.now → SucceedsWith S.Store tx.old.conn.now tx.new.conn.now
-        result (λ rows before after. Shown sql.now (bound params.now) before after rows.items) }
-    ensures same { IsSelectText sql.now
-        → SucceedsIn S.Store tx.old.conn.now tx.new.conn.now result SeesInside }
-    ensures keeps { KeepsCommitted S.Store tx.old.conn.now tx.new.conn.now }
-    ensures survives { LeavesNothingNew S.Store tx.old.conn.now tx.new.conn.now }
+    ensures { RunsWith S.Store tx.old.conn tx.new.conn result
+        (λ rows before after. IsSelectText sql.now
+        → Shown sql.now (bound params.now) before after rows.items × SeesInside before after) }
 {
     check_live(tx)?;
     let rows = tx.query_all(sql, params)?;
@@ -59,15 +50,10 @@ pub fn query_first_inside<S: Alter>(
     sql: &str,
     params: &[ValueRef<'_>],
 ) -> Result<Option<Row>, Error>
-    ensures same_reference { tx.new.conn.ghost_name ≡ tx.old.conn.ghost_name }
-    ensures answer { IsSelectText sql.now
-        → SucceedsWith S.Store tx.old.conn.now tx.new.conn.now result
-        (λ row before after. (rows : List Row) × Shown sql.now (bound params.now) before after rows
-        × (row ≡ slice_get rows 0)) }
-    ensures same { IsSelectText sql.now
-        → SucceedsIn S.Store tx.old.conn.now tx.new.conn.now result SeesInside }
-    ensures keeps { KeepsCommitted S.Store tx.old.conn.now tx.new.conn.now }
-    ensures survives { LeavesNothingNew S.Store tx.old.conn.now tx.new.conn.now }
+    ensures { RunsWith S.Store tx.old.conn tx.new.conn result
+        (λ row before after. IsSelectText sql.now
+        → (rows : List Row) × Shown sql.now (bound params.now) before after rows
+        × (row ≡ slice_get rows 0) × SeesInside before after) }
 {
     let mut rows = query_inside(tx, sql, params)?;
     if rows.is_empty() {

@@ -1,7 +1,6 @@
 //! Balances: the sums of the lines of an account and a value day.
-ghost use Rattle.std.specs.Prelude.{◌≡◌};
 ghost use Rattle.sql_statements.specs.Transactions.{Makes};
-ghost use Rattle.sql_statements.specs.Promises.{SucceedsIn, SucceedsWith, KeepsCommitted, LeavesNothingNew};
+ghost use Rattle.sql_statements.specs.Promises.{Runs, RunsWith};
 ghost use Rattle.sql_tables.specs.Layout.{desk_layout};
 ghost use Rattle.sql_writes.specs.LineEdits.{put_balance_edit, sum_is};
 
@@ -20,11 +19,8 @@ pub(crate) fn sum_inside<S: Alter>(
     account: &Account,
     value_day: Day,
 ) -> Result<Option<i128>, Error>
-    ensures same_reference { tx.new.conn.ghost_name ≡ tx.old.conn.ghost_name }
-    ensures makes { SucceedsWith S.Store tx.old.conn.now tx.new.conn.now result
+    ensures { RunsWith S.Store tx.old.conn tx.new.conn result
         (λ sum. Makes desk_layout (sum_is account.now value_day sum)) }
-    ensures keeps { KeepsCommitted S.Store tx.old.conn.now tx.new.conn.now }
-    ensures survives { LeavesNothingNew S.Store tx.old.conn.now tx.new.conn.now }
 {
     let text = account_text(account);
     let sum = cell_inside(
@@ -42,11 +38,8 @@ pub(crate) fn put_balance<S: Alter>(
     value_day: Day,
     cents: i128,
 ) -> Result<(), Error>
-    ensures same_reference { tx.new.conn.ghost_name ≡ tx.old.conn.ghost_name }
-    ensures makes { SucceedsIn S.Store tx.old.conn.now tx.new.conn.now result
+    ensures { Runs S.Store tx.old.conn tx.new.conn result
         (Makes desk_layout (put_balance_edit account.now value_day cents)) }
-    ensures keeps { KeepsCommitted S.Store tx.old.conn.now tx.new.conn.now }
-    ensures survives { LeavesNothingNew S.Store tx.old.conn.now tx.new.conn.now }
 {
     let text = account_text(account);
     let mut digits = Buffer::new();

@@ -1,7 +1,6 @@
 //! The lines of accounts are written.
-ghost use Rattle.std.specs.Prelude.{◌≡◌};
 ghost use Rattle.sql_statements.specs.Transactions.{Makes};
-ghost use Rattle.sql_statements.specs.Promises.{SucceedsIn, KeepsCommitted, LeavesNothingNew};
+ghost use Rattle.sql_statements.specs.Promises.{Runs};
 ghost use Rattle.sql_tables.specs.Layout.{desk_layout};
 ghost use Rattle.sql_tables.specs.TableEdits.{put_lines_edit};
 
@@ -19,11 +18,8 @@ pub(crate) fn put_lines<S: Alter>(
     tx: &mut Transaction<'_, S>,
     lines: &[Posting],
 ) -> Result<(), Error>
-    ensures same_reference { tx.new.conn.ghost_name ≡ tx.old.conn.ghost_name }
-    ensures makes { SucceedsIn S.Store tx.old.conn.now tx.new.conn.now result
+    ensures { Runs S.Store tx.old.conn tx.new.conn result
         (Makes desk_layout (put_lines_edit lines.now)) }
-    ensures keeps { KeepsCommitted S.Store tx.old.conn.now tx.new.conn.now }
-    ensures survives { LeavesNothingNew S.Store tx.old.conn.now tx.new.conn.now }
 {
     let first = next_after(tx, NumberedTable::Postings)?;
     run_batches(tx, &LineRows, first, lines)?;

@@ -4,7 +4,7 @@ ghost use Rattle.std.specs.Prelude.{◌≡◌, ◌-◌, ◌<◌, ◌+ℤ◌, ℕ
 ghost use Rattle.std.specs.List.{position_or_len};
 ghost use Rattle.arrayvec.specs.ArrayVec.{array_vec_len};
 ghost use Rattle.sql_statements.specs.Transactions.{Makes};
-ghost use Rattle.sql_statements.specs.Promises.{SucceedsIn, KeepsCommitted, LeavesNothingNew};
+ghost use Rattle.sql_statements.specs.Promises.{Runs};
 ghost use Rattle.sql_tables.specs.Layout.{desk_layout};
 ghost use Rattle.sql_writes.specs.LineEdits.{with_line, add_lines_edit};
 ghost use Rattle.sql_writes.specs.PendingBalances.{is_pending_of, AddsLine, MakesBut};
@@ -49,11 +49,8 @@ pub(crate) fn add_lines<S: Alter>(
     tx: &mut Transaction<'_, S>,
     lines: &[Posting],
 ) -> Result<(), Error>
-    ensures same_reference { tx.new.conn.ghost_name ≡ tx.old.conn.ghost_name }
-    ensures makes { SucceedsIn S.Store tx.old.conn.now tx.new.conn.now result
+    ensures { Runs S.Store tx.old.conn tx.new.conn result
         (Makes desk_layout (add_lines_edit lines.now)) }
-    ensures keeps { KeepsCommitted S.Store tx.old.conn.now tx.new.conn.now }
-    ensures survives { LeavesNothingNew S.Store tx.old.conn.now tx.new.conn.now }
 {
     let mut pending: PendingBalances = ArrayVec::new();
     for line in lines {
@@ -69,11 +66,8 @@ fn add_line<S: Alter>(
     pending: &mut PendingBalances,
     line: &Posting,
 ) -> Result<(), Error>
-    ensures same_reference { tx.new.conn.ghost_name ≡ tx.old.conn.ghost_name }
-    ensures makes { SucceedsIn S.Store tx.old.conn.now tx.new.conn.now result
+    ensures { Runs S.Store tx.old.conn tx.new.conn result
         (MakesBut pending.old.items pending.new.items (with_line line.now)) }
-    ensures keeps { KeepsCommitted S.Store tx.old.conn.now tx.new.conn.now }
-    ensures survives { LeavesNothingNew S.Store tx.old.conn.now tx.new.conn.now }
 {
     let at = place_of(pending.as_slice(), line);
     if at < pending.len() {
@@ -148,11 +142,8 @@ fn add_new<S: Alter>(
 ) -> Result<(), Error>
     requires { array_vec_len pending.old ≡ position_or_len
         (is_pending_of line.now.account line.now.value_day) pending.old.items }
-    ensures same_reference { tx.new.conn.ghost_name ≡ tx.old.conn.ghost_name }
-    ensures makes { SucceedsIn S.Store tx.old.conn.now tx.new.conn.now result
+    ensures { Runs S.Store tx.old.conn tx.new.conn result
         (MakesBut pending.old.items pending.new.items (with_line line.now)) }
-    ensures keeps { KeepsCommitted S.Store tx.old.conn.now tx.new.conn.now }
-    ensures survives { LeavesNothingNew S.Store tx.old.conn.now tx.new.conn.now }
 {
     make_room(tx, pending)?;
     let before = sum_inside(tx, &line.account, line.value_day)?;
@@ -168,11 +159,8 @@ fn make_room<S: Alter>(
 ) -> Result<(), Error>
     ensures room { OnOk result (array_vec_len pending.new < MOST_PENDING) }
     ensures front { (count : ℕ) × (pending.new.items ≡ take count pending.old.items) }
-    ensures same_reference { tx.new.conn.ghost_name ≡ tx.old.conn.ghost_name }
-    ensures makes { SucceedsIn S.Store tx.old.conn.now tx.new.conn.now result
+    ensures runs { Runs S.Store tx.old.conn tx.new.conn result
         (MakesBut pending.old.items pending.new.items (λ balances. balances)) }
-    ensures keeps { KeepsCommitted S.Store tx.old.conn.now tx.new.conn.now }
-    ensures survives { LeavesNothingNew S.Store tx.old.conn.now tx.new.conn.now }
 {
     if !pending.is_full() {
         return Ok(());
@@ -186,11 +174,8 @@ fn write_all<S: Alter>(
     tx: &mut Transaction<'_, S>,
     pending: &mut PendingBalances,
 ) -> Result<(), Error>
-    ensures same_reference { tx.new.conn.ghost_name ≡ tx.old.conn.ghost_name }
-    ensures makes { SucceedsIn S.Store tx.old.conn.now tx.new.conn.now result
+    ensures { Runs S.Store tx.old.conn tx.new.conn result
         (MakesBut pending.old.items [] (λ balances. balances)) }
-    ensures keeps { KeepsCommitted S.Store tx.old.conn.now tx.new.conn.now }
-    ensures survives { LeavesNothingNew S.Store tx.old.conn.now tx.new.conn.now }
 {
     'writes: while !pending.is_empty() {
         write_last(tx, pending)?;
@@ -204,11 +189,8 @@ fn write_last<S: Alter>(
     pending: &mut PendingBalances,
 ) -> Result<(), Error>
     ensures rest { pending.new.items ≡ take (array_vec_len pending.old - 1) pending.old.items }
-    ensures same_reference { tx.new.conn.ghost_name ≡ tx.old.conn.ghost_name }
-    ensures makes { SucceedsIn S.Store tx.old.conn.now tx.new.conn.now result
+    ensures runs { Runs S.Store tx.old.conn tx.new.conn result
         (MakesBut pending.old.items pending.new.items (λ balances. balances)) }
-    ensures keeps { KeepsCommitted S.Store tx.old.conn.now tx.new.conn.now }
-    ensures survives { LeavesNothingNew S.Store tx.old.conn.now tx.new.conn.now }
 {
     let Some(last) = pending.pop() else {
         return Ok(());

@@ -2,7 +2,7 @@
 ghost use Rattle.std.specs.Prelude.{◌≡◌, ◌<◌, ◌≤◌, ◌+◌, ◌^◌, Some, true, length, slice_get, IfOk};
 ghost use Rattle.sql_statements.specs.Edits.{each_edit_from};
 ghost use Rattle.sql_statements.specs.Transactions.{Makes};
-ghost use Rattle.sql_statements.specs.Promises.{SucceedsIn, KeepsCommitted, LeavesNothingNew};
+ghost use Rattle.sql_statements.specs.Promises.{Runs};
 ghost use Rattle.sql_tables.specs.Layout.{desk_layout};
 ghost use Rattle.sql_writes.specs.EntryRuns.{stands_after};
 ghost use Rattle.sql_writes.specs.PlaceEdits.{mark_entry_edit};
@@ -92,11 +92,8 @@ fn mark_run<S: Alter>(
     requires first { slice_get run.now 0 ≡ Some first.now }
     requires run { is_run stands_after run.now ≡ true }
     requires after { first.now.index ≤ place }
-    ensures same_reference { tx.new.conn.ghost_name ≡ tx.old.conn.ghost_name }
-    ensures makes { SucceedsIn S.Store tx.old.conn.now tx.new.conn.now result
+    ensures { Runs S.Store tx.old.conn tx.new.conn result
         (Makes desk_layout (each_edit_from mark_entry_edit place run.now)) }
-    ensures keeps { KeepsCommitted S.Store tx.old.conn.now tx.new.conn.now }
-    ensures survives { LeavesNothingNew S.Store tx.old.conn.now tx.new.conn.now }
 {
     let before = place - first.index;
     let last = last_index(before, first.index, run.len())?;

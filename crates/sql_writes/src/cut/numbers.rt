@@ -4,7 +4,7 @@
 ghost use Rattle.std.specs.Prelude.{◌≡◌, ◌≤◌, ◌<◌, ◌+◌, IfOk, OnOk};
 ghost use Rattle.ach_fields.specs.Trace.{most_sequence};
 ghost use Rattle.sql_statements.specs.Transactions.{Makes};
-ghost use Rattle.sql_statements.specs.Promises.{SucceedsIn, KeepsCommitted, LeavesNothingNew};
+ghost use Rattle.sql_statements.specs.Promises.{Runs};
 ghost use Rattle.sql_tables.specs.Layout.{desk_layout};
 ghost use Rattle.sql_writes.specs.PlaceEdits.{put_number_edit, follows_in_sequence, clear_numbers_edit, insert_number_edit};
 
@@ -67,11 +67,8 @@ fn last_sequence(from: u64, many: usize) -> Result<u64, Error>
 
 // Takes out the numbers of a range of sequences.
 fn clear_numbers<S: Alter>(tx: &mut Transaction<'_, S>, from: u64, to: u64) -> Result<(), Error>
-    ensures same_reference { tx.new.conn.ghost_name ≡ tx.old.conn.ghost_name }
-    ensures makes { SucceedsIn S.Store tx.old.conn.now tx.new.conn.now result
+    ensures { Runs S.Store tx.old.conn tx.new.conn result
         (Makes desk_layout (clear_numbers_edit from to)) }
-    ensures keeps { KeepsCommitted S.Store tx.old.conn.now tx.new.conn.now }
-    ensures survives { LeavesNothingNew S.Store tx.old.conn.now tx.new.conn.now }
 {
     let first = natural(from)?;
     let last = natural(to)?;

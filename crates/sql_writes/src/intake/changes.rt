@@ -1,7 +1,6 @@
 //! The notifications of change of an incoming file are written.
-ghost use Rattle.std.specs.Prelude.{◌≡◌};
 ghost use Rattle.sql_statements.specs.Transactions.{Makes};
-ghost use Rattle.sql_statements.specs.Promises.{SucceedsIn, KeepsCommitted, LeavesNothingNew};
+ghost use Rattle.sql_statements.specs.Promises.{Runs};
 ghost use Rattle.sql_tables.specs.Layout.{desk_layout};
 ghost use Rattle.sql_tables.specs.TableEdits.{put_change_edit, each_edit_on, next_number};
 
@@ -16,12 +15,9 @@ pub(crate) fn put_changes<S: Alter>(
     tx: &mut Transaction<'_, S>,
     changed: &[ChangedRow],
 ) -> Result<(), Error>
-    ensures same_reference { tx.new.conn.ghost_name ≡ tx.old.conn.ghost_name }
-    ensures makes { SucceedsIn S.Store tx.old.conn.now tx.new.conn.now result
+    ensures { Runs S.Store tx.old.conn tx.new.conn result
         (Makes desk_layout
         (each_edit_on (λ t. next_number (λ c. c.number) t.changes) put_change_edit changed.now)) }
-    ensures keeps { KeepsCommitted S.Store tx.old.conn.now tx.new.conn.now }
-    ensures survives { LeavesNothingNew S.Store tx.old.conn.now tx.new.conn.now }
 {
     let first = next_after(tx, NumberedTable::Changes)?;
     run_each(tx, &ChangeRows, first, changed)?;

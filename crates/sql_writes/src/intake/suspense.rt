@@ -1,7 +1,6 @@
 //! The items of an incoming file that name no sent entry are written.
-ghost use Rattle.std.specs.Prelude.{◌≡◌};
 ghost use Rattle.sql_statements.specs.Transactions.{Makes};
-ghost use Rattle.sql_statements.specs.Promises.{SucceedsIn, KeepsCommitted, LeavesNothingNew};
+ghost use Rattle.sql_statements.specs.Promises.{Runs};
 ghost use Rattle.sql_tables.specs.Layout.{desk_layout};
 ghost use Rattle.sql_tables.specs.TableEdits.{put_suspense_edit, each_edit_on, next_number};
 
@@ -16,12 +15,9 @@ pub(crate) fn put_suspense<S: Alter>(
     tx: &mut Transaction<'_, S>,
     suspense: &[SuspenseRow],
 ) -> Result<(), Error>
-    ensures same_reference { tx.new.conn.ghost_name ≡ tx.old.conn.ghost_name }
-    ensures makes { SucceedsIn S.Store tx.old.conn.now tx.new.conn.now result
+    ensures { Runs S.Store tx.old.conn tx.new.conn result
         (Makes desk_layout (each_edit_on
         (λ t. next_number (λ s. s.number) t.suspense) put_suspense_edit suspense.now)) }
-    ensures keeps { KeepsCommitted S.Store tx.old.conn.now tx.new.conn.now }
-    ensures survives { LeavesNothingNew S.Store tx.old.conn.now tx.new.conn.now }
 {
     let first = next_after(tx, NumberedTable::Suspense)?;
     run_each(tx, &SuspenseRows, first, suspense)?;

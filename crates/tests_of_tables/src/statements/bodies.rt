@@ -1,8 +1,7 @@
 //! Accounts and their lines stand in two tables, and these bodies write both.
-ghost use Rattle.std.specs.Prelude.{◌≡◌};
-ghost use Rattle.sqlite.specs.Held.{state};
-ghost use Rattle.sqlite.specs.State.{HasCleanDisk, Survives, KeepsCommit};
+ghost use Rattle.std.specs.Prelude.{⊤};
 ghost use Rattle.sql_statements.specs.Edits.{no_edit};
+ghost use Rattle.sql_statements.specs.Promises.{Runs};
 ghost use Rattle.tests_of_tables.specs.Untold.{untold};
 
 use sql_statements::{
@@ -104,11 +103,7 @@ impl TransactionBody for Nothing {
 
 /// Gives the number of the last line, 0 before the first.
 fn last_line<S: Alter>(tx: &mut Transaction<'_, S>) -> Result<i64, Error>
-    ensures same_reference { tx.new.conn.ghost_name ≡ tx.old.conn.ghost_name }
-    ensures keeps { HasCleanDisk (state S.Store tx.new.conn.now) →
-        KeepsCommit (state S.Store tx.old.conn.now) (state S.Store tx.new.conn.now) }
-    ensures survives { Survives (state S.Store tx.old.conn.now) (state S.Store tx.new.conn.now)
-        (λ _. ⊥) }
+    ensures { Runs S.Store tx.old.conn tx.new.conn result (λ _ _. ⊤) }
 {
     match query_first_inside(tx, "SELECT no FROM lines ORDER BY no DESC LIMIT 1", &[])? {
         None => Ok(0),
@@ -118,11 +113,7 @@ fn last_line<S: Alter>(tx: &mut Transaction<'_, S>) -> Result<i64, Error>
 
 /// Gives the number of lines.
 fn line_count<S: Alter>(tx: &mut Transaction<'_, S>) -> Result<i64, Error>
-    ensures same_reference { tx.new.conn.ghost_name ≡ tx.old.conn.ghost_name }
-    ensures keeps { HasCleanDisk (state S.Store tx.new.conn.now) →
-        KeepsCommit (state S.Store tx.old.conn.now) (state S.Store tx.new.conn.now) }
-    ensures survives { Survives (state S.Store tx.old.conn.now) (state S.Store tx.new.conn.now)
-        (λ _. ⊥) }
+    ensures { Runs S.Store tx.old.conn tx.new.conn result (λ _ _. ⊤) }
 {
     let rows = query_inside(tx, "SELECT no FROM lines ORDER BY no", &[])?;
     match i64::try_from(rows.len()) {
@@ -133,11 +124,7 @@ fn line_count<S: Alter>(tx: &mut Transaction<'_, S>) -> Result<i64, Error>
 
 /// Gives what `NextLine` writes.
 fn next_line<S: Alter>(tx: &mut Transaction<'_, S>) -> Result<(i64, i64), Error>
-    ensures same_reference { tx.new.conn.ghost_name ≡ tx.old.conn.ghost_name }
-    ensures keeps { HasCleanDisk (state S.Store tx.new.conn.now) →
-        KeepsCommit (state S.Store tx.old.conn.now) (state S.Store tx.new.conn.now) }
-    ensures survives { Survives (state S.Store tx.old.conn.now) (state S.Store tx.new.conn.now)
-        (λ _. ⊥) }
+    ensures { Runs S.Store tx.old.conn tx.new.conn result (λ _ _. ⊤) }
 {
     let last = last_line(tx)?;
     let count = line_count(tx)?;

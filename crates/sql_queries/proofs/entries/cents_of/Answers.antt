@@ -1,4 +1,4 @@
-use Rattle.std.proofs.Common.{◌∷◌, []}
+use Rattle.std.proofs.Common.{rules, ◌∷◌, []}
 use Rattle.sql_tables.specs.Columns.{number}
 use Rattle.sql_queries.proofs.EntriesShown.{cents_shown}
 use Rattle.sql_queries.proofs.Found.{one_found}
@@ -9,5 +9,9 @@ use Rattle.sql_queries.proofs.entries.cents_of.Goals as goal
 pub cell_of-requires : goal.cell_of-requires
 cell_of-requires g c = cents_is.selects
 
-pub returns-in-Some-clause-answer : goal.returns-in-Some-clause-answer
-returns-in-Some-clause-answer g c clean = one_found (λ n. number n ∷ []) number_columns (cents_shown c.args.company c.args.order) (rw (c.characters.ensures, c.bytes.ensures.value, c.in_ok-natural.ensures) at (c.in_ok-cents.ensures.answer clean)) c.in-Some.is
+pub returns-in-Some : goal.returns-in-Some
+returns-in-Some g c = record {
+  answer = λ clean. one_found (λ n. number n ∷ []) number_columns (cents_shown c.args.company c.args.order) (rw (c.characters.ensures, c.bytes.ensures.value, c.in_ok-natural.ensures) at (c.in_ok-cents.ensures.asked.answer clean)) c.in-Some.is;
+  stays = search rules;
+  survives = search rules;
+}

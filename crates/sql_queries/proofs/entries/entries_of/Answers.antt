@@ -1,3 +1,4 @@
+use Rattle.std.proofs.Common.{rules}
 use Rattle.std.proofs.lemmas.Result.{IfOk-weaker}
 use Rattle.sql_queries.proofs.EntriesShown.{entries_shown}
 use Rattle.sql_queries.proofs.Found.{all_found}
@@ -8,5 +9,9 @@ use Rattle.sql_queries.proofs.entries.entries_of.Goals as goal
 pub all_of-requires : goal.all_of-requires
 all_of-requires g c = entries_is.selects
 
-pub returns-clause-answer : goal.returns-clause-answer
-returns-clause-answer g c clean = IfOk-weaker c.all_of.result _ _ (λ x read. all_found _ numbered_entry_rows (entries_shown c.args.company c.args.order) (rw (c.characters.ensures, c.bytes.ensures.value, c.in_ok-natural.ensures) at read)) (c.all_of.ensures.answer clean)
+pub returns : goal.returns
+returns g c = record {
+  answer = λ clean. IfOk-weaker c.all_of.result _ _ (λ x read. all_found _ numbered_entry_rows (entries_shown c.args.company c.args.order) (rw (c.characters.ensures, c.bytes.ensures.value, c.in_ok-natural.ensures) at read)) (c.all_of.ensures.answer clean);
+  stays = search rules;
+  survives = search rules;
+}

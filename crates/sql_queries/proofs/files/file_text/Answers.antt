@@ -1,3 +1,4 @@
+use Rattle.std.proofs.Common.{rules}
 use Rattle.std.proofs.lemmas.Result.{IfOk-weaker}
 use Rattle.sql_queries.proofs.Found.{first_found}
 use Rattle.sql_queries.proofs.Injective.{blob_columns}
@@ -8,5 +9,9 @@ use Rattle.sql_queries.proofs.files.file_text.Goals as goal
 pub blob_of-requires : goal.blob_of-requires
 blob_of-requires g c = file_is.selects
 
-pub returns-clause-answer : goal.returns-clause-answer
-returns-clause-answer g c clean = IfOk-weaker c.blob_of.result _ _ (λ x read. first_found _ blob_columns (file_shown c.args.day c.args.modifier) (rw (c.date.ensures, c.characters.ensures) at read)) (c.blob_of.ensures.answer clean)
+pub returns : goal.returns
+returns g c = record {
+  answer = λ clean. IfOk-weaker c.blob_of.result _ _ (λ x read. first_found _ blob_columns (file_shown c.args.day c.args.modifier) (rw (c.date.ensures, c.characters.ensures) at read)) (c.blob_of.ensures.answer clean);
+  stays = search rules;
+  survives = search rules;
+}

@@ -1,3 +1,4 @@
+use Rattle.std.proofs.Common.{rules}
 use Rattle.std.proofs.lemmas.Result.{IfOk-weaker}
 use Rattle.sql_queries.proofs.SubmissionsShown.{authorization_shown}
 use Rattle.sql_queries.proofs.Found.{first_found}
@@ -8,5 +9,9 @@ use Rattle.sql_queries.proofs.submissions.authorization.Goals as goal
 pub cell_of-requires : goal.cell_of-requires
 cell_of-requires g c = authorization_is.selects
 
-pub returns-clause-answer : goal.returns-clause-answer
-returns-clause-answer g c clean = IfOk-weaker c.cell_of.result _ _ (λ x read. first_found _ number_columns (authorization_shown c.args.company c.args.order) (rw (c.characters.ensures, c.bytes.ensures.value, c.in_ok-natural.ensures) at read)) (c.cell_of.ensures.answer clean)
+pub returns : goal.returns
+returns g c = record {
+  answer = λ clean. IfOk-weaker c.cell_of.result _ _ (λ x read. first_found _ number_columns (authorization_shown c.args.company c.args.order) (rw (c.characters.ensures, c.bytes.ensures.value, c.in_ok-natural.ensures) at read)) (c.cell_of.ensures.asked.answer clean);
+  stays = search rules;
+  survives = search rules;
+}

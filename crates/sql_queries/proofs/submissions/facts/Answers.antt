@@ -1,3 +1,4 @@
+use Rattle.std.proofs.Common.{rules}
 use Rattle.std.proofs.lemmas.Result.{IfOk-weaker}
 use Rattle.sql_queries.proofs.SubmissionsShown.{facts_shown}
 use Rattle.sql_queries.proofs.Found.{first_found}
@@ -8,5 +9,9 @@ use Rattle.sql_queries.proofs.submissions.facts.Goals as goal
 pub first_of-requires : goal.first_of-requires
 first_of-requires g c = facts_is.selects
 
-pub returns-clause-answer : goal.returns-clause-answer
-returns-clause-answer g c clean = IfOk-weaker c.first_of.result _ _ (λ x read. first_found _ submission_facts_rows (facts_shown c.args.company c.args.order) (rw (c.characters.ensures, c.bytes.ensures.value, c.in_ok-natural.ensures) at read)) (c.first_of.ensures.answer clean)
+pub returns : goal.returns
+returns g c = record {
+  answer = λ clean. IfOk-weaker c.first_of.result _ _ (λ x read. first_found _ submission_facts_rows (facts_shown c.args.company c.args.order) (rw (c.characters.ensures, c.bytes.ensures.value, c.in_ok-natural.ensures) at read)) (c.first_of.ensures.answer clean);
+  stays = search rules;
+  survives = search rules;
+}

@@ -1,3 +1,4 @@
+use Rattle.std.proofs.Common.{rules}
 use Rattle.std.proofs.lemmas.Result.{IfOk-weaker}
 use Rattle.sql_queries.proofs.SubmissionsShown.{retries_shown}
 use Rattle.sql_queries.proofs.Found.{all_found}
@@ -8,5 +9,9 @@ use Rattle.sql_queries.proofs.submissions.retries.Goals as goal
 pub all_of-requires : goal.all_of-requires
 all_of-requires g c = retries_is.selects
 
-pub returns-clause-answer : goal.returns-clause-answer
-returns-clause-answer g c clean = IfOk-weaker c.all_of.result _ _ (λ x read. all_found _ submission_head_rows (retries_shown c.args.company c.args.of c.args.index) (rw (c.characters.ensures, c.bytes.ensures.value, c.characters-2.ensures, c.bytes-2.ensures.value, c.in_ok-natural.ensures) at read)) (c.all_of.ensures.answer clean)
+pub returns : goal.returns
+returns g c = record {
+  answer = λ clean. IfOk-weaker c.all_of.result _ _ (λ x read. all_found _ submission_head_rows (retries_shown c.args.company c.args.of c.args.index) (rw (c.characters.ensures, c.bytes.ensures.value, c.characters-2.ensures, c.bytes-2.ensures.value, c.in_ok-natural.ensures) at read)) (c.all_of.ensures.answer clean);
+  stays = search rules;
+  survives = search rules;
+}

@@ -1,3 +1,4 @@
+use Rattle.std.proofs.Common.{rules}
 use Rattle.std.proofs.lemmas.Result.{IfOk-weaker}
 use Rattle.sql_queries.proofs.SubmissionsShown.{settled_submissions_shown}
 use Rattle.sql_queries.proofs.Found.{all_found}
@@ -8,5 +9,9 @@ use Rattle.sql_queries.proofs.submissions.settled_submissions.Goals as goal
 pub all_of-requires : goal.all_of-requires
 all_of-requires g c = settled_submissions_is.selects
 
-pub returns-clause-answer : goal.returns-clause-answer
-returns-clause-answer g c clean = IfOk-weaker c.all_of.result _ _ (λ x read. all_found _ submission_head_rows (settled_submissions_shown c.args.company c.args.since) (rw (c.characters.ensures, c.bytes.ensures.value, c.in_ok-natural.ensures) at read)) (c.all_of.ensures.answer clean)
+pub returns : goal.returns
+returns g c = record {
+  answer = λ clean. IfOk-weaker c.all_of.result _ _ (λ x read. all_found _ submission_head_rows (settled_submissions_shown c.args.company c.args.since) (rw (c.characters.ensures, c.bytes.ensures.value, c.in_ok-natural.ensures) at read)) (c.all_of.ensures.answer clean);
+  stays = search rules;
+  survives = search rules;
+}

@@ -17,12 +17,17 @@ loop-sql-preserved g c =
       same = search rules;
       made = λ clean blank.
           more_made (schema_of []) desk_definitions i old new c.in_ok-execute.field-0 all_are_made c.loop-sql-test.true (c.loop-sql.invariant.made (omega (arith, c.execute.ensures.survives.clean, clean)) blank)
-          (subst (λ sql. Executes sql [] old new (Ok c.in_ok-execute.field-0)) text (c.in_ok-execute.ensures.ran clean));
+          (subst (λ sql. Executes sql [] old new (Ok c.in_ok-execute.field-0)) text (c.in_ok-execute.ensures.makes clean).ran);
       keeps = search rules;
       survives = search rules;
     }
 
-pub returns-clause-makes : goal.returns-clause-makes
-returns-clause-makes g c clean blank =
-    let last : c.loop-sql.sql-index ≡ 20 = omega (arith, c.loop-sql-test.false, c.loop-sql.auto.sql-index-end) in
-    subst (λ n. IsBlank (schema_after (schema_of []) n desk_definitions) (state g.S.Store c.loop-sql.tx.conn.now).now) last (c.loop-sql.invariant.made clean blank)
+pub returns : goal.returns
+returns g c = record {
+  same_reference = search rules;
+  makes = λ clean blank.
+      let last : c.loop-sql.sql-index ≡ 20 = omega (arith, c.loop-sql-test.false, c.loop-sql.auto.sql-index-end) in
+      subst (λ n. IsBlank (schema_after (schema_of []) n desk_definitions) (state g.S.Store c.loop-sql.tx.conn.now).now) last (c.loop-sql.invariant.made clean blank);
+  keeps = search rules;
+  survives = search rules;
+}

@@ -14,7 +14,7 @@ returns-clause-shown g c clean =
     let to = c.query_first_inside.new.tx.conn.now in
     let after : HasCleanDisk (state g.S.Store c.rollback.new.self.0) = search rules in
     let before : HasCleanDisk (state g.S.Store to) = omega (arith, c.rollback.ensures.survives.clean, after) in
-    let found = c.in_ok-row.ensures.answer row_selects before in
+    let found = c.in_ok-row.ensures.makes before row_selects in
     let same = shown_same row_text [] (state g.S.Store from) (state g.S.Store to) found.0 (select_returns_none row_text row_selects) found.1 in
     let begun = c.transaction-tx.ensures.begun in (
       found.0,

@@ -41,16 +41,21 @@ batches-preserved g c =
     (subst (λ n. Makes layout (each_edit_from edit n batch) mid now) before.2 (c.in_ok-run_batch.ensures.makes clean)) in
     record { same = search rules; done = (done ++ batch, parts, at, made); keeps = search rules; survives = search rules }
 
-pub returns-clause-makes : goal.returns-clause-makes
-returns-clause-makes g c clean =
-    let layout = g.B.RowBody.layout in
-    let edit = g.B.RowBody.edit c.args.body.now in
-    let start = state g.S.Store c.args.tx.now.conn.now in
-    let mid = state g.S.Store c.batches.tx.conn.now in
-    let new = state g.S.Store c.run_each.new.tx.conn.now in
-    let before = c.batches.invariant.done in
-    let rest = c.batches.rest.now in
-    subst (λ l. Makes layout (each_edit_from edit c.args.first l) start new) (sym before.1)
-    (makes_all_from layout edit c.args.first before.0 rest start mid new
-    (before.3 (omega (arith, c.run_each.ensures.survives.clean, clean)))
-    (subst (λ n. Makes layout (each_edit_from edit n rest) mid new) before.2 (c.in_ok-run_each.ensures.makes clean)))
+pub returns : goal.returns
+returns g c = record {
+  same_reference = search rules;
+  makes = λ clean.
+      let layout = g.B.RowBody.layout in
+      let edit = g.B.RowBody.edit c.args.body.now in
+      let start = state g.S.Store c.args.tx.now.conn.now in
+      let mid = state g.S.Store c.batches.tx.conn.now in
+      let new = state g.S.Store c.run_each.new.tx.conn.now in
+      let before = c.batches.invariant.done in
+      let rest = c.batches.rest.now in
+      subst (λ l. Makes layout (each_edit_from edit c.args.first l) start new) (sym before.1)
+      (makes_all_from layout edit c.args.first before.0 rest start mid new
+      (before.3 (omega (arith, c.run_each.ensures.survives.clean, clean)))
+      (subst (λ n. Makes layout (each_edit_from edit n rest) mid new) before.2 (c.in_ok-run_each.ensures.makes clean)));
+  keeps = search rules;
+  survives = search rules;
+}

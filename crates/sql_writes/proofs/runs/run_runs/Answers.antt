@@ -41,12 +41,17 @@ runs-preserved g c =
     (subst (λ n. Makes layout (each_edit_from edit n run) mid now) before.2 (c.in_ok-run_rows.ensures.makes clean)) in
     record { same = search rules; done = (done ++ run, parts, at, made); keeps = search rules; survives = search rules }
 
-pub returns-clause-makes : goal.returns-clause-makes
-returns-clause-makes g c clean =
-    let layout = g.B.RunBody.layout in
-    let edit = g.B.RunBody.edit c.args.body.now in
-    let start = state g.S.Store c.args.tx.now.conn.now in
-    let new = state g.S.Store c.runs.tx.conn.now in
-    let before = c.runs.invariant.done in
-    let none = none_left c.runs.rest.now (search rules) in
-    subst (λ l. Makes layout (each_edit_from edit c.args.first l) start new) (sym (before.1 ∙ ap (λ l. before.0 ++ l) none ∙ append-nil before.0)) (before.3 clean)
+pub returns : goal.returns
+returns g c = record {
+  same_reference = search rules;
+  makes = λ clean.
+      let layout = g.B.RunBody.layout in
+      let edit = g.B.RunBody.edit c.args.body.now in
+      let start = state g.S.Store c.args.tx.now.conn.now in
+      let new = state g.S.Store c.runs.tx.conn.now in
+      let before = c.runs.invariant.done in
+      let none = none_left c.runs.rest.now (search rules) in
+      subst (λ l. Makes layout (each_edit_from edit c.args.first l) start new) (sym (before.1 ∙ ap (λ l. before.0 ++ l) none ∙ append-nil before.0)) (before.3 clean);
+  keeps = search rules;
+  survives = search rules;
+}

@@ -1,4 +1,4 @@
-use Rattle.std.proofs.Common.{◌≡◌, not, arith}
+use Rattle.std.proofs.Common.{rules, ◌≡◌, not, arith}
 use Rattle.std.specs.List.{position_or_len}
 use Rattle.std.proofs.lemmas.List.Sums.{prefix_len-le-length}
 use Rattle.sqlite.specs.Held.{state}
@@ -7,9 +7,13 @@ use Rattle.sql_writes.specs.PendingBalances.{is_pending_of}
 use Rattle.sql_writes.proofs.PendingSums.{but_same}
 use Rattle.sql_writes.proofs.account_lines.pending.add_line.Goals as goal
 
-pub returns-then-at-len-clause-makes : goal.returns-then-at-len-clause-makes
-returns-then-at-len-clause-makes g c clean =
-    but_same c.args.pending.now.items c.add_there.new.pending.items (with_line c.args.line.now) (state g.S.Store c.args.tx.now.conn.now) c.in_ok-add_there.ensures
+pub returns-then-at-len : goal.returns-then-at-len
+returns-then-at-len g c = record {
+  same_reference = search rules;
+  makes = λ clean. but_same c.args.pending.now.items c.add_there.new.pending.items (with_line c.args.line.now) (state g.S.Store c.args.tx.now.conn.now) c.in_ok-add_there.ensures;
+  keeps = search rules;
+  survives = search rules;
+}
 
 pub add_new-requires : goal.add_new-requires
 add_new-requires g c =

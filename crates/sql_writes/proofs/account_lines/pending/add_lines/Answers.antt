@@ -32,15 +32,20 @@ loop-line-preserved g c =
     (but_line (take i lines) line c.loop-line.pending.items c.add_line.new.pending.items start mid now (c.loop-line.invariant.made (omega (arith, c.add_line.ensures.survives.clean, clean))) (c.in_ok-add_line.ensures.makes clean)) in
     record { same = search rules; made = made; keeps = search rules; survives = search rules }
 
-pub returns-clause-makes : goal.returns-clause-makes
-returns-clause-makes g c clean =
-    let start = state g.S.Store c.args.tx.now.conn.now in
-    let mid = state g.S.Store c.loop-line.tx.conn.now in
-    let new = state g.S.Store c.write_all.new.tx.conn.now in
-    let pending = c.loop-line.pending.items in
-    let lines = c.args.lines.now in
-    let before : HasCleanDisk mid = omega (arith, c.write_all.ensures.survives.clean, clean) in
-    let all : take c.loop-line.line-index lines ≡ lines = take_all c.loop-line.line-index lines (omega (arith, c.loop-line-test.false)) in
-    but_none (with_lines lines) start new
-    (but_then [] pending [] (with_lines lines) (λ balances. balances) start mid new
-    (subst (λ l. MakesBut [] pending (with_lines l) start mid) all (c.loop-line.invariant.made before)) (c.in_ok-write_all.ensures.makes clean))
+pub returns : goal.returns
+returns g c = record {
+  same_reference = search rules;
+  makes = λ clean.
+      let start = state g.S.Store c.args.tx.now.conn.now in
+      let mid = state g.S.Store c.loop-line.tx.conn.now in
+      let new = state g.S.Store c.write_all.new.tx.conn.now in
+      let pending = c.loop-line.pending.items in
+      let lines = c.args.lines.now in
+      let before : HasCleanDisk mid = omega (arith, c.write_all.ensures.survives.clean, clean) in
+      let all : take c.loop-line.line-index lines ≡ lines = take_all c.loop-line.line-index lines (omega (arith, c.loop-line-test.false)) in
+      but_none (with_lines lines) start new
+      (but_then [] pending [] (with_lines lines) (λ balances. balances) start mid new
+      (subst (λ l. MakesBut [] pending (with_lines l) start mid) all (c.loop-line.invariant.made before)) (c.in_ok-write_all.ensures.makes clean));
+  keeps = search rules;
+  survives = search rules;
+}

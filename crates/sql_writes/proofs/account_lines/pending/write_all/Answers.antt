@@ -22,7 +22,7 @@ writes-preserved g c =
       same = search rules;
       made = λ clean.
           but_then c.args.pending.now.items c.writes.pending.items c.write_last.new.pending.items (λ balances. balances) (λ balances. balances) start mid now
-          (c.writes.invariant.made (omega (arith, c.write_last.ensures.survives.clean, clean))) (c.in_ok-write_last.ensures.makes clean);
+          (c.writes.invariant.made (omega (arith, c.write_last.ensures.runs.survives.clean, clean))) (c.in_ok-write_last.ensures.runs.makes clean);
       keeps = search rules;
       survives = search rules;
     }

@@ -2,6 +2,7 @@ use Rattle.std.proofs.Common.{◌≡◌, map, ap, ◌∙◌}
 use Rattle.sqlite.specs.Held.{state}
 use Rattle.sqlite.specs.Values.{bound}
 use Rattle.sql_statements.proofs.Edits.{makes_of}
+use Rattle.sql_statements.proofs.Inside.{inside_as}
 use Rattle.sql_statements.specs.Edits.{each_edit_from}
 use Rattle.sql_tables.specs.Layout.{desk_layout}
 use Rattle.sql_tables.specs.TableEdits.{put_entry_edit}
@@ -9,8 +10,10 @@ use Rattle.sql_writes.specs.EntryEdits.{held_rows, stored_values}
 use Rattle.sql_writes.proofs.EntryInserts.{bound_rows, entries_put}
 use Rattle.sql_writes.proofs.entries.EntryRowsBatchBody.run_batch.Goals as goal
 
-pub returns-clause-makes : goal.returns-clause-makes
-returns-clause-makes g c clean =
+pub returns : goal.returns
+returns g c =
+    inside_as g.S.Store
+    (λ told clean.
     let b = c.args.self.now in
     let first = c.args.first in
     let entries = c.args.entries.now in
@@ -18,6 +21,6 @@ returns-clause-makes g c clean =
     let new = state g.S.Store c.execute.new.tx.conn.now in
     let values = c.values_of_all-values.result in
     let are : map bound values ≡ map stored_values (held_rows b.company b.order first entries) = c.values_of_all-values.ensures ∙ ap (map stored_values) c.in_ok-rows.ensures in
-    let ran = rw (c.as_flattened.ensures.value, bound_rows b.company b.order first entries values are) at (c.in_ok-execute.ensures.ran clean) in
-    makes_of desk_layout (each_edit_from (put_entry_edit b.company b.order) first entries) old new (c.in_ok-execute.ensures.shown clean)
-    (entries_put b.company b.order first entries c.requires.many old new c.in_ok-execute.field-0 ran)
+    let ran = rw (c.as_flattened.ensures.value, bound_rows b.company b.order first entries values are) at (told clean).ran in
+    makes_of desk_layout (each_edit_from (put_entry_edit b.company b.order) first entries) old new (told clean).shown
+    (entries_put b.company b.order first entries c.requires.many old new c.in_ok-execute.field-0 ran)) c.in_ok-execute.ensures

@@ -1,16 +1,19 @@
 use Rattle.sqlite.specs.Held.{state}
 use Rattle.sql_statements.proofs.Edits.{makes_of}
+use Rattle.sql_statements.proofs.Inside.{inside_as}
 use Rattle.sql_tables.specs.Layout.{desk_layout}
 use Rattle.sql_tables.specs.TableEdits.{put_entry_edit}
 use Rattle.sql_writes.proofs.EntryInserts.{numbered_record}
 use Rattle.sql_writes.proofs.SubmissionRows.{entry_put}
 use Rattle.sql_writes.proofs.entries.EntryRowsRowBody.run_row.Goals as goal
 
-pub returns-clause-makes : goal.returns-clause-makes
-returns-clause-makes g c clean =
+pub returns : goal.returns
+returns g c =
+    inside_as g.S.Store
+    (λ told clean.
     let b = c.args.self.now in
     let old = state g.S.Store c.args.tx.now.conn.now in
     let new = state g.S.Store c.execute.new.tx.conn.now in
-    let ran = rw (c.values_of-values.ensures, c.in_ok-row.ensures) at (c.in_ok-execute.ensures.ran clean) in
-    makes_of desk_layout (put_entry_edit b.company b.order c.args.number c.args.entry.now) old new (c.in_ok-execute.ensures.shown clean)
-    (entry_put (numbered_record b.company b.order (c.args.number, c.args.entry.now)) old new c.in_ok-execute.field-0 ran)
+    let ran = rw (c.values_of-values.ensures, c.in_ok-row.ensures) at (told clean).ran in
+    makes_of desk_layout (put_entry_edit b.company b.order c.args.number c.args.entry.now) old new (told clean).shown
+    (entry_put (numbered_record b.company b.order (c.args.number, c.args.entry.now)) old new c.in_ok-execute.field-0 ran)) c.in_ok-execute.ensures

@@ -4,6 +4,7 @@ use Rattle.std.proofs.lemmas.List.{take_more, take_more_set, take_all, map-appen
 use Rattle.sqlite.specs.Held.{state}
 use Rattle.sqlite.specs.Values.{bound}
 use Rattle.sql_statements.proofs.Edits.{makes_of}
+use Rattle.sql_statements.proofs.Inside.{inside_as}
 use Rattle.sql_statements.specs.Edits.{each_edit_from}
 use Rattle.sql_tables.proofs.KeptRows.{numbered_append}
 use Rattle.sql_tables.specs.Description.{as_row}
@@ -36,8 +37,10 @@ loop-at-preserved g c =
     let left : map bound (take (at + 1) (slice_set values at one)) ≡ map bound (take at values) ++ bound one ∷ [] = ap (map bound) set ∙ map-append bound (take at values) (one ∷ []) in
     record { long = search rules; made = left ∙ ap₂ (λ l v. l ++ v ∷ []) c.loop-at.invariant.made bound_one ∙ sym next }
 
-pub returns-clause-makes : goal.returns-clause-makes
-returns-clause-makes g c clean =
+pub returns : goal.returns
+returns g c =
+    inside_as g.S.Store
+    (λ told clean.
     let at = c.loop-at.at in
     let values = c.loop-at.values in
     let first = c.args.first in
@@ -47,6 +50,6 @@ returns-clause-makes g c clean =
     let all_values : take at values ≡ values = take_all at values (omega (arith, c.loop-at.invariant.long, c.loop-at-test.false)) in
     let all_entries : take at entries ≡ entries = take_all at entries (search rules) in
     let are : map bound values ≡ map (as_row the.sequences) (numbers_from first entries) = ap (map bound) (sym all_values) ∙ c.loop-at.invariant.made ∙ ap (λ es. map (as_row the.sequences) (numbers_from first es)) all_entries in
-    let ran = rw (c.as_flattened.ensures.value, bound_numbers first entries values are) at (c.in_ok-execute.ensures.ran clean) in
-    makes_of desk_layout (each_edit_from insert_number_edit first entries) old new (c.in_ok-execute.ensures.shown clean)
-    (numbers_inserted first entries c.requires.many old new c.in_ok-execute.field-0 ran)
+    let ran = rw (c.as_flattened.ensures.value, bound_numbers first entries values are) at (told clean).ran in
+    makes_of desk_layout (each_edit_from insert_number_edit first entries) old new (told clean).shown
+    (numbers_inserted first entries c.requires.many old new c.in_ok-execute.field-0 ran)) c.in_ok-execute.ensures
