@@ -1,9 +1,8 @@
 //! What is tried is cut off at each call of a file in turn.
 use super::exchanges::count_answers;
 use super::limits::{Harm, Which, limits_of};
-use super::scripts::{DAYS, RETRIES};
 use super::tears::{garbage_of, half_of_write};
-use super::trials::{Trial, attempt, is_ahead, migration, new_desk, session_of};
+use super::trials::{Trial, attempt, days, is_ahead, migration, new_desk, retries};
 use super::visits::Visited;
 use std::alloc::Global;
 use std::process::Abort;
@@ -146,60 +145,71 @@ fn bear(
 }
 
 // A message is written to the log before it is synced there, and answered after.
+fn log_stops(rt: &(impl Abort + Alloc<A = Global>), trial: &Trial) {
+    let found = bear(rt, trial, Which::Log, Harm::Stops);
+    assert!(rt; found.unanswered == trial.script.changes);
+    assert!(rt; found.torn >= trial.script.changes);
+}
+
 #[test]
 fn the_log_stops(rt: HostRuntime) {
-    let found = bear(&rt, &session_of(&rt, DAYS), Which::Log, Harm::Stops);
-    assert!(rt; found.unanswered == DAYS.changes);
-    assert!(rt; found.torn >= DAYS.changes);
+    log_stops(&rt, &days(&rt));
 }
 
 #[test]
 fn the_database_file_stops(rt: HostRuntime) {
-    let found = bear(&rt, &session_of(&rt, DAYS), Which::Db, Harm::Stops);
+    let found = bear(&rt, &days(&rt), Which::Db, Harm::Stops);
     assert!(rt; found.torn > 0);
 }
 
 #[test]
 fn the_log_stops_while_a_debit_is_tried_again(rt: HostRuntime) {
-    let found = bear(&rt, &session_of(&rt, RETRIES), Which::Log, Harm::Stops);
-    assert!(rt; found.unanswered == RETRIES.changes);
-    assert!(rt; found.torn >= RETRIES.changes);
+    log_stops(&rt, &retries(&rt));
 }
 
 #[test]
 fn the_database_file_stops_while_a_debit_is_tried_again(rt: HostRuntime) {
-    let found = bear(&rt, &session_of(&rt, RETRIES), Which::Db, Harm::Stops);
+    let found = bear(&rt, &retries(&rt), Which::Db, Harm::Stops);
     assert!(rt; found.torn > 0);
 }
 
-// A desk is closed after it was made, which takes calls of both files.
+// A desk is closed after it was made or migrated, which takes calls of both files.
+fn stops(rt: &(impl Abort + Alloc<A = Global>), trial: &Trial, which: Which) {
+    let found = bear(rt, trial, which, Harm::Stops);
+    assert!(rt; found.ahead > 1 && found.behind > 0 && found.torn > 0);
+}
+
 #[test]
 fn a_file_of_a_new_desk_stops(rt: HostRuntime) {
     let trial = new_desk(&rt);
-    for which in [Which::Log, Which::Db] {
-        let found = bear(&rt, &trial, which, Harm::Stops);
-        assert!(rt; found.ahead > 1 && found.behind > 0 && found.torn > 0);
-    }
+    stops(&rt, &trial, Which::Log);
+    stops(&rt, &trial, Which::Db);
 }
 
-// A desk is closed after it was migrated, which takes calls of both files.
 #[test]
 fn a_file_stops_while_a_desk_is_migrated(rt: HostRuntime) {
     let trial = migration(&rt);
-    for which in [Which::Log, Which::Db] {
-        let found = bear(&rt, &trial, which, Harm::Stops);
-        assert!(rt; found.ahead > 1 && found.behind > 0 && found.torn > 0);
-    }
+    stops(&rt, &trial, Which::Log);
+    stops(&rt, &trial, Which::Db);
+}
+
+// The file has no room for one write, or for none after it, at least so many times.
+fn has_no_room(
+    rt: &(impl Abort + Alloc<A = Global>),
+    trial: &Trial,
+    which: Which,
+    least: usize,
+) {
+    let once = bear(rt, trial, which, Harm::HasNoRoom(1));
+    let ever = bear(rt, trial, which, Harm::HasNoRoom(u64::MAX));
+    assert!(rt; once.times >= least);
+    assert!(rt; once.times == ever.times);
 }
 
 // Each message that changes something is written to the log.
 #[test]
 fn a_file_has_no_room(rt: HostRuntime) {
-    let trial = session_of(&rt, DAYS);
-    for (which, least) in [(Which::Log, DAYS.changes), (Which::Db, 1)] {
-        let once = bear(&rt, &trial, which, Harm::HasNoRoom(1));
-        let ever = bear(&rt, &trial, which, Harm::HasNoRoom(u64::MAX));
-        assert!(rt; once.times >= least);
-        assert!(rt; once.times == ever.times);
-    }
+    let trial = days(&rt);
+    has_no_room(&rt, &trial, Which::Log, trial.script.changes);
+    has_no_room(&rt, &trial, Which::Db, 1);
 }

@@ -3,7 +3,7 @@
 use super::exchanges::{add, add_answers, add_requests, add_second_answers};
 use super::images::Image;
 use super::limits::Both;
-use super::scripts::{DAYS, Exchange, Script};
+use super::scripts::{DAYS, Exchange, RETRIES, Script};
 use super::tasks::Task;
 use super::visits::{Visited, free_visit, visit};
 use sql_setup::OpenFault;
@@ -79,8 +79,8 @@ fn course_of(
     all
 }
 
-/// A new desk answers the messages.
-pub(super) fn session_of(rt: &(impl Abort + Alloc<A = Global>), script: Script) -> Trial {
+// A new desk answers the messages.
+fn session_of(rt: &(impl Abort + Alloc<A = Global>), script: Script) -> Trial {
     let image = image_after(rt, &Image::empty(rt), &[Task::Make]);
     let tables = course_of(rt, &image, script.messages);
     Trial {
@@ -89,6 +89,16 @@ pub(super) fn session_of(rt: &(impl Abort + Alloc<A = Global>), script: Script) 
         image,
         tables,
     }
+}
+
+/// A new desk answers the messages of some days.
+pub(super) fn days(rt: &(impl Abort + Alloc<A = Global>)) -> Trial {
+    session_of(rt, DAYS)
+}
+
+/// A new desk answers messages of which one tries a debit again.
+pub(super) fn retries(rt: &(impl Abort + Alloc<A = Global>)) -> Trial {
+    session_of(rt, RETRIES)
 }
 
 /// A desk is made where there is none.
@@ -106,15 +116,25 @@ pub(super) fn new_desk(rt: &(impl Abort + Alloc<A = Global>)) -> Trial {
     trial
 }
 
+// The files of a desk of version 1 that answered the messages.
+fn image_of_first_version(
+    rt: &(impl Abort + Alloc<A = Global>),
+    image: &Image,
+    input: &[u8],
+) -> Image {
+    let tasks = [Task::Answer(input), Task::Run(TO_FIRST_VERSION)];
+    let image = image_after(rt, image, &tasks);
+    let told = free_visit(rt, &image, &[Task::Check]).fault;
+    assert!(rt; told == Some(OpenFault::WrongVersion(1)));
+    image
+}
+
 /// A desk of version 1 is migrated.
 pub(super) fn migration(rt: &(impl Abort + Alloc<A = Global>)) -> Trial {
-    let mut trial = session_of(rt, DAYS);
+    let mut trial = days(rt);
     let input = requests(rt, trial.script.messages);
-    let tasks = [Task::Answer(&input), Task::Run(TO_FIRST_VERSION)];
     trial.kind = Kind::Migration;
-    trial.image = image_after(rt, &trial.image, &tasks);
-    let told = free_visit(rt, &trial.image, &[Task::Check]).fault;
-    assert!(rt; told == Some(OpenFault::WrongVersion(1)));
+    trial.image = image_of_first_version(rt, &trial.image, &input);
     trial
 }
 
@@ -159,6 +179,11 @@ fn expected_output(
     out
 }
 
+// The tables, the answers to the messages, and the tables after them.
+fn output_around(rt: &(impl Abort + Alloc<A = Global>), image: &Image, input: &[u8]) -> Vec<u8> {
+    output_of(rt, image, &[Task::Read, Task::Answer(input), Task::Read])
+}
+
 // What a desk tells that gets the messages that were not answered, and then once more all that was accepted.
 fn output_after(
     rt: &(impl Abort + Alloc<A = Global>),
@@ -168,7 +193,7 @@ fn output_after(
 ) -> Vec<u8> {
     let mut input = requests(rt, trial.script.messages.get(answered..).unwrap_or(&[]));
     add_requests(rt, &mut input, trial.script.accepted);
-    output_of(rt, image, &[Task::Read, Task::Answer(&input), Task::Read])
+    output_around(rt, image, &input)
 }
 
 /// The files have the tables after the messages that were answered, or after one more. From there on the
