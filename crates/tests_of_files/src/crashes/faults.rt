@@ -194,12 +194,7 @@ fn a_file_stops_while_a_desk_is_migrated(rt: HostRuntime) {
 }
 
 // The file has no room for one write, or for none after it, at least so many times.
-fn has_no_room(
-    rt: &(impl Abort + Alloc<A = Global>),
-    trial: &Trial,
-    which: Which,
-    least: usize,
-) {
+fn has_no_room(rt: &(impl Abort + Alloc<A = Global>), trial: &Trial, which: Which, least: usize) {
     let once = bear(rt, trial, which, Harm::HasNoRoom(1));
     let ever = bear(rt, trial, which, Harm::HasNoRoom(u64::MAX));
     assert!(rt; once.times >= least);

@@ -2,7 +2,7 @@
 use super::bank::{OPERATOR_DIGEST, identity};
 use super::commands::{ACCEPTED, COMMANDS, give, is_done};
 use crate::tables::add_tables;
-use desk_core::Desk;
+use desk_core::{Desk, Store};
 use desk_tables::{FileStore, OpenFault, SqlStore, Wary, create, migrate_file, open};
 use sqlite::{Alter, Connection, Error};
 use sqlite_disk::Disk;
@@ -23,14 +23,15 @@ pub(crate) enum Way {
 // function which passes one on or drops it takes the prover half a minute. None has a clause, so that
 // the proof of a test does not carry the state of each call.
 
-fn change<P: Alter + Drop>(
+// Runs these statements, and closes the files: then the database file has all that its log had.
+fn change<D: Disk + Drop>(
     rt: &impl Abort,
-    opened: Option<Connection<P>>,
+    opened: Option<Connection<FileStore<D>>>,
     sql: &str,
-) -> Result<Connection<P>, Error> {
+) -> Result<(), Error> {
     let mut conn = opened.expect(rt, "a database");
     conn.execute_batch(sql)?;
-    Ok(conn)
+    conn.close()
 }
 
 fn connection<P: Alter + Drop>(opened: Result<SqlStore<P>, OpenFault>) -> Option<Connection<P>> {
@@ -41,25 +42,34 @@ fn fault<D: Disk + Drop>(opened: Result<SqlStore<FileStore<D>>, OpenFault>) -> O
     opened.err()
 }
 
-fn close<D: Disk + Drop>(conn: Connection<FileStore<D>>) -> Result<(), Error> {
-    conn.close()
+// Gives the commands from this number on, and once more what is accepted again.
+fn give_all<S: Store>(rt: &(impl Abort + Alloc<A = Global>), desk: &mut Desk<S>, from: usize) {
+    assert!(rt; give(rt, desk, from) == COMMANDS);
+    for number in &ACCEPTED {
+        assert!(rt; is_done(rt, desk, *number));
+    }
 }
 
-// Gives the commands from this number on, and once more what is accepted again. The rows of all tables are
-// then these. The files are left as a program leaves them that ends at once.
+// The rows of all tables. The files are left as a program leaves them that ends at once.
+fn rows_of<P: Alter + Drop>(
+    rt: &impl Alloc<A = Global>,
+    store: SqlStore<P>,
+) -> Result<Vec<u8>, Error> {
+    let mut rows = Vec::new(rt.alloc());
+    let mut conn = store.into_connection();
+    add_tables(&mut conn, &mut rows)?;
+    Ok(rows)
+}
+
+// Gives the commands from this number on. The rows of all tables are then these.
 fn go_on<P: Alter + Drop>(
     rt: &(impl Abort + Alloc<A = Global>),
     opened: Option<SqlStore<P>>,
     from: usize,
-) -> Result<Vec<u8>, Fail> {
+) -> Result<Vec<u8>, Error> {
     let mut desk = Desk::new(opened.expect(rt, "a desk"));
-    assert!(rt; give(rt, &mut desk, from) == COMMANDS);
-    for number in &ACCEPTED {
-        assert!(rt; is_done(rt, &mut desk, *number));
-    }
-    let mut rows = Vec::new(rt.alloc());
-    add_tables(&mut desk.into_store().into_connection(), &mut rows)?;
-    Ok(rows)
+    give_all(rt, &mut desk, from);
+    rows_of(rt, desk.into_store())
 }
 
 /// Makes a desk in the file, and gives it the commands of some days. Its rows are then these.
@@ -67,27 +77,30 @@ pub(super) fn go_on_with_new(
     host: &HostRuntime,
     rt: &(impl Abort + Alloc<A = Global>),
     path: &str,
-) -> Result<Vec<u8>, Fail> {
-    let opened = create(host, path, Wary, identity(rt), OPERATOR_DIGEST);
-    go_on(rt, opened.ok(), 0)
+) -> Result<Vec<u8>, Error> {
+    go_on(
+        rt,
+        create(host, path, Wary, identity(rt), OPERATOR_DIGEST).ok(),
+        0,
+    )
 }
 
 fn go_on_with_found(
     host: &HostRuntime,
     rt: &(impl Abort + Alloc<A = Global>),
     path: &str,
-) -> Result<Vec<u8>, Fail> {
+) -> Result<Vec<u8>, Error> {
     go_on(rt, open(host, path, Wary).ok(), COMMANDS)
 }
 
-/// Opens a desk, runs these statements, and closes it: then the file has all that its log had.
+/// Opens a desk, runs these statements, and closes it.
 pub(super) fn change_desk(
     host: &HostRuntime,
     rt: &impl Abort,
     path: &str,
     sql: &str,
 ) -> Result<(), Error> {
-    close(change(rt, connection(open(host, path, Wary)), sql)?)
+    change(rt, connection(open(host, path, Wary)), sql)
 }
 
 fn change_database(
@@ -96,7 +109,7 @@ fn change_database(
     path: &str,
     sql: &str,
 ) -> Result<(), Error> {
-    close(change(rt, Connection::open(host, path).ok(), sql)?)
+    change(rt, Connection::open(host, path).ok(), sql)
 }
 
 /// Tells why a desk is not made, migrated or opened in the file.
