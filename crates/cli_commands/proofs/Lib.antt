@@ -6,4 +6,5 @@ pub mod PrefixLemmas
 pub mod PrintingLemmas
 pub mod RememberedRuns
 pub mod ServedLemmas
+pub mod SessionRuns
 pub mod VerdictLemmas

@@ -1,5 +1,5 @@
 -- A session with the desk of a store that begins to remember is one with the desk of the store.
-use Rattle.std.proofs.Common.{ℕ, List, Option, Result, Err, inl, inr}
+use Rattle.std.proofs.Common.{ℕ, List, Option, Result}
 use Rattle.desk_book.specs.Book.{Book}
 use Rattle.remembering_store.specs.Remembered.{HoldsKnown, KnowsNothing}
 use Rattle.remembering_store.specs.declared.known.Known.{Known}
@@ -7,6 +7,7 @@ use Rattle.http_session.specs.declared.sessions.Ended.{Ended}
 use Rattle.http_session.specs.declared.sessions.SessionFault.{SessionFault}
 use Rattle.desk_http.specs.Answering.{DeskHistory, StandsBehind}
 use Rattle.cli_commands.specs.StoreRuns.{BreaksOffFrom, RanFrom}
+use Rattle.cli_commands.proofs.SessionRuns.{breaks_off_from, ran_from}
 
 -- what the store stands for, it stands for where it remembers nothing yet
 pub stands_remembering : (holds : Book → Type 0) (known : Known) → KnowsNothing known → (h : DeskHistory) → StandsBehind holds h → StandsBehind (HoldsKnown holds known) h
@@ -21,30 +22,7 @@ module _ (clean : Type 0) (more stood stands fewer : DeskHistory → Type 0)
   -- a session is one from all that the desk stood for, if it is one from more, to what it stands for at least
   pub ran_for_less : (input old new : Option (List ℕ)) (ended : Result Ended SessionFault)
       → RanFrom clean more stands input old new ended → RanFrom clean stood fewer input old new ended
-  ran_for_less input old new ended ran =
-      let run = ran.1 in (
-        ran.0,
-        record {
-          first = run.first;
-          last = run.last;
-          taken = run.taken;
-          rest = run.rest;
-          final = run.final;
-          sent = run.sent;
-          takes = run.takes;
-          spelled = run.spelled;
-          few = run.few;
-          little = run.little;
-          sends = run.sends;
-          writes = run.writes;
-          goes_on = run.goes_on;
-          ending = run.ending;
-          answers = λ is_clean h is.
-              let follows = run.answers is_clean h (less h is) in
-              (follows.0, follows.1, within follows.0 follows.2);
-        },
-      )
+  ran_for_less = ran_from clean clean stood more stands fewer (λ c. c) (λ _. less) within
 
   pub breaks_for_less : (input old new : Option (List ℕ)) → BreaksOffFrom clean more stands input old new → BreaksOffFrom clean stood fewer input old new
-  breaks_for_less input old new (inl still) = inl (still.0, λ is_clean h is. within h (still.1 is_clean h (less h is)))
-  breaks_for_less input old new (inr broken) = inr (broken.0, ran_for_less input old new (Err broken.0) broken.1)
+  breaks_for_less = breaks_off_from clean clean stood more stands fewer (λ c. c) (λ _. less) within

@@ -4,21 +4,21 @@ use Rattle.clap.specs.Words.{Text}
 use Rattle.clap.specs.declared.error.kind.ErrorKind.TheVariants as kind
 use Rattle.clap.proofs.OnLiterals.{clap_on_literals}
 use Rattle.cli_words.specs.Arguments.{init_rules, serve_rules, submit_rules}
-use Rattle.cli_words.specs.CommandLine.{AnswerByFile, AnswerMessages, AnswerSubmission, Check, Init, Migrate, NamedCommand, Serve, Submit, kinds_at, named_check, named_command, named_init, named_migrate, named_serve, named_stdio, named_submit, spelled_out}
+use Rattle.cli_words.specs.CommandLine.{AnswerByFile, AnswerMessages, AnswerSubmission, Check, Init, Migrate, NamedCommand, Serve, Submit, kinds_at, named_by, named_command, spelled_out}
 
 no_words : named_command [] ≡ Some AnswerSubmission
 no_words = refl
 
 check_of_a_path : named_command (codes "check" ∷ codes "returns.ach" ∷ []) ≡ Some (Check (codes "returns.ach"))
-unfolding clap_on_literals named_check
+unfolding clap_on_literals named_by
 check_of_a_path = refl
 
 check_of_a_dash : named_command (codes "check" ∷ codes "--" ∷ codes "-h" ∷ []) ≡ Some (Check (codes "-h"))
-unfolding clap_on_literals named_check
+unfolding clap_on_literals named_by
 check_of_a_dash = refl
 
 check_of_two_paths : named_command (codes "check" ∷ codes "a" ∷ codes "b" ∷ []) ≡ None
-unfolding clap_on_literals named_check
+unfolding clap_on_literals named_by
 check_of_two_paths = refl
 
 help_of_the_program : kinds_at (codes "--help" ∷ []) ≡ kind.DisplayHelp ∷ []
@@ -76,15 +76,15 @@ pay = Submit (codes "pay.csv") (record {
 })
 
 submit_of_a_list : named_command (codes "submit" ∷ codes "pay.csv" ∷ pay_options) ≡ Some pay
-unfolding clap_on_literals named_submit submit_rules pay_options pay
+unfolding clap_on_literals named_by submit_rules pay_options pay
 submit_of_a_list = refl
 
 stdio_alone : named_command (codes "stdio" ∷ []) ≡ Some AnswerMessages
-unfolding clap_on_literals named_stdio
+unfolding clap_on_literals named_by
 stdio_alone = refl
 
 stdio_with_a_path : named_command (codes "stdio" ∷ codes "desk.db" ∷ []) ≡ Some (AnswerByFile (codes "desk.db"))
-unfolding clap_on_literals named_stdio
+unfolding clap_on_literals named_by
 stdio_with_a_path = refl
 
 stdio_with_two_paths : kinds_at (codes "stdio" ∷ codes "desk.db" ∷ codes "more.db" ∷ []) ≡ kind.UnknownArgument ∷ []
@@ -138,24 +138,24 @@ bank = Init (codes "desk.db") (record {
 })
 
 init_of_a_path : named_command (codes "init" ∷ codes "desk.db" ∷ bank_options) ≡ Some bank
-unfolding clap_on_literals named_init init_rules bank_options bank
+unfolding clap_on_literals named_by init_rules bank_options bank
 init_of_a_path = refl
 
 -- a server takes a thousand connections and waits for 30 seconds where the words say no other number
 serve_by_default : named_command (codes "serve" ∷ codes "desk.db" ∷ codes "8080" ∷ []) ≡ Some (Serve (codes "desk.db") 8080 1000 30)
-unfolding clap_on_literals named_serve serve_rules
+unfolding clap_on_literals named_by serve_rules
 serve_by_default = refl
 
 serve_so_many : named_command (codes "serve" ∷ codes "desk.db" ∷ codes "65535" ∷ codes "--connections" ∷ codes "1000000" ∷ []) ≡ Some (Serve (codes "desk.db") 65535 1000000 30)
-unfolding clap_on_literals named_serve serve_rules
+unfolding clap_on_literals named_by serve_rules
 serve_so_many = refl
 
 serve_one : named_command (codes "serve" ∷ codes "--connections=1" ∷ codes "desk.db" ∷ codes "1" ∷ []) ≡ Some (Serve (codes "desk.db") 1 1 30)
-unfolding clap_on_literals named_serve serve_rules
+unfolding clap_on_literals named_by serve_rules
 serve_one = refl
 
 serve_at_no_port : named_command (codes "serve" ∷ codes "desk.db" ∷ codes "0" ∷ []) ≡ None
-unfolding clap_on_literals named_serve serve_rules
+unfolding clap_on_literals named_by serve_rules
 serve_at_no_port = refl
 
 port_zero : kinds_at (codes "serve" ∷ codes "desk.db" ∷ codes "0" ∷ []) ≡ kind.ValueValidation ∷ []
@@ -183,7 +183,7 @@ unfolding clap_on_literals kinds_at serve_rules
 too_many_connections = refl
 
 serve_patiently : named_command (codes "serve" ∷ codes "desk.db" ∷ codes "8080" ∷ codes "--patience" ∷ codes "3600" ∷ []) ≡ Some (Serve (codes "desk.db") 8080 1000 3600)
-unfolding clap_on_literals named_serve serve_rules
+unfolding clap_on_literals named_by serve_rules
 serve_patiently = refl
 
 no_patience : kinds_at (codes "serve" ∷ codes "desk.db" ∷ codes "8080" ∷ codes "--patience" ∷ codes "0" ∷ []) ≡ kind.ValueValidation ∷ []
@@ -195,7 +195,7 @@ unfolding clap_on_literals kinds_at serve_rules
 too_much_patience = refl
 
 migrate_of_a_path : named_command (codes "migrate" ∷ codes "desk.db" ∷ []) ≡ Some (Migrate (codes "desk.db"))
-unfolding clap_on_literals named_migrate serve_rules
+unfolding clap_on_literals named_by serve_rules
 migrate_of_a_path = refl
 
 migrate_of_no_path : kinds_at (codes "migrate" ∷ []) ≡ kind.MissingRequiredArgument ∷ []

@@ -1,5 +1,5 @@
 -- The command that words name, by `clap`'s rules for the command's arguments, or why they name none.
-use Rattle.std.specs.Prelude.{◌≡◌, ◌≢◌, ◌⊎◌, ◌&&◌, ℕ, nat_le, not, Bool, true, false, if◌then◌else◌, List, [], ◌∷◌, Option, Some, None, codes, unwrap_or, Result, Ok, Err, OnErr}
+use Rattle.std.specs.Prelude.{◌≡◌, ◌≢◌, ◌⊎◌, ◌&&◌, ℕ, nat_le, not, Bool, true, false, if◌then◌else◌, List, [], ◌∷◌, find, Option, Some, None, codes, unwrap_or, Result, Ok, Err, OnErr}
 use Rattle.std.specs.Option.{option_map_or}
 use Rattle.std.specs.Str.{bytes_eq}
 use Rattle.std.specs.Str.Parse.{digits_value, without_leading_plus}
@@ -17,42 +17,9 @@ use Rattle.cli_words.specs.declared.command.Command.TheVariants as command
 use Rattle.cli_words.specs.declared.command.LineFault.{LineFault}
 use Rattle.cli_words.specs.declared.command.LineFault.TheVariants.{Help, Version, Usage, NoMemory}
 
--- the words that name a command
-abbrev pub is_check : (name : Text) → Bool
-is_check name = bytes_eq name (codes "check")
-
-abbrev pub is_submit : (name : Text) → Bool
-is_submit name = bytes_eq name (codes "submit")
-
-abbrev pub is_stdio : (name : Text) → Bool
-is_stdio name = bytes_eq name (codes "stdio")
-
-abbrev pub is_init : (name : Text) → Bool
-is_init name = bytes_eq name (codes "init")
-
-abbrev pub is_serve : (name : Text) → Bool
-is_serve name = bytes_eq name (codes "serve")
-
-abbrev pub is_migrate : (name : Text) → Bool
-is_migrate name = bytes_eq name (codes "migrate")
-
 -- the word that asks for help
 abbrev pub is_help : (word : Text) → Bool
 is_help word = bytes_eq word (codes "help")
-
--- the rules for words of which this is the first
-abbrev pub app_named : (name : Text) → App
-app_named name =
-    if is_check name then check_app
-    else (if is_submit name then submit_app
-    else (if is_stdio name then stdio_app
-    else (if is_init name then init_app
-    else (if is_serve name then serve_app else (if is_migrate name then migrate_app else program_app)))))
-
--- the kinds of error that `clap` may give at the words: none where they name a command
-unfoldable pub kinds_at : (words : List Text) → Kinds
-kinds_at [] = []
-kinds_at (name ∷ rest) = fault_of (app_named name) (name ∷ rest)
 
 -- `clap` takes the words where no kind of error is left
 abbrev pub has_no_kind : Kinds → Bool
@@ -118,40 +85,10 @@ pub data NamedCommand : Type 0 where
   Serve : (path : Text) → (port connections patience : ℕ) → NamedCommand
   Migrate : (path : Text) → NamedCommand
 
--- the command that words after `check` name
-unfoldable pub named_check : (words : List Text) → Option NamedCommand
-named_check words =
-    if has_no_kind (fault_of check_app words) then Some (Check (text_in (codes "FILE") (matches_of check_app words))) else None
-
--- the command of these matches of `submit`
-abbrev pub submit_of : List Row → NamedCommand
-submit_of rows = Submit (text_in (codes "FILE") rows) (options_in rows)
-
--- the command that words after `submit` name
-unfoldable pub named_submit : (words : List Text) → Option NamedCommand
-named_submit words =
-    if has_no_kind (fault_of submit_app words) then Some (submit_of (matches_of submit_app words)) else None
-
 -- a session with the desk in the file that is named, or with a new one
 abbrev pub session_with : (path : Option Text) → NamedCommand
 session_with (Some path) = AnswerByFile path
 session_with None = AnswerMessages
-
--- the command of these matches of `stdio`
-abbrev pub stdio_of : List Row → NamedCommand
-stdio_of rows = session_with (first_of (codes "DB") rows)
-
--- the command that words after `stdio` name
-unfoldable pub named_stdio : (words : List Text) → Option NamedCommand
-named_stdio words = if has_no_kind (fault_of stdio_app words) then Some (stdio_of (matches_of stdio_app words)) else None
-
--- the command of these matches of `init`
-abbrev pub init_of : List Row → NamedCommand
-init_of rows = Init (text_in (codes "DB") rows) (init_texts_in rows)
-
--- the command that words after `init` name
-unfoldable pub named_init : (words : List Text) → Option NamedCommand
-named_init words = if has_no_kind (fault_of init_app words) then Some (init_of (matches_of init_app words)) else None
 
 -- a number from low to high
 abbrev pub is_between : (low high n : ℕ) → Bool
@@ -163,29 +100,61 @@ server path port connections patience =
     if is_between 1 65535 port && is_between 1 1000000 connections && is_between 1 3600 patience
     then Some (Serve path port connections patience) else None
 
--- the command of these matches of `serve`
-abbrev pub serve_of : List Row → Option NamedCommand
-serve_of rows = server (text_in (codes "DB") rows) (number_in (codes "PORT") rows) (number_in (codes "N") rows) (number_in (codes "SECONDS") rows)
+-- ---- the forms of the commands
 
--- the command that words after `serve` name
-unfoldable pub named_serve : (words : List Text) → Option NamedCommand
-named_serve words = if has_no_kind (fault_of serve_app words) then serve_of (matches_of serve_app words) else None
+-- The form of a command: its first word, its arguments by `clap`'s rules, and the command that matches name.
+pub record Form : Type 0 where
+  pub word : Text
+  pub app : App
+  pub names : List Row → Option NamedCommand
 
--- the command that words after `migrate` name
-unfoldable pub named_migrate : (words : List Text) → Option NamedCommand
-named_migrate words =
-    if has_no_kind (fault_of migrate_app words) then Some (Migrate (text_in (codes "DB") (matches_of migrate_app words))) else None
+abbrev pub check : Form
+check = record { word = codes "check"; app = check_app; names = λ rows. Some (Check (text_in (codes "FILE") rows)) }
 
--- the command that words name
+abbrev pub submit : Form
+submit = record { word = codes "submit"; app = submit_app; names = λ rows. Some (Submit (text_in (codes "FILE") rows) (options_in rows)) }
+
+abbrev pub stdio : Form
+stdio = record { word = codes "stdio"; app = stdio_app; names = λ rows. Some (session_with (first_of (codes "DB") rows)) }
+
+abbrev pub init : Form
+init = record { word = codes "init"; app = init_app; names = λ rows. Some (Init (text_in (codes "DB") rows) (init_texts_in rows)) }
+
+abbrev pub serve : Form
+serve = record {
+  word = codes "serve";
+  app = serve_app;
+  names = λ rows. server (text_in (codes "DB") rows) (number_in (codes "PORT") rows) (number_in (codes "N") rows) (number_in (codes "SECONDS") rows);
+}
+
+abbrev pub migrate : Form
+migrate = record { word = codes "migrate"; app = migrate_app; names = λ rows. Some (Migrate (text_in (codes "DB") rows)) }
+
+abbrev pub forms : List Form
+forms = check ∷ submit ∷ stdio ∷ init ∷ serve ∷ migrate ∷ []
+
+-- the program's own form, whose words name no command
+abbrev pub program : Form
+program = record { word = codes "achdesk"; app = program_app; names = λ rows. None }
+
+-- the form of words of which this is the first
+abbrev pub form_of : (word : Text) → Form
+form_of word = unwrap_or (find (λ form. bytes_eq word form.word) forms) program
+
+-- ---- the command that words name
+
+-- by a form
+unfoldable pub named_by : Form → (words : List Text) → Option NamedCommand
+named_by form words = if has_no_kind (fault_of form.app words) then form.names (matches_of form.app words) else None
+
 abbrev pub named_command : (words : List Text) → Option NamedCommand
 named_command [] = Some AnswerSubmission
-named_command (name ∷ rest) =
-    if is_check name then named_check (name ∷ rest)
-    else (if is_submit name then named_submit (name ∷ rest)
-    else (if is_stdio name then named_stdio (name ∷ rest)
-    else (if is_init name then named_init (name ∷ rest)
-    else (if is_serve name then named_serve (name ∷ rest)
-    else (if is_migrate name then named_migrate (name ∷ rest) else None)))))
+named_command (word ∷ rest) = named_by (form_of word) (word ∷ rest)
+
+-- the kinds of error that `clap` may give at the words: none where they name a command
+unfoldable pub kinds_at : (words : List Text) → Kinds
+kinds_at [] = []
+kinds_at (word ∷ rest) = fault_of (form_of word).app (word ∷ rest)
 
 -- the matches are those of the app, or the error has one of its kinds, or memory ran out
 abbrev pub Parses : App → (words : List Text) → Result ArgMatches Error → Type 0
@@ -222,6 +191,10 @@ IsFaultAmong kinds NoMemory = Unit {0}
 abbrev pub Gives : (wanted : Option NamedCommand) → Kinds → Result Command LineFault → Type 0
 Gives wanted kinds (Ok c) = wanted ≡ Some (command_value c)
 Gives wanted kinds (Err fault) = ((fault ≡ NoMemory) ⊎ (wanted ≡ None)) × IsFaultAmong kinds fault
+
+-- what words in this form give
+abbrev pub GivesIn : Form → (words : List Text) → Result Command LineFault → Type 0
+GivesIn form words given = Gives (named_by form words) (fault_of form.app words) given
 
 -- what the words give; where there are none, a command
 abbrev pub GivesBy : (words : List Text) → Result Command LineFault → Type 0

@@ -2,8 +2,8 @@
 ghost use Rattle.std.specs.Prelude.{◌≡◌, map};
 ghost use Rattle.clap.specs.Words.{fault_of, found_of, kind_of, rows_of};
 ghost use Rattle.cli_submit.specs.Options.{texts_of};
-ghost use Rattle.cli_words.specs.Arguments.{check_app, program_app, submit_app};
-ghost use Rattle.cli_words.specs.CommandLine.{Gives, GivesAt, GivesBy, IsFaultAmong, IsFaultOf, NamesNone, named_check, named_submit, options_in};
+ghost use Rattle.cli_words.specs.Arguments.{program_app};
+ghost use Rattle.cli_words.specs.CommandLine.{GivesAt, GivesBy, GivesIn, IsFaultAmong, IsFaultOf, NamesNone, check, options_in, submit};
 
 use crate::file_commands::{init_command, migrate_command, serve_command, stdio_command};
 use crate::given_values::argument_text;
@@ -97,8 +97,7 @@ fn command_by_name<'a>(alloc: Global, words: &'a [&'a str]) -> Result<Command<'a
 }
 
 fn check_command<'a>(alloc: Global, words: &'a [&'a str]) -> Result<Command<'a>, LineFault>
-    ensures { Gives (named_check (map (λ w. w.now) words.now))
-        (fault_of check_app (map (λ w. w.now) words.now)) result }
+    ensures { GivesIn check (map (λ w. w.now) words.now) result }
 {
     match check_matches(alloc, words) {
         Ok(matches) => Ok(Command::Check(argument_text(&matches, "FILE"))),
@@ -107,8 +106,7 @@ fn check_command<'a>(alloc: Global, words: &'a [&'a str]) -> Result<Command<'a>,
 }
 
 fn submit_command<'a>(alloc: Global, words: &'a [&'a str]) -> Result<Command<'a>, LineFault>
-    ensures { Gives (named_submit (map (λ w. w.now) words.now))
-        (fault_of submit_app (map (λ w. w.now) words.now)) result }
+    ensures { GivesIn submit (map (λ w. w.now) words.now) result }
 {
     match submit_matches(alloc, words) {
         Ok(matches) => {

@@ -1,9 +1,8 @@
 //! The commands that work by a desk's file.
 ghost use Rattle.std.specs.Prelude.{◌≡◌, codes, map, option_map};
-ghost use Rattle.clap.specs.Words.{fault_of, found_of, rows_of};
+ghost use Rattle.clap.specs.Words.{found_of, rows_of};
 ghost use Rattle.cli_words.specs.InitOptions.{init_texts_of};
-ghost use Rattle.cli_words.specs.Arguments.{init_app, migrate_app, serve_app, stdio_app};
-ghost use Rattle.cli_words.specs.CommandLine.{Gives, HasConnections, HasPatience, HasPort, command_value, init_texts_in, named_init, named_migrate, named_serve, named_stdio, number_in, session_with};
+ghost use Rattle.cli_words.specs.CommandLine.{GivesIn, HasConnections, HasPatience, HasPort, command_value, init, init_texts_in, migrate, number_in, serve, session_with, stdio};
 
 use crate::command::{Command, LineFault, line_fault};
 use crate::desk_arguments::{init_matches, migrate_matches, serve_matches};
@@ -16,8 +15,7 @@ use std::alloc::Global;
 
 /// Reads the words of `stdio [DB]`.
 pub fn stdio_command<'a>(alloc: Global, words: &'a [&'a str]) -> Result<Command<'a>, LineFault>
-    ensures { Gives (named_stdio (map (λ w. w.now) words.now))
-        (fault_of stdio_app (map (λ w. w.now) words.now)) result }
+    ensures { GivesIn stdio (map (λ w. w.now) words.now) result }
 {
     match stdio_matches(alloc, words) {
         Ok(matches) => Ok(session_with(matches.get_str("DB"))),
@@ -37,8 +35,7 @@ fn session_with<'a>(path: Option<&'a str>) -> Command<'a>
 
 /// Reads the words of `init DB` with its options.
 pub fn init_command<'a>(alloc: Global, words: &'a [&'a str]) -> Result<Command<'a>, LineFault>
-    ensures { Gives (named_init (map (λ w. w.now) words.now))
-        (fault_of init_app (map (λ w. w.now) words.now)) result }
+    ensures { GivesIn init (map (λ w. w.now) words.now) result }
 {
     match init_matches(alloc, words) {
         Ok(matches) => {
@@ -63,8 +60,7 @@ fn init_options<'a>(matches: &ArgMatches<'a>) -> InitOptions<'a>
 
 /// Reads the words of `serve DB PORT` with its options.
 pub fn serve_command<'a>(alloc: Global, words: &'a [&'a str]) -> Result<Command<'a>, LineFault>
-    ensures { Gives (named_serve (map (λ w. w.now) words.now))
-        (fault_of serve_app (map (λ w. w.now) words.now)) result }
+    ensures { GivesIn serve (map (λ w. w.now) words.now) result }
 {
     match serve_matches(alloc, words) {
         Ok(matches) => {
@@ -94,8 +90,7 @@ fn serve_options(matches: &ArgMatches<'_>) -> ServeOptions
 
 /// Reads the words of `migrate DB`.
 pub fn migrate_command<'a>(alloc: Global, words: &'a [&'a str]) -> Result<Command<'a>, LineFault>
-    ensures { Gives (named_migrate (map (λ w. w.now) words.now))
-        (fault_of migrate_app (map (λ w. w.now) words.now)) result }
+    ensures { GivesIn migrate (map (λ w. w.now) words.now) result }
 {
     match migrate_matches(alloc, words) {
         Ok(matches) => Ok(Command::Migrate(argument_text(&matches, "DB"))),

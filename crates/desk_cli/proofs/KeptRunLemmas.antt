@@ -1,5 +1,5 @@
 -- A session with the desk that a file keeps.
-use Rattle.std.proofs.Common.{ℕ, List, Option, Result, Err, inl, inr}
+use Rattle.std.proofs.Common.{ℕ, List, Option, inl, inr}
 use Rattle.std.specs.Prelude.{⊤}
 use Rattle.sqlite.specs.Files.{file_state}
 use Rattle.sqlite.specs.Held.{Held}
@@ -9,53 +9,14 @@ use Rattle.sqlite_wal.specs.Recovery.{Image}
 use Rattle.sql_tables.specs.Layout.{Sees}
 use Rattle.http_history.specs.History.{book_behind}
 use Rattle.sql_files.specs.Opened.{IsFoundIn}
-use Rattle.http_session.specs.declared.sessions.Ended.{Ended}
-use Rattle.http_session.specs.declared.sessions.SessionFault.{SessionFault}
 use Rattle.desk_http.specs.Answering.{DeskHistory, StandsBehind}
-use Rattle.cli_commands.specs.StoreRuns.{BreaksOffFrom, HasAnsweredFrom, RanFrom}
+use Rattle.cli_commands.specs.StoreRuns.{BreaksOffFrom, HasAnsweredFrom}
+use Rattle.cli_commands.proofs.SessionRuns.{breaks_off_from, has_answered_from}
 use Rattle.cli_words.specs.declared.command.Command.{Command}
 use Rattle.cli_words.specs.declared.command.Command.TheVariants.{AnswerByFile, AnswerMessages, AnswerSubmission, Check, Init, Migrate, Serve, Submit}
 use Rattle.desk_cli.specs.Commands.{CarriesOut, FailsToCarryOut, NoneKnown}
 use Rattle.desk_cli.specs.KeptRuns.{IsKeptIn}
 use Rattle.cli_commands.specs.declared.status.Status.{Status}
-
-module _ (clean was_clean : Type 0) (kept stood stands fewer : DeskHistory → Type 0) (before : clean → was_clean)
-    (stands_first : clean → (h : DeskHistory) → kept h → stood h) (within : (h : DeskHistory) → stands h → fewer h) where
-  -- what is said of more histories, or with less that is clean, is said of these
-  pub ran_from : (input old new : Option (List ℕ)) (ended : Result Ended SessionFault)
-      → RanFrom was_clean stood stands input old new ended → RanFrom clean kept fewer input old new ended
-  ran_from input old new ended was =
-      let ran = was.1 in (
-        was.0,
-        record {
-          first = ran.first;
-          last = ran.last;
-          taken = ran.taken;
-          rest = ran.rest;
-          final = ran.final;
-          sent = ran.sent;
-          takes = ran.takes;
-          spelled = ran.spelled;
-          few = ran.few;
-          little = ran.little;
-          sends = ran.sends;
-          writes = ran.writes;
-          goes_on = ran.goes_on;
-          ending = ran.ending;
-          answers = λ is_clean h is.
-              let follows = ran.answers (before is_clean) h (stands_first is_clean h is) in
-              (follows.0, follows.1, within follows.0 follows.2);
-        },
-      )
-
-  pub has_answered_from : (input old new : Option (List ℕ)) (status : Status) → HasAnsweredFrom was_clean stood stands input old new status
-      → HasAnsweredFrom clean kept fewer input old new status
-  has_answered_from input old new status answered = (answered.0, answered.1, ran_from input old new answered.0 answered.2)
-
-  pub breaks_off_from : (input old new : Option (List ℕ)) → BreaksOffFrom was_clean stood stands input old new → BreaksOffFrom clean kept fewer input old new
-  breaks_off_from input old new (inl still) =
-      inl (still.0, λ is_clean h is. within h (still.1 (before is_clean) h (stands_first is_clean h is)))
-  breaks_off_from input old new (inr broken) = inr (broken.0, ran_from input old new (Err broken.0) broken.1)
 
 -- where the file is closed, which book it keeps is not told
 pub closed_answered : (clean : Type 0) (kept stands : DeskHistory → Type 0) (input old new : Option (List ℕ)) (status : Status)

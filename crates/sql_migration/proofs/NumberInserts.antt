@@ -8,15 +8,13 @@ use Rattle.sqlite.specs.Command.TheVariants.{Insert}
 use Rattle.sqlite.specs.Does.{Does}
 use Rattle.sqlite.specs.Source.TheVariants.{Values}
 use Rattle.sqlite.specs.State.{State, Executes, Shown, mode_of}
-use Rattle.sqlite.specs.Term.{lit}
 use Rattle.sqlite.proofs.Callers.{runs_as, statement_of}
 use Rattle.sqlite_schema.specs.declared.schema.Keys.TheVariants.{Enforced}
 use Rattle.sqlite.specs.Values.{or_null}
-use Rattle.sqlite.specs.declared.types.Value.TheVariants.{Null}
 use Rattle.sqlite_resolve.specs.Compile.{first}
 use Rattle.sqlite_value.specs.Order.{Row}
 use Rattle.sql_statements.specs.SelectTexts.{IsSelectText}
-use Rattle.sql_statements.specs.Statements.{IsInsert, IsSelect, query_from, at_least, by, params_shown}
+use Rattle.sql_statements.specs.Statements.{IsInsert, IsSelect, query_from, at_least, by, rows_shown}
 use Rattle.sql_statements.specs.Edits.{each_edit_from}
 use Rattle.sql_statements.specs.Layouts.{Holds}
 use Rattle.sql_tables.specs.ByName as named
@@ -42,12 +40,12 @@ use Rattle.sql_migration.proofs.KeptSchemas.{rows_schema}
 use Rattle.sql_migration.specs.MigrationTexts.{insert_number, sent_places_text}
 use Rattle.sql_tables.specs.DeskTables as the
 
-insert_number_is : IsInsert desk_schema insert_number (place_of named.numbers) (table (described named.numbers))
+insert_number_is : IsInsert desk_schema insert_number (place_of named.numbers) (table (described named.numbers)) 1
 unfolding understood everything
 insert_number_is = record { is = refl; plain = (refl, refl) }
 
 puts_number : PutsOne named.numbers
-puts_number = record { is = insert_number_is; given = λ x. refl; kept = λ x. refl }
+puts_number = record { is = insert_number_is; whole = refl }
 
 number_put : (place : ℕ) (old new : State) (count : ℕ) → Executes insert_number (number place ∷ number place ∷ []) old new (Ok count) → (t : Tables) → Holds desk_layout old.now t → Holds desk_layout new.now ((put_number_edit place).after t)
 number_put place old new count ran t h =
@@ -59,7 +57,7 @@ number_put place old new count ran t h =
 number_schema : (place : ℕ) (old new : State) (count : ℕ) → Executes insert_number (number place ∷ number place ∷ []) old new (Ok count) → old.now.schema ≡ desk_schema → new.now.schema ≡ desk_schema
 number_schema place old new count ran has =
     let params = number place ∷ number place ∷ [] in
-    let command = Insert 12 (Values (lit Null ∷ params_shown 2) 3) in
+    let command = Insert 12 (Values (rows_shown 2 0 1) 3) in
     let w = runs_as insert_number params old new desk_schema has command insert_number_is.is insert_number_is.plain count ran in
     let all = subst (λ s. Does old.step_limit (mode_of old) params (record old.now { schema = s }) (statement_of insert_number (understood desk_schema insert_number)) None command (Ok (w.tally, new.now))) has w.changed in
     rows_schema (record { limit = old.step_limit; keys = Enforced; schema = desk_schema; table = table the.sequences; params = params }) old command old.now.trees w.tally new.now all

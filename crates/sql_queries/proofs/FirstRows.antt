@@ -1,5 +1,5 @@
 -- What the first rows of a query say of all of them.
-use Rattle.std.proofs.Common.{◌≡◌, inl, inr, ℕ, Bool, true, false, cond, List, [], ◌∷◌, ◌++◌, map, take_while, filter, None, Some, Result, Ok, Err, refl, sym, ap, subst, ◌∙◌, true≢false}
+use Rattle.std.proofs.Common.{◌≡◌, ◌⊎◌, inl, inr, ℕ, Bool, true, false, cond, List, [], ◌∷◌, ◌++◌, map, take_while, filter, None, Some, Result, Ok, Err, refl, sym, ap, subst, ◌∙◌, true≢false}
 use Rattle.std.specs.List.{AllByRecursion}
 use Rattle.std.proofs.lemmas.Bool.{cases_Bool}
 use Rattle.std.proofs.lemmas.List.{map-append}
@@ -132,11 +132,8 @@ module _ {S : Type 0} (g : Ghosts S) {X : Type 0} (show : X → Row) (sql : List
   pub goes_on : (x : X) → Advances g mid new (Some (show x)) → HasGiven g sql params new (map show (xs ++ x ∷ [])) × IsUnchanged old (state g new)
   goes_on x advances = (subst (HasGiven g sql params new) (sym (map-append show xs (x ∷ []))) (advances sql params _ given.0), since)
 
-  -- there was no more
-  pub all_ended : HasNoReturning sql → Advances g mid new None → ReadsAll sql params show old (state g new) xs
-  all_ended bare advances = record { was_open = since.0.was_open; rows = map show xs; shown = shown_all bare advances; are = refl }
-
   module _ (p : X → Bool) (pass : AllByRecursion (λ x. p x ≡ true) xs) where
+    -- there was no more
     pub while_ended : HasNoReturning sql → Advances g mid new None → ReadsWhile sql params show p old (state g new) xs
     while_ended bare advances = record { same = since; pass = pass; ends = inl (shown_all bare advances) }
 
@@ -147,6 +144,14 @@ module _ {S : Type 0} (g : Ghosts S) {X : Type 0} (show : X → Row) (sql : List
       pass = pass;
       ends = inr (x, fails, begins_before sql params old (state g new) since.0.now_is _ (given_begin g sql params new _ (advances sql params _ given.0)));
     }
+
+-- what is read up to a row that does not pass is read whole where each row passes
+pub all_read : {X : Type 0} {sql : List ℕ} {params : Row} {show : X → Row} {old new : State} {xs : List X} → ReadsWhile sql params show (λ _. true) old new xs → ReadsAll sql params show old new xs
+all_read {X} {sql} {params} {show} {old} {new} {xs} read = go read.ends
+  where
+    go : Shown sql params old new (map show xs) ⊎ ((x : X) × (true ≡ false) × Begins sql params old (map show xs ++ show x ∷ [])) → ReadsAll sql params show old new xs
+    go (inl shown) = record { was_open = read.same.0.was_open; rows = map show xs; shown = shown; are = refl }
+    go (inr stopped) = absurd (true≢false stopped.1)
 
 -- where none that passes comes after one that does not
 pub while_all : {X : Type 0} (p : X → Bool) (xs : List X) → IsAscending (λ a b. p b ≡ true → p a ≡ true) xs → take_while p xs ≡ filter p xs

@@ -11,6 +11,7 @@ mod entries;
 mod files;
 mod items;
 mod lines;
+mod reading;
 mod registry;
 mod rows;
 mod submissions;

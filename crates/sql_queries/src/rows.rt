@@ -1,9 +1,6 @@
 //! The rows of a query are read back.
-ghost use Rattle.std.specs.Prelude.{◌≡◌, ◌⊎◌, [], ◌∷◌, map, slice_get, Option, option_map, IfOk, IfErr, OnOk};
+ghost use Rattle.std.specs.Prelude.{◌≡◌, [], ◌∷◌, true, map, slice_get, option_map, IfOk};
 ghost use Rattle.std.specs.List.{AllByRecursion};
-ghost use Rattle.sqlite.specs.Given.{Advances};
-ghost use Rattle.sqlite.specs.Held.{state};
-ghost use Rattle.sqlite.specs.State.{HasCleanDisk, IsUnchanged, Fails};
 ghost use Rattle.sqlite.specs.Values.{bound};
 ghost use Rattle.sqlite_value.specs.declared.value.Value.TheVariants.{Blob};
 ghost use Rattle.sql_statements.specs.SelectTexts.{IsSelectText};
@@ -11,36 +8,12 @@ ghost use Rattle.sql_statements.specs.Promises.{AskedOn, SucceedsWith, LeavesNot
 ghost use Rattle.sql_tables.specs.Ranges.{FitsIfAny};
 ghost use Rattle.sql_queries.specs.Shows.{ReadsAll, ReadsFirst};
 
+use crate::reading::{RowTest, read_while};
 use sql_statements::query;
 use sql_tables::{FromColumn, FromRow, read_only_column};
 use sqlite::types::ValueRef;
-use sqlite::{Alter, Connection, Error, Row, Rows};
+use sqlite::{Alter, Connection, Error, Row};
 use std::alloc::Global;
-
-/// Gives the value that the next row stores, and `None` behind the last row.
-pub(crate) fn next_of<S: Alter, T: FromRow>(rows: &mut Rows<'_, S>) -> Result<Option<T>, Error>
-    ensures same_reference { rows.new.conn.ghost_name ≡ rows.old.conn.ghost_name }
-    ensures advances { HasCleanDisk (state S.Store rows.new.conn.now) →
-        IfOk result (λ value. Advances S.Store rows.old.conn.now rows.new.conn.now
-        (option_map T.FromRow.stored_row value)) }
-    ensures fits { IfOk result (FitsIfAny T.FromRow.fits) }
-    ensures same { HasCleanDisk (state S.Store rows.new.conn.now) →
-        OnOk result
-        (IsUnchanged (state S.Store rows.old.conn.now) (state S.Store rows.new.conn.now)) }
-    ensures kept { HasCleanDisk (state S.Store rows.new.conn.now) →
-        IfErr result (λ e. Fails (state S.Store rows.old.conn.now) (state S.Store rows.new.conn.now)
-        ⊥ e ⊎ IsUnchanged (state S.Store rows.old.conn.now) (state S.Store rows.new.conn.now)) }
-    ensures survives { LeavesNothingNew S.Store rows.old.conn.now rows.new.conn.now }
-{
-    rows.advance()?;
-    let Some(row) = rows.get() else {
-        return Ok(None);
-    };
-    match T::from_row(row) {
-        Some(value) => Ok(Some(value)),
-        None => Err(Error::InvalidQuery),
-    }
-}
 
 // The value that the first row stores.
 fn read_first<T: FromRow>(rows: &[Row]) -> Result<Option<T>, Error>
@@ -52,6 +25,17 @@ fn read_first<T: FromRow>(rows: &[Row]) -> Result<Option<T>, Error>
     match T::from_row(row) {
         Some(value) => Ok(Some(value)),
         None => Err(Error::InvalidQuery),
+    }
+}
+
+// A query is read to its last row.
+struct Every;
+
+impl<T> RowTest<T> for Every {
+    ghost passes = { λ _ _. true };
+
+    fn goes_on(&self, _: &T) -> bool {
+        true
     }
 }
 
@@ -70,19 +54,7 @@ pub(crate) fn all_of<S: Alter, T: FromRow>(
     ensures survives { LeavesNothingNew S.Store conn.old conn.new }
     ensures fit { IfOk result (λ xs. AllByRecursion T.FromRow.fits xs.items) }
 {
-    if !conn.is_autocommit() {
-        return Err(Error::InvalidQuery);
-    }
-    let mut values = Vec::new(alloc);
-    let mut rows = conn.query(sql, params)?;
-    'rows: for _ in 0..u64::MAX {
-        let Some(value) = next_of(&mut rows)? else {
-            return Ok(values);
-        };
-        values.push(value)?;
-    }
-    // No memory has so many.
-    Err(Error::InvalidQuery)
+    read_while(conn, alloc, sql, params, &Every)
 }
 
 /// Gives the value of the first row of a query, and `None` where it shows no row. The text has to be a

@@ -5,8 +5,9 @@ ghost use Rattle.sql_tables.specs.TableReads.{is_of, is_open_of, is_waiting_of, 
 ghost use Rattle.sql_queries.specs.Waiting.{by_head_order, is_settled_of};
 ghost use Rattle.sql_queries.specs.Asking.{Asks};
 
+use crate::reading::read_while;
 use crate::rows::{all_of, cell_of, first_of};
-use crate::waiting::first_that_wait;
+use crate::waiting::Waiting;
 use ach_fields::{Id, Ref};
 use bank_days::Day;
 use sql_tables::{
@@ -87,11 +88,12 @@ pub fn waiting_submissions<S: Alter>(
     ensures { Asks S.Store conn.old conn.new result
         (λ found t. found.items ≡ heads_in (is_waiting_of company) t) }
 {
-    first_that_wait(
+    read_while(
         conn,
         alloc,
         "SELECT company, ord, ref, sec, direction, description, asked, of_ref, of_index, lapsed, settled FROM submissions WHERE company = ?1 ORDER BY company, settled, lapsed, ord",
         &[characters(company.bytes())],
+        &Waiting,
     )
 }
 

@@ -13,13 +13,13 @@ use Rattle.sqlite_value.specs.Order.{Row}
 use Rattle.sql_statements.specs.Definitions.{IsBlank}
 use Rattle.sql_statements.specs.Statements.{IsInsert}
 use Rattle.sql_statements.specs.StoredRows.{Stores}
-use Rattle.sql_statements.proofs.Casts.{row_kept}
 use Rattle.sql_statements.proofs.Inserts.{inserted}
 use Rattle.sql_statements.specs.Layouts.{Holds}
 use Rattle.desk_history.specs.declared.identity.Identity.{Identity}
 use Rattle.sql_tables.specs.Schema.{desk_schema}
 use Rattle.sql_tables.specs.Layout.{desk_layout}
 use Rattle.sql_tables.proofs.ByName.{each_table}
+use Rattle.sql_tables.proofs.StoredKinds.{row_stored, row_wide}
 use Rattle.sql_tables.specs.ByName as named
 use Rattle.sql_tables.specs.ByName.{Name, described, records, StandsAt, IsStored}
 use Rattle.sql_tables.specs.Description.{table, as_row}
@@ -32,7 +32,7 @@ use Rattle.sql_tables.specs.DeskTables as the
 abbrev pub insert_desk : List ℕ
 insert_desk = codes "INSERT INTO desk VALUES (?1, ?2, ?3, ?4, ?5, ?6, ?7, ?8)"
 
-insert_desk_is : IsInsert desk_schema insert_desk 0 (table the.desk)
+insert_desk_is : IsInsert desk_schema insert_desk 0 (table the.desk) 1
 unfolding understood everything
 insert_desk_is = record { is = refl; plain = (refl, refl) }
 
@@ -74,6 +74,6 @@ pub desk_put : (identity : Identity) (key : List ℕ) (old new : State) (count :
 desk_put identity key old new count ran blank =
     let d : DeskRecord = record { identity = identity; operator_key = key; day = None } in
     let s = table the.desk in
-    let done = inserted (as_row the.desk) desk_schema 0 0 s.name s.columns s.primary s.uniques s.orders insert_desk insert_desk_is refl (λ olds news. refl) d refl (row_kept s Null (as_row the.desk d) refl refl) old new count blank.schema_is [] (stores_none (as_row the.desk) (old.now.trees 0) blank.empty.0) ran in
+    let done = inserted (as_row the.desk) desk_schema 0 0 s.name s.columns s.primary s.uniques s.orders insert_desk 1 insert_desk_is refl (λ olds news. refl) refl (row_wide the.desk) (row_stored the.desk Null refl) (d ∷ []) refl old new count blank.schema_is [] (stores_none (as_row the.desk) (old.now.trees 0) blank.empty.0) ran in
     let others = all_both (λ t. t.tree ≢ 0 → new.now.trees t.tree ≡ old.now.trees t.tree) (λ t. old.now.trees t.tree ≡ []) (λ t. t.tree ≢ 0 → new.now.trees t.tree ≡ []) (λ t same none apart. same apart ∙ none) desk_schema.tables done.0.others blank.empty in
     (done.0.schema_is, new_stored identity key new.now.trees others done.1)

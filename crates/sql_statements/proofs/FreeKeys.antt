@@ -1,5 +1,5 @@
 -- What an INSERT that went through tells: no row had its key.
-use Rattle.std.proofs.Common.{◌≡◌, ◌≤◌, ℕ, ℤ, suc, Bool, true, false, List, [], ◌∷◌, filter, length, Ok, refl, sym, ap, ◌∙◌, subst, arith, int_eq, true≢false, inl, inr}
+use Rattle.std.proofs.Common.{◌≡◌, ◌≤◌, ℤ, Bool, true, false, List, [], ◌∷◌, filter, length, refl, sym, ap, ◌∙◌, subst, arith, int_eq, true≢false, inl, inr}
 use Rattle.std.proofs.lemmas.Int.{ints}
 use Rattle.std.specs.List.{AllByRecursion, list_any}
 use Rattle.std.proofs.lemmas.List.{length-map}
@@ -7,30 +7,16 @@ use Rattle.std.proofs.lemmas.List.Sorted.{length_permutation}
 use Rattle.sqlite_value.specs.Order.{Row}
 use Rattle.sqlite.specs.Table.{Table}
 use Rattle.sqlite.specs.Schema.{Schema}
-use Rattle.sqlite.specs.Term.{lit}
-use Rattle.sqlite.specs.declared.types.Value.TheVariants.{Null}
-use Rattle.sqlite.specs.Source.TheVariants.{Values}
-use Rattle.sqlite.specs.Command.TheVariants.{Insert}
 use Rattle.sqlite_trees.specs.Tree.{Trees}
 use Rattle.sqlite_schema.specs.declared.schema.Constraint.TheVariants.{Unique}
-use Rattle.sqlite_schema.specs.Rules.{passes as obeys, Keeps}
+use Rattle.sqlite_schema.specs.Rules.{passes as obeys}
 use Rattle.sqlite_rules.specs.Lists.{Has}
 use Rattle.sqlite_rules.proofs.ListLemmas.{all_has, all_from}
-use Rattle.sqlite.specs.State.{State, Executes}
-use Rattle.sqlite.proofs.Callers.{runs_as}
 use Rattle.sqlite_keyed.specs.Keyed.{IsKeyedBy}
 use Rattle.sqlite_keyed.proofs.KeyedLemmas.{int_eq_apart}
 use Rattle.sqlite_keyed.proofs.ListLemmas.{filter_none, filter-map, IsPermutation-filter, any_from_none}
 use Rattle.sql_statements.specs.StoredRows.{row_of, Stores}
-use Rattle.sql_statements.specs.Statements.{IsInsert, params_shown}
 use Rattle.sql_statements.proofs.Upserts.{passes, has_image}
-
--- the rules hold after a statement
-pub insert_rules : (schema : Schema) (sql : List ℕ) (at : ℕ) (table : Table) → IsInsert schema sql at table → (params : Row) (old new : State) (count : ℕ) → old.now.schema ≡ schema → new.now.schema ≡ schema
-    → Executes sql params old new (Ok count) → Keeps Unique schema new.now.trees
-insert_rules schema sql at table is params old new count has after h =
-    let w = runs_as sql params old new schema has (Insert at (Values (lit Null ∷ params_shown (length table.columns)) (suc (length table.columns)))) is.is is.plain count h in
-    subst (λ s. Keeps Unique s new.now.trees) after (w.sound.obeys.rules Unique)
 
 bool_not : (b : Bool) → (b ≡ true → ⊥) → b ≡ false
 bool_not true h = absurd (h refl)

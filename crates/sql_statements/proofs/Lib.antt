@@ -22,3 +22,4 @@ pub mod Selects
 pub mod StoredRows
 pub mod Sums
 pub mod Upserts
+pub mod ValueRows

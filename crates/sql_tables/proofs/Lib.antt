@@ -4,5 +4,6 @@ pub mod Decimals
 pub mod KeptRows
 pub mod Lists
 mod SelectedColumns
+pub mod StoredKinds
 mod WorkedRows
 pub mod YoungestNumbers

@@ -18,7 +18,7 @@ mod numbers;
 mod stored_values;
 mod words;
 
-pub use accounts::{AccountText, account_text};
+pub use accounts::{AccountText, MOST_ACCOUNT_CHARACTERS, account_text};
 pub(crate) use fields::read_line_reference;
 pub use fields::{line_reference, optional_text, read_digest, read_text_or_empty};
 pub use numbers::{read_number, read_ordinal};

@@ -11,9 +11,9 @@ mod records;
 mod row;
 
 pub use column::{
-    AccountText, FromColumn, account_text, cause, characters, date, direction, integer,
-    line_reference, natural, number_of, optional_text, read_column, read_digest, read_number,
-    read_ordinal, read_text_or_empty, reason, savings, switch,
+    AccountText, FromColumn, MOST_ACCOUNT_CHARACTERS, account_text, cause, characters, date,
+    direction, integer, line_reference, natural, number_of, optional_text, read_column,
+    read_digest, read_number, read_ordinal, read_text_or_empty, reason, savings, switch,
 };
 pub use parts::{entry_state, facts_from, row_from};
 pub use records::{

@@ -6,7 +6,6 @@ use Rattle.sqlite.specs.Values.{bound}
 use Rattle.sqlite_value.specs.Order.{Row}
 use Rattle.sqlite_value.specs.declared.value.ValueRef.{ValueRef}
 use Rattle.sql_tables.proofs.KeptRows.{numbered_append}
-use Rattle.sql_writes.proofs.EntryInserts.{bound_flat}
 
 -- one more place is set
 pub seen_more : {A B C : Type 0} (seen : A → C) (wanted : B → C) (made : List A) (from : List B) (at : ℕ) (v : A) (x : B) → at < length made → take (at + 1) from ≡ take at from ++ x ∷ []
@@ -29,6 +28,10 @@ numbered_more wanted made from first at v x inside more long here before =
     take_more_set made at v inside
     ∙ ap₂ (λ l z. l ++ z ∷ []) before here
     ∙ sym (ap (map wanted) (numbered_one first at (take at from) (take (at + 1) from) x more long) ∙ map-append wanted (enumerate_from first (take at from)) ((first + at, x) ∷ []))
+
+bound_flat : (vs : List (List ValueRef)) → bound (flat_map (λ v. v) vs) ≡ flat_map (λ v. v) (map bound vs)
+bound_flat [] = refl
+bound_flat (v ∷ vs) = map-append _ v (flat_map (λ v. v) vs) ∙ ap (λ l. bound v ++ l) (bound_flat vs)
 
 -- the parameters of a statement of many rows, each row as it is stored
 pub bound_rows : {A B C : Type 0} (stored : B → Row) (make : A → B) (encode : C → Row) (kept : A → C) → ((x : A) → stored (make x) ≡ encode (kept x)) → (xs : List A) (vs : List (List ValueRef))

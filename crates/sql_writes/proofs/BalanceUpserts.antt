@@ -16,7 +16,7 @@ use Rattle.sqlite_rules.specs.Keys.{conflicts}
 use Rattle.sqlite_value.specs.Keys.{first_key}
 use Rattle.sql_statements.specs.Statements.{IsUpsert}
 use Rattle.sql_statements.specs.StoredRows.{row_of, Stores}
-use Rattle.sql_statements.proofs.Casts.{row_kept}
+use Rattle.sql_tables.proofs.StoredKinds.{row_stored}
 use Rattle.sql_statements.proofs.Conditions.{int_is, and_true, text_is}
 use Rattle.sql_statements.proofs.KeyOrder.{rises_sorted, rises_updated}
 use Rattle.sql_statements.proofs.Upserts.{upserted, put_or_update}
@@ -99,7 +99,7 @@ module _ (n : BalanceRecord) where
   balance_put old new count ran t h =
       let s = table the.balances in
       let done = upserted (as_row the.balances) desk_schema 11 24 s.name s.columns s.primary s.uniques s.orders upsert_balance.text (1 ∷ 2 ∷ []) upsert_balance.sets upsert_balance_is refl (λ olds news. refl)
-      n refl (row_kept s Null (as_row the.balances n) refl refl) (λ i y. row_kept s (Int i) (as_row the.balances y) refl refl) is_it set meets (λ i j k y. and_true _ ∙ int_is i j) (λ i j k y. refl)
+      n refl (row_stored the.balances Null refl n) (λ i. row_stored the.balances (Int i) refl) is_it set meets (λ i j k y. and_true _ ∙ int_is i j) (λ i j k y. refl)
       old new count h.0 t.balances (h.1.stands named.balances).stored (one_of _ is_it one_balance t.balances (h.1.stands named.balances).rise) ran in
       (done.0.schema_is, changed named.balances old.now.trees new.now.trees t h.1 done.0.others _ (sorted (list_any is_it t.balances) refl done.1))
     where

@@ -20,12 +20,12 @@ use Rattle.sql_writes.specs.IntakeTexts.{insert_change}
 use Rattle.sql_writes.proofs.NumberedRows.{numbered_in_order}
 use Rattle.sql_tables.specs.DeskTables as the
 
-insert_change_is : IsInsert desk_schema insert_change (place_of named.changes) (table (described named.changes))
+insert_change_is : IsInsert desk_schema insert_change (place_of named.changes) (table (described named.changes)) 1
 unfolding understood everything
 insert_change_is = record { is = refl; plain = (refl, refl) }
 
 puts_change : PutsOne named.changes
-puts_change = record { is = insert_change_is; given = λ x. refl; kept = λ x. refl }
+puts_change = record { is = insert_change_is; whole = refl }
 
 pub change_put : (x : ChangeRecord) (old new : State) (count : ℕ) → Executes insert_change (as_row the.changes x) old new (Ok count) → (t : Tables) → Holds desk_layout old.now t
     → Holds desk_layout new.now (record t { changes = insert_sorted (on (λ c. c.number) nat_cmp) x t.changes })

@@ -34,12 +34,12 @@ use Rattle.sql_writes.proofs.Conditions.{same_text, text_itself, taken_first}
 use Rattle.sql_writes.proofs.Keys.{find_none, key_free, put_in_order}
 use Rattle.sql_tables.specs.DeskTables as the
 
-insert_company_is : IsInsert desk_schema insert_company (place_of named.companies) (table (described named.companies))
+insert_company_is : IsInsert desk_schema insert_company (place_of named.companies) (table (described named.companies)) 1
 unfolding understood everything
 insert_company_is = record { is = refl; plain = (refl, refl) }
 
 puts_company : PutsOne named.companies
-puts_company = record { is = insert_company_is; given = λ x. refl; kept = λ x. refl }
+puts_company = record { is = insert_company_is; whole = refl }
 
 company_total : IsTotalOrder (key_cmp the.companies)
 company_total = on_total (λ (k : Company). k.id) nat_list_cmp_total
@@ -67,5 +67,5 @@ pub limits_put : (id : List ℕ) (limits : Limits) (old new : State) (count : �
 limits_put id limits old new count ran t h =
     let set : Company → Company = λ k. record k { limits = limits } in
     let kept : (k : Company) → (cond (has_id id k) (set k) k).id ≡ k.id = λ k. elim (has_id id k) as (λ b. (cond b (set k) k).id ≡ k.id) [ true ↦ refl | false ↦ refl ] in
-    let made = rows_updated named.companies update_limits (Text id ∷ number limits.entry ∷ number limits.credit ∷ number limits.debit ∷ []) (has_id id) (λ i k. and_true _ ∙ text_is k.id id) old new count ran t h update_limits_is set (λ i k. refl) (λ k. refl) in
+    let made = rows_updated named.companies update_limits (Text id ∷ number limits.entry ∷ number limits.credit ∷ number limits.debit ∷ []) (has_id id) (λ i k. and_true _ ∙ text_is k.id id) old new count ran t h update_limits_is set (λ i k. refl) in
     holds_with named.companies _ h made.0 (record { stored = made.0.stored; rise = rises_updated (key_cmp the.companies) (has_id id) set (λ a b. λ i. text_cmp (kept a i) (kept b i)) t.companies (h.1.stands named.companies).rise })

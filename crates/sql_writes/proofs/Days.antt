@@ -1,5 +1,5 @@
 -- The statements of the desk and of its calendar, against their records.
-use Rattle.std.proofs.Common.{◌≡◌, ℕ, ℤ, pos, true, ◌==◌, List, [], ◌∷◌, Option, None, Some, Ok, refl, ap, ◌∙◌, subst}
+use Rattle.std.proofs.Common.{◌≡◌, ℕ, ℤ, pos, true, ◌==◌, List, [], ◌∷◌, Some, Ok, refl, ap, ◌∙◌, subst}
 use Rattle.std.proofs.lemmas.Cmp.{nat_cmp_total}
 use Rattle.std.specs.Ordering.{nat_cmp}
 use Rattle.sqlite_tied.specs.Compute.{everything}
@@ -8,7 +8,6 @@ use Rattle.sqlite.specs.State.{State, Executes}
 use Rattle.sqlite_keyed.specs.Lists.{insert_sorted, delete_where}
 use Rattle.sqlite_schema.specs.Rules.{agree}
 use Rattle.sqlite_value.specs.Keys.{first_key, plain}
-use Rattle.sql_statements.proofs.Casts.{are_kept}
 use Rattle.sql_statements.proofs.Conditions.{int_is, and_true}
 use Rattle.sql_statements.specs.Statements.{IsInsert}
 use Rattle.sql_statements.specs.StoredRows.{row_of, Stores}
@@ -20,7 +19,6 @@ use Rattle.sql_tables.specs.Schema.{desk_schema}
 use Rattle.sql_tables.specs.Columns.{number}
 use Rattle.sql_tables.specs.Layout.{desk_layout}
 use Rattle.sql_tables.specs.Tables.{Tables}
-use Rattle.sql_tables.specs.declared.records.DeskRecord.{DeskRecord}
 use Rattle.sql_writes.proofs.Puts.{holds_with, one_put, IsDeleteOf, IsUpdateOf, place_of, PutsOne, rows_deleted, rows_updated}
 use Rattle.sql_writes.specs.Texts.{update_day, delete_holidays, insert_holiday}
 use Rattle.sql_writes.proofs.Conditions.{number_is, same_number, number_itself, equal_numbers, taken_first}
@@ -31,17 +29,10 @@ update_day_is : IsUpdateOf named.desk update_day
 unfolding understood everything
 update_day_is = record { is = record { updates = refl; body = refl; alone = refl; plain = (refl, refl) } }
 
-desk_kept : (d : DeskRecord) → are_kept (table the.desk).columns (as_row the.desk d) ≡ true
-desk_kept d = go d.day
-  where
-    go : (o : Option ℕ) → are_kept (table the.desk).columns (as_row the.desk (record d { day = o })) ≡ true
-    go None = refl
-    go (Some n) = refl
-
 pub day_set : (day : ℕ) (old new : State) (count : ℕ) → Executes update_day.text (number day ∷ []) old new (Ok count) → (t : Tables) → Holds desk_layout old.now t
     → Holds desk_layout new.now (record t { desk = record t.desk { day = Some day } })
 day_set day old new count ran t h =
-    let made = rows_updated named.desk update_day (number day ∷ []) (λ _. true) (λ i d. and_true _ ∙ int_is (pos 1) (pos 1)) old new count ran t h update_day_is (λ d. record d { day = Some day }) (λ i d. refl) desk_kept in
+    let made = rows_updated named.desk update_day (number day ∷ []) (λ _. true) (λ i d. and_true _ ∙ int_is (pos 1) (pos 1)) old new count ran t h update_day_is (λ d. record d { day = Some day }) (λ i d. refl) in
     holds_with named.desk (_ ∷ []) h made.0 (record { stored = made.0.stored; rise = (tt, tt) })
 
 -- ---- the calendar
@@ -59,12 +50,12 @@ holidays_cleared old new count ran t h =
     let made = rows_deleted named.holidays delete_holidays [] (λ _. true) (λ i d. refl) old new count ran t h delete_holidays_is in
     holds_with named.holidays [] h made (record { stored = subst (Stores (as_row the.holidays) (new.now.trees 2)) (none_left t.holidays) made.stored; rise = tt })
 
-insert_holiday_is : IsInsert desk_schema insert_holiday (place_of named.holidays) (table (described named.holidays))
+insert_holiday_is : IsInsert desk_schema insert_holiday (place_of named.holidays) (table (described named.holidays)) 1
 unfolding understood everything
 insert_holiday_is = record { is = refl; plain = (refl, refl) }
 
 puts_holiday : PutsOne named.holidays
-puts_holiday = record { is = insert_holiday_is; given = λ x. refl; kept = λ x. refl }
+puts_holiday = record { is = insert_holiday_is; whole = refl }
 
 same_day : (day : ℕ) (a b : ℤ × ℕ) → (a.1 == day) ≡ true → (b.1 == day) ≡ true → agree plain (1 ∷ []) (row_of (as_row the.holidays) b) (1 ∷ []) (row_of (as_row the.holidays) a) ≡ true
 unfolding first_key

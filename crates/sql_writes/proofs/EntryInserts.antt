@@ -1,7 +1,7 @@
 -- The INSERT of sixteen entries, against their records.
 use Rattle.std.proofs.Common.{◌≡◌, ◌+◌, ℕ, suc, Bool, List, [], ◌∷◌, ◌++◌, map, length, None, Ok, refl, sym, ap, ◌∙◌, subst}
 use Rattle.std.specs.List.{flat_map, enumerate_from}
-use Rattle.std.proofs.lemmas.List.{length-map, map-append}
+use Rattle.std.proofs.lemmas.List.{length-map}
 use Rattle.sqlite_tied.specs.Compute.{everything}
 use Rattle.sqlite.specs.Listing.{understood}
 use Rattle.sqlite.specs.State.{State, Executes}
@@ -11,6 +11,7 @@ use Rattle.sqlite_value.specs.declared.value.ValueRef.{ValueRef}
 use Rattle.sql_statements.proofs.StoredRows.{stores_in}
 use Rattle.sql_statements.specs.Edits.{Edit, each_edit, each_edit_from}
 use Rattle.sql_statements.specs.Layouts.{Holds}
+use Rattle.sql_statements.specs.Statements.{IsInsert}
 use Rattle.desk_rules.specs.declared.bodies.submission.Entry.{Entry}
 use Rattle.sql_tables.specs.ByName as named
 use Rattle.sql_tables.specs.ByName.{described}
@@ -22,21 +23,22 @@ use Rattle.sql_tables.specs.TableEdits.{put_entry_edit}
 use Rattle.sql_tables.specs.Tables.{Tables}
 use Rattle.sql_tables.specs.declared.records.EntryRecord.{EntryRecord}
 use Rattle.sql_writes.proofs.Puts.{holds_with, place_of, PutsSixteen, sixteen_put}
-use Rattle.sql_writes.specs.EntryEdits.{held_entry, held_rows, stored_values}
-use Rattle.sql_writes.specs.ManyRows.{IsInsertOfRows}
+use Rattle.sql_writes.specs.EntryEdits.{held_entry, stored_entry}
+use Rattle.sql_writes.specs.HeldRows.{held_from}
 use Rattle.sql_writes.specs.Texts.{insert_entries}
+use Rattle.sql_writes.proofs.ArrayLoops.{bound_rows}
 use Rattle.sql_writes.proofs.Conditions.{taken_first}
 use Rattle.sql_writes.proofs.Keys.{find_none, few_have}
 use Rattle.sql_writes.proofs.ManyKeys.{all_put, AreFree, put_in_turn}
-use Rattle.sql_writes.proofs.SubmissionRows.{entry_kept, entry_total, same_entry, same_entry_key, entry_itself}
+use Rattle.sql_writes.proofs.SubmissionRows.{entry_total, same_entry, same_entry_key, entry_itself}
 use Rattle.sql_tables.specs.DeskTables as the
 
-insert_entries_is : IsInsertOfRows desk_schema insert_entries (place_of named.entries) (table (described named.entries)) 16
+insert_entries_is : IsInsert desk_schema insert_entries (place_of named.entries) (table (described named.entries)) 16
 unfolding understood everything
 insert_entries_is = record { is = refl; plain = (refl, refl) }
 
 puts_sixteen : PutsSixteen named.entries
-puts_sixteen = record { is = insert_entries_is; whole = refl; wide = λ x. refl; kept = entry_kept }
+puts_sixteen = record { is = insert_entries_is; whole = refl }
 
 abbrev has_key_of : EntryRecord → EntryRecord → Bool
 has_key_of x = is_entry_row x.company x.order x.index
@@ -51,10 +53,6 @@ records_put xs many old new count ran t h =
       (holds_with named.entries _ h made.has (record { stored = stores_in (as_row the.entries) _ _ _ put.0 made.has.stored; rise = put.1 })),
       put.2,
     )
-
-pub bound_flat : (vs : List (List ValueRef)) → bound (flat_map (λ v. v) vs) ≡ flat_map (λ v. v) (map bound vs)
-bound_flat [] = refl
-bound_flat (v ∷ vs) = map-append _ v (flat_map (λ v. v) vs) ∙ ap (λ l. bound v ++ l) (bound_flat vs)
 
 -- ---- entries that are numbered on
 
@@ -88,10 +86,6 @@ module _ (company : List ℕ) (order : ℕ) where
 
   -- ---- the parameters of a statement of many rows
 
-  flat_rows : (ps : List (ℕ × Entry)) → flat_map (λ v. v) (map stored_values (map (λ p. held_entry company order p.0 p.1) ps)) ≡ flat_map (as_row the.entries) (map numbered_record ps)
-  flat_rows [] = refl
-  flat_rows (p ∷ ps) = ap (λ l. as_row the.entries (numbered_record p) ++ l) (flat_rows ps)
-
-  pub bound_rows : (first : ℕ) (es : List Entry) (vs : List (List ValueRef)) → map bound vs ≡ map stored_values (held_rows company order first es)
+  pub bound_entries : (first : ℕ) (es : List Entry) (vs : List (List ValueRef)) → map bound vs ≡ map stored_entry (held_from (held_entry company order) first es)
       → bound (flat_map (λ v. v) vs) ≡ flat_map (as_row the.entries) (map numbered_record (enumerate_from first es))
-  bound_rows first es vs are = bound_flat vs ∙ ap (flat_map (λ v. v)) are ∙ flat_rows (enumerate_from first es)
+  bound_entries first es = bound_rows stored_entry (λ p. held_entry company order p.0 p.1) (as_row the.entries) numbered_record (λ p. refl) (enumerate_from first es)

@@ -18,7 +18,6 @@ use Rattle.sqlite_value.specs.declared.value.Value.TheVariants.{Int, Text}
 use Rattle.sql_statements.specs.Edits.{each_edit_from}
 use Rattle.sql_statements.specs.Layouts.{Holds}
 use Rattle.sql_statements.specs.StoredRows.{row_of, Stores}
-use Rattle.sql_statements.proofs.Casts.{row_kept}
 use Rattle.sql_statements.proofs.Changes.{updated_counted}
 use Rattle.sql_statements.proofs.Conditions.{text_is, int_least, int_most, and_true}
 use Rattle.sql_statements.proofs.KeyOrder.{rises_updated}
@@ -39,7 +38,7 @@ use Rattle.sql_writes.proofs.Conditions as conditions
 use Rattle.sql_writes.proofs.KeyTests.{and_joined, none_is, one_entry}
 use Rattle.sql_writes.proofs.Puts.{IsUpdateOf}
 use Rattle.sql_writes.proofs.RunUpdates.{inside, marks, AreThere, still_there, run_is_marks}
-use Rattle.sql_writes.proofs.SubmissionRows.{entry_kept}
+use Rattle.sql_tables.proofs.StoredKinds.{row_stored}
 use Rattle.sql_writes.specs.CutTexts.{update_run}
 use Rattle.sql_writes.specs.EntryRuns.{is_numbered, stands_after}
 use Rattle.sql_writes.specs.PlaceEdits.{mark_entry_edit}
@@ -204,7 +203,7 @@ module _ (first : SentEntry) (before last : ℕ) (room : before + last < 2 ^ 63)
       let names = run_named first es head run in
       let s = table the.entries in
       let done = updated_counted (as_row the.entries) desk_schema 4 9 s.name s.columns s.primary s.uniques s.orders update_run.text update_run.tests update_run.sets update_run_is.is refl (λ olds news. refl)
-      its_params is_it set tested made (λ i r. row_kept s (Int i) (as_row the.entries r) refl (entry_kept r)) old new (length es) h.0 t.entries (h.1.stands named.entries).stored ran in
+      its_params is_it set tested made (λ i. row_stored the.entries (Int i) refl) old new (length es) h.0 t.entries (h.1.stands named.entries).stored ran in
       let key = is_of first in
       let index = λ (r : EntryRecord). r.index in
       let within = λ (r : EntryRecord) (it : is_it r ≡ true). (let parts = parts_of r it in inside key index placed (λ n r. refl) (λ n r. refl) before (length es) first.index r parts.0 parts.1 (omega (arith, parts.2, ends))) in

@@ -27,7 +27,6 @@ use Rattle.sql_tables.specs.Tables.{Tables}
 use Rattle.sql_tables.specs.declared.records.EntryRecord.{EntryRecord}
 use Rattle.sql_writes.proofs.Puts.{holds_with, IsUpdateOf, rows_updated}
 use Rattle.sql_writes.proofs.Conditions as conditions
-use Rattle.sql_writes.proofs.SubmissionRows.{entry_kept}
 use Rattle.sql_writes.specs.CutTexts.{update_entry}
 use Rattle.sql_writes.proofs.KeyTests.{and_joined, none_is, one_entry}
 
@@ -78,7 +77,7 @@ module _ (n : ℕ) (e : SentEntry) where
       → Holds desk_layout new.now (record t { entries = mark_entry n e t.entries }) × IsUnsent e t
   entry_marked old new ran t h =
       let test = is_unsent_at e.company e.order e.index in
-      let made = rows_updated named.entries update_entry its_params test tested old new 1 ran t h update_entry_is set (λ i r. refl) entry_kept in
+      let made = rows_updated named.entries update_entry its_params test tested old new 1 ran t h update_entry_is set (λ i r. refl) in
       let it = one_found test is_it (λ r here. (unsent_parts e.company e.order e.index r here).0) t.entries (one_of _ is_it (one_entry e.company e.order e.index) t.entries (h.1.stands named.entries).rise) (sym made.1) in
       let parts = unsent_parts e.company e.order e.index it.row it.passes in (
         holds_with named.entries _ h made.0 (record {

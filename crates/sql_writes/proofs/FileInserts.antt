@@ -27,12 +27,12 @@ use Rattle.sql_writes.proofs.Keys.{find_none, key_free, key_letter, key_number, 
 use Rattle.sql_writes.specs.CutTexts.{insert_file}
 use Rattle.sql_tables.specs.DeskTables as the
 
-insert_file_is : IsInsert desk_schema insert_file (place_of named.files) (table (described named.files))
+insert_file_is : IsInsert desk_schema insert_file (place_of named.files) (table (described named.files)) 1
 unfolding understood everything
 insert_file_is = record { is = refl; plain = (refl, refl) }
 
 puts_file : PutsOne named.files
-puts_file = record { is = insert_file_is; given = λ x. refl; kept = λ x. refl }
+puts_file = record { is = insert_file_is; whole = refl }
 
 file_total : IsTotalOrder (key_cmp the.files)
 file_total = then_total (on_total (λ (f : FileRow). f.day) nat_cmp_total) (on_total (λ (f : FileRow). f.modifier) nat_cmp_total)

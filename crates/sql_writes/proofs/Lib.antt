@@ -1,6 +1,6 @@
 -- The lemmas, by what is written:
 --   submissions               EntryInserts, SubmissionRows
---   many rows at once         ArrayLoops, ManyEdits, ManyFree, ManyInserts, ManyKeys, Puts, ValueRows
+--   many rows at once         ArrayLoops, ManyEdits, ManyFree, ManyKeys, Puts
 --   days, companies, limits   Companies, Days, Holidays
 --   lines and balances        BalanceLists, BalanceUpserts, JoinedLines, LineSums, PendingSums, PostingInserts
 --   cuts                      EntryRuns, EntryUpdates, FileInserts, KeyTests, NumberRanges, PlacedEntries,
@@ -26,7 +26,6 @@ mod LastNumbers
 mod LineSums
 mod ManyEdits
 mod ManyFree
-mod ManyInserts
 mod ManyKeys
 mod NumberRanges
 mod Numbered
@@ -43,4 +42,3 @@ mod SubmissionRows
 mod SubmissionUpdates
 mod SuspenseInserts
 mod TakenInserts
-mod ValueRows

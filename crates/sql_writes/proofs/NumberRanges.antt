@@ -34,13 +34,14 @@ use Rattle.sql_tables.specs.Tables.{Tables}
 use Rattle.sql_tables.specs.declared.records.NumberRecord.{NumberRecord}
 use Rattle.sql_writes.proofs.Puts.{holds_with, IsDeleteOf, one_put, place_of, PutsOne, PutsSixteen, rows_deleted, sixteen_put}
 use Rattle.sql_writes.proofs.Conditions.{taken_first, number_itself, equal_numbers, same_number}
-use Rattle.sql_writes.proofs.EntryInserts.{bound_flat}
+use Rattle.sql_writes.proofs.ArrayLoops.{bound_rows}
 use Rattle.sql_writes.proofs.Keys.{few_have, key_number}
 use Rattle.sql_writes.proofs.ManyKeys.{all_put, put_in_turn}
 use Rattle.sql_writes.proofs.NumberedRows.{numbered_in_order}
 use Rattle.sql_writes.proofs.RangePuts.{put_is, in_range, range_is, range_has, range_put, rises_put, rises_kept, none_gone}
 use Rattle.sql_writes.specs.CutTexts.{delete_numbers, insert_number, insert_numbers}
-use Rattle.sql_writes.specs.ManyRows.{IsInsertOfRows}
+use Rattle.sql_writes.specs.HeldRows.{held_from}
+use Rattle.sql_writes.specs.NumberRows.{held_number, stored_number}
 use Rattle.sql_writes.specs.PlaceEdits.{put_number_edit, is_within, clear_numbers_edit, number_record, numbers_from, insert_number_edit, follows_in_sequence}
 use Rattle.sql_writes.specs.Runs.{is_run}
 use Rattle.sql_tables.specs.DeskTables as the
@@ -57,19 +58,19 @@ delete_numbers_is : IsDeleteOf named.numbers delete_numbers
 unfolding understood everything
 delete_numbers_is = record { is = record { deletes = refl; body = refl; alone = refl; plain = (refl, refl) } }
 
-insert_number_is : IsInsert desk_schema insert_number (place_of named.numbers) (table (described named.numbers))
+insert_number_is : IsInsert desk_schema insert_number (place_of named.numbers) (table (described named.numbers)) 1
 unfolding understood everything
 insert_number_is = record { is = refl; plain = (refl, refl) }
 
 puts_number : PutsOne named.numbers
-puts_number = record { is = insert_number_is; given = λ x. refl; kept = λ x. refl }
+puts_number = record { is = insert_number_is; whole = refl }
 
-insert_numbers_is : IsInsertOfRows desk_schema insert_numbers (place_of named.numbers) (table (described named.numbers)) 16
+insert_numbers_is : IsInsert desk_schema insert_numbers (place_of named.numbers) (table (described named.numbers)) 16
 unfolding understood everything
 insert_numbers_is = record { is = refl; plain = (refl, refl) }
 
 puts_sixteen : PutsSixteen named.numbers
-puts_sixteen = record { is = insert_numbers_is; whole = refl; wide = λ x. refl; kept = λ x. refl }
+puts_sixteen = record { is = insert_numbers_is; whole = refl }
 
 pub numbers_cleared : (from to : ℕ) (old new : State) (count : ℕ) → Executes delete_numbers.text (number from ∷ number to ∷ []) old new (Ok count) → (t : Tables) → Holds desk_layout old.now t
     → Holds desk_layout new.now ((clear_numbers_edit from to).after t) × (clear_numbers_edit from to).Tells t
@@ -128,12 +129,8 @@ numbers_inserted first es many old new count ran t h =
     counted first [] = refl
     counted first (e ∷ es) = ap suc (counted (first + 1) es)
 
-pub bound_numbers : (first : ℕ) (es : List SentEntry) (vs : List (List ValueRef)) → map bound vs ≡ map (as_row the.sequences) (numbers_from first es) → bound (flat_map (λ v. v) vs) ≡ flat_map (as_row the.sequences) (numbers_from first es)
-bound_numbers first es vs are = bound_flat vs ∙ ap (flat_map (λ v. v)) are ∙ flat_rows (numbers_from first es)
-  where
-    flat_rows : (xs : List NumberRecord) → flat_map (λ v. v) (map (as_row the.sequences) xs) ≡ flat_map (as_row the.sequences) xs
-    flat_rows [] = refl
-    flat_rows (x ∷ xs) = ap (λ l. as_row the.sequences x ++ l) (flat_rows xs)
+pub bound_numbers : (first : ℕ) (es : List SentEntry) (vs : List (List ValueRef)) → map bound vs ≡ map stored_number (held_from held_number first es) → bound (flat_map (λ v. v) vs) ≡ flat_map (as_row the.sequences) (numbers_from first es)
+bound_numbers first es = bound_rows stored_number (λ p. held_number p.0 p.1) (as_row the.sequences) (λ p. number_record p.0 p.1) (λ p. refl) (enumerate_from first es)
 
 -- ---- the law
 

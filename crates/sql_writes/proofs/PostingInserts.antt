@@ -1,5 +1,5 @@
 -- The statements that put in lines, one and sixteen, against the records of lines.
-use Rattle.std.proofs.Common.{◌≡◌, ℕ, true, List, [], ◌∷◌, map, length, Option, None, Some, Ok, refl, sym, ◌∙◌, subst, Ordering}
+use Rattle.std.proofs.Common.{◌≡◌, ℕ, List, [], ◌∷◌, map, length, Ok, refl, sym, ◌∙◌, subst, Ordering}
 use Rattle.std.specs.List.{flat_map, enumerate_from}
 use Rattle.std.proofs.lemmas.List.{length-map}
 use Rattle.std.proofs.lemmas.List.FromFn.{length-enumerate_from}
@@ -12,7 +12,6 @@ use Rattle.sqlite_keyed.specs.Lists.{insert_sorted}
 use Rattle.sqlite_value.specs.declared.value.ValueRef.{ValueRef}
 use Rattle.sql_statements.specs.Edits.{Edit, each_edit, each_edit_from}
 use Rattle.sql_statements.specs.Statements.{IsInsert}
-use Rattle.sql_statements.proofs.Casts.{are_kept}
 use Rattle.sql_statements.specs.Layouts.{Holds}
 use Rattle.desk_accounts.specs.declared.posting.Posting.{Posting}
 use Rattle.sql_tables.specs.ByName as named
@@ -28,25 +27,17 @@ use Rattle.sql_writes.proofs.Conditions.{taken_first}
 use Rattle.sql_writes.proofs.ManyKeys.{all_put}
 use Rattle.sql_writes.proofs.NumberedRows.{numbered_in_order, all_in_order}
 use Rattle.sql_writes.specs.LineEdits.{put_posting_edit}
-use Rattle.sql_writes.specs.LineRows.{held_line, held_lines, stored_line}
+use Rattle.sql_writes.specs.HeldRows.{held_from}
+use Rattle.sql_writes.specs.LineRows.{held_line, stored_line}
 use Rattle.sql_writes.specs.LineTexts.{insert_posting, insert_postings}
-use Rattle.sql_writes.specs.ManyRows.{IsInsertOfRows}
 use Rattle.sql_tables.specs.DeskTables as the
 
-insert_posting_is : IsInsert desk_schema insert_posting (place_of named.postings) (table (described named.postings))
+insert_posting_is : IsInsert desk_schema insert_posting (place_of named.postings) (table (described named.postings)) 1
 unfolding understood everything
 insert_posting_is = record { is = refl; plain = (refl, refl) }
 
-posting_kept : (p : PostingRecord) → are_kept (table the.postings).columns (as_row the.postings p) ≡ true
-posting_kept p = at_reference p.posting.reference
-  where
-    at_reference : (o : Option (List ℕ)) → are_kept (table the.postings).columns (as_row the.postings (record p { posting = record p.posting { reference = o } })) ≡ true
-    at_reference None = refl
-    at_reference (Some []) = refl
-    at_reference (Some (c ∷ s)) = refl
-
 puts_posting : PutsOne named.postings
-puts_posting = record { is = insert_posting_is; given = λ x. refl; kept = posting_kept }
+puts_posting = record { is = insert_posting_is; whole = refl }
 
 pub posting_put : (p : PostingRecord) (old new : State) (count : ℕ) → Executes insert_posting (as_row the.postings p) old new (Ok count) → (t : Tables) → Holds desk_layout old.now t
     → Holds desk_layout new.now (record t { postings = insert_sorted (on (λ x. x.number) nat_cmp) p t.postings })
@@ -57,12 +48,12 @@ posting_put p old new count ran t h =
 
 -- ---- sixteen lines
 
-insert_postings_is : IsInsertOfRows desk_schema insert_postings (place_of named.postings) (table (described named.postings)) 16
+insert_postings_is : IsInsert desk_schema insert_postings (place_of named.postings) (table (described named.postings)) 16
 unfolding understood everything
 insert_postings_is = record { is = refl; plain = (refl, refl) }
 
 puts_sixteen : PutsSixteen named.postings
-puts_sixteen = record { is = insert_postings_is; whole = refl; wide = λ x. refl; kept = posting_kept }
+puts_sixteen = record { is = insert_postings_is; whole = refl }
 
 abbrev line_cmp : PostingRecord → PostingRecord → Ordering
 line_cmp = on (λ x. x.number) nat_cmp
@@ -95,5 +86,5 @@ postings_put first lines many old new count ran t h =
     (subst (Holds desk_layout new.now) (sym each.0) put, each.1)
 
 -- the parameters of the statement
-pub bound_lines : (first : ℕ) (lines : List Posting) (vs : List (List ValueRef)) → map bound vs ≡ map stored_line (held_lines first lines) → bound (flat_map (λ v. v) vs) ≡ flat_map (as_row the.postings) (map numbered_line (enumerate_from first lines))
+pub bound_lines : (first : ℕ) (lines : List Posting) (vs : List (List ValueRef)) → map bound vs ≡ map stored_line (held_from held_line first lines) → bound (flat_map (λ v. v) vs) ≡ flat_map (as_row the.postings) (map numbered_line (enumerate_from first lines))
 bound_lines first lines = bound_rows stored_line (λ p. held_line p.0 p.1) (as_row the.postings) numbered_line (λ p. refl) (enumerate_from first lines)

@@ -1,10 +1,8 @@
 -- What the statement leaves that puts one row or sixteen into the table of a name, that changes its rows or takes some away.
-use Rattle.std.proofs.Common.{◌≡◌, ◌/◌, ℕ, ℤ, suc, Bool, true, List, [], ◌∷◌, ◌++◌, filter, length, slice_get, Some, Ok, refl}
+use Rattle.std.proofs.Common.{◌≡◌, ◌/◌, ℕ, ℤ, suc, Bool, true, List, [], ◌∷◌, ◌++◌, filter, length, slice_get, Some, Ok, refl, sym, subst, append-nil}
 use Rattle.std.specs.List.{AllByRecursion, flat_map, list_all}
 use Rattle.sqlite.specs.declared.types.Value.TheVariants.{Null, Int}
-use Rattle.sqlite.specs.Effect.{value_rows}
 use Rattle.sqlite.specs.State.{State, Executes}
-use Rattle.sqlite.specs.Term.{Term, lit}
 use Rattle.sqlite_keyed.specs.Lists.{update_where, delete_where}
 use Rattle.sqlite_rules.specs.Action.{works}
 use Rattle.sqlite_schema.specs.Rules.{Keeps, passes as obeys}
@@ -13,14 +11,13 @@ use Rattle.sqlite_schema.specs.declared.schema.Keys.TheVariants.{Enforced}
 use Rattle.sqlite_sql.specs.Term.{holds, eval_all}
 use Rattle.sqlite_trees.specs.Tree.{Trees}
 use Rattle.sqlite_value.specs.Order.{Row}
-use Rattle.sql_statements.proofs.Casts.{row_kept, are_kept}
 use Rattle.sql_statements.proofs.Changes.{updated_counted, deleted}
-use Rattle.sql_statements.proofs.FreeKeys.{insert_rules}
-use Rattle.sql_statements.proofs.Inserts.{inserted}
+use Rattle.sql_statements.proofs.Inserts.{inserted, insert_rules}
 use Rattle.sql_statements.specs.Layouts.{Holds}
-use Rattle.sql_statements.specs.Statements.{IsInsert, IsUpdate, IsDelete, params_shown}
+use Rattle.sql_statements.specs.Statements.{IsInsert, IsUpdate, IsDelete, rows_shown}
 use Rattle.sql_statements.specs.StoredRows.{row_of, Stores}
 use Rattle.sql_tables.proofs.ByName.{Others, with_records, changed, each_table}
+use Rattle.sql_tables.proofs.StoredKinds.{row_stored, row_wide}
 use Rattle.sql_tables.specs.ByName as named
 use Rattle.sql_tables.specs.ByName.{Name, Of, described, records, StandsAt}
 use Rattle.sql_tables.specs.Change.{Change}
@@ -28,8 +25,6 @@ use Rattle.sql_tables.specs.Description.{as_row, table, insert_text, insert_sixt
 use Rattle.sql_tables.specs.Layout.{desk_layout}
 use Rattle.sql_tables.specs.Schema.{desk_schema}
 use Rattle.sql_tables.specs.Tables.{Tables}
-use Rattle.sql_writes.proofs.ManyInserts.{inserted_rows, rows_rules}
-use Rattle.sql_writes.specs.ManyRows.{IsInsertOfRows, rows_shown}
 
 -- the place of the table among those of the schema
 abbrev pub place_of : Name → ℕ
@@ -104,39 +99,34 @@ module _ (n : Name) where
   abbrev width : ℕ
   width = length (table (described n)).columns
 
-  abbrev terms : List Term
-  terms = lit Null ∷ params_shown width
-
   -- ---- rows are put in
 
-  -- the text of one row puts its parameters in
-  pub record PutsOne : Type 0 where
-    pub is : IsInsert desk_schema (insert_text (described n)) (place_of n) (table (described n))
-    pub given : (x : Of n) → value_rows (as_row (described n) x) (suc width) (length terms / suc width) terms ≡ (Null ∷ as_row (described n) x) ∷ []
-    pub kept : (x : Of n) → are_kept (table (described n)).columns (as_row (described n) x) ≡ true
+  -- the text puts its parameters in, which are so many rows
+  pub record PutsRows (rows : ℕ) (sql : List ℕ) : Type 0 where
+    pub is : IsInsert desk_schema sql (place_of n) (table (described n)) rows
+    pub whole : length (rows_shown width 0 rows) / suc width ≡ rows
+
+  rows_put : (rows : ℕ) (sql : List ℕ) → PutsRows rows sql → (xs : List (Of n)) → length xs ≡ rows → (old new : State) (count : ℕ) → Executes sql (flat_map (as_row (described n)) xs) old new (Ok count) → (t : Tables) → Holds desk_layout old.now t → HasPut n xs old new t
+  rows_put rows sql puts xs many old new count ran t h =
+      let d = described n in
+      let s = table d in
+      let done = inserted (as_row d) desk_schema (place_of n) d.tree s.name s.columns s.primary s.uniques s.orders sql rows puts.is (listed n) (quiet n) puts.whole (row_wide d) (row_stored d Null refl) xs many old new count h.0 (records n t) (h.1.stands n).stored ran in
+      let rules : Keeps Unique desk_schema new.now.trees = insert_rules desk_schema sql (place_of n) s rows puts.is (flat_map (as_row d) xs) old new count h.0 done.0.schema_is ran in
+      record { has = record { schema_is = done.0.schema_is; others = done.0.others; stored = done.1 }; unique = each_table (λ u. AllByRecursion (λ r. obeys Unique desk_schema new.now.trees u r ≡ true) (new.now.trees u.tree)) rules n }
+
+  -- one row, or sixteen
+  abbrev pub PutsOne : Type 0
+  PutsOne = PutsRows 1 (insert_text (described n))
+
+  abbrev pub PutsSixteen : Type 0
+  PutsSixteen = PutsRows 16 (insert_sixteen_text (described n))
 
   pub one_put : PutsOne → (x : Of n) (old new : State) (count : ℕ) → Executes (insert_text (described n)) (as_row (described n) x) old new (Ok count) → (t : Tables) → Holds desk_layout old.now t → HasPut n (x ∷ []) old new t
-  one_put puts x old new count ran t h =
-      let d = described n in
-      let s = table d in
-      let done = inserted (as_row d) desk_schema (place_of n) d.tree s.name s.columns s.primary s.uniques s.orders (insert_text d) puts.is (listed n) (quiet n) x (puts.given x) (row_kept s Null (as_row d x) refl (puts.kept x)) old new count h.0 (records n t) (h.1.stands n).stored ran in
-      let rules : Keeps Unique desk_schema new.now.trees = insert_rules desk_schema (insert_text d) (place_of n) s puts.is (as_row d x) old new count h.0 done.0.schema_is ran in
-      record { has = record { schema_is = done.0.schema_is; others = done.0.others; stored = done.1 }; unique = each_table (λ u. AllByRecursion (λ r. obeys Unique desk_schema new.now.trees u r ≡ true) (new.now.trees u.tree)) rules n }
-
-  -- the text of sixteen rows puts theirs in
-  pub record PutsSixteen : Type 0 where
-    pub is : IsInsertOfRows desk_schema (insert_sixteen_text (described n)) (place_of n) (table (described n)) 16
-    pub whole : length (rows_shown width 0 16) / suc width ≡ 16
-    pub wide : (x : Of n) → length (as_row (described n) x) ≡ width
-    pub kept : (x : Of n) → are_kept (table (described n)).columns (as_row (described n) x) ≡ true
+  one_put puts x old new count ran =
+      rows_put 1 (insert_text (described n)) puts (x ∷ []) refl old new count (subst (λ params. Executes (insert_text (described n)) params old new (Ok count)) (sym (append-nil (as_row (described n) x))) ran)
 
   pub sixteen_put : PutsSixteen → (xs : List (Of n)) → length xs ≡ 16 → (old new : State) (count : ℕ) → Executes (insert_sixteen_text (described n)) (flat_map (as_row (described n)) xs) old new (Ok count) → (t : Tables) → Holds desk_layout old.now t → HasPut n xs old new t
-  sixteen_put puts xs many old new count ran t h =
-      let d = described n in
-      let s = table d in
-      let done = inserted_rows (as_row d) desk_schema (place_of n) d.tree s.name s.columns s.primary s.uniques s.orders (insert_sixteen_text d) 16 puts.is (listed n) (quiet n) puts.whole puts.wide (λ x. row_kept s Null (as_row d x) refl (puts.kept x)) xs many old new count h.0 (records n t) (h.1.stands n).stored ran in
-      let rules : Keeps Unique desk_schema new.now.trees = rows_rules desk_schema (insert_sixteen_text d) (place_of n) s 16 puts.is (flat_map (as_row d) xs) old new count h.0 done.0.schema_is ran in
-      record { has = record { schema_is = done.0.schema_is; others = done.0.others; stored = done.1 }; unique = each_table (λ u. AllByRecursion (λ r. obeys Unique desk_schema new.now.trees u r ≡ true) (new.now.trees u.tree)) rules n }
+  sixteen_put = rows_put 16 (insert_sixteen_text (described n))
 
   -- ---- rows are changed, or go
 
@@ -149,11 +139,11 @@ module _ (n : Name) where
   module _ (change : Change) (params : Row) (p : Of n → Bool)
       (tested : (i : ℤ) (x : Of n) → list_all (holds (params ∷ row_of (as_row (described n)) (i, x) ∷ [])) change.tests ≡ p x) (old new : State) (count : ℕ) (ran : Executes change.text params old new (Ok count)) (t : Tables) (h : Holds desk_layout old.now t) where
     pub rows_updated : IsUpdateOf change → (f : Of n → Of n) → ((i : ℤ) (x : Of n) → eval_all change.sets (params ∷ row_of (as_row (described n)) (i, x) ∷ []) ≡ as_row (described n) (f x))
-        → ((x : Of n) → are_kept (table (described n)).columns (as_row (described n) x) ≡ true) → HasRecords n (update_where p f (records n t)) old new × (count ≡ length (filter p (records n t)))
-    rows_updated of f made kept =
+        → HasRecords n (update_where p f (records n t)) old new × (count ≡ length (filter p (records n t)))
+    rows_updated of f made =
         let d = described n in
         let s = table d in
-        let done = updated_counted (as_row d) desk_schema (place_of n) d.tree s.name s.columns s.primary s.uniques s.orders change.text change.tests change.sets of.is (listed n) (quiet n) params p f tested (λ i x _. made i x) (λ i x. row_kept s (Int i) (as_row d x) refl (kept x)) old new count h.0 (records n t) (h.1.stands n).stored ran in
+        let done = updated_counted (as_row d) desk_schema (place_of n) d.tree s.name s.columns s.primary s.uniques s.orders change.text change.tests change.sets of.is (listed n) (quiet n) params p f tested (λ i x _. made i x) (λ i. row_stored d (Int i) refl) old new count h.0 (records n t) (h.1.stands n).stored ran in
         (record { schema_is = done.0.schema_is; others = done.0.others; stored = done.1 }, done.2)
 
     pub rows_deleted : IsDeleteOf change → HasRecords n (delete_where p (records n t)) old new

@@ -13,7 +13,6 @@ use Rattle.sqlite_keyed.specs.Lists.{insert_sorted}
 use Rattle.sqlite_schema.specs.Rules.{agree}
 use Rattle.sqlite_value.specs.Keys.{first_key, plain}
 use Rattle.sqlite_value.specs.declared.value.ValueRef.{ValueRef}
-use Rattle.sql_statements.proofs.Casts.{are_kept}
 use Rattle.sql_statements.specs.Edits.{Edit, each_edit, each_edit_from}
 use Rattle.sql_statements.specs.Statements.{IsInsert}
 use Rattle.sql_statements.specs.StoredRows.{row_of}
@@ -35,19 +34,15 @@ use Rattle.sql_writes.proofs.Conditions.{text_itself, number_itself, taken_first
 use Rattle.sql_writes.proofs.Keys.{find_none, few_have, key_free, key_text, key_number}
 use Rattle.sql_writes.proofs.ManyFree.{free_in_turn}
 use Rattle.sql_writes.proofs.ManyKeys.{all_put, AreFree}
-use Rattle.sql_writes.proofs.SubmissionRows.{flag_kept}
 use Rattle.sql_writes.specs.IntakeTexts.{insert_return, insert_returns}
-use Rattle.sql_writes.specs.ManyRows.{IsInsertOfRows}
-use Rattle.sql_writes.specs.ReturnRows.{held_return, held_returns, stored_return}
+use Rattle.sql_writes.specs.HeldRows.{held_from}
+use Rattle.sql_writes.specs.ReturnRows.{held_return, stored_return}
 use Rattle.sql_writes.proofs.NumberedRows.{numbered_in_order, all_in_order}
 use Rattle.sql_tables.specs.DeskTables as the
 
-insert_return_is : IsInsert desk_schema insert_return (place_of named.returns) (table (described named.returns))
+insert_return_is : IsInsert desk_schema insert_return (place_of named.returns) (table (described named.returns)) 1
 unfolding understood everything
 insert_return_is = record { is = refl; plain = (refl, refl) }
-
-return_kept : (x : ReturnRecord) → are_kept (table the.returns).columns (as_row the.returns x) ≡ true
-return_kept x = rw (flag_kept x.late) refl
 
 -- returns of one entry
 same_entry : (c : List ℕ) (n i : ℕ) (a b : ℤ × ReturnRecord) → is_return_at c n i a.1 ≡ true → is_return_at c n i b.1 ≡ true → agree plain (2 ∷ 3 ∷ 4 ∷ []) (row_of (as_row the.returns) b) (2 ∷ 3 ∷ 4 ∷ []) (row_of (as_row the.returns) a) ≡ true
@@ -58,7 +53,7 @@ same_entry c n i a b h k =
     and_from _ _ (key_text a.1.company b.1.company c v.0 w.0) (and_from _ _ (key_number a.1.order b.1.order n v.1 w.1) (and_from _ _ (key_number a.1.index b.1.index i x.1 y.1) refl))
 
 puts_return : PutsOne named.returns
-puts_return = record { is = insert_return_is; given = λ x. refl; kept = return_kept }
+puts_return = record { is = insert_return_is; whole = refl }
 
 pub return_put : (x : ReturnRecord) (old new : State) (count : ℕ) → Executes insert_return (as_row the.returns x) old new (Ok count) → (t : Tables) → Holds desk_layout old.now t
     → Holds desk_layout new.now (record t { returns = insert_sorted (on (λ r. r.number) nat_cmp) x t.returns }) × (find (is_return_at x.company x.order x.index) t.returns ≡ None)
@@ -73,12 +68,12 @@ return_put x old new count ran t h =
 
 -- ---- sixteen returns
 
-insert_returns_is : IsInsertOfRows desk_schema insert_returns (place_of named.returns) (table (described named.returns)) 16
+insert_returns_is : IsInsert desk_schema insert_returns (place_of named.returns) (table (described named.returns)) 16
 unfolding understood everything
 insert_returns_is = record { is = refl; plain = (refl, refl) }
 
 puts_sixteen : PutsSixteen named.returns
-puts_sixteen = record { is = insert_returns_is; whole = refl; wide = λ x. refl; kept = return_kept }
+puts_sixteen = record { is = insert_returns_is; whole = refl }
 
 abbrev number_cmp : ReturnRecord → ReturnRecord → Ordering
 number_cmp = on (λ r. r.number) nat_cmp
@@ -122,5 +117,5 @@ returns_put first xs many old new count ran t h =
     (subst (Holds desk_layout new.now) (sym each.0) put.0, each.1)
 
 -- the parameters of the statement
-pub bound_returns : (first : ℕ) (xs : List ReturnedRow) (vs : List (List ValueRef)) → map bound vs ≡ map stored_return (held_returns first xs) → bound (flat_map (λ v. v) vs) ≡ flat_map (as_row the.returns) (map numbered_return (enumerate_from first xs))
+pub bound_returns : (first : ℕ) (xs : List ReturnedRow) (vs : List (List ValueRef)) → map bound vs ≡ map stored_return (held_from held_return first xs) → bound (flat_map (λ v. v) vs) ≡ flat_map (as_row the.returns) (map numbered_return (enumerate_from first xs))
 bound_returns first xs = bound_rows stored_return (λ p. held_return p.0 p.1) (as_row the.returns) numbered_return (λ p. refl) (enumerate_from first xs)

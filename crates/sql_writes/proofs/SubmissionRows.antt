@@ -1,5 +1,5 @@
 -- The INSERTs of a submission, its entries and its authorization, against their records.
-use Rattle.std.proofs.Common.{◌≡◌, ℕ, ℤ, Bool, true, false, ◌&&◌, ◌==◌, List, [], ◌∷◌, find, Option, None, Some, Ok, refl, ◌∙◌, bytes_eq, is_eq}
+use Rattle.std.proofs.Common.{◌≡◌, ℕ, ℤ, true, ◌&&◌, ◌==◌, List, [], ◌∷◌, find, None, Ok, refl, ◌∙◌, bytes_eq, is_eq}
 use Rattle.std.specs.Cmp.{IsTotalOrder}
 use Rattle.std.proofs.lemmas.Bool.{and_from, and_parts}
 use Rattle.std.proofs.lemmas.Cmp.{on_total, then_total, nat_list_cmp_total, nat_cmp_total}
@@ -7,11 +7,9 @@ use Rattle.std.proofs.lemmas.Map.Text.{is_eq-slice_cmp}
 use Rattle.sqlite_tied.specs.Compute.{everything}
 use Rattle.sqlite.specs.Listing.{understood}
 use Rattle.sqlite.specs.State.{State, Executes}
-use Rattle.sqlite.specs.declared.types.Value.TheVariants.{Text}
 use Rattle.sqlite_keyed.specs.Lists.{insert_sorted}
 use Rattle.sqlite_schema.specs.Rules.{agree}
 use Rattle.sqlite_value.specs.Keys.{first_key, plain}
-use Rattle.sql_statements.proofs.Casts.{are_kept}
 use Rattle.sql_statements.specs.Statements.{IsInsert}
 use Rattle.sql_statements.specs.StoredRows.{row_of}
 use Rattle.sql_statements.specs.Layouts.{Holds}
@@ -24,11 +22,6 @@ use Rattle.sql_tables.specs.Tables.{Tables}
 use Rattle.sql_writes.proofs.Puts.{holds_with, one_put, place_of, PutsOne}
 use Rattle.sql_writes.proofs.Conditions.{text_itself, number_itself, equal_numbers, equal_both, taken_first, taken_second}
 use Rattle.sql_writes.proofs.Keys.{find_none, key_free, put_in_order, key_text, key_number}
-use Rattle.sqlite.specs.Values.{or_null}
-use Rattle.sqlite.specs.Kind.TheVariants as kind
-use Rattle.sql_statements.proofs.Casts.{is_kept}
-use Rattle.desk_history.specs.Resolve.{is_savings}
-use Rattle.sql_tables.specs.Columns.{number, flag}
 use Rattle.sql_tables.specs.CutTables.{is_row, is_entry_row}
 use Rattle.sql_tables.specs.TableReads.{is_under, is_authorization_of}
 use Rattle.sql_tables.specs.declared.records.AuthorizationRecord.{AuthorizationRecord}
@@ -39,31 +32,12 @@ use Rattle.sql_tables.specs.DeskTables as the
 
 -- ---- submissions
 
-pub submission_kept : (r : SubmissionRecord) → are_kept (table the.submissions).columns (as_row the.submissions r) ≡ true
-submission_kept r = at_lapsed r.head.lapsed
-  where
-    at_printed : (o : _) → are_kept (table the.submissions).columns (as_row the.submissions (record { head = record r.head { lapsed = true; retried = None; settled = None }; printed = o })) ≡ true
-    at_printed None = refl
-    at_printed (Some p) = refl
-
-    at_settled : (o : Option ℕ) → are_kept (table the.submissions).columns (as_row the.submissions (record r { head = record r.head { lapsed = true; retried = None; settled = o } })) ≡ true
-    at_settled None = at_printed r.printed
-    at_settled (Some d) = at_printed r.printed
-
-    at_retried : (o : _) → are_kept (table the.submissions).columns (as_row the.submissions (record r { head = record r.head { lapsed = true; retried = o } })) ≡ true
-    at_retried None = at_settled r.head.settled
-    at_retried (Some t) = at_settled r.head.settled
-
-    at_lapsed : (b : Bool) → are_kept (table the.submissions).columns (as_row the.submissions (record r { head = record r.head { lapsed = b } })) ≡ true
-    at_lapsed true = at_retried r.head.retried
-    at_lapsed false = at_retried r.head.retried
-
-insert_submission_is : IsInsert desk_schema insert_submission (place_of named.submissions) (table (described named.submissions))
+insert_submission_is : IsInsert desk_schema insert_submission (place_of named.submissions) (table (described named.submissions)) 1
 unfolding understood everything
 insert_submission_is = record { is = refl; plain = (refl, refl) }
 
 puts_submission : PutsOne named.submissions
-puts_submission = record { is = insert_submission_is; given = λ x. refl; kept = submission_kept }
+puts_submission = record { is = insert_submission_is; whole = refl }
 
 pub submission_total : IsTotalOrder (key_cmp the.submissions)
 submission_total = then_total (on_total (λ (r : SubmissionRecord). r.head.company) nat_list_cmp_total) (on_total (λ (r : SubmissionRecord). r.head.order) nat_cmp_total)
@@ -94,27 +68,12 @@ submission_put x old new count ran t h =
 
 -- ---- entries
 
-pub flag_kept : (b : Bool) → is_kept kind.Integer (flag b) ≡ true
-flag_kept true = refl
-flag_kept false = refl
-
-number_kept : (o : Option ℕ) → is_kept kind.Integer (or_null number o) ≡ true
-number_kept None = refl
-number_kept (Some n) = refl
-
-text_kept : (o : Option (List ℕ)) → is_kept kind.Text (or_null Text o) ≡ true
-text_kept None = refl
-text_kept (Some t) = refl
-
-pub entry_kept : (r : EntryRecord) → are_kept (table the.entries).columns (as_row the.entries r) ≡ true
-entry_kept r = rw (flag_kept (is_savings r.entry.kind), flag_kept r.entry.prenote, text_kept r.entry.info, number_kept r.place) refl
-
-insert_entry_is : IsInsert desk_schema insert_entry (place_of named.entries) (table (described named.entries))
+insert_entry_is : IsInsert desk_schema insert_entry (place_of named.entries) (table (described named.entries)) 1
 unfolding understood everything
 insert_entry_is = record { is = refl; plain = (refl, refl) }
 
 puts_entry : PutsOne named.entries
-puts_entry = record { is = insert_entry_is; given = λ x. refl; kept = entry_kept }
+puts_entry = record { is = insert_entry_is; whole = refl }
 
 pub entry_total : IsTotalOrder (key_cmp the.entries)
 entry_total = then_total (then_total (on_total (λ (r : EntryRecord). r.company) nat_list_cmp_total) (on_total (λ (r : EntryRecord). r.order) nat_cmp_total)) (on_total (λ (r : EntryRecord). r.index) nat_cmp_total)
@@ -146,12 +105,12 @@ entry_put x old new count ran t h =
 
 -- ---- authorizations
 
-insert_authorization_is : IsInsert desk_schema insert_authorization (place_of named.authorizations) (table (described named.authorizations))
+insert_authorization_is : IsInsert desk_schema insert_authorization (place_of named.authorizations) (table (described named.authorizations)) 1
 unfolding understood everything
 insert_authorization_is = record { is = refl; plain = (refl, refl) }
 
 puts_authorization : PutsOne named.authorizations
-puts_authorization = record { is = insert_authorization_is; given = λ x. refl; kept = λ x. refl }
+puts_authorization = record { is = insert_authorization_is; whole = refl }
 
 pub authorization_total : IsTotalOrder (key_cmp the.authorizations)
 authorization_total = then_total (on_total (λ (r : AuthorizationRecord). r.company) nat_list_cmp_total) (on_total (λ (r : AuthorizationRecord). r.order) nat_cmp_total)

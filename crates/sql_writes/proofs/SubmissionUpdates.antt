@@ -31,7 +31,6 @@ use Rattle.sql_tables.specs.Tables.{Tables}
 use Rattle.sql_tables.specs.declared.records.SubmissionRecord.{SubmissionRecord}
 use Rattle.sql_writes.proofs.Puts.{holds_with, IsUpdateOf, rows_updated}
 use Rattle.sql_writes.proofs.Conditions as conditions
-use Rattle.sql_writes.proofs.SubmissionRows.{submission_kept}
 use Rattle.sql_writes.specs.CutTexts.{update_waiting, sent_sets, lapsed_sets}
 use Rattle.sql_writes.proofs.KeyTests.{and_joined, none_is, not_is, one_row}
 
@@ -77,7 +76,7 @@ module _ (c : List ℕ) (o : ℕ) (rest : Row) (sets : List Set) (is : IsUpdateO
   submission_updated : (old new : State) → Executes (update_waiting sets).text (Text c ∷ number o ∷ rest) old new (Ok 1) → (t : Tables) → Holds desk_layout old.now t
       → Holds desk_layout new.now (record t { submissions = update_where (is_row c o) set t.submissions }) × Waits c o t
   submission_updated old new ran t h =
-      let made = rows_updated named.submissions (update_waiting sets) (Text c ∷ number o ∷ rest) (waits_at c o) tested old new 1 ran t h is set made_row submission_kept in
+      let made = rows_updated named.submissions (update_waiting sets) (Text c ∷ number o ∷ rest) (waits_at c o) tested old new 1 ran t h is set made_row in
       let it = one_found (waits_at c o) (is_row c o) (λ r here. (waits_parts c o r here).0) t.submissions (one_of _ (is_row c o) (one_row c o) t.submissions (h.1.stands named.submissions).rise) (sym made.1) in
       let parts = waits_parts c o it.row it.passes in (
         holds_with named.submissions _ h made.0 (record {

@@ -20,12 +20,12 @@ use Rattle.sql_writes.specs.IntakeTexts.{insert_suspense}
 use Rattle.sql_writes.proofs.NumberedRows.{numbered_in_order}
 use Rattle.sql_tables.specs.DeskTables as the
 
-insert_suspense_is : IsInsert desk_schema insert_suspense (place_of named.suspense) (table (described named.suspense))
+insert_suspense_is : IsInsert desk_schema insert_suspense (place_of named.suspense) (table (described named.suspense)) 1
 unfolding understood everything
 insert_suspense_is = record { is = refl; plain = (refl, refl) }
 
 puts_suspense : PutsOne named.suspense
-puts_suspense = record { is = insert_suspense_is; given = λ x. refl; kept = λ x. refl }
+puts_suspense = record { is = insert_suspense_is; whole = refl }
 
 pub suspense_put : (x : SuspenseRecord) (old new : State) (count : ℕ) → Executes insert_suspense (as_row the.suspense x) old new (Ok count) → (t : Tables) → Holds desk_layout old.now t
     → Holds desk_layout new.now (record t { suspense = insert_sorted (on (λ s. s.number) nat_cmp) x t.suspense })

@@ -28,12 +28,12 @@ use Rattle.sql_writes.proofs.Keys.{find_none, key_free, put_in_order, key_text}
 use Rattle.sql_writes.specs.IntakeTexts.{insert_taken}
 use Rattle.sql_tables.specs.DeskTables as the
 
-insert_taken_is : IsInsert desk_schema insert_taken (place_of named.taken) (table (described named.taken))
+insert_taken_is : IsInsert desk_schema insert_taken (place_of named.taken) (table (described named.taken)) 1
 unfolding understood everything
 insert_taken_is = record { is = refl; plain = (refl, refl) }
 
 puts_taken : PutsOne named.taken
-puts_taken = record { is = insert_taken_is; given = λ x. refl; kept = λ x. refl }
+puts_taken = record { is = insert_taken_is; whole = refl }
 
 taken_total : IsTotalOrder (key_cmp the.taken)
 taken_total = on_total (λ (f : TakenFile). f.key) nat_list_cmp_total

@@ -1,6 +1,5 @@
 -- The rows of the entries of a new submission.
-use Rattle.std.specs.Prelude.{ℕ, pos, List, [], ◌∷◌, map}
-use Rattle.std.specs.List.{enumerate_from}
+use Rattle.std.specs.Prelude.{ℕ, pos, List, [], ◌∷◌}
 use Rattle.sqlite.specs.Values.{or_null}
 use Rattle.sqlite_value.specs.Order.{Row}
 use Rattle.sqlite_value.specs.declared.value.Value.TheVariants.{Null, Int, Text}
@@ -13,12 +12,8 @@ use Rattle.sql_writes.specs.declared.entries.EntryRow.{EntryRow}
 abbrev pub held_entry : (company : List ℕ) → (order : ℕ) → (index : ℕ) → Entry → EntryRow
 held_entry c order index e = record { company = c; order = pos order; index = pos index; routing = e.routing; cents = pos e.cents; entry = e }
 
--- entries that are numbered from a first number on
-abbrev pub held_rows : (company : List ℕ) → (order : ℕ) → (first : ℕ) → List Entry → List EntryRow
-held_rows c order first es = map (λ p. held_entry c order p.0 p.1) (enumerate_from first es)
-
 -- what a row stores; it was not sent
-abbrev pub stored_values : EntryRow → Row
-stored_values r =
+abbrev pub stored_entry : EntryRow → Row
+stored_entry r =
     Text r.company ∷ Int r.order ∷ Int r.index ∷ Text r.routing ∷ Text r.entry.account ∷ flag (is_savings r.entry.kind) ∷ flag r.entry.prenote
     ∷ Int r.cents ∷ Text r.entry.id ∷ Text r.entry.name ∷ or_null Text r.entry.info ∷ Null ∷ []

@@ -1,12 +1,13 @@
 pub mod CutTexts
 pub mod EntryEdits
 pub mod EntryRuns
+pub mod HeldRows
 pub mod HolidayEdits
 pub mod IntakeTexts
 pub mod LineEdits
 pub mod LineRows
 pub mod LineTexts
-pub mod ManyRows
+pub mod NumberRows
 pub mod Numbering
 pub mod PendingBalances
 pub mod PlaceEdits

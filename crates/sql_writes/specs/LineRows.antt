@@ -1,6 +1,5 @@
 -- The rows of lines.
-use Rattle.std.specs.Prelude.{ℕ, pos, List, [], ◌∷◌, map}
-use Rattle.std.specs.List.{enumerate_from}
+use Rattle.std.specs.Prelude.{ℕ, pos, [], ◌∷◌}
 use Rattle.sqlite_value.specs.Order.{Row}
 use Rattle.sqlite_value.specs.declared.value.Value.TheVariants.{Int, Text}
 use Rattle.desk_accounts.specs.declared.posting.Posting.{Posting}
@@ -10,10 +9,6 @@ use Rattle.sql_writes.specs.declared.account_lines.rows.LineRow.{LineRow}
 -- the row of a line under its number
 abbrev pub held_line : (number : ℕ) → Posting → LineRow
 held_line n p = record { number = pos n; account = account_text p.account; index = pos p.idx; line = p }
-
--- lines that are numbered from a first number on
-abbrev pub held_lines : (first : ℕ) → List Posting → List LineRow
-held_lines first ps = map (λ p. held_line p.0 p.1) (enumerate_from first ps)
 
 -- what a row stores
 abbrev pub stored_line : LineRow → Row

@@ -1,6 +1,5 @@
 -- The rows of returns.
-use Rattle.std.specs.Prelude.{ℕ, pos, List, [], ◌∷◌, map}
-use Rattle.std.specs.List.{enumerate_from}
+use Rattle.std.specs.Prelude.{ℕ, pos, [], ◌∷◌}
 use Rattle.sqlite_value.specs.Order.{Row}
 use Rattle.sqlite_value.specs.declared.value.Value.TheVariants.{Int, Text}
 use Rattle.desk_book.specs.declared.flat_rows.ReturnedRow.{ReturnedRow}
@@ -11,10 +10,6 @@ use Rattle.sql_writes.specs.declared.intake.return_rows.ReturnRow.{ReturnRow}
 -- the row of a return under its number
 abbrev pub held_return : (number : ℕ) → ReturnedRow → ReturnRow
 held_return n x = record { number = pos n; order = pos x.order; index = pos x.row.index; code = code_text x.row.code; returned = x }
-
--- returns that are numbered from a first number on
-abbrev pub held_returns : (first : ℕ) → List ReturnedRow → List ReturnRow
-held_returns first xs = map (λ p. held_return p.0 p.1) (enumerate_from first xs)
 
 -- what a row stores
 abbrev pub stored_return : ReturnRow → Row

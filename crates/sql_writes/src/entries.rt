@@ -1,11 +1,12 @@
 //! The entries of a new submission are written, sixteen by one statement as long as there are so many.
-ghost use Rattle.std.specs.Prelude.{◌≡◌, ◌+◌, ◌<◌, ◌^◌, map, length, IfOk};
+ghost use Rattle.std.specs.Prelude.{◌≡◌, map};
 ghost use Rattle.sqlite.specs.Values.{bound};
 ghost use Rattle.sql_tables.specs.Layout.{desk_layout};
 ghost use Rattle.sql_tables.specs.TableEdits.{put_entry_edit};
-ghost use Rattle.sql_writes.specs.EntryEdits.{held_entry, held_rows, stored_values};
+ghost use Rattle.sql_writes.specs.EntryEdits.{held_entry, stored_entry};
 
 use crate::batches::BatchBody;
+use crate::held_rows::{HoldBody, hold_sixteen};
 use ach_fields::Id;
 use desk_rules::Entry;
 use sql_statements::{RowBody, execute, number};
@@ -33,12 +34,11 @@ impl RowBody for EntryRows {
         number: u64,
         entry: &Entry,
     ) -> Result<(), Error> {
-        let row = row_of(self, number, entry)?;
-        let values = values_of(&row);
+        let row = self.hold(number, entry)?;
         execute(
             tx,
             "INSERT INTO entries VALUES (?1, ?2, ?3, ?4, ?5, ?6, ?7, ?8, ?9, ?10, ?11, ?12)",
-            &values,
+            &values_of(&row),
         )?;
         Ok(())
     }
@@ -51,7 +51,7 @@ impl BatchBody for EntryRows {
         first: u64,
         entries: &[Entry],
     ) -> Result<(), Error> {
-        let rows = rows_from(self, first, entries)?;
+        let rows = hold_sixteen(self, first, entries)?;
         let values = values_of_all(&rows);
         execute(
             tx,
@@ -70,9 +70,27 @@ impl BatchBody for EntryRows {
     }
 }
 
-// What a row stores, beside the entry whose texts it borrows.
+impl HoldBody for EntryRows {
+    type Held = EntryRow;
+
+    ghost held = { λ b. held_entry b.company b.order };
+
+    fn hold(&self, index: u64, entry: &Entry) -> Result<EntryRow, Error> {
+        Ok(EntryRow {
+            company: self.company,
+            order: integer(self.order)?,
+            index: integer(index)?,
+            routing: entry.routing.text(),
+            cents: integer(entry.cents.get())?,
+            entry: *entry,
+        })
+    }
+}
+
+/// An `EntryRow` is what a row of an entry stores that was not sent, beside the entry whose texts it
+/// borrows.
 #[derive(Clone, Copy)]
-struct EntryRow {
+pub(crate) struct EntryRow {
     company: Id,
     order: i64,
     index: i64,
@@ -81,39 +99,9 @@ struct EntryRow {
     entry: Entry,
 }
 
-// The row of the entry that has this number. `Error::InvalidQuery` says that a number is past the last
-// that a column has.
-fn row_of(rows: &EntryRows, index: u64, entry: &Entry) -> Result<EntryRow, Error>
-    ensures { IfOk result
-        (λ row. row ≡ held_entry rows.now.company rows.now.order index entry.now) }
-{
-    Ok(EntryRow {
-        company: rows.company,
-        order: integer(rows.order)?,
-        index: integer(index)?,
-        routing: entry.routing.text(),
-        cents: integer(entry.cents.get())?,
-        entry: *entry,
-    })
-}
-
-// The rows of sixteen entries, of which the first has this number.
-fn rows_from(rows: &EntryRows, first: u64, entries: &[Entry]) -> Result<[EntryRow; 16], Error>
-    requires many { length entries.now ≡ 16 }
-    requires numbers { first + 16 < 2 ^ 64 }
-    ensures { IfOk result
-        (λ held. held ≡ held_rows rows.now.company rows.now.order first entries.now) }
-{
-    let mut held = [row_of(rows, first, &entries[0])?; 16];
-    for at in 0..16 {
-        held[at] = row_of(rows, first + at as u64, &entries[at])?;
-    }
-    Ok(held)
-}
-
 // The values of a row of an entry that was not sent.
 fn values_of<'a>(row: &'a EntryRow) -> [ValueRef<'a>; 12]
-    ensures { bound result ≡ stored_values row.now }
+    ensures { bound result ≡ stored_entry row.now }
 {
     [
         characters(row.company.bytes()),
@@ -133,7 +121,7 @@ fn values_of<'a>(row: &'a EntryRow) -> [ValueRef<'a>; 12]
 
 // The values of each of sixteen rows.
 fn values_of_all<'a>(rows: &'a [EntryRow; 16]) -> [[ValueRef<'a>; 12]; 16]
-    ensures { map bound result ≡ map stored_values rows.now }
+    ensures { map bound result ≡ map stored_entry rows.now }
 {
     let mut values = [[ValueRef::Null; 12]; 16];
     for at in 0..16 {

@@ -12,6 +12,7 @@ mod batches;
 mod cell;
 mod cut;
 mod entries;
+mod held_rows;
 mod intake;
 mod numbering;
 mod registry;

@@ -6,10 +6,10 @@ use arrayvec::ArrayVec;
 use desk_accounts::Account;
 
 /// The longest text of an account has so many characters: two before an identification of ten.
-const MOST_CHARACTERS: usize = 12;
+pub const MOST_ACCOUNT_CHARACTERS: usize = 12;
 
 /// An `AccountText` has the characters of the text of an account.
-pub type AccountText = ArrayVec<u8, MOST_CHARACTERS>;
+pub type AccountText = ArrayVec<u8, MOST_ACCOUNT_CHARACTERS>;
 
 /// Gives the text of an account.
 pub fn account_text(account: &Account) -> AccountText

@@ -4,13 +4,12 @@ ghost use Rattle.sql_statements.specs.Promises.{Runs, RunsWith};
 ghost use Rattle.sql_tables.specs.Layout.{desk_layout};
 ghost use Rattle.sql_writes.specs.LineEdits.{put_balance_edit, sum_is};
 
-use crate::account_lines::accounts::account_text;
 use crate::cell::cell_inside;
 use bank_days::Day;
 use desk_accounts::Account;
 use itoa::Buffer;
 use sql_statements::execute;
-use sql_tables::{characters, date};
+use sql_tables::{account_text, characters, date};
 use sqlite::{Alter, Error, Transaction};
 
 /// Finds the sum of an account's lines of a value day, as the transaction sees it.

@@ -1,16 +1,17 @@
 //! The rows of lines are written, sixteen by one statement as long as there are so many.
-ghost use Rattle.std.specs.Prelude.{◌≡◌, ◌+◌, ◌<◌, ◌^◌, map, length, IfOk};
+ghost use Rattle.std.specs.Prelude.{◌≡◌, map};
 ghost use Rattle.sqlite.specs.Values.{bound};
 ghost use Rattle.sql_tables.specs.Layout.{desk_layout};
 ghost use Rattle.sql_writes.specs.LineEdits.{put_posting_edit};
-ghost use Rattle.sql_writes.specs.LineRows.{held_line, held_lines, stored_line};
+ghost use Rattle.sql_writes.specs.LineRows.{held_line, stored_line};
 
-use crate::account_lines::accounts::{LONGEST_ACCOUNT, short_account_text};
+use crate::account_lines::accounts::short_account_text;
 use crate::batches::BatchBody;
+use crate::held_rows::{HoldBody, hold_sixteen};
 use ach_fields::ShortText;
 use desk_accounts::Posting;
 use sql_statements::{RowBody, execute, number};
-use sql_tables::{cause, characters, date, integer, line_reference};
+use sql_tables::{MOST_ACCOUNT_CHARACTERS, cause, characters, date, integer, line_reference};
 use sqlite::types::ValueRef;
 use sqlite::{Alter, Error, Transaction};
 
@@ -31,12 +32,11 @@ impl RowBody for LineRows {
         number: u64,
         line: &Posting,
     ) -> Result<(), Error> {
-        let row = row_of(number, line)?;
-        let values = values_of(&row);
+        let row = self.hold(number, line)?;
         execute(
             tx,
             "INSERT INTO postings VALUES (?1, ?2, ?3, ?4, ?5, ?6, ?7)",
-            &values,
+            &values_of(&row),
         )?;
         Ok(())
     }
@@ -49,7 +49,7 @@ impl BatchBody for LineRows {
         first: u64,
         lines: &[Posting],
     ) -> Result<(), Error> {
-        let rows = rows_from(first, lines)?;
+        let rows = hold_sixteen(self, first, lines)?;
         let values = values_of_all(&rows);
         execute(
             tx,
@@ -64,39 +64,28 @@ impl BatchBody for LineRows {
     }
 }
 
-// What a row stores, beside the line whose texts it borrows.
+impl HoldBody for LineRows {
+    type Held = LineRow;
+
+    ghost held = { λ _. held_line };
+
+    fn hold(&self, number: u64, line: &Posting) -> Result<LineRow, Error> {
+        Ok(LineRow {
+            number: integer(number)?,
+            account: short_account_text(&line.account)?,
+            index: integer(line.idx)?,
+            line: *line,
+        })
+    }
+}
+
+/// A `LineRow` is what a row stores, beside the line whose texts it borrows.
 #[derive(Clone, Copy)]
-struct LineRow {
+pub(crate) struct LineRow {
     number: i64,
-    account: ShortText<LONGEST_ACCOUNT>,
+    account: ShortText<MOST_ACCOUNT_CHARACTERS>,
     index: i64,
     line: Posting,
-}
-
-// The row of the line that has this number. `Error::InvalidQuery` says that a number is past the last
-// that a column has.
-fn row_of(number: u64, line: &Posting) -> Result<LineRow, Error>
-    ensures { IfOk result (λ row. row ≡ held_line number line.now) }
-{
-    Ok(LineRow {
-        number: integer(number)?,
-        account: short_account_text(&line.account)?,
-        index: integer(line.idx)?,
-        line: *line,
-    })
-}
-
-// The rows of sixteen lines, of which the first has this number.
-fn rows_from(first: u64, lines: &[Posting]) -> Result<[LineRow; 16], Error>
-    requires many { length lines.now ≡ 16 }
-    requires numbers { first + 16 < 2 ^ 64 }
-    ensures { IfOk result (λ held. held ≡ held_lines first lines.now) }
-{
-    let mut held = [row_of(first, &lines[0])?; 16];
-    for at in 0..16 {
-        held[at] = row_of(first + at as u64, &lines[at])?;
-    }
-    Ok(held)
 }
 
 // The values of a row.

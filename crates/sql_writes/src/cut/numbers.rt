@@ -1,19 +1,22 @@
 //! A cut writes the place of the youngest entry that has each sequence: the numbers of a range of
 //! sequences are taken out by one statement, and the new ones put in, sixteen by one as long as there are
 //! so many.
-ghost use Rattle.std.specs.Prelude.{◌≡◌, ◌≤◌, ◌<◌, ◌+◌, IfOk, OnOk};
+ghost use Rattle.std.specs.Prelude.{◌≡◌, ◌≤◌, ◌<◌, ◌+◌, IfOk, OnOk, map};
+ghost use Rattle.sqlite.specs.Values.{bound};
 ghost use Rattle.ach_fields.specs.Trace.{most_sequence};
 ghost use Rattle.sql_statements.specs.Transactions.{Makes};
 ghost use Rattle.sql_statements.specs.Promises.{Runs};
 ghost use Rattle.sql_tables.specs.Layout.{desk_layout};
+ghost use Rattle.sql_writes.specs.NumberRows.{held_number, stored_number};
 ghost use Rattle.sql_writes.specs.PlaceEdits.{put_number_edit, follows_in_sequence, clear_numbers_edit, insert_number_edit};
 
 use crate::batches::{BatchBody, run_batches};
+use crate::held_rows::{HoldBody, hold_sixteen};
 use crate::runs::RunBody;
 use ach_fields::MOST_SEQUENCE;
 use desk_history::SentEntry;
-use sql_statements::{RowBody, execute};
-use sql_tables::natural;
+use sql_statements::{RowBody, execute, number};
+use sql_tables::{integer, natural};
 use sqlite::types::ValueRef;
 use sqlite::{Alter, Error, Transaction};
 
@@ -97,9 +100,8 @@ impl RowBody for NumberRows {
         place: u64,
         entry: &SentEntry,
     ) -> Result<(), Error> {
-        let digits = natural(u64::from(entry.sequence))?;
-        let at = natural(place)?;
-        execute(tx, "INSERT INTO numbers VALUES (?1, ?2)", &[digits, at])?;
+        let row = self.hold(place, entry)?;
+        execute(tx, "INSERT INTO numbers VALUES (?1, ?2)", &values_of(&row))?;
         Ok(())
     }
 }
@@ -111,12 +113,8 @@ impl BatchBody for NumberRows {
         first: u64,
         entries: &[SentEntry],
     ) -> Result<(), Error> {
-        let mut values = [[ValueRef::Null; 2]; 16];
-        for at in 0..16 {
-            let digits = natural(u64::from(entries[at].sequence))?;
-            let place = natural(first + at as u64)?;
-            values[at] = [digits, place];
-        }
+        let rows = hold_sixteen(self, first, entries)?;
+        let values = values_of_all(&rows);
         execute(
             tx,
             "INSERT INTO numbers VALUES (?, ?), (?, ?), (?, ?), (?, ?), (?, ?), (?, ?), (?, ?), (?, ?), \
@@ -125,4 +123,42 @@ impl BatchBody for NumberRows {
         )?;
         Ok(())
     }
+}
+
+impl HoldBody for NumberRows {
+    type Held = NumberRow;
+
+    ghost held = { λ _. held_number };
+
+    fn hold(&self, place: u64, entry: &SentEntry) -> Result<NumberRow, Error> {
+        Ok(NumberRow {
+            sequence: integer(u64::from(entry.sequence))?,
+            place: integer(place)?,
+        })
+    }
+}
+
+/// A `NumberRow` is what a row stores.
+#[derive(Clone, Copy)]
+pub(crate) struct NumberRow {
+    sequence: i64,
+    place: i64,
+}
+
+// The values of a row.
+fn values_of<'a>(row: &'a NumberRow) -> [ValueRef<'a>; 2]
+    ensures { bound result ≡ stored_number row.now }
+{
+    [number(row.sequence), number(row.place)]
+}
+
+// The values of each of sixteen rows.
+fn values_of_all<'a>(rows: &'a [NumberRow; 16]) -> [[ValueRef<'a>; 2]; 16]
+    ensures { map bound result ≡ map stored_number rows.now }
+{
+    let mut values = [[ValueRef::Null; 2]; 16];
+    for at in 0..16 {
+        values[at] = values_of(&rows[at]);
+    }
+    values
 }

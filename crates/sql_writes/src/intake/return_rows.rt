@@ -1,11 +1,12 @@
 //! The rows of returns are written, sixteen by one statement as long as there are so many.
-ghost use Rattle.std.specs.Prelude.{◌≡◌, ◌+◌, ◌<◌, ◌^◌, map, length, IfOk};
+ghost use Rattle.std.specs.Prelude.{◌≡◌, map};
 ghost use Rattle.sqlite.specs.Values.{bound};
 ghost use Rattle.sql_tables.specs.Layout.{desk_layout};
 ghost use Rattle.sql_tables.specs.TableEdits.{put_return_edit};
-ghost use Rattle.sql_writes.specs.ReturnRows.{held_return, held_returns, stored_return};
+ghost use Rattle.sql_writes.specs.ReturnRows.{held_return, stored_return};
 
 use crate::batches::BatchBody;
+use crate::held_rows::{HoldBody, hold_sixteen};
 use desk_book::ReturnedRow;
 use sql_statements::{RowBody, execute, number};
 use sql_tables::{characters, date, integer, switch};
@@ -30,12 +31,11 @@ impl RowBody for ReturnRows {
         number: u64,
         returned: &ReturnedRow,
     ) -> Result<(), Error> {
-        let row = row_of(number, returned)?;
-        let values = values_of(&row);
+        let row = self.hold(number, returned)?;
         execute(
             tx,
             "INSERT INTO returns VALUES (?1, ?2, ?3, ?4, ?5, ?6, ?7, ?8)",
-            &values,
+            &values_of(&row),
         )?;
         Ok(())
     }
@@ -48,7 +48,7 @@ impl BatchBody for ReturnRows {
         first: u64,
         returned: &[ReturnedRow],
     ) -> Result<(), Error> {
-        let rows = rows_from(first, returned)?;
+        let rows = hold_sixteen(self, first, returned)?;
         let values = values_of_all(&rows);
         execute(
             tx,
@@ -63,41 +63,30 @@ impl BatchBody for ReturnRows {
     }
 }
 
-// What a row stores, beside the return whose text it borrows.
+impl HoldBody for ReturnRows {
+    type Held = ReturnRow;
+
+    ghost held = { λ _. held_return };
+
+    fn hold(&self, number: u64, returned: &ReturnedRow) -> Result<ReturnRow, Error> {
+        Ok(ReturnRow {
+            number: integer(number)?,
+            order: integer(returned.order)?,
+            index: integer(returned.row.index)?,
+            code: returned.row.code.text(),
+            returned: *returned,
+        })
+    }
+}
+
+/// A `ReturnRow` is what a row stores, beside the return whose text it borrows.
 #[derive(Clone, Copy)]
-struct ReturnRow {
+pub(crate) struct ReturnRow {
     number: i64,
     order: i64,
     index: i64,
     code: [u8; 3],
     returned: ReturnedRow,
-}
-
-// The row of the return that has this number. `Error::InvalidQuery` says that a number is past the last
-// that a column has.
-fn row_of(number: u64, returned: &ReturnedRow) -> Result<ReturnRow, Error>
-    ensures { IfOk result (λ row. row ≡ held_return number returned.now) }
-{
-    Ok(ReturnRow {
-        number: integer(number)?,
-        order: integer(returned.order)?,
-        index: integer(returned.row.index)?,
-        code: returned.row.code.text(),
-        returned: *returned,
-    })
-}
-
-// The rows of sixteen returns, of which the first has this number.
-fn rows_from(first: u64, returned: &[ReturnedRow]) -> Result<[ReturnRow; 16], Error>
-    requires many { length returned.now ≡ 16 }
-    requires numbers { first + 16 < 2 ^ 64 }
-    ensures { IfOk result (λ held. held ≡ held_returns first returned.now) }
-{
-    let mut held = [row_of(first, &returned[0])?; 16];
-    for at in 0..16 {
-        held[at] = row_of(first + at as u64, &returned[at])?;
-    }
-    Ok(held)
 }
 
 // The values of a row.

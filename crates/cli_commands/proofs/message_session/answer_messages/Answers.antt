@@ -5,7 +5,8 @@ use Rattle.memory_store.specs.declared.list_store.ListStore.{ListStore}
 use Rattle.remembering_store.specs.Remembered.{HoldsKnown}
 use Rattle.remembering_store.specs.declared.remembering.Remembering.{Remembering}
 use Rattle.cli_commands.specs.MessageRuns.{new_history}
-use Rattle.cli_commands.proofs.MessageRunLemmas.{broken_off, run_of_new_desk, stands_for_nothing}
+use Rattle.cli_commands.proofs.MessageRunLemmas.{run_of_new_desk, stands_for_nothing}
+use Rattle.cli_commands.proofs.SessionRuns.{broken_off}
 use Rattle.cli_commands.proofs.message_session.answer_messages.Goals as goal
 
 pub returns-clause-answered : goal.returns-clause-answered

@@ -1,7 +1,7 @@
 use Rattle.std.proofs.Common.{rules, sym, ◌∙◌, subst}
 use Rattle.http_session.specs.Session.{SessionRan}
 use Rattle.desk_http.specs.Answering.{IsAnswered, StandsBehind}
-use Rattle.cli_commands.proofs.MessageRunLemmas.{broken_off_from}
+use Rattle.cli_commands.proofs.SessionRuns.{broken_off_from}
 use Rattle.cli_commands.proofs.store_session.answer_by_store.Goals as goal
 
 pub returns : goal.returns

@@ -1,30 +1,25 @@
-use Rattle.cli_words.proofs.CommandLineLemmas.{gives_check, gives_init, gives_migrate, gives_none, gives_serve, gives_stdio, gives_submit}
+use Rattle.std.proofs.Common.{refl}
+use Rattle.cli_words.specs.CommandLine.{check, init, migrate, serve, stdio, submit}
+use Rattle.cli_words.proofs.CommandLineLemmas.{gives, gives_none}
 use Rattle.cli_words.proofs.command.command_by_name.Goals as goal
 
 pub returns-in-check : goal.returns-in-check
-returns-in-check c = gives_check c.args.words.now c.in-Some.name.now _ c.in-Some.ensures.value c.in-check.is c.check_command.ensures
+returns-in-check c = gives check c.args.words.now c.in-Some.name.now _ refl c.in-Some.ensures.value c.in-check.is c.check_command.ensures
 
 pub returns-in-submit : goal.returns-in-submit
-returns-in-submit c = gives_submit c.args.words.now c.in-Some.name.now _ c.in-Some.ensures.value c.in-submit.not-check c.in-submit.is c.submit_command.ensures
+returns-in-submit c = gives submit c.args.words.now c.in-Some.name.now _ refl c.in-Some.ensures.value c.in-submit.is c.submit_command.ensures
 
 pub returns-in-stdio : goal.returns-in-stdio
-returns-in-stdio c =
-    gives_stdio c.args.words.now c.in-Some.name.now _ c.in-Some.ensures.value c.in-stdio.not-check c.in-stdio.not-submit c.in-stdio.is c.stdio_command.ensures
+returns-in-stdio c = gives stdio c.args.words.now c.in-Some.name.now _ refl c.in-Some.ensures.value c.in-stdio.is c.stdio_command.ensures
 
 pub returns-in-init : goal.returns-in-init
-returns-in-init c =
-    gives_init c.args.words.now c.in-Some.name.now _ c.in-Some.ensures.value c.in-init.not-check c.in-init.not-submit c.in-init.not-stdio
-    c.in-init.is c.init_command.ensures
+returns-in-init c = gives init c.args.words.now c.in-Some.name.now _ refl c.in-Some.ensures.value c.in-init.is c.init_command.ensures
 
 pub returns-in-serve : goal.returns-in-serve
-returns-in-serve c =
-    gives_serve c.args.words.now c.in-Some.name.now _ c.in-Some.ensures.value c.in-serve.not-check c.in-serve.not-submit c.in-serve.not-stdio
-    c.in-serve.not-init c.in-serve.is c.serve_command.ensures
+returns-in-serve c = gives serve c.args.words.now c.in-Some.name.now _ refl c.in-Some.ensures.value c.in-serve.is c.serve_command.ensures
 
 pub returns-in-migrate : goal.returns-in-migrate
-returns-in-migrate c =
-    gives_migrate c.args.words.now c.in-Some.name.now _ c.in-Some.ensures.value c.in-migrate.not-check c.in-migrate.not-submit
-    c.in-migrate.not-stdio c.in-migrate.not-init c.in-migrate.not-serve c.in-migrate.is c.migrate_command.ensures
+returns-in-migrate c = gives migrate c.args.words.now c.in-Some.name.now _ refl c.in-Some.ensures.value c.in-migrate.is c.migrate_command.ensures
 
 pub returns-in_default-name : goal.returns-in_default-name
 returns-in_default-name c =

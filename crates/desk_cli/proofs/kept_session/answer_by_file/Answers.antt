@@ -4,7 +4,8 @@ use Rattle.sqlite_wal.specs.Files.{image_at}
 use Rattle.sql_tables.specs.Layout.{Sees}
 use Rattle.desk_http.specs.Answering.{StandsBehind}
 use Rattle.desk_cli.specs.KeptRuns.{IsKeptIn}
-use Rattle.desk_cli.proofs.KeptRunLemmas.{breaks_off_from, has_answered_from, kept_stands}
+use Rattle.cli_commands.proofs.SessionRuns.{breaks_off_from, has_answered_from}
+use Rattle.desk_cli.proofs.KeptRunLemmas.{kept_stands}
 use Rattle.desk_cli.proofs.kept_session.answer_by_file.Goals as goal
 
 pub returns-in-Ok-clause-answered : goal.returns-in-Ok-clause-answered

@@ -6,8 +6,9 @@ use Rattle.sql_statements.proofs.Inside.{inside_as}
 use Rattle.sql_statements.specs.Edits.{each_edit_from}
 use Rattle.sql_tables.specs.Layout.{desk_layout}
 use Rattle.sql_tables.specs.TableEdits.{put_entry_edit}
-use Rattle.sql_writes.specs.EntryEdits.{held_rows, stored_values}
-use Rattle.sql_writes.proofs.EntryInserts.{bound_rows, entries_put}
+use Rattle.sql_writes.specs.EntryEdits.{held_entry, stored_entry}
+use Rattle.sql_writes.specs.HeldRows.{held_from}
+use Rattle.sql_writes.proofs.EntryInserts.{bound_entries, entries_put}
 use Rattle.sql_writes.proofs.entries.EntryRowsBatchBody.run_batch.Goals as goal
 
 pub returns : goal.returns
@@ -20,7 +21,7 @@ returns g c =
     let old = state g.S.Store c.args.tx.now.conn.now in
     let new = state g.S.Store c.execute.new.tx.conn.now in
     let values = c.values_of_all-values.result in
-    let are : map bound values ≡ map stored_values (held_rows b.company b.order first entries) = c.values_of_all-values.ensures ∙ ap (map stored_values) c.in_ok-rows.ensures in
-    let ran = rw (c.as_flattened.ensures.value, bound_rows b.company b.order first entries values are) at (told clean).ran in
+    let are : map bound values ≡ map stored_entry (held_from (held_entry b.company b.order) first entries) = c.values_of_all-values.ensures ∙ ap (map stored_entry) c.in_ok-rows.ensures in
+    let ran = rw (c.as_flattened.ensures.value, bound_entries b.company b.order first entries values are) at (told clean).ran in
     makes_of desk_layout (each_edit_from (put_entry_edit b.company b.order) first entries) old new (told clean).shown
     (entries_put b.company b.order first entries c.requires.many old new c.in_ok-execute.field-0 ran)) c.in_ok-execute.ensures

@@ -14,6 +14,6 @@ returns g c =
     let b = c.args.self.now in
     let old = state g.S.Store c.args.tx.now.conn.now in
     let new = state g.S.Store c.execute.new.tx.conn.now in
-    let ran = rw (c.values_of-values.ensures, c.in_ok-row.ensures) at (told clean).ran in
+    let ran = rw (c.values_of.ensures, c.in_ok-row.ensures) at (told clean).ran in
     makes_of desk_layout (put_entry_edit b.company b.order c.args.number c.args.entry.now) old new (told clean).shown
     (entry_put (numbered_record b.company b.order (c.args.number, c.args.entry.now)) old new c.in_ok-execute.field-0 ran)) c.in_ok-execute.ensures

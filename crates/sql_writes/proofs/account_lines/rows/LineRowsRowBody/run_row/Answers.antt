@@ -12,6 +12,6 @@ returns g c =
     (λ told clean.
     let old = state g.S.Store c.args.tx.now.conn.now in
     let new = state g.S.Store c.execute.new.tx.conn.now in
-    let ran = rw (c.values_of-values.ensures, c.in_ok-row.ensures) at (told clean).ran in
+    let ran = rw (c.values_of.ensures, c.in_ok-row.ensures) at (told clean).ran in
     makes_of desk_layout (put_posting_edit c.args.number c.args.line.now) old new (told clean).shown
     (λ t h. (posting_put (numbered_line (c.args.number, c.args.line.now)) old new c.in_ok-execute.field-0 ran t h, tt))) c.in_ok-execute.ensures

@@ -13,6 +13,6 @@ returns g c =
     let entry = c.args.entry.now in
     let old = state g.S.Store c.args.tx.now.conn.now in
     let new = state g.S.Store c.execute.new.tx.conn.now in
-    let ran = rw (c.in_ok-digits.ensures, c.from.ensures, c.in_ok-at.ensures) at (told clean).ran in
+    let ran = rw (c.values_of.ensures, c.in_ok-row.ensures) at (told clean).ran in
     makes_of desk_layout (insert_number_edit c.args.place entry) old new (told clean).shown
     (λ t h. (number_inserted (number_record c.args.place entry) old new c.in_ok-execute.field-0 ran t h, tt))) c.in_ok-execute.ensures

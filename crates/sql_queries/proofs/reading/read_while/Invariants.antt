@@ -4,9 +4,7 @@ use Rattle.sqlite.specs.Given.{HasGiven}
 use Rattle.sqlite.specs.Held.{state}
 use Rattle.sqlite.specs.State.{HasCleanDisk, IsUnchanged, Survives}
 use Rattle.sqlite.specs.Values.{bound}
-use Rattle.sql_tables.specs.QueryRows.{submission_head_row}
-use Rattle.sql_queries.specs.Waiting.{waits}
-use Rattle.sql_queries.proofs.waiting.first_that_wait.Given as goal
+use Rattle.sql_queries.proofs.reading.read_while.Given as goal
 
 abbrev pub invariant-rows : goal.invariant-rows
 invariant-rows g l =
@@ -15,6 +13,7 @@ invariant-rows g l =
     record {
       same_reference : l.rows.conn.ghost_name ≡ l.initial.rows.conn.ghost_name;
       survives : Survives old now (λ _. ⊥);
-      pass : AllByRecursion (λ s. waits s ≡ true) l.waiting.items;
-      read : HasCleanDisk now → HasGiven g.S.Store l.sql (bound l.params) l.rows.conn.now (map submission_head_row l.waiting.items) × IsUnchanged old now;
+      pass : AllByRecursion (λ x. g.P.RowTest.passes l.test x ≡ true) l.values.items;
+      fit : AllByRecursion g.T.FromRow.fits l.values.items;
+      read : HasCleanDisk now → HasGiven g.S.Store l.sql (bound l.params) l.rows.conn.now (map g.T.FromRow.stored_row l.values.items) × IsUnchanged old now;
     }

@@ -8,7 +8,7 @@ use Rattle.sqlite.specs.declared.types.Value.{Value}
 use Rattle.sqlite.specs.declared.types.Value.TheVariants.{Null}
 use Rattle.sqlite_sql.specs.Term.{col, eval_all}
 use Rattle.sqlite_value.specs.Order.{Row, column}
-use Rattle.sql_writes.specs.ManyRows.{rows_shown}
+use Rattle.sql_statements.specs.Statements.{rows_shown}
 
 -- so many parameters from one on
 abbrev read_from : ℕ → ℕ → List Term

@@ -7,11 +7,9 @@ use Rattle.sqlite.proofs.StateLemmas.{survives_then}
 use Rattle.sqlite_keyed.proofs.ListLemmas.{all-append}
 use Rattle.sql_statements.proofs.Queries.{fails_same, stays_rolled_back}
 use Rattle.sql_statements.proofs.SelectTexts.{select_returns_none}
-use Rattle.sql_tables.specs.QueryRows.{submission_head_row}
 use Rattle.sql_queries.proofs.FirstRows.{begun_select, select_survives, goes_on, while_ended, while_stopped}
 use Rattle.sql_queries.specs.Shows.{ReadsWhile}
-use Rattle.sql_queries.specs.Waiting.{waits}
-use Rattle.sql_queries.proofs.waiting.first_that_wait.Goals as goal
+use Rattle.sql_queries.proofs.reading.read_while.Goals as goal
 
 survives_both : (a b c : State) → Survives a b (λ _. ⊥) → Survives b c (λ _. ⊥) → Survives a c (λ _. ⊥)
 survives_both a b c = survives_then a b c _ _ _ (λ _ db made. made) (λ _ db made. made)
@@ -34,8 +32,9 @@ rows-init g c =
     record {
       same_reference = refl;
       survives = select_survives c.args.sql.now (bound c.args.params.now) (state g.S.Store c.args.conn.now) (state g.S.Store c.in_ok-rows.rows.conn.now) bare made.survives;
-      pass = rw c.new-waiting.ensures.items tt;
-      read = λ clean. rw c.new-waiting.ensures.items (begun_select g.S.Store c.args.sql.now (bound c.args.params.now) c.args.conn.now c.in_ok-rows.rows.conn.now bare (made.begun clean));
+      pass = rw c.new-values.ensures.items tt;
+      fit = rw c.new-values.ensures.items tt;
+      read = λ clean. rw c.new-values.ensures.items (begun_select g.S.Store c.args.sql.now (bound c.args.params.now) c.args.conn.now c.in_ok-rows.rows.conn.now bare (made.begun clean));
     }
 
 pub returns-in_default-clause-answer : goal.returns-in_default-clause-answer
@@ -44,24 +43,24 @@ returns-in_default-clause-answer g c clean =
     let new = c.next_of.new.rows.conn.now in
     let late : HasCleanDisk (state g.S.Store new) = search rules in
     let was = c.rows.invariant.read (omega (arith, c.next_of.ensures.survives.clean, late)) in
-    let more = subst (λ o. Advances g.S.Store mid new (option_map submission_head_row o)) c.in_default.is (c.in_ok-head.ensures.advances late) in
-    let read = while_ended g.S.Store submission_head_row c.args.sql.now (bound c.args.params.now) (state g.S.Store c.args.conn.now) mid new _ was (c.in_ok-head.ensures.same late) waits c.rows.invariant.pass (select_returns_none c.args.sql.now c.requires) more in
+    let more = subst (λ o. Advances g.S.Store mid new (option_map g.T.FromRow.stored_row o)) c.in_default.is (c.in_ok-value.ensures.advances late) in
+    let read = while_ended g.S.Store g.T.FromRow.stored_row c.args.sql.now (bound c.args.params.now) (state g.S.Store c.args.conn.now) mid new _ was (c.in_ok-value.ensures.same late) (g.P.RowTest.passes c.args.test.now) c.rows.invariant.pass (select_returns_none c.args.sql.now c.requires) more in
     search rules
 
-pub returns-then-not-waits-clause-answer : goal.returns-then-not-waits-clause-answer
-returns-then-not-waits-clause-answer g c clean =
+pub returns-then-not-goes_on-clause-answer : goal.returns-then-not-goes_on-clause-answer
+returns-then-not-goes_on-clause-answer g c clean =
     let mid = c.rows.rows.conn.now in
     let new = c.next_of.new.rows.conn.now in
     let late : HasCleanDisk (state g.S.Store new) = search rules in
     let was = c.rows.invariant.read (omega (arith, c.next_of.ensures.survives.clean, late)) in
-    let more = subst (λ o. Advances g.S.Store mid new (option_map submission_head_row o)) c.in-Some.is (c.in_ok-head.ensures.advances late) in
-    let fails : waits c.in-Some.head ≡ false = search rules in
-    let read = while_stopped g.S.Store submission_head_row c.args.sql.now (bound c.args.params.now) (state g.S.Store c.args.conn.now) mid new _ was (c.in_ok-head.ensures.same late) waits c.rows.invariant.pass c.in-Some.head fails more in
+    let more = subst (λ o. Advances g.S.Store mid new (option_map g.T.FromRow.stored_row o)) c.in-Some.is (c.in_ok-value.ensures.advances late) in
+    let fails : g.P.RowTest.passes c.args.test.now c.in-Some.value ≡ false = search rules in
+    let read = while_stopped g.S.Store g.T.FromRow.stored_row c.args.sql.now (bound c.args.params.now) (state g.S.Store c.args.conn.now) mid new _ was (c.in_ok-value.ensures.same late) (g.P.RowTest.passes c.args.test.now) c.rows.invariant.pass c.in-Some.value fails more in
     let same = (c.next_of.ensures.same_reference ∙ c.rows.invariant.same_reference) ∙ c.in_ok-rows.ensures.same_reference in
-    subst (λ s. ReadsWhile c.args.sql.now (bound c.args.params.now) submission_head_row waits (state g.S.Store c.args.conn.now) s c.rows.waiting.items) (search rules) read
+    subst (λ s. ReadsWhile c.args.sql.now (bound c.args.params.now) g.T.FromRow.stored_row (g.P.RowTest.passes c.args.test.now) (state g.S.Store c.args.conn.now) s c.rows.values.items) (search rules) read
 
-pub returns-then-not-waits-clause-survives : goal.returns-then-not-waits-clause-survives
-returns-then-not-waits-clause-survives g c =
+pub returns-then-not-goes_on-clause-survives : goal.returns-then-not-goes_on-clause-survives
+returns-then-not-goes_on-clause-survives g c =
     let kept = survives_both (state g.S.Store c.args.conn.now) (state g.S.Store c.rows.rows.conn.now) (state g.S.Store c.next_of.new.rows.conn.now) c.rows.invariant.survives c.next_of.ensures.survives in
     search rules
 
@@ -74,12 +73,14 @@ pub rows-preserved : goal.rows-preserved
 rows-preserved g c =
     let mid = c.rows.rows.conn.now in
     let new = c.next_of.new.rows.conn.now in
+    let fits = c.in_ok-value.ensures.fits in
     record {
       same_reference = c.next_of.ensures.same_reference ∙ c.rows.invariant.same_reference;
       survives = survives_both (state g.S.Store c.args.conn.now) (state g.S.Store mid) (state g.S.Store new) c.rows.invariant.survives c.next_of.ensures.survives;
-      pass = rw c.in_ok-push.ensures.items (all-append _ c.rows.waiting.items (c.in-Some.head ∷ []) c.rows.invariant.pass (search rules, tt));
+      fit = rw c.in_ok-push.ensures.items (all-append _ c.rows.values.items (c.in-Some.value ∷ []) c.rows.invariant.fit (rw c.in-Some.is at fits, tt));
+      pass = rw c.in_ok-push.ensures.items (all-append _ c.rows.values.items (c.in-Some.value ∷ []) c.rows.invariant.pass (search rules, tt));
       read = λ clean.
           let was = c.rows.invariant.read (omega (arith, c.next_of.ensures.survives.clean, clean)) in
-          let more = subst (λ o. Advances g.S.Store mid new (option_map submission_head_row o)) c.in-Some.is (c.in_ok-head.ensures.advances clean) in
-          rw c.in_ok-push.ensures.items (goes_on g.S.Store submission_head_row c.args.sql.now (bound c.args.params.now) (state g.S.Store c.args.conn.now) mid new _ was (c.in_ok-head.ensures.same clean) c.in-Some.head more);
+          let more = subst (λ o. Advances g.S.Store mid new (option_map g.T.FromRow.stored_row o)) c.in-Some.is (c.in_ok-value.ensures.advances clean) in
+          rw c.in_ok-push.ensures.items (goes_on g.S.Store g.T.FromRow.stored_row c.args.sql.now (bound c.args.params.now) (state g.S.Store c.args.conn.now) mid new _ was (c.in_ok-value.ensures.same clean) c.in-Some.value more);
     }

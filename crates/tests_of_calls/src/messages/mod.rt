@@ -1,0 +1,10 @@
+//! Worked sessions with a desk: messages with the bytes that must answer them, over lists, over tables,
+//! and with each call of the store refused.
+mod companies;
+mod connections;
+mod exchanges;
+mod faults;
+mod isolation;
+mod refused_calls;
+mod samples;
+mod settlements;
