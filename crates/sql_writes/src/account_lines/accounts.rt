@@ -1,4 +1,4 @@
-//! The text of an account is kept in the value itself, since a transaction has no allocator.
+//! Rows keep copies of an account's text, as a value that has the text within it.
 ghost use Rattle.std.specs.Prelude.{◌≡◌, IfOk};
 ghost use Rattle.sql_tables.specs.Columns.{account_text as text_of};
 
