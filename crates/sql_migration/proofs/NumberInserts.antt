@@ -26,11 +26,11 @@ use Rattle.sql_tables.specs.Layout.{desk_layout}
 use Rattle.sql_tables.specs.Tables.{Tables}
 use Rattle.sql_tables.specs.declared.records.EntryRecord.{EntryRecord}
 use Rattle.sql_tables.specs.declared.records.NumberRecord.{NumberRecord}
-use Rattle.sql_queries.proofs.Conditions.{one, number_if_any_least}
-use Rattle.sql_queries.proofs.Listings.{entries}
-use Rattle.sql_queries.proofs.Selects.{all_selected}
-use Rattle.sql_queries.proofs.Texts.{places}
-use Rattle.sql_queries.specs.Shows.{ShowsAll}
+use Rattle.sql_query_laws.proofs.Conditions.{one, number_if_any_least}
+use Rattle.sql_query_laws.proofs.Listings.{entries}
+use Rattle.sql_query_laws.proofs.Selects.{all_selected}
+use Rattle.sql_query_laws.proofs.Texts.{places}
+use Rattle.sql_query_laws.specs.Shows.{ShowsAll}
 use Rattle.sql_writes.proofs.Puts.{holds_with, one_put, place_of, PutsOne}
 use Rattle.sql_writes.proofs.Conditions.{taken_first}
 use Rattle.sql_writes.proofs.NumberedRows.{numbered_in_order}

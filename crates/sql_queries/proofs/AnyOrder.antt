@@ -16,7 +16,7 @@ use Rattle.sql_statements.specs.StoredRows.{row_of, Stores}
 use Rattle.sql_tables.specs.Layout.{desk_layout}
 use Rattle.sql_tables.specs.Schema.{desk_schema}
 use Rattle.sql_tables.specs.Tables.{Tables}
-use Rattle.sql_queries.proofs.Listings.{Listing}
+use Rattle.sql_query_laws.proofs.Listings.{Listing}
 
 module _ {X : Type 0} (of : Listing X) {Y : Type 0} (sql : List ℕ) (tests shown : List Term) (order : List (Term × Key)) (params : Row) (p : X → Bool) (f : X → Y) (show : Y → Row)
     (is : IsSelect desk_schema sql (query_from of.table.tree tests shown order))

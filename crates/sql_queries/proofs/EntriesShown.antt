@@ -18,12 +18,12 @@ use Rattle.sql_tables.specs.QueryRows.{entry_amount_row, numbered_entry_row, pla
 use Rattle.sql_tables.specs.Selected.{amount_of, numbered_of, placed_of}
 use Rattle.sql_tables.specs.TableReads.{is_entry_of, entries_in, amounts_in, cents_in, is_at_place, entry_at_place, place_in, is_between, places_between}
 use Rattle.std.specs.Prelude.{◌==◌, ◌&&◌, nat_le}
-use Rattle.sql_queries.proofs.Conditions.{one, two, number_is, number_least, number_most, number_if_any_is}
-use Rattle.sql_queries.proofs.Listings.{entries, numbers}
-use Rattle.sql_queries.proofs.Selects.{all_selected, first_selected}
-use Rattle.sql_queries.proofs.Texts.{places, entries_is, amounts_is, cents_is, sent_entry_is, places_is}
-use Rattle.sql_queries.specs.Shows.{ShowsAll, ShowsFirst}
-use Rattle.sql_queries.specs.Questions as questions
+use Rattle.sql_query_laws.proofs.Conditions.{one, two, number_is, number_least, number_most, number_if_any_is}
+use Rattle.sql_query_laws.proofs.Listings.{entries, numbers}
+use Rattle.sql_query_laws.proofs.Selects.{all_selected, first_selected}
+use Rattle.sql_query_laws.proofs.Texts.{places, entries_is, amounts_is, cents_is, sent_entry_is, places_is}
+use Rattle.sql_query_laws.specs.Shows.{ShowsAll, ShowsFirst}
+use Rattle.sql_query_laws.specs.Questions as questions
 
 pub entries_shown : (c : List ℕ) (order : ℕ) → ShowsAll questions.entries.text (Text c ∷ number order ∷ []) numbered_entry_row (entries_in c order)
 entries_shown c order =

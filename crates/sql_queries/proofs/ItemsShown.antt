@@ -7,12 +7,12 @@ use Rattle.sql_tables.specs.Columns.{number}
 use Rattle.sql_tables.specs.QueryRows.{entry_return_row, change_line_row, suspense_line_row}
 use Rattle.sql_tables.specs.Selected.{return_of, change_line_of}
 use Rattle.sql_tables.specs.TableReads.{is_return_in, returns_in, is_return_at, return_at, is_return_since, orders_returned, change_lines_in, suspense_in}
-use Rattle.sql_queries.proofs.Conditions.{one, two, three, number_is, number_least}
-use Rattle.sql_queries.proofs.Listings.{returns, changes, suspense}
-use Rattle.sql_queries.proofs.Selects.{all_selected, first_selected, all_pass}
-use Rattle.sql_queries.proofs.Texts.{places, returns_is, return_is, returned_orders_is, change_lines_is, suspense_is}
-use Rattle.sql_queries.specs.Shows.{ShowsAll, ShowsFirst}
-use Rattle.sql_queries.specs.Questions as questions
+use Rattle.sql_query_laws.proofs.Conditions.{one, two, three, number_is, number_least}
+use Rattle.sql_query_laws.proofs.Listings.{returns, changes, suspense}
+use Rattle.sql_query_laws.proofs.Selects.{all_selected, first_selected, all_pass}
+use Rattle.sql_query_laws.proofs.Texts.{places, returns_is, return_is, returned_orders_is, change_lines_is, suspense_is}
+use Rattle.sql_query_laws.specs.Shows.{ShowsAll, ShowsFirst}
+use Rattle.sql_query_laws.specs.Questions as questions
 
 pub returns_shown : (c : List ℕ) (order : ℕ) → ShowsAll questions.returns.text (Text c ∷ number order ∷ []) entry_return_row (returns_in c order)
 returns_shown c order =

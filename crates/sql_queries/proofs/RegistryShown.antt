@@ -13,12 +13,12 @@ use Rattle.sql_tables.specs.DeskTables as the
 use Rattle.sql_tables.specs.QueryRows.{keyed_identity_row}
 use Rattle.sql_tables.specs.Selected.{keyed_identity_of}
 use Rattle.sql_tables.specs.TableReads.{company_in}
-use Rattle.sql_queries.proofs.Conditions.{one, number_is}
-use Rattle.sql_queries.proofs.Listings.{desk, holidays, companies}
-use Rattle.sql_queries.proofs.Selects.{all_selected, first_selected, itself, each_itself, all_pass}
-use Rattle.sql_queries.proofs.Texts.{places, keyed_identity_is, day_is, company_is, companies_is, holidays_is}
-use Rattle.sql_queries.specs.Shows.{ShowsAll, ShowsFirst}
-use Rattle.sql_queries.specs.Questions as questions
+use Rattle.sql_query_laws.proofs.Conditions.{one, number_is}
+use Rattle.sql_query_laws.proofs.Listings.{desk, holidays, companies}
+use Rattle.sql_query_laws.proofs.Selects.{all_selected, first_selected, itself, each_itself, all_pass}
+use Rattle.sql_query_laws.proofs.Texts.{places, keyed_identity_is, day_is, company_is, companies_is, holidays_is}
+use Rattle.sql_query_laws.specs.Shows.{ShowsAll, ShowsFirst}
+use Rattle.sql_query_laws.specs.Questions as questions
 
 pub keyed_identity_shown : ShowsFirst questions.keyed_identity.text [] keyed_identity_row (λ t. Some (keyed_identity_of t.desk))
 keyed_identity_shown = first_selected desk questions.keyed_identity.text (sql.number_is 1 (pos 1) ∷ []) (places (3 ∷ 4 ∷ 5 ∷ 6 ∷ 7 ∷ [])) [] (λ _. true) keyed_identity_of keyed_identity_row keyed_identity_is.asks (λ i d. one (number_is 1 1)) (λ i d. refl)

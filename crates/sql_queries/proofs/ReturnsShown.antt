@@ -18,13 +18,13 @@ use Rattle.sql_tables.specs.TableReads.{return_lines_in}
 use Rattle.sql_tables.specs.Tables.{Tables}
 use Rattle.sql_tables.specs.declared.row.items.ReturnLine.{ReturnLine}
 use Rattle.sql_queries.proofs.AnyOrder.{selected_in_any_order, same_read}
-use Rattle.sql_queries.proofs.Conditions.{one}
-use Rattle.sql_queries.proofs.Injective.{return_line_in, return_line_back}
-use Rattle.sql_queries.proofs.Listings.{returns}
-use Rattle.sql_queries.proofs.Texts.{places, return_lines_is}
+use Rattle.sql_query_laws.proofs.Conditions.{one}
+use Rattle.sql_query_laws.proofs.Injective.{return_line_in, return_line_back}
+use Rattle.sql_query_laws.proofs.Listings.{returns}
+use Rattle.sql_query_laws.proofs.Texts.{places, return_lines_is}
 use Rattle.sql_queries.specs.ByNumber.{by_line_number}
-use Rattle.sql_queries.specs.Shows.{ReadsAll}
-use Rattle.sql_queries.specs.Questions as questions
+use Rattle.sql_query_laws.specs.Shows.{ReadsAll}
+use Rattle.sql_query_laws.specs.Questions as questions
 
 read_in_any_order : (c : List ℕ) {old new : State} {lines : List ReturnLine} → ReadsAll questions.return_lines.text (Text c ∷ []) return_line_row old new lines → (t : Tables) → Holds desk_layout old.now t
     → IsPermutation (return_lines_in c t) lines

@@ -15,12 +15,12 @@ use Rattle.sql_tables.specs.CutTables.{is_row}
 use Rattle.sql_tables.specs.QueryRows.{submission_head_row, submission_facts_row, order_and_settlement_row}
 use Rattle.sql_tables.specs.Selected.{head_of, facts_of, order_of}
 use Rattle.sql_tables.specs.TableReads.{is_of, is_under, is_retry_of, tries, heads_in, head_under, order_in, facts_in, authorized_in, is_authorization_of}
-use Rattle.sql_queries.proofs.Conditions.{one, two, number_is, number_if_any_least}
-use Rattle.sql_queries.proofs.Listings.{submissions, authorizations}
-use Rattle.sql_queries.proofs.Selects.{all_selected, first_selected}
-use Rattle.sql_queries.proofs.Texts.{places, submissions_of_is, settled_submissions_is, retries_is, numbered_submission_is, submission_is, order_is, facts_is, authorization_is}
-use Rattle.sql_queries.specs.Shows.{ShowsAll, ShowsFirst}
-use Rattle.sql_queries.specs.Questions as questions
+use Rattle.sql_query_laws.proofs.Conditions.{one, two, number_is, number_if_any_least}
+use Rattle.sql_query_laws.proofs.Listings.{submissions, authorizations}
+use Rattle.sql_query_laws.proofs.Selects.{all_selected, first_selected}
+use Rattle.sql_query_laws.proofs.Texts.{places, submissions_of_is, settled_submissions_is, retries_is, numbered_submission_is, submission_is, order_is, facts_is, authorization_is}
+use Rattle.sql_query_laws.specs.Shows.{ShowsAll, ShowsFirst}
+use Rattle.sql_query_laws.specs.Questions as questions
 use Rattle.sql_queries.specs.Waiting.{is_settled_of}
 
 pub submissions_of_shown : (c : List ℕ) → ShowsAll questions.submissions_of.text (Text c ∷ []) submission_head_row (heads_in (is_of c))

@@ -36,14 +36,14 @@ use Rattle.sql_tables.specs.Selected.{head_of}
 use Rattle.sql_tables.specs.TableReads.{is_of, is_waiting, is_waiting_of, heads_in}
 use Rattle.sql_tables.specs.declared.records.SubmissionRecord.{SubmissionRecord}
 use Rattle.sql_tables.specs.declared.row.submissions.SubmissionHead.{SubmissionHead}
-use Rattle.sql_queries.proofs.Conditions.{one}
+use Rattle.sql_query_laws.proofs.Conditions.{one}
 use Rattle.sql_queries.proofs.FirstRows.{found_while, while_all}
-use Rattle.sql_queries.proofs.Injective.{submission_head_rows}
-use Rattle.sql_queries.proofs.Keys.{numbers_compare, by_text_then_more}
+use Rattle.sql_query_laws.proofs.Injective.{submission_head_rows}
+use Rattle.sql_query_laws.proofs.Keys.{numbers_compare, by_text_then_more}
 use Rattle.sql_queries.proofs.Sorting.{filter_both, ascending_passing, sorts_rise}
-use Rattle.sql_queries.proofs.Texts.{waiting_submissions_is}
-use Rattle.sql_queries.specs.Shows.{ShowsAll, ReadsWhile}
-use Rattle.sql_queries.specs.Questions as questions
+use Rattle.sql_query_laws.proofs.Texts.{waiting_submissions_is}
+use Rattle.sql_query_laws.specs.Shows.{ShowsAll, ReadsWhile}
+use Rattle.sql_query_laws.specs.Questions as questions
 use Rattle.sql_queries.specs.Waiting.{waits}
 
 -- ---- the order

@@ -1,7 +1,7 @@
 //! The lines of accounts, and their sums.
 ghost use Rattle.std.specs.Prelude.{◌≡◌, IfOk, map};
 ghost use Rattle.sql_tables.specs.TableReads.{lines_in, sums_in};
-ghost use Rattle.sql_queries.specs.Postings.{posting_of};
+ghost use Rattle.sql_query_laws.specs.Postings.{posting_of};
 ghost use Rattle.sql_queries.specs.Asking.{Asks};
 
 use crate::rows::all_of;

@@ -8,7 +8,7 @@ ghost use Rattle.sqlite.specs.Values.{bound};
 ghost use Rattle.sql_statements.specs.SelectTexts.{IsSelectText};
 ghost use Rattle.sql_statements.specs.Promises.{SucceedsWith, LeavesNothingNew, SeesStill};
 ghost use Rattle.sql_tables.specs.Ranges.{FitsIfAny};
-ghost use Rattle.sql_queries.specs.Shows.{ReadsWhile};
+ghost use Rattle.sql_query_laws.specs.Shows.{ReadsWhile};
 
 use sql_tables::FromRow;
 use sqlite::types::ValueRef;

@@ -6,7 +6,7 @@ ghost use Rattle.sqlite_value.specs.declared.value.Value.TheVariants.{Blob};
 ghost use Rattle.sql_statements.specs.SelectTexts.{IsSelectText};
 ghost use Rattle.sql_statements.specs.Promises.{AskedOn, SucceedsWith, LeavesNothingNew, SeesStill};
 ghost use Rattle.sql_tables.specs.Ranges.{FitsIfAny};
-ghost use Rattle.sql_queries.specs.Shows.{ReadsAll, ReadsFirst};
+ghost use Rattle.sql_query_laws.specs.Shows.{ReadsAll, ReadsFirst};
 
 use crate::reading::{RowTest, read_while};
 use sql_statements::query;

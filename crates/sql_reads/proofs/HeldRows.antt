@@ -3,7 +3,7 @@ use Rattle.std.proofs.Common.{◌≡◌, ◌∙◌, ap, sym, List, map}
 use Rattle.sqlite_keyed.proofs.ListLemmas.{map-map}
 use Rattle.desk_book.specs.declared.held_submission.HeldSubmission.{HeldSubmission}
 use Rattle.desk_rules.specs.declared.bodies.company.Company.{Company}
-use Rattle.sql_queries.proofs.Selects.{each_itself}
+use Rattle.sql_query_laws.proofs.Selects.{each_itself}
 use Rattle.sql_tables.specs.Composed.{held_in}
 use Rattle.sql_tables.specs.TableReads.{heads_in, is_waiting_of, rows_in, whole_row}
 use Rattle.sql_tables.specs.Tables.{Tables}

@@ -6,7 +6,7 @@ use Rattle.sqlite.specs.Held.{Held, state}
 use Rattle.sqlite.specs.State.{HasCleanDisk}
 use Rattle.sqlite_value.specs.Order.{Row}
 use Rattle.sql_statements.specs.Queries.{Stays}
-use Rattle.sql_queries.specs.Shows.{ReadsFirst}
+use Rattle.sql_query_laws.specs.Shows.{ReadsFirst}
 use Rattle.sql_setup.specs.Refusals.{Showed, SaysVersion, IsRefused}
 use Rattle.sql_setup.specs.Setup.{HasDesk}
 use Rattle.sql_setup.specs.Versions.{row_text, version_text, version_row, IsOfVersion}

@@ -13,10 +13,10 @@ use Rattle.sql_statements.proofs.Selects.{selected, selected_within}
 use Rattle.sql_tables.specs.Schema.{desk_schema}
 use Rattle.sql_tables.specs.Columns.{number}
 use Rattle.sql_tables.specs.declared.records.DeskRecord.{DeskRecord}
-use Rattle.sql_queries.proofs.Conditions.{one, number_is}
-use Rattle.sql_queries.proofs.Found.{same_option}
-use Rattle.sql_queries.proofs.Texts.{places}
-use Rattle.sql_queries.specs.Shows.{ReadsFirst, IsInjective}
+use Rattle.sql_query_laws.proofs.Conditions.{one, number_is}
+use Rattle.sql_query_laws.proofs.Found.{same_option}
+use Rattle.sql_query_laws.proofs.Texts.{places}
+use Rattle.sql_query_laws.specs.Shows.{ReadsFirst, IsInjective}
 use Rattle.sql_setup.specs.Versions.{version_text, row_text, version_row, first_schema, versioned_row, IsOfVersion}
 
 version_in_first : IsSelect first_schema version_text (query_from 0 (is_number 1 (pos 1) ∷ []) (places (2 ∷ [])) (by 1 ∷ []))

@@ -11,7 +11,7 @@ use Rattle.sql_tables.specs.Question.{ask, is_one, rises}
 use Rattle.sql_tables.specs.Schema.{desk_schema}
 pub use Rattle.sql_tables.specs.Schema.{first_schema}
 use Rattle.sql_tables.specs.declared.records.DeskRecord.{DeskRecord}
-use Rattle.sql_queries.specs.Shows.{ReadsFirst}
+use Rattle.sql_query_laws.specs.Shows.{ReadsFirst}
 use Rattle.sql_tables.specs.Description.{as_row, table}
 
 abbrev pub version_text : List ℕ

@@ -2,7 +2,7 @@
 ghost use Rattle.std.specs.Prelude.{◌≡◌, [], IfOk, option_map, slice_get};
 ghost use Rattle.sql_statements.specs.SelectTexts.{IsSelectText};
 ghost use Rattle.sql_statements.specs.Promises.{AskedOn};
-ghost use Rattle.sql_queries.specs.Shows.{ReadsFirst};
+ghost use Rattle.sql_query_laws.specs.Shows.{ReadsFirst};
 ghost use Rattle.sql_setup.specs.Versions.{version_text, version_row};
 
 use sql_statements::query;

@@ -35,8 +35,8 @@ use Rattle.sql_tables.specs.Layout.{desk_layout}
 use Rattle.sql_tables.specs.TableEdits.{with_balance}
 use Rattle.sql_tables.specs.Tables.{Tables, IsTableOf}
 use Rattle.sql_tables.specs.declared.records.BalanceRecord.{BalanceRecord}
-use Rattle.sql_queries.proofs.Conditions.{two}
-use Rattle.sql_queries.proofs.LinesShown.{accounts_are}
+use Rattle.sql_query_laws.proofs.Conditions.{two}
+use Rattle.sql_query_laws.proofs.LinesShown.{accounts_are}
 use Rattle.sql_writes.proofs.Conditions.{number_is, same_text, same_number, equal_numbers, equal_both}
 use Rattle.sql_writes.proofs.Keys.{put_in_order}
 use Rattle.sql_writes.specs.LineTexts.{upsert_balance}

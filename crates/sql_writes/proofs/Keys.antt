@@ -26,7 +26,7 @@ use Rattle.sql_statements.proofs.StoredRows.{stores_in}
 use Rattle.sql_tables.specs.Columns.{number, letter}
 use Rattle.sql_tables.specs.KeyOrders.{IsInOrder}
 use Rattle.sql_tables.specs.Tables.{IsTableOf}
-use Rattle.sql_queries.proofs.Conditions.{letter_is}
+use Rattle.sql_query_laws.proofs.Conditions.{letter_is}
 use Rattle.sql_writes.proofs.Conditions.{same_text, same_number, number_is}
 
 pub find_none : {X : Type 0} (p : X → Bool) (xs : List X) → list_any p xs ≡ false → find p xs ≡ None

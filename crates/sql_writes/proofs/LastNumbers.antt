@@ -17,12 +17,12 @@ use Rattle.sql_tables.specs.Schema.{desk_schema}
 use Rattle.sql_tables.specs.Columns.{number}
 use Rattle.sql_tables.specs.Layout.{desk_layout}
 use Rattle.sql_tables.specs.TableEdits.{next_number}
-use Rattle.sql_queries.proofs.Found.{first_found}
-use Rattle.sql_queries.proofs.Injective.{number_columns}
-use Rattle.sql_queries.proofs.LastShown.{number_shown}
-use Rattle.sql_queries.proofs.Listings.{Listing, postings, returns, changes, suspense}
-use Rattle.sql_queries.proofs.Texts.{places, last_suspense_is}
-use Rattle.sql_queries.specs.Shows.{ReadsFirst}
+use Rattle.sql_query_laws.proofs.Found.{first_found}
+use Rattle.sql_query_laws.proofs.Injective.{number_columns}
+use Rattle.sql_query_laws.proofs.LastShown.{number_shown}
+use Rattle.sql_query_laws.proofs.Listings.{Listing, postings, returns, changes, suspense}
+use Rattle.sql_query_laws.proofs.Texts.{places, last_suspense_is}
+use Rattle.sql_query_laws.specs.Shows.{ReadsFirst}
 use Rattle.sql_writes.specs.Numbering.{next_is}
 use Rattle.sql_writes.specs.LineTexts.{last_text}
 use Rattle.sql_writes.specs.declared.numbering.NumberedTable.{NumberedTable}

@@ -11,11 +11,11 @@ use Rattle.sql_tables.specs.Columns.{number, account_text, decimal_text}
 use Rattle.sql_tables.specs.Layout.{desk_layout}
 use Rattle.sql_tables.specs.Ranges.{FitsIfAny}
 use Rattle.sql_tables.specs.TableReads.{sum_in}
-use Rattle.sql_queries.proofs.Found.{first_found_within}
-use Rattle.sql_queries.proofs.LinesShown.{sum_shown}
-use Rattle.sql_queries.proofs.SumRows.{sums_apart}
-use Rattle.sql_queries.specs.Shows.{ReadsFirst}
-use Rattle.sql_queries.specs.Questions as questions
+use Rattle.sql_query_laws.proofs.Found.{first_found_within}
+use Rattle.sql_query_laws.proofs.LinesShown.{sum_shown}
+use Rattle.sql_query_laws.proofs.SumRows.{sums_apart}
+use Rattle.sql_query_laws.specs.Shows.{ReadsFirst}
+use Rattle.sql_query_laws.specs.Questions as questions
 use Rattle.sql_writes.specs.LineEdits.{sum_is}
 
 pub sum_read : (account : Account) (day : ℕ) {old new : State} {sum : Option ℤ} → ReadsFirst questions.sum.text (Text (account_text account) ∷ number day ∷ []) (λ n. decimal_text n ∷ []) old new sum → FitsIfAny (λ n. fits_i128 n ≡ true) sum

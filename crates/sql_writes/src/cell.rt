@@ -4,7 +4,7 @@ ghost use Rattle.sqlite.specs.Values.{bound};
 ghost use Rattle.sql_statements.specs.SelectTexts.{IsSelectText};
 ghost use Rattle.sql_statements.specs.Promises.{RunsWith, SeesInside};
 ghost use Rattle.sql_tables.specs.Ranges.{FitsIfAny};
-ghost use Rattle.sql_queries.specs.Shows.{ReadsFirst};
+ghost use Rattle.sql_query_laws.specs.Shows.{ReadsFirst};
 
 use sql_statements::query_first_inside;
 use sql_tables::{FromColumn, read_only_column};

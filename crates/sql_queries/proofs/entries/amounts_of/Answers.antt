@@ -1,9 +1,9 @@
 use Rattle.std.proofs.Common.{rules}
 use Rattle.std.proofs.lemmas.Result.{IfOk-weaker}
 use Rattle.sql_queries.proofs.EntriesShown.{amounts_shown}
-use Rattle.sql_queries.proofs.Found.{all_found}
-use Rattle.sql_queries.proofs.Injective.{entry_amount_rows}
-use Rattle.sql_queries.proofs.Texts.{amounts_is}
+use Rattle.sql_query_laws.proofs.Found.{all_found}
+use Rattle.sql_query_laws.proofs.Injective.{entry_amount_rows}
+use Rattle.sql_query_laws.proofs.Texts.{amounts_is}
 use Rattle.sql_queries.proofs.entries.amounts_of.Goals as goal
 
 pub all_of-requires : goal.all_of-requires

@@ -1,9 +1,9 @@
 use Rattle.std.proofs.Common.{rules, ◌∷◌, []}
 use Rattle.sql_tables.specs.Columns.{number}
 use Rattle.sql_queries.proofs.EntriesShown.{cents_shown}
-use Rattle.sql_queries.proofs.Found.{one_found}
-use Rattle.sql_queries.proofs.Injective.{number_columns}
-use Rattle.sql_queries.proofs.Texts.{cents_is}
+use Rattle.sql_query_laws.proofs.Found.{one_found}
+use Rattle.sql_query_laws.proofs.Injective.{number_columns}
+use Rattle.sql_query_laws.proofs.Texts.{cents_is}
 use Rattle.sql_queries.proofs.entries.cents_of.Goals as goal
 
 pub cell_of-requires : goal.cell_of-requires

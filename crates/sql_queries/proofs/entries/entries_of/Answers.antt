@@ -1,9 +1,9 @@
 use Rattle.std.proofs.Common.{rules}
 use Rattle.std.proofs.lemmas.Result.{IfOk-weaker}
 use Rattle.sql_queries.proofs.EntriesShown.{entries_shown}
-use Rattle.sql_queries.proofs.Found.{all_found}
-use Rattle.sql_queries.proofs.Injective.{numbered_entry_rows}
-use Rattle.sql_queries.proofs.Texts.{entries_is}
+use Rattle.sql_query_laws.proofs.Found.{all_found}
+use Rattle.sql_query_laws.proofs.Injective.{numbered_entry_rows}
+use Rattle.sql_query_laws.proofs.Texts.{entries_is}
 use Rattle.sql_queries.proofs.entries.entries_of.Goals as goal
 
 pub all_of-requires : goal.all_of-requires

@@ -1,7 +1,7 @@
 use Rattle.std.proofs.Common.{rules}
 use Rattle.std.proofs.lemmas.Result.{IfOk-weaker}
-use Rattle.sql_queries.proofs.LastShown.{last_number_found}
-use Rattle.sql_queries.proofs.Texts.{last_number_is}
+use Rattle.sql_query_laws.proofs.LastShown.{last_number_found}
+use Rattle.sql_query_laws.proofs.Texts.{last_number_is}
 use Rattle.sql_queries.proofs.entries.last_number.Goals as goal
 
 pub first_of-requires : goal.first_of-requires

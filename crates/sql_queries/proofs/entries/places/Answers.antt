@@ -1,9 +1,9 @@
 use Rattle.std.proofs.Common.{rules}
 use Rattle.std.proofs.lemmas.Result.{IfOk-weaker}
 use Rattle.sql_queries.proofs.EntriesShown.{places_shown}
-use Rattle.sql_queries.proofs.Found.{all_found}
-use Rattle.sql_queries.proofs.Injective.{number_columns}
-use Rattle.sql_queries.proofs.Texts.{places_is}
+use Rattle.sql_query_laws.proofs.Found.{all_found}
+use Rattle.sql_query_laws.proofs.Injective.{number_columns}
+use Rattle.sql_query_laws.proofs.Texts.{places_is}
 use Rattle.sql_queries.proofs.entries.places.Goals as goal
 
 pub column_of-requires : goal.column_of-requires

@@ -1,9 +1,9 @@
 use Rattle.std.proofs.Common.{rules}
 use Rattle.std.proofs.lemmas.Result.{IfOk-weaker}
 use Rattle.sql_queries.proofs.EntriesShown.{sent_entry_shown}
-use Rattle.sql_queries.proofs.Found.{first_found}
-use Rattle.sql_queries.proofs.Injective.{placed_entry_rows}
-use Rattle.sql_queries.proofs.Texts.{sent_entry_is}
+use Rattle.sql_query_laws.proofs.Found.{first_found}
+use Rattle.sql_query_laws.proofs.Injective.{placed_entry_rows}
+use Rattle.sql_query_laws.proofs.Texts.{sent_entry_is}
 use Rattle.sql_queries.proofs.entries.sent_entry.Goals as goal
 
 pub first_of-requires : goal.first_of-requires

@@ -1,9 +1,9 @@
 use Rattle.std.proofs.Common.{rules}
 use Rattle.std.proofs.lemmas.Result.{IfOk-weaker}
-use Rattle.sql_queries.proofs.Found.{first_found}
-use Rattle.sql_queries.proofs.Injective.{blob_columns}
-use Rattle.sql_queries.proofs.LinesShown.{file_shown}
-use Rattle.sql_queries.proofs.Texts.{file_is}
+use Rattle.sql_query_laws.proofs.Found.{first_found}
+use Rattle.sql_query_laws.proofs.Injective.{blob_columns}
+use Rattle.sql_query_laws.proofs.LinesShown.{file_shown}
+use Rattle.sql_query_laws.proofs.Texts.{file_is}
 use Rattle.sql_queries.proofs.files.file_text.Goals as goal
 
 pub blob_of-requires : goal.blob_of-requires

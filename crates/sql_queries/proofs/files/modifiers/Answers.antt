@@ -1,9 +1,9 @@
 use Rattle.std.proofs.Common.{rules}
 use Rattle.std.proofs.lemmas.Result.{IfOk-weaker}
-use Rattle.sql_queries.proofs.LinesShown.{modifiers_shown}
-use Rattle.sql_queries.proofs.Found.{all_found}
-use Rattle.sql_queries.proofs.Injective.{letter_columns}
-use Rattle.sql_queries.proofs.Texts.{modifiers_is}
+use Rattle.sql_query_laws.proofs.LinesShown.{modifiers_shown}
+use Rattle.sql_query_laws.proofs.Found.{all_found}
+use Rattle.sql_query_laws.proofs.Injective.{letter_columns}
+use Rattle.sql_query_laws.proofs.Texts.{modifiers_is}
 use Rattle.sql_queries.proofs.files.modifiers.Goals as goal
 
 pub column_of-requires : goal.column_of-requires

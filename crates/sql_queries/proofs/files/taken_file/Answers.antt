@@ -1,9 +1,9 @@
 use Rattle.std.proofs.Common.{rules}
 use Rattle.std.proofs.lemmas.Result.{IfOk-weaker}
-use Rattle.sql_queries.proofs.LinesShown.{taken_shown}
-use Rattle.sql_queries.proofs.Found.{first_found}
-use Rattle.sql_queries.proofs.Injective.{taken_rows}
-use Rattle.sql_queries.proofs.Texts.{taken_is}
+use Rattle.sql_query_laws.proofs.LinesShown.{taken_shown}
+use Rattle.sql_query_laws.proofs.Found.{first_found}
+use Rattle.sql_query_laws.proofs.Injective.{taken_rows}
+use Rattle.sql_query_laws.proofs.Texts.{taken_is}
 use Rattle.sql_queries.proofs.files.taken_file.Goals as goal
 
 pub first_of-requires : goal.first_of-requires

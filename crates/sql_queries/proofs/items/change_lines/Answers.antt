@@ -1,9 +1,9 @@
 use Rattle.std.proofs.Common.{rules}
 use Rattle.std.proofs.lemmas.Result.{IfOk-weaker}
 use Rattle.sql_queries.proofs.ItemsShown.{change_lines_shown}
-use Rattle.sql_queries.proofs.Found.{all_found}
-use Rattle.sql_queries.proofs.Injective.{change_line_rows}
-use Rattle.sql_queries.proofs.Texts.{change_lines_is}
+use Rattle.sql_query_laws.proofs.Found.{all_found}
+use Rattle.sql_query_laws.proofs.Injective.{change_line_rows}
+use Rattle.sql_query_laws.proofs.Texts.{change_lines_is}
 use Rattle.sql_queries.proofs.items.change_lines.Goals as goal
 
 pub all_of-requires : goal.all_of-requires

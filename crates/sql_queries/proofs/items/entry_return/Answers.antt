@@ -1,9 +1,9 @@
 use Rattle.std.proofs.Common.{rules}
 use Rattle.std.proofs.lemmas.Result.{IfOk-weaker}
 use Rattle.sql_queries.proofs.ItemsShown.{return_shown}
-use Rattle.sql_queries.proofs.Found.{first_found}
-use Rattle.sql_queries.proofs.Injective.{entry_return_rows}
-use Rattle.sql_queries.proofs.Texts.{return_is}
+use Rattle.sql_query_laws.proofs.Found.{first_found}
+use Rattle.sql_query_laws.proofs.Injective.{entry_return_rows}
+use Rattle.sql_query_laws.proofs.Texts.{return_is}
 use Rattle.sql_queries.proofs.items.entry_return.Goals as goal
 
 pub first_of-requires : goal.first_of-requires

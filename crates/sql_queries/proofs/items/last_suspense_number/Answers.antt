@@ -1,6 +1,6 @@
 use Rattle.std.proofs.Common.{rules, ap, unwrap_or}
-use Rattle.sql_queries.proofs.LastShown.{last_suspense_found}
-use Rattle.sql_queries.proofs.Texts.{last_suspense_is}
+use Rattle.sql_query_laws.proofs.LastShown.{last_suspense_found}
+use Rattle.sql_query_laws.proofs.Texts.{last_suspense_is}
 use Rattle.sql_queries.proofs.items.last_suspense_number.Goals as goal
 
 pub cell_of-requires : goal.cell_of-requires

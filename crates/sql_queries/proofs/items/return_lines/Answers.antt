@@ -1,6 +1,6 @@
 use Rattle.std.proofs.Common.{rules}
 use Rattle.sql_queries.proofs.ReturnsShown.{return_lines_found}
-use Rattle.sql_queries.proofs.Texts.{return_lines_is}
+use Rattle.sql_query_laws.proofs.Texts.{return_lines_is}
 use Rattle.sql_queries.proofs.items.return_lines.Goals as goal
 
 pub all_of-requires : goal.all_of-requires

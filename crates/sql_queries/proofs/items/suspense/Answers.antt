@@ -1,9 +1,9 @@
 use Rattle.std.proofs.Common.{rules}
 use Rattle.std.proofs.lemmas.Result.{IfOk-weaker}
 use Rattle.sql_queries.proofs.ItemsShown.{suspense_shown}
-use Rattle.sql_queries.proofs.Found.{all_found}
-use Rattle.sql_queries.proofs.Injective.{suspense_line_rows}
-use Rattle.sql_queries.proofs.Texts.{suspense_is}
+use Rattle.sql_query_laws.proofs.Found.{all_found}
+use Rattle.sql_query_laws.proofs.Injective.{suspense_line_rows}
+use Rattle.sql_query_laws.proofs.Texts.{suspense_is}
 use Rattle.sql_queries.proofs.items.suspense.Goals as goal
 
 pub all_of-requires : goal.all_of-requires

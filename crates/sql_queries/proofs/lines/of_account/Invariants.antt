@@ -1,5 +1,5 @@
 use Rattle.std.proofs.Common.{◌≡◌, ◌++◌, length, map}
-use Rattle.sql_queries.specs.Postings.{posting_of}
+use Rattle.sql_query_laws.specs.Postings.{posting_of}
 use Rattle.sql_queries.proofs.lines.of_account.Given as goal
 
 abbrev pub invariant-loop-line : goal.invariant-loop-line

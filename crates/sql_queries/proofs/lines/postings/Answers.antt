@@ -1,9 +1,9 @@
 use Rattle.std.proofs.Common.{rules}
 use Rattle.std.proofs.lemmas.Result.{IfOk-weaker}
-use Rattle.sql_queries.proofs.Found.{all_found}
-use Rattle.sql_queries.proofs.Injective.{posting_line_rows}
-use Rattle.sql_queries.proofs.LinesShown.{postings_shown, postings_found}
-use Rattle.sql_queries.proofs.Texts.{postings_is}
+use Rattle.sql_query_laws.proofs.Found.{all_found}
+use Rattle.sql_query_laws.proofs.Injective.{posting_line_rows}
+use Rattle.sql_query_laws.proofs.LinesShown.{postings_shown, postings_found}
+use Rattle.sql_query_laws.proofs.Texts.{postings_is}
 use Rattle.sql_queries.proofs.lines.postings.Goals as goal
 
 pub all_of-requires : goal.all_of-requires

@@ -1,10 +1,10 @@
 use Rattle.std.proofs.Common.{rules}
 use Rattle.sql_tables.specs.QueryRows.{day_sum_row}
 use Rattle.sql_tables.specs.RowRanges.{DaySumFits}
-use Rattle.sql_queries.proofs.Found.{all_found_within, together}
-use Rattle.sql_queries.proofs.LinesShown.{sums_shown}
-use Rattle.sql_queries.proofs.SumRows.{day_sums_apart}
-use Rattle.sql_queries.proofs.Texts.{sums_is}
+use Rattle.sql_query_laws.proofs.Found.{all_found_within, together}
+use Rattle.sql_query_laws.proofs.LinesShown.{sums_shown}
+use Rattle.sql_query_laws.proofs.SumRows.{day_sums_apart}
+use Rattle.sql_query_laws.proofs.Texts.{sums_is}
 use Rattle.sql_queries.proofs.lines.sums.Goals as goal
 
 pub all_of-requires : goal.all_of-requires

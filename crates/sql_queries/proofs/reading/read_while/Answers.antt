@@ -8,7 +8,7 @@ use Rattle.sqlite_keyed.proofs.ListLemmas.{all-append}
 use Rattle.sql_statements.proofs.Queries.{fails_same, stays_rolled_back}
 use Rattle.sql_statements.proofs.SelectTexts.{select_returns_none}
 use Rattle.sql_queries.proofs.FirstRows.{begun_select, select_survives, goes_on, while_ended, while_stopped}
-use Rattle.sql_queries.specs.Shows.{ReadsWhile}
+use Rattle.sql_query_laws.specs.Shows.{ReadsWhile}
 use Rattle.sql_queries.proofs.reading.read_while.Goals as goal
 
 survives_both : (a b c : State) → Survives a b (λ _. ⊥) → Survives b c (λ _. ⊥) → Survives a c (λ _. ⊥)

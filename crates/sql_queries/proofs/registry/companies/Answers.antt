@@ -1,9 +1,9 @@
 use Rattle.std.proofs.Common.{rules}
 use Rattle.std.proofs.lemmas.Result.{IfOk-weaker}
 use Rattle.sql_queries.proofs.RegistryShown.{companies_shown}
-use Rattle.sql_queries.proofs.Found.{all_found}
-use Rattle.sql_queries.proofs.Injective.{company_rows}
-use Rattle.sql_queries.proofs.Texts.{companies_is}
+use Rattle.sql_query_laws.proofs.Found.{all_found}
+use Rattle.sql_query_laws.proofs.Injective.{company_rows}
+use Rattle.sql_query_laws.proofs.Texts.{companies_is}
 use Rattle.sql_queries.proofs.registry.companies.Goals as goal
 
 pub all_of-requires : goal.all_of-requires

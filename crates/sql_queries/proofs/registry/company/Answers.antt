@@ -1,9 +1,9 @@
 use Rattle.std.proofs.Common.{rules}
 use Rattle.std.proofs.lemmas.Result.{IfOk-weaker}
 use Rattle.sql_queries.proofs.RegistryShown.{company_shown}
-use Rattle.sql_queries.proofs.Found.{first_found}
-use Rattle.sql_queries.proofs.Injective.{company_rows}
-use Rattle.sql_queries.proofs.Texts.{company_is}
+use Rattle.sql_query_laws.proofs.Found.{first_found}
+use Rattle.sql_query_laws.proofs.Injective.{company_rows}
+use Rattle.sql_query_laws.proofs.Texts.{company_is}
 use Rattle.sql_queries.proofs.registry.company.Goals as goal
 
 pub first_of-requires : goal.first_of-requires

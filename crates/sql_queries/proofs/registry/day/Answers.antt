@@ -1,8 +1,8 @@
 use Rattle.std.proofs.Common.{rules}
-use Rattle.sql_queries.proofs.Found.{one_found}
-use Rattle.sql_queries.proofs.Injective.{number_if_any_columns}
+use Rattle.sql_query_laws.proofs.Found.{one_found}
+use Rattle.sql_query_laws.proofs.Injective.{number_if_any_columns}
 use Rattle.sql_queries.proofs.RegistryShown.{day_shown}
-use Rattle.sql_queries.proofs.Texts.{day_is}
+use Rattle.sql_query_laws.proofs.Texts.{day_is}
 use Rattle.sql_queries.proofs.registry.day.Goals as goal
 
 pub cell_of-requires : goal.cell_of-requires

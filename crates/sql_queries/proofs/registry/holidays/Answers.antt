@@ -1,9 +1,9 @@
 use Rattle.std.proofs.Common.{rules}
 use Rattle.std.proofs.lemmas.Result.{IfOk-weaker}
 use Rattle.sql_queries.proofs.RegistryShown.{holidays_shown}
-use Rattle.sql_queries.proofs.Found.{all_found}
-use Rattle.sql_queries.proofs.Injective.{number_columns}
-use Rattle.sql_queries.proofs.Texts.{holidays_is}
+use Rattle.sql_query_laws.proofs.Found.{all_found}
+use Rattle.sql_query_laws.proofs.Injective.{number_columns}
+use Rattle.sql_query_laws.proofs.Texts.{holidays_is}
 use Rattle.sql_queries.proofs.registry.holidays.Goals as goal
 
 pub column_of-requires : goal.column_of-requires

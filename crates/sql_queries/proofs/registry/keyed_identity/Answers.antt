@@ -1,8 +1,8 @@
 use Rattle.std.proofs.Common.{rules}
-use Rattle.sql_queries.proofs.Found.{one_found}
-use Rattle.sql_queries.proofs.Injective.{keyed_identity_rows}
+use Rattle.sql_query_laws.proofs.Found.{one_found}
+use Rattle.sql_query_laws.proofs.Injective.{keyed_identity_rows}
 use Rattle.sql_queries.proofs.RegistryShown.{keyed_identity_shown}
-use Rattle.sql_queries.proofs.Texts.{keyed_identity_is}
+use Rattle.sql_query_laws.proofs.Texts.{keyed_identity_is}
 use Rattle.sql_queries.proofs.registry.keyed_identity.Goals as goal
 
 pub first_of-requires : goal.first_of-requires

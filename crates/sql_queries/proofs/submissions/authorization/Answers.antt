@@ -1,9 +1,9 @@
 use Rattle.std.proofs.Common.{rules}
 use Rattle.std.proofs.lemmas.Result.{IfOk-weaker}
 use Rattle.sql_queries.proofs.SubmissionsShown.{authorization_shown}
-use Rattle.sql_queries.proofs.Found.{first_found}
-use Rattle.sql_queries.proofs.Injective.{number_columns}
-use Rattle.sql_queries.proofs.Texts.{authorization_is}
+use Rattle.sql_query_laws.proofs.Found.{first_found}
+use Rattle.sql_query_laws.proofs.Injective.{number_columns}
+use Rattle.sql_query_laws.proofs.Texts.{authorization_is}
 use Rattle.sql_queries.proofs.submissions.authorization.Goals as goal
 
 pub cell_of-requires : goal.cell_of-requires

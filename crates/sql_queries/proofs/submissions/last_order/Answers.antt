@@ -1,6 +1,6 @@
 use Rattle.std.proofs.Common.{rules, ap, unwrap_or}
-use Rattle.sql_queries.proofs.LastShown.{last_order_found}
-use Rattle.sql_queries.proofs.Texts.{last_order_is}
+use Rattle.sql_query_laws.proofs.LastShown.{last_order_found}
+use Rattle.sql_query_laws.proofs.Texts.{last_order_is}
 use Rattle.sql_queries.proofs.submissions.last_order.Goals as goal
 
 pub cell_of-requires : goal.cell_of-requires

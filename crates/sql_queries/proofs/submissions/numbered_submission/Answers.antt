@@ -1,9 +1,9 @@
 use Rattle.std.proofs.Common.{rules}
 use Rattle.std.proofs.lemmas.Result.{IfOk-weaker}
 use Rattle.sql_queries.proofs.SubmissionsShown.{numbered_submission_shown}
-use Rattle.sql_queries.proofs.Found.{all_found}
-use Rattle.sql_queries.proofs.Injective.{submission_head_rows}
-use Rattle.sql_queries.proofs.Texts.{numbered_submission_is}
+use Rattle.sql_query_laws.proofs.Found.{all_found}
+use Rattle.sql_query_laws.proofs.Injective.{submission_head_rows}
+use Rattle.sql_query_laws.proofs.Texts.{numbered_submission_is}
 use Rattle.sql_queries.proofs.submissions.numbered_submission.Goals as goal
 
 pub all_of-requires : goal.all_of-requires

@@ -3,7 +3,7 @@ use Rattle.sqlite.specs.State.{HasCleanDisk}
 use Rattle.sqlite.specs.Held.{state}
 use Rattle.sql_statements.proofs.Findings.{finds_then}
 use Rattle.sql_tables.specs.Layout.{desk_layout}
-use Rattle.sql_queries.proofs.Found.{together}
+use Rattle.sql_query_laws.proofs.Found.{together}
 use Rattle.sql_queries.proofs.OpenParts.{open_found}
 use Rattle.sql_queries.proofs.submissions.open_submissions.Goals as goal
 

@@ -1,9 +1,9 @@
 use Rattle.std.proofs.Common.{rules}
 use Rattle.std.proofs.lemmas.Result.{IfOk-weaker}
 use Rattle.sql_queries.proofs.SubmissionsShown.{order_shown}
-use Rattle.sql_queries.proofs.Found.{first_found}
-use Rattle.sql_queries.proofs.Injective.{order_and_settlement_rows}
-use Rattle.sql_queries.proofs.Texts.{order_is}
+use Rattle.sql_query_laws.proofs.Found.{first_found}
+use Rattle.sql_query_laws.proofs.Injective.{order_and_settlement_rows}
+use Rattle.sql_query_laws.proofs.Texts.{order_is}
 use Rattle.sql_queries.proofs.submissions.order_and_settlement.Goals as goal
 
 pub first_of-requires : goal.first_of-requires

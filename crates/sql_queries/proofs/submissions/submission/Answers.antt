@@ -1,9 +1,9 @@
 use Rattle.std.proofs.Common.{rules}
 use Rattle.std.proofs.lemmas.Result.{IfOk-weaker}
 use Rattle.sql_queries.proofs.SubmissionsShown.{submission_shown}
-use Rattle.sql_queries.proofs.Found.{first_found}
-use Rattle.sql_queries.proofs.Injective.{submission_head_rows}
-use Rattle.sql_queries.proofs.Texts.{submission_is}
+use Rattle.sql_query_laws.proofs.Found.{first_found}
+use Rattle.sql_query_laws.proofs.Injective.{submission_head_rows}
+use Rattle.sql_query_laws.proofs.Texts.{submission_is}
 use Rattle.sql_queries.proofs.submissions.submission.Goals as goal
 
 pub first_of-requires : goal.first_of-requires

@@ -1,9 +1,9 @@
 use Rattle.std.proofs.Common.{rules}
 use Rattle.std.proofs.lemmas.Result.{IfOk-weaker}
 use Rattle.sql_queries.proofs.SubmissionsShown.{submissions_of_shown}
-use Rattle.sql_queries.proofs.Found.{all_found}
-use Rattle.sql_queries.proofs.Injective.{submission_head_rows}
-use Rattle.sql_queries.proofs.Texts.{submissions_of_is}
+use Rattle.sql_query_laws.proofs.Found.{all_found}
+use Rattle.sql_query_laws.proofs.Injective.{submission_head_rows}
+use Rattle.sql_query_laws.proofs.Texts.{submissions_of_is}
 use Rattle.sql_queries.proofs.submissions.submissions_of.Goals as goal
 
 pub all_of-requires : goal.all_of-requires

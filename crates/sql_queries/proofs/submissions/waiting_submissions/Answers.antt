@@ -1,6 +1,6 @@
 use Rattle.std.proofs.Common.{rules}
 use Rattle.std.proofs.lemmas.Result.{IfOk-weaker}
-use Rattle.sql_queries.proofs.Texts.{waiting_submissions_is}
+use Rattle.sql_query_laws.proofs.Texts.{waiting_submissions_is}
 use Rattle.sql_queries.proofs.WaitingFirst.{waiting_found}
 use Rattle.sql_queries.proofs.submissions.waiting_submissions.Goals as goal
 

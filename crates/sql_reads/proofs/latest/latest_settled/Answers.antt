@@ -1,7 +1,7 @@
 use Rattle.std.proofs.Common.{◌∙◌, ap, sym, map, max}
 use Rattle.std.specs.List.{reduce}
 use Rattle.std.specs.Prelude.{filter_map}
-use Rattle.sql_queries.proofs.Selects.{each_itself}
+use Rattle.sql_query_laws.proofs.Selects.{each_itself}
 use Rattle.sql_tables.specs.Composed.{settled_at}
 use Rattle.sql_tables.specs.TableReads.{places_between}
 use Rattle.sql_reads.proofs.Joined.{query, learnt, both, answered}

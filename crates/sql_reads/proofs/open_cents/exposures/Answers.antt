@@ -1,5 +1,5 @@
 use Rattle.std.proofs.Common.{◌∙◌, sym, ap}
-use Rattle.sql_queries.proofs.Selects.{each_itself}
+use Rattle.sql_query_laws.proofs.Selects.{each_itself}
 use Rattle.sql_tables.specs.Composed.{exposures_in}
 use Rattle.sql_reads.proofs.Joined.{read, learnt, both, answered}
 use Rattle.sql_reads.proofs.OpenHeads.{exposures_summed}

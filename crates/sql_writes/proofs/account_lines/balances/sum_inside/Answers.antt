@@ -1,5 +1,5 @@
 use Rattle.std.proofs.Common.{rules}
-use Rattle.sql_queries.proofs.Texts.{sum_is}
+use Rattle.sql_query_laws.proofs.Texts.{sum_is}
 use Rattle.sql_writes.proofs.LineSums.{sum_read}
 use Rattle.sql_writes.proofs.account_lines.balances.sum_inside.Goals as goal
 

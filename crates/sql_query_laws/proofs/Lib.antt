@@ -1,0 +1,10 @@
+pub mod Conditions
+pub mod Found
+pub mod Injective
+pub mod Keys
+pub mod LastShown
+pub mod LinesShown
+pub mod Listings
+pub mod Selects
+pub mod SumRows
+pub mod Texts

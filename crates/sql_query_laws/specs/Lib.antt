@@ -1,0 +1,3 @@
+pub mod Postings
+pub mod Questions
+pub mod Shows
