@@ -1,8 +1,8 @@
 //! Bodies. That of a submission is answered as the program answers it; the others are read and checked.
 use crate::commands::add_lines;
 use bank_days::{Calendar, CalendarFault};
+use cli_commands::{first_run, submit_list};
 use cli_submit::SubmitOptions;
-use desk_cli::{first_run, submit_list};
 use desk_rules::{
     Refusal, check_company_fields, check_day_field, check_limits_fields, check_retry_fields,
 };

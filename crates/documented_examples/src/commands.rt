@@ -1,5 +1,6 @@
-//! Transcripts: commands of the program `achdesk`, each with what it prints.
-use desk_cli::run_words;
+//! Transcripts: commands of the program `achdesk` that need no desk's file, each with what it prints.
+use cli_commands::{answer_messages, check_path, first_run, submit_path};
+use cli_words::{Command, command_of};
 use std::alloc::AllocError;
 use std::{fs, io};
 
@@ -41,14 +42,21 @@ fn carry_out(rt: &HostRuntime, command: &str) -> io::Result<Vec<u8>> {
     }
 }
 
-// What the program prints that is run with these words over this input.
+// What the program prints that is run with these words over this input; nothing where it would need a desk's
+// file, or is told something else.
 fn run_over(rt: &HostRuntime, line: &str, input: &[u8]) -> io::Result<Vec<u8>> {
     let mut words = Vec::new(rt.alloc());
     for word in line.split(' ').filter(|word| !word.is_empty()) {
         words.push(word)?;
     }
     let mut printed = Vec::new(rt.alloc());
-    let _code = run_words(rt, words.as_slice(), input, &mut printed);
+    let _status = match command_of(rt.alloc(), words.as_slice()) {
+        Ok(Command::AnswerSubmission) => Some(first_run(rt.alloc(), input, &mut printed)),
+        Ok(Command::AnswerMessages) => Some(answer_messages(rt.alloc(), input, &mut printed)),
+        Ok(Command::Check(path)) => Some(check_path(rt, path, &mut printed)),
+        Ok(Command::Submit(path, options)) => Some(submit_path(rt, path, &options, &mut printed)),
+        Ok(_) | Err(_) => None,
+    };
     Ok(printed)
 }
 

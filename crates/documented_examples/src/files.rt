@@ -1,6 +1,6 @@
 //! Incoming files: `examples/returns.ach` with changes made to it, and what a check prints of it then.
 use ach_files::Reader;
-use desk_cli::check_file;
+use cli_commands::check_file;
 use std::alloc::{AllocError, Global};
 use std::{fs, io};
 

@@ -2,9 +2,7 @@
 //! answered by the library, and what the page prints beneath it has to be that answer.
 //!
 //! The pages lie in data/, as they lie at the top of the repository. For each page a line is printed that
-//! says how many examples agree, and one before it for each that does not. Then command lines of the program
-//! follow, each with what it prints and ends with: a desk in a file among them, and files in data/runs/ that
-//! are longer than what a command reads at once.
+//! says how many examples agree, and one before it for each that does not.
 #![tactic(auto)]
 
 mod bodies;
@@ -13,7 +11,6 @@ mod files;
 mod library;
 mod page;
 mod refusals;
-mod runs;
 
 use std::{fs, io};
 
@@ -29,6 +26,5 @@ fn main(rt: HostRuntime) -> io::Result<()> {
     let rows = refusals::count_rows(rt.alloc(), text.as_str())?;
     println!(rt; "docs/BODIES.md: {rows} refusals are listed")?;
     let pay = fs::read(&rt, "examples/pay-1.json")?;
-    library::show(&rt, pay.as_slice())?;
-    runs::show_all(&rt)
+    library::show(&rt, pay.as_slice())
 }

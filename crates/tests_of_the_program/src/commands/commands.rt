@@ -86,6 +86,37 @@ const WORDS: &[(&[&str], u8, &str)] = &[
     (&["serve", "no such desk", "8080"], 1, "NotADesk\n"),
 ];
 
+/// The whole text of help.
+const HELP: &str = "The ACH desk of an originating bank.
+
+Without words it reads a submission in JSON from standard input, and answers it.
+
+Usage: achdesk < SUBMISSION
+       achdesk <COMMAND>
+
+Commands:
+  check    Checks an incoming ACH file, and tells how many returns and changes it has
+  submit   Prints the message that hands a list of entries to a desk, or the list's first fault
+  stdio    Answers HTTP/1.1 messages on standard input, by a desk's file, or by a new desk of a sample bank
+  init     Makes a new desk in a file
+  serve    Answers HTTP/1.1 messages on connections to a port of this machine, by a desk's file
+  migrate  Brings a desk's file of version 1 to version 2
+  help     Print this message or the help of the given subcommand(s)
+
+Options:
+  -h, --help     Print help
+  -V, --version  Print version
+";
+
+/// All that is told of words that name no command.
+const USAGE: &str = "error: unrecognized subcommand 'bogus'
+
+Usage: achdesk < SUBMISSION
+       achdesk <COMMAND>
+
+For more information, try '--help'.
+";
+
 /// The commands that have a help of their own.
 const COMMANDS: &[&str] = &["check", "submit", "stdio", "init", "serve", "migrate"];
 
@@ -94,6 +125,13 @@ fn begins(rt: &HostRuntime, words: &[&str], code: u8, start: &str) -> bool {
     let mut output = Vec::new(rt.alloc());
     let given = run_words(rt, words, PAY_1, &mut output);
     given == code && output.as_slice().starts_with(start.as_bytes())
+}
+
+// Do these words give this exit status, and is this printed?
+fn says(rt: &HostRuntime, words: &[&str], code: u8, text: &str) -> bool {
+    let mut output = Vec::new(rt.alloc());
+    let given = run_words(rt, words, NOBODY, &mut output);
+    given == code && output.as_slice() == text.as_bytes()
 }
 
 // Is the help of a command the same whether it is asked for before or after its name?
@@ -125,6 +163,12 @@ fn words_and_their_exit_status(rt: HostRuntime) {
     for &(words, code, start) in WORDS {
         assert!(rt; begins(&rt, words, code, start), "{words:?}");
     }
+}
+
+#[test]
+fn whole_texts(rt: HostRuntime) {
+    assert!(rt; says(&rt, &["--help"], 0, HELP));
+    assert!(rt; says(&rt, &["bogus"], 2, USAGE));
 }
 
 #[test]
