@@ -5,8 +5,7 @@ ghost use Rattle.bank_days.specs.Day.{first_day, last_read_day, last_day, is_wor
 ghost use Rattle.ach_fields.specs.Ymd.{date_text as short_text};
 
 use ach_fields::{Ymd, take_number};
-use jiff::civil::{self, Weekday};
-use jiff_core::civil::Date as PlainDate;
+use jiff_core::civil::{Date as PlainDate, Weekday};
 
 /// A `Date` is a year, a month and a day of the month. The calendar need not have the day.
 #[derive(Clone, Copy)]
@@ -63,8 +62,8 @@ impl Date {
         if self.year < 2000 || self.year > 2099 || self.month > 12 || self.day > 31 {
             return None;
         }
-        let date = civil::Date::new(self.year as i16, self.month as i8, self.day as i8).ok()?;
-        Some(date.to_plain().to_unix_epoch_day() as u32)
+        let date = PlainDate::new(self.year as i16, self.month as i8, self.day as i8).ok()?;
+        Some(date.to_unix_epoch_day() as u32)
     }
 
     /// Gives the text `YYYY-MM-DD`.
@@ -110,8 +109,10 @@ pub(crate) fn is_workday(number: u32) -> bool
     requires { number ≤ last_day }
     ensures { result ≡ is_workday number }
 {
-    let date = civil::Date::from_plain(plain_date(number));
-    !matches!(date.weekday(), Weekday::Saturday | Weekday::Sunday)
+    !matches!(
+        plain_date(number).weekday(),
+        Weekday::Saturday | Weekday::Sunday
+    )
 }
 
 // The library's date of a day.

@@ -18,8 +18,8 @@ returns-in_err-date-clause-value c =
 
 the_number : (c : goal.After-to_unix_epoch_day) → IsNumberOf c.args.self c.to_unix_epoch_day.result
 the_number c =
-    taken c.new.result c.args.self _ _ _ c.to_plain.result c.to_unix_epoch_day.result c.new.ensures.succeeds c.new.ensures.value
-    (rw c.to_plain.ensures c.in_ok-date.ensures.value) c.to_unix_epoch_day.ensures.value (omega (arith, ints)) (omega (arith, ints)) (omega (arith, ints)) (omega arith) (omega arith)
+    taken c.new.result c.args.self _ _ _ _ c.to_unix_epoch_day.result c.new.ensures.succeeds c.new.ensures.value
+    c.in_ok-date.ensures.value c.to_unix_epoch_day.ensures.value (omega (arith, ints)) (omega (arith, ints)) (omega (arith, ints)) (omega arith) (omega arith)
 
 pub overflow_cast-result : goal.overflow_cast-result
 overflow_cast-result c = let t = the_number c in rw t.kept (tt, omega (arith, t.bounds))
