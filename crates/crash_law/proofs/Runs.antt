@@ -6,7 +6,7 @@ use Rattle.desk_history.specs.Message.{Message}
 use Rattle.desk_book.specs.Book.{Book}
 use Rattle.desk_book.specs.OnMessages.{BookTells}
 use Rattle.desk_book.specs.Writes.{ReadsLeave}
-use Rattle.desk_calls.specs.Answering.{IsLeft}
+use Rattle.desk_admission.specs.Answering.{IsLeft}
 use Rattle.http_message.specs.Message.{MessageValue}
 use Rattle.http_session.specs.Exchanges.{Exchange, StepsWith}
 use Rattle.http_session.specs.declared.answers.Unavailable.{Unavailable}

@@ -7,13 +7,13 @@ use Rattle.desk_book.specs.Book.{Book}
 use Rattle.desk_history.specs.Message.{Of}
 use Rattle.desk_history.specs.Request.{Request}
 use Rattle.desk_store.specs.declared.store.StoreFault.{StoreFault}
-use Rattle.desk_calls.specs.declared.company.verdict.NewRow.{NewRow}
-use Rattle.desk_calls.specs.declared.company.verdict.Verdict.{Verdict}
-use Rattle.desk_calls.specs.Answering.{Answers, LeavesCall}
+use Rattle.desk_admission.specs.declared.verdict.NewRow.{NewRow}
+use Rattle.desk_admission.specs.declared.verdict.Verdict.{Verdict}
+use Rattle.desk_admission.specs.Answering.{Answers, LeavesCall}
 use Rattle.desk_book.specs.Requests.{added_row, with_added_row}
 use Rattle.desk_book.specs.OnBook.{reply_on}
 use Rattle.desk_book.specs.Writes.{writes_on}
-use Rattle.desk_calls.specs.Verdicts.{row_to_add, verdict_on, with_added, IsNextOf, Adds, LeavesAdded}
+use Rattle.desk_admission.specs.Verdicts.{row_to_add, verdict_on, with_added, IsNextOf, Adds, LeavesAdded}
 
 -- What is added is the company's next row, and makes of the book what the request does; it is none where the
 -- request writes nothing.

@@ -25,10 +25,10 @@ use Rattle.desk_history.specs.Reply.{answer_of}
 use Rattle.desk_history.specs.Request as request
 use Rattle.desk_book.specs.Standing.{RowEntry, is_row_under, row_under, next_row, row_entry_of, attempts_at, facts_in, new_submission_row, new_retry_row}
 use Rattle.desk_history.specs.Words.{some_or}
-use Rattle.desk_calls.specs.declared.company.verdict.Verdict.{Verdict}
+use Rattle.desk_admission.specs.declared.verdict.Verdict.{Verdict}
 use Rattle.desk_book.specs.Requests.{row_if_new}
 use Rattle.desk_book.specs.OnBook.{standing_in, receipt_of}
-use Rattle.desk_calls.specs.Verdicts.{row_to_add, verdict_on, known_verdict, fresh_verdict, reference_verdict, submission_on, retry_on, limits_and_day, verdict_of_fields}
+use Rattle.desk_admission.specs.Verdicts.{row_to_add, verdict_on, known_verdict, fresh_verdict, reference_verdict, submission_on, retry_on, limits_and_day, verdict_of_fields}
 use Rattle.desk_history.proofs.Acceptance.Growing.{found_any}
 
 -- the verdict of a company that has these rows, by the row that answers

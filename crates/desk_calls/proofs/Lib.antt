@@ -2,11 +2,8 @@ pub mod Applied
 pub mod Adding
 pub mod Alike
 pub mod Asked
-pub mod FileReading
 pub mod Statements
 pub mod Planned
 pub mod ReadCalls
 pub mod Running
 pub mod Sized
-pub mod Taken
-pub mod Traceless

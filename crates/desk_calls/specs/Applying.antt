@@ -14,7 +14,7 @@ use Rattle.desk_history.specs.Request.{Request}
 use Rattle.desk_store.specs.declared.store.StoreFault.{StoreFault}
 use Rattle.desk_book.specs.OnMessages.{answer_on, after_on}
 use Rattle.desk_book.specs.Writes.{writes_on}
-use Rattle.desk_calls.specs.Answering.{Answers, IsLeft, LeavesCall}
+use Rattle.desk_admission.specs.Answering.{Answers, IsLeft, LeavesCall}
 
 -- ---- by the book
 

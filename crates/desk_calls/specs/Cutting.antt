@@ -12,7 +12,7 @@ use Rattle.desk_cut.specs.declared.fault.CutFault.{CutFault}
 use Rattle.desk_cut.specs.declared.fault.CutFault.TheVariants as faults
 use Rattle.desk_cut.specs.declared.plan.CutPlan.{CutPlan}
 use Rattle.desk_cut.specs.Plan.{IsPlan, plan_write}
-use Rattle.desk_calls.specs.Answering.{HoldsFor}
+use Rattle.desk_admission.specs.Answering.{HoldsFor}
 use Rattle.desk_calls.specs.declared.operator.cut.CutReads.{CutReads}
 
 abbrev pub facts_in : CutReads → CutFacts

@@ -1,11 +1,11 @@
 ghost use Rattle.std.specs.Prelude.{◌≡◌};
 ghost use Rattle.desk_store.specs.Words.{LeavesRead};
-ghost use Rattle.desk_calls.specs.Answering.{Allows};
+ghost use Rattle.desk_admission.specs.Answering.{Allows};
 ghost use Rattle.desk_calls.specs.Applying.{AnswersCall, IsReadCall, LeavesMessage, HasBook, Goes, Replies, LeavesBook};
-ghost use Rattle.desk_calls.specs.OverStores.{LeavesNoMore};
+ghost use Rattle.desk_admission.specs.OverStores.{LeavesNoMore};
 
-use crate::allow::allow;
 use crate::respond::respond;
+use desk_admission::allow;
 use desk_book::Caller;
 use desk_history::{Answer, Call};
 use desk_store::{Store, StoreFault};

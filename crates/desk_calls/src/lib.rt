@@ -4,13 +4,10 @@
 //! tells in `desk_book`.
 #![tactic(auto)]
 
-mod allow;
 mod company;
 mod desk;
-mod guards;
 mod laws;
 mod operator;
-mod refuse;
 mod respond;
 mod retry;
 

@@ -5,12 +5,12 @@ ghost use Rattle.desk_calls.specs.Applying.{AnswersCall, IsReadCall, LeavesMessa
 use crate::company::reads::{changes_of, exposure_of, look_up, rates_of, returns_of, statement_of};
 use crate::company::submission::submit;
 use crate::operator::cut::cut;
-use crate::operator::intake::take_file;
 use crate::operator::reads::{file_text, settlement, suspense_items};
 use crate::operator::settings::{put_company, put_limits, set_day, set_holidays};
 use crate::operator::status::status;
 use crate::retry::call::retry;
 use desk_history::{Answer, Call};
+use desk_intake::take_file;
 use desk_store::{Store, StoreFault};
 use std::alloc::Global;
 

@@ -17,7 +17,7 @@ use Rattle.http_response.specs.Response.{response_text}
 use Rattle.http_answers.specs.declared.statuses.CallKind.{CallKind}
 use Rattle.http_answers.specs.Answers.{answer_body, is_command, FitsRoom}
 use Rattle.http_answers.specs.Statuses.{kind_of, kind_of_call, status_of, content_of, OneKind}
-use Rattle.desk_calls.specs.Answering.{IsLeft}
+use Rattle.desk_admission.specs.Answering.{IsLeft}
 use Rattle.desk_calls.specs.Applying.{Goes, IsReadCall, LeavesBook, book_after}
 use Rattle.http_session.specs.declared.answers.Unavailable.{Unavailable}
 use Rattle.http_history.specs.Texts.{call_text}

@@ -10,7 +10,7 @@ use Rattle.desk_history.specs.Operator.{answer_to, next_pair}
 use Rattle.desk_book.specs.Book.{Book, book_of}
 use Rattle.desk_book.specs.Writes.{is_read, writes_on}
 use Rattle.desk_store.specs.Words.{LeavesRead}
-use Rattle.desk_calls.specs.Answering.{IsLeft}
+use Rattle.desk_admission.specs.Answering.{IsLeft}
 use Rattle.desk_calls.specs.Applying as calls
 use Rattle.http_message.specs.Message as messages
 use Rattle.http_message.specs.Message.{MessageValue}

@@ -5,7 +5,7 @@ use Rattle.desk_history.specs.declared.identity.Identity.{Identity}
 use Rattle.desk_history.specs.Message.{Message}
 use Rattle.desk_book.specs.Book.{Book}
 use Rattle.desk_book.specs.Writes.{is_read, writes_on}
-use Rattle.desk_calls.specs.Answering.{IsLeft}
+use Rattle.desk_admission.specs.Answering.{IsLeft}
 use Rattle.http_message.specs.Message.{MessageValue}
 use Rattle.http_session.specs.declared.answers.Unavailable.{Unavailable}
 use Rattle.http_history.specs.Verdict.{verdict_on, Means}

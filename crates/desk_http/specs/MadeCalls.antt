@@ -7,7 +7,7 @@ use Rattle.desk_history.specs.Message.{Message, Pair}
 use Rattle.desk_history.specs.Operator.{answer_to}
 use Rattle.desk_book.specs.Book.{Book, book_of}
 use Rattle.desk_book.specs.Writes.{is_read, writes_on}
-use Rattle.desk_calls.specs.Answering.{IsLeft}
+use Rattle.desk_admission.specs.Answering.{IsLeft}
 use Rattle.desk_calls.specs.Applying.{IsAsked, book_after}
 use Rattle.http_session.specs.declared.answers.Unavailable.{Unavailable}
 use Rattle.http_history.specs.Texts.{call_text}

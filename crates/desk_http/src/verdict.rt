@@ -1,7 +1,7 @@
 //! What a message comes to: a call of the desk, or a fault.
 ghost use Rattle.std.specs.Prelude.{◌≡◌};
 ghost use Rattle.http_message.specs.Message.{asked, message_value, request_value};
-ghost use Rattle.desk_calls.specs.OverStores.{Gives};
+ghost use Rattle.desk_admission.specs.OverStores.{Gives};
 ghost use Rattle.http_history.specs.Addressee.{addressee_of, addressee_by_framing, route_of_path};
 ghost use Rattle.http_history.specs.Verdict.{verdict_on};
 ghost use Rattle.desk_http.specs.Addressing.{addressee_with};

@@ -1,4 +1,7 @@
 pub mod Counting
+pub mod FileReading
 pub mod Judging
 pub mod Keys
 pub mod Plans
+pub mod Taken
+pub mod Traceless

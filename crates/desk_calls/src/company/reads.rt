@@ -1,14 +1,13 @@
 //! What a company reads: its returns, changes, submissions, statement, rates and exposure.
 ghost use Rattle.desk_history.specs.Request as request;
-ghost use Rattle.desk_calls.specs.Answering.{Answers};
-ghost use Rattle.desk_calls.specs.OverStores.{RepliesAsked};
+ghost use Rattle.desk_admission.specs.Answering.{Answers};
+ghost use Rattle.desk_admission.specs.OverStores.{RepliesAsked};
 
 use crate::company::report::report_or_none;
 use crate::company::statement::statement;
-use crate::guards::{company_limits, desk_day};
-use crate::refuse::refuse;
 use ach_fields::{Id, Ref};
 use desk_accounts::Account;
+use desk_admission::{company_limits, desk_day, refuse};
 use desk_history::{Answer, DayRates, Exposure, Outcome};
 use desk_store::{Store, StoreFault};
 use std::alloc::Global;

@@ -4,16 +4,15 @@ ghost use Rattle.desk_rules.specs.Submission.{submission_of};
 ghost use Rattle.desk_history.specs.Request as request;
 ghost use Rattle.desk_history.specs.Acceptance.{is_same_submission, new_content};
 ghost use Rattle.desk_book.specs.Standing.{facts_in};
-ghost use Rattle.desk_calls.specs.Verdicts.{limits_and_day, verdict_of_fields, fresh_verdict, submission_on};
-ghost use Rattle.desk_calls.specs.OverStores.{Gives, RepliesAdding};
+ghost use Rattle.desk_admission.specs.Verdicts.{limits_and_day, verdict_of_fields, fresh_verdict, submission_on};
+ghost use Rattle.desk_admission.specs.OverStores.{Gives, RepliesAdding};
 
-use crate::company::limits::within_limits;
-use crate::company::requests::{
-    add, fresh_verdict, known_verdict, limits_and_day, next_order, refused_verdict,
-};
-use crate::company::verdict::Verdict;
 use ach_fields::Id;
 use bank_days::Day;
+use desk_admission::{
+    Verdict, add, fresh_verdict, known_verdict, limits_and_day, next_order, refused_verdict,
+    within_limits,
+};
 use desk_book::Row;
 use desk_history::Answer;
 use desk_rules::{Draft, Limits, RuleFault, SizedSubmission, Submission, check_fields};

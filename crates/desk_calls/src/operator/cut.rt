@@ -6,13 +6,12 @@ ghost use Rattle.desk_book.specs.Steps.{commit_cut};
 ghost use Rattle.desk_book.specs.OnCut.{cut_facts, cut_answer_on, cut_after};
 ghost use Rattle.desk_cut.specs.Plan.{plan_write};
 ghost use Rattle.desk_history.specs.Message.{Cut};
-ghost use Rattle.desk_calls.specs.Answering.{HoldsFor};
+ghost use Rattle.desk_admission.specs.Answering.{HoldsFor};
 ghost use Rattle.desk_calls.specs.Cutting.{Plans, PlansOrTells, facts_in, latest_of, refusal_of};
-ghost use Rattle.desk_calls.specs.OverStores.{AnswersMessage, AnswersWhere, GivesAs, GivesList, Tells};
+ghost use Rattle.desk_admission.specs.OverStores.{AnswersMessage, AnswersWhere, GivesAs, GivesList, Tells};
 
-use crate::guards::rule_day;
-use crate::refuse::refuse;
 use bank_days::{Calendar, Day};
+use desk_admission::{refuse, rule_day};
 use desk_book::HeldSubmission;
 use desk_cut::{CutFault, CutPlan, number_cut, plan_cut};
 use desk_history::{Answer, Identity, Outcome};

@@ -2,14 +2,13 @@
 ghost use Rattle.std.specs.Prelude.{◌≡◌, map, IfOk};
 ghost use Rattle.desk_accounts.specs.Balance.{days_balance};
 ghost use Rattle.desk_history.specs.Postings.{day_sum};
-ghost use Rattle.desk_calls.specs.Answering.{Answers};
+ghost use Rattle.desk_admission.specs.Answering.{Answers};
 ghost use Rattle.desk_book.specs.OnOperator.{file_answer, settlement_answer, suspense_answer};
-ghost use Rattle.desk_calls.specs.OverStores.{AnswersAsked};
+ghost use Rattle.desk_admission.specs.OverStores.{AnswersAsked};
 
-use crate::guards::desk_day;
-use crate::refuse::refuse;
 use bank_days::Day;
 use desk_accounts::Account;
+use desk_admission::{desk_day, refuse};
 use desk_history::{Answer, DaySum, ListOf, Outcome, Settlement};
 use desk_store::{Store, StoreFault};
 use std::alloc::{AllocError, Global};

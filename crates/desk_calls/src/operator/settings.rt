@@ -3,11 +3,10 @@ ghost use Rattle.std.specs.Prelude.{◌≡◌};
 ghost use Rattle.bank_days.specs.HolidayList.{holidays_in};
 ghost use Rattle.desk_history.specs.Message.{SetDay, SetHolidays, PutCompany, PutLimits};
 ghost use Rattle.desk_book.specs.OnOperator.{new_day, day_answer, day_after, holidays_answer, holidays_after, company_answer, company_after, limits_answer, limits_after};
-ghost use Rattle.desk_calls.specs.OverStores.{AnswersMessage};
+ghost use Rattle.desk_admission.specs.OverStores.{AnswersMessage};
 
-use crate::guards::company_limits;
-use crate::refuse::refuse;
 use bank_days::{Calendar, CalendarFault};
+use desk_admission::{company_limits, refuse};
 use desk_history::{Answer, CallRefusal, Outcome};
 use desk_rules::{CompanyDraft, DraftText, LimitsDraft, Refusal, RuleDay};
 use desk_store::{Store, StoreFault};

@@ -5,7 +5,7 @@ ghost use Rattle.desk_history.specs.Status.{modifiers_on};
 ghost use Rattle.desk_book.specs.OnStatus.{company_status, status_answer};
 ghost use Rattle.desk_book.specs.Reads.{waiting_of};
 ghost use Rattle.desk_calls.specs.Status.{statuses};
-ghost use Rattle.desk_calls.specs.OverStores.{AnswersAsked, Gives, GivesList};
+ghost use Rattle.desk_admission.specs.OverStores.{AnswersAsked, Gives, GivesList};
 
 use bank_days::{Calendar, Day};
 use desk_cut::company_status;

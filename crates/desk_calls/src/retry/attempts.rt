@@ -5,7 +5,7 @@ ghost use Rattle.desk_rules.specs.RetryRule.{retry_verdict};
 ghost use Rattle.desk_history.specs.Accepted.{content_of};
 ghost use Rattle.desk_history.specs.Retries.{live_debit};
 ghost use Rattle.desk_book.specs.Standing.{state_at};
-ghost use Rattle.desk_calls.specs.Verdicts.{attempts_of};
+ghost use Rattle.desk_admission.specs.Verdicts.{attempts_of};
 
 use ach_fields::ShortText;
 use bank_days::{Calendar, Day};

@@ -2,17 +2,16 @@
 ghost use Rattle.std.specs.Prelude.{◌+◌, length, Some};
 ghost use Rattle.desk_rules.specs.Retry.{retry_of};
 ghost use Rattle.desk_history.specs.Request as request;
-ghost use Rattle.desk_calls.specs.Verdicts.{limits_and_day, verdict_of_fields, fresh_verdict, retry_on};
+ghost use Rattle.desk_admission.specs.Verdicts.{limits_and_day, verdict_of_fields, fresh_verdict, retry_on};
 ghost use Rattle.desk_book.specs.Standing.{retry_content_among};
-ghost use Rattle.desk_calls.specs.OverStores.{Gives, RepliesAdding};
+ghost use Rattle.desk_admission.specs.OverStores.{Gives, RepliesAdding};
 
-use crate::company::requests::{
-    add, fresh_verdict, known_verdict, limits_and_day, next_order, refused_verdict,
-};
-use crate::company::verdict::Verdict;
 use crate::retry::content::{is_same_retry, retry_content};
 use ach_fields::Id;
 use bank_days::Day;
+use desk_admission::{
+    Verdict, add, fresh_verdict, known_verdict, limits_and_day, next_order, refused_verdict,
+};
 use desk_history::Answer;
 use desk_rules::{Limits, Retry, RetryDraft, check_retry_fields};
 use desk_store::{Store, StoreFault};

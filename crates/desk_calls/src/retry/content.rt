@@ -2,12 +2,12 @@
 ghost use Rattle.std.specs.Prelude.{◌≡◌};
 ghost use Rattle.desk_history.specs.Acceptance.{is_same_retry, retry_content};
 ghost use Rattle.desk_book.specs.Standing.{facts_in, attempts_at, retry_content_among};
-ghost use Rattle.desk_calls.specs.OverStores.{Gives};
+ghost use Rattle.desk_admission.specs.OverStores.{Gives};
 
-use crate::company::limits::within_limits;
 use crate::retry::attempts::{content_of, entry_named, first_of_attempts};
 use ach_fields::Id;
 use bank_days::Day;
+use desk_admission::within_limits;
 use desk_book::Row;
 use desk_rules::{Entry, Limits, Refusal, Retry, SizedSubmission};
 use desk_store::{Store, StoreFault};

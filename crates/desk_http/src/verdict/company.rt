@@ -4,7 +4,7 @@ ghost use Rattle.std.specs.Result.{result_ok};
 ghost use Rattle.ach_fields.specs.Names.{reference_of};
 ghost use Rattle.http_message.specs.Message.{request_value};
 ghost use Rattle.http_routes.specs.Finding.{piece_of};
-ghost use Rattle.desk_calls.specs.OverStores.{Gives};
+ghost use Rattle.desk_admission.specs.OverStores.{Gives};
 ghost use Rattle.http_history.specs.Verdict.{company_verdict, request_on, look_up};
 ghost use Rattle.desk_http.specs.Addressing.{company_path_verdict};
 

@@ -5,7 +5,7 @@ ghost use Rattle.http_routes.specs.Finding.{piece_of};
 ghost use Rattle.http_message.specs.Message.{request_value};
 ghost use Rattle.desk_book.specs.declared.caller.Caller.TheVariants as callers;
 ghost use Rattle.desk_book.specs.Reads.{key_of};
-ghost use Rattle.desk_calls.specs.OverStores.{Gives};
+ghost use Rattle.desk_admission.specs.OverStores.{Gives};
 ghost use Rattle.http_history.specs.Verdict.{operator_verdict, operator_call, file_text};
 
 use super::object::{company_call, day_call, limits_call};

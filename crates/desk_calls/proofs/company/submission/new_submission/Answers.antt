@@ -3,7 +3,7 @@ use Rattle.desk_rules.specs.declared.bodies.submission.Submission.{Submission}
 use Rattle.desk_history.specs.Acceptance.{new_content, within_limits}
 use Rattle.desk_book.specs.Standing.{facts_in}
 use Rattle.desk_calls.proofs.Sized.{sized_parts}
-use Rattle.desk_calls.specs.Verdicts.{fresh_verdict}
+use Rattle.desk_admission.specs.Verdicts.{fresh_verdict}
 use Rattle.desk_calls.proofs.company.submission.new_submission.Goals as goal
 
 pub returns : goal.returns

@@ -1,0 +1,4 @@
+pub mod Answering
+pub mod OverStores
+pub mod Taking
+pub mod Verdicts
