@@ -1,6 +1,8 @@
 //! These files are printed.
 use super::samples::{lines, only_item, read, return_file};
-use crate::formats::worked::{SENT, SENT_BATCH, returned_batch, returned_header, sent_batch, sent_header};
+use crate::formats::worked::{
+    SENT, SENT_BATCH, returned_batch, returned_header, sent_batch, sent_header,
+};
 use ach_fields::{Cents, Trace};
 use ach_files::{
     Addenda, Outgoing, OutgoingBatch, OutgoingEntry, PrintFault, Printer, ReturnOrChange,

@@ -1,6 +1,8 @@
 //! What views say of records from outside.
 use super::{CHANGE, INFORMATION};
-use crate::formats::worked::{ADDENDA, BATCH, BATCH_CONTROL, HEADER, SENT_CONTROL, SENT_ENTRY, SENT_HEADER};
+use crate::formats::worked::{
+    ADDENDA, BATCH, BATCH_CONTROL, HEADER, SENT_CONTROL, SENT_ENTRY, SENT_HEADER,
+};
 use ach_records::{Kind, Record, has_digits, header_key, kind_of, view};
 
 const NO_TEXTS: [&[u8]; 3] = [b"", b"", b""];
