@@ -1,5 +1,5 @@
 //! The plan of a cut.
-ghost use Rattle.std.specs.Prelude.{◌≡◌, ◌≤◌, ◌+◌, All, IfOk, length, map, nat_le, sum, if◌then◌else◌, Some, None};
+ghost use Rattle.std.specs.Prelude.{◌≡◌, ◌≤◌, ◌+◌, All, IfOk, length, map, sum};
 ghost use Rattle.desk_plan.specs.Modifiers.{most_files};
 ghost use Rattle.desk_plan.specs.Runs.{in_runs};
 ghost use Rattle.desk_history.specs.Files.{files_from};
@@ -18,7 +18,7 @@ use bank_days::Day;
 use desk_accounts::Posting;
 use desk_book::{FileRow, LapsedRow, SentRow};
 use desk_history::{CutSummary, Identity, ListOf, SentEntry};
-use desk_plan::{MOST_FILES, divide};
+use desk_plan::{divide, made_before};
 use std::alloc::{AllocError, Global};
 
 /// A `CutPlan` is all that a cut does.
@@ -36,16 +36,6 @@ pub struct CutPlan {
     pub files: Vec<FileRow>,
     /// The summary that the operator is told.
     pub done: CutSummary,
-}
-
-// How many files the day has, if it has modifiers for so many more.
-fn made_before(made: u64, count: usize) -> Option<u32>
-    ensures { result ≡ (if nat_le (made + count) most_files then Some made else None) }
-{
-    match made.checked_add(count as u64) {
-        Some(all) if all <= MOST_FILES => Some(made as u32),
-        _ => None,
-    }
 }
 
 // All rows of a cut that is not refused.

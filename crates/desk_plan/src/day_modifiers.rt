@@ -1,6 +1,6 @@
 //! The modifiers of a day's files.
-ghost use Rattle.std.specs.Prelude.{◌≡◌};
-ghost use Rattle.desk_plan.specs.Modifiers.{modifier_of};
+ghost use Rattle.std.specs.Prelude.{◌≡◌, ◌+◌, nat_le, if◌then◌else◌, Some, None};
+ghost use Rattle.desk_plan.specs.Modifiers.{modifier_of, most_files};
 
 /// A day has at most so many files: one for each modifier.
 pub const MOST_FILES: u64 = 36;
@@ -15,4 +15,14 @@ pub fn modifier(before: u32) -> Option<u8>
     ensures { result ≡ modifier_of before }
 {
     MODIFIERS.get(before as usize).copied()
+}
+
+/// Gives how many files a day has, which was told, if it has modifiers for so many more.
+pub fn made_before(made: u64, count: usize) -> Option<u32>
+    ensures { result ≡ (if nat_le (made + count) most_files then Some made else None) }
+{
+    match made.checked_add(count as u64) {
+        Some(all) if all <= MOST_FILES => Some(made as u32),
+        _ => None,
+    }
 }
