@@ -5,6 +5,7 @@ pub mod Desk
 pub mod Each
 pub mod EntryPlaces
 pub mod Found
+pub mod Independent
 pub mod Inserted
 pub mod IntakeMade
 pub mod Lapses

@@ -13,6 +13,7 @@ use Rattle.sql_tables.specs.Tables.{Tables}
 use Rattle.sql_tables.specs.declared.records.ChangeRecord.{ChangeRecord}
 use Rattle.sql_tables.proofs.KeptRows.{numbered_more}
 use Rattle.sql_write_laws.proofs.Each.{AreOf, each_fitting, all_appended}
+use Rattle.sql_write_laws.proofs.Independent.{independent, stand_with}
 use Rattle.sql_write_laws.proofs.Numbered.{next_is, insert_last, numbers_are, some_same}
 use Rattle.sql_write_laws.proofs.SentSubmissions.{settles_of}
 
@@ -33,45 +34,24 @@ module _ (n : ℕ) (x : ChangedRow) (t : Tables) (r : Rows) (are : AreOf t r) (z
   abbrev new : ChangeRecord
   new = change_under n x
 
-  behind : (put_change_edit n x).after t ≡ record t { changes = t.changes ++ new ∷ [] }
-  behind = λ i. record t { changes = insert_last (λ (y : ChangeRecord). y.number) t.changes new 1 (length r.changed) (change_numbers t r are) at i }
-
   made : change_record r.submissions (length r.changed + 1, x) ≡ Some new
   made =
       (λ i. option_map (λ (order : ℕ). change_under (sym at i) (record x { order = order })) (order_under r.submissions x.company x.row.reference))
       ∙ ap (option_map (λ (order : ℕ). change_under n (record x { order = order }))) (ap (option_map (λ (v : CompanyRow). v.row.order)) found ∙ ap Some numbered)
 
   changed_tables : AreOf ((put_change_edit n x).after t) (with_change x r)
-  changed_tables = subst (λ u. AreOf u (with_change x r)) (sym behind) (
-    record {
-      desk = are.0.desk;
-      holidays = are.0.holidays;
-      companies = are.0.companies;
-      submissions = are.0.submissions;
-      entries = are.0.entries;
-      returns = are.0.returns;
-      changes = map-append Some t.changes (new ∷ []) ∙ (λ i. are.0.changes i ++ sym made i ∷ []) ∙ sym (numbered_more (change_record r.submissions) r.changed (x ∷ []));
-      postings = are.0.postings;
-      suspense = are.0.suspense;
-      files = are.0.files;
-      taken = are.0.taken;
-      numbers = are.0.numbers;
-      authorizations = are.0.authorizations;
-      states = are.0.states;
-      retries = are.0.retries;
-    },
-    record {
-      orders = are.1.orders;
-      references = are.1.references;
-      printed = are.1.printed;
-      lapsed = are.1.lapsed;
-      back = are.1.back;
-      sent = are.1.sent;
-      apart = are.1.apart;
-      sequences = are.1.sequences;
-      sums = are.1.sums;
-    },
-  )
+  changed_tables =
+      stand_with t r are (record (independent t r are) {
+        changes = record {
+          table = _;
+          rows = r.changed ++ x ∷ [];
+          is_of =
+              ap (map Some) (insert_last (λ (y : ChangeRecord). y.number) t.changes new 1 (length r.changed) (change_numbers t r are) at)
+              ∙ map-append Some t.changes (new ∷ [])
+              ∙ (λ i. are.0.changes i ++ sym made i ∷ [])
+              ∙ sym (numbered_more (change_record r.submissions) r.changed (x ∷ []));
+        };
+      })
 
 -- it is of an entry that was sent
 abbrev pub Fits : Rows → ChangedRow → Type 0

@@ -8,42 +8,15 @@ use Rattle.sql_tables.specs.DeskTables as the
 use Rattle.sql_tables.specs.TableEdits.{put_file_edit}
 use Rattle.sql_tables.specs.Tables.{Tables}
 use Rattle.sql_write_laws.proofs.Each.{AreOf, each_made, all_appended}
+use Rattle.sql_write_laws.proofs.Independent.{independent, stand_with}
 use Rattle.sql_write_laws.proofs.Inserted.{inserted_among}
 
 abbrev with_file : FileRow → Rows → Rows
 with_file f r = record r { files = r.files ++ f ∷ [] }
 
 file_put : (f : FileRow) (t : Tables) (r : Rows) → AreOf t r → (put_file_edit f).Tells t → AreOf ((put_file_edit f).after t) (with_file f r)
-file_put f t r are told = (
-  record {
-    desk = are.0.desk;
-    holidays = are.0.holidays;
-    companies = are.0.companies;
-    submissions = are.0.submissions;
-    entries = are.0.entries;
-    returns = are.0.returns;
-    changes = are.0.changes;
-    postings = are.0.postings;
-    suspense = are.0.suspense;
-    files = inserted_among (key_cmp the.files) f r.files t.files are.0.files;
-    taken = are.0.taken;
-    numbers = are.0.numbers;
-    authorizations = are.0.authorizations;
-    states = are.0.states;
-    retries = are.0.retries;
-  },
-  record {
-    orders = are.1.orders;
-    references = are.1.references;
-    printed = are.1.printed;
-    lapsed = are.1.lapsed;
-    back = are.1.back;
-    sent = are.1.sent;
-    apart = are.1.apart;
-    sequences = are.1.sequences;
-    sums = are.1.sums;
-  },
-)
+file_put f t r are told =
+    stand_with t r are (record (independent t r are) { files = record { table = _; rows = r.files ++ f ∷ []; is_of = inserted_among (key_cmp the.files) f r.files t.files are.0.files } })
 
 pub files_put : (fs : List FileRow) (t : Tables) (r : Rows) → AreOf t r → (each_edit put_file_edit fs).Tells t → AreOf ((each_edit put_file_edit fs).after t) (record r { files = r.files ++ fs })
 files_put fs t r are told =

@@ -10,6 +10,7 @@ use Rattle.sql_tables.specs.Tables.{Tables}
 use Rattle.sql_tables.specs.declared.records.PostingRecord.{PostingRecord}
 use Rattle.sql_tables.proofs.KeptRows.{numbered_more}
 use Rattle.sql_write_laws.proofs.Each.{AreOf, each_numbered, all_appended}
+use Rattle.sql_write_laws.proofs.Independent.{independent, stand_with}
 use Rattle.sql_write_laws.proofs.Lines.{sums_kept}
 use Rattle.sql_write_laws.proofs.Numbered.{next_is, insert_last, numbers_are, some_same}
 
@@ -22,39 +23,19 @@ line_numbers t r are =
     (ap (map Some) are.0.postings ∙ map-map Some posting_record (enumerate_from 1 r.postings))
 
 line_put : (n : ℕ) (p : Posting) (t : Tables) (r : Rows) → n ≡ length r.postings + 1 → AreOf t r → (put_line_edit n p).Tells t → AreOf ((put_line_edit n p).after t) (with_line p r)
-line_put n p t r at are told = (
-  record {
-    desk = are.0.desk;
-    holidays = are.0.holidays;
-    companies = are.0.companies;
-    submissions = are.0.submissions;
-    entries = are.0.entries;
-    returns = are.0.returns;
-    changes = are.0.changes;
-    postings =
-        insert_last (λ (x : PostingRecord). x.number) t.postings (record { number = n; posting = p }) 1 (length r.postings) (line_numbers t r are) at
-        ∙ (λ i. are.0.postings i ++ posting_record (at i, p) ∷ [])
-        ∙ sym (numbered_more posting_record r.postings (p ∷ []));
-    suspense = are.0.suspense;
-    files = are.0.files;
-    taken = are.0.taken;
-    numbers = are.0.numbers;
-    authorizations = are.0.authorizations;
-    states = are.0.states;
-    retries = are.0.retries;
-  },
-  record {
-    orders = are.1.orders;
-    references = are.1.references;
-    printed = are.1.printed;
-    lapsed = are.1.lapsed;
-    back = are.1.back;
-    sent = are.1.sent;
-    apart = are.1.apart;
-    sequences = are.1.sequences;
-    sums = sums_kept t.balances r.postings p are.1.sums;
-  },
-)
+line_put n p t r at are told =
+    stand_with t r are (record (independent t r are) {
+      lines = record {
+        table = (_, _);
+        rows = r.postings ++ p ∷ [];
+        is_of = (
+          insert_last (λ (x : PostingRecord). x.number) t.postings (record { number = n; posting = p }) 1 (length r.postings) (line_numbers t r are) at
+              ∙ (λ i. are.0.postings i ++ posting_record (at i, p) ∷ [])
+              ∙ sym (numbered_more posting_record r.postings (p ∷ [])),
+          sums_kept t.balances r.postings p are.1.sums,
+        );
+      };
+    })
 
 pub lines_put : (ps : List Posting) (t : Tables) (r : Rows) → AreOf t r → (put_lines_edit ps).Tells t → AreOf ((put_lines_edit ps).after t) (record r { postings = r.postings ++ ps })
 lines_put ps t r are told =

@@ -1,5 +1,5 @@
 -- Items that name no sent entry go on behind the others, and a taken file stands among the others.
-use Rattle.std.proofs.Common.{◌≡◌, ℕ, ◌+◌, List, [], ◌∷◌, ◌++◌, map, length, Some, refl, sym, subst, ap, ◌∙◌, length-append, IsPermutation}
+use Rattle.std.proofs.Common.{◌≡◌, ℕ, ◌+◌, List, [], ◌∷◌, ◌++◌, map, length, Some, refl, sym, subst, ap, ◌∙◌, length-append}
 use Rattle.std.specs.List.{enumerate_from, range_with_len}
 use Rattle.sqlite_keyed.proofs.ListLemmas.{map-map}
 use Rattle.sql_statements.specs.Edits.{Edit}
@@ -14,41 +14,9 @@ use Rattle.sql_tables.specs.Tables.{Tables}
 use Rattle.sql_tables.specs.declared.records.SuspenseRecord.{SuspenseRecord}
 use Rattle.sql_tables.proofs.KeptRows.{numbered_more}
 use Rattle.sql_write_laws.proofs.Each.{AreOf, each_numbered, all_appended}
+use Rattle.sql_write_laws.proofs.Independent.{independent, stand_with}
 use Rattle.sql_write_laws.proofs.Inserted.{inserted_among}
 use Rattle.sql_write_laws.proofs.Numbered.{next_is, insert_last, numbers_are, some_same}
-
-module _ (t : Tables) (r : Rows) (items : List SuspenseRecord) (rows : List SuspenseRow) (files taken : List TakenFile) where
-  of_file : items ≡ map suspense_record (enumerate_from 1 rows) → IsPermutation taken files → AreOf t r → AreOf (record t { suspense = items; taken = files }) (record r { suspense = rows; taken = taken })
-  of_file is among are = (
-    record {
-      desk = are.0.desk;
-      holidays = are.0.holidays;
-      companies = are.0.companies;
-      submissions = are.0.submissions;
-      entries = are.0.entries;
-      returns = are.0.returns;
-      changes = are.0.changes;
-      postings = are.0.postings;
-      suspense = is;
-      files = are.0.files;
-      taken = among;
-      numbers = are.0.numbers;
-      authorizations = are.0.authorizations;
-      states = are.0.states;
-      retries = are.0.retries;
-    },
-    record {
-      orders = are.1.orders;
-      references = are.1.references;
-      printed = are.1.printed;
-      lapsed = are.1.lapsed;
-      back = are.1.back;
-      sent = are.1.sent;
-      apart = are.1.apart;
-      sequences = are.1.sequences;
-      sums = are.1.sums;
-    },
-  )
 
 abbrev with_suspended : SuspenseRow → Rows → Rows
 with_suspended x r = record r { suspense = r.suspense ++ x ∷ [] }
@@ -60,11 +28,16 @@ suspense_numbers t r are =
 
 item_put : (n : ℕ) (x : SuspenseRow) (t : Tables) (r : Rows) → n ≡ length r.suspense + 1 → AreOf t r → (put_suspense_edit n x).Tells t → AreOf ((put_suspense_edit n x).after t) (with_suspended x r)
 item_put n x t r at are told =
-    of_file t r _ (r.suspense ++ x ∷ []) t.taken r.taken
-    (insert_last (λ (y : SuspenseRecord). y.number) t.suspense (record { number = n; row = x }) 1 (length r.suspense) (suspense_numbers t r are) at
-    ∙ (λ i. are.0.suspense i ++ suspense_record (at i, x) ∷ [])
-    ∙ sym (numbered_more suspense_record r.suspense (x ∷ [])))
-    are.0.taken are
+    stand_with t r are (record (independent t r are) {
+      suspense = record {
+        table = _;
+        rows = r.suspense ++ x ∷ [];
+        is_of =
+            insert_last (λ (y : SuspenseRecord). y.number) t.suspense (record { number = n; row = x }) 1 (length r.suspense) (suspense_numbers t r are) at
+            ∙ (λ i. are.0.suspense i ++ suspense_record (at i, x) ∷ [])
+            ∙ sym (numbered_more suspense_record r.suspense (x ∷ []));
+      };
+    })
 
 abbrev pub put_items : List SuspenseRow → Edit Tables
 put_items = each_edit_on (λ t. next_number (λ y. y.number) t.suspense) put_suspense_edit
@@ -75,4 +48,5 @@ items_put xs t r are told =
     (each_numbered put_suspense_edit with_suspended (λ s. length s.suspense) (λ x s. length-append s.suspense (x ∷ [])) item_put xs _ t r (next_is (λ (y : SuspenseRecord). y.number) t.suspense (length r.suspense) (suspense_numbers t r are)) are told)
 
 pub taken_put : (f : TakenFile) (t : Tables) (r : Rows) → AreOf t r → (put_taken_edit f).Tells t → AreOf ((put_taken_edit f).after t) (record r { taken = r.taken ++ f ∷ [] })
-taken_put f t r are told = of_file t r t.suspense r.suspense _ (r.taken ++ f ∷ []) are.0.suspense (inserted_among (key_cmp the.taken) f r.taken t.taken are.0.taken) are
+taken_put f t r are told =
+    stand_with t r are (record (independent t r are) { taken = record { table = _; rows = r.taken ++ f ∷ []; is_of = inserted_among (key_cmp the.taken) f r.taken t.taken are.0.taken } })
