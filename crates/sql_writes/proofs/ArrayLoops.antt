@@ -1,19 +1,29 @@
--- What a loop has put into an array so far, where each place is made of the value at the same place of a list.
-use Rattle.std.proofs.Common.{◌≡◌, ◌<◌, ◌+◌, ℕ, List, [], ◌∷◌, ◌++◌, map, take, length, slice_set, sym, ap, ap₂, ◌∙◌, refl, arith}
+-- What an array has, where each place is made of the value at the same place of a list.
+use Rattle.std.proofs.Common.{◌≡◌, ◌<◌, ◌+◌, ℕ, suc, List, [], ◌∷◌, ◌++◌, map, take, length, slice_index_or, slice_set, sym, ap, ap₂, ◌∙◌, refl, arith, Bor}
 use Rattle.std.specs.List.{enumerate_from, flat_map}
 use Rattle.std.proofs.lemmas.List.{take_more_set, map-append}
 use Rattle.sqlite.specs.Values.{bound}
+use Rattle.sqlite_keyed.proofs.ListLemmas.{map-map}
 use Rattle.sqlite_value.specs.Order.{Row}
 use Rattle.sqlite_value.specs.declared.value.ValueRef.{ValueRef}
 use Rattle.sql_tables.proofs.KeptRows.{numbered_append}
 
--- one more place is set
-pub seen_more : {A B C : Type 0} (seen : A → C) (wanted : B → C) (made : List A) (from : List B) (at : ℕ) (v : A) (x : B) → at < length made → take (at + 1) from ≡ take at from ++ x ∷ []
-    → seen v ≡ wanted x → map seen (take at made) ≡ map wanted (take at from) → map seen (take (at + 1) (slice_set made at v)) ≡ map wanted (take (at + 1) from)
-seen_more seen wanted made from at v x inside more here before =
-    ap (map seen) (take_more_set made at v inside) ∙ map-append seen (take at made) (v ∷ [])
-    ∙ ap₂ (λ l z. l ++ z ∷ []) before here
-    ∙ sym (ap (map wanted) more ∙ map-append wanted (take at from) (x ∷ []))
+-- what the elements of the one are seen as is what is wanted of those of the other, place by place
+mapped : {A B C : Type 0} (seen : B → C) (wanted : A → C) (xs : List A) (ys : List B) → length ys ≡ length xs
+    → ((i : ℕ) (d : A) (e : B) → i < length ys → seen (slice_index_or ys i e) ≡ wanted (slice_index_or xs i d)) → map seen ys ≡ map wanted xs
+mapped seen wanted [] [] long same = refl
+mapped seen wanted [] (y ∷ ys) long same = cc
+mapped seen wanted (x ∷ xs) [] long same = cc
+mapped {A} {B} seen wanted (x ∷ xs) (y ∷ ys) long same =
+    ap₂ (λ z l. z ∷ l) (same 0 x y (omega arith)) (mapped seen wanted xs ys (omega (arith, long)) (λ (i : ℕ) (d : A) (e : B) (below : i < length ys). same (suc i) d e (omega (arith, below))))
+
+-- the values of sixteen rows, which were made of a reference to each
+pub values_are : {B : Type 0} (stored : B → Row) (from : List B) (rows : List (Bor B)) (made : List (List ValueRef)) → map (λ r. r.now) rows ≡ from → length rows ≡ 16 → length made ≡ 16
+    → ((i : ℕ) (d : Bor B) (e : List ValueRef) → i < 16 → bound (slice_index_or made i e) ≡ stored (slice_index_or rows i d).now) → map bound made ≡ map stored from
+values_are {B} stored from rows made are many long same =
+    mapped bound (λ r. stored r.now) rows made (long ∙ sym many) (λ (i : ℕ) (d : Bor B) (e : List ValueRef) (below : i < length made). same i d e (omega (arith, below, long)))
+    ∙ sym (map-map stored (λ r. r.now) rows)
+    ∙ ap (map stored) are
 
 -- a list with one more value, whose values are numbered on
 pub numbered_one : {A : Type 0} (first at : ℕ) (xs ys : List A) (x : A) → ys ≡ xs ++ x ∷ [] → length xs ≡ at → enumerate_from first ys ≡ enumerate_from first xs ++ (first + at, x) ∷ []

@@ -1,5 +1,5 @@
 //! The entries of a new submission are written, sixteen by one statement as long as there are so many.
-ghost use Rattle.std.specs.Prelude.{◌≡◌, map};
+ghost use Rattle.std.specs.Prelude.{◌≡◌};
 ghost use Rattle.sqlite.specs.Values.{bound};
 ghost use Rattle.sql_tables.specs.Layout.{desk_layout};
 ghost use Rattle.sql_tables.specs.TableEdits.{put_entry_edit};
@@ -52,7 +52,7 @@ impl BatchBody for EntryRows {
         entries: &[Entry],
     ) -> Result<(), Error> {
         let rows = hold_sixteen(self, first, entries)?;
-        let values = values_of_all(&rows);
+        let values = rows.each_ref().map(values_of);
         execute(
             tx,
             "INSERT INTO entries VALUES \
@@ -117,15 +117,4 @@ fn values_of<'a>(row: &'a EntryRow) -> [ValueRef<'a>; 12]
         optional_text(&row.entry.info),
         ValueRef::Null,
     ]
-}
-
-// The values of each of sixteen rows.
-fn values_of_all<'a>(rows: &'a [EntryRow; 16]) -> [[ValueRef<'a>; 12]; 16]
-    ensures { map bound result ≡ map stored_entry rows.now }
-{
-    let mut values = [[ValueRef::Null; 12]; 16];
-    for at in 0..16 {
-        values[at] = values_of(&rows[at]);
-    }
-    values
 }

@@ -1,5 +1,5 @@
 //! The rows of lines are written, sixteen by one statement as long as there are so many.
-ghost use Rattle.std.specs.Prelude.{◌≡◌, map};
+ghost use Rattle.std.specs.Prelude.{◌≡◌};
 ghost use Rattle.sqlite.specs.Values.{bound};
 ghost use Rattle.sql_tables.specs.Layout.{desk_layout};
 ghost use Rattle.sql_writes.specs.LineEdits.{put_posting_edit};
@@ -50,7 +50,7 @@ impl BatchBody for LineRows {
         lines: &[Posting],
     ) -> Result<(), Error> {
         let rows = hold_sixteen(self, first, lines)?;
-        let values = values_of_all(&rows);
+        let values = rows.each_ref().map(values_of);
         execute(
             tx,
             "INSERT INTO postings VALUES \
@@ -101,15 +101,4 @@ fn values_of<'a>(row: &'a LineRow) -> [ValueRef<'a>; 7]
         line_reference(&row.line.reference),
         number(row.index),
     ]
-}
-
-// The values of each of sixteen rows.
-fn values_of_all<'a>(rows: &'a [LineRow; 16]) -> [[ValueRef<'a>; 7]; 16]
-    ensures { map bound result ≡ map stored_line rows.now }
-{
-    let mut values = [[ValueRef::Null; 7]; 16];
-    for at in 0..16 {
-        values[at] = values_of(&rows[at]);
-    }
-    values
 }

@@ -1,7 +1,7 @@
 //! A cut writes the place of the youngest entry that has each sequence: the numbers of a range of
 //! sequences are taken out by one statement, and the new ones put in, sixteen by one as long as there are
 //! so many.
-ghost use Rattle.std.specs.Prelude.{◌≡◌, ◌≤◌, ◌<◌, ◌+◌, IfOk, OnOk, map};
+ghost use Rattle.std.specs.Prelude.{◌≡◌, ◌≤◌, ◌<◌, ◌+◌, IfOk, OnOk};
 ghost use Rattle.sqlite.specs.Values.{bound};
 ghost use Rattle.ach_fields.specs.Trace.{most_sequence};
 ghost use Rattle.sql_statements.specs.Transactions.{Makes};
@@ -114,7 +114,7 @@ impl BatchBody for NumberRows {
         entries: &[SentEntry],
     ) -> Result<(), Error> {
         let rows = hold_sixteen(self, first, entries)?;
-        let values = values_of_all(&rows);
+        let values = rows.each_ref().map(values_of);
         execute(
             tx,
             "INSERT INTO numbers VALUES (?, ?), (?, ?), (?, ?), (?, ?), (?, ?), (?, ?), (?, ?), (?, ?), \
@@ -150,15 +150,4 @@ fn values_of<'a>(row: &'a NumberRow) -> [ValueRef<'a>; 2]
     ensures { bound result ≡ stored_number row.now }
 {
     [number(row.sequence), number(row.place)]
-}
-
-// The values of each of sixteen rows.
-fn values_of_all<'a>(rows: &'a [NumberRow; 16]) -> [[ValueRef<'a>; 2]; 16]
-    ensures { map bound result ≡ map stored_number rows.now }
-{
-    let mut values = [[ValueRef::Null; 2]; 16];
-    for at in 0..16 {
-        values[at] = values_of(&rows[at]);
-    }
-    values
 }

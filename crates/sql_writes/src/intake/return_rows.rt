@@ -1,5 +1,5 @@
 //! The rows of returns are written, sixteen by one statement as long as there are so many.
-ghost use Rattle.std.specs.Prelude.{◌≡◌, map};
+ghost use Rattle.std.specs.Prelude.{◌≡◌};
 ghost use Rattle.sqlite.specs.Values.{bound};
 ghost use Rattle.sql_tables.specs.Layout.{desk_layout};
 ghost use Rattle.sql_tables.specs.TableEdits.{put_return_edit};
@@ -49,7 +49,7 @@ impl BatchBody for ReturnRows {
         returned: &[ReturnedRow],
     ) -> Result<(), Error> {
         let rows = hold_sixteen(self, first, returned)?;
-        let values = values_of_all(&rows);
+        let values = rows.each_ref().map(values_of);
         execute(
             tx,
             "INSERT INTO returns VALUES \
@@ -103,15 +103,4 @@ fn values_of<'a>(row: &'a ReturnRow) -> [ValueRef<'a>; 8]
         switch(row.returned.row.late),
         characters(&row.returned.row.info),
     ]
-}
-
-// The values of each of sixteen rows.
-fn values_of_all<'a>(rows: &'a [ReturnRow; 16]) -> [[ValueRef<'a>; 8]; 16]
-    ensures { map bound result ≡ map stored_return rows.now }
-{
-    let mut values = [[ValueRef::Null; 8]; 16];
-    for at in 0..16 {
-        values[at] = values_of(&rows[at]);
-    }
-    values
 }

@@ -1,8 +1,7 @@
-use Rattle.std.proofs.Common.{◌≡◌, ◌+◌, ◌++◌, List, length}
+use Rattle.std.proofs.Common.{◌≡◌, length}
 use Rattle.sqlite.specs.Held.{state}
 use Rattle.sqlite.specs.State.{HasCleanDisk, Survives, KeepsCommit}
-use Rattle.sql_statements.specs.Edits.{each_edit_from}
-use Rattle.sql_statements.specs.Transactions.{Makes}
+use Rattle.sql_writes.proofs.ManyEdits.{MadeBefore}
 use Rattle.sql_writes.proofs.runs.run_runs.Given as goal
 
 -- the rows before those that are left are made
@@ -12,7 +11,7 @@ invariant-runs g l =
     let now = state g.S.Store l.tx.conn.now in
     record {
       same : l.tx.conn.ghost_name ≡ l.fn.tx.conn.ghost_name;
-      done : (done : List _) × (l.rows ≡ done ++ l.rest) × (l.number ≡ l.first + length done) × (HasCleanDisk now → Makes g.B.RunBody.layout (each_edit_from (g.B.RunBody.edit l.body) l.first done) start now);
+      made : MadeBefore g.B.RunBody.layout (g.B.RunBody.edit l.body) l.first l.rows start now l.number l.rest;
       keeps : HasCleanDisk now → KeepsCommit start now;
       survives : Survives start now (λ _. ⊥);
     }

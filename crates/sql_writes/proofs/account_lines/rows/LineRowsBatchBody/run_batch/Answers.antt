@@ -1,4 +1,4 @@
-use Rattle.std.proofs.Common.{◌≡◌, map, ap, ◌∙◌}
+use Rattle.std.proofs.Common.{rules, ◌≡◌, map, ap, ◌∙◌}
 use Rattle.sqlite.specs.Held.{state}
 use Rattle.sqlite.specs.Values.{bound}
 use Rattle.sql_statements.proofs.Edits.{makes_of}
@@ -8,6 +8,7 @@ use Rattle.sql_tables.specs.Layout.{desk_layout}
 use Rattle.sql_writes.specs.LineEdits.{put_posting_edit}
 use Rattle.sql_writes.specs.HeldRows.{held_from}
 use Rattle.sql_writes.specs.LineRows.{held_line, stored_line}
+use Rattle.sql_writes.proofs.ArrayLoops.{values_are}
 use Rattle.sql_writes.proofs.PostingInserts.{bound_lines, postings_put}
 use Rattle.sql_writes.proofs.account_lines.rows.LineRowsBatchBody.run_batch.Goals as goal
 
@@ -19,8 +20,8 @@ returns g c =
     let lines = c.args.lines.now in
     let old = state g.S.Store c.args.tx.now.conn.now in
     let new = state g.S.Store c.execute.new.tx.conn.now in
-    let values = c.values_of_all-values.result in
-    let are : map bound values ≡ map stored_line (held_from held_line first lines) = c.values_of_all-values.ensures ∙ ap (map stored_line) c.in_ok-rows.ensures in
+    let values = c.map-values.result in
+    let are : map bound values ≡ map stored_line (held_from held_line first lines) = values_are stored_line c.in_ok-rows.rows c.each_ref.result values c.each_ref.ensures.items (search rules) (search rules) (λ i d e below. (c.map-values.ensures.items.at i d e below).2.met) ∙ ap (map stored_line) c.in_ok-rows.ensures in
     let ran = rw (c.as_flattened.ensures.value, bound_lines first lines values are) at (told clean).ran in
     makes_of desk_layout (each_edit_from put_posting_edit first lines) old new (told clean).shown
     (postings_put first lines c.requires.many old new c.in_ok-execute.field-0 ran)) c.in_ok-execute.ensures

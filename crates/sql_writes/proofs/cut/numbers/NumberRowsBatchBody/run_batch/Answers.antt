@@ -1,4 +1,4 @@
-use Rattle.std.proofs.Common.{◌≡◌, map, ap, ◌∙◌}
+use Rattle.std.proofs.Common.{rules, ◌≡◌, map, ap, ◌∙◌}
 use Rattle.sqlite.specs.Held.{state}
 use Rattle.sqlite.specs.Values.{bound}
 use Rattle.sql_statements.proofs.Edits.{makes_of}
@@ -8,6 +8,7 @@ use Rattle.sql_tables.specs.Layout.{desk_layout}
 use Rattle.sql_writes.specs.HeldRows.{held_from}
 use Rattle.sql_writes.specs.NumberRows.{held_number, stored_number}
 use Rattle.sql_writes.specs.PlaceEdits.{insert_number_edit}
+use Rattle.sql_writes.proofs.ArrayLoops.{values_are}
 use Rattle.sql_writes.proofs.NumberRanges.{bound_numbers, numbers_inserted}
 use Rattle.sql_writes.proofs.cut.numbers.NumberRowsBatchBody.run_batch.Goals as goal
 
@@ -19,8 +20,8 @@ returns g c =
     let entries = c.args.entries.now in
     let old = state g.S.Store c.args.tx.now.conn.now in
     let new = state g.S.Store c.execute.new.tx.conn.now in
-    let values = c.values_of_all-values.result in
-    let are : map bound values ≡ map stored_number (held_from held_number first entries) = c.values_of_all-values.ensures ∙ ap (map stored_number) c.in_ok-rows.ensures in
+    let values = c.map-values.result in
+    let are : map bound values ≡ map stored_number (held_from held_number first entries) = values_are stored_number c.in_ok-rows.rows c.each_ref.result values c.each_ref.ensures.items (search rules) (search rules) (λ i d e below. (c.map-values.ensures.items.at i d e below).2.met) ∙ ap (map stored_number) c.in_ok-rows.ensures in
     let ran = rw (c.as_flattened.ensures.value, bound_numbers first entries values are) at (told clean).ran in
     makes_of desk_layout (each_edit_from insert_number_edit first entries) old new (told clean).shown
     (numbers_inserted first entries c.requires.many old new c.in_ok-execute.field-0 ran)) c.in_ok-execute.ensures
