@@ -12,8 +12,8 @@ use cli_commands::{
     Status, answer_messages, check_path, first_run, print_unavailable, submit_path, write_line,
 };
 use cli_words::{Command, LineFault, VERSION_LINE};
-use desk_tables::{FileFrom, FileStore, SqlStore, Start, Wary};
 use io_retries::Tries;
+use sql_files::{Connection, FileFrom, FileStore, Start, Wary};
 use std::io::{Read, Write};
 
 /// Carries out a command, which reads what it needs of the reader and prints to the writer.
@@ -58,15 +58,15 @@ pub fn run_from<S: Start, R: Read + Drop, W: Write>(
     status
 }
 
-// Carries out a command, and gives the store in the file that it opened, so that all files are closed in
-// one place: each that is closed takes the prover its time, as the type of such a store is long.
+// Carries out a command, and gives the connection to the file that it opened, so that all files are closed
+// in one place: each that is closed takes the prover its time, as the type of such a connection is long.
 fn carry_out<S: Start, R: Read + Drop, W: Write>(
     rt: &HostRuntime,
     start: S,
     command: &Command<'_>,
     reader: R,
     writer: &mut W,
-) -> (Status, Option<SqlStore<FileStore<FileFrom<S>>>>)
+) -> (Status, Option<Connection<FileStore<FileFrom<S>>>>)
     ensures answered { result.0 ≢ Status.Failed →
         CarriesOut (IsKeptIn (image_at S.Start)) command.now (R.remaining reader)
         (W.contents writer.old) (W.contents writer.new) result.0 }

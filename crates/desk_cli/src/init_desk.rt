@@ -12,14 +12,14 @@ use crate::init_file::{InitFault, new_desk};
 use crate::open_fault::print_open_fault;
 use cli_commands::{Status, print_line};
 use cli_words::InitOptions;
-use desk_tables::{FileFrom, FileStore, SqlStore, Start};
+use sql_files::{Connection, FileFrom, FileStore, Start};
 use std::io::Write;
 
 /// This line is printed of a new desk.
 const CREATED: &[u8; 8] = b"created\n";
 
-/// Makes a new desk in the file at a path, prints `created`, and gives the store, so that the file
-/// may be closed; or prints the first bad option, as `bad odfi`, or `Exists` where the file is a desk
+/// Makes a new desk in the file at a path, prints `created`, and gives the connection, so that the
+/// file may be closed; or prints the first bad option, as `bad odfi`, or `Exists` where the file is a desk
 /// already.
 ///
 /// Where the file cannot be opened or has something else in it, or memory runs out, `unavailable` is
@@ -30,10 +30,10 @@ pub fn make_desk<S: Start, W: Write>(
     start: S,
     options: &InitOptions<'_>,
     writer: &mut W,
-) -> (Status, Option<SqlStore<FileStore<FileFrom<S>>>>)
+) -> (Status, Option<Connection<FileStore<FileFrom<S>>>>)
     ensures made { IfSome result.1
-        (λ s. IsMade (init_texts_of options.now) (λ identity key. HasCleanDisk (file_state s.conn)
-        → IsMadeIn (image_at S.Start) identity key s.conn)) }
+        (λ c. IsMade (init_texts_of options.now) (λ identity key. HasCleanDisk (file_state c)
+        → IsMadeIn (image_at S.Start) identity key c)) }
     ensures answered { result.0 ≢ Status.Failed → MatchOption result.1
         (SaysUncreated (init_texts_of options.now) (W.contents writer.old)
         (W.contents writer.new) result.0)
@@ -44,7 +44,7 @@ pub fn make_desk<S: Start, W: Write>(
         (λ _. FailsToSayCreated (W.contents writer.old) (W.contents writer.new)) }
 {
     match new_desk(rt, path, start, options) {
-        Ok(store) => (print_line(writer, true, CREATED), Some(store)),
+        Ok(conn) => (print_line(writer, true, CREATED), Some(conn)),
         Err(InitFault::Bad(fault)) => (print_line(writer, false, fault.line()), None),
         Err(InitFault::File(fault)) => (print_open_fault(rt.alloc(), writer, fault), None),
     }

@@ -9,8 +9,8 @@ ghost use Rattle.desk_cli.specs.NewDesks.{FailsAs, IsMade};
 
 use cli_commands::{OptionFault, identity_of};
 use cli_words::InitOptions;
-use desk_tables::{FileFrom, FileStore, OpenFault, SqlStore, Start, create};
 use sha2::{Digest, Sha256};
+use sql_files::{Connection, FileFrom, FileStore, OpenFault, Start, create};
 
 /// A fault says why there is no new desk.
 #[derive(Clone, Copy, Debug, PartialEq, Eq)]
@@ -28,10 +28,10 @@ pub fn new_desk<S: Start>(
     path: &str,
     start: S,
     options: &InitOptions<'_>,
-) -> Result<SqlStore<FileStore<FileFrom<S>>>, InitFault>
+) -> Result<Connection<FileStore<FileFrom<S>>>, InitFault>
     ensures made { IfOk result
-        (λ s. IsMade (init_texts_of options.now) (λ identity key. HasCleanDisk (file_state s.conn)
-        → IsMadeIn (image_at S.Start) identity key s.conn)) }
+        (λ c. IsMade (init_texts_of options.now) (λ identity key. HasCleanDisk (file_state c)
+        → IsMadeIn (image_at S.Start) identity key c)) }
     ensures fault { IfErr result (FailsAs (init_texts_of options.now)) }
 {
     let identity = match identity_of(options) {
@@ -40,7 +40,7 @@ pub fn new_desk<S: Start>(
     };
     let key = Sha256::digest(options.key.as_bytes());
     match create(rt, path, start, identity, key) {
-        Ok(store) => Ok(store),
+        Ok(conn) => Ok(conn),
         Err(fault) => Err(InitFault::File(fault)),
     }
 }

@@ -8,25 +8,25 @@ ghost use Rattle.desk_cli.specs.MigrationRuns.{SaysMigrated, SaysUnmigrated, Fai
 
 use crate::open_fault::print_open_fault;
 use cli_commands::{Status, print_line};
-use desk_tables::{FileFrom, FileStore, SqlStore, Start, migrate_file};
+use sql_files::{Connection, FileFrom, FileStore, Start, migrate_file};
 use std::io::Write;
 
 /// This line is printed where the file was migrated.
 const MIGRATED: &[u8; 16] = b"migrated 1 to 2\n";
 
 /// Makes the desk's file of version 1 at a path one of version 2, prints `migrated 1 to 2`, and gives
-/// the store, so that the file may be closed.
+/// the connection, so that the file may be closed.
 ///
 /// Where the file is no desk's of version 1, `NotADesk`, `WrongVersion 2` or `unavailable` is printed,
-/// and there is no store.
+/// and there is no connection.
 pub fn migrate_by_file<S: Start, W: Write>(
     rt: &HostRuntime,
     path: &str,
     start: S,
     writer: &mut W,
-) -> (Status, Option<SqlStore<FileStore<FileFrom<S>>>>)
+) -> (Status, Option<Connection<FileStore<FileFrom<S>>>>)
     ensures migrated { IfSome result.1
-        (λ s. HasCleanDisk (file_state s.conn) → IsMigratedIn (image_at S.Start) s.conn) }
+        (λ c. HasCleanDisk (file_state c) → IsMigratedIn (image_at S.Start) c) }
     ensures answered { result.0 ≢ Status.Failed → MatchOption result.1
         (SaysUnmigrated (W.contents writer.old) (W.contents writer.new) result.0)
         (λ _. SaysMigrated (W.contents writer.old) (W.contents writer.new) result.0) }
@@ -35,7 +35,7 @@ pub fn migrate_by_file<S: Start, W: Write>(
         (λ _. FailsToSayMigrated (W.contents writer.old) (W.contents writer.new)) }
 {
     match migrate_file(rt, path, start) {
-        Ok(store) => (print_line(writer, true, MIGRATED), Some(store)),
+        Ok(conn) => (print_line(writer, true, MIGRATED), Some(conn)),
         Err(fault) => (print_open_fault(rt.alloc(), writer, fault), None),
     }
 }

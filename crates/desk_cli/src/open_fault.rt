@@ -3,8 +3,8 @@ ghost use Rattle.std.specs.Prelude.{◌≡◌, ◌≢◌, IfOk, IfSome, Some, st
 ghost use Rattle.desk_cli.specs.OpenFaults.{fault_text, IsFaultAnswer, SaysFault, FailsToSayFault};
 
 use cli_commands::{Status, end_line, print_answer};
-use desk_tables::OpenFault;
 use io_retries::Tries;
+use sql_files::OpenFault;
 use std::alloc::{AllocError, Global};
 use std::io::Write;
 

@@ -13,12 +13,13 @@ ghost use Rattle.desk_cli.specs.KeptRuns.{BreaksOffUnopened, IsKeptIn, SaysUnope
 use crate::open_fault::print_open_fault;
 use cli_commands::{Status, serve_remembering};
 use cli_words::ServeOptions;
-use desk_tables::{FileFrom, FileStore, SqlStore, Start, open};
+use sql_files::{Connection, FileFrom, FileStore, Start, open};
+use sql_store::SqlStore;
 use sqlite::Alter;
 use std::io::Write;
 
 /// Serves the desk in the file at a path on a port of 127.0.0.1, one connection after another, each a
-/// session of its own, and gives the store, where there is one, so that the file may be closed.
+/// session of its own, and gives the connection to the file, where there is one, so that it may be closed.
 ///
 /// Once it listens it prints `listening on 127.0.0.1:8080`. It is done after as many connections as the
 /// options say. Where the file is not opened as a desk, `NotADesk`, `WrongVersion 9` or `unavailable` is
@@ -32,10 +33,10 @@ pub fn serve_by_file<S: Start, W: Write>(
     start: S,
     options: ServeOptions,
     writer: &mut W,
-) -> (Status, Option<SqlStore<FileStore<FileFrom<S>>>>)
-    ensures served { IfSome result.1 (λ s.
-        HasServed IsAnswered (HasCleanDisk (file_state s.conn)) (IsKeptIn (image_at S.Start))
-        (StandsBehind (Sees (file_state s.conn)))) }
+) -> (Status, Option<Connection<FileStore<FileFrom<S>>>>)
+    ensures served { IfSome result.1 (λ c.
+        HasServed IsAnswered (HasCleanDisk (file_state c)) (IsKeptIn (image_at S.Start))
+        (StandsBehind (Sees (file_state c)))) }
     ensures answered { result.0 ≢ Status.Failed → MatchOption result.1
         (SaysUnopened (W.contents writer.old) (W.contents writer.new) result.0)
         (λ _. HasServedConnections options.port (W.contents writer.old)
@@ -45,30 +46,30 @@ pub fn serve_by_file<S: Start, W: Write>(
         (λ _. FailsToServe options.port (W.contents writer.old) (W.contents writer.new)) }
 {
     match open(rt, path, start) {
-        Ok(store) => {
-            let (status, store) = serve_by_tables(rt, store, options, writer);
-            (status, Some(store))
+        Ok(conn) => {
+            let (status, conn) = serve_by_tables(rt, conn, options, writer);
+            (status, Some(conn))
         }
         Err(fault) => (print_open_fault(rt.alloc(), writer, fault), None),
     }
 }
 
-// The same by the desk of SQL tables, whichever files they are in.
+// The same by the desk in the tables of a connection, whichever files they are in.
 fn serve_by_tables<P: Alter + Drop, W: Write>(
     rt: &HostRuntime,
-    store: SqlStore<P>,
+    conn: Connection<P>,
     options: ServeOptions,
     writer: &mut W,
-) -> (Status, SqlStore<P>)
-    ensures before { HasCleanDisk (state P.Store result.1.conn)
-        → HasCleanDisk (state P.Store store.conn) }
-    ensures served { HasServed IsAnswered (HasCleanDisk (state P.Store result.1.conn))
-        (StandsBehind (Sees (state P.Store store.conn)))
-        (StandsBehind (Sees (state P.Store result.1.conn))) }
+) -> (Status, Connection<P>)
+    ensures before { HasCleanDisk (state P.Store result.1) → HasCleanDisk (state P.Store conn) }
+    ensures served { HasServed IsAnswered (HasCleanDisk (state P.Store result.1))
+        (StandsBehind (Sees (state P.Store conn)))
+        (StandsBehind (Sees (state P.Store result.1))) }
     ensures answered { result.0 ≢ Status.Failed →
         HasServedConnections options.port (W.contents writer.old) (W.contents writer.new) result.0 }
     ensures failed { result.0 ≡ Status.Failed →
         FailsToServe options.port (W.contents writer.old) (W.contents writer.new) }
 {
-    serve_remembering(rt, store, options, writer)
+    let (status, store) = serve_remembering(rt, SqlStore::new(conn), options, writer);
+    (status, store.into_connection())
 }

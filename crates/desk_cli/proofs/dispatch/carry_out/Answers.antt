@@ -12,21 +12,21 @@ use Rattle.desk_cli.proofs.dispatch.carry_out.Goals as goal
 
 pub returns-in-Init-clause-answered : goal.returns-in-Init-clause-answered
 returns-in-Init-clause-answered g c = λ fine.
-    rw c.in-Init.is (closed_desk (init_texts_of c.in-Init.options) c.make_desk.result.1 _ _ (λ s identity key. HasCleanDisk (file_state s.conn) → IsMadeIn (image_at g.S.Start) identity key s.conn)
+    rw c.in-Init.is (closed_desk (init_texts_of c.in-Init.options) c.make_desk.result.1 _ _ (λ s identity key. HasCleanDisk (file_state s) → IsMadeIn (image_at g.S.Start) identity key s)
     c.make_desk.ensures.made (c.make_desk.ensures.answered fine))
 
 pub returns-in-Init-clause-failed : goal.returns-in-Init-clause-failed
 returns-in-Init-clause-failed g c = λ failed.
-    rw c.in-Init.is (closed_desk (init_texts_of c.in-Init.options) c.make_desk.result.1 _ _ (λ s identity key. HasCleanDisk (file_state s.conn) → IsMadeIn (image_at g.S.Start) identity key s.conn)
+    rw c.in-Init.is (closed_desk (init_texts_of c.in-Init.options) c.make_desk.result.1 _ _ (λ s identity key. HasCleanDisk (file_state s) → IsMadeIn (image_at g.S.Start) identity key s)
     c.make_desk.ensures.made (c.make_desk.ensures.failed failed))
 
 pub returns-in-AnswerByFile-clause-answered : goal.returns-in-AnswerByFile-clause-answered
 returns-in-AnswerByFile-clause-answered g c = λ fine.
-    rw c.in-AnswerByFile.is (closed c.answer_by_file.result.1 _ _ _ (λ s is. ((file_state s.conn).is_clean, closed_answered _ _ (StandsBehind (Sees (file_state s.conn))) _ _ _ _ is)) (c.answer_by_file.ensures.answered fine))
+    rw c.in-AnswerByFile.is (closed c.answer_by_file.result.1 _ _ _ (λ s is. ((file_state s).is_clean, closed_answered _ _ (StandsBehind (Sees (file_state s))) _ _ _ _ is)) (c.answer_by_file.ensures.answered fine))
 
 pub returns-in-AnswerByFile-clause-failed : goal.returns-in-AnswerByFile-clause-failed
 returns-in-AnswerByFile-clause-failed g c = λ failed.
-    rw c.in-AnswerByFile.is (closed c.answer_by_file.result.1 _ _ _ (λ s is. ((file_state s.conn).is_clean, closed_broken_off _ _ (StandsBehind (Sees (file_state s.conn))) _ _ _ is)) (c.answer_by_file.ensures.failed failed))
+    rw c.in-AnswerByFile.is (closed c.answer_by_file.result.1 _ _ _ (λ s is. ((file_state s).is_clean, closed_broken_off _ _ (StandsBehind (Sees (file_state s))) _ _ _ is)) (c.answer_by_file.ensures.failed failed))
 
 pub returns-in-Serve-clause-answered : goal.returns-in-Serve-clause-answered
 returns-in-Serve-clause-answered g c = λ fine.
