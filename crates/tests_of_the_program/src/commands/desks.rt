@@ -14,6 +14,9 @@ pub const SAMPLE_BANK: InitOptions<'static> = InitOptions {
     key: "operator-key",
 };
 
+/// What a file has that is no database.
+pub const NOTE: &[u8] = b"This is a note, and no database of anything at all.\n";
+
 /// Options of which one after the other is mended, and the line that is printed.
 const BAD_OPTIONS: &[(InitOptions<'static>, &str)] = &[
     (
@@ -147,12 +150,11 @@ fn a_desk_is_made_once(rt: HostRuntime) -> Result<(), Fail> {
 #[test]
 fn what_is_no_desk_stays_as_it_is(rt: HostRuntime) -> Result<(), Fail> {
     let path = "other.db";
-    let text: &[u8] = b"This is a note, and no database of anything at all.\n";
     clear(&rt, path)?;
-    fs::write(&rt, path, text)?;
+    fs::write(&rt, path, NOTE)?;
     assert!(rt; says(&rt, path, SAMPLE_BANK, Status::Failed, "unavailable\n"));
     let kept = fs::read(&rt, path)?;
-    assert!(rt; kept.as_slice() == text);
+    assert!(rt; kept.as_slice() == NOTE);
     clear(&rt, path)
 }
 

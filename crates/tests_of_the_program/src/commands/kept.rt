@@ -1,5 +1,5 @@
 //! Sessions with a desk in a file: what one leaves, the next one finds.
-use super::desks::{clear, is_absent, is_made};
+use super::desks::{NOTE, clear, is_absent, is_made};
 use super::lists::PAY_MESSAGE;
 use super::messages::{DAY_SET, PAY_TAKEN, REGISTER, REGISTERED, SET_DAY, join};
 use super::prints;
@@ -50,5 +50,16 @@ fn what_is_no_desk_has_no_session(rt: HostRuntime) -> Result<(), Fail> {
     assert!(rt; is_absent(&rt, path));
     fs::write(&rt, path, b"")?;
     assert!(rt; answers(&rt, path, &[SET_DAY], Status::Refused, &["NotADesk\n"])?);
+    clear(&rt, path)
+}
+
+#[test]
+fn what_is_no_database_has_no_session(rt: HostRuntime) -> Result<(), Fail> {
+    let path = "note.db";
+    clear(&rt, path)?;
+    fs::write(&rt, path, NOTE)?;
+    assert!(rt; answers(&rt, path, &[SET_DAY], Status::Failed, &["unavailable\n"])?);
+    let left = fs::read(&rt, path)?;
+    assert!(rt; left.as_slice() == NOTE);
     clear(&rt, path)
 }
