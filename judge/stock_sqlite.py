@@ -12,7 +12,8 @@ import sys
 import tempfile
 from pathlib import Path
 
-# Each table: its columns, with ? where one may be NULL; its primary key; what else is unique in it.
+# Each table: its columns, with ? where one may be NULL, and INTEGER where one is the rowid; its primary key; what else is
+# unique in it.
 TABLES = {
     "desk": ("id:INT version:INT odfi:TEXT odfi_name:TEXT destination:TEXT destination_name:TEXT operator_key:BLOB day:INT?", "id"),
     "holidays": ("day:INT", "day"),
@@ -21,14 +22,14 @@ TABLES = {
                     "lapsed:INT settled:INT? file_day:INT? modifier:TEXT? batch:INT?", "company ord", "company ref"),
     "entries": ("company:TEXT ord:INT idx:INT routing:TEXT account:TEXT savings:INT prenote:INT cents:INT ident:TEXT name:TEXT "
                 "info:TEXT? seq:INT?", "company ord idx"),
-    "returns": ("no:INT company:TEXT ord:INT idx:INT code:TEXT day:INT late:INT info:TEXT", "no", "company ord idx"),
-    "changes": ("no:INT company:TEXT ord:INT idx:INT code:TEXT day:INT text:TEXT", "no"),
-    "postings": ("no:INT account:TEXT value_day:INT cents:INT cause:TEXT ref:TEXT idx:INT", "no"),
-    "suspense": ("no:INT file_key:TEXT item:INT why:TEXT code:TEXT trace:TEXT cents:INT day:INT", "no"),
+    "returns": ("no:INTEGER company:TEXT ord:INT idx:INT code:TEXT day:INT late:INT info:TEXT", "no", "company ord idx"),
+    "changes": ("no:INTEGER company:TEXT ord:INT idx:INT code:TEXT day:INT text:TEXT", "no"),
+    "postings": ("no:INTEGER account:TEXT value_day:INT cents:INT cause:TEXT ref:TEXT idx:INT", "no"),
+    "suspense": ("no:INTEGER file_key:TEXT item:INT why:TEXT code:TEXT trace:TEXT cents:INT day:INT", "no"),
     "files": ("day:INT modifier:TEXT text:BLOB", "day modifier"),
     "taken": ("file_key:TEXT digest:BLOB day:INT returns:INT changes:INT late:INT suspense:INT", "file_key"),
     "balances": ("account:TEXT value_day:INT cents:TEXT", "account value_day"),
-    "numbers": ("sequence:INT nth:INT", "sequence", "nth"),
+    "numbers": ("sequence:INTEGER nth:INT", "sequence", "nth"),
     "authorizations": ("company:TEXT ord:INT day:INT", "company ord"),
 }
 
@@ -49,8 +50,13 @@ def must_be(what, found, wanted):
 
 
 def columns(db, table):
-    return " ".join(f"{name}:{kind}{'' if required else '?'}"
+    return " ".join(f"{name}:{kind}{'' if required or name in rowid(db, table) else '?'}"
                     for _, name, kind, required, _, _ in db.execute(f"PRAGMA table_info({table})"))
+
+
+def rowid(db, table):
+    """The column that is the rowid, if one is."""
+    return [name for _, name, kind, _, _, place in db.execute(f"PRAGMA table_info({table})") if place and kind == "INTEGER"]
 
 
 def indexed(db, index):
@@ -60,7 +66,7 @@ def indexed(db, index):
 def keys(db, table):
     """The primary key, empty where there is none, and then what else is unique."""
     unique = [(origin, indexed(db, name)) for _, name, is_unique, origin, _ in db.execute(f"PRAGMA index_list({table})") if is_unique]
-    primary = [columns for origin, columns in unique if origin == "pk"] or [""]
+    primary = [columns for origin, columns in unique if origin == "pk"] or rowid(db, table) or [""]
     return primary + sorted(columns for origin, columns in unique if origin != "pk")
 
 
@@ -75,7 +81,7 @@ def check(db):
         must_be(f"keys of {table}", keys(db, table), unique)
         must_be(f"STRICT of {table}", strict[table], 1)
     automatic = db.execute("SELECT count(*) FROM sqlite_master WHERE name LIKE 'sqlite_autoindex_%'").fetchone()[0]
-    must_be("indexes of keys", automatic, sum(len(unique) for _, *unique in TABLES.values()))
+    must_be("indexes of keys", automatic, sum(len(unique) - len(rowid(db, table)) for table, (_, *unique) in TABLES.items()))
     for index, (_, wanted) in INDEXES.items():
         must_be(f"columns of {index}", indexed(db, index), wanted)
     must_be("version", db.execute("SELECT id, version FROM desk").fetchall(), [(1, 2)])

@@ -17,7 +17,8 @@ use Rattle.desk_cut.specs.declared.plan.CutPlan.{CutPlan}
 use Rattle.desk_cut.specs.declared.fault.CutFault.{CutFault}
 use Rattle.desk_cut.specs.declared.fault.CutFault.TheVariants as faults
 use Rattle.desk_cut.specs.Plan.{IsPlan, MayTake, Plans, has_modifiers, plan_write}
-use Rattle.desk_calls.specs.Cutting.{latest_of, IsPlanned, PlansOrTells, refusal_of}
+use Rattle.desk_calls.specs.Cutting.{facts_in, latest_of, IsPlanned, PlansOrTells, refusal_of}
+use Rattle.desk_calls.specs.declared.operator.cut.CutReads.{CutReads}
 
 -- ---- a cut on a day
 
@@ -93,11 +94,14 @@ planned_too_far b x rs latest faults.NoMemory is taken settled plans far = cc
 
 -- ---- a plan, or the fault of one
 
-pub plans_or_tells : EntriesOfCuts → (old new : Book → Type 0) (x : CutFacts) (rs : List (ℕ × ℕ)) (latest : List (Option ℕ)) (planned : Result CutPlan CutFault) → IsTakenAs x rs
-    → ((b : Book) → old b → (latest ≡ latest_of rs b) × new b) → Plans x latest planned → PlansOrTells old x (Ok planned) new
+pub plans_or_tells : EntriesOfCuts → (old new : Book → Type 0) (x : CutReads) (rs : List (ℕ × ℕ)) (latest : List (Option ℕ)) (planned : Result CutPlan CutFault) → IsTakenAs (facts_in x) rs
+    → ((b : Book) → old b → (latest ≡ latest_of rs b) × new b) → Plans (facts_in x) latest planned → PlansOrTells old x (Ok planned) new
 plans_or_tells law old new x rs latest (Ok p) taken read plans = λ b held is.
     let seen = read b held in
-    (planned_cut b x rs latest p is taken seen.0 plans, (seen.1, planned_admitted law b x p is plans.2))
+    let facts : facts_in x ≡ cut_facts b x.day = ap (λ (r : CutFacts × ℕ). r.0) is in
+    (planned_cut b (facts_in x) rs latest p facts taken seen.0 plans, (seen.1, (planned_admitted law b (facts_in x) p facts plans.2, ap (λ (r : CutFacts × ℕ). r.1) is)))
 plans_or_tells law old new x rs latest (Err fault) taken read plans = λ b held.
     let seen = read b held in
-    (seen.1, λ is. (λ why refuses. planned_refused b x rs latest fault why is taken seen.0 plans refuses, planned_too_far b x rs latest fault is taken seen.0 plans))
+    (seen.1, λ is.
+        let facts : facts_in x ≡ cut_facts b x.day = ap (λ (r : CutFacts × ℕ). r.0) is in
+        (λ why refuses. planned_refused b (facts_in x) rs latest fault why facts taken seen.0 plans refuses, planned_too_far b (facts_in x) rs latest fault facts taken seen.0 plans))

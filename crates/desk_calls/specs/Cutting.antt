@@ -5,18 +5,25 @@ use Rattle.desk_rules.specs.declared.refusals.refusal.Refusal.TheVariants.{Trace
 use Rattle.desk_book.specs.Book.{Book}
 use Rattle.desk_store.specs.declared.store.StoreFault.{StoreFault}
 use Rattle.desk_store.specs.declared.store.StoreFault.TheVariants.{Unavailable}
-use Rattle.desk_book.specs.Reads.{latest_settled}
+use Rattle.desk_book.specs.Reads.{latest_settled, sent_count}
 use Rattle.desk_book.specs.OnCut.{CutFacts, cut_facts, cut_on_day}
-use Rattle.desk_book.specs.Steps.{commit_cut}
 use Rattle.desk_cut.specs.declared.fault.CutFault.{CutFault}
 use Rattle.desk_cut.specs.declared.fault.CutFault.TheVariants as faults
 use Rattle.desk_cut.specs.declared.plan.CutPlan.{CutPlan}
 use Rattle.desk_cut.specs.Plan.{IsPlan, plan_write}
+use Rattle.desk_store.specs.Written.{commit_cut_after}
 use Rattle.desk_admission.specs.Answering.{HoldsFor}
 use Rattle.desk_calls.specs.declared.operator.cut.CutReads.{CutReads}
 
 abbrev pub facts_in : CutReads → CutFacts
-facts_in x = record { identity = x.identity; day = x.day; holidays = x.holidays; last = x.last; made = x.made; waiting = x.waiting.items }
+facts_in x = record { identity = x.identity; day = x.day; holidays = x.holidays; last = x.last.sequence; made = x.made; waiting = x.waiting.items }
+
+-- the same, with how many entries were sent before
+abbrev pub read_in : CutReads → CutFacts × ℕ
+read_in x = (facts_in x, x.last.place)
+
+abbrev pub read_on : ℕ → Book → CutFacts × ℕ
+read_on d b = (cut_facts b d, sent_count b)
 
 -- for each range of sequences, the latest day on which a youngest entry with one of them settled
 abbrev pub latest_of : List (ℕ × ℕ) → Book → List (Option ℕ)
@@ -28,14 +35,14 @@ IsPlanned (Ok p) (Ok x) = IsPlan x p
 IsPlanned (Err why) (Err first) = why ≡ first
 IsPlanned _ _ = ⊥
 
-abbrev pub HoldsPlanned : (holds : Book → Type 0) → Result CutPlan Refusal → Book → Type 0
-HoldsPlanned holds (Ok p) b = HoldsFor holds (commit_cut (plan_write p)) b
-HoldsPlanned holds (Err why) b = holds b
+abbrev pub HoldsPlanned : (holds : Book → Type 0) → (before : ℕ) → Result CutPlan Refusal → Book → Type 0
+HoldsPlanned holds before (Ok p) b = HoldsFor holds (commit_cut_after before (plan_write p)) b
+HoldsPlanned holds before (Err why) b = holds b
 
--- What was planned for these facts is the cut of each book that has them, and may be written; or the store
+-- What was planned by these reads is the cut of each book that has them, and may be written; or the store
 -- could not act.
-abbrev pub Plans : (Book → Type 0) → CutFacts → Result (Result CutPlan Refusal) StoreFault → (Book → Type 0) → Type 0
-Plans old x (Ok planned) new = (b : Book) → old b → x ≡ cut_facts b x.day → IsPlanned planned (cut_on_day b x.day) × HoldsPlanned new planned b
+abbrev pub Plans : (Book → Type 0) → CutReads → Result (Result CutPlan Refusal) StoreFault → (Book → Type 0) → Type 0
+Plans old x (Ok planned) new = (b : Book) → old b → read_in x ≡ read_on x.day b → IsPlanned planned (cut_on_day b x.day) × HoldsPlanned new x.last.place planned b
 Plans old x (Err fault) new = (b : Book) → old b → new b
 
 -- why a cut is refused; a settlement after the last day from which rules count refuses nothing, nor does
@@ -54,7 +61,7 @@ RefusesOn b x fault =
     × (fault ≡ faults.DaysSpent → cut_on_day b x.day ≡ Ok (cut_facts b x.day))
 
 -- The same with the fault of the plan in place of the refusal.
-abbrev pub PlansOrTells : (Book → Type 0) → CutFacts → Result (Result CutPlan CutFault) StoreFault → (Book → Type 0) → Type 0
-PlansOrTells old x (Ok (Ok p)) new = (b : Book) → old b → x ≡ cut_facts b x.day → IsPlanned (Ok p) (cut_on_day b x.day) × HoldsFor new (commit_cut (plan_write p)) b
-PlansOrTells old x (Ok (Err fault)) new = (b : Book) → old b → new b × (x ≡ cut_facts b x.day → RefusesOn b x fault)
+abbrev pub PlansOrTells : (Book → Type 0) → CutReads → Result (Result CutPlan CutFault) StoreFault → (Book → Type 0) → Type 0
+PlansOrTells old x (Ok (Ok p)) new = (b : Book) → old b → read_in x ≡ read_on x.day b → IsPlanned (Ok p) (cut_on_day b x.day) × HoldsFor new (commit_cut_after x.last.place (plan_write p)) b
+PlansOrTells old x (Ok (Err fault)) new = (b : Book) → old b → new b × (read_in x ≡ read_on x.day b → RefusesOn b (facts_in x) fault)
 PlansOrTells old x (Err fault) new = (b : Book) → old b → new b

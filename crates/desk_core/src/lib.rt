@@ -25,6 +25,6 @@ pub use desk_history::{
 };
 pub use desk_intake::{FoundItem, IntakePlan, plan_intake};
 pub use desk_plan::{NumberFault, plan_numbers};
-pub use desk_store::{CutRows, IntakeRows, Store, StoreFault};
+pub use desk_store::{CutRows, IntakeRows, LastNumber, Store, StoreFault};
 pub use faulty_store::FaultyStore;
 pub use memory_store::ListStore;

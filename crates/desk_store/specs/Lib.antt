@@ -1,6 +1,7 @@
-pub mod Rows
-pub mod Words
-pub mod Promises
-pub mod Written
 pub mod Changes
 pub mod Held
+pub mod LastNumber
+pub mod Promises
+pub mod Rows
+pub mod Words
+pub mod Written

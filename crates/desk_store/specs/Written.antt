@@ -1,10 +1,16 @@
 -- What the desk hands to a store to write.
+use Rattle.std.specs.Prelude.{◌≡◌, ℕ}
 use Rattle.desk_store.specs.declared.store.CutRows.{CutRows}
 use Rattle.desk_store.specs.declared.store.IntakeRows.{IntakeRows}
-use Rattle.desk_book.specs.Steps.{CutWrite, IntakeWrite}
+use Rattle.desk_book.specs.Reads.{sent_count}
+use Rattle.desk_book.specs.Steps.{CutWrite, IntakeWrite, Step, commit_cut}
 
 abbrev pub cut_rows : CutRows → CutWrite
 cut_rows x = record { sent = x.sent.now; lapsed = x.lapsed.now; entries = x.entries.now; postings = x.postings.now; files = x.files.now }
+
+-- a cut, where it is said how many entries were sent before it
+abbrev pub commit_cut_after : (before : ℕ) → CutWrite → Step
+commit_cut_after before x = record { Admits = λ b. (commit_cut x).Admits b × (before ≡ sent_count b); after = (commit_cut x).after }
 
 abbrev pub intake_rows : IntakeRows → IntakeWrite
 intake_rows x = record { returned = x.returned.now; changed = x.changed.now; suspense = x.suspense.now; postings = x.postings.now; file = x.file }

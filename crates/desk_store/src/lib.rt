@@ -7,4 +7,4 @@
 
 mod store;
 
-pub use store::{CutRows, IntakeRows, Store, StoreFault};
+pub use store::{CutRows, IntakeRows, LastNumber, Store, StoreFault};

@@ -4,9 +4,10 @@ ghost use Rattle.desk_accounts.specs.Balance.{lines_of, day_sums};
 ghost use Rattle.desk_book.specs.Book.{Book};
 ghost use Rattle.desk_book.specs.OnIntake.{traced_entries};
 ghost use Rattle.desk_book.specs.Reads.{key_of, company, submission, submission_count, open_rows_of, retries_of, waiting_of, waiting, last_sequence, sent_count, latest_settled, items_of};
-ghost use Rattle.desk_book.specs.Steps.{set_day, set_holidays, put_company, put_limits, add_submission, commit_cut, commit_intake};
+ghost use Rattle.desk_book.specs.Steps.{set_day, set_holidays, put_company, put_limits, add_submission, commit_intake};
 ghost use Rattle.desk_book.specs.Sums.{exposures_of, rates_of};
-ghost use Rattle.desk_store.specs.Written.{cut_rows, intake_rows};
+ghost use Rattle.desk_store.specs.LastNumber.{last_number};
+ghost use Rattle.desk_store.specs.Written.{commit_cut_after, cut_rows, intake_rows};
 ghost use Rattle.desk_store.specs.declared.store.StoreFault.TheVariants.{Unavailable};
 ghost use Rattle.desk_store.specs.Promises.{CallGives, CallGivesList, CallTakes};
 
@@ -44,9 +45,20 @@ impl<T: Drop> From<AllocFailed<T>> for StoreFault {
     }
 }
 
+/// A `LastNumber` is the number of the last sent entry.
+#[derive(Clone, Copy, Debug, PartialEq, Eq, Drop)]
+pub struct LastNumber {
+    /// Its sequence, 0 where no entry was sent.
+    pub sequence: u32,
+    /// Its place among all sent entries, from 1: so many were sent.
+    pub place: u64,
+}
+
 /// `CutRows` are all that a cut writes.
 #[derive(Clone, Copy)]
 pub struct CutRows<'a> {
+    /// How many entries were sent before it.
+    pub before: u64,
     pub sent: &'a [SentRow],
     pub lapsed: &'a [LapsedRow],
     /// The entries of what is sent, in the order of their traces.
@@ -199,13 +211,23 @@ pub trait Store {
     fn waiting(&mut self, alloc: Global) -> Result<Vec<HeldSubmission>, StoreFault>
         ensures { CallGivesList is_clean holds may_leave self.old self.new result waiting };
 
+    /// Reads the number of the last sent entry.
+    fn last_number(&mut self, alloc: Global) -> Result<LastNumber, StoreFault>
+        ensures { CallGives is_clean holds may_leave self.old self.new result last_number };
+
     /// Reads the sequence of the last sent entry, 0 before the first.
     fn last_sequence(&mut self, alloc: Global) -> Result<u32, StoreFault>
-        ensures { CallGives is_clean holds may_leave self.old self.new result last_sequence };
+        ensures { CallGives is_clean holds may_leave self.old self.new result last_sequence }
+    {
+        Ok(self.last_number(alloc)?.sequence)
+    }
 
     /// Says how many entries were sent.
     fn sent_count(&mut self, alloc: Global) -> Result<u64, StoreFault>
-        ensures { CallGives is_clean holds may_leave self.old self.new result sent_count };
+        ensures { CallGives is_clean holds may_leave self.old self.new result sent_count }
+    {
+        Ok(self.last_number(alloc)?.place)
+    }
 
     /// Reads the latest day on which a youngest entry settled that has a sequence from the first to
     /// the last.
@@ -307,10 +329,10 @@ pub trait Store {
             (add_submission company order content.now retry) };
 
     /// Writes all that a cut does. Each of its entries is one of a submission that it sends, as the
-    /// book has that submission.
+    /// book has that submission, and so many entries were sent before as it says.
     fn commit_cut(&mut self, alloc: Global, cut: &CutRows<'_>) -> Result<(), StoreFault>
         ensures { CallTakes is_clean holds may_leave keeps self.old self.new result
-            (commit_cut (cut_rows cut.now)) };
+            (commit_cut_after cut.now.before (cut_rows cut.now)) };
 
     /// Writes all that an incoming file does. Each of its returns and changes is of an entry that was
     /// sent, with the order number and the reference of the submission that had it.

@@ -7,7 +7,7 @@ use desk_accounts::{Account, Posting};
 use desk_book::{Caller, HeldSubmission, NamedEntry, ReturnsAndChanges, Row};
 use desk_history::{Identity, ListOf, SuspenseRow, TakenFile};
 use desk_rules::{Company, Limits, Retry, RuleDay, SizedSubmission};
-use desk_store::{CutRows, IntakeRows, Store, StoreFault};
+use desk_store::{CutRows, IntakeRows, LastNumber, Store, StoreFault};
 use memory_store::ListStore;
 use std::alloc::Global;
 
@@ -151,14 +151,9 @@ impl Store for FaultyStore {
         self.store.waiting(alloc)
     }
 
-    fn last_sequence(&mut self, alloc: Global) -> Result<u32, StoreFault> {
+    fn last_number(&mut self, alloc: Global) -> Result<LastNumber, StoreFault> {
         self.count_call()?;
-        self.store.last_sequence(alloc)
-    }
-
-    fn sent_count(&mut self, alloc: Global) -> Result<u64, StoreFault> {
-        self.count_call()?;
-        self.store.sent_count(alloc)
+        self.store.last_number(alloc)
     }
 
     fn latest_settled(

@@ -3,7 +3,8 @@
 //! A call that takes no memory always answers. What a read copies takes some, unless there is nothing to
 //! copy; what finds a row by an index may have the index grow.
 ghost use Rattle.std.specs.Prelude.{◌≢◌, [], None, IsOk, OnErr, find, length};
-ghost use Rattle.desk_book.specs.Reads.{key_of, company, last_sequence, sent_count};
+ghost use Rattle.desk_book.specs.Reads.{key_of, company};
+ghost use Rattle.desk_store.specs.LastNumber.{last_number};
 ghost use Rattle.desk_book.specs.Steps.{is_file, set_day, set_holidays, put_limits};
 ghost use Rattle.memory_store.specs.Kept.{rows_in};
 ghost use Rattle.memory_store.specs.OnLists.{GivesHeld, GivesHeldList, TakesHeld};
@@ -27,7 +28,7 @@ use desk_accounts::{Account, Posting};
 use desk_book::{Caller, HeldSubmission, NamedEntry, ReturnsAndChanges, Row};
 use desk_history::{Identity, ListOf, SuspenseRow, TakenFile};
 use desk_rules::{Company, Limits, Retry, RuleDay, SizedSubmission};
-use desk_store::{CutRows, IntakeRows, Store, StoreFault};
+use desk_store::{CutRows, IntakeRows, LastNumber, Store, StoreFault};
 use std::alloc::Global;
 
 impl Store for ListStore {
@@ -168,18 +169,14 @@ impl Store for ListStore {
         Ok(all_waiting(alloc, &self.companies, kept, index, &places.references)?)
     }
 
-    fn last_sequence(&mut self, _alloc: Global) -> Result<u32, StoreFault>
+    fn last_number(&mut self, _alloc: Global) -> Result<LastNumber, StoreFault>
         ensures ok { IsOk result }
-        ensures gives { GivesHeld self.old self.new result last_sequence }
+        ensures gives { GivesHeld self.old self.new result last_number }
     {
-        Ok(last_of(&self.sent))
-    }
-
-    fn sent_count(&mut self, _alloc: Global) -> Result<u64, StoreFault>
-        ensures ok { IsOk result }
-        ensures gives { GivesHeld self.old self.new result sent_count }
-    {
-        Ok(self.sent.len() as u64)
+        Ok(LastNumber {
+            sequence: last_of(&self.sent),
+            place: self.sent.len() as u64,
+        })
     }
 
     fn latest_settled(

@@ -11,7 +11,7 @@ use desk_book::{
 };
 use desk_history::{Identity, ListOf, SuspenseRow, TakenFile};
 use desk_rules::{Company, Limits, Rates, Retry, RuleDay, SizedSubmission};
-use desk_store::{CutRows, IntakeRows, Store, StoreFault};
+use desk_store::{CutRows, IntakeRows, LastNumber, Store, StoreFault};
 use std::alloc::Global;
 
 /// A `Remembering` is a store that remembers the exposures and the return rates of companies.
@@ -149,12 +149,8 @@ impl<S: Store> Store for Remembering<S> {
         self.store.waiting(alloc)
     }
 
-    fn last_sequence(&mut self, alloc: Global) -> Result<u32, StoreFault> {
-        self.store.last_sequence(alloc)
-    }
-
-    fn sent_count(&mut self, alloc: Global) -> Result<u64, StoreFault> {
-        self.store.sent_count(alloc)
+    fn last_number(&mut self, alloc: Global) -> Result<LastNumber, StoreFault> {
+        self.store.last_number(alloc)
     }
 
     fn latest_settled(

@@ -9,7 +9,7 @@ use Rattle.sqlite.specs.Held.{Held}
 use Rattle.sqlite.specs.Start.{FindsIn}
 use Rattle.sqlite.specs.Effect.{Database}
 use Rattle.sqlite.specs.State.{State, HasCleanDisk}
-use Rattle.sql_statements.specs.StoredRows.{Stores}
+use Rattle.sql_statements.specs.StoredRows.{whole, Stores}
 use Rattle.desk_book.specs.Book.{Book}
 use Rattle.desk_history.specs.declared.identity.Identity.{Identity}
 use Rattle.sql_tables.specs.Description.{table}
@@ -33,11 +33,11 @@ module _ {D : Type 0} {g : Ghosts D} (held : Image) (was : Held (FileStore D g))
 
   -- the row is seen as the files held it
   seen_version : IsOpenedOn held was → (db : Trees) (n : ℕ) (row : DeskRecord) → HoldsDatabase held db → (file_state was).now.schema ≡ first_schema
-      → Stores (versioned_row n) (db (table the.desk).tree) (row ∷ []) → IsOfVersion (file_state was).now n
+      → Stores (whole (versioned_row n)) (db (table the.desk).tree) (row ∷ []) → IsOfVersion (file_state was).now n
   seen_version early db n row is_held schema stored = record {
     schema = inl schema;
     desk = row;
-    row = subst (λ (trees : Trees). Stores (versioned_row n) (trees (table the.desk).tree) (row ∷ [])) (sym (ap (λ (d : Database). d.trees) early.opened.0.clean ∙ early.found.holds db is_held)) stored;
+    row = subst (λ (trees : Trees). Stores (whole (versioned_row n)) (trees (table the.desk).tree) (row ∷ [])) (sym (ap (λ (d : Database). d.trees) early.opened.0.clean ∙ early.found.holds db is_held)) stored;
   }
 
   migrated_in_so : (now : Held (FileStore D g)) → HasCleanDisk (file_state was) → HasMigrated (file_state was) (file_state now)

@@ -8,7 +8,7 @@ use Rattle.sqlite.specs.Files.{file_state, over_files, IsOpened, HoldsDatabase}
 use Rattle.sqlite.specs.Held.{Held}
 use Rattle.sqlite.specs.Start.{FindsIn}
 use Rattle.sqlite.specs.State.{State, HasCleanDisk}
-use Rattle.sql_statements.specs.StoredRows.{Stores}
+use Rattle.sql_statements.specs.StoredRows.{whole, Stores}
 use Rattle.desk_book.specs.Book.{Book}
 use Rattle.desk_history.specs.Message.{Pair}
 use Rattle.desk_history.specs.declared.identity.Identity.{Identity}
@@ -50,7 +50,7 @@ module _ {D : Type 0} {g : Ghosts D} where
     pub was : Held (FileStore D g)
     pub opened : IsOpenedOn held was
     pub desk : HasMigrated (file_state was) (file_state now)
-    pub version : (db : Trees) (n : ℕ) (row : DeskRecord) → HoldsDatabase held db → Stores (versioned_row n) (db (table the.desk).tree) (row ∷ []) → n ≡ first_version
+    pub version : (db : Trees) (n : ℕ) (row : DeskRecord) → HoldsDatabase held db → Stores (whole (versioned_row n)) (db (table the.desk).tree) (row ∷ []) → n ≡ first_version
     pub sees : (db : Trees) (b : Book) → HoldsDatabase held db → KeepsFirst db b → Sees (file_state now) b
     pub keeps : (db : Trees) (b : Book) → HoldsDatabase held db → KeepsFirst db b → (trees : Trees) → (file_state now).may_leave trees → Keeps trees b
     pub stands : (db : Trees) (identity : Identity) (key : List ℕ) (H : List Pair) → HoldsDatabase held db → FirstStandsFor db identity key H → StandsForFirst (file_state now) identity key H

@@ -2,26 +2,21 @@
 use Rattle.std.proofs.Common.{◌≡◌, ℕ, zero, suc, ◌-◌, List, [], ◌∷◌, take, length, slice_get, refl, sym, ap, subst}
 use Rattle.std.specs.List.{AllByRecursion}
 use Rattle.sqlite.specs.Schema.{Schema}
-use Rattle.sqlite.specs.Table.{Table}
-use Rattle.sqlite_schema.specs.declared.schema.Index.{Index}
 use Rattle.sql_tables.specs.Schema.{desk_schema}
 use Rattle.sql_setup.specs.Plain.{IsPlainTable}
 use Rattle.sql_setup.proofs.DeskPlain.{desk_is_plain}
 use Rattle.sql_migration.specs.FirstVersion.{first_schema}
 
 -- all but the last two
-abbrev pub but_two : List Table → List Table
-but_two tables = take (length tables - 2) tables
+abbrev pub but_two : {X : Type 0} → List X → List X
+but_two xs = take (length xs - 2) xs
 
 pub first_tables : (pattern : Schema) → pattern ≡ desk_schema → but_two pattern.tables ≡ first_schema.tables
 first_tables pattern is = ap (λ (s : Schema). but_two s.tables) is
 
--- all but the keys of these
-abbrev pub but_three : List Index → List Index
-but_three indexes = take (length indexes - 3) indexes
-
-pub first_indexes : (pattern : Schema) → pattern ≡ desk_schema → but_three pattern.indexes ≡ first_schema.indexes
-first_indexes pattern is = ap (λ (s : Schema). but_three s.indexes) is
+-- each of them has one index, of its key or of what else is unique
+pub first_indexes : (pattern : Schema) → pattern ≡ desk_schema → but_two pattern.indexes ≡ first_schema.indexes
+first_indexes pattern is = ap (λ (s : Schema). but_two s.indexes) is
 
 pub is_first : (schema : Schema) → schema.tables ≡ first_schema.tables → schema.indexes ≡ first_schema.indexes → schema.views ≡ [] → schema ≡ first_schema
 is_first schema tables indexes views = λ i. record { tables = tables i; indexes = indexes i; views = views i }

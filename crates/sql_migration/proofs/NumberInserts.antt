@@ -1,5 +1,5 @@
 -- The statement that puts in a number, and the query of all places, against the records.
-use Rattle.std.proofs.Common.{◌≡◌, ℕ, ◌+◌, List, [], ◌∷◌, map, filter, fold, Option, None, Some, Ok, unwrap_or, refl, ap, ◌∙◌, sym}
+use Rattle.std.proofs.Common.{◌≡◌, ℕ, ◌+◌, true, List, [], ◌∷◌, map, filter, fold, Option, None, Some, Ok, unwrap_or, refl, ap, ◌∙◌, sym}
 use Rattle.sqlite_tied.specs.Compute.{everything}
 use Rattle.sqlite.specs.Listing.{understood}
 use Rattle.std.proofs.Common.{subst}
@@ -14,11 +14,10 @@ use Rattle.sqlite.specs.Values.{or_null}
 use Rattle.sqlite_resolve.specs.Compile.{first}
 use Rattle.sqlite_value.specs.Order.{Row}
 use Rattle.sql_statements.specs.SelectTexts.{IsSelectText}
-use Rattle.sql_statements.specs.Statements.{IsInsert, IsSelect, query_from, at_least, by, rows_shown}
+use Rattle.sql_statements.specs.Statements.{IsSelect, query_from, at_least, by, rows_shown}
 use Rattle.sql_statements.specs.Edits.{each_edit_from}
 use Rattle.sql_statements.specs.Layouts.{Holds}
 use Rattle.sql_tables.specs.ByName as named
-use Rattle.sql_tables.specs.ByName.{described}
 use Rattle.sql_tables.specs.Description.{table}
 use Rattle.sql_tables.specs.Schema.{desk_schema}
 use Rattle.sql_tables.specs.Columns.{number}
@@ -31,8 +30,7 @@ use Rattle.sql_query_laws.proofs.Listings.{entries}
 use Rattle.sql_query_laws.proofs.Selects.{all_selected}
 use Rattle.sql_query_laws.proofs.Texts.{places}
 use Rattle.sql_query_laws.specs.Shows.{ShowsAll}
-use Rattle.sql_writes.proofs.Puts.{holds_with, one_put, place_of, PutsOne}
-use Rattle.sql_writes.proofs.Conditions.{taken_first}
+use Rattle.sql_writes.proofs.Puts.{Inserts, holds_with, one_put, PutsOne}
 use Rattle.sql_writes.proofs.NumberedRows.{numbered_in_order}
 use Rattle.sql_migration.specs.Migrated.{has_place, with_own_number}
 use Rattle.sql_migration.specs.Migration.{put_number_edit, number_entries_edit, number_in, seen_layout, if_seen}
@@ -40,24 +38,24 @@ use Rattle.sql_migration.proofs.KeptSchemas.{rows_schema}
 use Rattle.sql_migration.specs.MigrationTexts.{insert_number, sent_places_text}
 use Rattle.sql_tables.specs.DeskTables as the
 
-insert_number_is : IsInsert desk_schema insert_number (place_of named.numbers) (table (described named.numbers)) 1
+insert_number_is : Inserts named.numbers insert_number 1
 unfolding understood everything
 insert_number_is = record { is = refl; plain = (refl, refl) }
 
 puts_number : PutsOne named.numbers
-puts_number = record { is = insert_number_is; whole = refl }
+puts_number = record { is = insert_number_is; full = refl }
 
 number_put : (place : ℕ) (old new : State) (count : ℕ) → Executes insert_number (number place ∷ number place ∷ []) old new (Ok count) → (t : Tables) → Holds desk_layout old.now t → Holds desk_layout new.now ((put_number_edit place).after t)
 number_put place old new count ran t h =
     let n : NumberRecord = record { sequence = place; place = place } in
     let made = one_put named.numbers puts_number n old new count ran t h in
-    holds_with named.numbers _ h made.has (numbered_in_order (λ y. y.sequence) (λ y. number y.place ∷ []) (table the.sequences) (λ db row any. taken_first _ _ any) new.now.trees n t.numbers (h.1.stands named.numbers).rise made.has.stored made.unique)
+    holds_with named.numbers _ h made.has (numbered_in_order (λ y. y.sequence) _ (table the.sequences) new.now.trees n t.numbers (h.1.stands named.numbers).rise made.has.stored)
 
 -- the schema stays, whatever rows there are
 number_schema : (place : ℕ) (old new : State) (count : ℕ) → Executes insert_number (number place ∷ number place ∷ []) old new (Ok count) → old.now.schema ≡ desk_schema → new.now.schema ≡ desk_schema
 number_schema place old new count ran has =
     let params = number place ∷ number place ∷ [] in
-    let command = Insert 12 (Values (rows_shown 2 0 1) 3) in
+    let command = Insert 12 (Values (rows_shown true 2 0 1) 3) in
     let w = runs_as insert_number params old new desk_schema has command insert_number_is.is insert_number_is.plain count ran in
     let all = subst (λ s. Does old.step_limit (mode_of old) params (record old.now { schema = s }) (statement_of insert_number (understood desk_schema insert_number)) None command (Ok (w.tally, new.now))) has w.changed in
     rows_schema (record { limit = old.step_limit; keys = Enforced; schema = desk_schema; table = table the.sequences; params = params }) old command old.now.trees w.tally new.now all

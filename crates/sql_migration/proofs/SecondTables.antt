@@ -23,9 +23,9 @@ use Rattle.sql_statements.proofs.Casts.{row_kept, are_kept}
 use Rattle.sql_statements.proofs.Changes.{updated}
 use Rattle.sql_statements.proofs.Conditions.{int_is, and_true}
 use Rattle.sql_statements.specs.Statements.{IsUpdate, is_update}
-use Rattle.sql_statements.specs.StoredRows.{row_of, Stores}
+use Rattle.sql_statements.specs.StoredRows.{Form, whole, row_of, Stores}
 use Rattle.sql_statements.specs.Layouts.{Holds}
-use Rattle.sql_tables.specs.Description.{as_row, table}
+use Rattle.sql_tables.specs.Description.{as_row, form, table}
 use Rattle.sql_tables.specs.DeskTables as the
 use Rattle.sql_tables.specs.Schema.{desk_schema}
 use Rattle.sql_tables.specs.Layout.{desk_layout}
@@ -41,10 +41,10 @@ use Rattle.sql_migration.proofs.NewTables.{numbered_schema, written_numbers, wri
 
 -- ---- a table of one row
 
-one_row : {X : Type 0} (row : X → Row) (rows : List Row) (x : X) → Stores row rows (x ∷ []) → (i : ℤ) × (rows ≡ (Int i ∷ row x) ∷ [])
+one_row : {X : Type 0} (row : X → Row) (rows : List Row) (x : X) → Stores (whole row) rows (x ∷ []) → (i : ℤ) × (rows ≡ (Int i ∷ row x) ∷ [])
 one_row {X = X} row rows x h = go h.numbered h.are h.same
   where
-    go : (ps : List (ℤ × X)) → rows ≡ map (row_of row) ps → IsPermutation (map (λ (p : ℤ × X). p.1) ps) (x ∷ []) → (i : ℤ) × (rows ≡ (Int i ∷ row x) ∷ [])
+    go : (ps : List (ℤ × X)) → rows ≡ map (row_of (whole row)) ps → IsPermutation (map (λ (p : ℤ × X). p.1) ps) (x ∷ []) → (i : ℤ) × (rows ≡ (Int i ∷ row x) ∷ [])
     go [] are same = absurd (let n = length_permutation _ _ same in omega (arith, n))
     go (p ∷ []) are same =
         let its : p.1 ≡ x = (all-permutation (λ y. y ≡ x) (x ∷ []) (p.1 ∷ []) (IsPermutation-sym (p.1 ∷ []) (x ∷ []) same) (refl, tt)).0 in
@@ -52,7 +52,7 @@ one_row {X = X} row rows x h = go h.numbered h.are h.same
     go (p ∷ q ∷ ps) are same = absurd (let n = length_permutation _ _ same in omega (arith, n))
 
 -- it is also a row of something else
-row_as : {X Y : Type 0} (row : X → Row) (other : Y → Row) (rows : List Row) (x : X) (y : Y) → row x ≡ other y → Stores row rows (x ∷ []) → Stores other rows (y ∷ [])
+row_as : {X Y : Type 0} (row : X → Row) (other : Y → Row) (rows : List Row) (x : X) (y : Y) → row x ≡ other y → Stores (whole row) rows (x ∷ []) → Stores (whole other) rows (y ∷ [])
 row_as {Y = Y} row other rows x y same h =
     let it = one_row row rows x h in
     record { numbered = (it.0, y) ∷ []; are = it.1 ∙ ap (λ r. (Int it.0 ∷ r) ∷ []) same; rise = (tt, tt); same = IsPermutation-refl (y ∷ []) }
@@ -79,12 +79,12 @@ versioned_kept v = go v.1.day
 pub record SetsVersion (d : DeskRecord) (old new : Database) : Type 0 where
   pub schema_is : new.schema ≡ desk_schema
   pub others : AllByRecursion (λ t. t.tree ≢ 0 → new.trees t.tree ≡ old.trees t.tree) desk_schema.tables
-  pub row : Stores (as_row the.desk) (new.trees 0) (d ∷ [])
+  pub row : Stores (form the.desk) (new.trees 0) (d ∷ [])
 
-pub version_set : (d : DeskRecord) (old new : State) (count : ℕ) → old.now.schema ≡ desk_schema → Stores (versioned_row 1) (old.now.trees 0) (d ∷ []) → Executes update_version.text [] old new (Ok count) → SetsVersion d old.now new.now
+pub version_set : (d : DeskRecord) (old new : State) (count : ℕ) → old.now.schema ≡ desk_schema → Stores (whole (versioned_row 1)) (old.now.trees 0) (d ∷ []) → Executes update_version.text [] old new (Ok count) → SetsVersion d old.now new.now
 version_set d old new count has stored ran =
     let s = table the.desk in
-    let was : Stores its_row (old.now.trees 0) ((1, d) ∷ []) = row_as (versioned_row 1) its_row (old.now.trees 0) d (1, d) refl stored in
+    let was : Stores (whole its_row) (old.now.trees 0) ((1, d) ∷ []) = row_as (versioned_row 1) its_row (old.now.trees 0) d (1, d) refl stored in
     let done = updated its_row desk_schema 0 0 s.name s.columns s.primary s.uniques s.orders update_version.text update_version.tests update_version.sets
     update_version_is refl (λ olds news. refl) [] (λ _. true) (λ v. (2, v.1))
     (λ i v. and_true _ ∙ int_is (pos 1) (pos 1)) (λ i v _. refl) (λ i v. row_kept s (Int i) (its_row v) refl (versioned_kept v)) old new count has ((1, d) ∷ []) was ran in
@@ -105,10 +105,10 @@ schema_stays old new count has ran =
 
 -- ---- all tables
 
-moved : {X : Type 0} {from to : Trees} {table : Table} {row : X → Row} {cmp : X → X → Ordering} {xs : List X} → to table.tree ≡ from table.tree → IsTableOf from table row cmp xs → IsTableOf to table row cmp xs
-moved {row = row} {xs = xs} same h = record { stored = subst (λ l. Stores row l xs) (sym same) h.stored; rise = h.rise }
+moved : {X : Type 0} {from to : Trees} {table : Table} {stored_as : Form X} {cmp : X → X → Ordering} {xs : List X} → to table.tree ≡ from table.tree → IsTableOf from table stored_as cmp xs → IsTableOf to table stored_as cmp xs
+moved {stored_as = stored_as} {xs = xs} same h = record { stored = subst (λ l. Stores stored_as l xs) (sym same) h.stored; rise = h.rise }
 
-no_rows : {X : Type 0} {row : X → Row} {cmp : X → X → Ordering} (trees : Trees) (table : Table) → trees table.tree ≡ [] → IsTableOf trees table row cmp []
+no_rows : {X : Type 0} {stored_as : Form X} {cmp : X → X → Ordering} (trees : Trees) (table : Table) → trees table.tree ≡ [] → IsTableOf trees table stored_as cmp []
 no_rows trees table none = record { stored = record { numbered = []; are = none; rise = tt; same = IsPermutation-refl [] }; rise = tt }
 
 abbrev pub with_no_numbers : Tables → Tables
@@ -137,5 +137,5 @@ second_tables t s0 s1 s2 s3 h n a v = (v.schema_is, record { stands = stands })
     stands named.authorizations = no_rows s3.trees _ (stays named.authorizations (λ e. omega (arith, e)) ∙ a.empty)
 
 -- the row of the desk is as it was while tables are added
-pub desk_stays : (t : Tables) (s0 s1 s2 : Database) → IsFirstStored s0.trees t → Adds first_schema written_numbers s0 s1 → Adds numbered_schema written_authorizations s1 s2 → Stores (versioned_row 1) (s2.trees 0) (t.desk ∷ [])
-desk_stays t s0 s1 s2 h n a = subst (λ l. Stores (versioned_row 1) l (t.desk ∷ [])) (sym (a.others.0 ∙ n.others.0)) h.desk
+pub desk_stays : (t : Tables) (s0 s1 s2 : Database) → IsFirstStored s0.trees t → Adds first_schema written_numbers s0 s1 → Adds numbered_schema written_authorizations s1 s2 → Stores (whole (versioned_row 1)) (s2.trees 0) (t.desk ∷ [])
+desk_stays t s0 s1 s2 h n a = subst (λ l. Stores (whole (versioned_row 1)) l (t.desk ∷ [])) (sym (a.others.0 ∙ n.others.0)) h.desk

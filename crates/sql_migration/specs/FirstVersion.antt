@@ -3,14 +3,14 @@ use Rattle.std.specs.Prelude.{◌≡◌, ℕ, List, [], ◌∷◌, All}
 use Rattle.std.specs.List.{enumerate_from}
 use Rattle.std.specs.Ordering.{nat_cmp, on}
 use Rattle.sqlite_trees.specs.Tree.{Trees}
-use Rattle.sql_statements.specs.StoredRows.{Stores}
+use Rattle.sql_statements.specs.StoredRows.{whole, Stores}
 use Rattle.sql_statements.specs.Books.{keeps}
 use Rattle.sql_statements.specs.Layouts.{Layout}
 use Rattle.desk_book.specs.Book.{Book}
 use Rattle.desk_book.specs.Unauthorized.{AuthorizesNothing}
 use Rattle.desk_store.specs.Rows.{Rows, flat_book}
 use Rattle.sql_tables.specs.Beside.{Beside}
-use Rattle.sql_tables.specs.Description.{as_row, key_cmp, table}
+use Rattle.sql_tables.specs.Description.{form, key_cmp, table}
 use Rattle.sql_tables.specs.DeskTables as the
 use Rattle.sql_tables.specs.Encodes.{Encodes}
 use Rattle.sql_tables.specs.Tables.{Tables, IsTableOf}
@@ -23,18 +23,18 @@ first_version = 1
 
 -- The trees store these records, but for the tables that version 1 has not.
 pub record IsFirstStored (trees : Trees) (t : Tables) : Type 0 where
-  pub desk : Stores (versioned_row first_version) (trees (table the.desk).tree) (t.desk ∷ [])
-  pub holidays : IsTableOf trees (table the.holidays) (as_row the.holidays) nat_cmp t.holidays
-  pub companies : IsTableOf trees (table the.companies) (as_row the.companies) (key_cmp the.companies) t.companies
-  pub submissions : IsTableOf trees (table the.submissions) (as_row the.submissions) (key_cmp the.submissions) t.submissions
-  pub entries : IsTableOf trees (table the.entries) (as_row the.entries) (key_cmp the.entries) t.entries
-  pub returns : IsTableOf trees (table the.returns) (as_row the.returns) (on (λ r. r.number) nat_cmp) t.returns
-  pub changes : IsTableOf trees (table the.changes) (as_row the.changes) (on (λ c. c.number) nat_cmp) t.changes
-  pub postings : IsTableOf trees (table the.postings) (as_row the.postings) (on (λ p. p.number) nat_cmp) t.postings
-  pub suspense : IsTableOf trees (table the.suspense) (as_row the.suspense) (on (λ s. s.number) nat_cmp) t.suspense
-  pub files : IsTableOf trees (table the.files) (as_row the.files) (key_cmp the.files) t.files
-  pub taken : IsTableOf trees (table the.taken) (as_row the.taken) (key_cmp the.taken) t.taken
-  pub balances : IsTableOf trees (table the.balances) (as_row the.balances) (key_cmp the.balances) t.balances
+  pub desk : Stores (whole (versioned_row first_version)) (trees (table the.desk).tree) (t.desk ∷ [])
+  pub holidays : IsTableOf trees (table the.holidays) (form the.holidays) nat_cmp t.holidays
+  pub companies : IsTableOf trees (table the.companies) (form the.companies) (key_cmp the.companies) t.companies
+  pub submissions : IsTableOf trees (table the.submissions) (form the.submissions) (key_cmp the.submissions) t.submissions
+  pub entries : IsTableOf trees (table the.entries) (form the.entries) (key_cmp the.entries) t.entries
+  pub returns : IsTableOf trees (table the.returns) (form the.returns) (on (λ r. r.number) nat_cmp) t.returns
+  pub changes : IsTableOf trees (table the.changes) (form the.changes) (on (λ c. c.number) nat_cmp) t.changes
+  pub postings : IsTableOf trees (table the.postings) (form the.postings) (on (λ p. p.number) nat_cmp) t.postings
+  pub suspense : IsTableOf trees (table the.suspense) (form the.suspense) (on (λ s. s.number) nat_cmp) t.suspense
+  pub files : IsTableOf trees (table the.files) (form the.files) (key_cmp the.files) t.files
+  pub taken : IsTableOf trees (table the.taken) (form the.taken) (key_cmp the.taken) t.taken
+  pub balances : IsTableOf trees (table the.balances) (form the.balances) (key_cmp the.balances) t.balances
   pub numbers : t.numbers ≡ []
   pub authorizations : t.authorizations ≡ []
 

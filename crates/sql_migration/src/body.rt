@@ -31,7 +31,7 @@ impl TransactionBody for Migration {
     fn run<S: Alter>(&self, tx: &mut Transaction<'_, S>) -> Result<(), Error> {
         execute(
             tx,
-            "CREATE TABLE numbers (sequence INT NOT NULL, nth INT NOT NULL, PRIMARY KEY (sequence), UNIQUE (nth)) STRICT",
+            "CREATE TABLE numbers (sequence INTEGER PRIMARY KEY, nth INT NOT NULL, UNIQUE (nth)) STRICT",
             &[],
         )?;
         execute(

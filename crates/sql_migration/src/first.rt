@@ -7,7 +7,7 @@ use sql_setup::{are_same_indexes, are_same_tables};
 use sqlite_schema::schema::Schema;
 
 /// Is it the schema of version 1? That has the tables and indexes of version 2 but for the last two
-/// tables, and the three indexes of their keys.
+/// tables, and the two indexes of their keys.
 pub(crate) fn is_first_schema(pattern: &Schema, schema: &Schema) -> bool
     requires { pattern.now ≡ desk_schema }
     ensures told { IsTrue result → schema.now ≡ first_schema }
@@ -16,7 +16,7 @@ pub(crate) fn is_first_schema(pattern: &Schema, schema: &Schema) -> bool
     let [first @ .., _numbers, _authorizations] = pattern.tables.as_slice() else {
         return false;
     };
-    let [keys @ .., _sequence, _place, _retry] = pattern.indexes.as_slice() else {
+    let [keys @ .., _place, _retry] = pattern.indexes.as_slice() else {
         return false;
     };
     if !are_same_tables(first, schema.tables.as_slice()) {

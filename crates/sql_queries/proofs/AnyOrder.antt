@@ -20,15 +20,15 @@ use Rattle.sql_query_laws.proofs.Listings.{Listing}
 
 module _ {X : Type 0} (of : Listing X) {Y : Type 0} (sql : List ℕ) (tests shown : List Term) (order : List (Term × Key)) (params : Row) (p : X → Bool) (f : X → Y) (show : Y → Row)
     (is : IsSelect desk_schema sql (query_from of.table.tree tests shown order))
-    (tested : (i : ℤ) (x : X) → list_all (holds (params ∷ row_of of.encode (i, x) ∷ [])) tests ≡ p x)
-    (shows : (i : ℤ) (x : X) → eval_all shown (params ∷ row_of of.encode (i, x) ∷ []) ≡ show (f x)) where
+    (tested : (i : ℤ) (x : X) → list_all (holds (params ∷ row_of of.stored_as (i, x) ∷ [])) tests ≡ p x)
+    (shows : (i : ℤ) (x : X) → eval_all shown (params ∷ row_of of.stored_as (i, x) ∷ []) ≡ show (f x)) where
   abbrev q : Query
   q = query_from of.table.tree tests shown order
 
   abbrev row : X → Row
   row x = show (f x)
 
-  rows_are : (rs : List (ℤ × X)) → map (λ (o : Output). o.1) (map (output q) (map (λ r. params ∷ row_of of.encode r ∷ []) rs)) ≡ map row (map (λ (r : ℤ × X). r.1) rs)
+  rows_are : (rs : List (ℤ × X)) → map (λ (o : Output). o.1) (map (output q) (map (λ r. params ∷ row_of of.stored_as r ∷ []) rs)) ≡ map row (map (λ (r : ℤ × X). r.1) rs)
   rows_are [] = refl
   rows_are (r ∷ rs) = rw (shows r.0 r.1, rows_are rs) refl
 
@@ -36,11 +36,11 @@ module _ {X : Type 0} (of : Listing X) {Y : Type 0} (sql : List ℕ) (tests show
   selected_in_any_order t old new h rows seen =
       let xs = of.records t in
       let table = of.stored old.now.trees t h.1 in
-      let kept_in : Stores of.encode (overlay old.now.trees [] of.table.tree) xs = subst (λ l. Stores of.encode l xs) (sym (overlay_none old.now.trees of.table.tree)) table.stored in
+      let kept_in : Stores of.stored_as (overlay old.now.trees [] of.table.tree) xs = subst (λ l. Stores of.stored_as l xs) (sym (overlay_none old.now.trees of.table.tree)) table.stored in
       let all = map (λ (r : ℤ × X). r.1) kept_in.numbered in
       let a = shown_answer desk_schema sql q params is old new h.0 rows seen in
       let kept : map (λ (o : Output). o.1) a.kept ≡ map row (filter p all) =
-      ap (map (λ (o : Output). o.1)) (a.distinct ∙ ap (map (output q)) (a.grouped ∙ passing of.encode of.table.tree tests params (λ r. p r.1) tested (overlay old.now.trees []) kept_in.numbered kept_in.are))
+      ap (map (λ (o : Output). o.1)) (a.distinct ∙ ap (map (output q)) (a.grouped ∙ passing of.stored_as of.table.tree tests params (λ r. p r.1) tested (overlay old.now.trees []) kept_in.numbered kept_in.are))
       ∙ rows_are (filter (λ (r : ℤ × X). p r.1) kept_in.numbered) ∙ ap (map row) (sym (filter-map p (λ (r : ℤ × X). r.1) kept_in.numbered)) in
       let these : IsPermutation (map row (filter p xs)) (map row (filter p all)) =
       IsPermutation-map row _ _ (IsPermutation-filter p _ _ (IsPermutation-sym _ _ kept_in.same)) in

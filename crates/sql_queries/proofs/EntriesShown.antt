@@ -10,7 +10,7 @@ use Rattle.sql_statements.proofs.Sums.{summed}
 use Rattle.sql_statements.specs.Statements.{column_is, at_least, at_most, columns}
 use Rattle.sql_tables.specs.ByName as named
 use Rattle.sql_tables.specs.Columns.{number}
-use Rattle.sql_tables.specs.Description.{as_row, table}
+use Rattle.sql_tables.specs.Description.{form, table}
 use Rattle.sql_tables.specs.DeskTables as the
 use Rattle.sql_tables.specs.Schema.{desk_schema}
 use Rattle.sql_tables.specs.declared.records.EntryRecord.{EntryRecord}
@@ -43,7 +43,7 @@ pub cents_shown : (c : List ℕ) (order : ℕ) → ShowsFirst questions.cents.te
 cents_shown c order = record {
   row = λ t old new h rows seen.
       ap (λ (l : List Row). slice_get l 0)
-      (summed (as_row the.entries) (table the.entries).tree (column_is 1 0 ∷ column_is 2 1 ∷ []) 8 (Text c ∷ number order ∷ []) (is_entry_of c order) (λ e. pos e.entry.cents)
+      (summed (form the.entries) (table the.entries).tree (column_is 1 0 ∷ column_is 2 1 ∷ []) 8 (Text c ∷ number order ∷ []) (is_entry_of c order) (λ e. pos e.entry.cents)
       (λ i e. two (text_is e.company c) (number_is e.order order)) (λ i e. refl) desk_schema questions.cents.text cents_is.asks old new h.0 t.entries (h.1.stands named.entries).stored rows seen)
       ∙ ap (λ z. Some (Int z ∷ [])) (whole_sum (filter (is_entry_of c order) t.entries));
 }
@@ -58,10 +58,10 @@ only a b = grind (arith)
 
 pub place_shown : (sequence : ℕ) → ShowsFirst questions.places.text (number sequence ∷ number sequence ∷ []) (λ n. number n ∷ []) (place_in sequence)
 place_shown sequence =
-    first_selected numbers questions.places.text (at_least 1 0 ∷ at_most 1 1 ∷ []) (places (2 ∷ [])) (number sequence ∷ number sequence ∷ []) (λ n. n.sequence == sequence) (λ n. n.place) (λ n. number n ∷ [])
+    first_selected numbers questions.places.text (at_least 0 0 ∷ at_most 0 1 ∷ []) (places (2 ∷ [])) (number sequence ∷ number sequence ∷ []) (λ n. n.sequence == sequence) (λ n. n.place) (λ n. number n ∷ [])
     places_is.asks (λ i n. two (number_least n.sequence sequence) (number_most n.sequence sequence) ∙ only n.sequence sequence) (λ i n. refl)
 
 pub places_shown : (from to : ℕ) → ShowsAll questions.places.text (number from ∷ number to ∷ []) (λ n. number n ∷ []) (places_between from to)
 places_shown from to =
-    all_selected numbers questions.places.text (at_least 1 0 ∷ at_most 1 1 ∷ []) (places (2 ∷ [])) (number from ∷ number to ∷ []) (is_between from to) (λ n. n.place) (λ n. number n ∷ [])
+    all_selected numbers questions.places.text (at_least 0 0 ∷ at_most 0 1 ∷ []) (places (2 ∷ [])) (number from ∷ number to ∷ []) (is_between from to) (λ n. n.place) (λ n. number n ∷ [])
     places_is.asks (λ i n. two (number_least n.sequence from) (number_most n.sequence to)) (λ i n. refl)

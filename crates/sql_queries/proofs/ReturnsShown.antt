@@ -31,7 +31,7 @@ read_in_any_order : (c : List ℕ) {old new : State} {lines : List ReturnLine} �
 read_in_any_order c {old} {new} {lines} read t h =
     same_read return_line_row return_line_in return_line_back _ lines
     (subst (IsPermutation (map return_line_row (return_lines_in c t))) (sym read.are)
-    (selected_in_any_order returns questions.return_lines.text (column_is 2 0 ∷ []) (places (1 ∷ 3 ∷ 4 ∷ 5 ∷ 6 ∷ 7 ∷ 8 ∷ [])) (by 6 ∷ []) (Text c ∷ []) (λ r. bytes_eq r.company c) return_line_of return_line_row
+    (selected_in_any_order returns questions.return_lines.text (column_is 2 0 ∷ []) (places (0 ∷ 3 ∷ 4 ∷ 5 ∷ 6 ∷ 7 ∷ 8 ∷ [])) (by 6 ∷ []) (Text c ∷ []) (λ r. bytes_eq r.company c) return_line_of return_line_row
     return_lines_is.asks (λ i r. one (text_is r.company c)) (λ i r. refl) t old new h read.rows read.shown))
 
 pub return_lines_found : {c : List ℕ} {old new : State} {lines found : List ReturnLine} → ReadsAll questions.return_lines.text (Text c ∷ []) return_line_row old new lines

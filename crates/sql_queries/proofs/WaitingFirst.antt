@@ -25,7 +25,7 @@ use Rattle.sql_statements.proofs.StoredRows.{stores_in}
 use Rattle.sql_statements.specs.Statements.{query_from, column_is, columns, by}
 use Rattle.sql_statements.specs.Findings.{Finds}
 use Rattle.sql_tables.specs.ByName as named
-use Rattle.sql_tables.specs.Description.{as_row, key_cmp, table}
+use Rattle.sql_tables.specs.Description.{form, key_cmp, table}
 use Rattle.sql_tables.specs.DeskTables as the
 use Rattle.sql_tables.specs.Schema.{desk_schema}
 use Rattle.sql_tables.specs.Columns.{number, flag}
@@ -147,9 +147,9 @@ by_waiting_shown : (c : List ℕ) → ShowsAll questions.waiting_submissions.tex
 by_waiting_shown c = record {
   rows = λ t old new h rows seen.
       let stands = h.1.stands named.submissions in
-      selected (as_row the.submissions) (table the.submissions).tree (column_is 1 0 ∷ []) (columns 11) order (Text c ∷ []) (is_of c) (λ s. submission_head_row (head_of s)) sort
+      selected (form the.submissions) (table the.submissions).tree (column_is 1 0 ∷ []) (columns 11) order (Text c ∷ []) (is_of c) (λ s. submission_head_row (head_of s)) sort
       (λ i s. one (text_is s.head.company c)) (λ i s. refl) (λ i s. refl) desk_schema questions.waiting_submissions.text waiting_submissions_is.asks old new h.0 (by_waiting t.submissions)
-      (stores_in (as_row the.submissions) _ t.submissions _ (IsPermutation-sym _ _ (IsPermutation-sort_by waiting_cmp waiting_cmp_total t.submissions)) stands.stored)
+      (stores_in (form the.submissions) _ t.submissions _ (IsPermutation-sym _ _ (IsPermutation-sort_by waiting_cmp waiting_cmp_total t.submissions)) stands.stored)
       (waiting_rise t.submissions stands.rise) rows seen
       ∙ sym (map-map submission_head_row head_of _);
 }

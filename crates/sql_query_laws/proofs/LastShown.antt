@@ -12,11 +12,11 @@ use Rattle.sqlite_value.specs.Order.{Row}
 use Rattle.sql_statements.proofs.Conditions.{text_is}
 use Rattle.sql_statements.proofs.LastRows.{backwards, last_selected}
 use Rattle.sql_statements.proofs.StoredRows.{stores_in}
-use Rattle.sql_statements.specs.Statements.{IsSelect, query_within, column_is, columns, falling}
+use Rattle.sql_statements.specs.Statements.{IsSelect, query_within, column_is, falling}
 use Rattle.sql_statements.specs.StoredRows.{row_of}
 use Rattle.sql_statements.specs.Findings.{Finds}
 use Rattle.sql_tables.specs.ByName as named
-use Rattle.sql_tables.specs.Description.{as_row, table}
+use Rattle.sql_tables.specs.Description.{as_row, form, table}
 use Rattle.sql_tables.specs.DeskTables as the
 use Rattle.sql_tables.specs.Schema.{desk_schema}
 use Rattle.sql_tables.specs.Columns.{number}
@@ -52,7 +52,7 @@ pub last_order_shown : (c : List ℕ) → ShowsFirst questions.last_order.text (
 last_order_shown c = record {
   row = λ t old new h rows seen.
       first_taken (λ n. number n ∷ []) (λ s. s.head.order) (reverse (filter (is_of c) t.submissions)) rows
-      (last_selected (as_row the.submissions) (table the.submissions).tree (column_is 1 0 ∷ []) (places (2 ∷ [])) (falling 1 ∷ falling 2 ∷ []) (Text c ∷ []) (is_of c) (λ s. number s.head.order ∷ []) (λ s. Text s.head.company ∷ number s.head.order ∷ [])
+      (last_selected (form the.submissions) (table the.submissions).tree (column_is 1 0 ∷ []) (places (2 ∷ [])) (falling 1 ∷ falling 2 ∷ []) (Text c ∷ []) (is_of c) (λ s. number s.head.order ∷ []) (λ s. Text s.head.company ∷ number s.head.order ∷ [])
       (λ i s. one (text_is s.head.company c)) (λ i s. refl) (λ i s. refl) desk_schema questions.last_order.text last_order_is.asks old new h.0 t.submissions (h.1.stands named.submissions).stored
       (ascending_weaker _ _ (λ x y less. by_falling_text_then_number x.head.company y.head.company x.head.order y.head.order ∙ less) t.submissions (h.1.stands named.submissions).rise) rows seen
       ∙ ap (λ l. map (λ s. number s.head.order ∷ []) (take 1 l)) (passing_backwards (is_of c) t.submissions));
@@ -69,16 +69,16 @@ last_number_found {old} {new} {x} read = record {
   told = λ t h by_place same up.
       same_option (as_row the.sequences) number_rows x (slice_get (reverse by_place) 0)
       (read.is ∙ first_taken (as_row the.sequences) (λ n. n) (reverse by_place) read.rows
-      (last_selected (as_row the.sequences) (table the.sequences).tree [] (columns 2) (falling 2 ∷ []) [] (λ _. true) (as_row the.sequences) (λ n. number n.place ∷ []) (λ i n. refl) (λ i n. refl) (λ i n. refl) desk_schema questions.last_number.text last_number_is.asks old new h.0 by_place
-      (stores_in (as_row the.sequences) (old.now.trees (table the.sequences).tree) t.numbers by_place same (h.1.stands named.numbers).stored)
+      (last_selected (form the.sequences) (table the.sequences).tree [] (places (0 ∷ 2 ∷ [])) (falling 2 ∷ []) [] (λ _. true) (as_row the.sequences) (λ n. number n.place ∷ []) (λ i n. refl) (λ i n. refl) (λ i n. refl) desk_schema questions.last_number.text last_number_is.asks old new h.0 by_place
+      (stores_in (form the.sequences) (old.now.trees (table the.sequences).tree) t.numbers by_place same (h.1.stands named.numbers).stored)
       (ascending_weaker _ _ (λ a b less. by_falling_number a.place b.place ∙ less) by_place up) read.rows read.shown
       ∙ ap (λ l. map (as_row the.sequences) (take 1 l)) (all_pass (backwards by_place) ∙ backwards_is by_place))
       ∙ ap (option_map (as_row the.sequences)) (itself (slice_get (reverse by_place) 0)));
 }
 
--- the last number of a table that stands in the order of its numbers
-module _ {X : Type 0} (of : Listing X) (number_of : X → ℕ) (sql : List ℕ) (is : IsSelect desk_schema sql (query_within (pos 1) of.table.tree [] (places (1 ∷ [])) (falling 1 ∷ [])))
-    (shows : (i : ℤ) (x : X) → eval_all (places (1 ∷ [])) ([] ∷ row_of of.encode (i, x) ∷ []) ≡ number (number_of x) ∷ [])
+-- the last number of a table whose rows are put under their numbers
+module _ {X : Type 0} (of : Listing X) (number_of : X → ℕ) (sql : List ℕ) (is : IsSelect desk_schema sql (query_within (pos 1) of.table.tree [] (places (0 ∷ [])) (falling 0 ∷ [])))
+    (shows : (i : ℤ) (x : X) → eval_all (places (0 ∷ [])) ([] ∷ row_of of.stored_as (i, x) ∷ []) ≡ number (number_of x) ∷ [])
     (compares : (x y : X) → of.cmp x y ≡ nat_cmp (number_of x) (number_of y)) where
   pub number_shown : ShowsFirst sql [] (λ n. number n ∷ []) (λ t. option_map number_of (slice_get (reverse (of.records t)) 0))
   number_shown = record {
@@ -87,7 +87,7 @@ module _ {X : Type 0} (of : Listing X) (number_of : X → ℕ) (sql : List ℕ) 
         let xs = of.records t in
         let show = λ (x : X). number (number_of x) ∷ [] in
         first_taken (λ n. number n ∷ []) number_of (reverse xs) rows
-        (last_selected of.encode of.table.tree [] (places (1 ∷ [])) (falling 1 ∷ []) [] (λ _. true) show show (λ i x. refl) shows shows desk_schema sql is old new h.0 xs table.stored
+        (last_selected of.stored_as of.table.tree [] (places (0 ∷ [])) (falling 0 ∷ []) [] (λ _. true) show show (λ i x. refl) shows shows desk_schema sql is old new h.0 xs table.stored
         (ascending_weaker _ _ (λ x y less. by_falling_number (number_of x) (number_of y) ∙ sym (compares x y) ∙ less) xs table.rise) rows seen
         ∙ ap (λ l. map show (take 1 l)) (all_pass (backwards xs) ∙ backwards_is xs));
   }

@@ -14,14 +14,14 @@ use Rattle.sql_query_laws.specs.Shows.{ShowsAll, ShowsFirst}
 
 module _ {X : Type 0} (of : Listing X) {Y : Type 0} (sql : List ℕ) (tests shown : List Term) (params : Row) (p : X → Bool) (f : X → Y) (show : Y → Row)
     (is : IsSelect desk_schema sql (query_from of.table.tree tests shown of.order))
-    (tested : (i : ℤ) (x : X) → list_all (holds (params ∷ row_of of.encode (i, x) ∷ [])) tests ≡ p x)
-    (shows : (i : ℤ) (x : X) → eval_all shown (params ∷ row_of of.encode (i, x) ∷ []) ≡ show (f x)) where
+    (tested : (i : ℤ) (x : X) → list_all (holds (params ∷ row_of of.stored_as (i, x) ∷ [])) tests ≡ p x)
+    (shows : (i : ℤ) (x : X) → eval_all shown (params ∷ row_of of.stored_as (i, x) ∷ []) ≡ show (f x)) where
   -- the records that pass
   pub all_selected : ShowsAll sql params show (λ t. map f (filter p (of.records t)))
   all_selected = record {
     rows = λ t old new h rows seen.
         let table = of.stored old.now.trees t h.1 in
-        selected of.encode of.table.tree tests shown of.order params p (λ x. show (f x)) of.sort tested shows (of.sorts params) desk_schema sql is old new h.0 (of.records t) table.stored
+        selected of.stored_as of.table.tree tests shown of.order params p (λ x. show (f x)) of.sort tested shows (of.sorts params) desk_schema sql is old new h.0 (of.records t) table.stored
         (ascending_weaker _ _ (λ x y less. of.compares x y ∙ less) (of.records t) table.rise) rows seen
         ∙ sym (map-map show f (filter p (of.records t)));
   }

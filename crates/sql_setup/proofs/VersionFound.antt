@@ -8,7 +8,7 @@ use Rattle.sqlite_value.specs.Order.{Row}
 use Rattle.sqlite_value.specs.declared.value.Value.TheVariants.{Int}
 use Rattle.sqlite_sql.specs.Term.{lit}
 use Rattle.sql_statements.specs.Statements.{IsSelect, query_from, query_within, number_is as is_number, by}
-use Rattle.sql_statements.specs.StoredRows.{Stores}
+use Rattle.sql_statements.specs.StoredRows.{whole, Stores}
 use Rattle.sql_statements.proofs.Selects.{selected, selected_within}
 use Rattle.sql_tables.specs.Schema.{desk_schema}
 use Rattle.sql_tables.specs.Columns.{number}
@@ -28,9 +28,9 @@ unfolding understood everything
 version_in_second = record { selects = refl; body = refl; alone = refl; unlisted = refl; plain = (refl, refl) }
 
 rows_shown : (n : ℕ) (d : DeskRecord) (schema : Schema) → IsSelect schema version_text (query_from 0 (is_number 1 (pos 1) ∷ []) (places (2 ∷ [])) (by 1 ∷ [])) → (old new : State) → old.now.schema ≡ schema
-    → Stores (versioned_row n) (old.now.trees 0) (d ∷ []) → (rows : List Row) → Shown version_text [] old new rows → rows ≡ version_row (pos n) ∷ []
+    → Stores (whole (versioned_row n)) (old.now.trees 0) (d ∷ []) → (rows : List Row) → Shown version_text [] old new rows → rows ≡ version_row (pos n) ∷ []
 rows_shown n d schema is old new has stored rows seen =
-    selected (versioned_row n) 0 (is_number 1 (pos 1) ∷ []) (places (2 ∷ [])) (by 1 ∷ []) [] (λ _. true) (λ _. version_row (pos n)) (λ _. number 1 ∷ [])
+    selected (whole (versioned_row n)) 0 (is_number 1 (pos 1) ∷ []) (places (2 ∷ [])) (by 1 ∷ []) [] (λ _. true) (λ _. version_row (pos n)) (λ _. number 1 ∷ [])
     (λ i d. one (number_is 1 1)) (λ i d. refl) (λ i d. refl) schema version_text is old new has (d ∷ []) stored (tt, tt) rows seen
 
 pub version_shown : (n : ℕ) (old new : State) → IsOfVersion old.now n → (rows : List Row) → Shown version_text [] old new rows → rows ≡ version_row (pos n) ∷ []
@@ -58,9 +58,9 @@ unfolding understood everything
 row_in_second = record { selects = refl; body = refl; alone = refl; unlisted = refl; plain = (refl, refl) }
 
 one_shown : (n : ℕ) (d : DeskRecord) (schema : Schema) → IsSelect schema row_text (query_within (pos 1) 0 [] (lit (Int (pos 1)) ∷ []) []) → (old new : State) → old.now.schema ≡ schema
-    → Stores (versioned_row n) (old.now.trees 0) (d ∷ []) → (rows : List Row) → Shown row_text [] old new rows → rows ≡ (Int (pos 1) ∷ []) ∷ []
+    → Stores (whole (versioned_row n)) (old.now.trees 0) (d ∷ []) → (rows : List Row) → Shown row_text [] old new rows → rows ≡ (Int (pos 1) ∷ []) ∷ []
 one_shown n d schema is old new has stored rows seen =
-    selected_within (pos 1) (versioned_row n) 0 [] (lit (Int (pos 1)) ∷ []) [] [] (λ _. true) (λ _. Int (pos 1) ∷ []) (λ _. [])
+    selected_within (pos 1) (whole (versioned_row n)) 0 [] (lit (Int (pos 1)) ∷ []) [] [] (λ _. true) (λ _. Int (pos 1) ∷ []) (λ _. [])
     (λ i d. refl) (λ i d. refl) (λ i d. refl) schema row_text is old new has (d ∷ []) stored (tt, tt) rows seen
 
 pub row_shown : (n : ℕ) (old new : State) → IsOfVersion old.now n → (rows : List Row) → Shown row_text [] old new rows → rows ≢ []

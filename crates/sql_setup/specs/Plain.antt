@@ -1,5 +1,5 @@
 -- Tables that have nothing but columns and keys.
-use Rattle.std.specs.Prelude.{◌≡◌, [], None}
+use Rattle.std.specs.Prelude.{◌≡◌, []}
 use Rattle.std.specs.List.{AllByRecursion}
 use Rattle.sqlite_schema.specs.declared.schema.Column.{Column}
 use Rattle.sqlite_schema.specs.declared.schema.Schema.{Schema}
@@ -15,10 +15,9 @@ IsPlainColumn c = c.default ≡ Null
 abbrev pub no_stamps : Stamps
 no_stamps = record { places = []; terms = []; formats = [] }
 
--- there is no INTEGER PRIMARY KEY, no CHECK, no reference, and no default
+-- there is no CHECK, no reference, and no default
 pub record IsPlainTable (t : Table) : Type 0 where
   pub columns : AllByRecursion IsPlainColumn t.columns
-  pub key : t.key ≡ None
   pub checks : t.checks ≡ []
   pub references : t.references ≡ []
   pub computed : t.computed ≡ []

@@ -4,7 +4,7 @@ use Rattle.sqlite.specs.Effect.{Database}
 use Rattle.sqlite.specs.State.{State}
 use Rattle.sqlite_value.specs.declared.value.Value.TheVariants.{Int}
 use Rattle.sqlite_value.specs.Order.{Row}
-use Rattle.sql_statements.specs.StoredRows.{Stores}
+use Rattle.sql_statements.specs.StoredRows.{whole, Stores}
 use Rattle.sql_tables.specs.Columns.{number}
 use Rattle.sql_tables.specs.DeskTables as the
 use Rattle.sql_tables.specs.Question.{ask, is_one, rises}
@@ -38,4 +38,4 @@ versioned_row version d = number 1 ∷ number version ∷ drop 2 (as_row the.des
 pub record IsOfVersion (db : Database) (version : ℕ) : Type 0 where
   pub schema : (db.schema ≡ first_schema) ⊎ (db.schema ≡ desk_schema)
   pub desk : DeskRecord
-  pub row : Stores (versioned_row version) (db.trees (table the.desk).tree) (desk ∷ [])
+  pub row : Stores (whole (versioned_row version)) (db.trees (table the.desk).tree) (desk ∷ [])

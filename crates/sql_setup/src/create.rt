@@ -17,10 +17,10 @@ fn definitions() -> [&'static str; 20]
         "CREATE TABLE companies (id TEXT NOT NULL, name TEXT NOT NULL, key_digest BLOB NOT NULL, entry_limit INT NOT NULL, credit_limit INT NOT NULL, debit_limit INT NOT NULL, PRIMARY KEY (id)) STRICT",
         "CREATE TABLE submissions (company TEXT NOT NULL, ord INT NOT NULL, ref TEXT NOT NULL, sec TEXT NOT NULL, direction TEXT NOT NULL, description TEXT NOT NULL, asked INT NOT NULL, of_ref TEXT, of_index INT, lapsed INT NOT NULL, settled INT, file_day INT, modifier TEXT, batch INT, PRIMARY KEY (company, ord), UNIQUE (company, ref)) STRICT",
         "CREATE TABLE entries (company TEXT NOT NULL, ord INT NOT NULL, idx INT NOT NULL, routing TEXT NOT NULL, account TEXT NOT NULL, savings INT NOT NULL, prenote INT NOT NULL, cents INT NOT NULL, ident TEXT NOT NULL, name TEXT NOT NULL, info TEXT, seq INT, PRIMARY KEY (company, ord, idx)) STRICT",
-        "CREATE TABLE returns (no INT NOT NULL, company TEXT NOT NULL, ord INT NOT NULL, idx INT NOT NULL, code TEXT NOT NULL, day INT NOT NULL, late INT NOT NULL, info TEXT NOT NULL, PRIMARY KEY (no), UNIQUE (company, ord, idx)) STRICT",
-        "CREATE TABLE changes (no INT NOT NULL, company TEXT NOT NULL, ord INT NOT NULL, idx INT NOT NULL, code TEXT NOT NULL, day INT NOT NULL, text TEXT NOT NULL, PRIMARY KEY (no)) STRICT",
-        "CREATE TABLE postings (no INT NOT NULL, account TEXT NOT NULL, value_day INT NOT NULL, cents INT NOT NULL, cause TEXT NOT NULL, ref TEXT NOT NULL, idx INT NOT NULL, PRIMARY KEY (no)) STRICT",
-        "CREATE TABLE suspense (no INT NOT NULL, file_key TEXT NOT NULL, item INT NOT NULL, why TEXT NOT NULL, code TEXT NOT NULL, trace TEXT NOT NULL, cents INT NOT NULL, day INT NOT NULL, PRIMARY KEY (no)) STRICT",
+        "CREATE TABLE returns (no INTEGER PRIMARY KEY, company TEXT NOT NULL, ord INT NOT NULL, idx INT NOT NULL, code TEXT NOT NULL, day INT NOT NULL, late INT NOT NULL, info TEXT NOT NULL, UNIQUE (company, ord, idx)) STRICT",
+        "CREATE TABLE changes (no INTEGER PRIMARY KEY, company TEXT NOT NULL, ord INT NOT NULL, idx INT NOT NULL, code TEXT NOT NULL, day INT NOT NULL, text TEXT NOT NULL) STRICT",
+        "CREATE TABLE postings (no INTEGER PRIMARY KEY, account TEXT NOT NULL, value_day INT NOT NULL, cents INT NOT NULL, cause TEXT NOT NULL, ref TEXT NOT NULL, idx INT NOT NULL) STRICT",
+        "CREATE TABLE suspense (no INTEGER PRIMARY KEY, file_key TEXT NOT NULL, item INT NOT NULL, why TEXT NOT NULL, code TEXT NOT NULL, trace TEXT NOT NULL, cents INT NOT NULL, day INT NOT NULL) STRICT",
         "CREATE TABLE files (day INT NOT NULL, modifier TEXT NOT NULL, text BLOB NOT NULL, PRIMARY KEY (day, modifier)) STRICT",
         "CREATE TABLE taken (file_key TEXT NOT NULL, digest BLOB NOT NULL, day INT NOT NULL, returns INT NOT NULL, changes INT NOT NULL, late INT NOT NULL, suspense INT NOT NULL, PRIMARY KEY (file_key)) STRICT",
         "CREATE TABLE balances (account TEXT NOT NULL, value_day INT NOT NULL, cents TEXT NOT NULL, PRIMARY KEY (account, value_day)) STRICT",
@@ -30,7 +30,7 @@ fn definitions() -> [&'static str; 20]
         "CREATE INDEX returns_company ON returns (company, day)",
         "CREATE INDEX changes_company ON changes (company, no)",
         "CREATE INDEX postings_account ON postings (account, no)",
-        "CREATE TABLE numbers (sequence INT NOT NULL, nth INT NOT NULL, PRIMARY KEY (sequence), UNIQUE (nth)) STRICT",
+        "CREATE TABLE numbers (sequence INTEGER PRIMARY KEY, nth INT NOT NULL, UNIQUE (nth)) STRICT",
         "CREATE TABLE authorizations (company TEXT NOT NULL, ord INT NOT NULL, day INT NOT NULL, PRIMARY KEY (company, ord)) STRICT",
     ]
 }

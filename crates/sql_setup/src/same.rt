@@ -80,13 +80,12 @@ fn stamps_nothing(stamps: &Stamps) -> bool
     stamps.places.is_empty() && are_none(&stamps.terms) && stamps.formats.is_empty()
 }
 
-// Has the table no INTEGER PRIMARY KEY, no CHECK, no reference and no default that is computed?
+// Has the table no CHECK, no reference and no default that is computed?
 fn is_plain(table: &Table) -> bool
-    ensures { IsTrue result ↔ ((table.now.key ≡ None) × (table.now.checks ≡ [])
+    ensures { IsTrue result ↔ ((table.now.checks ≡ [])
         × (table.now.references ≡ []) × (table.now.computed ≡ []) × (table.now.stamps ≡ no_stamps)) }
 {
-    table.key.is_none()
-        && are_none(&table.checks)
+    are_none(&table.checks)
         && table.references.is_empty()
         && table.computed.is_empty()
         && stamps_nothing(&table.stamps)
@@ -124,14 +123,16 @@ fn are_same_orders(these: &[Order], others: &[Order]) -> bool
     are_same(these, others)
 }
 
-// Have the tables the same primary key and the same UNIQUE keys?
+// Have the tables the same primary key, which both name as the rowid or neither does, and the same UNIQUE keys?
 fn have_same_keys(this: &Table, other: &Table) -> bool
-    ensures told { IsTrue result → (this.now.primary ≡ other.now.primary)
+    ensures told { IsTrue result → (this.now.key ≡ other.now.key) × (this.now.primary ≡ other.now.primary)
         × (this.now.uniques ≡ other.now.uniques) × (this.now.orders ≡ other.now.orders) }
-    ensures found { this.now.primary ≡ other.now.primary → this.now.uniques ≡ other.now.uniques
-        → this.now.orders ≡ other.now.orders → IsTrue result }
+    ensures found { this.now.key ≡ other.now.key → this.now.primary ≡ other.now.primary
+        → this.now.uniques ≡ other.now.uniques → this.now.orders ≡ other.now.orders
+        → IsTrue result }
 {
-    this.primary.as_slice() == other.primary.as_slice()
+    this.key == other.key
+        && this.primary.as_slice() == other.primary.as_slice()
         && are_same_keys(this.uniques.as_slice(), other.uniques.as_slice())
         && are_same_orders(this.orders.as_slice(), other.orders.as_slice())
 }

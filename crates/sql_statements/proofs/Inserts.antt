@@ -1,9 +1,8 @@
 -- What an INSERT of rows into a plain table leaves.
-use Rattle.std.proofs.Common.{◌≡◌, ◌≢◌, ◌/◌, ◌⊎◌, inl, inr, ℕ, ℤ, suc, true, cond, List, [], ◌∷◌, ◌++◌, map, length, drop, slice_get, Some, None, Ok, Err, Result, refl, sym, ap, ap₂, ◌∙◌, subst, append-nil, IsPermutation}
+use Rattle.std.proofs.Common.{◌≡◌, ◌≢◌, ◌/◌, ◌⊎◌, inl, inr, ℕ, ℤ, Bool, suc, true, cond, List, [], ◌∷◌, ◌++◌, map, length, drop, slice_get, Some, None, Ok, Err, Result, refl, sym, ap, ap₂, ◌∙◌, subst, append-nil, IsPermutation}
 use Rattle.std.specs.List.{AllByRecursion, flat_map}
 use Rattle.std.proofs.lemmas.List.{map-append}
 use Rattle.std.proofs.lemmas.List.Sorted.{IsPermutation-trans, IsPermutation-sym, IsPermutation-map, IsPermutation-append_right}
-use Rattle.sqlite.specs.declared.types.Value.TheVariants.{Null}
 use Rattle.sqlite.specs.Order.{Row}
 use Rattle.sqlite.specs.Term.{Term}
 use Rattle.sqlite.specs.Table.{Table}
@@ -28,8 +27,8 @@ use Rattle.sqlite_schema.specs.declared.schema.Column.{Column}
 use Rattle.sqlite_schema.specs.declared.schema.Constraint.TheVariants.{Unique}
 use Rattle.sqlite_schema.specs.declared.schema.Keys.TheVariants.{Enforced}
 use Rattle.sqlite_value.specs.declared.keys.Order.{Order}
-use Rattle.sql_statements.specs.PlainTable.{plain_table_at}
-use Rattle.sql_statements.specs.StoredRows.{row_of, Stores}
+use Rattle.sql_statements.specs.PlainTable.{table_at}
+use Rattle.sql_statements.specs.StoredRows.{Form, whole, keyed, is_keyed, parameters_of, new_row, row_of, Stores}
 use Rattle.sql_statements.specs.Statements.{rows_shown, IsInsert}
 use Rattle.sql_statements.proofs.ValueRows.{values_are}
 use Rattle.sql_statements.proofs.StoredRows.{puts_store}
@@ -48,54 +47,56 @@ pub record Changes (schema : Schema) (table : Table) (old new : State) : Type 0 
   pub others : AllByRecursion (λ t. t.tree ≢ table.tree → new.now.trees t.tree ≡ old.now.trees t.tree) schema.tables
   pub shown : Shows old new new.now (cond old.in_transaction old.committed new.now) old.in_transaction
 
-module _ {X : Type 0} (encode : X → Row) where
-  -- the row of a new value, which has no rowid yet
-  abbrev new_row : X → Row
-  new_row x = Null ∷ encode x
+-- the new rows, each under its key or under the rowid that the table chooses
+numbered_are : {X : Type 0} (form : Form X) (ys : List X) (rows : List Row)
+    → (news : List (ℤ × X)) × (numbered Chosen rows (map (new_row form) ys) ≡ map (row_of form) news) × (map (λ (r : ℤ × X). r.1) news ≡ ys)
+numbered_are form [] rows = ([], refl, refl)
+numbered_are (whole columns) (y ∷ ys) rows =
+    let i = next_rowid rows in
+    let row = row_of (whole columns) (i, y) in
+    let more = numbered_are (whole columns) ys (put_row row rows) in
+    ((i, y) ∷ more.0, ap (λ l. row ∷ l) more.1, ap (λ l. y ∷ l) more.2)
+numbered_are (keyed key others) (y ∷ ys) rows =
+    let row = row_of (keyed key others) (key y, y) in
+    let more = numbered_are (keyed key others) ys (put_row row rows) in
+    ((key y, y) ∷ more.0, ap (λ l. row ∷ l) more.1, ap (λ l. y ∷ l) more.2)
 
-  -- the new rows, each under the rowid that the table chooses
-  numbered_are : (ys : List X) (rows : List Row) → (news : List (ℤ × X)) × (numbered Chosen rows (map new_row ys) ≡ map (row_of encode) news) × (map (λ (r : ℤ × X). r.1) news ≡ ys)
-  numbered_are [] rows = ([], refl, refl)
-  numbered_are (y ∷ ys) rows =
-      let i = next_rowid rows in
-      let more = numbered_are ys (put_row (row_of encode (i, y)) rows) in
-      ((i, y) ∷ more.0, ap (λ l. row_of encode (i, y) ∷ l) more.1, ap (λ l. y ∷ l) more.2)
-
-  stores_insert_all : (rows next : List Row) (xs ys : List X) → Stores encode rows xs → let news = numbered Chosen rows (map new_row ys) in are_fresh rows news ≡ true → next ≡ put_all rows news → Stores encode next (ys ++ xs)
+module _ {X : Type 0} (form : Form X) where
+  stores_insert_all : (rows next : List Row) (xs ys : List X) → Stores form rows xs → let news = numbered Chosen rows (map (new_row form) ys) in are_fresh rows news ≡ true → next ≡ put_all rows news → Stores form next (ys ++ xs)
   stores_insert_all rows next xs ys h fresh is =
-      let named = numbered_are ys rows in
+      let named = numbered_are form ys rows in
       let values = λ (r : ℤ × X). r.1 in
-      let put = puts_store encode named.0 h.numbered (subst (λ l. are_fresh l (map (row_of encode) named.0) ≡ true) h.are (subst (λ n. are_fresh rows n ≡ true) named.1 fresh)) h.rise in
+      let put = puts_store form named.0 h.numbered (subst (λ l. are_fresh l (map (row_of form) named.0) ≡ true) h.are (subst (λ n. are_fresh rows n ≡ true) named.1 fresh)) h.rise in
       record {
         numbered = put.0;
-        are = is ∙ ap (put_all rows) named.1 ∙ ap (λ l. put_all l (map (row_of encode) named.0)) h.are ∙ put.1;
+        are = is ∙ ap (put_all rows) named.1 ∙ ap (λ l. put_all l (map (row_of form) named.0)) h.are ∙ put.1;
         rise = put.2;
         same = IsPermutation-trans _ _ _ (IsPermutation-sym _ _ (IsPermutation-map values _ _ put.3))
             (subst (λ l. IsPermutation l (ys ++ xs)) (sym (map-append values named.0 h.numbered))
             (subst (λ l. IsPermutation (l ++ map values h.numbered) (ys ++ xs)) (sym named.2) (IsPermutation-append_right ys _ _ h.same)));
       }
 
-module _ {X : Type 0} (encode : X → Row) (schema : Schema) (at tree : ℕ) (name : List ℕ) (columns : List Column) (primary : List ℕ) (uniques : List (List ℕ)) (orders : List Order) where
+module _ {X : Type 0} (form : Form X) (schema : Schema) (at tree : ℕ) (name : List ℕ) (columns : List Column) (primary : List ℕ) (uniques : List (List ℕ)) (orders : List Order) where
   abbrev table : Table
-  table = plain_table_at tree name columns primary uniques orders
+  table = table_at (is_keyed form) tree name columns primary uniques orders
 
-  module _ (sql : List ℕ) (rows : ℕ) (is : IsInsert schema sql at table rows) (listed : slice_get schema.tables at ≡ Some table)
+  module _ (sql : List ℕ) (rows : ℕ) (is : IsInsert schema sql at (is_keyed form) table rows) (listed : slice_get schema.tables at ≡ Some table)
       (quiet : (olds news : List Row) → works schema Enforced 0 tree olds news ≡ [])
-      (whole : length (rows_shown (length columns) 0 rows) / suc (length columns) ≡ rows)
-      (wide : (y : X) → length (encode y) ≡ length columns)
-      (suits : (y : X) → cast_row table (Null ∷ encode y) ≡ Null ∷ encode y) where
+      (whole : length (rows_shown (is_keyed form) (length columns) 0 rows) / suc (length columns) ≡ rows)
+      (wide : (y : X) → length (parameters_of form y) ≡ length columns)
+      (suits : (y : X) → cast_row table (new_row form y) ≡ new_row form y) where
     abbrev terms : List Term
-    terms = rows_shown (length columns) 0 rows
+    terms = rows_shown (is_keyed form) (length columns) 0 rows
 
-    cast_are : (ys : List X) → map (λ s. cast_row table (drop 0 s)) (map (new_row encode) ys) ≡ map (new_row encode) ys
+    cast_are : (ys : List X) → map (λ s. cast_row table (drop 0 s)) (map (new_row form) ys) ≡ map (new_row form) ys
     cast_are [] = refl
     cast_are (y ∷ ys) = ap₂ (λ r l. r ∷ l) (suits y) (cast_are ys)
 
     -- The table has these values more. All are in, or the statement is refused.
-    pub inserted : (ys : List X) → length ys ≡ rows → (old new : State) (count : ℕ) → old.now.schema ≡ schema → (xs : List X) → Stores encode (old.now.trees tree) xs
-        → Executes sql (flat_map encode ys) old new (Ok count) → Changes schema table old new × Stores encode (new.now.trees tree) (ys ++ xs)
+    pub inserted : (ys : List X) → length ys ≡ rows → (old new : State) (count : ℕ) → old.now.schema ≡ schema → (xs : List X) → Stores form (old.now.trees tree) xs
+        → Executes sql (flat_map (parameters_of form) ys) old new (Ok count) → Changes schema table old new × Stores form (new.now.trees tree) (ys ++ xs)
     inserted ys many old new count has xs stored h =
-        let params = flat_map encode ys in
+        let params = flat_map (parameters_of form) ys in
         let db = old.now.trees in
         let command = Insert at (Values terms (suc (length columns))) in
         let w = runs_as sql params old new schema has command is.is is.plain count h in
@@ -112,25 +113,25 @@ module _ {X : Type 0} (encode : X → Row) (schema : Schema) (at tree : ℕ) (na
         let trees : done.0.trees ≡ written.0 = ap (λ (it : Written). it.trees) (same_value counted.2) ∙ same_value counted.1 in
         let edit = edit_of db table [] Chosen 0 given.0 in
         let step = one_step schema Enforced db written.0 edit (quiet (taken_by db edit) edit.news) written.1 in
-        let shown : value_rows params (suc (length columns)) (length terms / suc (length columns)) terms ≡ map (new_row encode) ys =
+        let shown : value_rows params (suc (length columns)) (length terms / suc (length columns)) terms ≡ map (new_row form) ys =
         ap (λ n. value_rows params (suc (length columns)) n terms) whole
-        ∙ subst (λ n. value_rows params (suc (length columns)) n (rows_shown (length columns) 0 n) ≡ map (new_row encode) ys) many (values_are encode (length columns) wide ys []) in
-        let found : given.0 ≡ map (new_row encode) ys = given.1.1 ∙ ap (λ ps. value_rows ps (suc (length columns)) (length terms / suc (length columns)) terms) (append-nil params) ∙ shown in
-        let news : edit.news ≡ numbered Chosen (db tree) (map (new_row encode) ys) =
+        ∙ subst (λ n. value_rows params (suc (length columns)) n (rows_shown (is_keyed form) (length columns) 0 n) ≡ map (new_row form) ys) many (values_are form (length columns) wide ys []) in
+        let found : given.0 ≡ map (new_row form) ys = given.1.1 ∙ ap (λ ps. value_rows ps (suc (length columns)) (length terms / suc (length columns)) terms) (append-nil params) ∙ shown in
+        let news : edit.news ≡ numbered Chosen (db tree) (map (new_row form) ys) =
         ap (λ l. numbered Chosen (db tree) (map (λ s. cast_row table (drop 0 s)) l)) found ∙ ap (numbered Chosen (db tree)) (cast_are ys) in
         let trees_are : new.now.trees ≡ written.0 = ap (λ (d : Database). d.trees) now ∙ trees in
-        let next : new.now.trees tree ≡ put_all (db tree) (numbered Chosen (db tree) (map (new_row encode) ys)) = ap (λ (t : Trees). t tree) trees_are ∙ step.rows ∙ ap (put_all (db tree)) news in (
+        let next : new.now.trees tree ≡ put_all (db tree) (numbered Chosen (db tree) (map (new_row form) ys)) = ap (λ (t : Trees). t tree) trees_are ∙ step.rows ∙ ap (put_all (db tree)) news in (
           record {
             schema_is = ap (λ (d : Database). d.schema) now;
             others = subst (λ (t : Trees). AllByRecursion (λ u. u.tree ≢ tree → t u.tree ≡ db u.tree) schema.tables) (sym trees_are) step.tables;
             shown = w.shown;
           },
-          stores_insert_all encode (db tree) _ xs ys stored (subst (λ l. are_fresh (db tree) l ≡ true) news step.fresh) next,
+          stores_insert_all form (db tree) _ xs ys stored (subst (λ l. are_fresh (db tree) l ≡ true) news step.fresh) next,
         )
 
 -- the rules hold after the statement
-pub insert_rules : (schema : Schema) (sql : List ℕ) (at : ℕ) (table : Table) (rows : ℕ) → IsInsert schema sql at table rows → (params : Row) (old new : State) (count : ℕ) → old.now.schema ≡ schema → new.now.schema ≡ schema
+pub insert_rules : (schema : Schema) (sql : List ℕ) (at : ℕ) (by_key : Bool) (table : Table) (rows : ℕ) → IsInsert schema sql at by_key table rows → (params : Row) (old new : State) (count : ℕ) → old.now.schema ≡ schema → new.now.schema ≡ schema
     → Executes sql params old new (Ok count) → Keeps Unique schema new.now.trees
-insert_rules schema sql at table rows is params old new count has after h =
-    let w = runs_as sql params old new schema has (Insert at (Values (rows_shown (length table.columns) 0 rows) (suc (length table.columns)))) is.is is.plain count h in
+insert_rules schema sql at by_key table rows is params old new count has after h =
+    let w = runs_as sql params old new schema has (Insert at (Values (rows_shown by_key (length table.columns) 0 rows) (suc (length table.columns)))) is.is is.plain count h in
     subst (λ s. Keeps Unique s new.now.trees) after (w.sound.obeys.rules Unique)

@@ -10,7 +10,7 @@ use Rattle.sqlite_sql.specs.Query.{key_cmp}
 use Rattle.sqlite_schema.specs.declared.schema.Schema.{Schema}
 use Rattle.sqlite_keyed.proofs.ListLemmas.{ascending-append, all-append}
 use Rattle.sqlite.specs.State.{State, Shown}
-use Rattle.sql_statements.specs.StoredRows.{row_of, Stores}
+use Rattle.sql_statements.specs.StoredRows.{Form, row_of, Stores}
 use Rattle.sql_statements.specs.Statements.{query_within, IsSelect}
 use Rattle.sql_statements.proofs.StoredRows.{stores_in}
 use Rattle.sql_statements.proofs.Selects.{selected_within}
@@ -36,12 +36,12 @@ falls_backwards {X} R (x ∷ xs) up = ascending-append (λ a b. R b a) (backward
     each [] all = tt
     each (y ∷ ys) all = ((all.0, tt), each ys all.1)
 
-module _ {X : Type 0} (encode : X → Row) (tree : ℕ) (tests shown : List Term) (order : List (Term × Key)) (params : Row) (p : X → Bool) (show : X → Row) (sort : X → Row)
-    (tested : (i : ℤ) (x : X) → list_all (holds (params ∷ row_of encode (i, x) ∷ [])) tests ≡ p x)
-    (shows : (i : ℤ) (x : X) → eval_all shown (params ∷ row_of encode (i, x) ∷ []) ≡ show x)
-    (sorts : (i : ℤ) (x : X) → eval_all (map (λ k. k.0) order) (params ∷ row_of encode (i, x) ∷ []) ≡ sort x) where
-  pub last_selected : (schema : Schema) (sql : List ℕ) → IsSelect schema sql (query_within (pos 1) tree tests shown order) → (old new : State) → old.now.schema ≡ schema → (xs : List X) → Stores encode (old.now.trees tree) xs
+module _ {X : Type 0} (form : Form X) (tree : ℕ) (tests shown : List Term) (order : List (Term × Key)) (params : Row) (p : X → Bool) (show : X → Row) (sort : X → Row)
+    (tested : (i : ℤ) (x : X) → list_all (holds (params ∷ row_of form (i, x) ∷ [])) tests ≡ p x)
+    (shows : (i : ℤ) (x : X) → eval_all shown (params ∷ row_of form (i, x) ∷ []) ≡ show x)
+    (sorts : (i : ℤ) (x : X) → eval_all (map (λ k. k.0) order) (params ∷ row_of form (i, x) ∷ []) ≡ sort x) where
+  pub last_selected : (schema : Schema) (sql : List ℕ) → IsSelect schema sql (query_within (pos 1) tree tests shown order) → (old new : State) → old.now.schema ≡ schema → (xs : List X) → Stores form (old.now.trees tree) xs
       → IsAscending (λ a b. key_cmp 0 (map (λ k. k.1) order) (sort b) (sort a) ≡ Less) xs → (rows : List Row) → Shown sql params old new rows → rows ≡ map show (take 1 (filter p (backwards xs)))
   last_selected schema sql is old new has xs h falls =
-      selected_within (pos 1) encode tree tests shown order params p show sort tested shows sorts schema sql is old new has (backwards xs)
-      (stores_in encode _ xs (backwards xs) (moves_backwards xs) h) (falls_backwards _ xs falls)
+      selected_within (pos 1) form tree tests shown order params p show sort tested shows sorts schema sql is old new has (backwards xs)
+      (stores_in form _ xs (backwards xs) (moves_backwards xs) h) (falls_backwards _ xs falls)

@@ -6,7 +6,7 @@ use Rattle.std.proofs.lemmas.Bool.{and_parts, not-true, or_parts}
 use Rattle.std.proofs.lemmas.List.Sorted.{IsPermutation-refl, IsPermutation-cons, IsPermutation-trans, IsPermutation-sym, IsPermutation-middle, IsPermutation-map, IsPermutation-append_right, IsPermutation-append_left, list_any-IsPermutation}
 use Rattle.sqlite_value.specs.Order.{Row}
 use Rattle.sqlite_value.proofs.OrderLemmas.{value_cmp-Int}
-use Rattle.sqlite_trees.specs.Tree.{rowid, put_row}
+use Rattle.sqlite_trees.specs.Tree.{put_row}
 use Rattle.sqlite_rules.specs.Edit.{put_all, without_all, is_taken, are_fresh, next_rowid}
 use Rattle.sqlite_keyed.specs.Keyed.{IsKeyedBy, insert_by}
 use Rattle.sqlite_keyed.specs.Lists.{without_key, delete_where, update_where}
@@ -14,7 +14,7 @@ use Rattle.sqlite_keyed.proofs.KeyedLemmas.{IsKeyedBy-insert_by, IsKeyedBy-delet
 use Rattle.sqlite_keyed.proofs.WriteLemmas.{removes_delete}
 use Rattle.sqlite_keyed.proofs.ListLemmas.{along_permutation, IsPermutation-filter, filter-map, filter_same, map-map}
 use Rattle.sqlite_typed.proofs.RowLemmas.{puts-map, deletes-map}
-use Rattle.sql_statements.specs.StoredRows.{row_of, Stores}
+use Rattle.sql_statements.specs.StoredRows.{Form, rowid_of, row_of, Stores}
 
 -- what a list of images is in another order, its sources are
 pub unmapped : {A B : Type 0} (f : A → B) (ps : List A) (ys : List B) → IsPermutation (map f ps) ys → (qs : List A) × (ys ≡ map f qs) × IsPermutation ps qs
@@ -72,88 +72,84 @@ module _ {X : Type 0} (key : X → ℤ) where
       ∙ filter_same _ _ (λ x. ap not (sym (list_any-IsPermutation (λ id. int_eq (key x) id) _ _ (IsPermutation-map key _ _ same)))) xs
       ∙ sym (removed_are (map key (filter p xs)) xs) ∙ removes_delete key p xs up
 
-module _ {X : Type 0} (encode : X → Row) where
+module _ {X : Type 0} (form : Form X) where
   abbrev id : ℤ × X → ℤ
-  id p = p.0
+  id = rowid_of form
 
   abbrev has_id : List (ℤ × X) → ℤ × X → Bool
-  has_id ps new = list_any (λ p. int_eq p.0 new.0) ps
+  has_id ps new = list_any (λ p. int_eq (id p) (id new)) ps
 
-  taken_is : (ps : List (ℤ × X)) (new : ℤ × X) → is_taken (map (row_of encode) ps) (row_of encode new) ≡ has_id ps new
+  taken_is : (ps : List (ℤ × X)) (new : ℤ × X) → is_taken (map (row_of form) ps) (row_of form new) ≡ has_id ps new
   taken_is [] new = refl
-  taken_is (p ∷ ps) new = rw (value_cmp-Int p.0 new.0, taken_is ps new) refl
+  taken_is (p ∷ ps) new = rw (value_cmp-Int (id p) (id new), taken_is ps new) refl
 
-  apart_from : (p new : ℤ × X) → int_eq p.0 new.0 ≡ false → int_cmp p.0 new.0 ≡ Equal → ⊥
+  apart_from : (p new : ℤ × X) → int_eq (id p) (id new) ≡ false → int_cmp (id p) (id new) ≡ Equal → ⊥
   apart_from p new h e = true≢false (sym (ap Rattle.std.specs.Ordering.is_eq e) ∙ h)
 
   put_moves : (ps : List (ℤ × X)) (new : ℤ × X) → has_id ps new ≡ false → IsPermutation (new ∷ ps) (insert_by id ps new)
   put_moves [] new free = IsPermutation-refl _
-  put_moves (p ∷ ps) new free = go (int_cmp p.0 new.0) refl (put_moves ps new (or_parts _ _ free).1)
+  put_moves (p ∷ ps) new free = go (int_cmp (id p) (id new)) refl (put_moves ps new (or_parts _ _ free).1)
     where
-      go : (o : Ordering) → int_cmp p.0 new.0 ≡ o → IsPermutation (new ∷ ps) (insert_by id ps new) → IsPermutation (new ∷ p ∷ ps) (match_ordering o (p ∷ insert_by id ps new) (new ∷ ps) (new ∷ p ∷ ps))
+      go : (o : Ordering) → int_cmp (id p) (id new) ≡ o → IsPermutation (new ∷ ps) (insert_by id ps new) → IsPermutation (new ∷ p ∷ ps) (match_ordering o (p ∷ insert_by id ps new) (new ∷ ps) (new ∷ p ∷ ps))
       go Less e more = IsPermutation-trans _ _ _ (IsPermutation-sym _ _ (IsPermutation-middle (p ∷ []) new ps)) (IsPermutation-cons p _ _ more)
       go Equal e more = absurd (apart_from p new (or_parts _ _ free).0 e)
       go Greater e more = IsPermutation-refl _
 
   -- the rows that were put in, each under a rowid that was free
-  pub puts_store : (news ps : List (ℤ × X)) → are_fresh (map (row_of encode) ps) (map (row_of encode) news) ≡ true → IsKeyedBy id ps
-      → (qs : List (ℤ × X)) × (put_all (map (row_of encode) ps) (map (row_of encode) news) ≡ map (row_of encode) qs) × IsKeyedBy id qs × IsPermutation (news ++ ps) qs
+  pub puts_store : (news ps : List (ℤ × X)) → are_fresh (map (row_of form) ps) (map (row_of form) news) ≡ true → IsKeyedBy id ps
+      → (qs : List (ℤ × X)) × (put_all (map (row_of form) ps) (map (row_of form) news) ≡ map (row_of form) qs) × IsKeyedBy id qs × IsPermutation (news ++ ps) qs
   puts_store [] ps fresh up = (ps, refl, up, IsPermutation-refl ps)
   puts_store (n ∷ news) ps fresh up =
       let parts = and_parts _ _ fresh in
       let free : has_id ps n ≡ false = sym (taken_is ps n) ∙ not-true _ parts.0 in
-      let put : put_row (row_of encode n) (map (row_of encode) ps) ≡ map (row_of encode) (insert_by id ps n) = puts-map id (row_of encode) (λ _. refl) (n ∷ []) ps in
-      let rest = puts_store news (insert_by id ps n) (subst (λ l. are_fresh l (map (row_of encode) news) ≡ true) put parts.1) (IsKeyedBy-insert_by id ps n up) in (
+      let put : put_row (row_of form n) (map (row_of form) ps) ≡ map (row_of form) (insert_by id ps n) = puts-map id (row_of form) (λ _. refl) (n ∷ []) ps in
+      let rest = puts_store news (insert_by id ps n) (subst (λ l. are_fresh l (map (row_of form) news) ≡ true) put parts.1) (IsKeyedBy-insert_by id ps n up) in (
         rest.0,
-        ap (λ l. put_all l (map (row_of encode) news)) put ∙ rest.1,
+        ap (λ l. put_all l (map (row_of form) news)) put ∙ rest.1,
         rest.2,
         IsPermutation-trans _ _ _ (IsPermutation-sym _ _ (IsPermutation-middle news n ps)) (IsPermutation-trans _ _ _ (IsPermutation-append_right news _ _ (put_moves ps n free)) rest.3),
       )
 
-  next_is : (ps : List (ℤ × X)) (a : ℤ) → fold (λ _ r. Rattle.sqlite_rules.specs.Edit.id_in (rowid r) +ℤ pos 1) a (map (row_of encode) ps) ≡ fold (λ _ p. p.0 +ℤ pos 1) a ps
-  next_is [] a = refl
-  next_is (p ∷ ps) a = next_is ps (p.0 +ℤ pos 1)
-
   -- a new row under the rowid that the table chooses
-  pub stores_insert : (rows next : List Row) (xs : List X) (x : X) → Stores encode rows xs
-      → let new = row_of encode (next_rowid rows, x) in are_fresh rows (new ∷ []) ≡ true → next ≡ put_all rows (new ∷ []) → Stores encode next (x ∷ xs)
+  pub stores_insert : (rows next : List Row) (xs : List X) (x : X) → Stores form rows xs
+      → let new = row_of form (next_rowid rows, x) in are_fresh rows (new ∷ []) ≡ true → next ≡ put_all rows (new ∷ []) → Stores form next (x ∷ xs)
   stores_insert rows next xs x h fresh is =
       let i = next_rowid rows in
-      let put = puts_store ((i, x) ∷ []) h.numbered (subst (λ l. are_fresh l (row_of encode (i, x) ∷ []) ≡ true) h.are fresh) h.rise in
+      let put = puts_store ((i, x) ∷ []) h.numbered (subst (λ l. are_fresh l (row_of form (i, x) ∷ []) ≡ true) h.are fresh) h.rise in
       record {
         numbered = put.0;
-        are = is ∙ ap (λ l. put_all l (row_of encode (i, x) ∷ [])) h.are ∙ put.1;
+        are = is ∙ ap (λ l. put_all l (row_of form (i, x) ∷ [])) h.are ∙ put.1;
         rise = put.2;
         same = IsPermutation-trans _ _ _ (IsPermutation-sym _ _ (IsPermutation-map (λ (p : ℤ × X). p.1) _ _ put.3)) (IsPermutation-cons x _ _ h.same);
       }
 
   -- the values in another order
-  pub stores_in : (rows : List Row) (xs ys : List X) → IsPermutation xs ys → Stores encode rows xs → Stores encode rows ys
+  pub stores_in : (rows : List Row) (xs ys : List X) → IsPermutation xs ys → Stores form rows xs → Stores form rows ys
   stores_in rows xs ys same h = record { numbered = h.numbered; are = h.are; rise = h.rise; same = IsPermutation-trans _ _ _ h.same same }
 
   -- The rows of those that pass are taken out, in any order, and these are put in.
-  pub stores_edit : (rows next : List Row) (xs : List X) (p : X → Bool) (h : Stores encode rows xs) (sel news : List (ℤ × X)) → IsPermutation (filter (λ r. p r.1) h.numbered) sel
-      → let left = without_all rows (map id sel) in are_fresh left (map (row_of encode) news) ≡ true → next ≡ put_all left (map (row_of encode) news)
-      → Stores encode next (map (λ r. r.1) news ++ delete_where p xs)
+  pub stores_edit : (rows next : List Row) (xs : List X) (p : X → Bool) (h : Stores form rows xs) (sel news : List (ℤ × X)) → IsPermutation (filter (λ r. p r.1) h.numbered) sel
+      → let left = without_all rows (map id sel) in are_fresh left (map (row_of form) news) ≡ true → next ≡ put_all left (map (row_of form) news)
+      → Stores form next (map (λ r. r.1) news ++ delete_where p xs)
   stores_edit rows next xs p h sel news same fresh is =
       let passes = λ (r : ℤ × X). p r.1 in
-      let left : without_all rows (map id sel) ≡ map (row_of encode) (delete_where passes h.numbered) =
-      ap (λ l. without_all l (map id sel)) h.are ∙ deletes-map id (row_of encode) (λ _. refl) (map id sel) h.numbered
-      ∙ ap (map (row_of encode)) (removes_in_any_order id passes h.numbered sel h.rise same) in
-      let put = puts_store news (delete_where passes h.numbered) (subst (λ l. are_fresh l (map (row_of encode) news) ≡ true) left fresh) (IsKeyedBy-delete_where id passes h.numbered h.rise) in
+      let left : without_all rows (map id sel) ≡ map (row_of form) (delete_where passes h.numbered) =
+      ap (λ l. without_all l (map id sel)) h.are ∙ deletes-map id (row_of form) (λ _. refl) (map id sel) h.numbered
+      ∙ ap (map (row_of form)) (removes_in_any_order id passes h.numbered sel h.rise same) in
+      let put = puts_store news (delete_where passes h.numbered) (subst (λ l. are_fresh l (map (row_of form) news) ≡ true) left fresh) (IsKeyedBy-delete_where id passes h.numbered h.rise) in
       let values = λ (r : ℤ × X). r.1 in
       record {
         numbered = put.0;
-        are = is ∙ ap (λ l. put_all l (map (row_of encode) news)) left ∙ put.1;
+        are = is ∙ ap (λ l. put_all l (map (row_of form) news)) left ∙ put.1;
         rise = put.2;
         same = IsPermutation-trans _ _ _ (IsPermutation-sym _ _ (IsPermutation-map values _ _ put.3))
             (subst (λ l. IsPermutation l (map values news ++ delete_where p xs)) (sym (Rattle.std.proofs.lemmas.List.map-append values news (delete_where passes h.numbered)))
             (IsPermutation-append_right (map values news) _ _ (subst (λ l. IsPermutation l (delete_where p xs)) (filter-map (λ x. not (p x)) values h.numbered) (IsPermutation-filter (λ x. not (p x)) _ _ h.same))));
       }
 
-  pub stores_update : (rows next : List Row) (xs : List X) (p : X → Bool) (f : X → X) (h : Stores encode rows xs) (sel : List (ℤ × X)) → IsPermutation (filter (λ r. p r.1) h.numbered) sel
-      → let news = map {B = ℤ × X} (λ (r : ℤ × X). (r.0, f r.1)) sel in let left = without_all rows (map id sel) in are_fresh left (map (row_of encode) news) ≡ true → next ≡ put_all left (map (row_of encode) news)
-      → Stores encode next (update_where p f xs)
+  pub stores_update : (rows next : List Row) (xs : List X) (p : X → Bool) (f : X → X) (h : Stores form rows xs) (sel : List (ℤ × X)) → IsPermutation (filter (λ r. p r.1) h.numbered) sel
+      → let news = map {B = ℤ × X} (λ (r : ℤ × X). (r.0, f r.1)) sel in let left = without_all rows (map id sel) in are_fresh left (map (row_of form) news) ≡ true → next ≡ put_all left (map (row_of form) news)
+      → Stores form next (update_where p f xs)
   stores_update rows next xs p f h sel same fresh is =
       let news = map {B = ℤ × X} (λ (r : ℤ × X). (r.0, f r.1)) sel in
       let values = λ (r : ℤ × X). r.1 in

@@ -40,9 +40,9 @@ use Rattle.sqlite_keyed.specs.Keyed.{IsKeyedBy}
 use Rattle.sqlite_keyed.specs.Lists.{update_where}
 use Rattle.sqlite_keyed.proofs.KeyedLemmas.{int_eq_apart}
 use Rattle.sqlite_keyed.proofs.ListLemmas.{all_weaker, filter_none, filter-map, IsPermutation-filter, any_from_none}
-use Rattle.sql_statements.specs.PlainTable.{plain_table_at}
-use Rattle.sql_statements.specs.StoredRows.{row_of, Stores}
-use Rattle.sql_statements.specs.Statements.{IsUpsert, params_shown}
+use Rattle.sql_statements.specs.PlainTable.{table_at}
+use Rattle.sql_statements.specs.StoredRows.{whole, row_of, Stores}
+use Rattle.sql_statements.specs.Statements.{IsUpsert, params_from}
 use Rattle.sql_statements.proofs.StoredRows.{stores_insert}
 use Rattle.sql_statements.proofs.Inserts.{went, same_value, Changes}
 use Rattle.sql_statements.proofs.Changes.{update_part}
@@ -95,21 +95,21 @@ put_or_update p f x xs = if list_any p xs then update_where p f xs else x ∷ xs
 
 module _ {X : Type 0} (encode : X → Row) (schema : Schema) (at tree : ℕ) (name : List ℕ) (columns : List Column) (primary : List ℕ) (uniques : List (List ℕ)) (orders : List Order) where
   abbrev table : Table
-  table = plain_table_at tree name columns primary uniques orders
+  table = table_at false tree name columns primary uniques orders
 
   abbrev terms : List Term
-  terms = lit Null ∷ params_shown (length columns)
+  terms = lit Null ∷ params_from 0 (length columns)
 
   module _ (sql target : List ℕ) (sets : List Term) (is : IsUpsert schema sql at tree table target sets) (listed : slice_get schema.tables at ≡ Some table)
       (quiet : (olds news : List Row) → works schema Enforced 0 tree olds news ≡ [])
       (x : X)
       (given : value_rows (encode x) (suc (length columns)) (length terms / suc (length columns)) terms ≡ (Null ∷ encode x) ∷ [])
       (suits : cast_row table (Null ∷ encode x) ≡ Null ∷ encode x)
-      (kept : (i : ℤ) (y : X) → cast_row table (row_of encode (i, y)) ≡ row_of encode (i, y))
+      (kept : (i : ℤ) (y : X) → cast_row table (row_of (whole encode) (i, y)) ≡ row_of (whole encode) (i, y))
       (p : X → Bool) (f : X → X)
-      (meets : (i j : ℤ) (y : X) → conflicts (Some target) schema.indexes table (row_of encode (j, x)) (row_of encode (i, y)) ≡ p y)
-      (finds : (i j k : ℤ) (y : X) → list_all (holds ((encode x ++ Int j ∷ shown table (row_of encode (k, x))) ∷ row_of encode (i, y) ∷ [])) (op2 (Compare Eq Binary) (col 1 0) (col 0 (length columns)) ∷ []) ≡ int_eq i j)
-      (made : (i j k : ℤ) (y : X) → eval_all sets ((encode x ++ Int j ∷ shown table (row_of encode (k, x))) ∷ row_of encode (i, y) ∷ []) ≡ encode (f y)) where
+      (meets : (i j : ℤ) (y : X) → conflicts (Some target) schema.indexes table (row_of (whole encode) (j, x)) (row_of (whole encode) (i, y)) ≡ p y)
+      (finds : (i j k : ℤ) (y : X) → list_all (holds ((encode x ++ Int j ∷ shown table (row_of (whole encode) (k, x))) ∷ row_of (whole encode) (i, y) ∷ [])) (op2 (Compare Eq Binary) (col 1 0) (col 0 (length columns)) ∷ []) ≡ int_eq i j)
+      (made : (i j k : ℤ) (y : X) → eval_all sets ((encode x ++ Int j ∷ shown table (row_of (whole encode) (k, x))) ∷ row_of (whole encode) (i, y) ∷ []) ≡ encode (f y)) where
     abbrev task : Option ℕ → Task
     task limit = record { limit = limit; keys = Enforced; schema = schema; table = table; params = encode x }
 
@@ -118,12 +118,12 @@ module _ {X : Type 0} (encode : X → Row) (schema : Schema) (at tree : ℕ) (na
 
     -- what one of the parts leaves
     record Left (db : Trees) (xs : List X) (w : Written) : Type 0 where
-      pub stores : Stores encode (w.trees tree) (put_or_update p f x xs)
+      pub stores : Stores (whole encode) (w.trees tree) (put_or_update p f x xs)
       pub others : AllByRecursion (λ u. u.tree ≢ tree → w.trees u.tree ≡ db u.tree) schema.tables
 
-    module _ (limit : Option ℕ) (db : Trees) (xs : List X) (stored : Stores encode (db tree) xs) (few : length (filter p xs) ≤ 1) (one : Written) where
+    module _ (limit : Option ℕ) (db : Trees) (xs : List X) (stored : Stores (whole encode) (db tree) xs) (few : length (filter p xs) ≤ 1) (one : Written) where
       abbrev new : Row
-      new = row_of encode (next_rowid (db tree), x)
+      new = row_of (whole encode) (next_rowid (db tree), x)
 
       abbrev values : List X
       values = map (λ (r : ℤ × X). r.1) stored.numbered
@@ -141,7 +141,7 @@ module _ {X : Type 0} (encode : X → Row) (schema : Schema) (at tree : ℕ) (na
           let news : edit.news ≡ new ∷ [] = ap (λ r. r ∷ []) (kept (next_rowid (db tree)) x) in
           let trees : one.trees ≡ written.0 = ap (λ (it : Written). it.trees) one_is in
           let next : one.trees tree ≡ put_all (db tree) (new ∷ []) = ap (λ (t : Trees). t tree) trees ∙ step.rows ∙ ap (put_all (db tree)) news in
-          let stores = stores_insert encode (db tree) _ xs x stored (subst (λ l. are_fresh (db tree) l ≡ true) news step.fresh) next in
+          let stores = stores_insert (whole encode) (db tree) _ xs x stored (subst (λ l. are_fresh (db tree) l ≡ true) news step.fresh) next in
           record {
             stores = rw none stores;
             others = subst (λ (t : Trees). AllByRecursion (λ u. u.tree ≢ tree → t u.tree ≡ db u.tree) schema.tables) (sym trees) step.tables;
@@ -169,14 +169,14 @@ module _ {X : Type 0} (encode : X → Row) (schema : Schema) (at tree : ℕ) (na
           none : list_any p xs ≡ false
           none = sym any_is ∙ any_from_none p values (Rattle.sqlite_rules.proofs.ListLemmas.all_from _ values (λ y has.
               let r = has_mapped p (λ (r : ℤ × X). r.1) stored.numbered y has in
-              let there = subst (λ l. Has l (row_of encode r.0)) (sym stored.are) (has_image p (row_of encode) stored.numbered r.0 r.1) in
+              let there = subst (λ l. Has l (row_of (whole encode) r.0)) (sym stored.are) (has_image p (row_of (whole encode)) stored.numbered r.0 r.1) in
               elim (cases_Bool (p y)) [
-                | inl ok ↦ absurd (are.complete (row_of encode r.0) there (meets r.0.0 (next_rowid (db tree)) r.0.1 ∙ ap p (sym r.2) ∙ ok))
+                | inl ok ↦ absurd (are.complete (row_of (whole encode) r.0) there (meets r.0.0 (next_rowid (db tree)) r.0.1 ∙ ap p (sym r.2) ∙ ok))
                 | inr fails ↦ fails
               ]))
       found_is (there ∷ more) are part =
           let sound = are.sound there (inl refl) in
-          let r = has_mapped p (row_of encode) stored.numbered sound.0 (subst (λ l. Has l sound.0) stored.are sound.1) in
+          let r = has_mapped p (row_of (whole encode)) stored.numbered sound.0 (subst (λ l. Has l sound.0) stored.are sound.1) in
           let ok : p r.0.1 ≡ true = sym (meets r.0.0 (next_rowid (db tree)) r.0.1) ∙ ap (conflicts (Some target) schema.indexes table new) (sym r.2) ∙ sound.2 in
           let id : Rattle.sqlite_trees.specs.Tree.rowid there ≡ Int r.0.0 = ap Rattle.sqlite_trees.specs.Tree.rowid (sound.3 ∙ ap (λ row. Rattle.sqlite_trees.specs.Tree.rowid row ∷ []) r.2) in
           set r.0.0 r.0.1 r.1 ok (subst (λ v. Updates (task limit) is.update (encode x ++ v ∷ shown table new) db (Ok one)) id part)
@@ -189,8 +189,8 @@ module _ {X : Type 0} (encode : X → Row) (schema : Schema) (at tree : ℕ) (na
       tried (inl h) = absurd (let e = h.1 in cc)
       tried (inr h) = judged h.0 h.2
 
-    pub upserted : (old new : State) (count : ℕ) → old.now.schema ≡ schema → (xs : List X) → Stores encode (old.now.trees tree) xs → length (filter p xs) ≤ 1 → Executes sql (encode x) old new (Ok count)
-        → Changes schema table old new × Stores encode (new.now.trees tree) (put_or_update p f x xs)
+    pub upserted : (old new : State) (count : ℕ) → old.now.schema ≡ schema → (xs : List X) → Stores (whole encode) (old.now.trees tree) xs → length (filter p xs) ≤ 1 → Executes sql (encode x) old new (Ok count)
+        → Changes schema table old new × Stores (whole encode) (new.now.trees tree) (put_or_update p f x xs)
     upserted old new count has xs stored few h =
         let params = encode x in
         let db = old.now.trees in
@@ -216,5 +216,5 @@ module _ {X : Type 0} (encode : X → Row) (schema : Schema) (at tree : ℕ) (na
             others = subst (λ (t : Trees). AllByRecursion (λ u. u.tree ≢ tree → t u.tree ≡ db u.tree) schema.tables) (sym trees) left.others;
             shown = w.shown;
           },
-          subst (λ (t : Trees). Stores encode (t tree) (put_or_update p f x xs)) (sym trees) left.stores,
+          subst (λ (t : Trees). Stores (whole encode) (t tree) (put_or_update p f x xs)) (sym trees) left.stores,
         )

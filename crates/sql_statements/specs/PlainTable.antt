@@ -1,5 +1,5 @@
--- A plain table: its rows have a rowid that no statement names, and then the columns.
-use Rattle.std.specs.Prelude.{true, false, [], None, List, ℕ, Bool}
+-- A plain table: its rows have a rowid and then the columns. No statement names the rowid, or it is the first column.
+use Rattle.std.specs.Prelude.{true, false, [], Some, None, List, ℕ, Bool, if◌then◌else◌}
 use Rattle.sqlite.specs.Collation.TheVariants.{Binary}
 use Rattle.sqlite.specs.declared.types.Value.TheVariants.{Null}
 use Rattle.sqlite.specs.Table.{Table}
@@ -13,13 +13,14 @@ use Rattle.sqlite_value.specs.Keys.{plain}
 abbrev pub plain_column : (name : List ℕ) → Kind → (not_null : Bool) → Column
 plain_column name kind not_null = record { name = name; kind = kind; is_strict = true; not_null = not_null; default = Null; collation = Binary }
 
--- The table of this tree. Its primary key and its UNIQUE keys name columns by their places from 1; a key has an order.
-abbrev pub plain_table_at : (tree : ℕ) → (name : List ℕ) → List Column → (primary : List ℕ) → (uniques : List (List ℕ)) → List Order → Table
-plain_table_at tree name columns primary uniques orders = record {
+-- The table of this tree. Its primary key and its UNIQUE keys name columns by their places from 1, and a column that is
+-- the rowid by 0; a key has an order.
+abbrev pub table_at : (keyed : Bool) → (tree : ℕ) → (name : List ℕ) → List Column → (primary : List ℕ) → (uniques : List (List ℕ)) → List Order → Table
+table_at keyed tree name columns primary uniques orders = record {
   name = name;
   tree = tree;
   columns = columns;
-  key = None;
+  key = if keyed then Some 0 else None;
   primary = primary;
   uniques = uniques;
   orders = orders;

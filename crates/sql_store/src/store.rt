@@ -4,7 +4,7 @@ ghost use Rattle.sqlite.specs.State.{HasCleanDisk};
 ghost use Rattle.sqlite_trees.specs.Tree.{Trees};
 ghost use Rattle.sql_tables.specs.Layout.{Keeps, Sees};
 
-use crate::last_number::{place_after, place_of, sequence_of};
+use crate::last_number::{number_of, place_after};
 use crate::whole_write::write;
 use ach_fields::{Id, Ref, Trace};
 use bank_days::{Calendar, Day};
@@ -12,7 +12,7 @@ use desk_accounts::{Account, Posting};
 use desk_book::{Caller, HeldSubmission, NamedEntry, ReturnsAndChanges, Row};
 use desk_history::{Identity, ListOf, SuspenseRow, TakenFile};
 use desk_rules::{Company, Limits, Rates, Retry, RuleDay, SizedSubmission};
-use desk_store::{CutRows, IntakeRows, Store, StoreFault};
+use desk_store::{CutRows, IntakeRows, LastNumber, Store, StoreFault};
 use sql_read_laws::{files_of_tables, numbers_of_tables, registry_of_tables, rows_of_tables};
 use sql_reads::or_unavailable;
 use sql_write_laws::{
@@ -146,16 +146,10 @@ impl<S: Alter> Store for SqlStore<S> {
         sql_reads::waiting(&mut self.conn, alloc)
     }
 
-    fn last_sequence(&mut self, _alloc: Global) -> Result<u32, StoreFault> {
+    fn last_number(&mut self, _alloc: Global) -> Result<LastNumber, StoreFault> {
         numbers_of_tables();
         let last = or_unavailable(sql_queries::last_number(&mut self.conn))?;
-        Ok(sequence_of(last))
-    }
-
-    fn sent_count(&mut self, _alloc: Global) -> Result<u64, StoreFault> {
-        numbers_of_tables();
-        let last = or_unavailable(sql_queries::last_number(&mut self.conn))?;
-        Ok(place_of(last))
+        Ok(number_of(last))
     }
 
     fn latest_settled(
@@ -274,9 +268,7 @@ impl<S: Alter> Store for SqlStore<S> {
 
     fn commit_cut(&mut self, _alloc: Global, cut: &CutRows<'_>) -> Result<(), StoreFault> {
         cut_follows();
-        numbers_of_tables();
-        let last = or_unavailable(sql_queries::last_number(&mut self.conn))?;
-        let first = place_after(last)?;
+        let first = place_after(cut.before)?;
         let body = CommitCut { first, cut: *cut };
         write(&mut self.conn, &body)
     }

@@ -7,7 +7,7 @@ use Rattle.sqlite_trees.specs.Tree.{Trees}
 use Rattle.sql_statements.specs.StoredRows.{Stores}
 use Rattle.sql_tables.specs.ByName as named
 use Rattle.sql_tables.specs.ByName.{Name, Of, described, records, StandsAt, IsStored}
-use Rattle.sql_tables.specs.Description.{as_row, table}
+use Rattle.sql_tables.specs.Description.{form, table}
 use Rattle.sql_tables.specs.Schema.{desk_schema}
 use Rattle.sql_tables.specs.Tables.{Tables}
 
@@ -117,7 +117,7 @@ module _ (m : Name) (old new : Trees) (t : Tables) (h : IsStored old t) (others 
   kept : (n : Name) → (described n).tree ≢ (described m).tree → StandsAt new n (records n (with_records m xs t))
   kept n apart =
       let same = each_table (λ u. u.tree ≢ (described m).tree → new u.tree ≡ old u.tree) others n apart in
-      let stored = subst (λ l. Stores (as_row (described n)) l (records n t)) (sym same) (h.stands n).stored in
+      let stored = subst (λ l. Stores (form (described n)) l (records n t)) (sym same) (h.stands n).stored in
       let now : StandsAt new n (records n t) = record { stored = stored; rise = (h.stands n).rise } in
       subst (StandsAt new n) (sym (others_kept m n xs t apart)) now
 

@@ -4,7 +4,7 @@ use Rattle.sqlite_trees.specs.Tree.{Trees}
 use Rattle.desk_book.specs.declared.flat_rows.FileRow.{FileRow}
 use Rattle.desk_history.specs.declared.operations.TakenFile.{TakenFile}
 use Rattle.desk_rules.specs.declared.bodies.company.Company.{Company}
-use Rattle.sql_tables.specs.Description.{Description, as_row, table, key_cmp}
+use Rattle.sql_tables.specs.Description.{Description, form, table, key_cmp}
 use Rattle.sql_tables.specs.DeskTables as the
 use Rattle.sql_tables.specs.Tables.{Tables, IsTableOf}
 use Rattle.sql_tables.specs.declared.records.AuthorizationRecord.{AuthorizationRecord}
@@ -86,7 +86,7 @@ records authorizations t = t.authorizations
 
 -- the table's tree stores these records
 abbrev pub StandsAt : Trees → (n : Name) → List (Of n) → Type 0
-StandsAt trees n xs = IsTableOf trees (table (described n)) (as_row (described n)) (key_cmp (described n)) xs
+StandsAt trees n xs = IsTableOf trees (table (described n)) (form (described n)) (key_cmp (described n)) xs
 
 pub record IsStored (trees : Trees) (t : Tables) : Type 0 where
   pub stands : (n : Name) → StandsAt trees n (records n t)

@@ -1,6 +1,6 @@
 -- A table is described once: its columns with what each has of a record, its key and its indexes. Its row, the order of
 -- its key, its texts and its `Table` follow.
-use Rattle.std.specs.Prelude.{ℕ, ◌+◌, ℤ, Bool, true, false, List, [], ◌∷◌, ◌++◌, map, take, length, Option, codes, bytes_eq, if◌then◌else◌}
+use Rattle.std.specs.Prelude.{ℕ, ◌+◌, ℤ, pos, Bool, true, false, List, [], ◌∷◌, ◌++◌, map, take, length, Option, codes, bytes_eq, if◌then◌else◌}
 use Rattle.std.specs.List.{range_with_len}
 use Prim.Native.String.{String}
 use Rattle.std.specs.Ordering.{nat_cmp, on, then_cmp}
@@ -17,7 +17,8 @@ use Rattle.sqlite_value.specs.declared.value.Value.{Value}
 use Rattle.sqlite_value.specs.declared.value.Value.TheVariants.{Int, Text, Blob}
 use Rattle.sqlite_value.specs.Keys.{plain}
 use Rattle.sqlite_value.specs.Order.{Row}
-use Rattle.sql_statements.specs.PlainTable.{plain_column, plain_table_at, plain_index}
+use Rattle.sql_statements.specs.PlainTable.{plain_column, table_at, plain_index}
+use Rattle.sql_statements.specs.StoredRows.{Form, whole, keyed, is_keyed}
 use Rattle.sql_tables.specs.Columns.{number, flag, letter, line_reference}
 
 -- what a column has of a record: its kind, and whether it may be NULL, follow
@@ -32,6 +33,8 @@ pub data Field (X : Type 0) : Type 0 where
   texts_if_any : (X → Option (List ℕ)) → Field X
   letters_if_any : (X → Option ℕ) → Field X
   numbers_if_any : (X → Option ℕ) → Field X
+  -- the number under which a row is put: it is the rowid, and the first column
+  rowids : (X → ℕ) → Field X
 
 pub record Column (X : Type 0) : Type 0 where
   pub name : String
@@ -63,7 +66,12 @@ abbrev pub is_not_null : {X : Type 0} → Field X → Bool
 is_not_null (texts_if_any f) = false
 is_not_null (letters_if_any f) = false
 is_not_null (numbers_if_any f) = false
+is_not_null (rowids f) = false
 is_not_null _ = true
+
+abbrev pub is_rowid : {X : Type 0} → Field X → Bool
+is_rowid (rowids f) = true
+is_rowid _ = false
 
 abbrev pub stored : {X : Type 0} → Field X → X → Value
 stored (texts f) x = Text (f x)
@@ -76,12 +84,27 @@ stored (blobs f) x = Blob (f x)
 stored (texts_if_any f) x = or_null Text (f x)
 stored (letters_if_any f) x = or_null letter (f x)
 stored (numbers_if_any f) x = or_null number (f x)
+stored (rowids f) x = number (f x)
+
+-- the number that is the rowid
+abbrev pub rowid_in : {X : Type 0} → Field X → X → ℤ
+rowid_in (rowids f) x = pos (f x)
+rowid_in _ x = pos 0
+
+abbrev pub stored_columns : {X : Type 0} → List (Column X) → X → Row
+stored_columns cs x = map (λ c. stored c.field x) cs
+
+-- how a record is stored: under the number in its first column, where that is the rowid, or with all its columns
+abbrev pub form_of : {X : Type 0} → List (Column X) → Form X
+form_of [] = whole (stored_columns [])
+form_of (c ∷ cs) = if is_rowid c.field then keyed (rowid_in c.field) (stored_columns cs) else whole (stored_columns (c ∷ cs))
 
 -- a column of a key has texts, letters or numbers
 abbrev pub field_cmp : {X : Type 0} → Field X → X → X → Ordering
 field_cmp (texts f) = on f (slice_cmp nat_cmp)
 field_cmp (letters f) = on f nat_cmp
 field_cmp (numbers f) = on f nat_cmp
+field_cmp (rowids f) = on f nat_cmp
 field_cmp _ = λ x y. Equal
 
 -- ---- columns by name
@@ -89,10 +112,10 @@ field_cmp _ = λ x y. Equal
 abbrev pub is_named : String → String → Bool
 is_named s t = bytes_eq (codes s) (codes t)
 
--- the place of a column, where the first has the one that is given
+-- the place of a column, where the first has the one that is given, and the rowid none
 abbrev pub place_from : {X : Type 0} → ℕ → List (Column X) → String → ℕ
 place_from at [] name = 0
-place_from at (c ∷ cs) name = if is_named c.name name then at else place_from (at + 1) cs name
+place_from at (c ∷ cs) name = if is_named c.name name then (if is_rowid c.field then 0 else at) else place_from (at + 1) cs name
 
 abbrev pub place : {X : Type 0} → List (Column X) → String → ℕ
 place = place_from 1
@@ -128,24 +151,26 @@ kind_text kinds.Text = codes " TEXT"
 kind_text kinds.Blob = codes " BLOB"
 kind_text _ = codes " INT"
 
-abbrev pub column_text : {X : Type 0} → Column X → List ℕ
-column_text c = codes c.name ++ kind_text (kind_of c.field) ++ (if is_not_null c.field then codes " NOT NULL, " else codes ", ")
+abbrev pub type_text : {X : Type 0} → Field X → List ℕ
+type_text (rowids f) = codes " INTEGER PRIMARY KEY"
+type_text field = kind_text (kind_of field) ++ (if is_not_null field then codes " NOT NULL" else [])
 
-abbrev pub columns_text : {X : Type 0} → List (Column X) → List ℕ
-columns_text [] = []
-columns_text (c ∷ cs) = column_text c ++ columns_text cs
+abbrev pub columns_text : {X : Type 0} → List (Column X) → List (List ℕ)
+columns_text cs = map (λ c. codes c.name ++ type_text c.field) cs
 
-abbrev pub uniques_text : List (List String) → List ℕ
-uniques_text [] = []
-uniques_text (u ∷ us) = codes ", UNIQUE (" ++ names_text u ++ codes ")" ++ uniques_text us
+abbrev pub key_text : (words : List ℕ) → List String → List ℕ
+key_text words names = words ++ codes " (" ++ names_text names ++ codes ")"
 
 abbrev pub parameter_names : List (List ℕ)
 parameter_names = map codes ("?1" ∷ "?2" ∷ "?3" ∷ "?4" ∷ "?5" ∷ "?6" ∷ "?7" ∷ "?8" ∷ "?9" ∷ "?10" ∷ "?11" ∷ "?12" ∷ "?13" ∷ "?14" ∷ [])
 
 module _ {X : Type 0} (d : Description X) where
-  -- a record as its row
+  -- the columns of a record
   abbrev pub as_row : X → Row
-  as_row x = map (λ c. stored c.field x) d.columns
+  as_row = stored_columns d.columns
+
+  abbrev pub form : Form X
+  form = form_of d.columns
 
   -- the order of the key
   abbrev pub key_cmp : X → X → Ordering
@@ -158,14 +183,21 @@ module _ {X : Type 0} (d : Description X) where
   abbrev pub plain_columns : List PlainColumn
   plain_columns = map (λ c. plain_column (codes c.name) (kind_of c.field) (is_not_null c.field)) d.columns
 
+  -- what is written of a key, where a tree of its own keeps it
+  abbrev pub of_own_tree : {A : Type 0} → A → List A
+  of_own_tree key = if is_keyed form then [] else key ∷ []
+
   abbrev pub keys : List (List ℕ)
-  keys = places d.key ∷ map places d.uniques
+  keys = of_own_tree (places d.key) ++ map places d.uniques
 
   abbrev pub table : Table
-  table = plain_table_at d.tree (codes d.name) plain_columns (places d.key) keys (map (λ _. plain) keys)
+  table = table_at (is_keyed form) d.tree (codes d.name) plain_columns (places d.key) keys (map (λ _. plain) keys)
 
   abbrev pub create_text : List ℕ
-  create_text = codes "CREATE TABLE " ++ codes d.name ++ codes " (" ++ columns_text d.columns ++ codes "PRIMARY KEY (" ++ names_text d.key ++ codes ")" ++ uniques_text d.uniques ++ codes ") STRICT"
+  create_text =
+      codes "CREATE TABLE " ++ codes d.name ++ codes " ("
+      ++ commas (columns_text d.columns ++ of_own_tree (key_text (codes "PRIMARY KEY") d.key) ++ map (key_text (codes "UNIQUE")) d.uniques)
+      ++ codes ") STRICT"
 
   -- an index of these columns
   abbrev pub index_on : (name : String) → List String → Index

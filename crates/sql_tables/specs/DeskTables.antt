@@ -8,7 +8,7 @@ use Rattle.desk_rules.specs.Fields.{sec_text}
 use Rattle.desk_rules.specs.ReturnCodes.{code_text}
 use Rattle.desk_rules.specs.declared.bodies.company.Company.{Company}
 use Rattle.sql_tables.specs.Columns.{direction_text, cause_text, reason_text, account_text}
-use Rattle.sql_tables.specs.Description.{Description, column, texts, letters, line_references, numbers, integers, flags, blobs, texts_if_any, letters_if_any, numbers_if_any}
+use Rattle.sql_tables.specs.Description.{Description, column, texts, letters, line_references, numbers, integers, flags, blobs, texts_if_any, letters_if_any, numbers_if_any, rowids}
 use Rattle.sql_tables.specs.declared.records.AuthorizationRecord.{AuthorizationRecord}
 use Rattle.sql_tables.specs.declared.records.BalanceRecord.{BalanceRecord}
 use Rattle.sql_tables.specs.declared.records.ChangeRecord.{ChangeRecord}
@@ -126,7 +126,7 @@ returns = record {
   name = "returns";
   tree = 11;
   columns =
-      column "no" (numbers (λ r. r.number))
+      column "no" (rowids (λ r. r.number))
       ∷ column "company" (texts (λ r. r.company))
       ∷ column "ord" (numbers (λ r. r.order))
       ∷ column "idx" (numbers (λ r. r.index))
@@ -143,9 +143,9 @@ returns = record {
 abbrev pub changes : Description ChangeRecord
 changes = record {
   name = "changes";
-  tree = 14;
+  tree = 13;
   columns =
-      column "no" (numbers (λ c. c.number))
+      column "no" (rowids (λ c. c.number))
       ∷ column "company" (texts (λ c. c.company))
       ∷ column "ord" (numbers (λ c. c.order))
       ∷ column "idx" (numbers (λ c. c.index))
@@ -161,9 +161,9 @@ changes = record {
 abbrev pub postings : Description PostingRecord
 postings = record {
   name = "postings";
-  tree = 16;
+  tree = 14;
   columns =
-      column "no" (numbers (λ p. p.number))
+      column "no" (rowids (λ p. p.number))
       ∷ column "account" (texts (λ p. account_text p.posting.account))
       ∷ column "value_day" (numbers (λ p. p.posting.value_day))
       ∷ column "cents" (integers (λ p. p.posting.cents))
@@ -179,9 +179,9 @@ postings = record {
 abbrev pub suspense : Description SuspenseRecord
 suspense = record {
   name = "suspense";
-  tree = 18;
+  tree = 15;
   columns =
-      column "no" (numbers (λ s. s.number))
+      column "no" (rowids (λ s. s.number))
       ∷ column "file_key" (texts (λ s. s.row.file))
       ∷ column "item" (numbers (λ s. s.row.item))
       ∷ column "why" (texts (λ s. reason_text s.row.why))
@@ -198,7 +198,7 @@ suspense = record {
 abbrev pub files : Description FileRow
 files = record {
   name = "files";
-  tree = 20;
+  tree = 16;
   columns =
       column "day" (numbers (λ f. f.day))
       ∷ column "modifier" (letters (λ f. f.modifier))
@@ -212,7 +212,7 @@ files = record {
 abbrev pub taken : Description TakenFile
 taken = record {
   name = "taken";
-  tree = 22;
+  tree = 18;
   columns =
       column "file_key" (texts (λ t. t.key))
       ∷ column "digest" (blobs (λ t. t.digest))
@@ -230,7 +230,7 @@ taken = record {
 abbrev pub balances : Description BalanceRecord
 balances = record {
   name = "balances";
-  tree = 24;
+  tree = 20;
   columns =
       column "account" (texts (λ b. account_text b.account))
       ∷ column "value_day" (numbers (λ b. b.value_day))
@@ -244,9 +244,9 @@ balances = record {
 abbrev pub sequences : Description NumberRecord
 sequences = record {
   name = "numbers";
-  tree = 32;
+  tree = 28;
   columns =
-      column "sequence" (numbers (λ n. n.sequence))
+      column "sequence" (rowids (λ n. n.sequence))
       ∷ column "nth" (numbers (λ n. n.place))
       ∷ [];
   key = "sequence" ∷ [];
@@ -257,7 +257,7 @@ sequences = record {
 abbrev pub authorizations : Description AuthorizationRecord
 authorizations = record {
   name = "authorizations";
-  tree = 35;
+  tree = 30;
   columns =
       column "company" (texts (λ a. a.company))
       ∷ column "ord" (numbers (λ a. a.order))

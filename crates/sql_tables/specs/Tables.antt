@@ -3,8 +3,7 @@ use Rattle.std.specs.Prelude.{ℕ, List}
 use Rattle.std.specs.declared.cmp.Ordering.{Ordering}
 use Rattle.sqlite.specs.Table.{Table}
 use Rattle.sqlite_trees.specs.Tree.{Trees}
-use Rattle.sqlite_value.specs.Order.{Row}
-use Rattle.sql_statements.specs.StoredRows.{Stores}
+use Rattle.sql_statements.specs.StoredRows.{Form, Stores}
 use Rattle.desk_book.specs.declared.flat_rows.FileRow.{FileRow}
 use Rattle.desk_history.specs.declared.operations.TakenFile.{TakenFile}
 use Rattle.desk_rules.specs.declared.bodies.company.Company.{Company}
@@ -38,6 +37,6 @@ pub record Tables : Type 0 where
   pub authorizations : List AuthorizationRecord
 
 -- the table's tree stores these records, which stand in the order of its key
-pub record IsTableOf {X : Type 0} (trees : Trees) (table : Table) (row : X → Row) (cmp : X → X → Ordering) (records : List X) : Type 0 where
-  pub stored : Stores row (trees table.tree) records
+pub record IsTableOf {X : Type 0} (trees : Trees) (table : Table) (form : Form X) (cmp : X → X → Ordering) (records : List X) : Type 0 where
+  pub stored : Stores form (trees table.tree) records
   pub rise : IsInOrder cmp records

@@ -16,14 +16,14 @@ use Rattle.sqlite_rules.specs.Keys.{conflicts}
 use Rattle.sqlite_value.specs.Keys.{first_key}
 use Rattle.sql_statements.specs.Statements.{IsUpsert}
 use Rattle.sql_statements.specs.StoredRows.{row_of, Stores}
-use Rattle.sql_tables.proofs.StoredKinds.{row_stored}
+use Rattle.sql_tables.proofs.StoredKinds.{given_stored, row_stored}
 use Rattle.sql_statements.proofs.Conditions.{int_is, and_true, text_is}
 use Rattle.sql_statements.proofs.KeyOrder.{rises_sorted, rises_updated}
 use Rattle.sql_statements.proofs.Upserts.{upserted, put_or_update}
 use Rattle.sql_statements.proofs.OneRow.{one_of}
 use Rattle.sql_statements.specs.Layouts.{Holds}
 use Rattle.sql_tables.specs.ByName as named
-use Rattle.sql_tables.specs.Description.{as_row, key_cmp, table}
+use Rattle.sql_tables.specs.Description.{as_row, form, key_cmp, table}
 use Rattle.sql_tables.specs.DeskTables as the
 use Rattle.sql_tables.proofs.ByName.{changed}
 use Rattle.sql_tables.specs.Schema.{desk_schema}
@@ -41,7 +41,7 @@ use Rattle.sql_writes.proofs.Conditions.{number_is, same_text, same_number, equa
 use Rattle.sql_writes.proofs.Keys.{put_in_order}
 use Rattle.sql_writes.specs.LineTexts.{upsert_balance}
 
-upsert_balance_is : IsUpsert desk_schema upsert_balance.text 11 24 (table the.balances) (1 ∷ 2 ∷ []) upsert_balance.sets
+upsert_balance_is : IsUpsert desk_schema upsert_balance.text 11 20 (table the.balances) (1 ∷ 2 ∷ []) upsert_balance.sets
 unfolding understood everything
 upsert_balance_is = record { update = _; is = refl; body = refl; alone = refl; plain = (refl, refl) }
 
@@ -59,7 +59,7 @@ module _ (n : BalanceRecord) where
   abbrev is_it : BalanceRecord → Bool
   is_it = is_balance_of n.account n.value_day
 
-  meets : (i j : ℤ) (y : BalanceRecord) → conflicts (Some (1 ∷ 2 ∷ [])) desk_schema.indexes (table the.balances) (row_of (as_row the.balances) (j, n)) (row_of (as_row the.balances) (i, y)) ≡ is_it y
+  meets : (i j : ℤ) (y : BalanceRecord) → conflicts (Some (1 ∷ 2 ∷ [])) desk_schema.indexes (table the.balances) (row_of (form the.balances) (j, n)) (row_of (form the.balances) (i, y)) ≡ is_it y
   unfolding first_key
   meets i j y = or-false _ ∙ two (text_is (account_text y.account) (account_text n.account) ∙ accounts_are y.account n.account) (number_is y.value_day n.value_day)
 
@@ -98,11 +98,11 @@ module _ (n : BalanceRecord) where
       → Holds desk_layout new.now (record t { balances = with_balance n.account n.value_day n.cents t.balances })
   balance_put old new count ran t h =
       let s = table the.balances in
-      let done = upserted (as_row the.balances) desk_schema 11 24 s.name s.columns s.primary s.uniques s.orders upsert_balance.text (1 ∷ 2 ∷ []) upsert_balance.sets upsert_balance_is refl (λ olds news. refl)
-      n refl (row_stored the.balances Null refl n) (λ i. row_stored the.balances (Int i) refl) is_it set meets (λ i j k y. and_true _ ∙ int_is i j) (λ i j k y. refl)
+      let done = upserted (as_row the.balances) desk_schema 11 20 s.name s.columns s.primary s.uniques s.orders upsert_balance.text (1 ∷ 2 ∷ []) upsert_balance.sets upsert_balance_is refl (λ olds news. refl)
+      n refl (given_stored the.balances n) (row_stored the.balances) is_it set meets (λ i j k y. and_true _ ∙ int_is i j) (λ i j k y. refl)
       old new count h.0 t.balances (h.1.stands named.balances).stored (one_of _ is_it one_balance t.balances (h.1.stands named.balances).rise) ran in
       (done.0.schema_is, changed named.balances old.now.trees new.now.trees t h.1 done.0.others _ (sorted (list_any is_it t.balances) refl done.1))
     where
-      sorted : (b : Bool) → list_any is_it t.balances ≡ b → Stores (as_row the.balances) (new.now.trees 24) (put_or_update is_it set n t.balances) → IsTableOf new.now.trees (table the.balances) (as_row the.balances) (key_cmp the.balances) (with_balance n.account n.value_day n.cents t.balances)
+      sorted : (b : Bool) → list_any is_it t.balances ≡ b → Stores (form the.balances) (new.now.trees 20) (put_or_update is_it set n t.balances) → IsTableOf new.now.trees (table the.balances) (form the.balances) (key_cmp the.balances) (with_balance n.account n.value_day n.cents t.balances)
       sorted true e stores = rw e (record { stored = rw e at stores; rise = rises_updated (key_cmp the.balances) is_it set keeps_order t.balances (h.1.stands named.balances).rise })
-      sorted false e stores = rw e (put_in_order (as_row the.balances) (key_cmp the.balances) balance_total is_it new.now.trees (table the.balances) n t.balances (λ y. equal_balances y n) e (h.1.stands named.balances).rise (rw e at stores))
+      sorted false e stores = rw e (put_in_order (form the.balances) (key_cmp the.balances) balance_total is_it new.now.trees (table the.balances) n t.balances (λ y. equal_balances y n) e (h.1.stands named.balances).rise (rw e at stores))

@@ -11,18 +11,16 @@ use Rattle.sqlite_value.specs.declared.value.ValueRef.{ValueRef}
 use Rattle.sql_statements.proofs.StoredRows.{stores_in}
 use Rattle.sql_statements.specs.Edits.{Edit, each_edit, each_edit_from}
 use Rattle.sql_statements.specs.Layouts.{Holds}
-use Rattle.sql_statements.specs.Statements.{IsInsert}
 use Rattle.desk_rules.specs.declared.bodies.submission.Entry.{Entry}
 use Rattle.sql_tables.specs.ByName as named
-use Rattle.sql_tables.specs.ByName.{described}
-use Rattle.sql_tables.specs.Description.{table, as_row, key_cmp}
+use Rattle.sql_tables.specs.Description.{as_row, form, key_cmp, table}
 use Rattle.sql_tables.specs.CutTables.{is_entry_row}
 use Rattle.sql_tables.specs.Layout.{desk_layout}
 use Rattle.sql_tables.specs.Schema.{desk_schema}
 use Rattle.sql_tables.specs.TableEdits.{put_entry_edit}
 use Rattle.sql_tables.specs.Tables.{Tables}
 use Rattle.sql_tables.specs.declared.records.EntryRecord.{EntryRecord}
-use Rattle.sql_writes.proofs.Puts.{holds_with, place_of, PutsSixteen, sixteen_put}
+use Rattle.sql_writes.proofs.Puts.{Inserts, holds_with, PutsSixteen, sixteen_put}
 use Rattle.sql_writes.specs.EntryEdits.{held_entry, stored_entry}
 use Rattle.sql_writes.specs.HeldRows.{held_from}
 use Rattle.sql_writes.specs.Texts.{insert_entries}
@@ -33,12 +31,12 @@ use Rattle.sql_writes.proofs.ManyKeys.{all_put, AreFree, put_in_turn}
 use Rattle.sql_writes.proofs.SubmissionRows.{entry_total, same_entry, same_entry_key, entry_itself}
 use Rattle.sql_tables.specs.DeskTables as the
 
-insert_entries_is : IsInsert desk_schema insert_entries (place_of named.entries) (table (described named.entries)) 16
+insert_entries_is : Inserts named.entries insert_entries 16
 unfolding understood everything
 insert_entries_is = record { is = refl; plain = (refl, refl) }
 
 puts_sixteen : PutsSixteen named.entries
-puts_sixteen = record { is = insert_entries_is; whole = refl }
+puts_sixteen = record { is = insert_entries_is; full = refl }
 
 abbrev has_key_of : EntryRecord → EntryRecord → Bool
 has_key_of x = is_entry_row x.company x.order x.index
@@ -48,9 +46,9 @@ records_put : (xs : List EntryRecord) → length xs ≡ 16 → (old new : State)
 records_put xs many old new count ran t h =
     let s = table the.entries in
     let made = sixteen_put named.entries puts_sixteen xs many old new count ran t h in
-    let few = λ (x : EntryRecord). few_have (as_row the.entries) desk_schema s (1 ∷ 2 ∷ 3 ∷ []) (has_key_of x) (same_entry x.company x.order x.index) (λ db row any. taken_first _ _ any) new.now.trees (xs ++ t.entries) made.has.stored made.unique in
+    let few = λ (x : EntryRecord). few_have (form the.entries) desk_schema s (1 ∷ 2 ∷ 3 ∷ []) (has_key_of x) (same_entry x.company x.order x.index) (λ db row any. taken_first _ _ any) new.now.trees (xs ++ t.entries) made.has.stored made.unique in
     let put = put_in_turn (key_cmp the.entries) has_key_of entry_total same_entry_key entry_itself xs t.entries few (h.1.stands named.entries).rise in (
-      (holds_with named.entries _ h made.has (record { stored = stores_in (as_row the.entries) _ _ _ put.0 made.has.stored; rise = put.1 })),
+      (holds_with named.entries _ h made.has (record { stored = stores_in (form the.entries) _ _ _ put.0 made.has.stored; rise = put.1 })),
       put.2,
     )
 

@@ -24,7 +24,7 @@ use Rattle.sql_statements.proofs.KeyOrder.{rises_updated}
 use Rattle.sql_statements.proofs.OneRow.{one_of}
 use Rattle.desk_history.specs.declared.sent_entry.SentEntry.{SentEntry}
 use Rattle.sql_tables.specs.ByName as named
-use Rattle.sql_tables.specs.Description.{as_row, key_cmp, table}
+use Rattle.sql_tables.specs.Description.{as_row, form, key_cmp, table}
 use Rattle.sql_tables.specs.DeskTables as the
 use Rattle.sql_tables.proofs.ByName.{changed}
 use Rattle.sql_tables.specs.Schema.{desk_schema}
@@ -149,7 +149,7 @@ module _ (first : SentEntry) (before last : ℕ) (room : before + last < 2 ^ 63)
   abbrev is_it : EntryRecord → Bool
   is_it = is_unsent_within first first.index last
 
-  tested : (i : ℤ) (r : EntryRecord) → list_all (holds (its_params ∷ row_of (as_row the.entries) (i, r) ∷ [])) update_run.tests ≡ is_it r
+  tested : (i : ℤ) (r : EntryRecord) → list_all (holds (its_params ∷ row_of (form the.entries) (i, r) ∷ [])) update_run.tests ≡ is_it r
   tested i r =
       let v = bytes_eq r.company first.company in
       let w = r.order == first.order in
@@ -177,11 +177,11 @@ module _ (first : SentEntry) (before last : ℕ) (room : before + last < 2 ^ 63)
       most a b e = grind (arith, ints, e)
 
   made : (i : ℤ) (r : EntryRecord) → is_it r ≡ true
-      → eval_all update_run.sets (its_params ∷ row_of (as_row the.entries) (i, r) ∷ []) ≡ as_row the.entries (set r)
+      → eval_all update_run.sets (its_params ∷ row_of (form the.entries) (i, r) ∷ []) ≡ as_row the.entries (set r)
   made i r h = let parts = parts_of r h in ap put (sum_is before r.index (omega (arith, room, parts.2)))
     where
       put : Value → Row
-      put v = eval_all (col 1 1 ∷ col 1 2 ∷ col 1 3 ∷ col 1 4 ∷ col 1 5 ∷ col 1 6 ∷ col 1 7 ∷ col 1 8 ∷ col 1 9 ∷ col 1 10 ∷ col 1 11 ∷ col 0 0 ∷ []) ((v ∷ []) ∷ row_of (as_row the.entries) (i, r) ∷ [])
+      put v = eval_all (col 1 1 ∷ col 1 2 ∷ col 1 3 ∷ col 1 4 ∷ col 1 5 ∷ col 1 6 ∷ col 1 7 ∷ col 1 8 ∷ col 1 9 ∷ col 1 10 ∷ col 1 11 ∷ col 0 0 ∷ []) ((v ∷ []) ∷ row_of (form the.entries) (i, r) ∷ [])
 
   keeps_order : (a b : EntryRecord) → key_cmp the.entries (cond (is_it a) (set a) a) (cond (is_it b) (set b) b) ≡ key_cmp the.entries a b
   keeps_order a b = λ i. ordering_then (ordering_then (text_cmp (company a i) (company b i)) (nat_cmp (order a i) (order b i))) (nat_cmp (index a i) (index b i))
@@ -203,7 +203,7 @@ module _ (first : SentEntry) (before last : ℕ) (room : before + last < 2 ^ 63)
       let names = run_named first es head run in
       let s = table the.entries in
       let done = updated_counted (as_row the.entries) desk_schema 4 9 s.name s.columns s.primary s.uniques s.orders update_run.text update_run.tests update_run.sets update_run_is.is refl (λ olds news. refl)
-      its_params is_it set tested made (λ i. row_stored the.entries (Int i) refl) old new (length es) h.0 t.entries (h.1.stands named.entries).stored ran in
+      its_params is_it set tested made (row_stored the.entries) old new (length es) h.0 t.entries (h.1.stands named.entries).stored ran in
       let key = is_of first in
       let index = λ (r : EntryRecord). r.index in
       let within = λ (r : EntryRecord) (it : is_it r ≡ true). (let parts = parts_of r it in inside key index placed (λ n r. refl) (λ n r. refl) before (length es) first.index r parts.0 parts.1 (omega (arith, parts.2, ends))) in
@@ -214,7 +214,7 @@ module _ (first : SentEntry) (before last : ℕ) (room : before + last < 2 ^ 63)
           done.0.schema_is,
           subst (λ (u : Tables). desk_layout.IsStored new.now.trees u) (sym after)
               (changed named.entries old.now.trees new.now.trees t h.1 done.0.others _ (record {
-                stored = subst (λ xs. Stores (as_row the.entries) (new.now.trees 9) xs) it.0 done.1;
+                stored = subst (λ xs. Stores (form the.entries) (new.now.trees 9) xs) it.0 done.1;
                 rise = subst (λ xs. IsInOrder (key_cmp the.entries) xs) it.0 (rises_updated (key_cmp the.entries) is_it set keeps_order t.entries (h.1.stands named.entries).rise);
               })),
         ),

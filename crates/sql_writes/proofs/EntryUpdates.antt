@@ -15,7 +15,7 @@ use Rattle.sql_statements.proofs.KeyOrder.{rises_updated}
 use Rattle.sql_statements.proofs.OneRow.{one_of, one_found, updates_agree}
 use Rattle.sql_statements.specs.Layouts.{Holds}
 use Rattle.sql_tables.specs.ByName as named
-use Rattle.sql_tables.specs.Description.{as_row, key_cmp}
+use Rattle.sql_tables.specs.Description.{form, key_cmp}
 use Rattle.sql_tables.specs.DeskTables as the
 use Rattle.desk_history.specs.declared.sent_entry.SentEntry.{SentEntry}
 use Rattle.sql_tables.specs.Columns.{number}
@@ -51,7 +51,7 @@ module _ (n : ℕ) (e : SentEntry) where
   abbrev is_it : EntryRecord → Bool
   is_it = is_entry_row e.company e.order e.index
 
-  tested : (i : ℤ) (r : EntryRecord) → list_all (holds (its_params ∷ row_of (as_row the.entries) (i, r) ∷ [])) update_entry.tests ≡ is_unsent_at e.company e.order e.index r
+  tested : (i : ℤ) (r : EntryRecord) → list_all (holds (its_params ∷ row_of (form the.entries) (i, r) ∷ [])) update_entry.tests ≡ is_unsent_at e.company e.order e.index r
   tested i r =
       let a = text_is r.company e.company in
       let b = conditions.number_is r.order e.order in
@@ -77,11 +77,11 @@ module _ (n : ℕ) (e : SentEntry) where
       → Holds desk_layout new.now (record t { entries = mark_entry n e t.entries }) × IsUnsent e t
   entry_marked old new ran t h =
       let test = is_unsent_at e.company e.order e.index in
-      let made = rows_updated named.entries update_entry its_params test tested old new 1 ran t h update_entry_is set (λ i r. refl) in
+      let made = rows_updated named.entries update_entry its_params test tested old new 1 ran t h update_entry_is refl set (λ i r. refl) in
       let it = one_found test is_it (λ r here. (unsent_parts e.company e.order e.index r here).0) t.entries (one_of _ is_it (one_entry e.company e.order e.index) t.entries (h.1.stands named.entries).rise) (sym made.1) in
       let parts = unsent_parts e.company e.order e.index it.row it.passes in (
         holds_with named.entries _ h made.0 (record {
-          stored = subst (Stores (as_row the.entries) (new.now.trees 9)) (updates_agree test is_it set t.entries it.same) made.0.stored;
+          stored = subst (Stores (form the.entries) (new.now.trees 9)) (updates_agree test is_it set t.entries it.same) made.0.stored;
           rise = rises_updated (key_cmp the.entries) is_it set keeps_order t.entries (h.1.stands named.entries).rise;
         }),
         record { record_of = it.row; found = it.found; unplaced = parts.1 },

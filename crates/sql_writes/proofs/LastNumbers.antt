@@ -37,23 +37,23 @@ last_selects tables.Returns = refl
 last_selects tables.Changes = refl
 last_selects tables.Suspense = last_suspense_is.selects
 
-last_posting_is : IsSelect desk_schema (last_text tables.Postings) (query_within (pos 1) 16 [] (places (1 ∷ [])) (falling 1 ∷ []))
+last_posting_is : IsSelect desk_schema (last_text tables.Postings) (query_within (pos 1) 14 [] (places (0 ∷ [])) (falling 0 ∷ []))
 unfolding understood everything
 last_posting_is = record { selects = refl; body = refl; alone = refl; unlisted = refl; plain = (refl, refl) }
 
-last_return_is : IsSelect desk_schema (last_text tables.Returns) (query_within (pos 1) 11 [] (places (1 ∷ [])) (falling 1 ∷ []))
+last_return_is : IsSelect desk_schema (last_text tables.Returns) (query_within (pos 1) 11 [] (places (0 ∷ [])) (falling 0 ∷ []))
 unfolding understood everything
 last_return_is = record { selects = refl; body = refl; alone = refl; unlisted = refl; plain = (refl, refl) }
 
-last_change_is : IsSelect desk_schema (last_text tables.Changes) (query_within (pos 1) 14 [] (places (1 ∷ [])) (falling 1 ∷ []))
+last_change_is : IsSelect desk_schema (last_text tables.Changes) (query_within (pos 1) 13 [] (places (0 ∷ [])) (falling 0 ∷ []))
 unfolding understood everything
 last_change_is = record { selects = refl; body = refl; alone = refl; unlisted = refl; plain = (refl, refl) }
 
 -- ---- what they show
 
--- of a table that stands in the order of its numbers
-module _ {X : Type 0} (of : Listing X) (number_of : X → ℕ) (sql : List ℕ) (is : IsSelect desk_schema sql (query_within (pos 1) of.table.tree [] (places (1 ∷ [])) (falling 1 ∷ [])))
-    (shows : (i : ℤ) (x : X) → eval_all (places (1 ∷ [])) ([] ∷ row_of of.encode (i, x) ∷ []) ≡ number (number_of x) ∷ [])
+-- of a table whose rows are put under their numbers
+module _ {X : Type 0} (of : Listing X) (number_of : X → ℕ) (sql : List ℕ) (is : IsSelect desk_schema sql (query_within (pos 1) of.table.tree [] (places (0 ∷ [])) (falling 0 ∷ [])))
+    (shows : (i : ℤ) (x : X) → eval_all (places (0 ∷ [])) ([] ∷ row_of of.stored_as (i, x) ∷ []) ≡ number (number_of x) ∷ [])
     (compares : (x y : X) → of.cmp x y ≡ nat_cmp (number_of x) (number_of y)) where
   next_found : {old new : State} {o : Option ℕ} {n : ℕ} → ReadsFirst sql [] (λ n. number n ∷ []) old new o → SeesInside old new → n ≡ unwrap_or o 0 + 1
       → Makes desk_layout (only_tells (λ t. n ≡ next_number number_of (of.records t))) old new

@@ -13,18 +13,14 @@ use Rattle.sqlite.specs.Values.{bound}
 use Rattle.sqlite_keyed.specs.Lists.{insert_sorted, delete_where}
 use Rattle.sqlite_schema.specs.Rules.{agree}
 use Rattle.sqlite_sql.specs.Term.{holds}
-use Rattle.sqlite_value.specs.Keys.{first_key, plain}
 use Rattle.sqlite_value.specs.declared.value.ValueRef.{ValueRef}
 use Rattle.sql_statements.specs.Edits.{each_edit, each_edit_from}
 use Rattle.sql_statements.specs.Layouts.{Holds}
-use Rattle.sql_statements.specs.Statements.{IsInsert}
 use Rattle.sql_statements.specs.StoredRows.{row_of}
 use Rattle.sql_statements.proofs.Conditions.{int_least, int_most, and_true}
-use Rattle.sql_statements.proofs.StoredRows.{stores_in}
 use Rattle.desk_history.specs.declared.sent_entry.SentEntry.{SentEntry}
 use Rattle.sql_tables.specs.ByName as named
-use Rattle.sql_tables.specs.ByName.{described}
-use Rattle.sql_tables.specs.Description.{table, as_row, key_cmp}
+use Rattle.sql_tables.specs.Description.{as_row, form, key_cmp, table}
 use Rattle.sql_tables.specs.Schema.{desk_schema}
 use Rattle.sql_tables.specs.Columns.{number}
 use Rattle.sql_tables.specs.CutTables.{has_sequence, with_number}
@@ -32,12 +28,11 @@ use Rattle.sql_tables.specs.KeyOrders.{IsInOrder}
 use Rattle.sql_tables.specs.Layout.{desk_layout}
 use Rattle.sql_tables.specs.Tables.{Tables}
 use Rattle.sql_tables.specs.declared.records.NumberRecord.{NumberRecord}
-use Rattle.sql_writes.proofs.Puts.{holds_with, IsDeleteOf, one_put, place_of, PutsOne, PutsSixteen, rows_deleted, sixteen_put}
-use Rattle.sql_writes.proofs.Conditions.{taken_first, number_itself, equal_numbers, same_number}
+use Rattle.sql_writes.proofs.Puts.{Inserts, holds_with, IsDeleteOf, one_put, PutsOne, PutsSixteen, rows_deleted, sixteen_put}
+use Rattle.sql_writes.proofs.Conditions.{number_itself, same_number}
 use Rattle.sql_writes.proofs.ArrayLoops.{bound_rows}
-use Rattle.sql_writes.proofs.Keys.{few_have, key_number}
-use Rattle.sql_writes.proofs.ManyKeys.{all_put, put_in_turn}
-use Rattle.sql_writes.proofs.NumberedRows.{numbered_in_order}
+use Rattle.sql_writes.proofs.ManyKeys.{all_put}
+use Rattle.sql_writes.proofs.NumberedRows.{numbered_in_order, all_in_order}
 use Rattle.sql_writes.proofs.RangePuts.{put_is, in_range, range_is, range_has, range_put, rises_put, rises_kept, none_gone}
 use Rattle.sql_writes.specs.CutTexts.{delete_numbers, insert_number, insert_numbers}
 use Rattle.sql_writes.specs.HeldRows.{held_from}
@@ -58,19 +53,19 @@ delete_numbers_is : IsDeleteOf named.numbers delete_numbers
 unfolding understood everything
 delete_numbers_is = record { is = record { deletes = refl; body = refl; alone = refl; plain = (refl, refl) } }
 
-insert_number_is : IsInsert desk_schema insert_number (place_of named.numbers) (table (described named.numbers)) 1
+insert_number_is : Inserts named.numbers insert_number 1
 unfolding understood everything
 insert_number_is = record { is = refl; plain = (refl, refl) }
 
 puts_number : PutsOne named.numbers
-puts_number = record { is = insert_number_is; whole = refl }
+puts_number = record { is = insert_number_is; full = refl }
 
-insert_numbers_is : IsInsert desk_schema insert_numbers (place_of named.numbers) (table (described named.numbers)) 16
+insert_numbers_is : Inserts named.numbers insert_numbers 16
 unfolding understood everything
 insert_numbers_is = record { is = refl; plain = (refl, refl) }
 
 puts_sixteen : PutsSixteen named.numbers
-puts_sixteen = record { is = insert_numbers_is; whole = refl }
+puts_sixteen = record { is = insert_numbers_is; full = refl }
 
 pub numbers_cleared : (from to : ℕ) (old new : State) (count : ℕ) → Executes delete_numbers.text (number from ∷ number to ∷ []) old new (Ok count) → (t : Tables) → Holds desk_layout old.now t
     → Holds desk_layout new.now ((clear_numbers_edit from to).after t) × (clear_numbers_edit from to).Tells t
@@ -80,7 +75,7 @@ numbers_cleared from to old new count ran t h =
       (h.1.stands named.numbers).rise,
     )
   where
-    tested : (i : ℤ) (n : NumberRecord) → list_all (holds ((number from ∷ number to ∷ []) ∷ row_of (as_row the.sequences) (i, n) ∷ [])) delete_numbers.tests ≡ is_within from to n
+    tested : (i : ℤ) (n : NumberRecord) → list_all (holds ((number from ∷ number to ∷ []) ∷ row_of (form the.sequences) (i, n) ∷ [])) delete_numbers.tests ≡ is_within from to n
     tested i n =
         let a = int_least (pos n.sequence) (pos from) ∙ least_is n.sequence from in
         let b = and_true _ ∙ int_most (pos n.sequence) (pos to) ∙ most_is n.sequence to in
@@ -90,21 +85,13 @@ pub number_inserted : (n : NumberRecord) (old new : State) (count : ℕ) → Exe
     → Holds desk_layout new.now (record t { numbers = insert_sorted (key_cmp the.sequences) n t.numbers })
 number_inserted n old new count ran t h =
     let made = one_put named.numbers puts_number n old new count ran t h in
-    holds_with named.numbers _ h made.has (numbered_in_order (λ (m : NumberRecord). m.sequence) (λ (m : NumberRecord). number m.place ∷ []) (table the.sequences) (λ db row any. taken_first _ _ any) new.now.trees n t.numbers (h.1.stands named.numbers).rise made.has.stored made.unique)
-
-same_sequence : (s : ℕ) (a b : ℤ × NumberRecord) → has_sequence s a.1 ≡ true → has_sequence s b.1 ≡ true → agree plain (1 ∷ []) (row_of (as_row the.sequences) b) (1 ∷ []) (row_of (as_row the.sequences) a) ≡ true
-unfolding first_key
-same_sequence s a b here there = and_from _ _ (key_number a.1.sequence b.1.sequence s here there) refl
+    holds_with named.numbers _ h made.has (numbered_in_order (λ (m : NumberRecord). m.sequence) _ (table the.sequences) new.now.trees n t.numbers (h.1.stands named.numbers).rise made.has.stored)
 
 pub records_inserted : (xs : List NumberRecord) → length xs ≡ 16 → (old new : State) (count : ℕ) → Executes insert_numbers (flat_map (as_row the.sequences) xs) old new (Ok count) → (t : Tables) → Holds desk_layout old.now t
     → Holds desk_layout new.now (record t { numbers = all_put (key_cmp the.sequences) xs t.numbers })
 records_inserted xs many old new count ran t h =
-    let s = table the.sequences in
     let made = sixteen_put named.numbers puts_sixteen xs many old new count ran t h in
-    let has_key_of = λ (x : NumberRecord). has_sequence x.sequence in
-    let few = λ (x : NumberRecord). few_have (as_row the.sequences) desk_schema s (1 ∷ []) (has_key_of x) (same_sequence x.sequence) (λ db row any. taken_first _ _ any) new.now.trees (xs ++ t.numbers) made.has.stored made.unique in
-    let put = put_in_turn (key_cmp the.sequences) has_key_of (on_total (λ (m : NumberRecord). m.sequence) nat_cmp_total) (λ x y. equal_numbers y.sequence x.sequence) (λ x. number_itself x.sequence) xs t.numbers few (h.1.stands named.numbers).rise in
-    (holds_with named.numbers _ h made.has (record { stored = stores_in (as_row the.sequences) _ _ _ put.0 made.has.stored; rise = put.1 }))
+    holds_with named.numbers _ h made.has (all_in_order (λ (m : NumberRecord). m.sequence) _ (table the.sequences) new.now.trees xs t.numbers (h.1.stands named.numbers).rise made.has.stored)
 
 -- ---- each of them
 

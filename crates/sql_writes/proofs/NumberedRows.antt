@@ -1,51 +1,49 @@
 -- A row that is put in under its number stands where the number belongs.
-use Rattle.std.proofs.Common.{◌≡◌, ℕ, ℤ, Bool, true, false, ◌&&◌, ◌==◌, List, [], ◌∷◌, ◌++◌, refl}
+use Rattle.std.proofs.Common.{◌≡◌, ◌≤◌, ◌∙◌, ℕ, ℤ, pos, Bool, true, ◌==◌, List, ◌∷◌, ◌++◌, filter, length, ap₂, arith, int_eq}
 use Rattle.std.specs.Cmp.{IsTotalOrder}
-use Rattle.std.specs.List.{AllByRecursion, list_any}
 use Rattle.std.specs.Ordering.{nat_cmp, on}
-use Rattle.std.proofs.lemmas.Bool.{and_from}
 use Rattle.std.proofs.lemmas.Cmp.{on_total, nat_cmp_total}
+use Rattle.std.proofs.lemmas.Int.{ints}
 use Rattle.sqlite.specs.Table.{Table}
 use Rattle.sqlite_keyed.specs.Lists.{insert_sorted}
-use Rattle.sqlite_schema.specs.Rules.{passes as obeys, agree, differ}
-use Rattle.sqlite_schema.specs.declared.schema.Constraint.TheVariants.{Unique}
-use Rattle.sqlite_trees.specs.Tree.{Trees, rowid}
-use Rattle.sqlite_value.specs.Keys.{first_key, plain}
+use Rattle.sqlite_trees.specs.Tree.{Trees}
 use Rattle.sqlite_value.specs.Order.{Row}
-use Rattle.sql_statements.specs.StoredRows.{row_of, Stores}
+use Rattle.sql_statements.specs.StoredRows.{Form, keyed, Stores}
+use Rattle.sql_statements.proofs.FreeKeys.{free_before, one_under}
 use Rattle.sql_statements.proofs.StoredRows.{stores_in}
-use Rattle.sql_tables.specs.Schema.{desk_schema}
-use Rattle.sql_tables.specs.Columns.{number}
 use Rattle.sql_tables.specs.KeyOrders.{IsInOrder}
 use Rattle.sql_tables.specs.Tables.{IsTableOf}
-use Rattle.sql_writes.proofs.Conditions.{number_itself, equal_numbers}
-use Rattle.sql_writes.proofs.Keys.{few_have, key_free, put_in_order, key_number}
+use Rattle.sql_writes.proofs.Conditions.{number_itself, equal_numbers, same_number}
+use Rattle.sql_writes.proofs.Keys.{put_in_order}
 use Rattle.sql_writes.proofs.ManyKeys.{all_put, put_in_turn}
 
--- the first column of the table has the number, and is its key
-module _ {X : Type 0} (no : X → ℕ) (rest : X → Row) (table : Table)
-    (guards : (db : Trees) (row : Row) → list_any (λ other. agree plain (1 ∷ []) other (1 ∷ []) row && differ (rowid other) (rowid row)) (db table.tree) ≡ true → obeys Unique desk_schema db table row ≡ false) where
-  abbrev encode : X → Row
-  encode x = number (no x) ∷ rest x
+one_key : (a b n : ℕ) → (a == n) ≡ true → (b == n) ≡ true → int_eq (pos b) (pos a) ≡ true
+one_key a b n here there = ap₂ (λ x y. int_eq (pos x) (pos y)) (same_number b n there) (same_number a n here) ∙ itself n
+  where
+    itself : (n : ℕ) → int_eq (pos n) (pos n) ≡ true
+    itself n = grind (arith, ints)
 
-  same_number : (n : ℕ) (a b : ℤ × X) → (no a.1 == n) ≡ true → (no b.1 == n) ≡ true → agree plain (1 ∷ []) (row_of encode b) (1 ∷ []) (row_of encode a) ≡ true
-  unfolding first_key
-  same_number n a b here there = and_from _ _ (key_number (no a.1) (no b.1) n here there) refl
+-- the number is the rowid
+module _ {X : Type 0} (no : X → ℕ) (others : X → Row) (table : Table) where
+  abbrev stored_as : Form X
+  stored_as = keyed (λ x. pos (no x)) others
 
   number_total : IsTotalOrder (on no nat_cmp)
   number_total = on_total no nat_cmp_total
 
-  pub numbered_in_order : (new : Trees) (x : X) (xs : List X) → IsInOrder (on no nat_cmp) xs → Stores encode (new table.tree) (x ∷ xs) → AllByRecursion (λ row. obeys Unique desk_schema new table row ≡ true) (new table.tree)
-      → IsTableOf new table encode (on no nat_cmp) (insert_sorted (on no nat_cmp) x xs)
-  numbered_in_order new x xs rise stored rules =
-      let test : X → Bool = λ y. no y == no x in
-      let free = key_free encode desk_schema table (1 ∷ []) test (same_number (no x)) guards new x xs (number_itself (no x)) stored rules in
-      put_in_order encode (on no nat_cmp) number_total test new table x xs (λ y. equal_numbers (no y) (no x)) free rise stored
+  abbrev has_number_of : X → X → Bool
+  has_number_of x y = no y == no x
+
+  few_have : (rows : List Row) (xs : List X) → Stores stored_as rows xs → (x : X) → length (filter (has_number_of x) xs) ≤ 1
+  few_have rows xs stored x = one_under (has_number_of x) (λ y. pos (no y)) others (λ y z here there. one_key (no y) (no z) (no x) here there) rows xs stored
+
+  pub numbered_in_order : (new : Trees) (x : X) (xs : List X) → IsInOrder (on no nat_cmp) xs → Stores stored_as (new table.tree) (x ∷ xs) → IsTableOf new table stored_as (on no nat_cmp) (insert_sorted (on no nat_cmp) x xs)
+  numbered_in_order new x xs rise stored =
+      let free = free_before (has_number_of x) x xs (number_itself (no x)) (few_have (new table.tree) (x ∷ xs) stored x) in
+      put_in_order stored_as (on no nat_cmp) number_total (has_number_of x) new table x xs (λ y. equal_numbers (no y) (no x)) free rise stored
 
   -- the same of many rows that one statement puts in
-  pub all_in_order : (new : Trees) (ys xs : List X) → IsInOrder (on no nat_cmp) xs → Stores encode (new table.tree) (ys ++ xs) → AllByRecursion (λ row. obeys Unique desk_schema new table row ≡ true) (new table.tree)
-      → IsTableOf new table encode (on no nat_cmp) (all_put (on no nat_cmp) ys xs)
-  all_in_order new ys xs rise stored rules =
-      let few = λ (x : X). few_have encode desk_schema table (1 ∷ []) (λ y. no y == no x) (same_number (no x)) guards new (ys ++ xs) stored rules in
-      let put = put_in_turn (on no nat_cmp) (λ x y. no y == no x) number_total (λ x y. equal_numbers (no y) (no x)) (λ x. number_itself (no x)) ys xs few rise in
-      record { stored = stores_in encode _ _ _ put.0 stored; rise = put.1 }
+  pub all_in_order : (new : Trees) (ys xs : List X) → IsInOrder (on no nat_cmp) xs → Stores stored_as (new table.tree) (ys ++ xs) → IsTableOf new table stored_as (on no nat_cmp) (all_put (on no nat_cmp) ys xs)
+  all_in_order new ys xs rise stored =
+      let put = put_in_turn (on no nat_cmp) has_number_of number_total (λ x y. equal_numbers (no y) (no x)) (λ x. number_itself (no x)) ys xs (few_have (new table.tree) (ys ++ xs) stored) rise in
+      record { stored = stores_in stored_as _ _ _ put.0 stored; rise = put.1 }

@@ -11,19 +11,16 @@ use Rattle.sqlite.specs.Values.{bound}
 use Rattle.sqlite_keyed.specs.Lists.{insert_sorted}
 use Rattle.sqlite_value.specs.declared.value.ValueRef.{ValueRef}
 use Rattle.sql_statements.specs.Edits.{Edit, each_edit, each_edit_from}
-use Rattle.sql_statements.specs.Statements.{IsInsert}
 use Rattle.sql_statements.specs.Layouts.{Holds}
 use Rattle.desk_accounts.specs.declared.posting.Posting.{Posting}
 use Rattle.sql_tables.specs.ByName as named
-use Rattle.sql_tables.specs.ByName.{described}
 use Rattle.sql_tables.specs.Description.{table, as_row}
 use Rattle.sql_tables.specs.Schema.{desk_schema}
 use Rattle.sql_tables.specs.Layout.{desk_layout}
 use Rattle.sql_tables.specs.Tables.{Tables}
 use Rattle.sql_tables.specs.declared.records.PostingRecord.{PostingRecord}
-use Rattle.sql_writes.proofs.Puts.{holds_with, one_put, place_of, PutsOne, PutsSixteen, sixteen_put}
+use Rattle.sql_writes.proofs.Puts.{Inserts, holds_with, one_put, PutsOne, PutsSixteen, sixteen_put}
 use Rattle.sql_writes.proofs.ArrayLoops.{bound_rows}
-use Rattle.sql_writes.proofs.Conditions.{taken_first}
 use Rattle.sql_writes.proofs.ManyKeys.{all_put}
 use Rattle.sql_writes.proofs.NumberedRows.{numbered_in_order, all_in_order}
 use Rattle.sql_writes.specs.LineEdits.{put_posting_edit}
@@ -32,28 +29,28 @@ use Rattle.sql_writes.specs.LineRows.{held_line, stored_line}
 use Rattle.sql_writes.specs.LineTexts.{insert_posting, insert_postings}
 use Rattle.sql_tables.specs.DeskTables as the
 
-insert_posting_is : IsInsert desk_schema insert_posting (place_of named.postings) (table (described named.postings)) 1
+insert_posting_is : Inserts named.postings insert_posting 1
 unfolding understood everything
 insert_posting_is = record { is = refl; plain = (refl, refl) }
 
 puts_posting : PutsOne named.postings
-puts_posting = record { is = insert_posting_is; whole = refl }
+puts_posting = record { is = insert_posting_is; full = refl }
 
 pub posting_put : (p : PostingRecord) (old new : State) (count : ℕ) → Executes insert_posting (as_row the.postings p) old new (Ok count) → (t : Tables) → Holds desk_layout old.now t
     → Holds desk_layout new.now (record t { postings = insert_sorted (on (λ x. x.number) nat_cmp) p t.postings })
 posting_put p old new count ran t h =
     let s = table the.postings in
     let made = one_put named.postings puts_posting p old new count ran t h in
-    (holds_with named.postings _ h made.has (numbered_in_order (λ y. y.number) _ s (λ db row any. taken_first _ _ any) new.now.trees p t.postings (h.1.stands named.postings).rise made.has.stored made.unique))
+    (holds_with named.postings _ h made.has (numbered_in_order (λ y. y.number) _ s new.now.trees p t.postings (h.1.stands named.postings).rise made.has.stored))
 
 -- ---- sixteen lines
 
-insert_postings_is : IsInsert desk_schema insert_postings (place_of named.postings) (table (described named.postings)) 16
+insert_postings_is : Inserts named.postings insert_postings 16
 unfolding understood everything
 insert_postings_is = record { is = refl; plain = (refl, refl) }
 
 puts_sixteen : PutsSixteen named.postings
-puts_sixteen = record { is = insert_postings_is; whole = refl }
+puts_sixteen = record { is = insert_postings_is; full = refl }
 
 abbrev line_cmp : PostingRecord → PostingRecord → Ordering
 line_cmp = on (λ x. x.number) nat_cmp
@@ -63,7 +60,7 @@ records_put : (xs : List PostingRecord) → length xs ≡ 16 → (old new : Stat
 records_put xs many old new count ran t h =
     let s = table the.postings in
     let made = sixteen_put named.postings puts_sixteen xs many old new count ran t h in
-    (holds_with named.postings _ h made.has (all_in_order (λ y. y.number) _ s (λ db row any. taken_first _ _ any) new.now.trees xs t.postings (h.1.stands named.postings).rise made.has.stored made.unique))
+    (holds_with named.postings _ h made.has (all_in_order (λ y. y.number) _ s new.now.trees xs t.postings (h.1.stands named.postings).rise made.has.stored))
 
 -- the record of a line under its number
 abbrev pub numbered_line : ℕ × Posting → PostingRecord

@@ -1,7 +1,6 @@
 -- What the statement leaves that puts one row or sixteen into the table of a name, that changes its rows or takes some away.
-use Rattle.std.proofs.Common.{◌≡◌, ◌/◌, ℕ, ℤ, suc, Bool, true, List, [], ◌∷◌, ◌++◌, filter, length, slice_get, Some, Ok, refl, sym, subst, append-nil}
+use Rattle.std.proofs.Common.{◌≡◌, ◌/◌, ℕ, ℤ, suc, Bool, true, false, List, [], ◌∷◌, ◌++◌, filter, length, slice_get, Some, Ok, refl, sym, subst, append-nil}
 use Rattle.std.specs.List.{AllByRecursion, flat_map, list_all}
-use Rattle.sqlite.specs.declared.types.Value.TheVariants.{Null, Int}
 use Rattle.sqlite.specs.State.{State, Executes}
 use Rattle.sqlite_keyed.specs.Lists.{update_where, delete_where}
 use Rattle.sqlite_rules.specs.Action.{works}
@@ -14,14 +13,15 @@ use Rattle.sqlite_value.specs.Order.{Row}
 use Rattle.sql_statements.proofs.Changes.{updated_counted, deleted}
 use Rattle.sql_statements.proofs.Inserts.{inserted, insert_rules}
 use Rattle.sql_statements.specs.Layouts.{Holds}
+use Rattle.sql_statements.specs.PlainTable.{table_at}
 use Rattle.sql_statements.specs.Statements.{IsInsert, IsUpdate, IsDelete, rows_shown}
-use Rattle.sql_statements.specs.StoredRows.{row_of, Stores}
+use Rattle.sql_statements.specs.StoredRows.{whole, is_keyed, parameters_of, row_of, Stores}
 use Rattle.sql_tables.proofs.ByName.{Others, with_records, changed, each_table}
-use Rattle.sql_tables.proofs.StoredKinds.{row_stored, row_wide}
+use Rattle.sql_tables.proofs.StoredKinds.{given_stored, row_stored, row_wide}
 use Rattle.sql_tables.specs.ByName as named
 use Rattle.sql_tables.specs.ByName.{Name, Of, described, records, StandsAt}
 use Rattle.sql_tables.specs.Change.{Change}
-use Rattle.sql_tables.specs.Description.{as_row, table, insert_text, insert_sixteen_text}
+use Rattle.sql_tables.specs.Description.{as_row, form, table, insert_text, insert_sixteen_text}
 use Rattle.sql_tables.specs.Layout.{desk_layout}
 use Rattle.sql_tables.specs.Schema.{desk_schema}
 use Rattle.sql_tables.specs.Tables.{Tables}
@@ -80,7 +80,7 @@ quiet named.authorizations olds news = refl
 pub record HasRecords (n : Name) (xs : List (Of n)) (old new : State) : Type 0 where
   pub schema_is : new.now.schema ≡ desk_schema
   pub others : Others n old.now.trees new.now.trees
-  pub stored : Stores (as_row (described n)) (new.now.trees (described n).tree) xs
+  pub stored : Stores (form (described n)) (new.now.trees (described n).tree) xs
 
 -- where they stand in order, the tables hold with them
 pub holds_with : (n : Name) (ys : List (Of n)) {xs : List (Of n)} {old new : State} {t : Tables} → Holds desk_layout old.now t → HasRecords n xs old new → StandsAt new.now.trees n (records n (with_records n ys t)) → Holds desk_layout new.now (with_records n ys t)
@@ -99,19 +99,28 @@ module _ (n : Name) where
   abbrev width : ℕ
   width = length (table (described n)).columns
 
+  abbrev under_keys : Bool
+  under_keys = is_keyed (form (described n))
+
+  abbrev given : Of n → Row
+  given = parameters_of (form (described n))
+
   -- ---- rows are put in
 
-  -- the text puts its parameters in, which are so many rows
-  pub record PutsRows (rows : ℕ) (sql : List ℕ) : Type 0 where
-    pub is : IsInsert desk_schema sql (place_of n) (table (described n)) rows
-    pub whole : length (rows_shown width 0 rows) / suc width ≡ rows
+  -- the text puts its parameters, which are so many rows, into the table
+  abbrev pub Inserts : (sql : List ℕ) → (rows : ℕ) → Type 0
+  Inserts sql rows = IsInsert desk_schema sql (place_of n) under_keys (table (described n)) rows
 
-  rows_put : (rows : ℕ) (sql : List ℕ) → PutsRows rows sql → (xs : List (Of n)) → length xs ≡ rows → (old new : State) (count : ℕ) → Executes sql (flat_map (as_row (described n)) xs) old new (Ok count) → (t : Tables) → Holds desk_layout old.now t → HasPut n xs old new t
+  pub record PutsRows (rows : ℕ) (sql : List ℕ) : Type 0 where
+    pub is : Inserts sql rows
+    pub full : length (rows_shown under_keys width 0 rows) / suc width ≡ rows
+
+  rows_put : (rows : ℕ) (sql : List ℕ) → PutsRows rows sql → (xs : List (Of n)) → length xs ≡ rows → (old new : State) (count : ℕ) → Executes sql (flat_map given xs) old new (Ok count) → (t : Tables) → Holds desk_layout old.now t → HasPut n xs old new t
   rows_put rows sql puts xs many old new count ran t h =
       let d = described n in
       let s = table d in
-      let done = inserted (as_row d) desk_schema (place_of n) d.tree s.name s.columns s.primary s.uniques s.orders sql rows puts.is (listed n) (quiet n) puts.whole (row_wide d) (row_stored d Null refl) xs many old new count h.0 (records n t) (h.1.stands n).stored ran in
-      let rules : Keeps Unique desk_schema new.now.trees = insert_rules desk_schema sql (place_of n) s rows puts.is (flat_map (as_row d) xs) old new count h.0 done.0.schema_is ran in
+      let done = inserted (form d) desk_schema (place_of n) d.tree s.name s.columns s.primary s.uniques s.orders sql rows puts.is (listed n) (quiet n) puts.full (row_wide d) (given_stored d) xs many old new count h.0 (records n t) (h.1.stands n).stored ran in
+      let rules : Keeps Unique desk_schema new.now.trees = insert_rules desk_schema sql (place_of n) under_keys s rows puts.is (flat_map given xs) old new count h.0 done.0.schema_is ran in
       record { has = record { schema_is = done.0.schema_is; others = done.0.others; stored = done.1 }; unique = each_table (λ u. AllByRecursion (λ r. obeys Unique desk_schema new.now.trees u r ≡ true) (new.now.trees u.tree)) rules n }
 
   -- one row, or sixteen
@@ -121,11 +130,11 @@ module _ (n : Name) where
   abbrev pub PutsSixteen : Type 0
   PutsSixteen = PutsRows 16 (insert_sixteen_text (described n))
 
-  pub one_put : PutsOne → (x : Of n) (old new : State) (count : ℕ) → Executes (insert_text (described n)) (as_row (described n) x) old new (Ok count) → (t : Tables) → Holds desk_layout old.now t → HasPut n (x ∷ []) old new t
+  pub one_put : PutsOne → (x : Of n) (old new : State) (count : ℕ) → Executes (insert_text (described n)) (given x) old new (Ok count) → (t : Tables) → Holds desk_layout old.now t → HasPut n (x ∷ []) old new t
   one_put puts x old new count ran =
-      rows_put 1 (insert_text (described n)) puts (x ∷ []) refl old new count (subst (λ params. Executes (insert_text (described n)) params old new (Ok count)) (sym (append-nil (as_row (described n) x))) ran)
+      rows_put 1 (insert_text (described n)) puts (x ∷ []) refl old new count (subst (λ params. Executes (insert_text (described n)) params old new (Ok count)) (sym (append-nil (given x))) ran)
 
-  pub sixteen_put : PutsSixteen → (xs : List (Of n)) → length xs ≡ 16 → (old new : State) (count : ℕ) → Executes (insert_sixteen_text (described n)) (flat_map (as_row (described n)) xs) old new (Ok count) → (t : Tables) → Holds desk_layout old.now t → HasPut n xs old new t
+  pub sixteen_put : PutsSixteen → (xs : List (Of n)) → length xs ≡ 16 → (old new : State) (count : ℕ) → Executes (insert_sixteen_text (described n)) (flat_map given xs) old new (Ok count) → (t : Tables) → Holds desk_layout old.now t → HasPut n xs old new t
   sixteen_put = rows_put 16 (insert_sixteen_text (described n))
 
   -- ---- rows are changed, or go
@@ -137,18 +146,26 @@ module _ (n : Name) where
     pub is : IsDelete desk_schema change.text (place_of n) (described n).tree change.tests
 
   module _ (change : Change) (params : Row) (p : Of n → Bool)
-      (tested : (i : ℤ) (x : Of n) → list_all (holds (params ∷ row_of (as_row (described n)) (i, x) ∷ [])) change.tests ≡ p x) (old new : State) (count : ℕ) (ran : Executes change.text params old new (Ok count)) (t : Tables) (h : Holds desk_layout old.now t) where
-    pub rows_updated : IsUpdateOf change → (f : Of n → Of n) → ((i : ℤ) (x : Of n) → eval_all change.sets (params ∷ row_of (as_row (described n)) (i, x) ∷ []) ≡ as_row (described n) (f x))
+      (tested : (i : ℤ) (x : Of n) → list_all (holds (params ∷ row_of (form (described n)) (i, x) ∷ [])) change.tests ≡ p x) (old new : State) (count : ℕ) (ran : Executes change.text params old new (Ok count)) (t : Tables) (h : Holds desk_layout old.now t) where
+    -- of a table whose key is no rowid
+    pub rows_updated : IsUpdateOf change → form (described n) ≡ whole (as_row (described n))
+        → (f : Of n → Of n) → ((i : ℤ) (x : Of n) → eval_all change.sets (params ∷ row_of (whole (as_row (described n))) (i, x) ∷ []) ≡ as_row (described n) (f x))
         → HasRecords n (update_where p f (records n t)) old new × (count ≡ length (filter p (records n t)))
-    rows_updated of f made =
+    rows_updated of is_whole f made =
         let d = described n in
         let s = table d in
-        let done = updated_counted (as_row d) desk_schema (place_of n) d.tree s.name s.columns s.primary s.uniques s.orders change.text change.tests change.sets of.is (listed n) (quiet n) params p f tested (λ i x _. made i x) (λ i. row_stored d (Int i) refl) old new count h.0 (records n t) (h.1.stands n).stored ran in
-        (record { schema_is = done.0.schema_is; others = done.0.others; stored = done.1 }, done.2)
+        let stored : Stores (whole (as_row d)) (old.now.trees d.tree) (records n t) = subst (λ k. Stores k (old.now.trees d.tree) (records n t)) is_whole (h.1.stands n).stored in
+        let there : slice_get desk_schema.tables (place_of n) ≡ Some (table_at false d.tree s.name s.columns s.primary s.uniques s.orders) =
+        subst (λ k. slice_get desk_schema.tables (place_of n) ≡ Some (table_at (is_keyed k) d.tree s.name s.columns s.primary s.uniques s.orders)) is_whole (listed n) in
+        let tests : (i : ℤ) (x : Of n) → list_all (holds (params ∷ row_of (whole (as_row d)) (i, x) ∷ [])) change.tests ≡ p x =
+        subst (λ k. (i : ℤ) (x : Of n) → list_all (holds (params ∷ row_of k (i, x) ∷ [])) change.tests ≡ p x) is_whole tested in
+        let done = updated_counted (as_row d) desk_schema (place_of n) d.tree s.name s.columns s.primary s.uniques s.orders change.text change.tests change.sets of.is there (quiet n) params p f tests (λ i x _. made i x) (row_stored d) old new count h.0 (records n t) stored ran in
+        let back = subst (λ k. Stores k (new.now.trees d.tree) (update_where p f (records n t))) (sym is_whole) done.1 in
+        (record { schema_is = done.0.schema_is; others = done.0.others; stored = back }, done.2)
 
     pub rows_deleted : IsDeleteOf change → HasRecords n (delete_where p (records n t)) old new
     rows_deleted of =
         let d = described n in
         let s = table d in
-        let done = deleted (as_row d) desk_schema (place_of n) d.tree s.name s.columns s.primary s.uniques s.orders change.text change.tests of.is (listed n) (quiet n) params p tested old new count h.0 (records n t) (h.1.stands n).stored ran in
+        let done = deleted (form d) desk_schema (place_of n) d.tree s.name s.columns s.primary s.uniques s.orders change.text change.tests of.is (listed n) (quiet n) params p tested old new count h.0 (records n t) (h.1.stands n).stored ran in
         record { schema_is = done.0.schema_is; others = done.0.others; stored = done.1 }

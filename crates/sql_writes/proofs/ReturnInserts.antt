@@ -14,14 +14,12 @@ use Rattle.sqlite_schema.specs.Rules.{agree}
 use Rattle.sqlite_value.specs.Keys.{first_key, plain}
 use Rattle.sqlite_value.specs.declared.value.ValueRef.{ValueRef}
 use Rattle.sql_statements.specs.Edits.{Edit, each_edit, each_edit_from}
-use Rattle.sql_statements.specs.Statements.{IsInsert}
 use Rattle.sql_statements.specs.StoredRows.{row_of}
 use Rattle.sql_statements.specs.Layouts.{Holds}
 use Rattle.desk_book.specs.declared.flat_rows.ReturnedRow.{ReturnedRow}
 use Rattle.sql_tables.specs.Encodes.{return_under}
 use Rattle.sql_tables.specs.ByName as named
-use Rattle.sql_tables.specs.ByName.{described}
-use Rattle.sql_tables.specs.Description.{table, as_row}
+use Rattle.sql_tables.specs.Description.{as_row, form, table}
 use Rattle.sql_tables.specs.Schema.{desk_schema}
 use Rattle.sql_tables.specs.Layout.{desk_layout}
 use Rattle.sql_tables.specs.TableEdits.{put_return_edit}
@@ -29,8 +27,8 @@ use Rattle.sql_tables.specs.TableReads.{is_return_at}
 use Rattle.sql_tables.specs.Tables.{Tables}
 use Rattle.sql_tables.specs.declared.records.ReturnRecord.{ReturnRecord}
 use Rattle.sql_writes.proofs.ArrayLoops.{bound_rows}
-use Rattle.sql_writes.proofs.Puts.{holds_with, one_put, place_of, PutsOne, PutsSixteen, sixteen_put}
-use Rattle.sql_writes.proofs.Conditions.{text_itself, number_itself, taken_first, taken_second}
+use Rattle.sql_writes.proofs.Puts.{Inserts, holds_with, one_put, PutsOne, PutsSixteen, sixteen_put}
+use Rattle.sql_writes.proofs.Conditions.{text_itself, number_itself, taken_first}
 use Rattle.sql_writes.proofs.Keys.{find_none, few_have, key_free, key_text, key_number}
 use Rattle.sql_writes.proofs.ManyFree.{free_in_turn}
 use Rattle.sql_writes.proofs.ManyKeys.{all_put, AreFree}
@@ -40,12 +38,12 @@ use Rattle.sql_writes.specs.ReturnRows.{held_return, stored_return}
 use Rattle.sql_writes.proofs.NumberedRows.{numbered_in_order, all_in_order}
 use Rattle.sql_tables.specs.DeskTables as the
 
-insert_return_is : IsInsert desk_schema insert_return (place_of named.returns) (table (described named.returns)) 1
+insert_return_is : Inserts named.returns insert_return 1
 unfolding understood everything
 insert_return_is = record { is = refl; plain = (refl, refl) }
 
 -- returns of one entry
-same_entry : (c : List ℕ) (n i : ℕ) (a b : ℤ × ReturnRecord) → is_return_at c n i a.1 ≡ true → is_return_at c n i b.1 ≡ true → agree plain (2 ∷ 3 ∷ 4 ∷ []) (row_of (as_row the.returns) b) (2 ∷ 3 ∷ 4 ∷ []) (row_of (as_row the.returns) a) ≡ true
+same_entry : (c : List ℕ) (n i : ℕ) (a b : ℤ × ReturnRecord) → is_return_at c n i a.1 ≡ true → is_return_at c n i b.1 ≡ true → agree plain (2 ∷ 3 ∷ 4 ∷ []) (row_of (form the.returns) b) (2 ∷ 3 ∷ 4 ∷ []) (row_of (form the.returns) a) ≡ true
 unfolding first_key
 same_entry c n i a b h k =
     let x = and_parts (bytes_eq a.1.company c && (a.1.order == n)) (a.1.index == i) h in let y = and_parts (bytes_eq b.1.company c && (b.1.order == n)) (b.1.index == i) k in
@@ -53,7 +51,7 @@ same_entry c n i a b h k =
     and_from _ _ (key_text a.1.company b.1.company c v.0 w.0) (and_from _ _ (key_number a.1.order b.1.order n v.1 w.1) (and_from _ _ (key_number a.1.index b.1.index i x.1 y.1) refl))
 
 puts_return : PutsOne named.returns
-puts_return = record { is = insert_return_is; whole = refl }
+puts_return = record { is = insert_return_is; full = refl }
 
 pub return_put : (x : ReturnRecord) (old new : State) (count : ℕ) → Executes insert_return (as_row the.returns x) old new (Ok count) → (t : Tables) → Holds desk_layout old.now t
     → Holds desk_layout new.now (record t { returns = insert_sorted (on (λ r. r.number) nat_cmp) x t.returns }) × (find (is_return_at x.company x.order x.index) t.returns ≡ None)
@@ -61,19 +59,19 @@ return_put x old new count ran t h =
     let s = table the.returns in
     let test = is_return_at x.company x.order x.index in
     let made = one_put named.returns puts_return x old new count ran t h in
-    let free = key_free (as_row the.returns) desk_schema s (2 ∷ 3 ∷ 4 ∷ []) test (same_entry x.company x.order x.index) (λ db row any. taken_second _ _ _ any) new.now.trees x t.returns (and_from _ _ (and_from _ _ (text_itself x.company) (number_itself x.order)) (number_itself x.index)) made.has.stored made.unique in (
-      (holds_with named.returns _ h made.has (numbered_in_order (λ r. r.number) _ s (λ db row any. taken_first _ _ any) new.now.trees x t.returns (h.1.stands named.returns).rise made.has.stored made.unique)),
+    let free = key_free (form the.returns) desk_schema s (2 ∷ 3 ∷ 4 ∷ []) test (same_entry x.company x.order x.index) (λ db row any. taken_first _ _ any) new.now.trees x t.returns (and_from _ _ (and_from _ _ (text_itself x.company) (number_itself x.order)) (number_itself x.index)) made.has.stored made.unique in (
+      (holds_with named.returns _ h made.has (numbered_in_order (λ r. r.number) _ s new.now.trees x t.returns (h.1.stands named.returns).rise made.has.stored)),
       find_none test t.returns free,
     )
 
 -- ---- sixteen returns
 
-insert_returns_is : IsInsert desk_schema insert_returns (place_of named.returns) (table (described named.returns)) 16
+insert_returns_is : Inserts named.returns insert_returns 16
 unfolding understood everything
 insert_returns_is = record { is = refl; plain = (refl, refl) }
 
 puts_sixteen : PutsSixteen named.returns
-puts_sixteen = record { is = insert_returns_is; whole = refl }
+puts_sixteen = record { is = insert_returns_is; full = refl }
 
 abbrev number_cmp : ReturnRecord → ReturnRecord → Ordering
 number_cmp = on (λ r. r.number) nat_cmp
@@ -87,9 +85,9 @@ records_put : (xs : List ReturnRecord) → length xs ≡ 16 → (old new : State
 records_put xs many old new count ran t h =
     let s = table the.returns in
     let made = sixteen_put named.returns puts_sixteen xs many old new count ran t h in
-    let few = λ (x : ReturnRecord). few_have (as_row the.returns) desk_schema s (2 ∷ 3 ∷ 4 ∷ []) (is_of_entry x) (same_entry x.company x.order x.index) (λ db row any. taken_second _ _ _ any) new.now.trees (xs ++ t.returns) made.has.stored made.unique in
+    let few = λ (x : ReturnRecord). few_have (form the.returns) desk_schema s (2 ∷ 3 ∷ 4 ∷ []) (is_of_entry x) (same_entry x.company x.order x.index) (λ db row any. taken_first _ _ any) new.now.trees (xs ++ t.returns) made.has.stored made.unique in
     let free = free_in_turn number_cmp is_of_entry (λ x. and_from _ _ (and_from _ _ (text_itself x.company) (number_itself x.order)) (number_itself x.index)) xs t.returns few in (
-      (holds_with named.returns _ h made.has (all_in_order (λ r. r.number) _ s (λ db row any. taken_first _ _ any) new.now.trees xs t.returns (h.1.stands named.returns).rise made.has.stored made.unique)),
+      (holds_with named.returns _ h made.has (all_in_order (λ r. r.number) _ s new.now.trees xs t.returns (h.1.stands named.returns).rise made.has.stored)),
       free,
     )
 

@@ -17,7 +17,7 @@ use Rattle.sql_statements.proofs.OneRow.{one_of, one_found, updates_agree}
 use Rattle.sql_statements.specs.Layouts.{Holds}
 use Rattle.sql_tables.specs.Change.{Set}
 use Rattle.sql_tables.specs.ByName as named
-use Rattle.sql_tables.specs.Description.{as_row, key_cmp}
+use Rattle.sql_tables.specs.Description.{as_row, form, key_cmp}
 use Rattle.sql_tables.specs.DeskTables as the
 use Rattle.desk_book.specs.declared.flat_rows.LapsedRow.{LapsedRow}
 use Rattle.desk_book.specs.declared.flat_rows.SentRow.{SentRow}
@@ -55,8 +55,8 @@ waits_parts c o r h =
 -- an UPDATE of the submission of a number, where it waits
 module _ (c : List ℕ) (o : ℕ) (rest : Row) (sets : List Set) (is : IsUpdateOf named.submissions (update_waiting sets))
     (set : SubmissionRecord → SubmissionRecord) (same_company : (r : SubmissionRecord) → (set r).head.company ≡ r.head.company) (same_order : (r : SubmissionRecord) → (set r).head.order ≡ r.head.order)
-    (made_row : (i : ℤ) (r : SubmissionRecord) → eval_all (update_waiting sets).sets ((Text c ∷ number o ∷ rest) ∷ row_of (as_row the.submissions) (i, r) ∷ []) ≡ as_row the.submissions (set r)) where
-  tested : (i : ℤ) (r : SubmissionRecord) → list_all (holds ((Text c ∷ number o ∷ rest) ∷ row_of (as_row the.submissions) (i, r) ∷ [])) (update_waiting sets).tests ≡ waits_at c o r
+    (made_row : (i : ℤ) (r : SubmissionRecord) → eval_all (update_waiting sets).sets ((Text c ∷ number o ∷ rest) ∷ row_of (form the.submissions) (i, r) ∷ []) ≡ as_row the.submissions (set r)) where
+  tested : (i : ℤ) (r : SubmissionRecord) → list_all (holds ((Text c ∷ number o ∷ rest) ∷ row_of (form the.submissions) (i, r) ∷ [])) (update_waiting sets).tests ≡ waits_at c o r
   tested i r =
       let a = text_is r.head.company c in
       let b = conditions.number_is r.head.order o in
@@ -76,11 +76,11 @@ module _ (c : List ℕ) (o : ℕ) (rest : Row) (sets : List Set) (is : IsUpdateO
   submission_updated : (old new : State) → Executes (update_waiting sets).text (Text c ∷ number o ∷ rest) old new (Ok 1) → (t : Tables) → Holds desk_layout old.now t
       → Holds desk_layout new.now (record t { submissions = update_where (is_row c o) set t.submissions }) × Waits c o t
   submission_updated old new ran t h =
-      let made = rows_updated named.submissions (update_waiting sets) (Text c ∷ number o ∷ rest) (waits_at c o) tested old new 1 ran t h is set made_row in
+      let made = rows_updated named.submissions (update_waiting sets) (Text c ∷ number o ∷ rest) (waits_at c o) tested old new 1 ran t h is refl set made_row in
       let it = one_found (waits_at c o) (is_row c o) (λ r here. (waits_parts c o r here).0) t.submissions (one_of _ (is_row c o) (one_row c o) t.submissions (h.1.stands named.submissions).rise) (sym made.1) in
       let parts = waits_parts c o it.row it.passes in (
         holds_with named.submissions _ h made.0 (record {
-          stored = subst (Stores (as_row the.submissions) (new.now.trees 6)) (updates_agree (waits_at c o) (is_row c o) set t.submissions it.same) made.0.stored;
+          stored = subst (Stores (form the.submissions) (new.now.trees 6)) (updates_agree (waits_at c o) (is_row c o) set t.submissions it.same) made.0.stored;
           rise = rises_updated (key_cmp the.submissions) (is_row c o) set keeps_order t.submissions (h.1.stands named.submissions).rise;
         }),
         record { submission = it.row; found = it.found; unsettled = parts.1; lasts = parts.2 },

@@ -3,11 +3,12 @@ ghost use Rattle.std.specs.Prelude.{◌≡◌, true};
 ghost use Rattle.desk_history.specs.declared.answer.Answer.TheVariants as answers;
 ghost use Rattle.desk_history.specs.declared.answer.Outcome.TheVariants as done;
 ghost use Rattle.desk_book.specs.Steps.{commit_cut};
-ghost use Rattle.desk_book.specs.OnCut.{cut_facts, cut_answer_on, cut_after};
+ghost use Rattle.desk_book.specs.OnCut.{cut_answer_on, cut_after};
 ghost use Rattle.desk_cut.specs.Plan.{plan_write};
+ghost use Rattle.desk_store.specs.Written.{commit_cut_after};
 ghost use Rattle.desk_history.specs.Message.{Cut};
 ghost use Rattle.desk_admission.specs.Answering.{HoldsFor};
-ghost use Rattle.desk_calls.specs.Cutting.{Plans, PlansOrTells, facts_in, latest_of, refusal_of};
+ghost use Rattle.desk_calls.specs.Cutting.{Plans, PlansOrTells, latest_of, read_in, read_on, refusal_of};
 ghost use Rattle.desk_admission.specs.OverStores.{AnswersMessage, AnswersWhere, GivesAs, GivesList, Tells};
 
 use bank_days::{Calendar, Day};
@@ -16,7 +17,7 @@ use desk_book::HeldSubmission;
 use desk_cut::{CutFault, CutPlan, number_cut, plan_cut};
 use desk_history::{Answer, Identity, Outcome};
 use desk_rules::{Refusal, RuleDay};
-use desk_store::{CutRows, Store, StoreFault};
+use desk_store::{CutRows, LastNumber, Store, StoreFault};
 use std::alloc::Global;
 
 /// `CutReads` are what a cut on a day is planned by.
@@ -25,21 +26,21 @@ pub(crate) struct CutReads {
     pub identity: Identity,
     pub day: RuleDay,
     pub holidays: Calendar,
-    /// The sequence of the last sent entry.
-    pub last: u32,
+    /// The number of the last sent entry.
+    pub last: LastNumber,
     /// The number of files that the day has.
     pub made: u64,
     pub waiting: Vec<HeldSubmission>,
 }
 
 fn reads_of<S: Store>(store: &mut S, alloc: Global, day: RuleDay) -> Result<CutReads, StoreFault>
-    ensures { GivesAs S.Store store.old store.new facts_in result (λ b. cut_facts b day) }
+    ensures { GivesAs S.Store store.old store.new read_in result (read_on day) }
 {
     Ok(CutReads {
         identity: store.identity(alloc)?,
         day,
         holidays: store.calendar(alloc)?,
-        last: store.last_sequence(alloc)?,
+        last: store.last_number(alloc)?,
         made: store.files_on(alloc, day.day())?,
         waiting: store.waiting(alloc)?,
     })
@@ -80,10 +81,10 @@ fn planned<S: Store>(
     reads: &CutReads,
 ) -> Result<Result<CutPlan, CutFault>, StoreFault>
     ensures { Tells S.Store store.old store.new
-        (PlansOrTells (S.holds store.old) (facts_in reads.now) result (S.holds store.new)) }
+        (PlansOrTells (S.holds store.old) reads.now result (S.holds store.new)) }
 {
     desk_book::entries_of_cuts();
-    let (day, last) = (reads.day, reads.last);
+    let (day, last) = (reads.day, reads.last.sequence);
     let numbered = match number_cut(alloc, day, &reads.holidays, last, &reads.waiting) {
         Ok(numbered) => numbered,
         Err(fault) => return Ok(Err(fault)),
@@ -99,7 +100,7 @@ fn plan<S: Store>(
     reads: &CutReads,
 ) -> Result<Result<CutPlan, Refusal>, StoreFault>
     ensures { Tells S.Store store.old store.new
-        (Plans (S.holds store.old) (facts_in reads.now) result (S.holds store.new)) }
+        (Plans (S.holds store.old) reads.now result (S.holds store.new)) }
 {
     match planned(store, alloc, reads)? {
         Ok(plan) => Ok(Ok(plan)),
@@ -107,13 +108,19 @@ fn plan<S: Store>(
     }
 }
 
-// Writes a plan, and answers.
-fn write<S: Store>(store: &mut S, alloc: Global, plan: CutPlan) -> Result<Answer, StoreFault>
+// Writes a plan, after so many entries that were sent before, and answers.
+fn write<S: Store>(
+    store: &mut S,
+    alloc: Global,
+    before: u64,
+    plan: CutPlan,
+) -> Result<Answer, StoreFault>
     ensures { AnswersWhere S.Store store.old store.new
-        (HoldsFor (S.holds store.old) (commit_cut (plan_write plan))) result (λ b. true)
-        (λ b. answers.Done (done.Cut plan.done)) (commit_cut (plan_write plan)).after }
+        (HoldsFor (S.holds store.old) (commit_cut_after before (plan_write plan))) result
+        (λ b. true) (λ b. answers.Done (done.Cut plan.done)) (commit_cut (plan_write plan)).after }
 {
     let rows = CutRows {
+        before,
         sent: plan.sent.as_slice(),
         lapsed: plan.lapsed.as_slice(),
         entries: plan.entries.as_slice(),
@@ -134,7 +141,7 @@ pub(crate) fn cut<S: Store>(store: &mut S, alloc: Global) -> Result<Answer, Stor
     };
     let reads = reads_of(store, alloc, day)?;
     match plan(store, alloc, &reads)? {
-        Ok(plan) => write(store, alloc, plan),
+        Ok(plan) => write(store, alloc, reads.last.place, plan),
         Err(why) => Ok(refuse(why)),
     }
 }

@@ -121,6 +121,7 @@ pub(super) fn put_old_cut<S: Store>(
             .expect(rt, "an entry");
     }
     let rows = CutRows {
+        before: 0,
         sent: &[sent_row(rt)],
         lapsed: &[],
         entries: &entries,

@@ -90,6 +90,7 @@ fn write_cut<S: Store>(
     store: &mut S,
 ) -> Result<(), StoreFault> {
     let cut = CutRows {
+        before: store.sent_count(rt.alloc())?,
         sent: &[sent_row(rt)],
         lapsed: &[],
         entries: &[sent_entry(rt, 1, b"2025-01-10")],
@@ -135,6 +136,7 @@ fn write_rows<S: Store>(
     postings: &[Posting],
 ) -> Result<(), StoreFault> {
     let cut = CutRows {
+        before: store.sent_count(rt.alloc())?,
         sent: &[],
         lapsed: &[],
         entries,

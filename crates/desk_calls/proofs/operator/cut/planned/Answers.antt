@@ -15,9 +15,9 @@ returns g c =
           let latest = c.deref-2.result.now in
           let seen : cut_in reads.identity c.in-Ok.numbered reads.made ≡ facts_in reads =
           λ i. cut_of reads.identity (numbered.day i) (numbered.holidays i) (numbered.last i) reads.made ((numbered.waiting ∙ c.deref.ensures.value) i) in
-          let taken : c.ranges-2.result.now ≡ ranges_after reads.last (cut_sendings (facts_in reads)) =
+          let taken : c.ranges-2.result.now ≡ ranges_after reads.last.sequence (cut_sendings (facts_in reads)) =
           c.ranges-2.ensures ∙ ap (λ (x : CutFacts). ranges_after x.last (cut_sendings x)) seen in
-          plans_or_tells c.entries_of_cuts.ensures (g.S.Store.holds c.args.store.now) (g.S.Store.holds c.latest_of.new.store) (facts_in reads) c.ranges-2.result.now latest c.plan_cut.result taken
+          plans_or_tells c.entries_of_cuts.ensures (g.S.Store.holds c.args.store.now) (g.S.Store.holds c.latest_of.new.store) reads c.ranges-2.result.now latest c.plan_cut.result taken
           (λ b held. let read = c.in_ok-latest.ensures.read clean b held in (c.deref-2.ensures.value ∙ read.0, read.1))
           (subst (λ (x : CutFacts). Plans x latest c.plan_cut.result) seen c.plan_cut.ensures);
       left = c.latest_of.ensures.left;
