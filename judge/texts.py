@@ -12,7 +12,7 @@ import sqlite3
 from helpers.running import TOP, Checks
 
 MOST = 64
-SERVING = ("sql_statements", "sql_queries", "sql_reads", "sql_writes", "sql_store")
+SERVING = ("sql_statements", "sql_queries", "sql_reads", "sql_measures", "sql_writes", "sql_store")
 # A text of Rust, whose lines may be joined by a backslash.
 LITERAL = re.compile(r'"((?:[^"\\]|\\[^x])*)"')
 STATEMENT = re.compile(r"(SELECT|INSERT|UPDATE|DELETE|CREATE) ")

@@ -101,7 +101,9 @@ plans_or_tells law old new x rs latest (Ok p) taken read plans = λ b held is.
     let facts : facts_in x ≡ cut_facts b x.day = ap (λ (r : CutFacts × ℕ). r.0) is in
     (planned_cut b (facts_in x) rs latest p facts taken seen.0 plans, (seen.1, (planned_admitted law b (facts_in x) p facts plans.2, ap (λ (r : CutFacts × ℕ). r.1) is)))
 plans_or_tells law old new x rs latest (Err fault) taken read plans = λ b held.
-    let seen = read b held in
-    (seen.1, λ is.
-        let facts : facts_in x ≡ cut_facts b x.day = ap (λ (r : CutFacts × ℕ). r.0) is in
-        (λ why refuses. planned_refused b (facts_in x) rs latest fault why facts taken seen.0 plans refuses, planned_too_far b (facts_in x) rs latest fault facts taken seen.0 plans))
+    let seen = read b held in (
+      seen.1,
+      λ is.
+          let facts : facts_in x ≡ cut_facts b x.day = ap (λ (r : CutFacts × ℕ). r.0) is in
+          (λ why refuses. planned_refused b (facts_in x) rs latest fault why facts taken seen.0 plans refuses, planned_too_far b (facts_in x) rs latest fault facts taken seen.0 plans),
+    )

@@ -1,4 +1,5 @@
 pub mod AnyOrder
+pub mod Days
 pub mod EntriesShown
 pub mod FirstRows
 pub mod ItemsShown

@@ -9,6 +9,7 @@
 
 mod entries;
 mod files;
+mod holidays;
 mod items;
 mod lines;
 mod reading;
@@ -19,12 +20,13 @@ mod waiting;
 
 pub use entries::{amounts_of, cents_of, entries_of, last_number, place, places, sent_entry};
 pub use files::{file_text, modifiers, taken_file};
+pub use holidays::calendar;
 pub use items::{
     change_lines, entry_return, last_suspense_number, orders_returned, return_lines, returns,
     suspense,
 };
 pub use lines::{postings, sums};
-pub use registry::{companies, company, day, holidays, identity, operator_key};
+pub use registry::{companies, company, day, identity, operator_key};
 pub use submissions::{
     authorization, facts, last_order, numbered_submission, open_submissions, order_and_settlement,
     retries, settled_submissions, submission, submissions_of, waiting_submissions,

@@ -1,12 +1,11 @@
-//! The desk, its calendar and its companies.
+//! The desk and its companies.
 ghost use Rattle.std.specs.Prelude.{◌≡◌};
 ghost use Rattle.sql_tables.specs.Selected.{keyed_identity_of};
 ghost use Rattle.sql_tables.specs.TableReads.{company_in};
 ghost use Rattle.sql_queries.specs.Asking.{Asks};
 
-use crate::rows::{all_of, cell_of, column_of, first_of};
+use crate::rows::{all_of, cell_of, first_of};
 use ach_fields::Id;
-use bank_days::Day;
 use desk_history::Identity;
 use desk_rules::{Company, RuleDay};
 use sql_tables::{KeyedIdentity, characters};
@@ -51,13 +50,6 @@ pub fn day<S: Alter>(conn: &mut Connection<S>) -> Result<Option<RuleDay>, Error>
         Some(found) => Ok(found),
         None => Err(Error::InvalidQuery),
     }
-}
-
-/// Gives the holidays of the calendar, from the first.
-pub fn holidays<S: Alter>(conn: &mut Connection<S>, alloc: Global) -> Result<Vec<Day>, Error>
-    ensures { Asks S.Store conn.old conn.new result (λ found t. found.items ≡ t.holidays) }
-{
-    column_of(conn, alloc, "SELECT day FROM holidays ORDER BY day", &[])
 }
 
 /// Gives the companies, by their identification.

@@ -1,9 +1,2 @@
-pub mod Days
 pub mod HeldRows
-pub mod Joined
-pub mod ListReads
-pub mod Measures
-pub mod OpenHeads
-pub mod RatedHeads
-pub mod RowFacts
 pub mod WholeRows

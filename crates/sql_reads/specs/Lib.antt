@@ -1,4 +1,2 @@
-pub mod Answers
-pub mod Counted
 pub mod ItemsFound
 pub mod TracedEntries

@@ -3,12 +3,12 @@ ghost use Rattle.std.specs.Prelude.{◌≡◌, map, IfOk};
 ghost use Rattle.sql_tables.specs.Composed.{day_sums_in};
 ghost use Rattle.sql_queries.specs.Asking.{Asks};
 
-use crate::fault::or_unavailable;
 use bank_days::Day;
 use desk_accounts::Account;
 use desk_history::DaySum;
 use desk_store::StoreFault;
 use sql_queries::sums;
+use sql_read_steps::or_unavailable;
 use sqlite::{Alter, Connection};
 use std::alloc::{AllocError, Global};
 

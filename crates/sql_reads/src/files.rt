@@ -3,11 +3,11 @@ ghost use Rattle.std.specs.Prelude.{◌≡◌, length};
 ghost use Rattle.sql_tables.specs.TableReads.{modifiers_in, text_in};
 ghost use Rattle.sql_queries.specs.Asking.{Asks};
 
-use crate::fault::or_unavailable;
 use bank_days::Day;
 use desk_history::ListOf;
 use desk_store::StoreFault;
 use sql_queries::{file_text, modifiers};
+use sql_read_steps::or_unavailable;
 use sqlite::{Alter, Connection};
 use std::alloc::Global;
 

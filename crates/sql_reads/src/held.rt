@@ -4,16 +4,15 @@ ghost use Rattle.desk_book.specs.declared.held_submission.HeldSubmission.{HeldSu
 ghost use Rattle.sql_tables.specs.Composed.{original_in, held_in, waiting_of_in, waiting_in};
 ghost use Rattle.sql_tables.specs.TableReads.{whole_row};
 ghost use Rattle.sql_queries.specs.Asking.{Asks};
-ghost use Rattle.sql_reads.specs.Answers.{LearnsOn};
+ghost use Rattle.sql_read_steps.specs.Answers.{LearnsOn};
 
-use crate::each::{ItemRead, joined, read_each};
-use crate::fault::or_unavailable;
 use crate::rows::row;
 use ach_fields::Id;
 use desk_book::HeldSubmission;
 use desk_rules::{Company, Retry, RuleDay};
 use desk_store::StoreFault;
 use sql_queries::{companies, order_and_settlement, waiting_submissions};
+use sql_read_steps::{ItemRead, joined, or_unavailable, read_each};
 use sql_tables::SubmissionHead;
 use sqlite::{Alter, Connection};
 use std::alloc::Global;

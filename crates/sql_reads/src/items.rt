@@ -7,13 +7,12 @@ ghost use Rattle.sql_tables.specs.TableReads.{return_lines_in, change_lines_in};
 ghost use Rattle.sql_queries.specs.Asking.{Asks};
 ghost use Rattle.sql_reads.specs.ItemsFound.{AreItemsOf};
 
-use crate::each::{ItemRead, read_each};
-use crate::fault::or_unavailable;
 use ach_fields::Id;
 use desk_book::ReturnsAndChanges;
 use desk_history::{ChangeRow, ListOf, ReturnRow};
 use desk_store::StoreFault;
 use sql_queries::{change_lines, facts, return_lines};
+use sql_read_steps::{ItemRead, or_unavailable, read_each};
 use sql_tables::{ChangeLine, ReturnLine};
 use sqlite::{Alter, Connection};
 use std::alloc::Global;

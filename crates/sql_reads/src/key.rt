@@ -3,10 +3,10 @@ ghost use Rattle.std.specs.Prelude.{◌≡◌};
 ghost use Rattle.sql_tables.specs.Composed.{key_in};
 ghost use Rattle.sql_queries.specs.Asking.{Asks};
 
-use crate::fault::or_unavailable;
 use desk_book::Caller;
 use desk_store::StoreFault;
 use sql_queries::{company, operator_key};
+use sql_read_steps::or_unavailable;
 use sqlite::{Alter, Connection};
 
 /// Finds the SHA-256 digest of a caller's key; there is none where the company is not registered.

@@ -4,15 +4,14 @@ ghost use Rattle.std.specs.List.{reduce};
 ghost use Rattle.sql_tables.specs.Composed.{settled_at, latest_in};
 ghost use Rattle.sql_tables.specs.TableReads.{facts_in};
 ghost use Rattle.sql_queries.specs.Asking.{Asks};
-ghost use Rattle.sql_reads.specs.Answers.{LearnsOn};
+ghost use Rattle.sql_read_steps.specs.Answers.{LearnsOn};
 
-use crate::each::{ItemRead, read_each};
-use crate::fault::or_unavailable;
 use ach_fields::Id;
 use bank_days::Day;
 use desk_rules::RuleDay;
 use desk_store::StoreFault;
 use sql_queries::{facts, places, sent_entry};
+use sql_read_steps::{ItemRead, or_unavailable, read_each};
 use sqlite::{Alter, Connection};
 use std::alloc::Global;
 

@@ -5,32 +5,22 @@
 #![tactic(auto)]
 
 mod balances;
-mod each;
-mod facts;
-mod fault;
 mod files;
 mod held;
-mod holidays;
 mod items;
 mod key;
 mod latest;
-mod open_cents;
 mod open_row;
-mod rates;
 mod returned;
 mod rows;
 mod traced;
 
 pub use balances::balances_of;
-pub use fault::or_unavailable;
 pub use files::{file, files_on};
 pub use held::{waiting, waiting_of};
-pub use holidays::calendar;
 pub use items::items_of;
 pub use key::key_of;
 pub use latest::latest_settled;
-pub use open_cents::exposures;
 pub use open_row::open_rows;
-pub use rates::rates_of;
 pub use rows::{entries_of, retries_of, submission};
 pub use traced::traced_entries;

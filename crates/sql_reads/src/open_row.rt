@@ -4,7 +4,6 @@ ghost use Rattle.desk_book.specs.OpenRows.{is_open_row};
 ghost use Rattle.sql_tables.specs.TableReads.{rows_in, is_open_of};
 ghost use Rattle.sql_queries.specs.Asking.{Asks};
 
-use crate::fault::or_unavailable;
 use crate::rows::rows;
 use ach_fields::Id;
 use bank_days::Day;
@@ -12,6 +11,7 @@ use desk_book::Row;
 use desk_rules::is_open_credit;
 use desk_store::StoreFault;
 use sql_queries::open_submissions;
+use sql_read_steps::or_unavailable;
 use sqlite::{Alter, Connection};
 use std::alloc::Global;
 

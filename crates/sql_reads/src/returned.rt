@@ -2,10 +2,10 @@
 ghost use Rattle.std.specs.Prelude.{◌≡◌, ℕ};
 ghost use Rattle.sql_tables.specs.RowParts.{state_among};
 ghost use Rattle.sql_tables.specs.TableReads.{returns_in};
-ghost use Rattle.sql_reads.specs.Answers.{LearnsOn};
+ghost use Rattle.sql_read_steps.specs.Answers.{LearnsOn};
 
-use crate::fault::or_unavailable;
 use desk_store::StoreFault;
+use sql_read_steps::or_unavailable;
 use sql_tables::{EntryReturn, SubmissionHead};
 use sqlite::{Alter, Connection};
 use std::alloc::Global;

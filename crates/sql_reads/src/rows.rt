@@ -4,15 +4,14 @@ ghost use Rattle.desk_book.specs.declared.row.Row.{Row};
 ghost use Rattle.sql_tables.specs.RowParts.{retry_with};
 ghost use Rattle.sql_tables.specs.TableReads.{authorized_in, whole_row, row_under_in, rows_in, is_of, is_retry_of};
 ghost use Rattle.sql_queries.specs.Asking.{Asks};
-ghost use Rattle.sql_reads.specs.Answers.{LearnsOn};
+ghost use Rattle.sql_read_steps.specs.Answers.{LearnsOn};
 
-use crate::each::{ItemRead, read_each};
-use crate::fault::or_unavailable;
 use crate::returned::returns_for;
 use ach_fields::{Id, Ref};
 use bank_days::Day;
 use desk_book::Row;
 use desk_store::StoreFault;
+use sql_read_steps::{ItemRead, or_unavailable, read_each};
 use sql_tables::{SubmissionHead, row_from};
 use sqlite::{Alter, Connection};
 use std::alloc::Global;

@@ -5,15 +5,15 @@ ghost use Rattle.sql_tables.specs.Composed.{sent_entry_of, sent_with, sent_at, s
 ghost use Rattle.sql_tables.specs.TableReads.{facts_in};
 ghost use Rattle.sql_tables.specs.Tables.{Tables};
 ghost use Rattle.sql_queries.specs.Asking.{Asks};
-ghost use Rattle.sql_reads.specs.Answers.{LearnsOn};
+ghost use Rattle.sql_read_steps.specs.Answers.{LearnsOn};
 ghost use Rattle.sql_reads.specs.TracedEntries.{AreTraced, IsKnown, Knowing};
 
-use crate::fault::or_unavailable;
 use ach_fields::{Id, Trace};
 use desk_book::NamedEntry;
 use desk_history::SentEntry;
 use desk_store::StoreFault;
 use sql_queries::{entry_return, facts, identity, place, sent_entry};
+use sql_read_steps::or_unavailable;
 use sql_tables::{PlacedEntry, SubmissionFacts};
 use sqlite::{Alter, Connection};
 use std::alloc::Global;

@@ -9,7 +9,7 @@ use Rattle.sql_statements.specs.Books.{Agrees}
 use Rattle.sql_statements.specs.Findings.{Finds}
 use Rattle.sql_statements.proofs.Books.{clean_before, left_read, read_agreed, write_undone}
 use Rattle.desk_book.specs.Book.{Book}
-use Rattle.sql_reads.specs.Answers.{Answers}
+use Rattle.sql_read_steps.specs.Answers.{Answers}
 use Rattle.sql_tables.specs.Layout.{desk_layout, IsBookIn, Sees}
 use Rattle.sql_tables.specs.Tables.{Tables}
 use Rattle.desk_store.specs.Promises.{CallTells, CallGives, CallGivesList}

@@ -1,6 +1,6 @@
 //! This crate has the store of a desk over SQL tables.
 //!
-//! A `SqlStore` reads by the queries of `sql_queries` and `sql_reads`, and makes each write in one
+//! A `SqlStore` reads by `sql_queries`, `sql_reads` and `sql_measures`, and makes each write in one
 //! transaction of the statements of `sql_writes`. That the tables say what the book says stands in the
 //! laws of `sql_read_laws` and `sql_write_laws`.
 #![tactic(auto)]

@@ -14,7 +14,7 @@ use desk_history::{Identity, ListOf, SuspenseRow, TakenFile};
 use desk_rules::{Company, Limits, Rates, Retry, RuleDay, SizedSubmission};
 use desk_store::{CutRows, IntakeRows, LastNumber, Store, StoreFault};
 use sql_read_laws::{files_of_tables, numbers_of_tables, registry_of_tables, rows_of_tables};
-use sql_reads::or_unavailable;
+use sql_read_steps::or_unavailable;
 use sql_write_laws::{
     company_follows, cut_follows, day_follows, holidays_follow, intake_follows, limits_follow,
     submission_follows,
@@ -63,7 +63,7 @@ impl<S: Alter> Store for SqlStore<S> {
 
     fn calendar(&mut self, alloc: Global) -> Result<Calendar, StoreFault> {
         registry_of_tables();
-        sql_reads::calendar(&mut self.conn, alloc)
+        or_unavailable(sql_queries::calendar(&mut self.conn, alloc))
     }
 
     fn company(&mut self, _alloc: Global, id: Id) -> Result<Option<Company>, StoreFault> {
@@ -124,12 +124,12 @@ impl<S: Alter> Store for SqlStore<S> {
         today: Day,
     ) -> Result<(u128, u128), StoreFault> {
         rows_of_tables();
-        sql_reads::exposures(&mut self.conn, alloc, company, today)
+        sql_measures::exposures(&mut self.conn, alloc, company, today)
     }
 
     fn rates(&mut self, alloc: Global, company: Id, today: Day) -> Result<Rates, StoreFault> {
         rows_of_tables();
-        sql_reads::rates_of(&mut self.conn, alloc, company, today)
+        sql_measures::rates_of(&mut self.conn, alloc, company, today)
     }
 
     fn waiting_of(

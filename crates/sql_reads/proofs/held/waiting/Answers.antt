@@ -4,8 +4,8 @@ use Rattle.desk_book.specs.declared.held_submission.HeldSubmission.{HeldSubmissi
 use Rattle.desk_rules.specs.declared.bodies.company.Company.{Company}
 use Rattle.sql_tables.specs.Composed.{waiting_of_in}
 use Rattle.sql_tables.specs.Tables.{Tables}
-use Rattle.sql_reads.proofs.Joined.{query, learnt, both, answered}
-use Rattle.sql_reads.proofs.ListReads.{flat_map_same}
+use Rattle.sql_read_steps.proofs.InTurn.{query, learnt, both, answered}
+use Rattle.sql_read_steps.proofs.ListReads.{flat_map_same}
 use Rattle.sql_reads.proofs.held.waiting.Goals as goal
 
 -- those of one company

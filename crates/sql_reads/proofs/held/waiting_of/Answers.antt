@@ -1,5 +1,5 @@
 use Rattle.sql_reads.proofs.HeldRows.{held_of_heads}
-use Rattle.sql_reads.proofs.Joined.{query, learnt, both, answered}
+use Rattle.sql_read_steps.proofs.InTurn.{query, learnt, both, answered}
 use Rattle.sql_reads.proofs.held.waiting_of.Goals as goal
 
 pub returns : goal.returns

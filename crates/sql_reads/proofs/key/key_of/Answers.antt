@@ -1,6 +1,6 @@
 use Rattle.std.proofs.Common.{◌∙◌, ap, sym, Some}
 use Rattle.sql_tables.specs.Composed.{key_in}
-use Rattle.sql_reads.proofs.Joined.{query, answered}
+use Rattle.sql_read_steps.proofs.InTurn.{query, answered}
 use Rattle.sql_reads.proofs.key.key_of.Goals as goal
 
 pub returns-in_ok-key-in-Operator : goal.returns-in_ok-key-in-Operator

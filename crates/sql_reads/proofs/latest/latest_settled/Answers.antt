@@ -4,8 +4,8 @@ use Rattle.std.specs.Prelude.{filter_map}
 use Rattle.sql_query_laws.proofs.Selects.{each_itself}
 use Rattle.sql_tables.specs.Composed.{settled_at}
 use Rattle.sql_tables.specs.TableReads.{places_between}
-use Rattle.sql_reads.proofs.Joined.{query, learnt, both, answered}
-use Rattle.sql_reads.proofs.ListReads.{filter_map_all}
+use Rattle.sql_read_steps.proofs.InTurn.{query, learnt, both, answered}
+use Rattle.sql_read_steps.proofs.ListReads.{filter_map_all}
 use Rattle.sql_reads.proofs.latest.latest_settled.Goals as goal
 
 pub returns : goal.returns

@@ -2,7 +2,7 @@ use Rattle.std.proofs.Common.{rules, ◌∙◌, ap, map, filter}
 use Rattle.std.proofs.lemmas.Fn.{filter_same}
 use Rattle.desk_book.specs.OpenRows.{is_open_row}
 use Rattle.sql_tables.specs.TableReads.{whole_row}
-use Rattle.sql_reads.proofs.Joined.{query, learnt, both, answered}
+use Rattle.sql_read_steps.proofs.InTurn.{query, learnt, both, answered}
 use Rattle.sql_reads.proofs.open_row.open_rows.Goals as goal
 
 pub returns : goal.returns

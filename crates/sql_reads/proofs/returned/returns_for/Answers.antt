@@ -1,7 +1,7 @@
 use Rattle.std.proofs.Common.{ap}
 use Rattle.sql_tables.specs.RowParts.{state_among}
 use Rattle.sql_tables.specs.TableReads.{returns_in}
-use Rattle.sql_reads.proofs.Joined.{query, learned, unasked}
+use Rattle.sql_read_steps.proofs.InTurn.{query, learned, unasked}
 use Rattle.sql_reads.proofs.WholeRows.{held_alike}
 use Rattle.sql_reads.proofs.returned.returns_for.Goals as goal
 

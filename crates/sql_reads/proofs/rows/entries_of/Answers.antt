@@ -1,6 +1,6 @@
 use Rattle.std.proofs.Common.{◌∙◌, ap, map}
 use Rattle.sql_tables.specs.TableReads.{whole_row}
-use Rattle.sql_reads.proofs.Joined.{query, answered_last}
+use Rattle.sql_read_steps.proofs.InTurn.{query, answered_last}
 use Rattle.sql_reads.proofs.rows.entries_of.Goals as goal
 
 pub returns : goal.returns

@@ -1,6 +1,6 @@
 use Rattle.std.proofs.Common.{◌∙◌}
 use Rattle.std.proofs.lemmas.Result.{IfOk-weaker}
-use Rattle.sql_reads.proofs.Joined.{query, learnt, both, answered}
+use Rattle.sql_read_steps.proofs.InTurn.{query, learnt, both, answered}
 use Rattle.sql_reads.proofs.WholeRows.{row_is_whole}
 use Rattle.sql_reads.proofs.rows.row.Goals as goal
 

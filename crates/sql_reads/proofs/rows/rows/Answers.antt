@@ -1,6 +1,6 @@
 use Rattle.std.proofs.Common.{◌∙◌, sym}
 use Rattle.sql_query_laws.proofs.Selects.{each_itself}
-use Rattle.sql_reads.proofs.Joined.{learnt, learned}
+use Rattle.sql_read_steps.proofs.InTurn.{learnt, learned}
 use Rattle.sql_reads.proofs.rows.rows.Goals as goal
 
 pub returns : goal.returns

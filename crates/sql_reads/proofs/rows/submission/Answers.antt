@@ -1,6 +1,6 @@
 use Rattle.std.proofs.Common.{◌≡◌, ◌∙◌, ap, sym, rules, Some, option_map}
 use Rattle.sql_tables.specs.TableReads.{row_under_in, whole_row}
-use Rattle.sql_reads.proofs.Joined.{query, read, both, answered, answered_last}
+use Rattle.sql_read_steps.proofs.InTurn.{query, read, both, answered, answered_last}
 use Rattle.sql_reads.proofs.rows.submission.Goals as goal
 
 pub returns-in_ok-row-in-Some : goal.returns-in_ok-row-in-Some

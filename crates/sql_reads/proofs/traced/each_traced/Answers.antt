@@ -1,8 +1,8 @@
 use Rattle.std.proofs.Common.{◌≡◌, ◌∙◌, ◌+◌, ap, sym, List, ◌∷◌, drop, ℕ, Option}
 use Rattle.std.proofs.lemmas.List.{drop_more}
 use Rattle.sql_tables.specs.Composed.{traced_in}
-use Rattle.sql_reads.proofs.Joined.{told_then, told_as, learnt}
-use Rattle.sql_reads.proofs.ListReads.{read_more}
+use Rattle.sql_read_steps.proofs.InTurn.{told_then, told_as, learnt}
+use Rattle.sql_read_steps.proofs.ListReads.{read_more}
 use Rattle.sql_reads.proofs.traced.each_traced.Goals as goal
 
 pub loop-trace-preserved : goal.loop-trace-preserved

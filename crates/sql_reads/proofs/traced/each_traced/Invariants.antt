@@ -2,7 +2,7 @@ use Rattle.std.proofs.Common.{◌≡◌, ◌++◌, drop, map}
 use Rattle.sqlite.specs.Held.{state}
 use Rattle.sql_tables.specs.Composed.{traced_in}
 use Rattle.sql_reads.specs.TracedEntries.{IsKnown}
-use Rattle.sql_reads.proofs.Joined.{Told}
+use Rattle.sql_read_steps.proofs.InTurn.{Told}
 use Rattle.sql_reads.proofs.traced.each_traced.Given as goal
 
 -- what was found so far is what the tables had at first, and what is known is so of them

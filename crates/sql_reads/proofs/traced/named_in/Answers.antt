@@ -1,6 +1,6 @@
 use Rattle.std.proofs.Common.{◌∙◌, ap, sym, Some, option_map}
 use Rattle.sql_tables.specs.Composed.{with_return_in}
-use Rattle.sql_reads.proofs.Joined.{read, both, answered}
+use Rattle.sql_read_steps.proofs.InTurn.{read, both, answered}
 use Rattle.sql_reads.proofs.traced.named_in.Goals as goal
 
 pub returns-in_ok-named-in-Some : goal.returns-in_ok-named-in-Some

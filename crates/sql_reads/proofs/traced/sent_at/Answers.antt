@@ -2,7 +2,7 @@ use Rattle.std.proofs.Common.{◌∙◌, ap, sym, Option, option_and_then}
 use Rattle.sql_tables.specs.Composed.{sent_with}
 use Rattle.sql_tables.specs.TableReads.{facts_in}
 use Rattle.sql_tables.specs.declared.row.entries.PlacedEntry.{PlacedEntry}
-use Rattle.sql_reads.proofs.Joined.{query, answered_last}
+use Rattle.sql_read_steps.proofs.InTurn.{query, answered_last}
 use Rattle.sql_reads.proofs.traced.sent_at.Goals as goal
 
 pub returns-in-Some : goal.returns-in-Some

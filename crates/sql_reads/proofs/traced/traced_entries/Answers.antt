@@ -2,7 +2,7 @@ use Rattle.std.proofs.Common.{◌∙◌, ◌≤◌, ap, map, subst}
 use Rattle.ach_fields.specs.Routing.{dfi_of, most_dfi}
 use Rattle.desk_history.specs.declared.identity.Identity.{Identity}
 use Rattle.sql_tables.specs.Composed.{traced_in}
-use Rattle.sql_reads.proofs.Joined.{query, answered_last}
+use Rattle.sql_read_steps.proofs.InTurn.{query, answered_last}
 use Rattle.sql_reads.proofs.traced.traced_entries.Goals as goal
 
 pub returns : goal.returns

@@ -1,5 +1,5 @@
 use Rattle.std.proofs.Common.{◌∙◌, ap, is_some}
-use Rattle.sql_reads.proofs.Joined.{query, answered}
+use Rattle.sql_read_steps.proofs.InTurn.{query, answered}
 use Rattle.sql_reads.proofs.traced.with_return.Goals as goal
 
 pub returns : goal.returns

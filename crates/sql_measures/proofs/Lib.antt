@@ -1,0 +1,4 @@
+pub mod Measures
+pub mod OpenHeads
+pub mod RatedHeads
+pub mod RowFacts
