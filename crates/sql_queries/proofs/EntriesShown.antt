@@ -14,14 +14,14 @@ use Rattle.sql_tables.specs.Description.{form, table}
 use Rattle.sql_tables.specs.DeskTables as the
 use Rattle.sql_tables.specs.Schema.{desk_schema}
 use Rattle.sql_tables.specs.declared.records.EntryRecord.{EntryRecord}
-use Rattle.sql_tables.specs.QueryRows.{entry_amount_row, numbered_entry_row, placed_entry_row}
-use Rattle.sql_tables.specs.Selected.{amount_of, numbered_of, placed_of}
-use Rattle.sql_tables.specs.TableReads.{is_entry_of, entries_in, amounts_in, cents_in, is_at_place, entry_at_place, place_in, is_between, places_between}
+use Rattle.sql_tables.specs.QueryRows.{entry_amount_row, numbered_entry_row, placed_entry_row, entry_place_row}
+use Rattle.sql_tables.specs.Selected.{amount_of, numbered_of, placed_of, entry_place_of}
+use Rattle.sql_tables.specs.TableReads.{is_entry_of, entries_in, amounts_in, cents_in, is_at_place, entry_at_place, is_placed_between, entry_places_in, place_in, is_between, places_between}
 use Rattle.std.specs.Prelude.{◌==◌, ◌&&◌, nat_le}
-use Rattle.sql_query_laws.proofs.Conditions.{one, two, number_is, number_least, number_most, number_if_any_is}
+use Rattle.sql_query_laws.proofs.Conditions.{one, two, number_is, number_least, number_most, number_if_any_is, number_if_any_least, number_if_any_most}
 use Rattle.sql_query_laws.proofs.Listings.{entries, numbers}
 use Rattle.sql_query_laws.proofs.Selects.{all_selected, first_selected}
-use Rattle.sql_query_laws.proofs.Texts.{places, entries_is, amounts_is, cents_is, sent_entry_is, places_is}
+use Rattle.sql_query_laws.proofs.Texts.{places, entries_is, amounts_is, cents_is, sent_entry_is, entry_places_is, places_is}
 use Rattle.sql_query_laws.specs.Shows.{ShowsAll, ShowsFirst}
 use Rattle.sql_query_laws.specs.Questions as questions
 
@@ -51,6 +51,11 @@ cents_shown c order = record {
 pub sent_entry_shown : (place : ℕ) → ShowsFirst questions.sent_entry.text (number place ∷ []) placed_entry_row (entry_at_place place)
 sent_entry_shown place =
     first_selected entries questions.sent_entry.text (column_is 12 0 ∷ []) (columns 11) (number place ∷ []) (is_at_place place) placed_of placed_entry_row sent_entry_is.asks (λ i e. one (number_if_any_is e.place place)) (λ i e. refl)
+
+pub entry_places_shown : (from to : ℕ) → ShowsAll questions.entry_places.text (number from ∷ number to ∷ []) entry_place_row (entry_places_in from to)
+entry_places_shown from to =
+    all_selected entries questions.entry_places.text (at_least 12 0 ∷ at_most 12 1 ∷ []) (places (1 ∷ 2 ∷ 12 ∷ [])) (number from ∷ number to ∷ []) (is_placed_between from to) entry_place_of entry_place_row
+    entry_places_is.asks (λ i e. two (number_if_any_least e.place from) (number_if_any_most e.place to)) (λ i e. refl)
 
 -- one number is a range of its own
 only : (a b : ℕ) → (nat_le b a && nat_le a b) ≡ (a == b)

@@ -1,11 +1,13 @@
 //! Entries, and the places of those that were sent.
 ghost use Rattle.std.specs.Prelude.{◌≡◌};
-ghost use Rattle.sql_tables.specs.TableReads.{entries_in, amounts_in, cents_in, entry_at_place, place_in, places_between, IsLastNumber};
+ghost use Rattle.sql_tables.specs.TableReads.{entries_in, amounts_in, cents_in, entry_at_place, entry_places_in, place_in, places_between, IsLastNumber};
 ghost use Rattle.sql_queries.specs.Asking.{Asks};
 
 use crate::rows::{all_of, cell_of, column_of, first_of};
 use ach_fields::Id;
-use sql_tables::{EntryAmount, NumberRecord, NumberedEntry, PlacedEntry, characters, natural};
+use sql_tables::{
+    EntryAmount, EntryPlace, NumberRecord, NumberedEntry, PlacedEntry, characters, natural,
+};
 use sqlite::{Alter, Connection, Error};
 use std::alloc::Global;
 
@@ -70,6 +72,25 @@ pub fn sent_entry<S: Alter>(
         conn,
         "SELECT company, ord, idx, routing, account, savings, prenote, cents, ident, name, info FROM entries WHERE seq = ?1 ORDER BY company, ord, idx",
         &[natural(place)?],
+    )
+}
+
+/// Gives of the entries that have the places of a range their submissions and their places, by company,
+/// submission and number.
+pub fn entry_places<S: Alter>(
+    conn: &mut Connection<S>,
+    alloc: Global,
+    from: u64,
+    to: u64,
+) -> Result<Vec<EntryPlace>, Error>
+    ensures { Asks S.Store conn.old conn.new result
+        (λ found t. found.items ≡ entry_places_in from to t) }
+{
+    all_of(
+        conn,
+        alloc,
+        "SELECT company, ord, seq FROM entries WHERE seq >= ?1 AND seq <= ?2 ORDER BY company, ord, idx",
+        &[natural(from)?, natural(to)?],
     )
 }
 

@@ -18,7 +18,9 @@ mod rows;
 mod submissions;
 mod waiting;
 
-pub use entries::{amounts_of, cents_of, entries_of, last_number, place, places, sent_entry};
+pub use entries::{
+    amounts_of, cents_of, entries_of, entry_places, last_number, place, places, sent_entry,
+};
 pub use files::{file_text, modifiers, taken_file};
 pub use holidays::calendar;
 pub use items::{

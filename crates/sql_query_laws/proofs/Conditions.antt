@@ -6,7 +6,7 @@ use Rattle.sqlite_value.specs.declared.keys.Collation.TheVariants.{Binary}
 use Rattle.sqlite_sql.specs.declared.ops.BinaryOp.TheVariants.{Compare}
 use Rattle.sqlite_sql.specs.declared.ops.CompareOp.TheVariants.{Eq, Ge, Le}
 use Rattle.sqlite_sql.specs.Ops.{binary, is_true}
-use Rattle.sql_tables.specs.TableReads.{is_place, is_since}
+use Rattle.sql_tables.specs.TableReads.{is_place, is_since, is_up_to}
 use Rattle.sql_statements.proofs.Conditions.{and_true, int_is, int_least, int_most, text_is}
 use Rattle.sql_tables.specs.Columns.{number, letter}
 
@@ -42,6 +42,11 @@ pub number_if_any_least : (o : Option ℕ) (n : ℕ) → is_true (binary (Compar
 unfolding binary
 number_if_any_least None n = refl
 number_if_any_least (Some m) n = number_least m n
+
+pub number_if_any_most : (o : Option ℕ) (n : ℕ) → is_true (binary (Compare Le Binary) (or_null number o) (number n)) ≡ is_up_to n o
+unfolding binary
+number_if_any_most None n = refl
+number_if_any_most (Some m) n = number_most m n
 
 -- WHERE of one, two or three tests
 pub one : {a x : Bool} → a ≡ x → (a && true) ≡ x

@@ -25,7 +25,7 @@ use Rattle.desk_rules.specs.declared.bodies.submission.SecCode.TheVariants as se
 use Rattle.sql_tables.specs.Columns.{number, flag, letter, line_reference, direction_text, cause_text, reason_text, entry_columns}
 use Rattle.sql_tables.specs.Description.{as_row}
 use Rattle.sql_tables.specs.DeskTables as the
-use Rattle.sql_tables.specs.QueryRows.{keyed_identity_row, submission_head_row, submission_facts_row, order_and_settlement_row, entry_amount_row, numbered_entry_row, placed_entry_row, entry_return_row, return_line_row, change_line_row, posting_line_row, suspense_line_row}
+use Rattle.sql_tables.specs.QueryRows.{keyed_identity_row, submission_head_row, submission_facts_row, order_and_settlement_row, entry_amount_row, numbered_entry_row, placed_entry_row, entry_place_row, entry_return_row, return_line_row, change_line_row, posting_line_row, suspense_line_row}
 use Rattle.sql_tables.specs.declared.row.items.EntryReturn.{EntryReturn}
 use Rattle.sql_tables.specs.declared.row.items.ReturnLine.{ReturnLine}
 use Rattle.sql_tables.specs.declared.row.lines.PostingLine.{PostingLine}
@@ -240,6 +240,10 @@ entry_amount_rows = read_back entry_amount_row (λ r. record { index = number_in
 pub placed_entry_rows : IsInjective placed_entry_row
 placed_entry_rows =
     read_back placed_entry_row (λ r. record { company = text_in (column r 0); order = number_in (column r 1); index = number_in (column r 2); entry = entry_in r 3 }) (λ e i. record e { entry = entry_back e.entry i })
+
+pub entry_place_rows : IsInjective entry_place_row
+entry_place_rows =
+    read_back entry_place_row (λ r. record { company = text_in (column r 0); order = number_in (column r 1); place = if_any_in number_in (column r 2) }) (λ e i. record e { place = number_if_any e.place i })
 
 -- in the four columns from this one on
 abbrev return_in : Row → ℕ → EntryReturn

@@ -87,6 +87,10 @@ pub sent_entry_is : IsQuestion questions.sent_entry
 unfolding understood first everything
 sent_entry_is = record { selects = refl; asks = record { selects = refl; body = refl; alone = refl; unlisted = refl; plain = (refl, refl) } }
 
+pub entry_places_is : IsQuestion questions.entry_places
+unfolding understood first everything
+entry_places_is = record { selects = refl; asks = record { selects = refl; body = refl; alone = refl; unlisted = refl; plain = (refl, refl) } }
+
 pub places_is : IsQuestion questions.places
 unfolding understood first everything
 places_is = record { selects = refl; asks = record { selects = refl; body = refl; alone = refl; unlisted = refl; plain = (refl, refl) } }

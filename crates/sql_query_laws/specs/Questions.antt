@@ -79,6 +79,9 @@ cents = ask_sum the.entries "cents" (is "company" ∷ is "ord" ∷ [])
 abbrev pub sent_entry : Question
 sent_entry = ask the.entries ("company" ∷ "ord" ∷ "idx" ∷ "routing" ∷ "account" ∷ "savings" ∷ "prenote" ∷ "cents" ∷ "ident" ∷ "name" ∷ "info" ∷ []) (is "seq" ∷ []) (rises "company" ∷ rises "ord" ∷ rises "idx" ∷ [])
 
+abbrev pub entry_places : Question
+entry_places = ask the.entries ("company" ∷ "ord" ∷ "seq" ∷ []) (from "seq" ∷ up_to "seq" ∷ []) (rises "company" ∷ rises "ord" ∷ rises "idx" ∷ [])
+
 abbrev pub places : Question
 places = ask the.sequences ("nth" ∷ []) (from "sequence" ∷ up_to "sequence" ∷ []) (rises "sequence" ∷ [])
 

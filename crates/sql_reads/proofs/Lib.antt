@@ -1,2 +1,3 @@
 pub mod HeldRows
+pub mod SettledRuns
 pub mod WholeRows

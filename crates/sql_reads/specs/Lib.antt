@@ -1,2 +1,4 @@
 pub mod ItemsFound
+pub mod Known
+pub mod SettledPlaces
 pub mod TracedEntries

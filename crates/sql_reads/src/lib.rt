@@ -9,6 +9,7 @@ mod files;
 mod held;
 mod items;
 mod key;
+mod last_submission;
 mod latest;
 mod open_row;
 mod returned;

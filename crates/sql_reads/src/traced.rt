@@ -1,18 +1,20 @@
 //! What traces name: entries that were sent, and whether they came back. Entries that come back one after
-//! another are often of one submission, so what was asked last of a submission is kept for the next entry.
-ghost use Rattle.std.specs.Prelude.{◌≡◌, Some, map, option_map, IfSome, true};
+//! another are often of one submission.
+ghost use Rattle.std.specs.Prelude.{◌≡◌, map, option_map};
 ghost use Rattle.sql_tables.specs.Composed.{sent_entry_of, sent_with, sent_at, sent_in, traced_in, with_return_in};
 ghost use Rattle.sql_tables.specs.TableReads.{facts_in};
 ghost use Rattle.sql_tables.specs.Tables.{Tables};
 ghost use Rattle.sql_queries.specs.Asking.{Asks};
 ghost use Rattle.sql_read_steps.specs.Answers.{LearnsOn};
-ghost use Rattle.sql_reads.specs.TracedEntries.{AreTraced, IsKnown, Knowing};
+ghost use Rattle.sql_reads.specs.Known.{Knowing};
+ghost use Rattle.sql_reads.specs.TracedEntries.{AreTraced};
 
-use ach_fields::{Id, Trace};
+use crate::last_submission::{LastSubmission, facts_of};
+use ach_fields::Trace;
 use desk_book::NamedEntry;
 use desk_history::SentEntry;
 use desk_store::StoreFault;
-use sql_queries::{entry_return, facts, identity, place, sent_entry};
+use sql_queries::{entry_return, identity, place, sent_entry};
 use sql_read_steps::or_unavailable;
 use sql_tables::{PlacedEntry, SubmissionFacts};
 use sqlite::{Alter, Connection};
@@ -40,58 +42,6 @@ fn sent_entry_from(
     })
 }
 
-// What was found last of a submission.
-#[derive(Clone, Copy)]
-struct LastSubmission {
-    company: Id,
-    order: u64,
-    facts: SubmissionFacts,
-}
-
-// Is the entry one of the submission?
-fn is_of(known: &LastSubmission, placed: &PlacedEntry) -> bool
-    ensures company { result ≡ true → known.now.company ≡ placed.now.company }
-    ensures order { result ≡ true → known.now.order ≡ placed.now.order }
-{
-    known.order == placed.order && known.company.bytes() == placed.company.bytes()
-}
-
-// What is known of the submission of an entry, if it was asked for last.
-fn known_of(last: &Option<LastSubmission>, placed: &PlacedEntry) -> Option<SubmissionFacts>
-    ensures { (t : Tables) → IsKnown last.now t → IfSome result
-        (λ facts. Some facts ≡ facts_in placed.now.company placed.now.order t) }
-{
-    match last {
-        Some(known) if is_of(known, placed) => Some(known.facts),
-        _ => None,
-    }
-}
-
-// What the submission of an entry says of it, which is asked for unless it was asked for last.
-fn facts_of<S: Alter>(
-    conn: &mut Connection<S>,
-    last: &mut Option<LastSubmission>,
-    placed: &PlacedEntry,
-) -> Result<Option<SubmissionFacts>, StoreFault>
-    ensures { LearnsOn S.Store conn.old conn.new result
-        (λ found. Knowing last.old last.new
-        (λ t. found ≡ facts_in placed.now.company placed.now.order t)) }
-{
-    let known = known_of(last, placed);
-    if known.is_some() {
-        return Ok(known);
-    }
-    let found = or_unavailable(facts(conn, placed.company, placed.order))?;
-    if let Some(facts) = &found {
-        *last = Some(LastSubmission {
-            company: placed.company,
-            order: placed.order,
-            facts: *facts,
-        });
-    }
-    Ok(found)
-}
-
 // An entry with what its submission says of it.
 fn sent_with<S: Alter>(
     conn: &mut Connection<S>,
@@ -103,7 +53,7 @@ fn sent_with<S: Alter>(
         (λ found. Knowing last.old last.new (λ t. found ≡ sent_with sequence placed.now
         (facts_in placed.now.company placed.now.order t))) }
 {
-    match facts_of(conn, last, placed)? {
+    match facts_of(conn, last, placed.company, placed.order)? {
         Some(facts) => Ok(sent_entry_from(sequence, placed, &facts)),
         None => Ok(None),
     }

@@ -4,8 +4,8 @@ use Rattle.sqlite_value.specs.Order.{Row, column}
 use Rattle.sqlite_value.specs.declared.value.Value.{Value}
 use Rattle.sql_tables.specs.Description.{as_row}
 use Rattle.sql_tables.specs.DeskTables as the
-use Rattle.sql_tables.specs.QueryRows.{keyed_identity_row, submission_head_row, submission_facts_row, order_and_settlement_row, numbered_entry_row, placed_entry_row, entry_return_row, return_line_row, change_line_row, posting_line_row, suspense_line_row, day_sum_row}
-use Rattle.sql_tables.specs.Selected.{keyed_identity_of, head_of, facts_of, order_of, numbered_of, placed_of, return_of, return_line_of, change_line_of, posting_line_of, day_sum_of}
+use Rattle.sql_tables.specs.QueryRows.{keyed_identity_row, submission_head_row, submission_facts_row, order_and_settlement_row, numbered_entry_row, placed_entry_row, entry_place_row, entry_return_row, return_line_row, change_line_row, posting_line_row, suspense_line_row, day_sum_row}
+use Rattle.sql_tables.specs.Selected.{keyed_identity_of, head_of, facts_of, order_of, numbered_of, placed_of, entry_place_of, return_of, return_line_of, change_line_of, posting_line_of, day_sum_of}
 use Rattle.sql_tables.specs.declared.records.BalanceRecord.{BalanceRecord}
 use Rattle.sql_tables.specs.declared.records.ChangeRecord.{ChangeRecord}
 use Rattle.sql_tables.specs.declared.records.DeskRecord.{DeskRecord}
@@ -35,6 +35,9 @@ numbered e = refl
 
 placed : (e : EntryRecord) → placed_entry_row (placed_of e) ≡ columns_in (as_row the.entries e) (0 ∷ 1 ∷ 2 ∷ 3 ∷ 4 ∷ 5 ∷ 6 ∷ 7 ∷ 8 ∷ 9 ∷ 10 ∷ [])
 placed e = refl
+
+entry_place : (e : EntryRecord) → entry_place_row (entry_place_of e) ≡ columns_in (as_row the.entries e) (0 ∷ 1 ∷ 11 ∷ [])
+entry_place e = refl
 
 back : (r : ReturnRecord) → entry_return_row (return_of r) ≡ columns_in (as_row the.returns r) (3 ∷ 4 ∷ 5 ∷ 6 ∷ [])
 back r = refl

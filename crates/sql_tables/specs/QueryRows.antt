@@ -9,6 +9,7 @@ use Rattle.desk_rules.specs.Fields.{sec_text}
 use Rattle.desk_rules.specs.ReturnCodes.{code_text}
 use Rattle.sql_tables.specs.Columns.{number, flag, decimal_text, line_reference, direction_text, cause_text, reason_text, entry_columns, retried_columns}
 use Rattle.sql_tables.specs.declared.row.entries.EntryAmount.{EntryAmount}
+use Rattle.sql_tables.specs.declared.row.entries.EntryPlace.{EntryPlace}
 use Rattle.sql_tables.specs.declared.row.entries.NumberedEntry.{NumberedEntry}
 use Rattle.sql_tables.specs.declared.row.entries.PlacedEntry.{PlacedEntry}
 use Rattle.sql_tables.specs.declared.row.items.ChangeLine.{ChangeLine}
@@ -51,6 +52,10 @@ entry_amount_row a = number a.index ∷ flag a.prenote ∷ number a.cents ∷ []
 -- company, ord, idx, then the entry's own
 abbrev pub placed_entry_row : PlacedEntry → Row
 placed_entry_row e = Text e.company ∷ number e.order ∷ number e.index ∷ entry_columns e.entry
+
+-- company, ord, seq
+abbrev pub entry_place_row : EntryPlace → Row
+entry_place_row e = Text e.company ∷ number e.order ∷ or_null number e.place ∷ []
 
 -- idx, code, day, late
 abbrev pub entry_return_row : EntryReturn → Row

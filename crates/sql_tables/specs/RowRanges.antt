@@ -19,6 +19,7 @@ use Rattle.desk_rules.specs.ReturnCodes.{IsCode}
 use Rattle.sql_tables.specs.Ranges.{FitsIfAny, IsStoredDay, IsText, IsRecordText}
 use Rattle.sql_tables.specs.declared.records.NumberRecord.{NumberRecord}
 use Rattle.sql_tables.specs.declared.row.entries.EntryAmount.{EntryAmount}
+use Rattle.sql_tables.specs.declared.row.entries.EntryPlace.{EntryPlace}
 use Rattle.sql_tables.specs.declared.row.entries.NumberedEntry.{NumberedEntry}
 use Rattle.sql_tables.specs.declared.row.entries.PlacedEntry.{PlacedEntry}
 use Rattle.sql_tables.specs.declared.row.items.ChangeLine.{ChangeLine}
@@ -81,6 +82,9 @@ EntryAmountFits a = IsEntryNumber a.index × IsInRange 0 most_entry_cents a.cent
 
 abbrev pub PlacedEntryFits : PlacedEntry → Type 0
 PlacedEntryFits e = IsTrue (is_id e.company) × (1 ≤ e.order) × IsEntryNumber e.index × EntryFits e.entry
+
+abbrev pub EntryPlaceFits : EntryPlace → Type 0
+EntryPlaceFits e = IsTrue (is_id e.company) × (1 ≤ e.order)
 
 abbrev pub EntryReturnFits : EntryReturn → Type 0
 EntryReturnFits r = IsEntryNumber r.index × IsCode r.code × IsStoredDay r.day

@@ -8,6 +8,7 @@ use Rattle.sql_tables.specs.declared.records.EntryRecord.{EntryRecord}
 use Rattle.sql_tables.specs.declared.records.ReturnRecord.{ReturnRecord}
 use Rattle.sql_tables.specs.declared.records.SubmissionRecord.{SubmissionRecord}
 use Rattle.sql_tables.specs.declared.row.entries.EntryAmount.{EntryAmount}
+use Rattle.sql_tables.specs.declared.row.entries.EntryPlace.{EntryPlace}
 use Rattle.sql_tables.specs.declared.row.entries.NumberedEntry.{NumberedEntry}
 use Rattle.sql_tables.specs.declared.row.entries.PlacedEntry.{PlacedEntry}
 use Rattle.sql_tables.specs.declared.row.items.ChangeLine.{ChangeLine}
@@ -39,6 +40,9 @@ amount_of e = record { index = e.index; prenote = e.entry.prenote; cents = e.ent
 
 abbrev pub placed_of : EntryRecord → PlacedEntry
 placed_of e = record { company = e.company; order = e.order; index = e.index; entry = e.entry }
+
+abbrev pub entry_place_of : EntryRecord → EntryPlace
+entry_place_of e = record { company = e.company; order = e.order; place = e.place }
 
 abbrev pub return_of : ReturnRecord → EntryReturn
 return_of r = record { index = r.index; code = r.code; day = r.day; late = r.late }

@@ -17,7 +17,7 @@ use Rattle.sql_tables.specs.Beside.{is_balance_of}
 use Rattle.sql_tables.specs.CutTables.{is_row, is_entry_row}
 use Rattle.sql_tables.specs.KeyOrders.{IsInOrder}
 use Rattle.sql_tables.specs.RowParts.{row_of_parts}
-use Rattle.sql_tables.specs.Selected.{head_of, facts_of, order_of, amount_of, numbered_of, placed_of, return_of, return_line_of, change_line_of, day_sum_of}
+use Rattle.sql_tables.specs.Selected.{head_of, facts_of, order_of, amount_of, numbered_of, placed_of, entry_place_of, return_of, return_line_of, change_line_of, day_sum_of}
 use Rattle.sql_tables.specs.Tables.{Tables}
 use Rattle.sql_tables.specs.declared.records.AuthorizationRecord.{AuthorizationRecord}
 use Rattle.sql_tables.specs.declared.records.EntryRecord.{EntryRecord}
@@ -25,6 +25,7 @@ use Rattle.sql_tables.specs.declared.records.NumberRecord.{NumberRecord}
 use Rattle.sql_tables.specs.declared.records.ReturnRecord.{ReturnRecord}
 use Rattle.sql_tables.specs.declared.records.SubmissionRecord.{SubmissionRecord}
 use Rattle.sql_tables.specs.declared.row.entries.EntryAmount.{EntryAmount}
+use Rattle.sql_tables.specs.declared.row.entries.EntryPlace.{EntryPlace}
 use Rattle.sql_tables.specs.declared.row.entries.NumberedEntry.{NumberedEntry}
 use Rattle.sql_tables.specs.declared.row.entries.PlacedEntry.{PlacedEntry}
 use Rattle.sql_tables.specs.declared.row.items.ChangeLine.{ChangeLine}
@@ -180,6 +181,17 @@ is_at_place place e = is_place place e.place
 -- SELECT company, ord, idx, .. FROM entries WHERE seq = ? ORDER BY company, ord, idx
 abbrev pub entry_at_place : (place : ℕ) → Tables → Option PlacedEntry
 entry_at_place place t = option_map placed_of (find (is_at_place place) t.entries)
+
+abbrev pub is_up_to : (to : ℕ) → (place : Option ℕ) → Bool
+is_up_to to None = false
+is_up_to to (Some n) = nat_le n to
+
+abbrev pub is_placed_between : (from : ℕ) → (to : ℕ) → EntryRecord → Bool
+is_placed_between from to e = is_since from e.place && is_up_to to e.place
+
+-- SELECT company, ord, seq FROM entries WHERE seq >= ? AND seq <= ? ORDER BY company, ord, idx
+abbrev pub entry_places_in : (from : ℕ) → (to : ℕ) → Tables → List EntryPlace
+entry_places_in from to t = map entry_place_of (filter (is_placed_between from to) t.entries)
 
 -- SELECT sequence, nth FROM numbers ORDER BY nth DESC LIMIT 1: the one of the last place, where no two have one
 abbrev pub IsLastNumber : Option NumberRecord → Tables → Type 0

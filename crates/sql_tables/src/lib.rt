@@ -20,7 +20,7 @@ pub use records::{
     AuthorizationRecord, BalanceRecord, ChangeRecord, DeskRecord, EntryRecord, NumberRecord,
     PostingRecord, ReturnRecord, SubmissionRecord, SuspenseRecord,
 };
-pub use row::entries::{EntryAmount, NumberedEntry, PlacedEntry};
+pub use row::entries::{EntryAmount, EntryPlace, NumberedEntry, PlacedEntry};
 pub use row::items::{ChangeLine, EntryReturn, ReturnLine};
 pub use row::lines::PostingLine;
 pub use row::registry::KeyedIdentity;

@@ -2,10 +2,10 @@
 ghost use Rattle.std.specs.Prelude.{◌≡◌, ◌≤◌, ◌+◌, ◌↔◌, [], ◌∷◌, Some, IsTrue};
 ghost use Rattle.sqlite_value.specs.Order.{column};
 ghost use Rattle.desk_rules.specs.Fields.{entry_cents_of};
-ghost use Rattle.sql_tables.specs.QueryRows.{entry_amount_row, numbered_entry_row, placed_entry_row};
+ghost use Rattle.sql_tables.specs.QueryRows.{entry_amount_row, entry_place_row, numbered_entry_row, placed_entry_row};
 ghost use Rattle.sql_tables.specs.Columns.{entry_columns};
 ghost use Rattle.sql_tables.specs.Reading.{Reads};
-ghost use Rattle.sql_tables.specs.RowRanges.{EntryAmountFits, EntryFits, NumberedEntryFits, PlacedEntryFits};
+ghost use Rattle.sql_tables.specs.RowRanges.{EntryAmountFits, EntryFits, EntryPlaceFits, NumberedEntryFits, PlacedEntryFits};
 
 use super::FromRow;
 use crate::column::{read_column, read_number, read_ordinal, read_text_or_empty};
@@ -39,6 +39,16 @@ pub struct PlacedEntry {
     /// Its number in the submission, from 1.
     pub index: u64,
     pub entry: Entry,
+}
+
+/// An `EntryPlace` says of which submission an entry is, and when it was sent among all entries.
+#[derive(Clone, Copy, Debug, PartialEq, Eq, Drop)]
+pub struct EntryPlace {
+    pub company: Id,
+    /// The number of its submission in the company.
+    pub order: u64,
+    /// Its place among all sent entries, once a cut has sent it.
+    pub place: Option<u64>,
 }
 
 impl FromRow for NumberedEntry {
@@ -94,6 +104,26 @@ impl FromRow for PlacedEntry {
             order,
             index,
             entry,
+        })
+    }
+}
+
+impl FromRow for EntryPlace {
+    ghost stored_row = { entry_place_row };
+
+    ghost fits = { EntryPlaceFits };
+
+    fn from_row(row: &Row) -> Option<EntryPlace> {
+        if row.column_count() != 3 {
+            return None;
+        }
+        let company = read_column(row, 0)?;
+        let order = read_ordinal(row, 1)?;
+        let place = read_column(row, 2)?;
+        Some(EntryPlace {
+            company,
+            order,
+            place,
         })
     }
 }

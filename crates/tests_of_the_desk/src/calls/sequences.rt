@@ -1,5 +1,11 @@
 //! These scripts try sequences at their end, and used again.
-use super::script::{HOLIDAYS, MILL, Script, holds_after};
+use super::script::{
+    BAKE, DAY, HOLIDAYS, MILL, NINTH, Script, follow, holds_after, new_lists, new_tables,
+};
+use crate::samples::day;
+use desk_core::{Desk, Store};
+use std::alloc::Global;
+use std::process::Abort;
 
 // A desk has sent almost as many entries as there are sequences.
 const OLD: [u32; 3] = [1, 2, 9_999_998];
@@ -60,4 +66,62 @@ const LAST_USED: Script = &[
 #[test]
 fn the_last_sequence_is_used(rt: HostRuntime) {
     holds_after(&rt, &OLD, LAST_USED);
+}
+
+// Two entries of MILL01 are sent first, then two of BAKE01 and one of MILL01: so those of the second and
+// the third sequence stand in another order in the table.
+const IN_TURN: Script = &[
+    MILL,
+    BAKE,
+    HOLIDAYS,
+    DAY,
+    (
+        "MILL01 submit PAY-1 debit 2025-01-09 091000019 100 200",
+        "PAY-1 order 1 entries 2 cents 300",
+    ),
+    ("desk cut", "2025-01-08 sent 2 in [A], lapsed 0"),
+    NINTH,
+    (
+        "BAKE01 submit PAY-1 credit 2025-01-13 091000019 100 200",
+        "PAY-1 order 1 entries 2 cents 300",
+    ),
+    (
+        "MILL01 submit PAY-2 debit 2025-01-10 091000019 400",
+        "PAY-2 order 2 entries 1 cents 400",
+    ),
+    ("desk cut", "2025-01-09 sent 3 in [A], lapsed 0"),
+];
+
+// The first and the last sequence of a range, and the latest day on which one of its entries settles.
+const SETTLED: [(u32, u32, Option<&[u8]>); 8] = [
+    (1, 1, Some(b"2025-01-09")),
+    (1, 2, Some(b"2025-01-09")),
+    (2, 3, Some(b"2025-01-13")),
+    (4, 5, Some(b"2025-01-13")),
+    (1, 5, Some(b"2025-01-13")),
+    (5, 5, Some(b"2025-01-10")),
+    (5, 9, Some(b"2025-01-10")),
+    (6, 9, None),
+];
+
+fn settle_in_turn<S: Store + Drop>(rt: &(impl Abort + Alloc<A = Global>), store: S) {
+    let mut desk = Desk::new(store);
+    follow(rt, &mut desk, IN_TURN);
+    let mut store = desk.into_store();
+    for (from, to, text) in SETTLED {
+        let wanted = match text {
+            Some(text) => Some(day(rt, text)),
+            None => None,
+        };
+        assert!(rt;
+            store.latest_settled(rt.alloc(), from, to) == Ok(wanted),
+            "{from} to {to}"
+        );
+    }
+}
+
+#[test]
+fn ranges_of_several_cuts_settle(rt: HostRuntime) {
+    settle_in_turn(&rt, new_lists(&rt));
+    settle_in_turn(&rt, new_tables(&rt));
 }

@@ -4,7 +4,9 @@ use super::registry::id;
 use crate::samples::{reference, routing, short_text};
 use desk_history::RetriedEntry;
 use desk_rules::{AccountKind, Direction, Entry, EntryCents, RuleDay, SecCode};
-use sql_tables::{NumberedEntry, OrderAndSettlement, PlacedEntry, SubmissionFacts, SubmissionHead};
+use sql_tables::{
+    EntryPlace, NumberedEntry, OrderAndSettlement, PlacedEntry, SubmissionFacts, SubmissionHead,
+};
 use std::process::Abort;
 use std::test::Fail;
 
@@ -182,6 +184,23 @@ fn placed_entries(rt: HostRuntime) -> Result<(), Fail> {
     for (at, value) in [(0, "7"), (1, "-7"), (2, "1001"), (10, "7")] {
         assert!(rt;
             is_refused::<PlacedEntry>(rt.alloc(), &columns, at, value)?,
+            "{at}: {value}"
+        );
+    }
+    let place = EntryPlace {
+        company: id(&rt),
+        order: 7,
+        place: Some(9),
+    };
+    assert!(rt; read(rt.alloc(), &["'MILL01'", "7", "9"])? == Some(place));
+    let unsent = EntryPlace {
+        place: None,
+        ..place
+    };
+    assert!(rt; read(rt.alloc(), &["'MILL01'", "7", "NULL"])? == Some(unsent));
+    for (at, value) in [(0, "7"), (1, "0"), (2, "-9")] {
+        assert!(rt;
+            is_refused::<EntryPlace>(rt.alloc(), &["'MILL01'", "7", "9"], at, value)?,
             "{at}: {value}"
         );
     }

@@ -1,7 +1,7 @@
 use Rattle.std.proofs.Common.{◌≡◌, ◌++◌, drop, map}
 use Rattle.sqlite.specs.Held.{state}
 use Rattle.sql_tables.specs.Composed.{traced_in}
-use Rattle.sql_reads.specs.TracedEntries.{IsKnown}
+use Rattle.sql_reads.specs.Known.{IsKnown}
 use Rattle.sql_read_steps.proofs.InTurn.{Told}
 use Rattle.sql_reads.proofs.traced.each_traced.Given as goal
 
