@@ -282,6 +282,14 @@ def traced_rows(db, sequence):
     db.execute("SELECT idx, code, day, late FROM returns WHERE company = ?1 AND ord = ?2 AND idx = ?3 ORDER BY no", entry[:3]).fetchall()
 
 
+def latest_rows(db, count):
+    """When the youngest entries of the sequences up to one settled."""
+    places = [place for place, in db.execute("SELECT nth FROM numbers WHERE sequence BETWEEN 1 AND ?1 ORDER BY sequence", (count,))]
+    rows = db.execute("SELECT company, ord, seq FROM entries WHERE seq BETWEEN ?1 AND ?2 ORDER BY company, ord, idx",
+                      (places[0], places[-1])).fetchall()
+    max(db.execute(FACTS, submission).fetchone()[3] for submission in {row[:2] for row in rows})
+
+
 def reads(name, path, weeks):
     """Reads of the first company, each some times, by the store of the desk and then by SQLite; and what its
     messages ask of the desk."""
@@ -302,6 +310,7 @@ def reads(name, path, weeks):
     queries["submission S0"] = lambda: submission_rows(db, company, "S0")
     queries["items"] = lambda: item_rows(db, company)
     queries["traced 60"] = lambda: traced_rows(db, 60)
+    queries["settled 1000"] = lambda: latest_rows(db, 1000)
     queries["entries"] = lambda: all_submission_rows(db, company)
     for what, query in queries.items():
         word, *rest = what.split()
