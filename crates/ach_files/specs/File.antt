@@ -5,7 +5,7 @@ use Rattle.ach_records.specs.Record.{IsRecord, entry_cents, entry_direction}
 use Rattle.ach_records.specs.declared.Kind.TheVariants as kinds
 use Rattle.ach_files.specs.Structure.{Item, Batch, File, main_records, records_of}
 use Rattle.ach_files.specs.Limits.{most_bytes}
-use Rattle.ach_files.specs.Facts.{FileFacts, facts_in}
+use Rattle.ach_files.specs.Facts.{FileFacts, Content, facts_in}
 use Rattle.ach_files.specs.Totals.{sums_of_items, sums_of_batches, batch_control_sums, file_control_sums, control_batches, control_blocks, blocks, Agrees}
 
 -- a return or a change: the second digit of the code is 1 or 6, and one 99 follows, or, where the amount is zero, one 98
@@ -59,3 +59,11 @@ pub record IsFile (bytes : List ℕ) (f : File) : Type 0 where
 -- the bytes are a file, and this is taken from it
 abbrev pub IsReadAs : List ℕ → FileFacts → Type 0
 IsReadAs bytes facts = (f : File) × IsFile bytes f × (facts ≡ facts_in f)
+
+-- these bytes were read, and are such a file
+abbrev pub IsContentOf : List ℕ → Content → Type 0
+IsContentOf bytes content = (content.bytes ≡ bytes) × IsReadAs bytes content.facts
+
+-- the facts of this file were taken
+abbrev pub HasFactsOf : File → Content → Type 0
+HasFactsOf f content = content.facts ≡ facts_in f

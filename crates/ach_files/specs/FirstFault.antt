@@ -1,6 +1,6 @@
 -- The fault of bytes: what is wrong at the first place where something is.
 use Rattle.ach_fields.specs.Characters.{is_printable}
-use Rattle.std.specs.Prelude.{◌≡◌, ◌⊎◌, ℕ, ◌+◌, Bool, false, not, List, [], ◌∷◌, ◌++◌, length, Option, Some, None, if◌then◌else◌, ◌==◌, nat_le}
+use Rattle.std.specs.Prelude.{◌≡◌, ◌⊎◌, ℕ, ◌+◌, Bool, false, not, List, [], ◌∷◌, ◌++◌, length, Option, Some, None, Result, Err, MatchResult, if◌then◌else◌, ◌==◌, nat_le}
 use Rattle.ach_files.specs.declared.fault.FileFault.{FileFault}
 use Rattle.ach_files.specs.declared.fault.FileFault.TheVariants as faults
 use Rattle.ach_files.specs.declared.fault.Fault.{Fault}
@@ -74,13 +74,33 @@ first_fault seen (b ∷ bytes) = or_else (place_fault (length seen) (layout seen
 abbrev pub early_fault : List ℕ → Option Fault
 early_fault bytes = first_fault [] bytes
 
+-- a byte is bad
+abbrev pub HasEarlyFault : List ℕ → Type 0
+HasEarlyFault bytes = (f : Fault) × (early_fault bytes ≡ Some f)
+
 -- the fault at the first bad place: a byte, or the end
 abbrev pub fault : List ℕ → Option Fault
 fault bytes = or_else (early_fault bytes) (end_fault (layout bytes))
 
+-- out of memory, which no record is at fault for
+abbrev pub IsNoMemory : Fault → Type 0
+IsNoMemory f = f ≡ fault_at 0 faults.NoMemory
+
 -- out of memory, or this fault
 abbrev pub Tells : Fault → Option Fault → Type 0
-Tells f fault = (f ≡ fault_at 0 faults.NoMemory) ⊎ (fault ≡ Some f)
+Tells f fault = IsNoMemory f ⊎ (fault ≡ Some f)
 
 abbrev pub TellsKind : FileFault → Option FileFault → Type 0
 TellsKind f fault = (f ≡ faults.NoMemory) ⊎ (fault ≡ Some f)
+
+-- nothing is wrong and this holds, or the fault is told
+abbrev pub HoldsOrTells : Result (Unit {0}) Fault → Option Fault → Type 0 → Type 0
+HoldsOrTells result fault P = MatchResult result (λ _. (fault ≡ None) × P) (λ f. Tells f fault)
+
+-- the same of a fault without its place
+abbrev pub HoldsOrTellsKind : Result (Unit {0}) FileFault → Option FileFault → Type 0 → Type 0
+HoldsOrTellsKind result fault P = MatchResult result (λ _. (fault ≡ None) × P) (λ f. TellsKind f fault)
+
+-- each call answers so after a fault, and after the end
+abbrev pub AnswersFailed : {A : Type 0} → Result A Fault → Type 0
+AnswersFailed result = result ≡ Err (fault_at 0 faults.Failed)

@@ -1,5 +1,5 @@
 -- How bytes are laid out: the whole records, and where the next byte stands.
-use Rattle.std.specs.Prelude.{ℕ, Bool, true, false, ◌||◌, List, [], ◌∷◌, ◌++◌, length, if◌then◌else◌, ◌==◌}
+use Rattle.std.specs.Prelude.{◌≡◌, ℕ, Bool, true, false, ◌||◌, List, [], ◌∷◌, ◌++◌, length, if◌then◌else◌, ◌==◌}
 use Rattle.std.specs.List.{fold}
 
 -- where the next byte stands: in a record, of which these bytes came; right after one; after a CR that
@@ -56,3 +56,7 @@ start = record { records = []; place = InRecord [] }
 
 unfoldable pub layout : List ℕ → Layout
 layout bytes = fold next_layout start bytes
+
+-- a record may begin after these bytes
+abbrev pub MayBeginAfter : List ℕ → Type 0
+MayBeginAfter bytes = may_begin (layout bytes).place ≡ true

@@ -15,4 +15,5 @@ pub mod RecordFault
 pub mod ReturnsAndChanges
 pub mod SoFar
 pub mod Structure
+pub mod Taking
 pub mod Totals

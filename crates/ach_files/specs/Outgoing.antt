@@ -1,6 +1,7 @@
 -- A file that is to be printed: its rows, its sums, and its text.
-use Rattle.std.specs.Prelude.{◌≡◌, ◌⊎◌, ℕ, ◌+◌, ◌-◌, ◌*◌, ◌%◌, Bool, true, false, not, ◌&&◌, ◌||◌, List, [], ◌∷◌, ◌++◌, map, length, replicate, Option, Some, None, if◌then◌else◌, nat_le, nat_lt, min}
+use Rattle.std.specs.Prelude.{◌≡◌, ◌⊎◌, ℕ, ◌+◌, ◌-◌, ◌*◌, ◌%◌, Bool, true, false, not, ◌&&◌, ◌||◌, List, [], ◌∷◌, ◌++◌, map, length, replicate, Option, Some, None, if◌then◌else◌, nat_le, nat_lt, min, Vec}
 use Rattle.std.specs.List.{list_all, list_any, sum_by, flat_map}
+use Rattle.std.specs.declared.alloc.Global.{Global}
 use Rattle.ach_records.specs.declared.print.EntryText.{EntryText}
 use Rattle.ach_records.specs.declared.print.BatchControlText.{BatchControlText}
 use Rattle.ach_records.specs.declared.print.FileControlText.{FileControlText}
@@ -45,8 +46,12 @@ addenda_rows trace (addendas.Payment information) = addenda05_row (record { info
 addenda_rows trace (addendas.Change c) = change98_row c ∷ []
 addenda_rows trace (addendas.Return r) = return99_row r ∷ []
 
+-- the rows after that of the entry
+abbrev pub addenda_rows_of : OutgoingEntry → List (List Value)
+addenda_rows_of e = addenda_rows e.trace e.addenda
+
 unfoldable pub entry_rows : OutgoingEntry → List (List Value)
-entry_rows e = entry_row (entry_of e) ∷ addenda_rows e.trace e.addenda
+entry_rows e = entry_row (entry_of e) ∷ addenda_rows_of e
 
 -- ---- sums
 
@@ -190,6 +195,14 @@ print_fault o = if not (fields_fit o) then Some faults.BadField else totals_faul
 abbrev pub TellsPrint : PrintFault → Option PrintFault → Type 0
 TellsPrint f fault = ((f ≡ faults.NoMemory) × (fault ≡ None)) ⊎ (fault ≡ Some f)
 
+-- nothing is wrong with the file, and this is its text
+abbrev pub IsPrintOf : Outgoing → Vec ℕ Global → Type 0
+IsPrintOf o text = (print_fault o ≡ None) × (text.items ≡ outgoing_text o)
+
+-- the fault of the file, or out of memory where it has none
+abbrev pub IsPrintFaultOf : Outgoing → PrintFault → Type 0
+IsPrintFaultOf o f = TellsPrint f (print_fault o)
+
 -- ---- what the code keeps of sums: the low ten digits of the hash, and of the others whether they are small
 abbrev pub sums_cap : ℕ
 sums_cap = most_cents + 1
@@ -207,6 +220,10 @@ IsText None values = row_fits values ≡ false
 -- the records stand after the old bytes now
 abbrev pub Puts : List ℕ → List ℕ → List (List Value) → Type 0
 Puts old new rows = new ≡ old ++ page (map row_text rows)
+
+-- the record of a row stands after the old bytes now, with an LF
+abbrev pub PutsRow : List ℕ → List ℕ → List Value → Type 0
+PutsRow old new row = new ≡ old ++ (row_text row ++ 10 ∷ [])
 
 -- the new bytes begin with the old ones
 abbrev pub BeginsWith : List ℕ → List ℕ → Type 0

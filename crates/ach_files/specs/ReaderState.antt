@@ -1,10 +1,13 @@
 -- What the reader keeps, and how a record changes it.
-use Rattle.std.specs.Prelude.{ℕ, ◌+◌, ◌*◌, ◌^◌, List, [], take, Option, Some, None, if◌then◌else◌}
+use Rattle.std.specs.Prelude.{◌≡◌, ◌≤◌, ℕ, ◌+◌, ◌*◌, ◌^◌, Bool, List, [], ◌++◌, length, take, Option, Some, None, if◌then◌else◌}
 use Rattle.ach_records.specs.Record.{batch_sec, header_key}
 use Rattle.ach_records.specs.declared.Kind.{Kind}
 use Rattle.ach_records.specs.declared.Kind.TheVariants as kinds
+use Rattle.sha2.specs.Hashers.{Holds256}
+use Rattle.sha2.specs.declared.Sha256.{Sha256}
 use Rattle.ach_files.specs.declared.facts.ItemFacts.{ItemFacts}
 use Rattle.ach_files.specs.declared.sums.Sums.{Sums}
+use Rattle.ach_files.specs.declared.stage.OpenBatch.{OpenBatch}
 use Rattle.ach_files.specs.declared.stage.PendingEntry.{PendingEntry}
 use Rattle.ach_files.specs.declared.stage.Stage.{Stage}
 use Rattle.ach_files.specs.declared.stage.Stage.TheVariants as stages
@@ -15,6 +18,7 @@ use Rattle.ach_files.specs.declared.place.Step.TheVariants as steps
 use Rattle.ach_files.specs.Totals.{low_digits}
 use Rattle.ach_files.specs.Facts.{facts_from}
 use Rattle.ach_files.specs.RecordFault.{pending_entry_of}
+use Rattle.ach_files.specs.FirstFault.{record_of}
 use Rattle.ach_files.specs.Layout.{Place, InRecord, AfterRecord, AfterReturn, AfterLine, InTail, Move, Put, Go, Stray}
 
 abbrev pub no_sums : Sums
@@ -40,10 +44,14 @@ stage_after (stages.AwaitingAddenda d o w) kinds.Return99 text = stages.InBatch 
 stage_after (stages.AwaitingAddenda d o w) kinds.Change98 text = stages.InBatch d (record { sec = o.sec; sums = joint_sums o.sums (item_sums w) })
 stage_after s _ _ = s
 
+-- what an entry of a batch says, with its addenda
+abbrev pub pending_facts : OpenBatch → PendingEntry → Kind → List ℕ → ItemFacts
+pending_facts o w kind text = facts_from o.sec w.transaction_code w.cents kind text
+
 -- what the record completes
 abbrev pub completed_item : Stage → Kind → List ℕ → Option ItemFacts
-completed_item (stages.AwaitingAddenda d o w) kinds.Return99 text = Some (facts_from o.sec w.transaction_code w.cents kinds.Return99 text)
-completed_item (stages.AwaitingAddenda d o w) kinds.Change98 text = Some (facts_from o.sec w.transaction_code w.cents kinds.Change98 text)
+completed_item (stages.AwaitingAddenda d o w) kinds.Return99 text = Some (pending_facts o w kinds.Return99 text)
+completed_item (stages.AwaitingAddenda d o w) kinds.Change98 text = Some (pending_facts o w kinds.Change98 text)
 completed_item _ _ _ = None
 
 -- all that a stage has summed up: less than twelve digits for each record
@@ -74,10 +82,21 @@ move_of part (steps.Put n) = Put (take n part)
 move_of part (steps.Go position) = Go (place_of part position)
 move_of part steps.Stray = Stray
 
+-- it numbers the record in which a byte stands that does the step after so many records
+abbrev pub IsRecordNumber : Step → (records number : ℕ) → Type 0
+IsRecordNumber step records number =
+    (before : List (List ℕ)) (part : List ℕ) → records ≡ length before →
+    number ≡ record_of before (move_of part step)
+
 -- the bytes of a record in part
 abbrev pub part_length : Position → ℕ
 part_length (positions.InRecord n) = n
 part_length _ = 0
+
+-- the answer is that at the place, whatever bytes are in part
+abbrev pub AnswersAt : Position → (Place → Bool) → Bool → Type 0
+AnswersAt position asks answer =
+    (part : List ℕ) → part_length position ≤ length part → answer ≡ asks (place_of part position)
 
 abbrev pub step_part_length : Step → ℕ
 step_part_length (steps.Put n) = n
@@ -88,3 +107,7 @@ step_part_length steps.Stray = 0
 abbrev pub digest_text : Kind → List ℕ → List ℕ
 digest_text kinds.Filler text = []
 digest_text _ text = text
+
+-- these bytes are added to the message that a hasher holds
+abbrev pub HoldsMore : (old new : Sha256) → (bytes : List ℕ) → Type 0
+HoldsMore old new bytes = (m : List ℕ) → Holds256 old m → Holds256 new (m ++ bytes)

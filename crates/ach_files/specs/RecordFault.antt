@@ -88,6 +88,10 @@ control_fault (stages.BetweenBatches d) n kinds.FileControl text =
     else block_fault n text (sums_differ (file_control_sums text) d.sums)
 control_fault _ n _ text = None
 
+-- a 9 after these batches
+abbrev pub file_control_fault : BatchesSoFar → ℕ → List ℕ → Option FileFault
+file_control_fault d n text = control_fault (stages.BetweenBatches d) n kinds.FileControl text
+
 -- what is wrong with the n-th record, where the records before it led to the stage
 unfoldable pub fault_after_stage : Stage → ℕ → Kind → List ℕ → Option FileFault
 fault_after_stage stage n kind text =

@@ -1,7 +1,8 @@
 -- A file of returns and changes that is to be printed, as a file.
-use Rattle.std.specs.Prelude.{◌≡◌, ◌⊎◌, ℕ, ◌%◌, List, [], ◌∷◌, ◌++◌, map}
-use Rattle.std.specs.List.{All}
+use Rattle.std.specs.Prelude.{◌≡◌, ◌⊎◌, ◌≤◌, ℕ, ◌%◌, List, [], ◌∷◌, ◌++◌, map, length}
+use Rattle.std.specs.List.{All, flat_map}
 use Rattle.ach_records.specs.Print.{row_text, entry_row, file_header_row, batch_header_row, addenda05_row, change98_row, return99_row, batch_control_row, file_control_row, value_bytes, number_or_blanks}
+use Rattle.ach_records.specs.Record.{header_key}
 use Rattle.ach_fields.specs.Text.{with_blanks_after}
 use Rattle.ach_files.specs.declared.facts.ItemFacts.{ItemFacts}
 use Rattle.ach_files.specs.declared.facts.ReturnOrChange.{ReturnOrChange}
@@ -12,7 +13,10 @@ use Rattle.ach_files.specs.declared.outgoing.OutgoingEntry.{OutgoingEntry}
 use Rattle.ach_files.specs.declared.outgoing.OutgoingBatch.{OutgoingBatch}
 use Rattle.ach_files.specs.declared.outgoing.Outgoing.{Outgoing}
 use Rattle.ach_files.specs.Structure.{Item, Batch, File}
-use Rattle.ach_files.specs.Outgoing.{entry_of, batch_control, file_control, filler_count, main_count}
+use Rattle.ach_files.specs.Facts.{file_facts}
+use Rattle.ach_files.specs.File.{IsFile}
+use Rattle.ach_files.specs.Limits.{most_bytes}
+use Rattle.ach_files.specs.Outgoing.{entry_of, batch_control, file_control, filler_count, main_count, outgoing_text}
 
 -- a 99, or a 98 where the amount is zero
 abbrev pub IsReturnOrChange : Addenda → ℕ → Type 0
@@ -55,9 +59,17 @@ file_of o = record {
 
 -- ---- what is read again
 
+-- what is printed is that file, where it isn't too long
+abbrev pub IsReadAgain : Outgoing → Type 0
+IsReadAgain o = length (outgoing_text o) ≤ most_bytes → IsFile (outgoing_text o) (file_of o)
+
 -- origin, date, time and modifier
 abbrev pub outgoing_key : Outgoing → List ℕ
 outgoing_key o = with_blanks_after 10 (32 ∷ o.header.origin) ++ (with_blanks_after 6 o.header.date ++ (value_bytes (number_or_blanks 4 o.header.time) ++ with_blanks_after 1 o.header.modifier.now))
+
+-- the file has the key that was given
+abbrev pub KeepsKey : Outgoing → Type 0
+KeepsKey o = header_key (file_of o).header ≡ outgoing_key o
 
 abbrev pub outgoing_code : Addenda → List ℕ
 outgoing_code (addendas.Change c) = with_blanks_after 3 c.code.now
@@ -90,3 +102,8 @@ outgoing_facts sec e = record {
   original_dfi = outgoing_dfi e.addenda;
   return_or_change = outgoing_return_or_change e.addenda;
 }
+
+-- the items of the file say what was given
+abbrev pub KeepsFacts : Outgoing → Type 0
+KeepsFacts o =
+    file_facts (file_of o) ≡ flat_map (λ b. map (outgoing_facts b.header.sec.now) b.entries.now) o.batches.now

@@ -2,10 +2,10 @@
 ghost use Rattle.std.specs.Prelude.{◌≡◌, ◌+◌, ◌≤◌, ◌<◌, ◌^◌, true, Some, None};
 ghost use Rattle.ach_records.specs.Record.{has_digits};
 ghost use Rattle.ach_records.specs.declared.Kind.TheVariants as kinds;
-ghost use Rattle.ach_files.specs.Facts.{facts_from, return_or_change_of};
+ghost use Rattle.ach_files.specs.Facts.{return_or_change_of};
 ghost use Rattle.ach_files.specs.RecordFault.{pending_entry_of};
 ghost use Rattle.ach_files.specs.Limits.{most_bytes};
-ghost use Rattle.ach_files.specs.ReaderState.{stage_after, completed_item, weight, most_weight};
+ghost use Rattle.ach_files.specs.ReaderState.{stage_after, pending_facts, completed_item, weight, most_weight};
 
 use crate::facts::{ItemFacts, ReturnOrChange};
 use crate::stage::{BatchesSoFar, OpenBatch, PendingEntry, Stage};
@@ -85,8 +85,7 @@ fn return_or_change(kind: Kind, text: &[u8; 94]) -> ReturnOrChange
 
 #[tactic(auto, unfolding(crate::specs::Facts::facts_from))]
 fn facts(batch: &OpenBatch, entry: &PendingEntry, kind: Kind, text: &[u8; 94]) -> ItemFacts
-    ensures { result ≡ facts_from batch.now.sec entry.now.transaction_code entry.now.cents kind
-        text.now }
+    ensures { result ≡ pending_facts batch.now entry.now kind text.now }
 {
     ItemFacts {
         sec_code: batch.sec,

@@ -1,9 +1,8 @@
 //! An `Incoming` is a file that is whole in memory.
-ghost use Rattle.std.specs.Prelude.{◌≡◌, ◌<◌, Some, MatchResult, IfErr, IsTrue, ◌↔◌, [], length, slice_get};
-ghost use Rattle.ach_files.specs.File.{IsReadAs};
-ghost use Rattle.ach_files.specs.FirstFault.{Tells, fault, fault_at};
-ghost use Rattle.ach_files.specs.Memory.{RunsOut};
-ghost use Rattle.ach_files.specs.declared.fault.FileFault.TheVariants as faults;
+ghost use Rattle.std.specs.Prelude.{◌≡◌, ◌<◌, Some, MatchResult, IsTrue, ◌↔◌, [], length, slice_get};
+ghost use Rattle.ach_files.specs.File.{IsContentOf};
+ghost use Rattle.ach_files.specs.FirstFault.{Tells, fault};
+ghost use Rattle.ach_files.specs.Memory.{GivesUpOnlyIf, RunsOut};
 
 use crate::facts::ItemFacts;
 use crate::fault::Fault;
@@ -95,11 +94,8 @@ impl<'a> Incoming<'a> {
     }
 
     pub(crate) fn read(alloc: Global, bytes: &'a [u8]) -> Result<Incoming<'a>, Fault>
-        ensures read { MatchResult result
-            (λ incoming. (incoming.bytes ≡ bytes.now) × IsReadAs bytes.now incoming.facts)
-            (λ f. Tells f (fault bytes.now)) }
-        ensures memory { IfErr result
-            (λ f. f ≡ fault_at 0 faults.NoMemory → RunsOut 0 [] bytes.now) }
+        ensures read { MatchResult result (IsContentOf bytes.now) (λ f. Tells f (fault bytes.now)) }
+        ensures memory { GivesUpOnlyIf result (RunsOut 0 [] bytes.now) }
     {
         let mut reader = Reader::new(alloc);
         reader.feed(bytes)?;

@@ -3,10 +3,9 @@
 ghost use Rattle.std.specs.Prelude.{◌≡◌, ◌+◌, ◌≤◌, true, false, Some, None, IsNone};
 ghost use Rattle.ach_records.specs.Record.{has_digits};
 ghost use Rattle.ach_records.specs.declared.Kind.TheVariants as kinds;
-ghost use Rattle.ach_files.specs.declared.stage.Stage.TheVariants as stages;
 ghost use Rattle.ach_files.specs.Totals.{batch_control_sums, file_control_sums};
 ghost use Rattle.ach_files.specs.Limits.{most_bytes};
-ghost use Rattle.ach_files.specs.RecordFault.{may_follow, is_misplaced, has_amount, is_forward, sums_differ, control_fault, fault_after_stage};
+ghost use Rattle.ach_files.specs.RecordFault.{may_follow, is_misplaced, has_amount, is_forward, sums_differ, control_fault, file_control_fault, fault_after_stage};
 
 use crate::fault::FileFault;
 use crate::stage::{BatchesSoFar, Stage};
@@ -107,8 +106,7 @@ fn file_control_sums(text: &[u8; 94]) -> Sums
 fn file_control_fault(so_far: &BatchesSoFar, number: u32, text: &[u8; 94]) -> Option<FileFault>
     requires digits { has_digits kinds.FileControl text.now ≡ true }
     requires few { number ≤ most_bytes }
-    ensures { result ≡ control_fault
-        (stages.BetweenBatches so_far.now) number kinds.FileControl text.now }
+    ensures { result ≡ file_control_fault so_far.now number text.now }
 {
     if file_control_batches(text) != so_far.batches {
         return Some(FileFault::BadCount);

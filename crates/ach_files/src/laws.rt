@@ -4,15 +4,12 @@ ghost use Rattle.std.specs.Prelude.{◌≡◌, ℕ, List, Some, None, length, �
 ghost use Rattle.ach_files.specs.File.{IsFile, AreRecords};
 ghost use Rattle.ach_files.specs.Limits.{most_bytes};
 ghost use Rattle.ach_files.specs.Structure.{File, file_text};
-ghost use Rattle.ach_files.specs.FirstFault.{early_fault, fault};
+ghost use Rattle.ach_files.specs.FirstFault.{early_fault, fault, HasEarlyFault};
 ghost use Rattle.ach_files.specs.declared.fault.Fault.{Fault};
-ghost use Rattle.std.specs.Prelude.{map, ◌<◌, ◌+◌, ◌%◌, ◌++◌};
-ghost use Rattle.std.specs.List.{flat_map};
-ghost use Rattle.ach_records.specs.Record.{header_key};
-ghost use Rattle.ach_files.specs.Facts.{file_facts};
+ghost use Rattle.std.specs.Prelude.{◌<◌, ◌+◌, ◌%◌, ◌++◌};
 ghost use Rattle.ach_files.specs.declared.outgoing.Outgoing.{Outgoing};
-ghost use Rattle.ach_files.specs.Outgoing.{print_fault, outgoing_text, filler_count, AllFit, outgoing_rows};
-ghost use Rattle.ach_files.specs.ReturnsAndChanges.{AreReturnsAndChanges, file_of, outgoing_key, outgoing_facts};
+ghost use Rattle.ach_files.specs.Outgoing.{print_fault, filler_count, AllFit, outgoing_rows};
+ghost use Rattle.ach_files.specs.ReturnsAndChanges.{AreReturnsAndChanges, IsReadAgain, KeepsKey, KeepsFacts};
 
 /// Bytes are a file exactly where they have no fault.
 pub fn file_or_fault()
@@ -33,8 +30,7 @@ pub fn printed_is_file()
 
 /// A printed file of returns and changes is that file, where it isn't too long.
 pub fn returns_and_changes_are_read()
-    ensures { (o : Outgoing) → print_fault o ≡ None → AreReturnsAndChanges o →
-        length (outgoing_text o) ≤ most_bytes → IsFile (outgoing_text o) (file_of o) }
+    ensures { (o : Outgoing) → print_fault o ≡ None → AreReturnsAndChanges o → IsReadAgain o }
 {}
 
 /// Where no fault is told, each row has a text, those of the controls too.
@@ -44,11 +40,8 @@ pub fn rows_have_texts()
 
 /// The key and what the items say are read again as they were given.
 pub fn facts_are_read_again()
-    ensures key { (o : Outgoing) → print_fault o ≡ None →
-        header_key (file_of o).header ≡ outgoing_key o }
-    ensures facts { (o : Outgoing) → print_fault o ≡ None → AreReturnsAndChanges o →
-        file_facts (file_of o) ≡ flat_map (λ b. map (outgoing_facts b.header.sec.now) b.entries.now)
-        o.batches.now }
+    ensures key { (o : Outgoing) → print_fault o ≡ None → KeepsKey o }
+    ensures facts { (o : Outgoing) → print_fault o ≡ None → AreReturnsAndChanges o → KeepsFacts o }
 {}
 
 /// The fillers are the fewest that make the number of records a multiple of ten.
@@ -59,12 +52,10 @@ pub fn fillers_are_few()
 
 /// A fault that is found among the first bytes is the fault of every input that begins with them.
 pub fn faults_stand()
-    ensures { (bytes rest : List ℕ) (f : Fault) → early_fault bytes ≡ Some f →
-        fault (bytes ++ rest) ≡ Some f }
+    ensures { (s rest : List ℕ) (f : Fault) → early_fault s ≡ Some f → fault (s ++ rest) ≡ Some f }
 {}
 
 /// More than 4,194,304 bytes have a fault, whatever they are, in the first 4,194,305.
 pub fn long_bytes_have_faults()
-    ensures { (bytes : List ℕ) → most_bytes < length bytes →
-        (f : Fault) × (early_fault bytes ≡ Some f) }
+    ensures { (bytes : List ℕ) → most_bytes < length bytes → HasEarlyFault bytes }
 {}

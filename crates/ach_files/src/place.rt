@@ -1,10 +1,10 @@
 //! A `Position` says where the next byte stands.
 
-ghost use Rattle.std.specs.Prelude.{◌≡◌, ◌≤◌, ℕ, List, length};
+ghost use Rattle.std.specs.Prelude.{◌≡◌, ◌≤◌, ℕ, List};
 ghost use Rattle.ach_files.specs.Layout.{move_at, is_end, may_begin};
-ghost use Rattle.ach_files.specs.FirstFault.{record_of, is_inside};
+ghost use Rattle.ach_files.specs.FirstFault.{is_inside};
 ghost use Rattle.ach_files.specs.Limits.{most_bytes};
-ghost use Rattle.ach_files.specs.ReaderState.{place_of, move_of, part_length, step_part_length};
+ghost use Rattle.ach_files.specs.ReaderState.{place_of, move_of, part_length, step_part_length, IsRecordNumber, AnswersAt};
 
 /// A `Position` says where the next byte stands.
 #[derive(Clone, Copy)]
@@ -68,8 +68,7 @@ pub fn step_of(position: Position, byte: u8) -> Step
 /// Numbers the record in which a byte stands that does this step after so many records.
 pub fn record_of(step: Step, records: u32) -> u32
     requires { records ≤ most_bytes }
-    ensures { (before : List (List ℕ)) (part : List ℕ) → records ≡ length before →
-        result ≡ record_of before (move_of part step) }
+    ensures { IsRecordNumber step records result }
 {
     match step {
         Step::Put(_) => records + 1,
@@ -80,8 +79,7 @@ pub fn record_of(step: Step, records: u32) -> u32
 /// Did some bytes of a record come, and not all?
 #[tactic(auto, using(std::proofs::lemmas::Grind::common_steps))]
 pub fn is_inside(position: Position) -> bool
-    ensures { (part : List ℕ) → part_length position ≤ length part →
-        result ≡ is_inside (place_of part position) }
+    ensures { AnswersAt position is_inside result }
 {
     match position {
         Position::InRecord(count) => count > 0,
@@ -92,8 +90,7 @@ pub fn is_inside(position: Position) -> bool
 /// May a record begin here?
 #[tactic(auto, using(std::proofs::lemmas::Grind::common_steps))]
 pub fn may_begin(position: Position) -> bool
-    ensures { (part : List ℕ) → part_length position ≤ length part →
-        result ≡ may_begin (place_of part position) }
+    ensures { AnswersAt position may_begin result }
 {
     match position {
         Position::InRecord(count) => count == 0,

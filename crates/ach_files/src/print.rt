@@ -1,6 +1,6 @@
 //! The text of an outgoing file.
-ghost use Rattle.std.specs.Prelude.{◌≡◌, None, MatchResult};
-ghost use Rattle.ach_files.specs.Outgoing.{outgoing_text, print_fault, TellsPrint};
+ghost use Rattle.std.specs.Prelude.{MatchResult};
+ghost use Rattle.ach_files.specs.Outgoing.{IsPrintOf, IsPrintFaultOf};
 
 mod control;
 mod fields;
@@ -22,9 +22,7 @@ use std::alloc::Global;
 /// Prints a file: its records with an LF after each, then the fewest records of nines that make their
 /// number a multiple of ten. Nothing is printed where a fault is told.
 pub fn print_file(alloc: Global, outgoing: &Outgoing) -> Result<Vec<u8>, PrintFault>
-    ensures { MatchResult result
-        (λ text. (print_fault outgoing.now ≡ None) × (text.items ≡ outgoing_text outgoing.now))
-        (λ f. TellsPrint f (print_fault outgoing.now)) }
+    ensures { MatchResult result (IsPrintOf outgoing.now) (IsPrintFaultOf outgoing.now) }
 {
     let measures = measure(outgoing.batches);
     if !fits(outgoing, measures.fit) {

@@ -1,11 +1,9 @@
 //! A file that is whole in memory is read at once.
-ghost use Rattle.std.specs.Prelude.{◌≡◌, [], MatchResult, IfOk, IfErr};
+ghost use Rattle.std.specs.Prelude.{[], MatchResult, IfOk, IfErr};
 ghost use Rattle.ach_files.specs.Structure.{File};
-ghost use Rattle.ach_files.specs.Facts.{facts_in};
-ghost use Rattle.ach_files.specs.File.{IsFile, IsReadAs};
-ghost use Rattle.ach_files.specs.FirstFault.{Tells, fault_at, fault};
-ghost use Rattle.ach_files.specs.Memory.{RunsOut};
-ghost use Rattle.ach_files.specs.declared.fault.FileFault.TheVariants as faults;
+ghost use Rattle.ach_files.specs.File.{IsFile, IsContentOf, HasFactsOf};
+ghost use Rattle.ach_files.specs.FirstFault.{IsNoMemory, Tells, fault};
+ghost use Rattle.ach_files.specs.Memory.{GivesUpOnlyIf, RunsOut};
 
 use crate::fault::Fault;
 use crate::incoming::Incoming;
@@ -17,16 +15,13 @@ use std::alloc::Global;
 /// names the record in which that byte stands. Out of memory is `NoMemory`, in record 0.
 pub fn read_file(alloc: Global, bytes: &[u8]) -> Result<Incoming<'_>, Fault>
     // What is read is a file, and these are its items, key and digest.
-    ensures found { IfOk result
-        (λ incoming. (incoming.bytes ≡ bytes.now) × IsReadAs bytes.now incoming.facts) }
+    ensures found { IfOk result (IsContentOf bytes.now) }
     // A file is read, unless memory runs out.
-    ensures only { (f : File) → IsFile bytes.now f →
-        MatchResult result (λ incoming. incoming.facts ≡ facts_in f)
-        (λ e. e ≡ fault_at 0 faults.NoMemory) }
+    ensures only { (f : File) → IsFile bytes.now f → MatchResult result (HasFactsOf f) IsNoMemory }
     // Else it's the fault at the first bad place.
     ensures told { IfErr result (λ e. Tells e (fault bytes.now)) }
     // Memory runs out only where an item needs it, before any fault.
-    ensures memory { IfErr result (λ e. e ≡ fault_at 0 faults.NoMemory → RunsOut 0 [] bytes.now) }
+    ensures memory { GivesUpOnlyIf result (RunsOut 0 [] bytes.now) }
 {
     Incoming::read(alloc, bytes)
 }

@@ -1,7 +1,5 @@
 //! A `Reader` reads a file in pieces.
-ghost use Rattle.std.specs.Prelude.{◌≡◌, ◌++◌, [], List, ℕ, Some, None, Err, IfErr, MatchResult};
-ghost use Rattle.ach_files.specs.FirstFault.{Tells};
-ghost use Rattle.ach_files.specs.declared.fault.FileFault.TheVariants as faults;
+ghost use Rattle.std.specs.Prelude.{◌≡◌, [], List, ℕ};
 
 use crate::fault::{Fault, FileFault};
 use crate::recogniser::Recogniser;
@@ -26,9 +24,9 @@ pub struct Reader {
 
 impl Reader {
     ghost use Rattle.ach_files.specs.Has.{HasRead, HasFailed, reader_room};
-    ghost use Rattle.ach_files.specs.File.{IsReadAs};
-    ghost use Rattle.ach_files.specs.Memory.{RunsOut};
-    ghost use Rattle.ach_files.specs.FirstFault.{early_fault, fault, fault_at};
+    ghost use Rattle.ach_files.specs.Memory.{NeedsRoom};
+    ghost use Rattle.ach_files.specs.FirstFault.{AnswersFailed};
+    ghost use Rattle.ach_files.specs.Taking.{ReadsPiece, GivesFacts};
 
     /// Begins a file of which nothing came yet. It takes no memory until the first item.
     pub fn new(alloc: Global) -> Reader
@@ -41,15 +39,10 @@ impl Reader {
 
     /// Takes the next piece. An empty piece changes nothing.
     pub fn feed(&mut self, piece: &[u8]) -> Result<(), Fault>
-        ensures read { (bytes : List ℕ) → HasRead self.old bytes → MatchResult result
-            (λ _. (early_fault (bytes ++ piece.now) ≡ None) × HasRead self.new (bytes ++ piece.now))
-            (λ f. Tells f (early_fault (bytes ++ piece.now)) × HasFailed self.new) }
+        ensures read { (seen : List ℕ) → HasRead self.old seen → ReadsPiece self.new seen piece.now result }
         // Memory runs out only where an item needs it, before any fault.
-        ensures memory { (bytes : List ℕ) → HasRead self.old bytes →
-            IfErr result
-            (λ f. f ≡ fault_at 0 faults.NoMemory → RunsOut (reader_room self.old) bytes piece.now) }
-        ensures failed { HasFailed self.old →
-            (result ≡ Err (fault_at 0 faults.Failed)) × HasFailed self.new }
+        ensures memory { NeedsRoom (HasRead self.old) (reader_room self.old) piece.now result }
+        ensures failed { HasFailed self.old → AnswersFailed result × HasFailed self.new }
         ensures nothing { piece.now ≡ [] → self.new ≡ self.old }
     {
         if self.state.is_none() {
@@ -68,10 +61,8 @@ impl Reader {
 
     /// Ends the input, and gives what is taken from the file, or the fault at its end.
     pub fn finish(&mut self) -> Result<Taken, Fault>
-        ensures read { (bytes : List ℕ) → HasRead self.old bytes → MatchResult result
-            (λ taken. IsReadAs bytes taken)
-            (λ f. fault bytes ≡ Some f) }
-        ensures failed { HasFailed self.old → result ≡ Err (fault_at 0 faults.Failed) }
+        ensures read { (bytes : List ℕ) → HasRead self.old bytes → GivesFacts bytes result }
+        ensures failed { HasFailed self.old → AnswersFailed result }
         ensures done { HasFailed self.new }
     {
         let Some(recogniser) = self.state.take() else {

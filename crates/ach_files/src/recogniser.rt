@@ -2,14 +2,13 @@
 
 ghost use Rattle.std.specs.List.{list_all};
 ghost use Rattle.ach_fields.specs.Characters.{is_printable};
-ghost use Rattle.std.specs.Prelude.{IfOk, true, ◌≡◌, ◌+◌, ◌≤◌, ◌<◌, ◌++◌, ◌∷◌, [], ℕ, List, Some, None, length, take, MatchResult, OnOk, IfErr, Option, Err, OnErr, IsSome, vec_capacity, vec_len};
+ghost use Rattle.std.specs.Prelude.{IfOk, true, ◌≡◌, ◌+◌, ◌≤◌, ◌<◌, ◌++◌, [], length, take, OnOk, IfErr, Option, OnErr, IsSome, vec_capacity, vec_len};
 ghost use Rattle.ach_files.specs.Limits.{most_bytes};
-ghost use Rattle.ach_files.specs.ReaderState.{part_length, weight, most_weight, digest_text, place_of};
+ghost use Rattle.ach_files.specs.ReaderState.{part_length, weight, most_weight, digest_text, place_of, HoldsMore};
 ghost use Rattle.std.specs.Option.{option_to_list};
-ghost use Rattle.sha2.specs.Hashers.{Holds256};
 ghost use Rattle.ach_files.specs.declared.fault.FileFault.TheVariants as faults;
 ghost use Rattle.ach_files.specs.declared.fault.FileFault.{FileFault};
-ghost use Rattle.ach_files.specs.FirstFault.{Tells, TellsKind, map_fault, record_of, is_inside, fault_at};
+ghost use Rattle.ach_files.specs.FirstFault.{IsNoMemory, Tells, TellsKind, map_fault, record_of, is_inside};
 
 use crate::advance::{advance, completed_item};
 use crate::facts::ItemFacts;
@@ -57,8 +56,7 @@ fn keep_item(facts: &mut Vec<ItemFacts>, item: Option<ItemFacts>) -> Result<(), 
 }
 
 fn digest_record(hasher: &mut Sha256, kind: Kind, text: &[u8; 94])
-    ensures { (m : List ℕ) → Holds256 hasher.old m →
-        Holds256 hasher.new (m ++ digest_text kind text.now) }
+    ensures { HoldsMore hasher.old hasher.new (digest_text kind text.now) }
 {
     match kind {
         Kind::Filler => {}
@@ -69,7 +67,7 @@ fn digest_record(hasher: &mut Sha256, kind: Kind, text: &[u8; 94])
 // The fault of that kind in that record; out of memory stands in none.
 fn fault_in_record(kind: FileFault, number: u32) -> Fault
     ensures value { (o : Option FileFault) → TellsKind kind o → Tells result (map_fault number o) }
-    ensures memory { result ≡ fault_at 0 faults.NoMemory → kind ≡ faults.NoMemory }
+    ensures memory { IsNoMemory result → kind ≡ faults.NoMemory }
 {
     match kind {
         FileFault::NoMemory => Fault { kind, at: 0 },
@@ -78,15 +76,10 @@ fn fault_in_record(kind: FileFault, number: u32) -> Fault
 }
 
 impl Recogniser {
-    ghost use Rattle.ach_files.specs.RecordFault.{record_fault};
-    ghost use Rattle.ach_files.specs.SoFar.{BeforeHeader, Closed, file_so_far};
-    ghost use Rattle.ach_files.specs.Layout.{Layout, next_layout, layout_after_move, Put, layout, may_begin};
-    ghost use Rattle.ach_files.specs.FirstFault.{place_fault, byte_fault, early_fault, end_fault};
-    ghost use Rattle.ach_files.specs.Structure.{File};
-    ghost use Rattle.ach_files.specs.Facts.{facts_in};
-    ghost use Rattle.ach_files.specs.Has.{HasRecords, HasLayout, Has, HasBytes, item_room};
-    ghost use Rattle.ach_files.specs.Memory.{RunsOut, items_in, item_count};
-    ghost use Rattle.ach_files.specs.declared.place.Position.TheVariants as positions;
+    ghost use Rattle.ach_files.specs.Layout.{Layout, may_begin};
+    ghost use Rattle.ach_files.specs.Has.{HasLayout, HasBytes, item_room};
+    ghost use Rattle.ach_files.specs.Memory.{NeedsRoom};
+    ghost use Rattle.ach_files.specs.Taking.{TakesRecord, EndsRecord, RecordNeedsRoom, TakesInRecord, InRecordNeedsRoom, TakesByte, ByteNeedsRoom, TakesWhole, WholeNeedsRoom, TakesSome, TakesPiece, EndsAs};
 
     pub fn new(alloc: Global) -> Recogniser
         ensures { HasBytes result [] }
@@ -106,15 +99,9 @@ impl Recogniser {
     fn take_record(&mut self, number: u32) -> Result<(), FileFault>
         requires number { number ≡ self.old.records + 1 }
         requires room { self.old.records < self.old.taken }
-        ensures records { (records : List (List ℕ)) → HasRecords self.old records → MatchResult result
-            (λ _. (record_fault records self.old.part ≡ None) × HasRecords self.new (records ++ self.old.part ∷ []))
-            (λ f. TellsKind f (record_fault records self.old.part)) }
-        ensures position { OnOk result
-            ((self.new.position ≡ positions.AfterRecord) × (self.new.taken ≡ self.old.taken)) }
-        ensures memory { (records : List (List ℕ)) → HasRecords self.old records →
-            IfErr result
-            (λ f. f ≡ faults.NoMemory → (record_fault records self.old.part ≡ None) ×
-            (item_room self.old < items_in (records ++ self.old.part ∷ []))) }
+        ensures records { TakesRecord self.old self.new result }
+        ensures position { OnOk result (EndsRecord self.old self.new) }
+        ensures memory { RecordNeedsRoom self.old result }
         ensures room { OnOk result (item_room self.old ≤ item_room self.new) }
     {
         let kind = kind_of(&self.part);
@@ -134,15 +121,9 @@ impl Recogniser {
     fn put(&mut self, count: usize, byte: u8) -> Result<(), FileFault>
         requires count { count < 94 }
         requires room { self.old.records < self.old.taken }
-        ensures layout { (l : Layout) → HasRecords self.old l.records → MatchResult result
-            (λ _. (byte_fault l.records (take count self.old.part) byte ≡ None) × HasLayout self.new (layout_after_move l byte (Put (take count self.old.part))))
-            (λ f. TellsKind f (byte_fault l.records (take count self.old.part) byte)) }
+        ensures layout { TakesInRecord self.old self.new count byte result }
         ensures taken { OnOk result (self.new.taken ≡ self.old.taken) }
-        ensures memory { (l : Layout) → HasRecords self.old l.records →
-            IfErr result
-            (λ f. f ≡ faults.NoMemory →
-            (byte_fault l.records (take count self.old.part) byte ≡ None) × (item_room self.old <
-            items_in (layout_after_move l byte (Put (take count self.old.part))).records)) }
+        ensures memory { InRecordNeedsRoom self.old count byte result }
         ensures room { OnOk result (item_room self.old ≤ item_room self.new) }
     {
         if is_line_end(byte) {
@@ -162,13 +143,8 @@ impl Recogniser {
 
     // Takes the next byte.
     fn take(&mut self, byte: u8) -> Result<(), Fault>
-        ensures read { (l : Layout) (n : ℕ) → Has self.old l n → MatchResult result
-            (λ _. (place_fault n l byte ≡ None) × Has self.new (next_layout l byte) (n + 1))
-            (λ f. Tells f (place_fault n l byte)) }
-        ensures memory { (l : Layout) (n : ℕ) → Has self.old l n →
-            IfErr result
-            (λ f. f ≡ fault_at 0 faults.NoMemory → (place_fault n l byte ≡ None) ×
-            (item_room self.old < items_in (next_layout l byte).records)) }
+        ensures read { TakesByte self.old self.new byte result }
+        ensures memory { ByteNeedsRoom self.old byte result }
         ensures room { OnOk result (item_room self.old ≤ item_room self.new) }
     {
         let step = step_of(self.position, byte);
@@ -201,13 +177,8 @@ impl Recogniser {
         requires whole { length text.now ≡ 94 }
         requires printable { list_all is_printable text.now ≡ true }
         requires room { self.old.taken + 94 ≤ most_bytes }
-        ensures read { (bytes : List ℕ) → may_begin (layout bytes).place ≡ true → HasBytes self.old bytes → MatchResult result
-            (λ _. HasBytes self.new (bytes ++ text.now))
-            (λ f. Tells f (early_fault (bytes ++ text.now))) }
-        ensures memory { (bytes : List ℕ) → may_begin (layout bytes).place ≡ true →
-            HasBytes self.old bytes → IfErr result
-            (λ f. f ≡ fault_at 0 faults.NoMemory → (early_fault (bytes ++ text.now) ≡ None) ×
-            (item_room self.old < item_count (bytes ++ text.now))) }
+        ensures read { TakesWhole self.old self.new text.now result }
+        ensures memory { WholeNeedsRoom self.old text.now result }
         ensures room { OnOk result (item_room self.old ≤ item_room self.new) }
     {
         self.part.copy_from_slice(text);
@@ -237,12 +208,8 @@ impl Recogniser {
     fn take_some(&mut self, bytes: &[u8]) -> Result<usize, Fault>
         requires { 0 < length bytes.now }
         ensures within { IfOk result (λ count. (0 < count) × (count ≤ length bytes.now)) }
-        ensures read { (seen : List ℕ) → HasBytes self.old seen → MatchResult result
-            (λ count. HasBytes self.new (seen ++ take count bytes.now))
-            (λ f. Tells f (early_fault (seen ++ bytes.now))) }
-        ensures memory { (seen : List ℕ) → HasBytes self.old seen →
-            IfErr result
-            (λ f. f ≡ fault_at 0 faults.NoMemory → RunsOut (item_room self.old) seen bytes.now) }
+        ensures read { TakesSome self.old self.new bytes.now result }
+        ensures memory { NeedsRoom (HasBytes self.old) (item_room self.old) bytes.now result }
         ensures room { OnOk result (item_room self.old ≤ item_room self.new) }
     {
         if self.is_at_record(bytes) {
@@ -255,12 +222,8 @@ impl Recogniser {
 
     // Takes the next bytes.
     pub fn take_all(&mut self, piece: &[u8]) -> Result<(), Fault>
-        ensures read { (bytes : List ℕ) → HasBytes self.old bytes → MatchResult result
-            (λ _. HasBytes self.new (bytes ++ piece.now))
-            (λ f. Tells f (early_fault (bytes ++ piece.now))) }
-        ensures memory { (bytes : List ℕ) → HasBytes self.old bytes →
-            IfErr result
-            (λ f. f ≡ fault_at 0 faults.NoMemory → RunsOut (item_room self.old) bytes piece.now) }
+        ensures read { TakesPiece self.old self.new piece.now result }
+        ensures memory { NeedsRoom (HasBytes self.old) (item_room self.old) piece.now result }
     {
         let mut next = 0;
         while next < piece.len() {
@@ -272,9 +235,7 @@ impl Recogniser {
     // The input is at its end.
     #[tactic(auto, unfolding(crate::specs::FirstFault::end_fault))]
     pub fn end(self) -> Result<Taken, Fault>
-        ensures { (l : Layout) → HasLayout self l → MatchResult result
-            (λ taken. (end_fault l ≡ None) × (f : File) × (file_so_far l.records ≡ Closed f) × (taken ≡ facts_in f))
-            (λ f. end_fault l ≡ Some f) }
+        ensures { (l : Layout) → HasLayout self l → EndsAs l result }
     {
         let at = self.records + 1;
         if is_inside(self.position) {

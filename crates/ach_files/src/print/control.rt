@@ -1,11 +1,8 @@
 //! The control of a file that is to be printed follows from its batches.
-ghost use Rattle.std.specs.Prelude.{◌≡◌, ◌+◌, ◌*◌, length, min, ◌++◌, ◌∷◌, [], Some, None, OnOk, IfOk, IfErr, true};
-ghost use Rattle.std.specs.List.{list_any};
-ghost use Rattle.ach_records.specs.Print.{row_fits, row_text, file_control_row};
-ghost use Rattle.ach_files.specs.declared.outgoing.Outgoing.{Outgoing};
-ghost use Rattle.ach_files.specs.Limits.{six_digits};
-ghost use Rattle.ach_files.specs.Outgoing.{is_long_batch, sums_of, file_control, filler_count, totals_fault, capped_sums};
-ghost use Rattle.ach_files.specs.Printing.{IsCounted};
+ghost use Rattle.std.specs.Prelude.{◌≡◌, ◌+◌, ◌*◌, OnOk, IfOk, IfErr, true};
+ghost use Rattle.ach_records.specs.Print.{row_fits, file_control_row};
+ghost use Rattle.ach_files.specs.Outgoing.{filler_count, PutsRow};
+ghost use Rattle.ach_files.specs.Printing.{IsCounted, ForMeasured, IsControlOf, IsTotalsFaultOf};
 
 use super::page::put_record;
 use super::records::record_of;
@@ -23,12 +20,8 @@ pub fn control_of(
     is_any_long: bool,
     sums: &Sums,
 ) -> Result<FileControlText, PrintFault>
-    ensures ok { (o : Outgoing) → batches ≡ min (length o.batches.now) (six_digits + 1) →
-        is_any_long ≡ list_any is_long_batch o.batches.now → sums.now ≡ capped_sums (sums_of o) →
-        IfOk result (λ control. (totals_fault o ≡ None) × (control ≡ file_control o)) }
-    ensures err { (o : Outgoing) → batches ≡ min (length o.batches.now) (six_digits + 1) →
-        is_any_long ≡ list_any is_long_batch o.batches.now → sums.now ≡ capped_sums (sums_of o) →
-        IfErr result (λ f. totals_fault o ≡ Some f) }
+    ensures ok { ForMeasured batches is_any_long sums.now (λ o. IfOk result (IsControlOf o)) }
+    ensures err { ForMeasured batches is_any_long sums.now (λ o. IfErr result (IsTotalsFaultOf o)) }
     ensures counted { IfOk result (λ control. IsCounted control) }
     ensures fits { IfOk result (λ control. row_fits (file_control_row control) ≡ true) }
 {
@@ -77,8 +70,7 @@ pub fn room_of(control: &FileControlText) -> usize
 /// Adds the control of a file.
 pub fn put_control(out: &mut Vec<u8>, control: &FileControlText) -> Result<(), AllocError>
     requires { row_fits (file_control_row control.now) ≡ true }
-    ensures { OnOk result
-        (out.new.items ≡ out.old.items ++ (row_text (file_control_row control.now) ++ 10 ∷ [])) }
+    ensures { OnOk result (PutsRow out.old.items out.new.items (file_control_row control.now)) }
 {
     let mut record = [0; 94];
     let outcome = print_file_control(control, &mut record);

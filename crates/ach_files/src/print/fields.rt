@@ -2,7 +2,7 @@
 ghost use Rattle.std.specs.Prelude.{◌≡◌, ◌<◌, List, true, Option};
 ghost use Rattle.std.specs.List.{list_all};
 ghost use Rattle.ach_records.specs.Print.{Value, row_fits};
-ghost use Rattle.ach_files.specs.Outgoing.{addenda_rows, entry_rows, entry_fits, batch_fits, fields_fit, IsText};
+ghost use Rattle.ach_files.specs.Outgoing.{addenda_rows_of, entry_rows, entry_fits, batch_fits, fields_fit, IsText};
 
 use super::records::{addenda_record, batch_header_record, entry_record, file_header_record};
 use crate::outgoing::{Addenda, Outgoing, OutgoingBatch, OutgoingEntry};
@@ -14,7 +14,7 @@ fn has_text(text: Option<[u8; 94]>) -> bool
 }
 
 fn fits_addenda(entry: &OutgoingEntry) -> bool
-    ensures { result ≡ list_all row_fits (addenda_rows entry.now.trace entry.now.addenda) }
+    ensures { result ≡ list_all row_fits (addenda_rows_of entry.now) }
 {
     match entry.addenda {
         Addenda::Absent => true,

@@ -1,8 +1,7 @@
 //! The batches of a file that is to be printed are judged by their measures.
 ghost use Rattle.std.specs.Prelude.{◌≡◌, ◌&&◌, ◌||◌, true};
 ghost use Rattle.std.specs.List.{list_all, list_any};
-ghost use Rattle.ach_files.specs.ReaderState.{joint_sums};
-ghost use Rattle.ach_files.specs.declared.sums.Sums.{Sums};
+ghost use Rattle.ach_files.specs.Printing.{AddsUp};
 ghost use Rattle.ach_files.specs.Outgoing.{batch_sums, file_sums, batch_fits, is_long_batch, capped_sums};
 
 use super::fields::fits_batch;
@@ -40,8 +39,7 @@ pub fn measures_of(batch: &OutgoingBatch) -> Measures
 fn joint_measures(all: Measures, own: Measures) -> Measures
     ensures fit { result.fit ≡ (all.fit && own.fit) }
     ensures long { result.is_any_long ≡ (all.is_any_long || own.is_any_long) }
-    ensures sums { (x y : Sums) → all.sums ≡ capped_sums x → own.sums ≡ capped_sums y →
-        result.sums ≡ capped_sums (joint_sums x y) }
+    ensures sums { AddsUp all.sums own.sums result.sums }
 {
     Measures {
         fit: all.fit && own.fit,

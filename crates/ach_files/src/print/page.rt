@@ -1,10 +1,10 @@
 //! The text of a file is put together record by record.
 ghost use Rattle.std.specs.Prelude.{◌≡◌, ◌+◌, ◌<◌, ◌++◌, ◌∷◌, [], List, Some, OnOk, OnErr, replicate, Option, IsSome, Result, Ok};
 ghost use Rattle.std.specs.List.{flat_map};
-ghost use Rattle.ach_records.specs.Print.{Value, row_text};
+ghost use Rattle.ach_records.specs.Print.{Value};
 ghost use Rattle.ach_files.specs.Structure.{nines};
 ghost use Rattle.ach_files.specs.Printing.{IsCounted};
-ghost use Rattle.ach_files.specs.Outgoing.{file_control, addenda_rows, entry_rows, batch_rows, outgoing_rows, page, outgoing_text, IsText, Puts, BeginsWith, AllFit};
+ghost use Rattle.ach_files.specs.Outgoing.{file_control, addenda_rows_of, entry_rows, batch_rows, outgoing_rows, page, outgoing_text, IsText, Puts, PutsRow, BeginsWith, AllFit};
 
 use super::control::{fillers_of, put_control};
 use super::records::{
@@ -26,8 +26,8 @@ pub fn put(out: &mut Vec<u8>, text: &[u8; 94]) -> Result<(), AllocError>
 // A record that has a text.
 pub fn put_record(out: &mut Vec<u8>, text: Option<[u8; 94]>) -> Result<(), AllocError>
     requires { IsSome text }
-    ensures ok { (values : List Value) → IsText text values →
-        OnOk result (out.new.items ≡ out.old.items ++ (row_text values ++ 10 ∷ [])) }
+    ensures ok { (row : List Value) → IsText text row →
+        OnOk result (PutsRow out.old.items out.new.items row) }
     ensures err { OnErr result (BeginsWith out.new.items out.old.items) }
 {
     let Some(text) = text else {
@@ -37,9 +37,8 @@ pub fn put_record(out: &mut Vec<u8>, text: Option<[u8; 94]>) -> Result<(), Alloc
 }
 
 fn put_addenda(out: &mut Vec<u8>, entry: &OutgoingEntry) -> Result<(), AllocError>
-    requires { AllFit (addenda_rows entry.now.trace entry.now.addenda) }
-    ensures ok { OnOk result
-        (Puts out.old.items out.new.items (addenda_rows entry.now.trace entry.now.addenda)) }
+    requires { AllFit (addenda_rows_of entry.now) }
+    ensures ok { OnOk result (Puts out.old.items out.new.items (addenda_rows_of entry.now)) }
     ensures err { OnErr result (BeginsWith out.new.items out.old.items) }
 {
     match entry.addenda {

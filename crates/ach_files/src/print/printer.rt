@@ -1,11 +1,8 @@
 //! A `Printer` prints a file batch by batch.
-ghost use Rattle.std.specs.Prelude.{◌≡◌, ◌+◌, length, not, ◌++◌, ◌∷◌, [], List, Some, None, OnOk, OnErr, IfOk, IfErr, false, if◌then◌else◌};
-ghost use Rattle.ach_records.specs.declared.print.FileHeaderText.{FileHeaderText};
+ghost use Rattle.std.specs.Prelude.{◌≡◌, length, [], None, OnOk, IfOk, IfErr, false};
 ghost use Rattle.ach_files.specs.declared.outgoing.Outgoing.{Outgoing};
-ghost use Rattle.ach_files.specs.declared.outgoing.OutgoingBatch.{OutgoingBatch};
-ghost use Rattle.ach_files.specs.declared.outgoing.PrintFault.TheVariants as faults;
-ghost use Rattle.ach_files.specs.Outgoing.{is_large, outgoing_text, header_fault, batch_fault, print_fault, TellsPrint};
-ghost use Rattle.ach_files.specs.Printing.{HasPrinted};
+ghost use Rattle.ach_files.specs.Outgoing.{header_fault, batch_fault, IsPrintOf, IsPrintFaultOf, TellsPrint};
+ghost use Rattle.ach_files.specs.Printing.{HasPrinted, HasPrintedAll, PrintsBatch, StaysPrinted, measures_fault};
 
 use super::control::{control_of, fillers_of, put_control};
 use super::measures::{Measures, measures_of};
@@ -31,9 +28,7 @@ pub struct Printer {
 
 // What a batch is refused for.
 fn fault_of(measures: &Measures) -> Option<PrintFault>
-    ensures { result ≡ (if not measures.now.fit then Some faults.BadField else if is_large
-        measures.now.sums then Some faults.TotalTooLarge else if measures.now.is_any_long then Some
-        faults.TooManyRecords else None) }
+    ensures { result ≡ measures_fault measures.now }
 {
     if !measures.fit {
         Some(PrintFault::BadField)
@@ -72,13 +67,10 @@ impl Printer {
     /// credits exceed 999,999,999,999 cents, then with `TooManyRecords` where the batch has more than
     /// 999,999 entries and addenda. The printer then stays as it was, also where memory ran out.
     pub fn put(&mut self, batch: &OutgoingBatch) -> Result<(), PrintFault>
-        ensures ok { (header : FileHeaderText) (before : List OutgoingBatch) →
-            HasPrinted self.old header before → OnOk result
-            (HasPrinted self.new header (before ++ batch.now ∷ [])) }
+        ensures ok { PrintsBatch self.old self.new batch.now result }
         ensures fits { OnOk result (batch_fault batch.now ≡ None) }
         ensures err { IfErr result (λ f. TellsPrint f (batch_fault batch.now)) }
-        ensures unchanged { (header : FileHeaderText) (before : List OutgoingBatch) →
-            HasPrinted self.old header before → OnErr result (HasPrinted self.new header before) }
+        ensures unchanged { StaysPrinted self.old self.new result }
     {
         let own = measures_of(batch);
         if let Some(fault) = fault_of(&own) {
@@ -99,10 +91,8 @@ impl Printer {
     ///
     /// Fails as `print_file` does for the same file: `TotalTooLarge` comes before `TooManyRecords`.
     pub fn finish(self) -> Result<Vec<u8>, PrintFault>
-        ensures ok { (o : Outgoing) → HasPrinted self o.header o.batches.now →
-            IfOk result (λ text. (print_fault o ≡ None) × (text.items ≡ outgoing_text o)) }
-        ensures err { (o : Outgoing) → HasPrinted self o.header o.batches.now →
-            IfErr result (λ f. TellsPrint f (print_fault o)) }
+        ensures ok { (o : Outgoing) → HasPrintedAll self o → IfOk result (IsPrintOf o) }
+        ensures err { (o : Outgoing) → HasPrintedAll self o → IfErr result (IsPrintFaultOf o) }
     {
         let Printer {
             text,

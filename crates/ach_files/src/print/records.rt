@@ -1,7 +1,7 @@
 //! A record of a file that is to be printed is made here, where its fields have texts.
 ghost use Rattle.std.specs.Prelude.{◌≡◌, ◌<◌, ◌∷◌, [], ℕ, List, Some, None, true, Option, Result, Ok, Err};
 ghost use Rattle.ach_records.specs.Print.{Value, Prints, row_fits, entry_row, file_header_row, batch_header_row, batch_control_row};
-ghost use Rattle.ach_files.specs.Outgoing.{entry_of, addenda_rows, batch_control, IsText};
+ghost use Rattle.ach_files.specs.Outgoing.{entry_of, addenda_rows_of, batch_control, IsText};
 
 use super::totals::sums_of_entries;
 use crate::outgoing::{Addenda, OutgoingBatch, OutgoingEntry};
@@ -14,8 +14,7 @@ use ach_records::{
 };
 
 pub fn record_of(outcome: Result<(), FieldFault>, text: [u8; 94]) -> Option<[u8; 94]>
-    ensures { (old : List ℕ) (values : List Value) → Prints outcome old text values →
-        IsText result values }
+    ensures { (old : List ℕ) (row : List Value) → Prints outcome old text row → IsText result row }
 {
     match outcome {
         Ok(()) => Some(text),
@@ -66,8 +65,7 @@ pub fn entry_record(entry: &OutgoingEntry) -> Option<[u8; 94]>
 
 // The record after an entry's, and whether there is one.
 pub fn addenda_record(entry: &OutgoingEntry) -> Option<[u8; 94]>
-    ensures { (values : List Value) → addenda_rows entry.now.trace entry.now.addenda ≡ values ∷ [] →
-        IsText result values }
+    ensures { (row : List Value) → addenda_rows_of entry.now ≡ row ∷ [] → IsText result row }
 {
     let mut record = [0; 94];
     let outcome = match &entry.addenda {

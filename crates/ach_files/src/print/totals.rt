@@ -1,7 +1,6 @@
 //! The entries of a file that is to be printed are summed up as far as its controls say it.
 ghost use Rattle.std.specs.Prelude.{◌≡◌, ◌+◌, ◌<◌, ℕ, List, length, min};
-ghost use Rattle.ach_files.specs.ReaderState.{joint_sums};
-ghost use Rattle.ach_files.specs.declared.sums.Sums.{Sums};
+ghost use Rattle.ach_files.specs.Printing.{AddsUp};
 ghost use Rattle.ach_files.specs.Outgoing.{addenda_rows, entry_rows, entry_sums, batch_sums, is_large, capped_sums, sums_cap};
 
 use crate::outgoing::{Addenda, OutgoingEntry};
@@ -19,8 +18,7 @@ fn add_up(a: u64, b: u64) -> u64
 
 #[tactic(auto, using(crate::proofs::Outgoings::kept_added))]
 pub fn add_sums(a: Sums, b: Sums) -> Sums
-    ensures { (x y : Sums) → a ≡ capped_sums x → b ≡ capped_sums y →
-        result ≡ capped_sums (joint_sums x y) }
+    ensures { AddsUp a b result }
 {
     Sums {
         count: add_up(a.count, b.count),
