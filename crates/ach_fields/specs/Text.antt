@@ -1,5 +1,6 @@
 -- Texts in fields.
-use Rattle.std.specs.Prelude.{ℕ, Bool, not, List, [], ◌∷◌, ◌++◌, length, replicate, slice_index, ◌-◌, ◌&&◌, ◌==◌, nat_le, nat_lt, if◌then◌else◌, Result, Ok, Err}
+use Rattle.std.specs.Prelude.{◌≡◌, ℕ, Bool, not, List, [], ◌∷◌, ◌++◌, length, replicate, slice_index, ◌-◌, ◌&&◌, ◌==◌, nat_le, nat_lt, if◌then◌else◌, Result, Ok, Err, MatchResult}
+use Rattle.std.specs.Borrow.{Bor}
 use Rattle.std.specs.List.{list_all}
 use Rattle.ach_fields.specs.declared.fault.FieldFault.{FieldFault}
 use Rattle.ach_fields.specs.declared.fault.FieldFault.TheVariants.{TooLong, NotText}
@@ -20,6 +21,10 @@ with_blanks_after width s = s ++ replicate (width - length s) 32
 -- the text in a field
 abbrev pub text_in : List ℕ → Result (List ℕ) FieldFault
 text_in s = if list_all is_printable s then Ok (without_blanks_after s) else Err NotText
+
+-- the answer is this one, as a part of the field
+abbrev pub GivesText : Result (List ℕ) FieldFault → Result (Bor (List ℕ)) FieldFault → Type 0
+GivesText wanted result = MatchResult result (λ text. wanted ≡ Ok text.now) (λ f. wanted ≡ Err f)
 
 -- the field of so many bytes that has this text
 abbrev pub text_field : ℕ → List ℕ → Result (List ℕ) FieldFault

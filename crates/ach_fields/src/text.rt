@@ -1,6 +1,6 @@
 //! A text stands at the left of its field, with blanks after it.
-ghost use Rattle.std.specs.Prelude.{◌≡◌, length, MatchResult, Ok, Err};
-ghost use Rattle.ach_fields.specs.Text.{text_in, text_field, without_blanks_after};
+ghost use Rattle.std.specs.Prelude.{◌≡◌, length};
+ghost use Rattle.ach_fields.specs.Text.{text_in, text_field, without_blanks_after, GivesText};
 ghost use Rattle.ach_fields.specs.Puts.{Puts};
 
 use crate::FieldFault;
@@ -10,7 +10,7 @@ use crate::characters::are_printable;
 ///
 /// Fails with `NotText` where a character is no blank to `~`.
 pub fn take_text(field: &[u8]) -> Result<&[u8], FieldFault>
-    ensures { MatchResult result (λ text. text_in field.now ≡ Ok text.now) (λ f. text_in field.now ≡ Err f) }
+    ensures { GivesText (text_in field.now) result }
 {
     if !are_printable(field) {
         return Err(FieldFault::NotText);
