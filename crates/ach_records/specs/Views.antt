@@ -1,7 +1,10 @@
 -- What a view lends.
-use Rattle.std.specs.Prelude.{◌≡◌, ℕ, List}
+use Rattle.std.specs.Prelude.{◌≡◌, ℕ, List, Some, None, Result, MatchResult}
+use Rattle.ach_records.specs.Record.{IsRecord, kind_of}
+use Rattle.ach_records.specs.View.{view_fault}
 use Rattle.ach_records.specs.declared.Kind.{Kind}
 use Rattle.ach_records.specs.declared.Kind.TheVariants as kinds
+use Rattle.ach_records.specs.declared.fault.RecordFault.{RecordFault}
 use Rattle.ach_records.specs.declared.views.Record.{Record}
 use Rattle.ach_records.specs.declared.views.Record.TheVariants as records
 
@@ -31,3 +34,10 @@ viewed_text (records.Filler v) = v.text.now
 -- the view is of this kind and lends these bytes
 abbrev pub Views : Record → Kind → List ℕ → Type 0
 Views r kind text = (viewed_kind r ≡ kind) × (viewed_text r ≡ text)
+
+-- the text is a record of its kind and this is its view, or its fault is told
+abbrev pub GivesView : List ℕ → Result Record RecordFault → Type 0
+GivesView text result =
+    MatchResult result
+    (λ r. (view_fault text ≡ None) × IsRecord (kind_of text) text × Views r (kind_of text) text)
+    (λ f. view_fault text ≡ Some f)

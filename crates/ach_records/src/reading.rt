@@ -1,11 +1,11 @@
 //! Here 94 bytes are viewed as a record.
-ghost use Rattle.std.specs.Prelude.{◌≡◌, ◌+◌, ◌≤◌, not, Some, None, MatchResult, IfSome, IsOk, length, ◌<◌};
+ghost use Rattle.std.specs.Prelude.{◌≡◌, ◌+◌, ◌≤◌, not, IfSome, IsOk, length, ◌<◌};
 ghost use Rattle.std.specs.List.{position};
 ghost use Rattle.ach_fields.specs.Characters.{is_digit, is_printable};
-ghost use Rattle.ach_records.specs.Record.{IsRecord, kind_of};
+ghost use Rattle.ach_records.specs.Record.{IsRecord};
 ghost use Rattle.ach_records.specs.Layout.{digit_fields};
 ghost use Rattle.ach_records.specs.View.{bad_byte, bad_digit, digit_fault, kind_fault, view_fault};
-ghost use Rattle.ach_records.specs.Views.{Views};
+ghost use Rattle.ach_records.specs.Views.{Views, GivesView};
 ghost use Rattle.ach_records.specs.declared.Kind.{Kind};
 
 use crate::fields::text_at;
@@ -124,7 +124,7 @@ fn record_of(kind: Kind, text: &[u8; 94]) -> Record<'_>
 /// a digit field is `BadNumber`. No other field is judged.
 #[tactic(auto, using(crate::proofs::Records::is_record, crate::proofs::Records::no_fault))]
 pub fn view(text: &[u8; 94]) -> Result<Record<'_>, RecordFault>
-    ensures exact { MatchResult result (λ r. (view_fault text.now ≡ None) × IsRecord (kind_of text.now) text.now × Views r (kind_of text.now) text.now) (λ f. view_fault text.now ≡ Some f) }
+    ensures exact { GivesView text.now result }
     ensures only { (kind : Kind) → IsRecord kind text.now → IsOk result }
 {
     match view_fault(text) {
