@@ -1,5 +1,6 @@
 //! A list that is emptied from its front.
-ghost use Rattle.std.specs.Prelude.{◌≡◌, [], ◌∷◌, MatchOption};
+ghost use Rattle.std.specs.Prelude.{◌≡◌};
+ghost use Rattle.emptying_lists.specs.Emptying.{TakesFirst};
 
 use std::marker::Model;
 
@@ -35,8 +36,7 @@ impl<T> EmptyingList<T> {
 
     /// Takes the first item, and gives `None` where there is none.
     pub fn take_first(&mut self) -> Option<T>
-        ensures { MatchOption result ((self.old ≡ []) × (self.new ≡ []))
-            (λ first. self.old ≡ first ∷ self.new) }
+        ensures { TakesFirst self.old self.new result }
     {
         let first = self.backwards.pop();
         if self.backwards.len() % PIECE == 0 {
