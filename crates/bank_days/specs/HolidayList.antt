@@ -1,6 +1,7 @@
 -- Holiday lists, row by row.
-use Rattle.std.specs.Prelude.{◌≡◌, ◌⊎◌, ℕ, ◌+◌, ◌-◌, Bool, true, List, [], ◌∷◌, length, map, slice_get, nat_lt, if◌then◌else◌, Option, Some, None, Result, Ok, Err}
+use Rattle.std.specs.Prelude.{◌≡◌, ◌⊎◌, ◌≤◌, ℕ, ◌+◌, ◌-◌, Bool, true, List, [], ◌∷◌, length, map, slice_get, nat_lt, if◌then◌else◌, Option, Some, None, Result, Ok, Err, Vec, vec_capacity, vec_len}
 use Rattle.std.specs.List.{filter_map}
+use Rattle.std.specs.declared.alloc.Global.{Global}
 use Rattle.std.specs.Option.{option_or}
 use Rattle.csv.specs.Reading.{default_config, records, strip_bom}
 use Rattle.bank_days.specs.declared.calendar_fault.CalendarFault.{CalendarFault}
@@ -31,6 +32,19 @@ abbrev pub row_fault : ℕ → (before : Option ℕ) → Option ℕ → Option C
 row_fault n before None = Some (BadRow n)
 row_fault n before (Some d) =
     if is_after before d then (if nat_lt most_holidays n then Some TooMany else None) else Some (NotAscending n)
+
+-- why a row may not stand after these days
+abbrev pub next_row_fault : (days : List ℕ) → Option ℕ → Option CalendarFault
+next_row_fault days row = row_fault (length days + 1) (last_of days) row
+
+-- memory is refused for the row, or this is why it may not stand there
+abbrev pub IsRowFault : (days : List ℕ) → Option ℕ → CalendarFault → Type 0
+IsRowFault days row fault = (fault ≡ NoMemory) ⊎ (next_row_fault days row ≡ Some fault)
+
+-- memory is refused only for a row that may stand there, where the days fill their room
+abbrev pub IsRefusedOnlyFull : Vec ℕ Global → Option ℕ → CalendarFault → Type 0
+IsRefusedOnlyFull days row fault =
+    fault ≡ NoMemory → (next_row_fault days.items row ≡ None) × (vec_capacity days ≤ vec_len days)
 
 -- the fault of the first row that has one, of the rows from number n on
 unfoldable pub first_fault : ℕ → (before : Option ℕ) → List (Option ℕ) → Option CalendarFault

@@ -1,10 +1,10 @@
 ghost use Rattle.std.specs.List.{list_any};
 ghost use Rattle.std.specs.List.Sorted.{IsStrictlyIncreasing};
-ghost use Rattle.std.specs.Prelude.{◌≡◌, ◌≢◌, ◌⊎◌, ◌==◌, ◌≤◌, ◌+◌, ◌*◌, [], ◌∷◌, ◌++◌, Some, None, All, max, length, IfOk, IfErr, IfSome, OnErr, OnOk, vec_capacity, vec_len};
+ghost use Rattle.std.specs.Prelude.{◌≡◌, ◌≢◌, ◌==◌, ◌≤◌, ◌+◌, ◌*◌, [], ◌∷◌, ◌++◌, None, All, max, IfOk, IfErr, IfSome, OnErr, OnOk};
 ghost use Rattle.std.specs.Option.{ForSome};
 ghost use Rattle.bank_days.specs.Day.{last_read_day, last_argument_day};
 ghost use Rattle.bank_days.specs.Calendar.{AreHolidays, IsNthAfter, IsFirstFrom, is_banking, nth_after, next_banking, roll};
-ghost use Rattle.bank_days.specs.HolidayList.{Gives, holidays_in, holidays_of_days, last_of, row_fault};
+ghost use Rattle.bank_days.specs.HolidayList.{Gives, holidays_in, holidays_of_days, next_row_fault, IsRowFault, IsRefusedOnlyFull};
 
 use crate::row::{day_behind, day_of_row};
 use crate::{CalendarFault, Day};
@@ -172,10 +172,10 @@ fn push_row(days: &mut Vec<Day>, row: Option<Day>) -> Result<(), CalendarFault>
     requires row { ForSome row (λ d. d ≤ last_argument_day) }
     ensures valid { AreHolidays days.new.items }
     ensures ok { OnOk result (IfSome row (λ d. days.new.items ≡ days.old.items ++ d ∷ [])) }
-    ensures fits { OnOk result (row_fault (length days.old.items + 1) (last_of days.old.items) row ≡ None) }
-    ensures err { IfErr result (λ f. (f ≡ CalendarFault.NoMemory) ⊎ (row_fault (length days.old.items + 1) (last_of days.old.items) row ≡ Some f)) }
+    ensures fits { OnOk result (next_row_fault days.old.items row ≡ None) }
+    ensures err { IfErr result (IsRowFault days.old.items row) }
     // Memory runs out only for a row that fits, where the days fill their room.
-    ensures memory { IfErr result (λ f. f ≡ CalendarFault.NoMemory → (row_fault (length days.old.items + 1) (last_of days.old.items) row ≡ None) × (vec_capacity days.old ≤ vec_len days.old)) }
+    ensures memory { IfErr result (IsRefusedOnlyFull days.old row) }
 {
     let day = match day_behind(days, row) {
         Ok(day) => day,
