@@ -1,5 +1,5 @@
 -- Batches in files.
-use Rattle.std.specs.Prelude.{◌≡◌, ◌≢◌, ℕ, ◌≤◌, Bool, true, false, ◌&&◌, nat_le, if◌then◌else◌, List, [], ◌∷◌, ◌++◌, length, take, sum_by, All}
+use Rattle.std.specs.Prelude.{◌≡◌, ◌≢◌, ℕ, ◌≤◌, Bool, true, false, ◌&&◌, nat_le, if◌then◌else◌, List, [], ◌∷◌, ◌++◌, length, map, take, sum_by, All}
 use Rattle.std.specs.List.{AllAdjacentBelow}
 use Rattle.ach_fields.specs.Cents.{most_cents}
 use Rattle.desk_plan.specs.declared.batch.Batch.{Batch}
@@ -29,6 +29,10 @@ pub record Divides (runs : List (List Batch)) (batches : List Batch) : Type 0 wh
   pub some : All (λ run. run ≢ []) runs
   pub fit : All (λ run. fits run ≡ true) runs
   pub full : AllAdjacentBelow (λ run next. fits (run ++ take 1 next) ≡ false) runs (length runs)
+
+-- the sizes of the runs of each division of batches
+abbrev pub AreSizesOf : List Batch → List ℕ → Type 0
+AreSizesOf batches sizes = (runs : List (List Batch)) → Divides runs batches → sizes ≡ map length runs
 
 -- the runs of batches after a run that was begun: it takes the next batch where it can
 abbrev pub runs_from : List Batch → List Batch → List (List Batch)

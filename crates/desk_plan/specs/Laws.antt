@@ -5,7 +5,7 @@ use Rattle.ach_fields.specs.Characters.{is_id_character}
 use Rattle.desk_plan.specs.declared.batch.Batch.{Batch}
 use Rattle.desk_plan.specs.Cut.{files_of, may_cut}
 use Rattle.desk_plan.specs.Batch.{IsBatch, IsEntryCount}
-use Rattle.desk_plan.specs.Files.{Divides, IsSize, division}
+use Rattle.desk_plan.specs.Files.{Divides, division}
 use Rattle.desk_plan.specs.Numbers.{TellYoungest, is_in, latest_in}
 use Rattle.desk_plan.specs.Modifiers.{modifier_of, modifier_at, most_files}
 use Rattle.desk_plan.specs.Reuse.{is_past, youngest, may_send, latest_settled}

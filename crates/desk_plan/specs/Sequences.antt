@@ -1,5 +1,5 @@
 -- Sequences of the entries that are sent.
-use Rattle.std.specs.Prelude.{◌≡◌, ℕ, ◌+◌, ◌-◌, ◌≤◌, Bool, true, not, ◌&&◌, nat_le, if◌then◌else◌, List, [], ◌∷◌, ◌++◌, length, map, reverse, fold, scan}
+use Rattle.std.specs.Prelude.{◌≡◌, ℕ, ◌+◌, ◌-◌, ◌≤◌, Bool, true, false, not, ◌&&◌, nat_le, if◌then◌else◌, List, [], ◌∷◌, ◌++◌, length, map, reverse, fold, scan}
 use Rattle.std.specs.List.{range_with_len, list_any}
 use Rattle.desk_plan.specs.declared.batch.Batch.{Batch}
 use Rattle.ach_fields.specs.Trace.{most_sequence}
@@ -40,6 +40,10 @@ meets p q = nat_le p.0 q.1 && nat_le q.0 p.1
 abbrev pub are_apart : List (ℕ × ℕ) → Bool
 are_apart [] = true
 are_apart (r ∷ more) = not (list_any (meets r) more) && are_apart more
+
+-- batches with these numbers of entries would take a sequence twice
+abbrev pub TakeTwice : (last : ℕ) → (counts : List ℕ) → Type 0
+TakeTwice last counts = are_apart (ranges last counts) ≡ false
 
 -- the ranges that batches take after the sent entries
 abbrev pub ranges_of : List SentSequence → List Batch → List (ℕ × ℕ)

@@ -1,7 +1,6 @@
 //! The division of the batches of a cut into files.
-ghost use Rattle.std.specs.Prelude.{◌≡◌, All, IfOk, List, length, map, sum};
-ghost use Rattle.desk_plan.specs.declared.batch.Batch.{Batch};
-ghost use Rattle.desk_plan.specs.Files.{Divides, IsSize, division};
+ghost use Rattle.std.specs.Prelude.{◌≡◌, All, IfOk, length, map, sum};
+ghost use Rattle.desk_plan.specs.Files.{AreSizesOf, IsSize, division};
 
 use crate::batch::Batch;
 use crate::load::Load;
@@ -15,9 +14,7 @@ use std::alloc::{AllocError, Global};
 /// own. A batch that is too large for any file makes one all the same; no batch of a submission is.
 pub fn divide(alloc: Global, batches: &[Batch]) -> Result<Vec<usize>, AllocError>
     ensures sizes { IfOk result (λ sizes. sizes.items ≡ map length (division batches.now)) }
-    ensures only { IfOk result
-        (λ sizes. (runs : List (List Batch)) → Divides runs batches.now → sizes.items ≡ map length
-        runs) }
+    ensures only { IfOk result (λ sizes. AreSizesOf batches.now sizes.items) }
     ensures whole { IfOk result (λ sizes. sum sizes.items ≡ length batches.now) }
     ensures within { IfOk result (λ sizes. All IsSize sizes.items) }
 {

@@ -1,5 +1,5 @@
-ghost use Rattle.std.specs.Prelude.{◌≡◌, ◌∷◌, [], if◌then◌else◌, Some, None};
-ghost use Rattle.desk_plan.specs.Load.{load, plus, is_within};
+ghost use Rattle.std.specs.Prelude.{◌≡◌, ◌∷◌, []};
+ghost use Rattle.desk_plan.specs.Load.{load, plus, if_within};
 
 use crate::batch::Batch;
 use ach_fields::Cents;
@@ -34,8 +34,7 @@ impl Load {
 
     // With one batch more, where a file may hold so much.
     pub(crate) fn with(&self, batch: &Batch) -> Option<Load>
-        ensures { result ≡
-            (if is_within (plus self.now batch.now) then Some (plus self.now batch.now) else None) }
+        ensures { result ≡ if_within (plus self.now batch.now) }
     {
         let debits = Cents::new(self.debits.get() + batch.debits.get())?;
         let credits = Cents::new(self.credits.get() + batch.credits.get())?;

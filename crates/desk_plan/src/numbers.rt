@@ -1,7 +1,7 @@
 //! The sequences of the entries of a cut.
-ghost use Rattle.std.specs.Prelude.{◌≡◌, All, true, false, IfOk, OnOk, IsErrOf};
+ghost use Rattle.std.specs.Prelude.{◌≡◌, All, true, IfOk, OnOk, IsErrOf};
 ghost use Rattle.desk_plan.specs.Batch.{IsEntryCount};
-ghost use Rattle.desk_plan.specs.Sequences.{IsRange, range_after, ranges, are_apart};
+ghost use Rattle.desk_plan.specs.Sequences.{IsRange, TakeTwice, range_after, ranges, are_apart};
 
 use ach_fields::MOST_SEQUENCE;
 use std::alloc::{AllocFailed, Global};
@@ -40,8 +40,7 @@ pub fn plan_numbers(
     requires { All IsEntryCount entries.now }
     ensures ranges { IfOk result (λ planned. planned.items ≡ ranges last_sequence entries.now) }
     ensures apart { OnOk result (are_apart (ranges last_sequence entries.now) ≡ true) }
-    ensures spent { IsErrOf result NumberFault.TracesSpent →
-        are_apart (ranges last_sequence entries.now) ≡ false }
+    ensures spent { IsErrOf result NumberFault.TracesSpent → TakeTwice last_sequence entries.now }
     ensures within { IfOk result (λ planned. All IsRange planned.items) }
 {
     let mut ranges = Vec::new(alloc);
