@@ -1,5 +1,5 @@
 -- Balances: sums of lines.
-use Rattle.std.specs.Prelude.{◌≡◌, ℕ, ◌≤◌, ◌^◌, Bool, true, false, ◌==◌, nat_le, nat_lt, if◌then◌else◌, List, [], ◌∷◌, length, take, map, ℤ, pos, negsuc}
+use Rattle.std.specs.Prelude.{◌≡◌, ℕ, ◌≤◌, ◌^◌, Bool, true, false, ◌&&◌, ◌==◌, nat_le, nat_lt, if◌then◌else◌, List, [], ◌∷◌, length, take, map, ℤ, pos, negsuc, ◌+ℤ◌, Option, Some, None}
 use Rattle.std.specs.List.{filter, All, count_by}
 use Rattle.desk_accounts.specs.declared.account.Account.{Account}
 use Rattle.desk_accounts.specs.declared.posting.Posting.{Posting}
@@ -30,10 +30,20 @@ balance account day postings = total (lines_until day (lines_of account postings
 abbrev pub days_balance : ℕ → List (ℕ × ℤ) → ℤ
 days_balance day rows = sum_of (λ row. row.1) (filter (λ row. nat_le row.0 day) rows)
 
+-- what a line adds to the balance of an account on a day
+abbrev pub share : Account → (day : ℕ) → Posting → ℤ
+share account day line = if same_account line.account account && nat_le line.value_day day then line.cents else pos 0
+
 -- an `i128` holds the number
 abbrev pub fits_i128 : ℤ → Bool
 fits_i128 (pos n) = nat_lt n (2 ^ 127)
 fits_i128 (negsuc n) = nat_lt n (2 ^ 127)
+
+-- a sum with what one row more adds to it on a day, where an `i128` holds that
+abbrev pub with_row : (day : ℕ) → (sum : ℤ) → (row : ℕ × ℤ) → Option ℤ
+with_row day sum row =
+    let more : ℤ = sum +ℤ (if nat_le row.0 day then row.1 else pos 0) in
+    if fits_i128 more then Some more else None
 
 -- the balance that rows give where an `i128` holds the sum of the first rows, however many
 pub record IsDaysBalance (day : ℕ) (rows : List (ℕ × ℤ)) (sum : ℤ) : Type 0 where

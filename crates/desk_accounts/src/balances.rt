@@ -1,7 +1,6 @@
 //! Balances are sums of the lines that are valued on or before a day.
-ghost use Rattle.std.specs.Prelude.{◌≡◌, ℤ, pos, ◌+ℤ◌, if◌then◌else◌, ◌&&◌, nat_le, Some, None, MatchOption};
-ghost use Rattle.desk_accounts.specs.Posting.{same_account};
-ghost use Rattle.desk_accounts.specs.Balance.{balance, fits_i128, IsDaysBalance, SumLeaves};
+ghost use Rattle.std.specs.Prelude.{◌≡◌, MatchOption};
+ghost use Rattle.desk_accounts.specs.Balance.{balance, share, with_row, IsDaysBalance, SumLeaves};
 
 use crate::{Account, Posting};
 use bank_days::Day;
@@ -22,8 +21,7 @@ pub fn balance(postings: &[Posting], account: Account, day: Day) -> i128
 
 // What a line adds to the balance of an account on a day.
 fn share(posting: &Posting, account: &Account, day: Day) -> i64
-    ensures { result ≡ (if same_account posting.now.account account.now && nat_le
-        posting.now.value_day day then posting.now.cents else pos 0) }
+    ensures { result ≡ share account.now day posting.now }
 {
     if posting.account.is(account) && posting.value_day <= day {
         posting.cents
@@ -48,8 +46,7 @@ pub fn balance_of_days(rows: &[(Day, i128)], day: Day) -> Option<i128>
 
 // A sum with what a row adds to it on a day, where it fits.
 fn with_row(sum: i128, row: &(Day, i128), day: Day) -> Option<i128>
-    ensures { result ≡ (let more : ℤ = sum +ℤ (if nat_le row.now.0 day then row.now.1 else pos 0) in
-        if fits_i128 more then Some more else None) }
+    ensures { result ≡ with_row day sum row.now }
 {
     let cents = if row.0 <= day { row.1 } else { 0 };
     sum.checked_add(cents)
