@@ -1,5 +1,5 @@
 -- A submission against the desk day and the company's limits: the desk's own rules.
-use Rattle.std.specs.Prelude.{ℕ, ◌+◌, Bool, true, false, not, ◌&&◌, nat_lt, nat_le, List, [], ◌∷◌, Result}
+use Rattle.std.specs.Prelude.{◌≡◌, ℕ, ◌+◌, Bool, true, false, not, ◌&&◌, nat_lt, nat_le, List, [], ◌∷◌, Result}
 use Rattle.std.specs.List.{list_any}
 use Rattle.desk_rules.specs.declared.bodies.company.Limits.{Limits}
 use Rattle.desk_rules.specs.declared.rules.entry_fact.EntryFact.{EntryFact}
@@ -32,3 +32,10 @@ limit_rows s day limits facts holidays =
 -- the first refusal of a submission, if there is one
 abbrev pub limits_verdict : Submission → (day : ℕ) → Limits → List EntryFact → (holidays : List ℕ) → Result (Unit {0}) Refusal
 limits_verdict s day limits facts holidays = first_refusal (limit_rows s day limits facts holidays)
+
+-- the verdict by any facts and holidays that come to these exposures: the credit exposure, then the debit exposure
+abbrev pub IsVerdictByExposures : Submission → (day : ℕ) → Limits → (exposed : ℕ × ℕ) → Result (Unit {0}) Refusal
+    → Type 0
+IsVerdictByExposures s day limits exposed verdict = (facts : List EntryFact) (holidays : List ℕ)
+    → exposed ≡ (credit_exposure facts day, debit_exposure facts day holidays)
+    → verdict ≡ limits_verdict s day limits facts holidays

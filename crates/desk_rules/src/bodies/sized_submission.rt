@@ -1,6 +1,6 @@
 //! A submission that is not too large.
-ghost use Rattle.std.specs.Prelude.{◌≡◌, ◌≤◌, ◌∷◌, [], length, Ok, IfOk};
-ghost use Rattle.desk_rules.specs.Size.{size_of, sized_of, total_of};
+ghost use Rattle.std.specs.Prelude.{◌≡◌, Ok, IfOk};
+ghost use Rattle.desk_rules.specs.Size.{size_of, sized_of, submission_of_one, total_of};
 
 use crate::{Direction, Entries, Entry, Refusal, RuleDay, SecCode, Submission, check_size, total};
 use ach_fields::{Cents, Ref, ShortText};
@@ -46,7 +46,8 @@ impl SizedSubmission {
         day: RuleDay,
         entry: Entry,
     ) -> Result<SizedSubmission, AllocError>
-        ensures { IfOk result (λ s. s ≡ record { reference = reference; sec = sec; direction = direction; description = description; day = day; entries = entry ∷ [] }) }
+        ensures { IfOk result
+            (λ s. s ≡ submission_of_one reference sec direction description day entry) }
     {
         let _cents = entry.cents.get();
         Ok(SizedSubmission {

@@ -1,11 +1,9 @@
 //! A submission is judged here by the desk day and the company's limits: the desk's own rules.
-ghost use Rattle.std.specs.Prelude.{◌≡◌, ◌≤◌, ◌*◌, ◌+◌, ℕ, List, length, nat_lt};
+ghost use Rattle.std.specs.Prelude.{◌≡◌, ◌≤◌, ◌*◌, ◌+◌, length, nat_lt};
 ghost use Rattle.std.specs.List.{list_any};
 ghost use Rattle.ach_fields.specs.Cents.{most_cents};
-ghost use Rattle.desk_rules.specs.Exposure.{credit_exposure, debit_exposure};
-ghost use Rattle.desk_rules.specs.LimitChecks.{is_date_in_range, limits_verdict};
+ghost use Rattle.desk_rules.specs.LimitChecks.{IsVerdictByExposures, is_date_in_range, limits_verdict};
 ghost use Rattle.desk_rules.specs.Size.{total_of};
-ghost use Rattle.desk_rules.specs.declared.rules.entry_fact.EntryFact.{EntryFact};
 
 use crate::{
     Direction, Entry, EntryFact, Limits, Refusal, Submission, credit_exposure, debit_exposure,
@@ -49,7 +47,7 @@ pub fn check_limits(
     limits: &Limits,
     exposed: (u128, u128),
 ) -> Result<(), Refusal>
-    ensures { (facts : List EntryFact) (holidays : List ℕ) → exposed ≡ (credit_exposure facts day, debit_exposure facts day holidays) → result ≡ limits_verdict submission.now day limits.now facts holidays }
+    ensures { IsVerdictByExposures submission.now day limits.now exposed result }
 {
     if !is_date_in_range(submission.day.day(), day) {
         return Err(Refusal::DateRange);
