@@ -1,5 +1,5 @@
 -- What is remembered of a book, and when it is right.
-use Rattle.std.specs.Prelude.{◌≡◌, ℕ, Bool, ◌&&◌, nat_le, if◌then◌else◌, List, Option, Some, None, IfSome, bytes_eq}
+use Rattle.std.specs.Prelude.{◌≡◌, ℕ, Bool, false, ◌&&◌, nat_le, if◌then◌else◌, List, Option, Some, None, IfSome, bytes_eq}
 use Rattle.std.specs.BTreeMap.{get}
 use Rattle.desk_book.specs.Book.{Book}
 use Rattle.desk_book.specs.Sums.{exposures_of, rates_of}
@@ -21,6 +21,14 @@ KnowsRight m b = (k : CompanyKey) → IfSome (get company_cmp m.companies k) (Is
 abbrev pub KnowsNothing : Known → Type 0
 KnowsNothing m = (b : Book) → KnowsRight m b
 
+-- a value is what each book gives of which all that is known is right
+abbrev pub IsKnown : {A : Type 0} → Known → (Book → A) → A → Type 0
+IsKnown m of x = (b : Book) → KnowsRight m b → x ≡ of b
+
+-- what is known of a book stays right where the book is such
+abbrev pub StaysRight : (Book → Type 0) → (old new : Known) → Type 0
+StaysRight such old new = (b : Book) → such b → KnowsRight old b → KnowsRight new b
+
 -- a store's book, where what is known of it is right
 abbrev pub HoldsKnown : (Book → Type 0) → Known → Book → Type 0
 HoldsKnown holds m b = holds b × KnowsRight m b
@@ -37,6 +45,19 @@ pub record Grows (company : List ℕ) (debit : Bool) (cents : ℕ) (before after
   pub exposures : (of : List ℕ) (day : ℕ)
       → exposures_of of day after ≡ (if bytes_eq company of then more_exposed debit cents (exposures_of of day before) else exposures_of of day before)
   pub rates : (of : List ℕ) (day : ℕ) → rates_of of day after ≡ rates_of of day before
+
+-- all others have
+abbrev pub OthersHaveSame : (before after : Book) → (company : List ℕ) → Type 0
+OthersHaveSame before after company = (of : List ℕ) → bytes_eq company of ≡ false → HasSame before after of
+
+-- what is known of a book is right of the next one, where the step from one to the other is such
+abbrev pub StaysRightOver : (Book → Book → Type 0) → (old new : Known) → Type 0
+StaysRightOver such old new = (before after : Book) → such before after → KnowsRight old before → KnowsRight new after
+
+-- it is, where the company has these sums then, and all others have the same
+abbrev pub StaysRightWith : (company : List ℕ) → CompanySums → (old new : Known) → Type 0
+StaysRightWith company sums old new = (before after : Book) → IsRight after company sums
+    → OthersHaveSame before after company → KnowsRight old before → KnowsRight new after
 
 -- exposures with more cents, which are kept where none is past the most that is
 abbrev pub kept_with : (debit : Bool) → (cents : ℕ) → ℕ × ℕ → Option (ℕ × ℕ)

@@ -1,8 +1,8 @@
 //! What is remembered of companies stands in a map.
-ghost use Rattle.std.specs.Prelude.{◌≡◌, ℕ, List, false, IfSome, bytes_eq, option_and_then};
+ghost use Rattle.std.specs.Prelude.{◌≡◌, IfSome, option_and_then};
 ghost use Rattle.desk_book.specs.Book.{Book};
 ghost use Rattle.desk_book.specs.Sums.{exposures_of, rates_of};
-ghost use Rattle.remembering_store.specs.Remembered.{Grows, HasSame, IsRight, KnowsNothing, KnowsRight, kept_with};
+ghost use Rattle.remembering_store.specs.Remembered.{Grows, IsKnown, IsRight, KnowsNothing, KnowsRight, StaysRight, StaysRightOver, StaysRightWith, kept_with};
 
 use crate::company_key::CompanyKey;
 use ach_fields::Id;
@@ -72,9 +72,7 @@ impl Known {
 
     // Puts what is known of a company now; where there is no room, all is forgotten.
     fn put(&mut self, company: Id, sums: CompanySums)
-        ensures { (before after : Book) → IsRight after company sums →
-            ((of : List ℕ) → bytes_eq company of ≡ false → HasSame before after of) → KnowsRight
-            self.old before → KnowsRight self.new after }
+        ensures { StaysRightWith company sums self.old self.new }
     {
         if self.companies.insert(CompanyKey { company }, sums).is_err() {
             self.companies.clear();
@@ -98,24 +96,21 @@ impl Known {
 
     /// Gives a company's exposures on a day, where they are known.
     pub(crate) fn exposures(&self, company: Id, day: Day) -> Option<(u128, u128)>
-        ensures { IfSome result
-            (λ sums. (b : Book) → KnowsRight self.now b → sums ≡ exposures_of company day b) }
+        ensures { IfSome result (IsKnown self.now (exposures_of company day)) }
     {
         self.on(company, day).exposures
     }
 
     /// Gives a company's return rates on a day, where they are known.
     pub(crate) fn rates(&self, company: Id, day: Day) -> Option<Rates>
-        ensures { IfSome result
-            (λ rates. (b : Book) → KnowsRight self.now b → rates ≡ rates_of company day b) }
+        ensures { IfSome result (IsKnown self.now (rates_of company day)) }
     {
         self.on(company, day).rates
     }
 
     /// Remembers a company's exposures on a day.
     pub(crate) fn remember_exposures(&mut self, company: Id, day: Day, exposures: (u128, u128))
-        ensures { (b : Book) → exposures ≡ exposures_of company day b → KnowsRight self.old b →
-            KnowsRight self.new b }
+        ensures { StaysRight (λ b. exposures ≡ exposures_of company day b) self.old self.new }
     {
         let known = self.on(company, day);
         self.put(
@@ -129,8 +124,7 @@ impl Known {
 
     /// Remembers a company's return rates on a day.
     pub(crate) fn remember_rates(&mut self, company: Id, day: Day, rates: Rates)
-        ensures { (b : Book) → rates ≡ rates_of company day b → KnowsRight self.old b →
-            KnowsRight self.new b }
+        ensures { StaysRight (λ b. rates ≡ rates_of company day b) self.old self.new }
     {
         let known = self.on(company, day);
         self.put(
@@ -144,8 +138,7 @@ impl Known {
 
     /// Adds cents to a company's exposure of a direction, where it is known.
     pub(crate) fn grow(&mut self, company: Id, debit: bool, cents: u128)
-        ensures { (before after : Book) → Grows company debit cents before after →
-            KnowsRight self.old before → KnowsRight self.new after }
+        ensures { StaysRightOver (Grows company debit cents) self.old self.new }
     {
         let Some(known) = self.companies.get(&CompanyKey { company }).copied() else {
             return;
