@@ -4,7 +4,7 @@ use Rattle.std.specs.BTreeMap.{get}
 use Rattle.std.specs.Ordering.{nat_cmp}
 use Rattle.desk_history.specs.declared.sent_entry.SentEntry.{SentEntry}
 use Rattle.desk_history.specs.Sendings.{sent_sequence}
-use Rattle.desk_plan.specs.Reuse.{youngest_settlement}
+use Rattle.desk_plan.specs.Reuse.{latest_settled, youngest_settlement}
 use Rattle.memory_store.specs.declared.settlement_index.SettlementIndex.{SettlementIndex}
 use Rattle.memory_store.specs.declared.trace_index.TraceIndex.{TraceIndex}
 
@@ -29,3 +29,17 @@ settlement_of sent sequence = youngest_settlement (map sent_sequence (reverse se
 pub record AreSettled (sent : List SentEntry) (index : SettlementIndex) : Type 0 where
   pub within : index.indexed ≤ length sent
   pub settled : (sequence : ℕ) → get nat_cmp index.settled sequence ≡ settlement_of (take index.indexed sent) sequence
+
+-- the latest of those from a first sequence to a last one
+abbrev pub latest_settlement : List SentEntry → ℕ × ℕ → Option ℕ
+latest_settlement sent r = latest_settled (map sent_sequence (reverse sent)) r
+
+-- ---- where an index covers all sent entries
+
+-- this holds of them, where that of traces does
+abbrev pub OfIndexed : TraceIndex → (List SentEntry → Type 0) → Type 0
+OfIndexed index Holds = (sent : List SentEntry) → IsIndexed sent index → index.indexed ≡ length sent → Holds sent
+
+-- where that of settlements does
+abbrev pub OfSettled : SettlementIndex → (List SentEntry → Type 0) → Type 0
+OfSettled index Holds = (sent : List SentEntry) → AreSettled sent index → index.indexed ≡ length sent → Holds sent

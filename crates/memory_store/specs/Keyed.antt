@@ -45,11 +45,16 @@ lapsed_same key steady l x = of_tests (bytes_eq x.company l.company) (x.row.orde
   of_tests true false = refl
   of_tests false o = refl
 
+-- the states of a submission's entries, of which one comes back
+abbrev pub returned_states : ReturnedRow → List EntryState → List EntryState
+returned_states r states =
+    map (λ y. if y.0 == r.row.index then returned_state_by r y.1 else y.1) (enumerate_from 1 states)
+
 -- what comes back leaves the settlement too
 pub returned_same : (key : CompanyRow → Option RowKey) → IsOfContent key → (r : ReturnedRow) (x : CompanyRow) → key (return_in r x) ≡ key x
 returned_same key steady r x = of_tests (bytes_eq x.company r.company) (bytes_eq x.row.content.reference r.row.reference) where
   changed : List EntryState
-  changed = map (λ y. if y.0 == r.row.index then returned_state_by r y.1 else y.1) (enumerate_from 1 x.row.states)
+  changed = returned_states r x.row.states
 
   of_tests : (c o : Bool) → key (if c then record x { row = if o then record x.row { states = changed } else x.row } else x) ≡ key x
   of_tests true true = steady x changed
@@ -88,6 +93,6 @@ lapsed_keyed l = record {
 -- what comes back is found by its reference
 pub returned_keyed : (r : ReturnedRow) → IsKeyed kinds.Reference (under r.company r.row.reference) (return_in r)
 returned_keyed r = record {
-  others = λ x. other_reference x (record x.row { states = map (λ y. if y.0 == r.row.index then returned_state_by r y.1 else y.1) (enumerate_from 1 x.row.states) }) (bytes_eq x.company r.company) (bytes_eq x.row.content.reference r.row.reference);
+  others = λ x. other_reference x (record x.row { states = returned_states r x.row.states }) (bytes_eq x.company r.company) (bytes_eq x.row.content.reference r.row.reference);
   same = returned_same (key_in kinds.Reference) (λ x held. refl) r;
 }

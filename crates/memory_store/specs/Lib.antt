@@ -1,3 +1,4 @@
+pub mod Covers
 pub mod Finds
 pub mod Indexed
 pub mod Kept
@@ -7,3 +8,5 @@ pub mod Open
 pub mod Placed
 pub mod RowKeys
 pub mod Traced
+pub mod Waits
+pub mod Written

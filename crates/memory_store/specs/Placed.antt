@@ -1,5 +1,5 @@
 -- Where the rows stand that a key names, as an index finds them.
-use Rattle.std.specs.Prelude.{◌≡◌, ◌≤◌, ◌==◌, ℕ, Bool, false, if◌then◌else◌, List, [], ◌∷◌, map, filter, filter_map, slice_get, take, length, option_map, unwrap_or, Option, Some, None}
+use Rattle.std.specs.Prelude.{◌≡◌, ◌≤◌, ◌==◌, ℕ, Bool, false, if◌then◌else◌, List, [], ◌∷◌, ◌++◌, map, filter, filter_map, slice_get, take, length, option_map, unwrap_or, Option, Some, None}
 use Rattle.std.specs.List.{enumerate_from}
 use Rattle.std.specs.BTreeMap.{get}
 use Rattle.desk_store.specs.Rows.{CompanyRow}
@@ -60,6 +60,14 @@ listed_under k index = unwrap_or (option_map (λ v. v.items) (get key_cmp index.
 -- the place, where what stands there has the key
 abbrev pub place_under : RowKey → Option RowKey → ℕ → List ℕ
 place_under k key place = if is_key k key then place ∷ [] else []
+
+-- each key has the places that it had
+abbrev pub ListsSame : (old new : PlaceIndex) → Type 0
+ListsSame old new = (k : RowKey) → listed_under k new ≡ listed_under k old
+
+-- and one more, where what stands there has the key
+abbrev pub ListsMore : Option RowKey → (place : ℕ) → (old new : PlaceIndex) → Type 0
+ListsMore key place old new = (k : RowKey) → listed_under k new ≡ listed_under k old ++ place_under k key place
 
 -- it finds the places of each key among the first of the rows, as many as it covers
 pub record IsPlaced (kind : KeyKind) (rows : List CompanyRow) (index : PlaceIndex) : Type 0 where

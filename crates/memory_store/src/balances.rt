@@ -1,8 +1,7 @@
 //! The sums of an account's lines in memory.
-ghost use Rattle.std.specs.Prelude.{◌≡◌, ◌+ℤ◌, pos, map, unwrap_or, IfOk, IfSome, OnOk};
-ghost use Rattle.std.specs.List.Sorted.{IsStrictlyIncreasing};
+ghost use Rattle.std.specs.Prelude.{◌≡◌, ◌+ℤ◌, pos, unwrap_or, IfOk, IfSome, OnOk};
 ghost use Rattle.desk_accounts.specs.Balance.{day_sums};
-ghost use Rattle.memory_store.specs.Finds.{with_sum};
+ghost use Rattle.memory_store.specs.Finds.{AddsToDay};
 
 use bank_days::Day;
 use desk_accounts::{Account, Posting};
@@ -22,8 +21,7 @@ fn with_cents(sum: Option<i128>, cents: i128) -> Option<i128>
 
 // An amount is added to the sum of its day.
 fn add_to_day(sums: &mut BTreeMap<Day, i128>, day: Day, cents: i128) -> Result<(), StoreFault>
-    ensures { OnOk result (IsStrictlyIncreasing (map (λ row. row.0) sums.old.entries) →
-        sums.new.entries ≡ with_sum day cents sums.old.entries) }
+    ensures { OnOk result (AddsToDay day cents sums.old.entries sums.new.entries) }
 {
     let Some(sum) = with_cents(sums.get(&day).copied(), cents) else {
         return Err(StoreFault::Unavailable);
@@ -33,8 +31,8 @@ fn add_to_day(sums: &mut BTreeMap<Day, i128>, day: Day, cents: i128) -> Result<(
 }
 
 fn add_line(sums: &mut BTreeMap<Day, i128>, line: &Posting) -> Result<(), StoreFault>
-    ensures { OnOk result (IsStrictlyIncreasing (map (λ row. row.0) sums.old.entries) →
-        sums.new.entries ≡ with_sum line.now.value_day line.now.cents sums.old.entries) }
+    ensures { OnOk result
+        (AddsToDay line.now.value_day line.now.cents sums.old.entries sums.new.entries) }
 {
     add_to_day(sums, line.value_day, i128::from(line.cents))
 }

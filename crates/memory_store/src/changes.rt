@@ -3,7 +3,8 @@ ghost use Rattle.std.specs.Prelude.{◌≡◌, ◌+◌, ◌≤◌, ◌++◌, map
 ghost use Rattle.desk_store.specs.Changes.{in_turn};
 ghost use Rattle.memory_store.specs.Keyed.{IsKeyed};
 ghost use Rattle.memory_store.specs.Kept.{row_in};
-ghost use Rattle.memory_store.specs.Placed.{FindsAll, changed_at};
+ghost use Rattle.memory_store.specs.Placed.{changed_at};
+ghost use Rattle.memory_store.specs.Written.{ChangesFound, StillFinds};
 ghost use Rattle.memory_store.specs.declared.place_index.KeyKind.{KeyKind};
 ghost use Rattle.memory_store.specs.declared.row_key.RowKey.{RowKey};
 ghost use Rattle.desk_store.specs.Rows.{CompanyRow};
@@ -46,8 +47,7 @@ fn change_at<C: Change>(kept: &mut [KeptSubmission], place: usize, change: &C)
 
 /// Makes a change of the submissions that an index finds by its key.
 fn change_found<C: Change>(kept: &mut [KeptSubmission], index: &PlaceIndex, change: &C)
-    ensures { FindsAll C.kind (map row_in kept.old) index.now →
-        map row_in kept.new ≡ map (C.makes change.now) (map row_in kept.old) }
+    ensures { ChangesFound C.kind index.now (map (C.makes change.now)) kept.old kept.new }
 {
     let places = index.of(change.key());
     for place in places {
@@ -56,10 +56,8 @@ fn change_found<C: Change>(kept: &mut [KeptSubmission], index: &PlaceIndex, chan
 }
 
 fn change_in_turn<C: Change>(kept: &mut [KeptSubmission], index: &PlaceIndex, changes: &[C])
-    ensures made { FindsAll C.kind (map row_in kept.old) index.now →
-        map row_in kept.new ≡ in_turn C.makes changes.now (map row_in kept.old) }
-    ensures found { FindsAll C.kind (map row_in kept.old) index.now →
-        FindsAll C.kind (map row_in kept.new) index.now }
+    ensures made { ChangesFound C.kind index.now (in_turn C.makes changes.now) kept.old kept.new }
+    ensures found { StillFinds C.kind index.now kept.old kept.new }
 {
     for change in changes {
         change_found(kept, index, change);
@@ -72,10 +70,9 @@ pub(crate) fn change_all<C: Change>(
     index: &PlaceIndex,
     changes: &[C],
 )
-    ensures made { FindsAll C.kind (map row_in kept.old.items) index.now →
-        map row_in kept.new.items ≡ in_turn C.makes changes.now (map row_in kept.old.items) }
-    ensures found { FindsAll C.kind (map row_in kept.old.items) index.now →
-        FindsAll C.kind (map row_in kept.new.items) index.now }
+    ensures made { ChangesFound C.kind index.now (in_turn C.makes changes.now)
+        kept.old.items kept.new.items }
+    ensures found { StillFinds C.kind index.now kept.old.items kept.new.items }
 {
     change_in_turn(kept, index, changes);
 }

@@ -1,9 +1,10 @@
 //! What a cut writes into the lists.
-ghost use Rattle.std.specs.Prelude.{◌≡◌, ◌+◌, ◌≤◌, ◌++◌, map, vec_len, vec_capacity, IfOk, OnOk, OnErr};
-ghost use Rattle.desk_store.specs.Changes.{in_turn, send_in, lapse_in, cut_in};
+ghost use Rattle.std.specs.Prelude.{◌≡◌, ◌+◌, ◌≤◌, ◌++◌, vec_len, vec_capacity, IfOk, OnOk, OnErr};
+ghost use Rattle.desk_store.specs.Changes.{send_in, lapse_in};
 ghost use Rattle.memory_store.specs.Keyed.{sent_keyed, lapsed_keyed};
 ghost use Rattle.memory_store.specs.Kept.{row_in, rows_in};
-ghost use Rattle.memory_store.specs.Placed.{FindsAll, numbered};
+ghost use Rattle.memory_store.specs.Placed.{numbered};
+ghost use Rattle.memory_store.specs.Written.{ChangesFound, WritesCut, decided_in};
 ghost use Rattle.memory_store.specs.declared.place_index.KeyKind.TheVariants as kinds;
 ghost use Rattle.desk_store.specs.Written.{cut_rows};
 
@@ -114,9 +115,8 @@ fn move_within(list: &mut Vec<FileRow>, files: Vec<FileRow>)
 
 /// Changes the submissions that a cut sends or lets lapse, which an index finds.
 fn decide(kept: &mut Vec<KeptSubmission>, orders: &PlaceIndex, cut: &CutRows<'_>)
-    ensures { FindsAll kinds.Order (map row_in kept.old.items) orders.now →
-        map row_in kept.new.items ≡ in_turn lapse_in (cut_rows cut.now).lapsed
-        (in_turn send_in (cut_rows cut.now).sent (map row_in kept.old.items)) }
+    ensures { ChangesFound kinds.Order orders.now (decided_in (cut_rows cut.now))
+        kept.old.items kept.new.items }
 {
     change_all(kept, orders, cut.sent);
     change_all(kept, orders, cut.lapsed);
@@ -129,9 +129,7 @@ pub(crate) fn write_cut(
     alloc: Global,
     cut: &CutRows<'_>,
 ) -> Result<(), AllocError>
-    ensures ok { OnOk result (FindsAll kinds.Order (map row_in store.old.submissions.items)
-        store.old.places.orders → rows_in store.new ≡ cut_in (cut_rows cut.now)
-        (rows_in store.old)) }
+    ensures ok { OnOk result (WritesCut (cut_rows cut.now) store.old store.new) }
     ensures err { OnErr result (rows_in store.new ≡ rows_in store.old) }
     ensures traces { store.new.traces ≡ store.old.traces }
     ensures settlements { store.new.settlements ≡ store.old.settlements }

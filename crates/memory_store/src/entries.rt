@@ -1,13 +1,12 @@
 //! The rows of one company in memory are looked at, where they stand, for a few of them.
-ghost use Rattle.std.specs.Prelude.{◌≡◌, ◌&&◌, ◌++◌, ◌∷◌, [], bytes_eq, filter, map, option_map, IfOk, OnOk};
+ghost use Rattle.std.specs.Prelude.{◌≡◌, ◌&&◌, ◌∷◌, [], bytes_eq, option_map, IfOk, OnOk};
 ghost use Rattle.std.specs.List.{list_any};
 ghost use Rattle.desk_rules.specs.Exposure.{is_open_credit};
 ghost use Rattle.desk_history.specs.Retries.{is_same_entry};
 ghost use Rattle.desk_book.specs.Standing.{is_held, row_under, state_at};
-ghost use Rattle.memory_store.specs.Finds.{rows_for, passes, passing_at};
+ghost use Rattle.memory_store.specs.Finds.{Adds, found_row, passes, passing_among, passing_at, rows_among};
 ghost use Rattle.memory_store.specs.Kept.{row_in};
 ghost use Rattle.memory_store.specs.Open.{may_be_open, is_found_open};
-ghost use Rattle.memory_store.specs.Placed.{picked};
 
 use crate::list_store::KeptSubmission;
 use crate::reads::{is_submission_of, row_like};
@@ -89,8 +88,7 @@ fn push_passing(
     company: Id,
     which: &RowFilter,
 ) -> Result<(), AllocError>
-    ensures { OnOk result
-        (rows.new.items ≡ rows.old.items ++ passing_at kept.now place company which.now) }
+    ensures { OnOk result (Adds (passing_at kept.now place company which.now) rows.old rows.new) }
 {
     if place < kept.len() {
         let one = &kept[place];
@@ -110,8 +108,7 @@ pub(crate) fn rows_passing(
     which: &RowFilter,
 ) -> Result<Vec<Row>, AllocError>
     ensures { IfOk result
-        (λ rows. rows.items ≡ filter (passes which.now)
-        (rows_for (picked kept.now places.now) company)) }
+        (λ rows. rows.items ≡ passing_among kept.now places.now company which.now) }
 {
     let mut rows = Vec::new(alloc);
     for place in places {
@@ -127,8 +124,7 @@ fn submission_at<'a>(
     company: Id,
     reference: Ref,
 ) -> Option<&'a KeptSubmission>
-    ensures { option_map (λ k. (row_in k.now).row) result ≡ row_under
-        (rows_for (picked kept.now (place ∷ [])) company) reference }
+    ensures { found_row result ≡ row_under (rows_among kept.now (place ∷ []) company) reference }
 {
     if place < kept.len() {
         let one = &kept[place];
@@ -146,8 +142,7 @@ pub(crate) fn submission_among<'a>(
     company: Id,
     reference: Ref,
 ) -> Option<&'a KeptSubmission>
-    ensures { option_map (λ k. (row_in k.now).row) result ≡ row_under
-        (rows_for (picked kept.now places.now) company) reference }
+    ensures { found_row result ≡ row_under (rows_among kept.now places.now company) reference }
 {
     for place in places {
         let found = submission_at(kept, *place, company, reference);
@@ -163,7 +158,7 @@ pub(crate) fn row_of(
     alloc: Global,
     found: Option<&KeptSubmission>,
 ) -> Result<Option<Row>, AllocError>
-    ensures { IfOk result (λ row. row ≡ option_map (λ k. (row_in k.now).row) found.entry) }
+    ensures { IfOk result (λ row. row ≡ found_row found.entry) }
 {
     match found {
         Some(one) => Ok(Some(row_like(alloc, one)?)),
@@ -173,8 +168,7 @@ pub(crate) fn row_of(
 
 /// Gives the state of an entry of a row that was found.
 pub(crate) fn state_of(found: Option<&KeptSubmission>, index: u64) -> Option<EntryState>
-    ensures { result ≡ option_map (λ row. state_at row index)
-        (option_map (λ k. (row_in k.now).row) found.entry) }
+    ensures { result ≡ option_map (λ row. state_at row index) (found_row found.entry) }
 {
     match found {
         Some(one) => Some(state_numbered(&one.states, index)),

@@ -1,10 +1,10 @@
 //! What an incoming file writes into the lists.
-ghost use Rattle.std.specs.Prelude.{◌≡◌, ◌==◌, if◌then◌else◌, map, OnOk, OnErr};
-ghost use Rattle.std.specs.List.{enumerate_from};
-ghost use Rattle.desk_store.specs.Changes.{return_in, intake_in};
-ghost use Rattle.memory_store.specs.Keyed.{returned_keyed};
+ghost use Rattle.std.specs.Prelude.{◌≡◌, OnOk, OnErr};
+ghost use Rattle.desk_store.specs.Changes.{return_in};
+ghost use Rattle.memory_store.specs.Keyed.{returned_keyed, returned_states};
 ghost use Rattle.memory_store.specs.Kept.{row_in, rows_in};
-ghost use Rattle.memory_store.specs.Placed.{FindsAll, under};
+ghost use Rattle.memory_store.specs.Placed.{under};
+ghost use Rattle.memory_store.specs.Written.{WritesIntake};
 ghost use Rattle.memory_store.specs.declared.place_index.KeyKind.TheVariants as kinds;
 ghost use Rattle.desk_book.specs.Steps.{returned_state_by};
 ghost use Rattle.desk_store.specs.Written.{intake_rows};
@@ -32,9 +32,7 @@ fn come_back(state: EntryState, returned: &ReturnedRow) -> EntryState
 }
 
 fn bring_back(states: &mut Vec<EntryState>, returned: &ReturnedRow)
-    ensures { states.new.items ≡ map
-        (λ y. if y.0 == returned.now.row.index then returned_state_by returned.now y.1 else y.1)
-        (enumerate_from 1 states.old.items) }
+    ensures { states.new.items ≡ returned_states returned.now states.old.items }
 {
     let number = returned.row.index as usize;
     if number >= 1 {
@@ -76,9 +74,7 @@ impl Change for ReturnedRow {
 /// Writes an incoming file, where the index of references covers all submissions. Where this is out
 /// of memory the lists stay as they were.
 pub(crate) fn write_intake(store: &mut ListStore, intake: &IntakeRows<'_>) -> Result<(), AllocError>
-    ensures ok { OnOk result (FindsAll kinds.Reference (map row_in store.old.submissions.items)
-        store.old.places.references → rows_in store.new ≡ intake_in (intake_rows intake.now)
-        (rows_in store.old)) }
+    ensures ok { OnOk result (WritesIntake (intake_rows intake.now) store.old store.new) }
     ensures err { OnErr result (rows_in store.new ≡ rows_in store.old) }
     ensures traces { store.new.traces ≡ store.old.traces }
     ensures settlements { store.new.settlements ≡ store.old.settlements }

@@ -1,8 +1,9 @@
 //! The lists in memory have returns, changes, lines and files.
-ghost use Rattle.std.specs.Prelude.{◌≡◌, ◌≢◌, None, map, filter, find, count_by, option_map, bytes_eq, ◌==◌, IfOk, OnErr};
+ghost use Rattle.std.specs.Prelude.{◌≡◌, ◌≢◌, None, find, count_by, ◌==◌, IfOk, OnErr};
 ghost use Rattle.desk_accounts.specs.Balance.{lines_of};
 ghost use Rattle.desk_history.specs.Intake.{has_key};
 ghost use Rattle.desk_book.specs.Steps.{is_file};
+ghost use Rattle.memory_store.specs.Finds.{changes_among, returns_among, text_among};
 
 use crate::reads::copy_of;
 use ach_fields::Id;
@@ -18,7 +19,7 @@ pub(crate) fn returns_of(
     returned: &[ReturnedRow],
     company: Id,
 ) -> Result<Vec<ReturnRow>, AllocError>
-    ensures { IfOk result (λ rows. rows.items ≡ map (λ x. x.row) (filter (λ x. bytes_eq x.company company) returned.now)) }
+    ensures { IfOk result (λ rows. rows.items ≡ returns_among returned.now company) }
 {
     let mut rows = Vec::new(alloc);
     for one in returned {
@@ -35,7 +36,7 @@ pub(crate) fn changes_of(
     changed: &[ChangedRow],
     company: Id,
 ) -> Result<Vec<ChangeRow>, AllocError>
-    ensures { IfOk result (λ rows. rows.items ≡ map (λ x. x.row) (filter (λ x. bytes_eq x.company company) changed.now)) }
+    ensures { IfOk result (λ rows. rows.items ≡ changes_among changed.now company) }
 {
     let mut rows = Vec::new(alloc);
     for one in changed {
@@ -83,7 +84,7 @@ pub(crate) fn text_at(
     day: Day,
     modifier: u8,
 ) -> Result<Option<ListOf<u8>>, AllocError>
-    ensures text { IfOk result (λ text. text ≡ option_map (λ f. f.text) (find (is_file day modifier) files.now)) }
+    ensures text { IfOk result (λ text. text ≡ text_among files.now day modifier) }
     ensures memory { OnErr result (find (is_file day modifier) files.now ≢ None) }
 {
     for file in files {

@@ -1,8 +1,8 @@
 //! An index finds the rows in memory that a key names, without going through all rows.
-ghost use Rattle.std.specs.Prelude.{◌≡◌, ◌++◌, List, map, OnOk, OnErr};
+ghost use Rattle.std.specs.Prelude.{◌≡◌, List, OnOk, OnErr};
+ghost use Rattle.memory_store.specs.Covers.{Covers, StaysPlaced};
 ghost use Rattle.memory_store.specs.Kept.{row_in};
-ghost use Rattle.memory_store.specs.Placed.{IsPlaced, FindsAll, key_in, place_under, listed_under, numbered, under, whole};
-ghost use Rattle.memory_store.specs.declared.row_key.RowKey.{RowKey};
+ghost use Rattle.memory_store.specs.Placed.{IsPlaced, ListsMore, ListsSame, key_in, listed_under, numbered, under, whole};
 ghost use Rattle.memory_store.specs.declared.place_index.KeyKind.{KeyKind};
 ghost use Rattle.desk_store.specs.Rows.{CompanyRow};
 
@@ -120,10 +120,8 @@ impl PlaceIndex {
 
     /// Adds a place to those of a key, where there is one.
     fn add(&mut self, alloc: Global, key: Option<RowKey>, place: usize) -> Result<(), StoreFault>
-        ensures ok { OnOk result ((k : RowKey) → listed_under k self.new ≡ listed_under k self.old
-            ++ place_under k key place) }
-        ensures err { OnErr result
-            ((k : RowKey) → listed_under k self.new ≡ listed_under k self.old) }
+        ensures ok { OnOk result (ListsMore key place self.old self.new) }
+        ensures err { OnErr result (ListsSame self.old self.new) }
         ensures indexed { self.new.indexed ≡ self.old.indexed }
     {
         let Some(key) = key else {
@@ -146,10 +144,8 @@ impl PlaceIndex {
         kept: &[KeptSubmission],
         kind: &KeyKind,
     ) -> Result<(), StoreFault>
-        ensures right { IsPlaced kind.now (map row_in kept.now) self.old →
-            IsPlaced kind.now (map row_in kept.now) self.new }
-        ensures whole { OnOk result (IsPlaced kind.now (map row_in kept.now) self.old → FindsAll
-            kind.now (map row_in kept.now) self.new) }
+        ensures right { StaysPlaced kind.now kept.now self.old self.new }
+        ensures whole { OnOk result (Covers kind.now kept.now self.old self.new) }
     {
         for at in self.indexed..kept.len() {
             let key = key_of(&kept[at], kind);

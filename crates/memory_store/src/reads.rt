@@ -1,7 +1,7 @@
 //! The lists in memory have companies and their submissions.
-ghost use Rattle.std.specs.Prelude.{◌≡◌, ◌≢◌, [], find, bytes_eq, ◌&&◌, IfOk, OnErr};
+ghost use Rattle.std.specs.Prelude.{◌≡◌, ◌≢◌, [], find, IfOk, OnErr};
 ghost use Rattle.desk_history.specs.Operator.{has_id};
-ghost use Rattle.memory_store.specs.Finds.{rows_for};
+ghost use Rattle.memory_store.specs.Finds.{is_submission_of, rows_for};
 ghost use Rattle.memory_store.specs.Kept.{row_in};
 
 use crate::list_store::KeptSubmission;
@@ -67,7 +67,7 @@ pub(crate) fn rows_of(
 
 /// Is it the company's submission with the reference?
 pub(crate) fn is_submission_of(kept: &KeptSubmission, company: Id, reference: Ref) -> bool
-    ensures { result ≡ (bytes_eq kept.now.company company && bytes_eq kept.now.content.reference reference) }
+    ensures { result ≡ is_submission_of kept.now company reference }
 {
     kept.company.bytes() == company.bytes()
         && kept.content.submission().reference.bytes() == reference.bytes()

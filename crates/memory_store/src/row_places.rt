@@ -1,8 +1,8 @@
 //! The rows of a company in memory are found without going through all rows.
-ghost use Rattle.std.specs.Prelude.{◌≡◌, true, List, [], Some, map, OnOk};
-ghost use Rattle.memory_store.specs.Kept.{row_in};
-ghost use Rattle.memory_store.specs.Finds.{FindWaiting, held_index};
-ghost use Rattle.memory_store.specs.Placed.{ArePlaced, FindsAll};
+ghost use Rattle.std.specs.Prelude.{◌≡◌, true, List, [], Some, OnOk};
+ghost use Rattle.memory_store.specs.Covers.{AllStayPlaced, CoversBy, CoversWaiting};
+ghost use Rattle.memory_store.specs.Finds.{held_index};
+ghost use Rattle.memory_store.specs.Placed.{ArePlaced};
 ghost use Rattle.memory_store.specs.declared.place_index.KeyKind.TheVariants as kinds;
 ghost use Rattle.desk_store.specs.Rows.{CompanyRow};
 
@@ -48,10 +48,9 @@ impl RowPlaces {
         alloc: Global,
         kept: &[KeptSubmission],
     ) -> Result<(), StoreFault>
-        ensures right { ArePlaced (map row_in kept.now) self.old →
-            ArePlaced (map row_in kept.now) self.new }
-        ensures whole { OnOk result (ArePlaced (map row_in kept.now) self.old → FindsAll
-            kinds.Reference (map row_in kept.now) self.new.references) }
+        ensures right { AllStayPlaced kept.now self.old self.new }
+        ensures whole { OnOk result
+            (CoversBy kinds.Reference kept.now self.old self.new.references) }
     {
         self.references.cover(alloc, kept, &KeyKind::Reference)?;
         self.originals.cover(alloc, kept, &KeyKind::Original)?;
@@ -65,10 +64,8 @@ impl RowPlaces {
         alloc: Global,
         kept: &[KeptSubmission],
     ) -> Result<(), StoreFault>
-        ensures right { ArePlaced (map row_in kept.now) self.old →
-            ArePlaced (map row_in kept.now) self.new }
-        ensures whole { OnOk result (ArePlaced (map row_in kept.now) self.old → FindsAll kinds.Order
-            (map row_in kept.now) self.new.orders) }
+        ensures right { AllStayPlaced kept.now self.old self.new }
+        ensures whole { OnOk result (CoversBy kinds.Order kept.now self.old self.new.orders) }
     {
         self.orders.cover(alloc, kept, &KeyKind::Order)
     }
@@ -101,11 +98,10 @@ impl RowPlaces {
         kept: &[KeptSubmission],
         since: Day,
     ) -> Result<(), StoreFault>
-        ensures right { ArePlaced (map row_in kept.now) self.old →
-            ArePlaced (map row_in kept.now) self.new }
+        ensures right { AllStayPlaced kept.now self.old self.new }
         ensures since { self.new.since ≡ Some since }
-        ensures whole { OnOk result (ArePlaced (map row_in kept.now) self.old → FindsAll
-            (kinds.OpenSince since) (map row_in kept.now) self.new.recent) }
+        ensures whole { OnOk result
+            (CoversBy (kinds.OpenSince since) kept.now self.old self.new.recent) }
     {
         self.begin(since);
         self.recent.cover(alloc, kept, &KeyKind::OpenSince(since))
@@ -117,10 +113,8 @@ impl RowPlaces {
         alloc: Global,
         kept: &[KeptSubmission],
     ) -> Result<(), StoreFault>
-        ensures right { ArePlaced (map row_in kept.now) self.old →
-            ArePlaced (map row_in kept.now) self.new }
-        ensures whole { OnOk result (ArePlaced (map row_in kept.now) self.old → FindWaiting
-            (map row_in kept.now) (held_index self.new) self.new.references) }
+        ensures right { AllStayPlaced kept.now self.old self.new }
+        ensures whole { OnOk result (CoversWaiting kept.now self.old self.new) }
     {
         self.references.cover(alloc, kept, &KeyKind::Reference)?;
         match self.since {

@@ -1,10 +1,7 @@
 //! An index finds when the entries of a range of sequences settled, without going through all entries.
-ghost use Rattle.std.specs.Prelude.{◌≡◌, List, [], map, reverse, length, OnOk};
-ghost use Rattle.desk_plan.specs.Reuse.{latest_settled};
-ghost use Rattle.desk_history.specs.declared.sent_entry.SentEntry.{SentEntry};
-ghost use Rattle.desk_history.specs.Sendings.{sent_sequence};
+ghost use Rattle.std.specs.Prelude.{◌≡◌, [], length, OnOk};
 ghost use Rattle.memory_store.specs.Finds.{later_of};
-ghost use Rattle.memory_store.specs.Indexed.{AreSettled};
+ghost use Rattle.memory_store.specs.Indexed.{AreSettled, OfSettled, latest_settlement};
 
 use bank_days::Day;
 use desk_history::SentEntry;
@@ -52,9 +49,7 @@ impl SettlementIndex {
     /// Gives the latest settlement of the youngest entries of sequences from the first to the last,
     /// where all entries are covered.
     pub(crate) fn latest(&self, from: u32, to: u32) -> Option<Day>
-        ensures { (sent : List SentEntry) → AreSettled sent self.now →
-            self.now.indexed ≡ length sent → result ≡ latest_settled
-            (map sent_sequence (reverse sent)) (from, to) }
+        ensures { OfSettled self.now (λ sent. result ≡ latest_settlement sent (from, to)) }
     {
         let mut latest = None;
         for sequence in u64::from(from)..u64::from(to) + 1 {

@@ -1,8 +1,7 @@
 //! An index finds the entry that a trace names, without going through all entries.
-ghost use Rattle.std.specs.Prelude.{◌≡◌, List, [], find, length, reverse, OnOk};
-ghost use Rattle.desk_history.specs.declared.sent_entry.SentEntry.{SentEntry};
+ghost use Rattle.std.specs.Prelude.{◌≡◌, [], find, length, reverse, OnOk};
 ghost use Rattle.desk_history.specs.Resolve.{has_trace};
-ghost use Rattle.memory_store.specs.Indexed.{IsIndexed};
+ghost use Rattle.memory_store.specs.Indexed.{IsIndexed, OfIndexed};
 
 use ach_fields::{Routing, Trace};
 use desk_history::SentEntry;
@@ -55,8 +54,7 @@ impl TraceIndex {
 
     /// Gives the youngest entry that has a trace, where all entries are covered.
     pub(crate) fn entry_of(&self, odfi: Routing, trace: Trace) -> Option<SentEntry>
-        ensures { (sent : List SentEntry) → IsIndexed sent self.now →
-            self.now.indexed ≡ length sent → result ≡ find (has_trace odfi trace) (reverse sent) }
+        ensures { OfIndexed self.now (λ sent. result ≡ find (has_trace odfi trace) (reverse sent)) }
     {
         ach_fields::numbers_and_digits();
         let _text = trace.text();

@@ -1,12 +1,8 @@
 //! What traces name, among what is kept.
-ghost use Rattle.std.specs.Prelude.{◌≡◌, List, length, map, IfOk};
+ghost use Rattle.std.specs.Prelude.{◌≡◌, IfOk};
 ghost use Rattle.desk_book.specs.OnIntake.{is_returned_state};
-ghost use Rattle.desk_history.specs.declared.sent_entry.SentEntry.{SentEntry};
-ghost use Rattle.memory_store.specs.Indexed.{IsIndexed};
-ghost use Rattle.memory_store.specs.Kept.{row_in};
-ghost use Rattle.memory_store.specs.Placed.{FindsAll};
-ghost use Rattle.memory_store.specs.Traced.{is_returned_among, traced_among};
-ghost use Rattle.memory_store.specs.declared.place_index.KeyKind.TheVariants.{Reference};
+ghost use Rattle.memory_store.specs.Covers.{HasReferences};
+ghost use Rattle.memory_store.specs.Traced.{NameEach, Names, is_returned_among};
 
 use crate::entries::{state_of, submission_among};
 use crate::list_store::KeptSubmission;
@@ -30,8 +26,7 @@ fn is_returned_state(state: EntryState) -> bool
 
 // Has the entry come back? The index finds each reference.
 fn is_returned(kept: &[KeptSubmission], references: &PlaceIndex, entry: &SentEntry) -> bool
-    ensures { FindsAll Reference (map row_in kept.now) references.now →
-        result ≡ is_returned_among kept.now entry.now }
+    ensures { HasReferences kept.now references.now → result ≡ is_returned_among kept.now entry.now }
 {
     let places = references.of(RowKey::under(entry.company, entry.reference));
     let found = submission_among(kept, places, entry.company, entry.reference);
@@ -53,10 +48,7 @@ pub(crate) struct Traced<'a> {
 
 impl Traced<'_> {
     fn entry_of(&self, trace: &Option<Trace>) -> Option<NamedEntry>
-        ensures { (sent : List SentEntry) → IsIndexed sent self.now.traces.now →
-            self.now.traces.now.indexed ≡ length sent →
-            FindsAll Reference (map row_in self.now.kept.now) self.now.references.now →
-            result ≡ traced_among self.now.odfi sent self.now.kept.now trace.now }
+        ensures { Names self.now trace.now result }
     {
         let entry = match trace {
             Some(trace) => self.traces.entry_of(self.odfi, *trace)?,
@@ -72,10 +64,7 @@ impl Traced<'_> {
         alloc: Global,
         traces: &[Option<Trace>],
     ) -> Result<Vec<Option<NamedEntry>>, AllocError>
-        ensures { IfOk result (λ named. (sent : List SentEntry) →
-            IsIndexed sent self.now.traces.now → self.now.traces.now.indexed ≡ length sent →
-            FindsAll Reference (map row_in self.now.kept.now) self.now.references.now →
-            named.items ≡ map (traced_among self.now.odfi sent self.now.kept.now) traces.now) }
+        ensures { IfOk result (NameEach self.now traces.now) }
     {
         let mut named = Vec::new(alloc);
         for trace in traces {

@@ -1,13 +1,8 @@
 //! The submissions in memory that wait for a cut are found without going through all rows.
-ghost use Rattle.std.specs.Prelude.{◌≡◌, ◌++◌, filter, map, option_map, option_and_then, IfOk, OnOk};
-ghost use Rattle.std.specs.List.{flat_map};
-ghost use Rattle.desk_book.specs.Reads.{held_submission};
-ghost use Rattle.desk_book.specs.Standing.{is_held, original_of_row};
-ghost use Rattle.memory_store.specs.Finds.{FindWaiting, passing_at, rows_for, waiting_for};
-ghost use Rattle.memory_store.specs.Kept.{row_in};
-ghost use Rattle.memory_store.specs.Placed.{FindsAll, picked};
-ghost use Rattle.memory_store.specs.declared.entries.RowFilter.TheVariants as filters;
-ghost use Rattle.memory_store.specs.declared.place_index.KeyKind.TheVariants as kinds;
+ghost use Rattle.std.specs.Prelude.{◌≡◌, option_and_then, IfOk, OnOk};
+ghost use Rattle.memory_store.specs.Covers.{HasReferences};
+ghost use Rattle.memory_store.specs.Finds.{found_row};
+ghost use Rattle.memory_store.specs.Waits.{AddsHeld, AddsHeldAt, FindsWaiting, IsHeldOf, original_among, waiting_in, waiting_in_all};
 
 use crate::entries::{RowFilter, passes_of, submission_among};
 use crate::list_store::KeptSubmission;
@@ -21,8 +16,7 @@ use std::alloc::{AllocError, Global};
 
 /// Gives the day on which a row that was found settled.
 fn settlement_of(found: Option<&KeptSubmission>) -> Option<RuleDay>
-    ensures { result ≡ option_and_then (λ row. row.settled)
-        (option_map (λ k. (row_in k.now).row) found.entry) }
+    ensures { result ≡ option_and_then (λ row. row.settled) (found_row found.entry) }
 {
     match found {
         Some(one) => one.settled,
@@ -37,8 +31,8 @@ fn original_settlement(
     company: Id,
     retry: Option<Retry>,
 ) -> Option<RuleDay>
-    ensures { FindsAll kinds.Reference (map row_in kept.now) references.now →
-        result ≡ original_of_row (rows_for kept.now company) retry }
+    ensures { HasReferences kept.now references.now →
+        result ≡ original_among kept.now company retry }
 {
     match retry {
         None => None,
@@ -57,9 +51,7 @@ fn waiting_like(
     one: &KeptSubmission,
     company: Company,
 ) -> Result<HeldSubmission, AllocError>
-    ensures { IfOk result
-        (λ made. FindsAll kinds.Reference (map row_in kept.now) references.now → made ≡
-        held_submission company (rows_for kept.now company.id) (row_in one.now).row) }
+    ensures { IfOk result (IsHeldOf kept.now references.now company one.now) }
 {
     let row = row_like(alloc, one)?;
     let original_settled = original_settlement(kept, references, company.id, one.retry);
@@ -79,10 +71,8 @@ fn push_waiting_at(
     place: usize,
     company: &Company,
 ) -> Result<(), AllocError>
-    ensures { OnOk result (FindsAll kinds.Reference (map row_in kept.now) references.now →
-        found.new.items ≡ found.old.items ++ map
-        (held_submission company.now (rows_for kept.now company.now.id))
-        (passing_at kept.now place company.now.id filters.Held)) }
+    ensures { OnOk result
+        (AddsHeldAt kept.now references.now place company.now found.old found.new) }
 {
     if place < kept.len() {
         let one = &kept[place];
@@ -102,10 +92,8 @@ fn push_waiting(
     places: &[usize],
     company: &Company,
 ) -> Result<(), AllocError>
-    ensures { OnOk result (FindsAll kinds.Reference (map row_in kept.now) references.now →
-        found.new.items ≡ found.old.items ++ map
-        (held_submission company.now (rows_for kept.now company.now.id))
-        (filter is_held (rows_for (picked kept.now places.now) company.now.id))) }
+    ensures { OnOk result
+        (AddsHeld kept.now references.now places.now company.now found.old found.new) }
 {
     for place in places {
         push_waiting_at(alloc, found, kept, references, *place, company)?;
@@ -122,8 +110,7 @@ pub(crate) fn company_waiting(
     references: &PlaceIndex,
 ) -> Result<Vec<HeldSubmission>, AllocError>
     ensures { IfOk result
-        (λ found. FindWaiting (map row_in kept.now) index.now references.now → found.items ≡
-        waiting_for company.now (rows_for kept.now company.now.id)) }
+        (FindsWaiting kept.now index.now references.now (waiting_in kept.now company.now)) }
 {
     let mut found = Vec::new(alloc);
     let places = index.of(RowKey::whole(company.id));
@@ -140,8 +127,7 @@ pub(crate) fn all_waiting(
     references: &PlaceIndex,
 ) -> Result<Vec<HeldSubmission>, AllocError>
     ensures { IfOk result
-        (λ found. FindWaiting (map row_in kept.now) index.now references.now → found.items ≡
-        flat_map (λ k. waiting_for k (rows_for kept.now k.id)) companies.now) }
+        (FindsWaiting kept.now index.now references.now (waiting_in_all kept.now companies.now)) }
 {
     let mut found = Vec::new(alloc);
     for company in companies {

@@ -1,9 +1,9 @@
 //! The writes of a store of lists are made of these, but for those of cuts and incoming files.
-ghost use Rattle.std.specs.Prelude.{◌≡◌, ◌≤◌, map, insert, length, replicate, IfOk, None};
-ghost use Rattle.desk_rules.specs.declared.bodies.company.Company.{Company};
+ghost use Rattle.std.specs.Prelude.{◌≡◌, ◌≤◌, map, length, replicate, IfOk, None};
 ghost use Rattle.desk_rules.specs.declared.rules.entry_fact.EntryState.TheVariants.{Held};
-ghost use Rattle.desk_history.specs.History.{with_company, with_limits};
+ghost use Rattle.desk_history.specs.History.{with_limits};
 ghost use Rattle.desk_store.specs.Held.{held_row};
+ghost use Rattle.memory_store.specs.Finds.{IsPlaceOf};
 ghost use Rattle.memory_store.specs.Kept.{row_in};
 
 use crate::list_store::KeptSubmission;
@@ -14,8 +14,7 @@ use std::alloc::{AllocError, Global};
 /// Gives the place of a company, in the byte order of identifications.
 pub(crate) fn place_of(companies: &[Company], id: Id) -> usize
     ensures within { result ≤ length companies.now }
-    ensures place { (k : Company) → k.id ≡ id →
-        insert companies.now result k ≡ with_company k companies.now }
+    ensures place { IsPlaceOf id companies.now result }
 {
     let mut at = 0;
     for company in companies {
