@@ -6,6 +6,7 @@ use Rattle.std.specs.declared.alloc.Global.{Global}
 use Rattle.desk_history.specs.declared.answer.Answer.{Answer}
 use Rattle.desk_history.specs.Message.{Message, Of}
 use Rattle.desk_history.specs.Request.{Request}
+use Rattle.desk_book.specs.declared.caller.Caller.{Caller}
 use Rattle.desk_book.specs.Book.{Book}
 use Rattle.desk_book.specs.OnBook.{reply_on}
 use Rattle.desk_book.specs.Requests.{added_row, with_added_row}
@@ -14,8 +15,10 @@ use Rattle.desk_store.specs.Promises.{CallTells, CallGives, CallGivesList}
 use Rattle.desk_store.specs.Words.{LeavesRead}
 use Rattle.desk_store.specs.declared.store.Store.{Ghosts}
 use Rattle.desk_store.specs.declared.store.StoreFault.{StoreFault}
-use Rattle.desk_admission.specs.Answering.{Answers, LeavesCall}
+use Rattle.desk_admission.specs.Answering.{Allows, Answers, LeavesCall}
 use Rattle.desk_admission.specs.Taking.{ReadsAs}
+use Rattle.desk_admission.specs.Verdicts.{Adds, LeavesAdded}
+use Rattle.desk_admission.specs.declared.verdict.Verdict.{Verdict}
 
 module _ {S : Type 0} (g : Ghosts S) where
   -- ---- what only reads
@@ -39,6 +42,11 @@ module _ {S : Type 0} (g : Ghosts S) where
   -- the same, where contracts see the result as another value
   abbrev pub GivesAs : {A B : Type 0} → (old new : S) → (A → B) → Result A StoreFault → (Book → B) → Type 0
   GivesAs old new view result value = Tells old new (ReadsAs view (g.holds old) result value (g.holds new))
+
+  -- Where the store is clean as the call ends: yes exactly where the caller has a key of this digest, or the store
+  -- could not act; it holds the same book.
+  abbrev pub AllowsKey : (old new : S) → Result Bool StoreFault → Caller → (digest : List ℕ) → Type 0
+  AllowsKey old new result caller digest = g.is_clean new → Allows (g.holds old) result caller digest (g.holds new)
 
   -- ---- answers of the desk
 
@@ -76,3 +84,11 @@ module _ {S : Type 0} (g : Ghosts S) where
   abbrev pub RepliesAdding : (old new : S) → Result Answer StoreFault → (company : List ℕ) → Request → Type 0
   RepliesAdding old new result company r =
       AnswersMessage old new result (Of company r) (λ b. reply_on b company r) (λ b. with_added_row company (added_row b company r) b)
+
+  -- The answer is that of the verdict, and the store then has its new row, if it has one; or the store could not act,
+  -- and holds the same book. Where a row was added, a crash leaves what keeps the book with it, and where none was,
+  -- nothing new; where the store could not act, either.
+  abbrev pub AnswersVerdict : (old new : S) → Result Answer StoreFault → (company : List ℕ) → Verdict → Type 0
+  AnswersVerdict old new result company v =
+      Acts old new (Adds (g.holds old) result company v (g.holds new))
+      (LeavesAdded g.keeps (g.holds old) (g.may_leave old) result company v (g.may_leave new))

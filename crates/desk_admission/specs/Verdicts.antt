@@ -3,18 +3,22 @@ use Rattle.std.specs.Prelude.{◌≡◌, ◌⊎◌, ⊤, ℕ, ◌+◌, Bool, tru
 use Rattle.desk_rules.specs.declared.bodies.company.Limits.{Limits}
 use Rattle.desk_rules.specs.declared.refusals.refusal.Refusal.{Refusal}
 use Rattle.desk_rules.specs.declared.refusals.refusal.Refusal.TheVariants.{NoCompany, NoDay, RefReused}
+use Rattle.desk_rules.specs.declared.bodies.draft.Draft.{Draft}
+use Rattle.desk_rules.specs.declared.bodies.draft.RetryDraft.{RetryDraft}
 use Rattle.desk_rules.specs.declared.bodies.submission.Retry.{Retry}
 use Rattle.desk_rules.specs.declared.bodies.submission.Submission.{Submission}
 use Rattle.desk_rules.specs.declared.rules.attempt.Attempt.{Attempt}
 use Rattle.desk_rules.specs.Attempts.{attempt_of}
 use Rattle.desk_rules.specs.Chain.{◌>>=◌}
+use Rattle.desk_rules.specs.Retry.{retry_of}
+use Rattle.desk_rules.specs.Submission.{submission_of}
 use Rattle.desk_history.specs.declared.answer.Answer.{Answer}
 use Rattle.desk_history.specs.declared.answer.Answer.TheVariants as answers
 use Rattle.desk_history.specs.declared.answer.Outcome.TheVariants as done
 use Rattle.desk_history.specs.declared.answer.CallRefusal.TheVariants.{Rule}
 use Rattle.desk_book.specs.declared.row.Row.{Row}
 use Rattle.desk_book.specs.Book.{Book}
-use Rattle.desk_history.specs.Acceptance.{is_same_submission, is_same_retry, new_content}
+use Rattle.desk_history.specs.Acceptance.{is_same_submission, is_same_retry, new_content, within_limits}
 use Rattle.desk_history.specs.Reports.{receipt}
 use Rattle.desk_history.specs.Request.{Request}
 use Rattle.desk_book.specs.Standing.{row_under, facts_in, state_at, retry_content_among}
@@ -59,10 +63,20 @@ abbrev pub reference_verdict : (Row → Bool) → Option Row → Verdict → Ver
 reference_verdict same None fresh = fresh
 reference_verdict same (Some row) fresh = known_verdict (same row) row
 
+-- what is within a company's limits, or its first refusal
+abbrev pub limited_on : (company : List ℕ) → Limits → (today : ℕ) → Submission → Book → Result Submission Refusal
+limited_on c limits today s b = within_limits (facts_in (b.rows c)) b.holidays limits today s
+
+-- a submission under a new reference
+abbrev pub fresh_submission : (company : List ℕ) → Limits → (today : ℕ) → Submission → Book → Verdict
+fresh_submission c limits today s b =
+    fresh_verdict (length (b.rows c) + 1) None (new_content (facts_in (b.rows c)) b.holidays limits today s)
+
 -- a submission whose fields are right
 abbrev pub submission_on : Book → (company : List ℕ) → Limits → (today : ℕ) → Submission → Verdict
 submission_on b c limits today s =
-    reference_verdict (λ row. is_same_submission s row.content row.retry) (row_under (b.rows c) s.reference) (fresh_verdict (length (b.rows c) + 1) None (new_content (facts_in (b.rows c)) b.holidays limits today s))
+    reference_verdict (λ row. is_same_submission s row.content row.retry) (row_under (b.rows c) s.reference)
+    (fresh_submission c limits today s b)
 
 -- the attempts to collect an entry of a row, which has these retries
 abbrev pub attempts_of : List Row → Row → ℕ → List Attempt
@@ -73,13 +87,25 @@ abbrev pub retry_among : List Row → (holidays : List ℕ) → Limits → (toda
 retry_among rs holidays limits today r =
     reference_verdict (λ row. is_same_retry r row.retry) (row_under rs r.reference) (fresh_verdict (length rs + 1) (Some r) (retry_content_among rs holidays limits today r))
 
+-- the content of a retry under a new reference, or its first refusal
+abbrev pub retry_content_on : (company : List ℕ) → Limits → (today : ℕ) → Retry → Book → Result Submission Refusal
+retry_content_on c limits today r b = retry_content_among (b.rows c) b.holidays limits today r
+
+-- a retry under a new reference
+abbrev pub fresh_retry : (company : List ℕ) → Limits → (today : ℕ) → Retry → Book → Verdict
+fresh_retry c limits today r b = fresh_verdict (length (b.rows c) + 1) (Some r) (retry_content_on c limits today r b)
+
 abbrev pub retry_on : Book → (company : List ℕ) → Limits → (today : ℕ) → Retry → Verdict
 retry_on b c limits today r = retry_among (b.rows c) b.holidays limits today r
+
+-- the limits of a registered company
+abbrev pub limits_on : (company : List ℕ) → Book → Result Limits Refusal
+limits_on c b = some_or NoCompany (standing_in b c).limits
 
 -- the limits of a registered company, and the desk day
 abbrev pub limits_and_day : Book → List ℕ → Result (Limits × ℕ) Refusal
 limits_and_day b c = do
-  limits ← some_or NoCompany (standing_in b c).limits
+  limits ← limits_on c b
   today ← some_or NoDay b.day
   Ok (limits, today)
 
@@ -88,6 +114,14 @@ abbrev pub verdict_of_fields : {A : Type 0} → Result (Limits × ℕ) Refusal �
 verdict_of_fields (Err why) fields judge = refused_verdict why
 verdict_of_fields (Ok on) (Err why) judge = refused_verdict why
 verdict_of_fields (Ok on) (Ok x) judge = judge on.0 on.1 x
+
+-- the draft of a submission
+abbrev pub draft_verdict : (company : List ℕ) → Draft → Book → Verdict
+draft_verdict c d b = verdict_of_fields (limits_and_day b c) (submission_of d) (submission_on b c)
+
+-- the draft of a retry
+abbrev pub retry_draft_verdict : (company : List ℕ) → RetryDraft → Book → Verdict
+retry_draft_verdict c d b = verdict_of_fields (limits_and_day b c) (retry_of d) (retry_on b c)
 
 -- ---- the write of a verdict
 

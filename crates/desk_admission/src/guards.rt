@@ -1,8 +1,8 @@
 //! What is asked before all else: whether the company is registered, and whether a day was set.
-ghost use Rattle.desk_rules.specs.declared.refusals.refusal.Refusal.TheVariants.{NoCompany, NoDay};
+ghost use Rattle.desk_rules.specs.declared.refusals.refusal.Refusal.TheVariants.{NoDay};
 ghost use Rattle.desk_history.specs.Words.{some_or};
-ghost use Rattle.desk_book.specs.OnBook.{standing_in};
 ghost use Rattle.desk_admission.specs.OverStores.{Gives};
+ghost use Rattle.desk_admission.specs.Verdicts.{limits_on};
 
 use ach_fields::Id;
 use bank_days::Day;
@@ -16,8 +16,7 @@ pub fn company_limits<S: Store>(
     alloc: Global,
     company: Id,
 ) -> Result<Result<Limits, Refusal>, StoreFault>
-    ensures { Gives S.Store store.old store.new result
-        (λ b. some_or NoCompany (standing_in b company).limits) }
+    ensures { Gives S.Store store.old store.new result (limits_on company) }
 {
     match store.company(alloc, company)? {
         Some(registered) => Ok(Ok(registered.limits)),

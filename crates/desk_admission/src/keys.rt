@@ -1,7 +1,6 @@
 //! A caller is allowed by the digest of its key.
 ghost use Rattle.std.specs.Prelude.{◌≡◌, ◌↔◌, Some, IsTrue};
-ghost use Rattle.desk_admission.specs.Answering.{Allows};
-ghost use Rattle.desk_admission.specs.OverStores.{LeavesNoMore};
+ghost use Rattle.desk_admission.specs.OverStores.{AllowsKey, LeavesNoMore};
 
 use desk_book::Caller;
 use desk_store::{Store, StoreFault};
@@ -15,8 +14,7 @@ pub fn allow<S: Store>(
     digest: [u8; 32],
 ) -> Result<bool, StoreFault>
     ensures before { S.is_clean store.new → S.is_clean store.old }
-    ensures allows { S.is_clean store.new →
-        Allows (S.holds store.old) result caller digest (S.holds store.new) }
+    ensures allows { AllowsKey S.Store store.old store.new result caller digest }
     ensures left { LeavesNoMore S.Store store.old store.new }
 {
     let key = store.key_of(alloc, caller)?;

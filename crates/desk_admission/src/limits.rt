@@ -1,7 +1,6 @@
 //! A company's limits are asked of its exposures.
-ghost use Rattle.desk_history.specs.Acceptance.{within_limits};
-ghost use Rattle.desk_book.specs.Standing.{facts_in};
 ghost use Rattle.desk_admission.specs.OverStores.{Gives};
+ghost use Rattle.desk_admission.specs.Verdicts.{limited_on};
 
 use ach_fields::Id;
 use bank_days::Day;
@@ -19,7 +18,7 @@ pub fn within_limits<S: Store>(
     content: SizedSubmission,
 ) -> Result<Result<SizedSubmission, Refusal>, StoreFault>
     ensures { Gives S.Store store.old store.new result
-        (λ b. within_limits (facts_in (b.rows company)) b.holidays limits.now today content) }
+        (limited_on company limits.now today content) }
 {
     let exposed = store.exposures(alloc, company, today)?;
     match check_limits(content.submission(), today, limits, exposed) {

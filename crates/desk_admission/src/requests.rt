@@ -1,7 +1,7 @@
 //! A submission and a retry share what is asked first, the verdict, and its write.
 ghost use Rattle.std.specs.Prelude.{◌≡◌, ◌+◌, length};
-ghost use Rattle.desk_admission.specs.Verdicts.{limits_and_day, refused_verdict, known_verdict, fresh_verdict, Adds, LeavesAdded};
-ghost use Rattle.desk_admission.specs.OverStores.{Acts, Gives};
+ghost use Rattle.desk_admission.specs.Verdicts.{limits_and_day, refused_verdict, known_verdict, fresh_verdict};
+ghost use Rattle.desk_admission.specs.OverStores.{AnswersVerdict, Gives};
 
 use crate::guards::{company_limits, desk_day};
 use crate::receipt::receipt;
@@ -96,10 +96,7 @@ pub fn add<S: Store>(
     company: Id,
     verdict: Verdict,
 ) -> Result<Answer, StoreFault>
-    ensures { Acts S.Store store.old store.new
-        (Adds (S.holds store.old) result company verdict (S.holds store.new))
-        (LeavesAdded S.keeps (S.holds store.old) (S.may_leave store.old) result company verdict
-        (S.may_leave store.new)) }
+    ensures { AnswersVerdict S.Store store.old store.new result company verdict }
 {
     if let Some(new) = &verdict.added {
         store.add_submission(alloc, company, new.order, &new.content, new.retry)?;
