@@ -1,21 +1,11 @@
--- The days on which submissions settle, and the sums of those of a day.
-use Rattle.std.proofs.Common.{◌≡◌, ◌==◌, ℕ, List, [], ◌∷◌, map, inl, inr, refl, ap, ◌∙◌, arith}
-use Rattle.std.specs.Prelude.{if◌then◌else◌, filter, nat_lt}
+-- The days on which submissions settle.
+use Rattle.std.proofs.Common.{◌≡◌, ◌==◌, ℕ, List, [], ◌∷◌, inl, inr, refl, ap, ◌∙◌, arith}
+use Rattle.std.specs.Prelude.{if◌then◌else◌, nat_lt}
 use Rattle.std.specs.BTreeSet.{insert_key}
 use Rattle.std.specs.Ordering.{nat_cmp, match_ordering}
 use Rattle.std.proofs.lemmas.Bool.{cases_order}
 use Rattle.std.proofs.lemmas.Bool.Decides.{nat_tests}
 use Rattle.desk_accounts.specs.Balance.{with_day}
-use Rattle.desk_history.specs.declared.status.Tallies.{Tallies}
-use Rattle.desk_history.specs.Status.{tallies}
-use Rattle.desk_cut.specs.declared.due.Sending.{Sending}
-use Rattle.desk_cut.specs.Sent.{sending_in}
-
--- the sums of what settles on a day
-abbrev pub sums_on : ℕ → List Sending → Tallies
-sums_on day xs = tallies (map (λ s. s.content) (filter (λ s. s.settled == day) (map sending_in xs)))
-
--- ---- days
 
 placed : (day d : ℕ) (before same after : List ℕ) → match_ordering (nat_cmp day d) before same after ≡ (if day == d then same else (if nat_lt day d then before else after))
 placed day d before same after = elim (cases_order day d) [

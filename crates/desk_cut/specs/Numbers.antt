@@ -7,32 +7,43 @@ use Rattle.desk_accounts.specs.Posting.{cut_line}
 use Rattle.desk_plan.specs.declared.batch.Batch as plan
 use Rattle.desk_plan.specs.Batch.{IsBatch}
 use Rattle.desk_plan.specs.Reuse.{is_past, latest_settled, may_send}
+use Rattle.desk_plan.specs.Runs.{in_runs}
 use Rattle.desk_plan.specs.Sequences.{SentSequence, last_sequence, ranges_of, are_apart}
 use Rattle.desk_history.specs.declared.identity.Identity.{Identity}
 use Rattle.desk_history.specs.declared.operations.CutSummary.{CutSummary}
-use Rattle.desk_history.specs.Files.{File}
+use Rattle.desk_history.specs.declared.sent_entry.SentEntry.{SentEntry}
+use Rattle.desk_history.specs.Files.{File, files_from}
 use Rattle.desk_history.specs.Postings.{if_any}
 use Rattle.desk_history.specs.Sendings.{Sending, NumberedBatch, is_debit_sending, plan_of, batch_of, batch_entries}
 use Rattle.desk_book.specs.declared.held_submission.HeldSubmission.{HeldSubmission}
 use Rattle.desk_book.specs.Steps.{CutWrite}
 use Rattle.desk_book.specs.OnCut.{sendings, lapses_among, ranges_after, sent_rows, file_row}
+use Rattle.desk_cut.specs.declared.due.Sending as due
 use Rattle.desk_cut.specs.declared.fault.CutFault.{CutFault}
 use Rattle.desk_cut.specs.declared.fault.CutFault.TheVariants.{NoMemory, TracesSpent}
 use Rattle.desk_cut.specs.declared.numbers.CutNumbers.{CutNumbers}
-use Rattle.desk_cut.specs.Sent.{due_in}
+use Rattle.desk_cut.specs.Sent.{due_in, sending_in}
+
+-- what each takes of a file and of the sequences that a cut would send
+abbrev pub loads_among : (holidays : List ℕ) → (day : ℕ) → List HeldSubmission → List plan.Batch
+loads_among holidays day waiting = map plan_of (sendings holidays day waiting)
+
+-- the sequences of each, after the last one
+abbrev pub ranges_among : (holidays : List ℕ) → (day last : ℕ) → List HeldSubmission → List (ℕ × ℕ)
+ranges_among holidays day last waiting = ranges_after last (sendings holidays day waiting)
 
 -- What is sent with its sequences, and what lapses. The cut may take them where those of each range may
 -- be used.
 pub record IsNumbered (holidays : List ℕ) (day last : ℕ) (waiting : List HeldSubmission) (n : CutNumbers) : Type 0 where
   pub sent : map due_in n.sent.items ≡ sendings holidays day waiting
   pub lapsed : n.lapsed.items ≡ lapses_among holidays day waiting
-  pub loads : n.loads.items ≡ map plan_of (sendings holidays day waiting)
-  pub ranges : n.ranges.items ≡ ranges_after last (sendings holidays day waiting)
-  pub batches : All IsBatch (map plan_of (sendings holidays day waiting))
-  pub apart : are_apart (ranges_after last (sendings holidays day waiting)) ≡ true
+  pub loads : n.loads.items ≡ loads_among holidays day waiting
+  pub ranges : n.ranges.items ≡ ranges_among holidays day last waiting
+  pub batches : All IsBatch (loads_among holidays day waiting)
+  pub apart : are_apart (ranges_among holidays day last waiting) ≡ true
   pub may : (sent : List SentSequence) → last_sequence sent ≡ last
-      → may_send day sent (map plan_of (sendings holidays day waiting))
-      ≡ list_all (is_past day) (map (latest_settled sent) (ranges_of sent (map plan_of (sendings holidays day waiting))))
+      → may_send day sent (loads_among holidays day waiting)
+      ≡ list_all (is_past day) (map (latest_settled sent) (ranges_of sent (loads_among holidays day waiting)))
 
 -- Two batches would have a sequence in common; or memory was refused.
 abbrev pub HasNoRanges : (day : ℕ) → (last : ℕ) → List Sending → CutFault → Type 0
@@ -44,29 +55,61 @@ HasNoRanges day last ss fault = fault ≡ NoMemory
 abbrev pub sendings_in : CutNumbers → List Sending
 sendings_in n = map due_in n.sent.items
 
+-- what is sent, each as a batch with its range of sequences
+abbrev pub batches_of : List (ℕ × ℕ) → List Sending → List NumberedBatch
+batches_of ranges ss = map batch_of (zip ranges ss)
+
+abbrev pub batches_in : CutNumbers → List NumberedBatch
+batches_in n = batches_of n.ranges.items (sendings_in n)
+
+-- the entries of the batches, in the order of their sequences
+abbrev pub entries_of : List NumberedBatch → List SentEntry
+entries_of bs = flat_map batch_entries bs
+
 -- the line of a submission, its total told by what it takes of a file
 abbrev pub line_by : Sending × plan.Batch → List Posting
 line_by x =
     let cents = if is_debit_sending x.0 then x.1.debits else x.1.credits in
     if_any cents (cut_line x.0.company.id (is_debit_sending x.0) cents x.0.settled x.0.content.reference)
 
-abbrev pub batches_in : CutNumbers → List NumberedBatch
-batches_in n = map batch_of (zip n.ranges.items (sendings_in n))
+-- that line and its opposite
+abbrev pub cut_lines : due.Sending → plan.Batch → List Posting
+cut_lines s load = pairs (line_by (sending_in s, load))
+
+-- the lines of what is sent, each with its opposite, by what each submission takes
+abbrev pub postings_of : List Sending → List plan.Batch → List Posting
+postings_of ss loads = pairs (flat_map line_by (zip ss loads))
+
+-- the modifiers of the files, in order
+abbrev pub modifiers_of : List File → List ℕ
+modifiers_of files = map (λ f. f.modifier) files
 
 -- where these are the files
 abbrev pub write_of : Identity → List File → CutNumbers → CutWrite
 write_of identity files n = record {
   sent = flat_map sent_rows files;
   lapsed = n.lapsed.items;
-  entries = flat_map batch_entries (batches_in n);
-  postings = pairs (flat_map line_by (zip (sendings_in n) n.loads.items));
+  entries = entries_of (batches_in n);
+  postings = postings_of (sendings_in n) n.loads.items;
   files = map (file_row identity) files;
 }
 
 abbrev pub summary_of : ℕ → List File → CutNumbers → CutSummary
 summary_of day files n = record {
   day = day;
-  entries = length (flat_map batch_entries (batches_in n));
-  files = map (λ f. f.modifier) files;
+  entries = length (entries_of (batches_in n));
+  files = modifiers_of files;
   lapsed = length n.lapsed.items;
 }
+
+-- its files, on a day that has so many already, where these are their sizes
+abbrev pub files_in : (day : ℕ) → (made : ℕ) → (sizes : List ℕ) → CutNumbers → List File
+files_in day made sizes n = files_from day made (in_runs sizes (batches_in n))
+
+-- what is written of them
+abbrev pub write_in : Identity → (day : ℕ) → (made : ℕ) → (sizes : List ℕ) → CutNumbers → CutWrite
+write_in identity day made sizes n = write_of identity (files_in day made sizes n) n
+
+-- what the operator is told of them
+abbrev pub summary_in : (day : ℕ) → (made : ℕ) → (sizes : List ℕ) → CutNumbers → CutSummary
+summary_in day made sizes n = summary_of day (files_in day made sizes n) n

@@ -4,6 +4,7 @@ use Rattle.ach_records.specs.declared.print.FileHeaderText.{FileHeaderText}
 use Rattle.ach_files.specs.declared.outgoing.OutgoingEntry.{OutgoingEntry}
 use Rattle.ach_fields.specs.Routing.{dfi_of, digit_at}
 use Rattle.bank_days.specs.Day.{day_ymd}
+use Rattle.desk_plan.specs.Runs.{in_runs}
 use Rattle.desk_rules.specs.declared.bodies.submission.Entry.{Entry}
 use Rattle.desk_history.specs.declared.identity.Identity.{Identity}
 use Rattle.desk_history.specs.Files.{borrow_of, payment, transaction_of, outgoing_entry}
@@ -25,11 +26,23 @@ due_in d = sending_on d.settled d.waiting.now
 abbrev pub sending_in : Sending → history.Sending
 sending_in s = sending_on s.settled s.waiting.now
 
+-- what is sent, in order
+abbrev pub sent_in : List Sending → List history.Sending
+sent_in sent = map sending_in sent
+
 abbrev pub batch_in : NumberedBatch → history.NumberedBatch
 batch_in b = record { sending = sending_on b.settled b.waiting.now; first = b.first }
 
+-- the file of a day with this modifier and these batches
+abbrev pub file_of : (day : ℕ) → (modifier : ℕ) → List NumberedBatch → files.File
+file_of day modifier bs = record { day = day; modifier = modifier; batches = map batch_in bs }
+
 abbrev pub file_in : File → files.File
-file_in f = record { day = f.day; modifier = f.modifier; batches = map batch_in f.batches.now }
+file_in f = file_of f.day f.modifier f.batches.now
+
+-- the batches in files of these sizes, on a day that has so many files already
+abbrev pub files_of : (day : ℕ) → (made : ℕ) → (sizes : List ℕ) → List NumberedBatch → List files.File
+files_of day made sizes bs = files.files_from day made (in_runs sizes (map batch_in bs))
 
 -- the header of a file of a day
 abbrev pub file_header : Identity → ℕ → List ℕ → FileHeaderText

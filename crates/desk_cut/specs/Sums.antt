@@ -1,10 +1,16 @@
--- Sums with one more submission.
-use Rattle.std.specs.Prelude.{◌+◌, if◌then◌else◌}
+-- Sums of submissions: with one more, of a day, and of what a cut would send.
+use Rattle.std.specs.Prelude.{ℕ, ◌+◌, ◌==◌, if◌then◌else◌, List, map, filter, length}
 use Rattle.desk_rules.specs.declared.bodies.submission.Submission.{Submission}
 use Rattle.desk_rules.specs.LimitChecks.{is_debit}
 use Rattle.desk_rules.specs.Size.{total_of}
+use Rattle.desk_history.specs.declared.status.DueDay.{DueDay}
 use Rattle.desk_history.specs.declared.status.Tallies.{Tallies}
 use Rattle.desk_history.specs.declared.status.Tally.{Tally}
+use Rattle.desk_history.specs.Status.{due_days, tallies}
+use Rattle.desk_book.specs.declared.held_submission.HeldSubmission.{HeldSubmission}
+use Rattle.desk_book.specs.OnCut.{lapses_among, sendings}
+use Rattle.desk_cut.specs.declared.due.Sending.{Sending}
+use Rattle.desk_cut.specs.Sent.{sent_in}
 
 abbrev pub with_one : Submission → Tally → Tally
 with_one s t = record { cents = t.cents + total_of s.entries; submissions = t.submissions + 1 }
@@ -12,3 +18,15 @@ with_one s t = record { cents = t.cents + total_of s.entries; submissions = t.su
 -- in its direction
 abbrev pub with_submission : Submission → Tallies → Tallies
 with_submission s t = if is_debit s.direction then record t { debits = with_one s t.debits } else record t { credits = with_one s t.credits }
+
+-- the sums of what settles on a day
+abbrev pub sums_on : ℕ → List Sending → Tallies
+sums_on day sent = tallies (map (λ s. s.content) (filter (λ s. s.settled == day) (sent_in sent)))
+
+-- what a cut would send of what waits, by day
+abbrev pub due_among : (holidays : List ℕ) → (day : ℕ) → List HeldSubmission → List DueDay
+due_among holidays day waiting = due_days (sendings holidays day waiting)
+
+-- how many retries it would let lapse
+abbrev pub lapsing_among : (holidays : List ℕ) → (day : ℕ) → List HeldSubmission → ℕ
+lapsing_among holidays day waiting = length (lapses_among holidays day waiting)

@@ -1,10 +1,10 @@
 //! The batches of a cut stand here, and their entries with their sequences.
-ghost use Rattle.std.specs.Prelude.{◌≡◌, ◌≤◌, ◌+◌, ◌++◌, All, IfOk, OnOk, map, zip};
-ghost use Rattle.std.specs.List.{flat_map};
-ghost use Rattle.desk_history.specs.Sendings.{batch_of, batch_entries};
+ghost use Rattle.std.specs.Prelude.{◌≡◌, ◌≤◌, ◌+◌, ◌++◌, All, IfOk, OnOk, map};
+ghost use Rattle.desk_history.specs.Sendings.{batch_entries};
 ghost use Rattle.ach_fields.specs.Trace.{most_sequence};
+ghost use Rattle.desk_cut.specs.Numbers.{batches_of, entries_of};
 ghost use Rattle.desk_cut.specs.Sendable.{IsSendable};
-ghost use Rattle.desk_cut.specs.Sent.{sending_in, batch_in};
+ghost use Rattle.desk_cut.specs.Sent.{batch_in, sent_in};
 
 use crate::due::Sending;
 use desk_book::HeldSubmission;
@@ -28,8 +28,7 @@ pub(crate) fn batches_of<'a>(
     ranges: &[(u32, u32)],
 ) -> Result<Vec<NumberedBatch<'a>>, AllocError>
     ensures { IfOk result
-        (λ batches. map batch_in batches.items ≡ map batch_of
-        (zip ranges.now (map sending_in sent.now))) }
+        (λ batches. map batch_in batches.items ≡ batches_of ranges.now (sent_in sent.now)) }
 {
     let mut batches = Vec::new(alloc);
     for (range, sending) in ranges.iter().zip(sent) {
@@ -99,8 +98,7 @@ pub(crate) fn entries_of(
     batches: &[NumberedBatch<'_>],
 ) -> Result<Vec<SentEntry>, AllocError>
     requires { All (λ b. IsSendable (batch_in b)) batches.now }
-    ensures { IfOk result
-        (λ entries. entries.items ≡ flat_map batch_entries (map batch_in batches.now)) }
+    ensures { IfOk result (λ entries. entries.items ≡ entries_of (map batch_in batches.now)) }
 {
     let mut entries = Vec::with_capacity(alloc, count_of(batches))?;
     for batch in batches {

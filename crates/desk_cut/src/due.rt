@@ -4,7 +4,7 @@ ghost use Rattle.desk_rules.specs.LimitChecks.{is_debit};
 ghost use Rattle.desk_history.specs.State.{is_too_late};
 ghost use Rattle.desk_book.specs.OnCut.{is_due, settles, sendings, lapses_among};
 ghost use Rattle.desk_cut.specs.Faults.{IsUnsettled};
-ghost use Rattle.desk_cut.specs.Sent.{due_in, sending_in};
+ghost use Rattle.desk_cut.specs.Sent.{due_in, sent_in};
 
 use crate::fault::CutFault;
 use bank_days::{Calendar, Day};
@@ -107,7 +107,7 @@ pub(crate) fn settle<'a>(
     alloc: Global,
     due: &[DueSubmission<'a>],
 ) -> Result<Vec<Sending<'a>>, CutFault>
-    ensures ok { IfOk result (λ sent. map sending_in sent.items ≡ map due_in due.now) }
+    ensures ok { IfOk result (λ sent. sent_in sent.items ≡ map due_in due.now) }
     ensures err { IfErr result (λ fault. IsUnsettled (map due_in due.now) fault) }
 {
     let mut sent = Vec::new(alloc);

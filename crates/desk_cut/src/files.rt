@@ -2,11 +2,10 @@
 ghost use Rattle.std.specs.Prelude.{◌≡◌, ◌≤◌, ◌+◌, ◌++◌, All, IfOk, OnOk, length, map, sum};
 ghost use Rattle.std.specs.List.{flat_map};
 ghost use Rattle.desk_plan.specs.Modifiers.{most_files};
-ghost use Rattle.desk_plan.specs.Runs.{in_runs};
-ghost use Rattle.desk_history.specs.Files.{files_from};
 ghost use Rattle.desk_book.specs.OnCut.{sent_rows, file_row};
+ghost use Rattle.desk_cut.specs.Numbers.{modifiers_of};
 ghost use Rattle.desk_cut.specs.Sendable.{IsPrintable};
-ghost use Rattle.desk_cut.specs.Sent.{batch_in, file_in};
+ghost use Rattle.desk_cut.specs.Sent.{file_in, files_of};
 
 use crate::batches::NumberedBatch;
 use crate::printing::text_of;
@@ -35,8 +34,7 @@ pub(crate) fn files_of<'a>(
     requires made { made + length sizes.now ≤ most_files }
     requires whole { sum sizes.now ≡ length batches.now }
     ensures files { IfOk result
-        (λ files. map file_in files.items ≡ files_from day made
-        (in_runs sizes.now (map batch_in batches.now))) }
+        (λ files. map file_in files.items ≡ files_of day made sizes.now batches.now) }
 {
     desk_plan::modifiers_of_a_day();
     let mut files = Vec::new(alloc);
@@ -108,8 +106,7 @@ pub(crate) fn texts_of(
 
 /// Gives the modifiers of the files, in order.
 pub(crate) fn modifiers_of(alloc: Global, files: &[File<'_>]) -> Result<Vec<u8>, AllocError>
-    ensures { IfOk result
-        (λ modifiers. modifiers.items ≡ map (λ f. f.modifier) (map file_in files.now)) }
+    ensures { IfOk result (λ modifiers. modifiers.items ≡ modifiers_of (map file_in files.now)) }
 {
     let mut modifiers = Vec::new(alloc);
     for file in files {

@@ -4,9 +4,8 @@ ghost use Rattle.std.specs.List.{list_all};
 ghost use Rattle.desk_plan.specs.Batch.{IsBatch};
 ghost use Rattle.desk_plan.specs.Reuse.{is_past};
 ghost use Rattle.desk_plan.specs.Sequences.{are_apart};
-ghost use Rattle.desk_history.specs.Sendings.{plan_of};
-ghost use Rattle.desk_book.specs.OnCut.{sendings, lapses_among, ranges_after};
-ghost use Rattle.desk_cut.specs.Numbers.{IsNumbered, HasNoRanges};
+ghost use Rattle.desk_book.specs.OnCut.{sendings, lapses_among};
+ghost use Rattle.desk_cut.specs.Numbers.{IsNumbered, HasNoRanges, loads_among, ranges_among};
 ghost use Rattle.desk_cut.specs.Sent.{due_in};
 
 use crate::due::{Decision, DueSubmission, decide};
@@ -43,7 +42,7 @@ fn load<'a>(
 ) -> Result<LoadedCut<'a>, AllocError>
     ensures sent { IfOk result (λ l. map due_in l.sent.items ≡ sendings holidays.now day waiting.now) }
     ensures lapsed { IfOk result (λ l. l.lapsed.items ≡ lapses_among holidays.now day waiting.now) }
-    ensures loads { IfOk result (λ l. l.loads.items ≡ map plan_of (sendings holidays.now day waiting.now)) }
+    ensures loads { IfOk result (λ l. l.loads.items ≡ loads_among holidays.now day waiting.now) }
     ensures batches { IfOk result (λ l. All IsBatch l.loads.items) }
     ensures later { IfOk result (λ l. All (λ b. day < b.settled) l.loads.items) }
 {
@@ -65,7 +64,7 @@ fn number<'a>(
     waiting: &'a [HeldSubmission],
 ) -> Result<CutNumbers<'a>, CutFault>
     ensures ok { IfOk result (λ n. IsNumbered holidays.now day last waiting.now n) }
-    ensures err { IfErr result (λ fault. HasNoRanges day last (sendings holidays.now day waiting.now) fault) }
+    ensures err { IfErr result (HasNoRanges day last (sendings holidays.now day waiting.now)) }
 {
     desk_plan::by_ranges();
     let LoadedCut {
@@ -104,7 +103,8 @@ pub struct NumberedCut<'a> {
 impl<'a> NumberedCut<'a> {
     /// Gives the first and the last sequence of each batch, in order.
     pub fn ranges(&self) -> &[(u32, u32)]
-        ensures { result.now ≡ ranges_after self.now.last (sendings self.now.holidays.now self.now.day self.now.waiting.now) }
+        ensures { result.now ≡ ranges_among self.now.holidays.now self.now.day
+            self.now.last self.now.waiting.now }
     {
         &self.numbers.ranges
     }
@@ -125,8 +125,8 @@ pub fn number_cut<'a>(
     ensures holidays { IfOk result (λ cut. cut.holidays.now ≡ holidays.now) }
     ensures last { IfOk result (λ cut. cut.last ≡ last) }
     ensures waiting { IfOk result (λ cut. cut.waiting.now ≡ waiting.now) }
-    ensures apart { OnOk result (are_apart (ranges_after last (sendings holidays.now day waiting.now)) ≡ true) }
-    ensures err { IfErr result (λ fault. HasNoRanges day last (sendings holidays.now day waiting.now) fault) }
+    ensures apart { OnOk result (are_apart (ranges_among holidays.now day last waiting.now) ≡ true) }
+    ensures err { IfErr result (HasNoRanges day last (sendings holidays.now day waiting.now)) }
 {
     let numbers = number(alloc, day, holidays, last, waiting)?;
     Ok(NumberedCut {

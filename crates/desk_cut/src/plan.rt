@@ -1,12 +1,11 @@
 //! The plan of a cut.
-ghost use Rattle.std.specs.Prelude.{◌≡◌, ◌≤◌, ◌+◌, All, IfOk, length, map, sum};
+ghost use Rattle.std.specs.Prelude.{◌≡◌, ◌≤◌, ◌+◌, All, IfOk, length, sum};
 ghost use Rattle.desk_plan.specs.Modifiers.{most_files};
 ghost use Rattle.desk_plan.specs.Runs.{in_runs};
-ghost use Rattle.desk_history.specs.Files.{files_from};
-ghost use Rattle.desk_cut.specs.Numbers.{batches_in, sendings_in, write_of, summary_of};
+ghost use Rattle.desk_cut.specs.Numbers.{batches_in, sendings_in, write_in, summary_in};
 ghost use Rattle.desk_cut.specs.Sendable.{IsSendable, AreSendable};
 ghost use Rattle.desk_cut.specs.Plan.{Plans, cut_in, plan_write};
-ghost use Rattle.desk_cut.specs.Sent.{sending_in};
+ghost use Rattle.desk_cut.specs.Sent.{sent_in};
 
 use crate::batches::{batches_of, entries_of};
 use crate::due::{Sending, settle};
@@ -48,13 +47,14 @@ fn write(
     numbers: CutNumbers<'_>,
     sent: &[Sending<'_>],
 ) -> Result<CutPlan, AllocError>
-    requires settled { map sending_in sent.now ≡ sendings_in numbers }
+    requires settled { sent_in sent.now ≡ sendings_in numbers }
     requires made { made + length sizes.now ≤ most_files }
     requires sendable { All IsSendable (batches_in numbers) }
     requires runs { All AreSendable (in_runs sizes.now (batches_in numbers)) }
     requires whole { sum sizes.now ≡ length (batches_in numbers) }
-    ensures write { IfOk result (λ plan. plan_write plan ≡ write_of identity.now (files_from day made (in_runs sizes.now (batches_in numbers.entry))) numbers.entry) }
-    ensures done { IfOk result (λ plan. plan.done ≡ summary_of day (files_from day made (in_runs sizes.now (batches_in numbers.entry))) numbers.entry) }
+    ensures write { IfOk result
+        (λ plan. plan_write plan ≡ write_in identity.now day made sizes.now numbers.entry) }
+    ensures done { IfOk result (λ plan. plan.done ≡ summary_in day made sizes.now numbers.entry) }
 {
     desk_plan::modifiers_of_a_day();
     let batches = batches_of(alloc, sent, &numbers.ranges)?;

@@ -1,9 +1,7 @@
 //! A cut posts what it sends.
-ghost use Rattle.std.specs.Prelude.{◌≡◌, ◌++◌, IfOk, OnOk, map, zip};
-ghost use Rattle.std.specs.List.{flat_map};
-ghost use Rattle.desk_accounts.specs.Laws.{pairs};
-ghost use Rattle.desk_cut.specs.Numbers.{line_by};
-ghost use Rattle.desk_cut.specs.Sent.{sending_in};
+ghost use Rattle.std.specs.Prelude.{◌≡◌, ◌++◌, IfOk, OnOk};
+ghost use Rattle.desk_cut.specs.Numbers.{cut_lines, postings_of};
+ghost use Rattle.desk_cut.specs.Sent.{sent_in};
 
 use crate::due::Sending;
 use desk_accounts::{Posting, post_cut};
@@ -16,8 +14,7 @@ fn push_lines(
     sending: &Sending<'_>,
     load: &Batch,
 ) -> Result<(), AllocError>
-    ensures { OnOk result (postings.new.items ≡ postings.old.items ++ pairs
-        (line_by (sending_in sending.now, load.now))) }
+    ensures { OnOk result (postings.new.items ≡ postings.old.items ++ cut_lines sending.now load.now) }
 {
     let company = sending.waiting.company.id;
     let content = sending.waiting.row.content.submission();
@@ -36,9 +33,7 @@ pub(crate) fn postings_of(
     sent: &[Sending<'_>],
     loads: &[Batch],
 ) -> Result<Vec<Posting>, AllocError>
-    ensures { IfOk result
-        (λ postings. postings.items ≡ pairs
-        (flat_map line_by (zip (map sending_in sent.now) loads.now))) }
+    ensures { IfOk result (λ postings. postings.items ≡ postings_of (sent_in sent.now) loads.now) }
 {
     let mut postings = Vec::new(alloc);
     for (sending, load) in sent.iter().zip(loads) {

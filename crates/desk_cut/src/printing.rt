@@ -1,21 +1,19 @@
 //! The texts of the files that a cut makes.
-ghost use Rattle.std.specs.Prelude.{◌≡◌, ◌≤◌, ◌<◌, ◌+◌, ◌++◌, ◌∷◌, [], ℕ, true, List, IsTrue, All, IfOk, OnOk, length, map};
-ghost use Rattle.std.specs.List.{enumerate_from, list_all};
+ghost use Rattle.std.specs.Prelude.{◌≡◌, ◌≤◌, ◌<◌, ◌+◌, true, IsTrue, All, IfOk, length, map};
+ghost use Rattle.std.specs.List.{list_all};
 ghost use Rattle.ach_fields.specs.Characters.{is_printable};
 ghost use Rattle.ach_fields.specs.Routing.{dfi_of, digit_at};
 ghost use Rattle.ach_fields.specs.Trace.{trace_text, sequence_in, most_sequence};
 ghost use Rattle.ach_fields.specs.Ymd.{is_date_text};
-ghost use Rattle.ach_records.specs.declared.print.FileHeaderText.{FileHeaderText};
 ghost use Rattle.ach_records.specs.Print.{row_fits, file_header_row, batch_header_row};
-ghost use Rattle.ach_files.specs.declared.outgoing.OutgoingBatch.{OutgoingBatch};
-ghost use Rattle.ach_files.specs.Outgoing.{AllFit, addenda_rows, entry_fits};
-ghost use Rattle.ach_files.specs.Printing.{HasPrinted};
+ghost use Rattle.ach_files.specs.Outgoing.{entry_fits};
 ghost use Rattle.bank_days.specs.Day.{day_ymd};
 ghost use Rattle.desk_plan.specs.Files.{most_batches};
 ghost use Rattle.desk_history.specs.Files.{payment, transaction_of, outgoing_batch, text_of};
 ghost use Rattle.desk_cut.specs.Plain.{plain_addenda, plain_entry, plain_batch_header, plain_file_header};
+ghost use Rattle.desk_cut.specs.Printing.{AddendaFit, AreEntriesOf, Prints, PrintsAll, outgoing_batches, outgoing_header};
 ghost use Rattle.desk_cut.specs.Sendable.{IsSendable, IsPrintable};
-ghost use Rattle.desk_cut.specs.Sent.{batch_in, file_header, outgoing_as, outgoing_entries};
+ghost use Rattle.desk_cut.specs.Sent.{batch_in, file_header, file_of, outgoing_as};
 
 use crate::batches::{NumberedBatch, sequence_of};
 use ach_fields::{Routing, ShortText, Trace, Ymd};
@@ -42,8 +40,7 @@ fn transaction_of(debit: bool, entry: &Entry) -> u8
 
 fn payment(information: &Option<ShortText<80>>) -> Addenda<'_>
     ensures value { plain_addenda result ≡ payment information.now }
-    ensures fits { (trace : List ℕ) → sequence_in trace ≤ most_sequence →
-        AllFit (addenda_rows trace result) }
+    ensures fits { AddendaFit result }
 {
     match information {
         Some(information) => Addenda::Payment(information.bytes()),
@@ -107,8 +104,7 @@ fn outgoing_entries<'a>(
     batch: &NumberedBatch<'a>,
 ) -> Result<Vec<OutgoingEntry<'a>>, AllocError>
     requires { IsSendable (batch_in batch.now) }
-    ensures value { IfOk result
-        (λ out. map plain_entry out.items ≡ outgoing_entries odfi (batch_in batch.now)) }
+    ensures value { IfOk result (λ out. AreEntriesOf odfi (batch_in batch.now) out.items) }
     ensures fits { IfOk result (λ out. list_all entry_fits out.items ≡ true) }
 {
     let entries = batch.waiting.row.content.submission().entries.as_slice();
@@ -132,8 +128,7 @@ fn date_of(day: Day) -> Ymd
 // The header of a batch with its number: 220 for credits, 225 for debits.
 fn batch_header<'a>(odfi: Routing, number: u32, batch: &NumberedBatch<'a>) -> BatchHeaderText<'a>
     requires { number ≤ most_batches }
-    ensures value { plain_batch_header result ≡
-        (outgoing_batch odfi (number, batch_in batch.now)).header }
+    ensures value { plain_batch_header result ≡ outgoing_header odfi number (batch_in batch.now) }
     ensures fits { row_fits (batch_header_row result) ≡ true }
 {
     let waiting = batch.waiting;
@@ -175,11 +170,10 @@ fn print_batch<'a>(
 ) -> Result<(), AllocError>
     requires number { number ≤ most_batches }
     requires sendable { IsSendable (batch_in batch.now) }
-    requires entries { map plain_entry entries.now ≡ outgoing_entries odfi (batch_in batch.now) }
+    requires entries { AreEntriesOf odfi (batch_in batch.now) entries.now }
     requires fits { list_all entry_fits entries.now ≡ true }
-    ensures { (header : FileHeaderText) (before : List OutgoingBatch) →
-        HasPrinted printer.old header before → OnOk result (HasPrinted printer.new header
-        (before ++ outgoing_batch odfi (number, batch_in batch.now) ∷ [])) }
+    ensures { Prints printer.old printer.new result
+        (outgoing_batch odfi (number, batch_in batch.now)) }
 {
     let header: BatchHeaderText<'a> = batch_header(odfi, number, batch);
     match printer.put(&OutgoingBatch { header, entries }) {
@@ -198,9 +192,8 @@ fn put_batch(
 ) -> Result<(), AllocError>
     requires number { number ≤ most_batches }
     requires sendable { IsSendable (batch_in batch.now) }
-    ensures { (header : FileHeaderText) (before : List OutgoingBatch) →
-        HasPrinted printer.old header before → OnOk result (HasPrinted printer.new header
-        (before ++ outgoing_batch odfi (number, batch_in batch.now) ∷ [])) }
+    ensures { Prints printer.old printer.new result
+        (outgoing_batch odfi (number, batch_in batch.now)) }
 {
     let entries = outgoing_entries(alloc, odfi, batch)?;
     // Lent again, since the entries live shorter than what the batch lends.
@@ -216,9 +209,8 @@ fn put_batches(
 ) -> Result<(), AllocError>
     requires few { length batches.now ≤ most_batches }
     requires sendable { All (λ b. IsSendable (batch_in b)) batches.now }
-    ensures { (header : FileHeaderText) → HasPrinted printer.old header [] →
-        OnOk result (HasPrinted printer.new header
-        (map (outgoing_batch odfi) (enumerate_from 1 (map batch_in batches.now)))) }
+    ensures { PrintsAll printer.old printer.new result
+        (outgoing_batches odfi (map batch_in batches.now)) }
 {
     for (index, batch) in batches.iter().enumerate() {
         put_batch(alloc, printer, odfi, index as u32 + 1, batch)?;
@@ -253,11 +245,9 @@ pub(crate) fn text_of(
     modifier: u8,
     batches: &[NumberedBatch<'_>],
 ) -> Result<Vec<u8>, AllocError>
-    requires { IsPrintable
-        (record { day = day; modifier = modifier; batches = map batch_in batches.now }) }
+    requires { IsPrintable (file_of day modifier batches.now) }
     ensures { IfOk result
-        (λ text. text.items ≡ text_of identity.now
-        (record { day = day; modifier = modifier; batches = map batch_in batches.now })) }
+        (λ text. text.items ≡ text_of identity.now (file_of day modifier batches.now)) }
 {
     let modifiers = [modifier];
     let header = file_header(identity, day, &modifiers);

@@ -1,11 +1,10 @@
 //! What a company has waiting is summed here, and what a cut would do with it.
-ghost use Rattle.std.specs.Prelude.{◌≡◌, ◌==◌, [], filter, length, map, IfOk, IfSome, OnOk};
+ghost use Rattle.std.specs.Prelude.{◌≡◌, [], map, IfOk, IfSome, OnOk};
 ghost use Rattle.desk_accounts.specs.Balance.{with_day};
 ghost use Rattle.desk_history.specs.Status.{due_days, settlement_days, tallies};
-ghost use Rattle.desk_book.specs.OnCut.{lapses_among, sendings};
 ghost use Rattle.desk_book.specs.OnStatus.{company_status};
-ghost use Rattle.desk_cut.specs.Sent.{sending_in};
-ghost use Rattle.desk_cut.specs.Sums.{with_one, with_submission};
+ghost use Rattle.desk_cut.specs.Sent.{sent_in};
+ghost use Rattle.desk_cut.specs.Sums.{due_among, lapsing_among, sums_on, with_one, with_submission};
 
 use crate::due::{Sending, decide, settle};
 use crate::fault::CutFault;
@@ -68,7 +67,7 @@ fn held_sums(waiting: &[HeldSubmission]) -> Option<Tallies>
 
 // The sums of what settles on a day.
 fn sums_on(day: Day, sent: &[Sending<'_>]) -> Option<Tallies>
-    ensures { IfSome result (λ sums. sums ≡ tallies (map (λ s. s.content) (filter (λ s. s.settled == day) (map sending_in sent.now)))) }
+    ensures { IfSome result (λ sums. sums ≡ sums_on day sent.now) }
 {
     let mut sums = no_sums();
     for one in sent {
@@ -88,7 +87,7 @@ fn add_day(days: &mut BTreeSet<Day>, day: Day) -> Result<(), AllocError>
 
 // The days on which it settles, ascending.
 fn days_of(alloc: Global, sent: &[Sending<'_>]) -> Result<BTreeSet<Day>, AllocError>
-    ensures { IfOk result (λ days. days.keys ≡ settlement_days (map sending_in sent.now)) }
+    ensures { IfOk result (λ days. days.keys ≡ settlement_days (sent_in sent.now)) }
 {
     let mut days = BTreeSet::new(alloc);
     for done in 0..sent.len() {
@@ -100,7 +99,7 @@ fn days_of(alloc: Global, sent: &[Sending<'_>]) -> Result<BTreeSet<Day>, AllocEr
 }
 
 fn due_by_day(alloc: Global, sent: &[Sending<'_>]) -> Result<Vec<DueDay>, CutFault>
-    ensures { IfOk result (λ due. due.items ≡ due_days (map sending_in sent.now)) }
+    ensures { IfOk result (λ due. due.items ≡ due_days (sent_in sent.now)) }
 {
     let mut due = Vec::new(alloc);
     let days = days_of(alloc, sent)?;
@@ -120,8 +119,8 @@ fn due_on(
     holidays: &Calendar,
     waiting: &[HeldSubmission],
 ) -> Result<(Vec<DueDay>, u64), CutFault>
-    ensures due { IfOk result (λ found. found.0.items ≡ due_days (sendings holidays.now day waiting.now)) }
-    ensures lapsing { IfOk result (λ found. found.1 ≡ length (lapses_among holidays.now day waiting.now)) }
+    ensures due { IfOk result (λ found. found.0.items ≡ due_among holidays.now day waiting.now) }
+    ensures lapsing { IfOk result (λ found. found.1 ≡ lapsing_among holidays.now day waiting.now) }
 {
     let decision = decide(alloc, day, holidays, waiting)?;
     let sent = settle(alloc, &decision.sent)?;
