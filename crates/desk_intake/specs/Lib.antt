@@ -1,3 +1,4 @@
+pub mod OverStores
 pub mod Plans
 pub mod Resolutions
 pub mod ReturnedEntries

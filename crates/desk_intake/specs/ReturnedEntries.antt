@@ -34,3 +34,11 @@ key_cmp a b =
 -- the entries whose keys it has are these
 abbrev pub HasEntries : ReturnedEntries → List SentEntry → Type 0
 HasEntries s es = (x : SentEntry) → contains key_cmp s.keys (key_of x) ≡ list_any (is_same_entry x) es
+
+-- this is so of the entries that it has
+abbrev pub OfEntries : ReturnedEntries → (List SentEntry → Type 0) → Type 0
+OfEntries s Is = (es : List SentEntry) → HasEntries s es → Is es
+
+-- it has these besides those that it had
+abbrev pub HasMore : (old new : ReturnedEntries) → List SentEntry → Type 0
+HasMore old new more = (es : List SentEntry) → HasEntries old es → HasEntries new (more ++ es)

@@ -1,5 +1,6 @@
 //! The answer to a file counts its items.
-ghost use Rattle.std.specs.Prelude.{◌≡◌, count_by, length};
+ghost use Rattle.std.specs.Prelude.{◌≡◌, count_by};
+ghost use Rattle.desk_intake.specs.Plans.{counts_of};
 
 use bank_days::Day;
 use desk_book::{ChangedRow, ReturnedRow};
@@ -18,13 +19,7 @@ pub(crate) fn counts(
     changed: &[ChangedRow],
     suspense: &[SuspenseRow],
 ) -> Intake
-    ensures { result ≡ record {
-      changes = length changed.now;
-      day = day;
-      late = count_by (λ r. r.row.late) returned.now;
-      returns = length returned.now;
-      suspense = length suspense.now;
-    } }
+    ensures { result ≡ counts_of day returned.now changed.now suspense.now }
 {
     Intake {
         changes: changed.len() as u64,

@@ -1,10 +1,7 @@
 //! An incoming file, read from its bytes.
-ghost use Rattle.std.specs.Prelude.{◌≡◌, ◌≢◌, IfOk, Result};
-ghost use Rattle.ach_files.specs.Facts.{FileFacts};
-ghost use Rattle.ach_files.specs.declared.fault.Fault.{Fault};
+ghost use Rattle.std.specs.Prelude.{◌≡◌, ◌≢◌, IfOk};
 ghost use Rattle.ach_files.specs.declared.fault.FileFault.TheVariants.{NoMemory};
-ghost use Rattle.desk_history.specs.Calls.{IsFileOf};
-ghost use Rattle.desk_history.specs.Message.{TakeFile};
+ghost use Rattle.desk_intake.specs.OverStores.{OfFile};
 
 use ach_files::{Fault, FileFault, Reader, Taken, faults_stand};
 use desk_history::one_message;
@@ -24,8 +21,7 @@ fn fault_of_bytes(fault: Fault) -> Result<Fault, StoreFault>
 
 /// Gives what the bytes are: a file, or the first fault of one.
 pub(crate) fn read_file(alloc: Global, bytes: &[u8]) -> Result<Result<Taken, Fault>, StoreFault>
-    ensures { IfOk result (λ read. (file : Result FileFacts Fault) →
-        IsFileOf bytes.now (TakeFile file) → read ≡ file) }
+    ensures { IfOk result (λ read. OfFile bytes.now (λ file. read ≡ file)) }
 {
     one_message();
     faults_stand();

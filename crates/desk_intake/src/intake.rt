@@ -1,16 +1,9 @@
 //! The operator hands in an incoming file.
-ghost use Rattle.std.specs.Prelude.{◌≡◌, Result, Ok, true};
-ghost use Rattle.ach_files.specs.Facts.{FileFacts};
-ghost use Rattle.ach_files.specs.declared.fault.Fault.{Fault};
-ghost use Rattle.desk_history.specs.Calls.{IsFileOf};
-ghost use Rattle.desk_history.specs.Message.{TakeFile};
-ghost use Rattle.desk_history.specs.Operator.{intake_answer};
-ghost use Rattle.desk_book.specs.Steps.{commit_intake};
-ghost use Rattle.desk_book.specs.OnIntake.{New, file_after, file_answer_on, intake_facts, intake_write, taking_answer, taking_file, taking_known, with_taking};
-ghost use Rattle.desk_intake.specs.Plans.{plan_write};
-ghost use Rattle.desk_book.specs.Writes.{is_new_taking, writes_on};
-ghost use Rattle.desk_admission.specs.Answering.{Answers, HoldsFor, LeavesCall};
-ghost use Rattle.desk_admission.specs.OverStores.{AnswersWhere, AnswersWith, GivesAs};
+ghost use Rattle.std.specs.Prelude.{◌≡◌, Some, Ok};
+ghost use Rattle.desk_book.specs.OnIntake.{New, intake_facts, taking_answer, taking_known, taking_on};
+ghost use Rattle.desk_admission.specs.OverStores.{GivesAs};
+ghost use Rattle.desk_intake.specs.OverStores.{AnswersFile, LeavesFile, TakesFile, WritesPlan};
+ghost use Rattle.desk_intake.specs.Plans.{file_write, plan_write};
 
 use crate::file_bytes::read_file;
 use crate::named_entries::found_items;
@@ -30,8 +23,7 @@ fn plan<S: Store>(
     day: Day,
     file: &Taken,
 ) -> Result<IntakePlan, StoreFault>
-    ensures { GivesAs S.Store store.old store.new plan_write result
-        (λ b. intake_write (intake_facts b day file.now)) }
+    ensures { GivesAs S.Store store.old store.new plan_write result (file_write day file.now) }
 {
     let holidays = store.calendar(alloc)?;
     let found = found_items(store, alloc, file.items())?;
@@ -43,9 +35,7 @@ fn plan<S: Store>(
 
 /// Writes a plan, and answers.
 fn write<S: Store>(store: &mut S, alloc: Global, plan: &IntakePlan) -> Result<Answer, StoreFault>
-    ensures { AnswersWhere S.Store store.old store.new
-        (HoldsFor (S.holds store.old) (commit_intake (plan_write plan.now))) result (λ b. true)
-        (λ b. intake_answer (Ok plan.now.file.answer)) (commit_intake (plan_write plan.now)).after }
+    ensures { WritesPlan S.Store store.old store.new result plan.now }
 {
     let rows = IntakeRows {
         returned: plan.returned.as_slice(),
@@ -65,9 +55,8 @@ fn take_new<S: Store>(
     day: Day,
     file: &Taken,
 ) -> Result<Answer, StoreFault>
-    ensures { AnswersWith S.Store store.old store.new result (λ b. true)
-        (λ b. taking_answer (New (intake_facts b day file.now)))
-        (λ b. with_taking (New (intake_facts b day file.now)) b) }
+    ensures { TakesFile S.Store store.old store.new result
+        (λ b. New (intake_facts b day file.now)) }
 {
     desk_book::entries_of_intakes();
     let plan = plan(store, alloc, day, file)?;
@@ -92,10 +81,8 @@ fn take_read<S: Store>(
     day: Day,
     file: &Taken,
 ) -> Result<Answer, StoreFault>
-    ensures { AnswersWith S.Store store.old store.new result
-        (λ b. is_new_taking (taking_file b day file.now (b.taken file.now.key)))
-        (λ b. taking_answer (taking_file b day file.now (b.taken file.now.key)))
-        (λ b. with_taking (taking_file b day file.now (b.taken file.now.key)) b) }
+    ensures { TakesFile S.Store store.old store.new result
+        (λ b. taking_on b (Some day) (Ok file.now)) }
 {
     if let Some(first) = store.taken(alloc, file.key())? {
         return Ok(answer_again(&first, file.digest()));
@@ -107,8 +94,8 @@ fn take_read<S: Store>(
 /// and nothing is written.
 pub fn take_file<S: Store>(store: &mut S, alloc: Global, bytes: &[u8]) -> Result<Answer, StoreFault>
     ensures before { S.is_clean store.new → S.is_clean store.old }
-    ensures answers { S.is_clean store.new → (file : Result FileFacts Fault) → IsFileOf bytes.now (TakeFile file) → Answers (S.holds store.old) result (file_answer_on file) (file_after file) (S.holds store.new) }
-    ensures left { S.is_clean store.new → (file : Result FileFacts Fault) → IsFileOf bytes.now (TakeFile file) → LeavesCall S.keeps (S.holds store.old) (S.may_leave store.old) result (λ b. writes_on b (TakeFile file)) (file_after file) (S.may_leave store.new) }
+    ensures answers { AnswersFile S.Store store.old store.new result bytes.now }
+    ensures left { LeavesFile S.Store store.old store.new result bytes.now }
 {
     let day = match desk_day(store, alloc)? {
         Ok(day) => day,

@@ -1,9 +1,8 @@
 //! Each item of a file is judged here: it meets its entry, or stands in suspense.
-ghost use Rattle.std.specs.Prelude.{◌≡◌, [], ◌∷◌, ◌++◌, List, map, IfOk, OnOk};
-ghost use Rattle.desk_history.specs.declared.sent_entry.SentEntry.{SentEntry};
+ghost use Rattle.std.specs.Prelude.{◌≡◌, [], ◌∷◌, ◌++◌, map, IfOk, OnOk};
 ghost use Rattle.desk_book.specs.OnIntake.{entries_returned_by};
-ghost use Rattle.desk_intake.specs.ReturnedEntries.{HasEntries};
-ghost use Rattle.desk_intake.specs.Resolutions.{found_item_as, judged_after, judged_as, resolution_as};
+ghost use Rattle.desk_intake.specs.ReturnedEntries.{HasMore};
+ghost use Rattle.desk_intake.specs.Resolutions.{judged_as, judged_item, judged_of, resolution_as};
 
 use crate::found_item::FoundItem;
 use crate::matched_item::MatchedItem;
@@ -26,8 +25,8 @@ fn note(
     earlier: &mut ReturnedEntries,
     outcome: &Result<MatchedItem, SuspenseReason>,
 ) -> Result<(), AllocError>
-    ensures { OnOk result ((es : List SentEntry) → HasEntries earlier.old es → HasEntries
-        earlier.new (entries_returned_by (resolution_as outcome.now) ++ es)) }
+    ensures { OnOk result
+        (HasMore earlier.old earlier.new (entries_returned_by (resolution_as outcome.now))) }
 {
     if let Ok(met) = outcome {
         if is_return(met) {
@@ -42,8 +41,7 @@ fn push(
     item: &ItemFacts,
     outcome: Result<MatchedItem, SuspenseReason>,
 ) -> Result<(), AllocError>
-    ensures { OnOk result (judged.new.items ≡ judged.old.items ++ record
-        { item = item.now; outcome = outcome } ∷ []) }
+    ensures { OnOk result (judged.new.items ≡ judged.old.items ++ judged_item item.now outcome ∷ []) }
 {
     // The checker follows a move of a `MatchedItem` only where the types of its parts are seen.
     if let Ok(met) = &outcome {
@@ -59,8 +57,7 @@ fn push(
 
 /// Gives the resolution of each item, in order.
 pub(crate) fn judge(alloc: Global, found: &[FoundItem]) -> Result<Vec<JudgedItem>, AllocError>
-    ensures { IfOk result
-        (λ judged. map judged_as judged.items ≡ judged_after [] (map found_item_as found.now)) }
+    ensures { IfOk result (λ judged. map judged_as judged.items ≡ judged_of found.now) }
 {
     let mut earlier = ReturnedEntries::new(alloc);
     let mut judged = Vec::new(alloc);

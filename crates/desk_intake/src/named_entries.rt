@@ -1,8 +1,8 @@
 //! The entries that the items of an incoming file name.
-ghost use Rattle.std.specs.Prelude.{◌≡◌, map, zip, IfOk};
+ghost use Rattle.std.specs.Prelude.{◌≡◌, zip, IfOk};
 ghost use Rattle.desk_book.specs.Book.{Book};
-ghost use Rattle.desk_book.specs.OnIntake.{named_entry_on, traced_entry, traced_entries};
-ghost use Rattle.desk_intake.specs.Resolutions.{found_item_as};
+ghost use Rattle.desk_book.specs.OnIntake.{named_entry_on, traced_entry};
+ghost use Rattle.desk_intake.specs.Resolutions.{AreTracesOf, found_as, found_on};
 ghost use Rattle.desk_admission.specs.OverStores.{GivesAs};
 
 use crate::found_item::FoundItem;
@@ -24,8 +24,7 @@ fn trace_of(item: &ItemFacts) -> Option<Trace>
 }
 
 fn traces_of(alloc: Global, items: &[ItemFacts]) -> Result<Vec<Option<Trace>>, AllocError>
-    ensures { IfOk result (λ traces. (b : Book) →
-        traced_entries traces.items b ≡ map (named_entry_on b) items.now) }
+    ensures { IfOk result (λ traces. AreTracesOf items.now traces.items) }
 {
     let mut traces = Vec::new(alloc);
     for item in items {
@@ -40,7 +39,7 @@ fn found_beside(
     items: &[ItemFacts],
     named: &[Option<NamedEntry>],
 ) -> Result<Vec<FoundItem>, AllocError>
-    ensures { IfOk result (λ found. map found_item_as found.items ≡ zip items.now named.now) }
+    ensures { IfOk result (λ found. found_as found ≡ zip items.now named.now) }
 {
     let mut found = Vec::new(alloc);
     for (item, one) in items.iter().zip(named) {
@@ -58,8 +57,7 @@ pub(crate) fn found_items<S: Store>(
     alloc: Global,
     items: &[ItemFacts],
 ) -> Result<Vec<FoundItem>, StoreFault>
-    ensures { GivesAs S.Store store.old store.new (λ found. map found_item_as found.items) result
-        (λ b. map (λ item. (item, named_entry_on b item)) items.now) }
+    ensures { GivesAs S.Store store.old store.new found_as result (found_on items.now) }
 {
     let traces = traces_of(alloc, items)?;
     let named = store.traced_entries(alloc, &traces)?;

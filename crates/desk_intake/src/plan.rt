@@ -1,7 +1,6 @@
 //! The plan of an incoming file.
-ghost use Rattle.std.specs.Prelude.{◌≡◌, IfOk};
-ghost use Rattle.desk_book.specs.OnIntake.{intake_write};
-ghost use Rattle.desk_intake.specs.Plans.{intake_facts_of, write_of_items, plan_write};
+ghost use Rattle.std.specs.Prelude.{IfOk};
+ghost use Rattle.desk_intake.specs.Plans.{IsPlanOf, write_of_found, write_of_items};
 
 use crate::counts::counts;
 use crate::found_item::FoundItem;
@@ -37,8 +36,7 @@ fn plan_of_items(
     day: Day,
     holidays: &Calendar,
 ) -> Result<IntakePlan, AllocError>
-    ensures { IfOk result
-        (λ plan. plan_write plan ≡ write_of_items key digest judged.now day holidays.now) }
+    ensures { IfOk result (IsPlanOf (write_of_items key digest judged.now day holidays.now)) }
 {
     let returned = returned_rows(alloc, judged, day, holidays)?;
     let changed = changed_rows(alloc, judged, day)?;
@@ -68,9 +66,7 @@ pub fn plan_intake(
     day: Day,
     holidays: &Calendar,
 ) -> Result<IntakePlan, AllocError>
-    ensures { IfOk result
-        (λ plan. plan_write plan ≡ intake_write
-        (intake_facts_of key digest found.now day holidays.now)) }
+    ensures { IfOk result (IsPlanOf (write_of_found key digest found.now day holidays.now)) }
 {
     let judged = judge(alloc, found)?;
     let plan = plan_of_items(alloc, key, digest, &judged, day, holidays)?;

@@ -1,9 +1,9 @@
 //! A file posts its returns.
-ghost use Rattle.std.specs.Prelude.{◌≡◌, ◌++◌, [], map, unwrap_or, IfOk, OnOk};
-ghost use Rattle.std.specs.List.{flat_map};
+ghost use Rattle.std.specs.Prelude.{◌≡◌, ◌++◌, [], unwrap_or, IfOk, OnOk};
 ghost use Rattle.desk_accounts.specs.Laws.{pairs};
-ghost use Rattle.desk_history.specs.Postings.{event_line, is_debit_code, item_line, suspense_lines};
-ghost use Rattle.desk_intake.specs.Resolutions.{judged_as, matched_item_as, resolution_of};
+ghost use Rattle.desk_history.specs.Postings.{is_debit_code, item_line, suspense_lines};
+ghost use Rattle.desk_intake.specs.Plans.{event_lines, postings_of};
+ghost use Rattle.desk_intake.specs.Resolutions.{resolution_of};
 
 use crate::agreement::is_return as is_return_item;
 use crate::judged_item::JudgedItem;
@@ -15,8 +15,7 @@ use std::alloc::{AllocError, Global};
 
 // The money of an entry that comes back.
 fn returned_pair(met: &MatchedItem, day: Day) -> Option<[Posting; 2]>
-    ensures { unwrap_or result [] ≡ pairs
-        (event_line day met.now.entry (matched_item_as met.now).event) }
+    ensures { unwrap_or result [] ≡ event_lines day met.now }
 {
     let Reaction::Return { .. } = met.reaction else {
         return None;
@@ -74,9 +73,7 @@ pub(crate) fn postings_of(
     judged: &[JudgedItem],
     day: Day,
 ) -> Result<Vec<Posting>, AllocError>
-    ensures { IfOk result
-        (λ postings. postings.items ≡ pairs
-        (flat_map (λ y. item_line day y.0 y.1) (map judged_as judged.now))) }
+    ensures { IfOk result (λ postings. postings.items ≡ postings_of day judged.now) }
 {
     let mut postings = Vec::new(alloc);
     for one in judged {

@@ -1,11 +1,11 @@
 //! The resolution of an item is the entry that it meets, or the first reason against it.
-ghost use Rattle.std.specs.Prelude.{◌≡◌, List, option_map};
+ghost use Rattle.std.specs.Prelude.{◌≡◌, option_map};
 ghost use Rattle.desk_history.specs.declared.sent_entry.SentEntry.{SentEntry};
 ghost use Rattle.desk_history.specs.Intake.{is_returned_event};
 ghost use Rattle.desk_history.specs.Resolve.{event_of, resolve_entry};
-ghost use Rattle.desk_book.specs.OnIntake.{is_repeated_return, resolution_after, was_returned};
-ghost use Rattle.desk_intake.specs.ReturnedEntries.{HasEntries};
-ghost use Rattle.desk_intake.specs.Resolutions.{event_as, found_item_as, matched_item_as, resolution_as};
+ghost use Rattle.desk_book.specs.OnIntake.{is_repeated_return, was_returned};
+ghost use Rattle.desk_intake.specs.ReturnedEntries.{OfEntries};
+ghost use Rattle.desk_intake.specs.Resolutions.{event_as, found_resolution, matched_item_as, resolution_as};
 
 use crate::agreement::{agrees, is_change_code};
 use crate::found_item::FoundItem;
@@ -83,8 +83,8 @@ pub(crate) fn is_return(met: &MatchedItem) -> bool
 
 // Is it a return of an entry that came back before the file, or by an earlier item of it?
 fn is_repeated_return(earlier: &ReturnedEntries, before: bool, met: &MatchedItem) -> bool
-    ensures { (es : List SentEntry) → HasEntries earlier.now es →
-        result ≡ is_repeated_return es before (matched_item_as met.now) }
+    ensures { OfEntries earlier.now
+        (λ es. result ≡ is_repeated_return es before (matched_item_as met.now)) }
 {
     is_return(met) && (before || earlier.has(&met.entry))
 }
@@ -94,8 +94,8 @@ pub(crate) fn resolution_after(
     earlier: &ReturnedEntries,
     found: &FoundItem,
 ) -> Result<MatchedItem, SuspenseReason>
-    ensures { (es : List SentEntry) → HasEntries earlier.now es →
-        resolution_as result ≡ resolution_after es found.now.item (found_item_as found.now).1 }
+    ensures { OfEntries earlier.now
+        (λ es. resolution_as result ≡ found_resolution es found.now) }
 {
     let met = resolve(entry_of(&found.named), &found.item)?;
     if is_repeated_return(earlier, was_returned(&found.named), &met) {

@@ -1,9 +1,8 @@
 //! The entries that came back by the items of a file so far.
-ghost use Rattle.std.specs.Prelude.{◌≡◌, ◌≤◌, ◌-◌, ◌∷◌, [], ◌++◌, List, OnOk, length, replicate};
+ghost use Rattle.std.specs.Prelude.{◌≡◌, ◌≤◌, ◌-◌, ◌∷◌, [], ◌++◌, OnOk, length, replicate};
 ghost use Rattle.std.specs.List.{list_any};
-ghost use Rattle.desk_history.specs.declared.sent_entry.SentEntry.{SentEntry};
 ghost use Rattle.desk_book.specs.OnIntake.{is_same_entry};
-ghost use Rattle.desk_intake.specs.ReturnedEntries.{HasEntries, key_of};
+ghost use Rattle.desk_intake.specs.ReturnedEntries.{HasEntries, HasMore, OfEntries, key_of};
 
 use desk_history::SentEntry;
 use std::alloc::{AllocError, Global};
@@ -63,16 +62,14 @@ impl ReturnedEntries {
 
     /// Did the entry come back?
     pub(crate) fn has(&self, entry: &SentEntry) -> bool
-        ensures { (es : List SentEntry) → HasEntries self.now es →
-            result ≡ list_any (is_same_entry entry.now) es }
+        ensures { OfEntries self.now (λ es. result ≡ list_any (is_same_entry entry.now) es) }
     {
         self.keys.contains(&EntryKey::of(entry))
     }
 
     /// Adds one more that came back.
     pub(crate) fn add(&mut self, entry: &SentEntry) -> Result<(), AllocError>
-        ensures { OnOk result ((es : List SentEntry) → HasEntries self.old es → HasEntries self.new
-            (entry.now ∷ es)) }
+        ensures { OnOk result (HasMore self.old self.new (entry.now ∷ [])) }
     {
         self.keys.insert(EntryKey::of(entry))?;
         Ok(())

@@ -1,9 +1,9 @@
 //! A file writes these rows.
-ghost use Rattle.std.specs.Prelude.{◌≡◌, filter_map, map, IfOk};
-ghost use Rattle.std.specs.List.{enumerate_from};
+ghost use Rattle.std.specs.Prelude.{◌≡◌, IfOk};
 ghost use Rattle.desk_history.specs.Intake.{suspense_row, suspense_cents};
 ghost use Rattle.desk_book.specs.OnIntake.{changed_row, returned_row};
-ghost use Rattle.desk_intake.specs.Resolutions.{judged_as, resolution_of};
+ghost use Rattle.desk_intake.specs.Plans.{changed_rows, returned_rows, suspense_rows};
+ghost use Rattle.desk_intake.specs.Resolutions.{resolution_of};
 
 use crate::agreement::is_return;
 use crate::judged_item::JudgedItem;
@@ -47,9 +47,7 @@ pub(crate) fn returned_rows(
     day: Day,
     holidays: &Calendar,
 ) -> Result<Vec<ReturnedRow>, AllocError>
-    ensures { IfOk result
-        (λ rows. rows.items ≡ filter_map (returned_row holidays.now day)
-        (map resolution_of judged.now)) }
+    ensures { IfOk result (λ rows. rows.items ≡ returned_rows holidays.now day judged.now) }
 {
     let mut rows = Vec::new(alloc);
     for one in judged {
@@ -89,8 +87,7 @@ pub(crate) fn changed_rows(
     judged: &[JudgedItem],
     day: Day,
 ) -> Result<Vec<ChangedRow>, AllocError>
-    ensures { IfOk result
-        (λ rows. rows.items ≡ filter_map (changed_row day) (map resolution_of judged.now)) }
+    ensures { IfOk result (λ rows. rows.items ≡ changed_rows day judged.now) }
 {
     let mut rows = Vec::new(alloc);
     for one in judged {
@@ -136,9 +133,7 @@ pub(crate) fn suspense_rows(
     key: [u8; 21],
     day: Day,
 ) -> Result<Vec<SuspenseRow>, AllocError>
-    ensures { IfOk result
-        (λ rows. rows.items ≡ filter_map (λ y. suspense_row key day y.0 y.1.0 y.1.1)
-        (enumerate_from 1 (map judged_as judged.now))) }
+    ensures { IfOk result (λ rows. rows.items ≡ suspense_rows key day judged.now) }
 {
     let mut rows = Vec::new(alloc);
     for (index, one) in judged.iter().enumerate() {
