@@ -1,12 +1,14 @@
 -- What is promised of a connection, or of a transaction on it, by whatever runs there: `old` is the connection before,
 -- `new` after, and `g` says what a database over this storage holds.
-use Rattle.std.specs.Prelude.{◌≡◌, ℕ, IsTrue, true, List, Result, Ok, IfOk, OnOk, OnErr}
+use Rattle.std.specs.Prelude.{◌≡◌, ℕ, IsTrue, true, List, slice_get, Option, Result, Ok, IfOk, OnOk, OnErr, Vec}
+use Rattle.std.specs.declared.alloc.Global.{Global}
 use Rattle.std.specs.Borrow.{MutBor}
 use Rattle.sqlite_trees.specs.declared.store.Store.{Ghosts}
 use Rattle.sqlite.specs.Held.{Held, state}
-use Rattle.sqlite.specs.State.{State, Executes, HasCleanDisk, KeepsCommit, Shows, Survives}
+use Rattle.sqlite.specs.State.{State, Executes, HasCleanDisk, IsUnchanged, KeepsCommit, Shown, Shows, Survives}
 use Rattle.sqlite_value.specs.Order.{Row}
 use Rattle.sql_statements.specs.Queries.{Stays}
+use Rattle.sql_statements.specs.SelectTexts.{IsSelectText}
 
 -- The transaction goes on with what is there now, and nothing is committed.
 abbrev pub GoesOn : State → State → Type 0
@@ -22,6 +24,25 @@ pub record Ran (sql : List ℕ) (params : Row) (count : ℕ) (before after : Sta
   pub ran : Executes sql params before after (Ok count)
   pub shown : GoesOn before after
 
+-- The transaction goes on, and nothing changed.
+abbrev pub IsLive : State → State → Type 0
+IsLive before after = IsTrue before.in_transaction × IsUnchanged before after
+
+-- The store was open, and the query shows these rows of it.
+abbrev pub ShowsRows : (sql : List ℕ) (params : Row) → Vec Row Global → State → State → Type 0
+ShowsRows sql params rows before after = IsTrue before.is_open × Shown sql params before after rows.items
+
+-- The query shows these rows of what the transaction sees, which goes on; its text is a SELECT.
+abbrev pub ShowsInside : (sql : List ℕ) (params : Row) → Vec Row Global → State → State → Type 0
+ShowsInside sql params rows before after =
+    IsSelectText sql → Shown sql params before after rows.items × SeesInside before after
+
+-- the same, of the first row that it shows, if it shows any
+abbrev pub ShowsFirst : (sql : List ℕ) (params : Row) → Option Row → State → State → Type 0
+ShowsFirst sql params row before after =
+    IsSelectText sql → (rows : List Row) × Shown sql params before after rows
+    × (row ≡ slice_get rows 0) × SeesInside before after
+
 -- What a query promises. Where the disk is clean as it ends, this holds of what it gave, the same database is seen
 -- still, and a crash leaves nothing that it could not leave before.
 pub record Asked {A E : Type 0} (old new : State) (result : Result A E) (Holds : A → State → State → Type 0) : Type 0 where
@@ -33,6 +54,10 @@ module _ {S : Type 0} (g : Ghosts S) where
   -- the same of a query on a connection
   abbrev pub AskedOn : {A E : Type 0} → (old new : Held S) → Result A E → (Holds : A → State → State → Type 0) → Type 0
   AskedOn old new = Asked (state g old) (state g new)
+
+  -- Where the disk is clean as it ends, this holds of the database before and after.
+  abbrev pub EndsIn : (old new : Held S) → (Holds : State → State → Type 0) → Type 0
+  EndsIn old new Holds = HasCleanDisk (state g new) → Holds (state g old) (state g new)
 
   -- Where it went well, and the disk is clean as it ends, this holds of the database before and after.
   abbrev pub SucceedsIn : {A E : Type 0} → (old new : Held S) → Result A E → (Holds : State → State → Type 0) → Type 0

@@ -1,10 +1,13 @@
 -- What a transaction makes of tables, what its commit does, and what a crash leaves of it.
-use Rattle.std.specs.Prelude.{◌≡◌, IsTrue}
+use Rattle.std.specs.Prelude.{◌≡◌, ℕ, IsTrue, List, Result}
 use Rattle.sqlite_trees.specs.Tree.{Trees}
-use Rattle.sqlite.specs.State.{State}
-use Rattle.sql_statements.specs.Edits.{Edit}
+use Rattle.sqlite_trees.specs.declared.store.Store.{Ghosts}
+use Rattle.sqlite.specs.declared.transaction.Transaction.{Transaction}
+use Rattle.sqlite.specs.Held.{Held, state}
+use Rattle.sqlite.specs.State.{State, Survives}
+use Rattle.sql_statements.specs.Edits.{Edit, each_edit_from}
 use Rattle.sql_statements.specs.Layouts.{Layout, Holds}
-use Rattle.sql_statements.specs.Promises.{GoesOn}
+use Rattle.sql_statements.specs.Promises.{GoesOn, Runs, SucceedsIn}
 
 module _ (layout : Layout) (edit : Edit layout.Tables) where
   -- The transaction goes on, nothing is committed, and the tables are those after the edit.
@@ -27,3 +30,18 @@ module _ (layout : Layout) (edit : Edit layout.Tables) where
   -- the tables after the edit, which a crash may leave once the commit has begun
   abbrev pub Leaves : State → Trees → Type 0
   Leaves old trees = IsTrue old.is_open × ((t : layout.Tables) → Holds layout old.now t → layout.IsStored trees (edit.after t) × edit.Tells t)
+
+module _ {S : Type 0} (g : Ghosts S) where
+  -- Where it went well, the transaction makes the edit of each of these rows, with numbers from the first on.
+  abbrev pub RunsEach : {A E X : Type 0} → (old new : Transaction S) → Result A E → (layout : Layout)
+      → (edit : ℕ → X → Edit layout.Tables) → (first : ℕ) → List X → Type 0
+  RunsEach old new result layout edit first rows =
+      Runs g old.conn new.conn result (Makes layout (each_edit_from edit first rows))
+
+  -- Where it went well, and the disk is clean as it ends, the tables after the edit are seen and committed.
+  abbrev pub Saves : {A E : Type 0} → (old new : Held S) → Result A E → (layout : Layout) → Edit layout.Tables → Type 0
+  Saves old new result layout edit = SucceedsIn g old new result (Commits layout edit)
+
+  -- A crash leaves the tables after the edit, or what it could leave before.
+  abbrev pub LeavesEdit : (old new : Held S) → (layout : Layout) → Edit layout.Tables → Type 0
+  LeavesEdit old new layout edit = Survives (state g old) (state g new) (Leaves layout edit (state g old))

@@ -1,10 +1,8 @@
 //! A statement is run inside a transaction, and a query outside one.
 ghost use Rattle.std.specs.Prelude.{IsTrue};
-ghost use Rattle.sqlite.specs.Held.{state};
-ghost use Rattle.sqlite.specs.State.{HasCleanDisk, Shown};
 ghost use Rattle.sqlite.specs.Values.{bound};
 ghost use Rattle.sql_statements.specs.SelectTexts.{IsSelectText};
-ghost use Rattle.sql_statements.specs.Promises.{Ran, RunsWith, SucceedsWith, SeesStill, LeavesNothingNew};
+ghost use Rattle.sql_statements.specs.Promises.{Ran, RunsWith, ShowsRows, EndsIn, SucceedsWith, SeesStill, LeavesNothingNew};
 
 use sqlite::types::ValueRef;
 use sqlite::{Alter, Connection, Error, Row, Transaction};
@@ -28,10 +26,9 @@ pub fn query<S: Alter>(
     params: &[ValueRef<'_>],
 ) -> Result<Vec<Row>, Error>
     ensures shown { SucceedsWith S.Store conn.old conn.new result
-        (λ rows before after. IsTrue before.is_open
-        × Shown sql.now (bound params.now) before after rows.items) }
-    ensures was_open { HasCleanDisk (state S.Store conn.new)
-        → IsTrue (state S.Store conn.new).is_open → IsTrue (state S.Store conn.old).is_open }
+        (ShowsRows sql.now (bound params.now)) }
+    ensures was_open { EndsIn S.Store conn.old conn.new
+        (λ before after. IsTrue after.is_open → IsTrue before.is_open) }
     ensures stays { IsSelectText sql.now → SeesStill S.Store conn.old conn.new }
     ensures survives { IsSelectText sql.now → LeavesNothingNew S.Store conn.old conn.new }
 {

@@ -1,11 +1,9 @@
 //! The body of a transaction is made and committed.
 ghost use Rattle.std.specs.Prelude.{◌≡◌, false, IsTrue, Err};
-ghost use Rattle.sqlite.specs.Held.{state};
-ghost use Rattle.sqlite.specs.State.{Survives};
 ghost use Rattle.sql_statements.specs.Edits.{Edit};
 ghost use Rattle.sql_statements.specs.Layouts.{Layout};
-ghost use Rattle.sql_statements.specs.Transactions.{Makes, Commits, Leaves};
-ghost use Rattle.sql_statements.specs.Promises.{SucceedsIn, FailsUnchanged, Runs};
+ghost use Rattle.sql_statements.specs.Transactions.{Makes, LeavesEdit, Saves};
+ghost use Rattle.sql_statements.specs.Promises.{FailsUnchanged, Runs};
 
 use crate::transaction::live::check_live;
 use sqlite::{Alter, Connection, Error, Transaction};
@@ -28,12 +26,11 @@ pub trait TransactionBody {
 /// the edit or after it. A connection that is inside a transaction is refused with
 /// `Error::InvalidQuery`, and its transaction goes on.
 pub fn commit<S: Alter, B: TransactionBody>(conn: &mut Connection<S>, body: &B) -> Result<(), Error>
-    ensures done { SucceedsIn S.Store conn.old conn.new result
-        (Commits B.TransactionBody.layout (B.TransactionBody.edit body.now)) }
+    ensures done { Saves S.Store conn.old conn.new result
+        B.TransactionBody.layout (B.TransactionBody.edit body.now) }
     ensures undone { FailsUnchanged S.Store conn.old conn.new result }
-    ensures survives { Survives (state S.Store conn.old) (state S.Store conn.new)
-        (Leaves B.TransactionBody.layout (B.TransactionBody.edit body.now)
-        (state S.Store conn.old)) }
+    ensures survives { LeavesEdit S.Store conn.old conn.new
+        B.TransactionBody.layout (B.TransactionBody.edit body.now) }
     ensures refused { IsTrue conn.old.in_transaction → (result ≡ Err Error.InvalidQuery)
         × (conn.new ≡ conn.old) }
     ensures ended { conn.old.in_transaction ≡ false → conn.new.in_transaction ≡ false }

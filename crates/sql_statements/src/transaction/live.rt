@@ -1,7 +1,5 @@
 //! A transaction is tested before it is read or committed.
-ghost use Rattle.std.specs.Prelude.{IsTrue};
-ghost use Rattle.sqlite.specs.State.{IsUnchanged};
-ghost use Rattle.sql_statements.specs.Promises.{Runs};
+ghost use Rattle.sql_statements.specs.Promises.{IsLive, Runs};
 
 use crate::statement::execute;
 use sqlite::{Alter, Error, Transaction};
@@ -10,8 +8,7 @@ use sqlite::{Alter, Error, Transaction};
 /// statement. A query is answered where the transaction has ended too, and a body that runs nothing
 /// does not find that the store is shut.
 pub(crate) fn check_live<S: Alter>(tx: &mut Transaction<'_, S>) -> Result<(), Error>
-    ensures { Runs S.Store tx.old.conn tx.new.conn result
-        (λ before after. IsTrue before.in_transaction × IsUnchanged before after) }
+    ensures { Runs S.Store tx.old.conn tx.new.conn result IsLive }
 {
     execute(tx, "", &[])?;
     Ok(())

@@ -1,8 +1,8 @@
 //! A transaction does the same for each row of a list.
 ghost use Rattle.std.specs.Prelude.{ℕ};
-ghost use Rattle.sql_statements.specs.Edits.{Edit, each_edit_from};
+ghost use Rattle.sql_statements.specs.Edits.{Edit};
 ghost use Rattle.sql_statements.specs.Layouts.{Layout};
-ghost use Rattle.sql_statements.specs.Transactions.{Makes};
+ghost use Rattle.sql_statements.specs.Transactions.{Makes, RunsEach};
 ghost use Rattle.sql_statements.specs.Promises.{Runs};
 
 use sqlite::{Alter, Error, ErrorCode, Transaction};
@@ -37,8 +37,8 @@ pub fn run_each<S: Alter, B: RowBody>(
     first: u64,
     rows: &[B::Row],
 ) -> Result<(), Error>
-    ensures { Runs S.Store tx.old.conn tx.new.conn result
-        (Makes B.RowBody.layout (each_edit_from (B.RowBody.edit body.now) first rows.now)) }
+    ensures { RunsEach S.Store tx.old tx.new result
+        B.RowBody.layout (B.RowBody.edit body.now) first rows.now }
 {
     let mut number = first;
     for row in rows {

@@ -1,10 +1,6 @@
 //! A transaction runs a statement of one row, and reads what it sees.
-ghost use Rattle.std.specs.Prelude.{◌≡◌, List, slice_get};
-ghost use Rattle.sqlite.specs.State.{Shown};
 ghost use Rattle.sqlite.specs.Values.{bound};
-ghost use Rattle.sqlite_value.specs.Order.{Row};
-ghost use Rattle.sql_statements.specs.SelectTexts.{IsSelectText};
-ghost use Rattle.sql_statements.specs.Promises.{Ran, Runs, RunsWith, SeesInside};
+ghost use Rattle.sql_statements.specs.Promises.{Ran, Runs, RunsWith, ShowsFirst, ShowsInside};
 
 use crate::statement::execute;
 use crate::transaction::live::check_live;
@@ -35,8 +31,7 @@ pub fn query_inside<S: Alter>(
     params: &[ValueRef<'_>],
 ) -> Result<Vec<Row>, Error>
     ensures { RunsWith S.Store tx.old.conn tx.new.conn result
-        (λ rows before after. IsSelectText sql.now
-        → Shown sql.now (bound params.now) before after rows.items × SeesInside before after) }
+        (ShowsInside sql.now (bound params.now)) }
 {
     check_live(tx)?;
     let rows = tx.query_all(sql, params)?;
@@ -51,9 +46,7 @@ pub fn query_first_inside<S: Alter>(
     params: &[ValueRef<'_>],
 ) -> Result<Option<Row>, Error>
     ensures { RunsWith S.Store tx.old.conn tx.new.conn result
-        (λ row before after. IsSelectText sql.now
-        → (rows : List Row) × Shown sql.now (bound params.now) before after rows
-        × (row ≡ slice_get rows 0) × SeesInside before after) }
+        (ShowsFirst sql.now (bound params.now)) }
 {
     let mut rows = query_inside(tx, sql, params)?;
     if rows.is_empty() {
