@@ -23,6 +23,5 @@ pub fn company_follows()
 
 /// A company's limits.
 pub fn limits_follow()
-    ensures { (id : List ℕ) (limits : Limits) →
-        Makes (put_limits_edit id limits) (put_limits id limits) }
+    ensures { (id : List ℕ) (to : Limits) → Makes (put_limits_edit id to) (put_limits id to) }
 {}
