@@ -24,7 +24,7 @@ use Rattle.sql_tables.specs.declared.records.BalanceRecord.{BalanceRecord}
 use Rattle.sql_write_laws.proofs.Found.{or_none}
 use Rattle.sql_write_laws.proofs.Lines.{balance_put}
 use Rattle.sql_writes.specs.LineEdits.{sum_is, put_balance_edit, with_line, with_lines}
-use Rattle.sql_writes.specs.PendingBalances.{is_pending_of, pending_of, StandsFor, AddsLine, MakesBut}
+use Rattle.sql_writes.specs.PendingBalances.{is_pending_of, summed, pending_of, StandsFor, AddsLine, MakesBut}
 use Rattle.sql_writes.specs.declared.account_lines.pending.PendingBalance.{PendingBalance}
 use Rattle.sql_writes.proofs.BalanceLists.{same_key, own_key, same_balances}
 use Rattle.sql_writes.proofs.BalanceUpserts.{put_rises}
@@ -47,39 +47,36 @@ none_in_front a d n xs none =
     in_front (Some b) p h = cc
 
 module _ (p : Posting) (sum : ℤ) where
-  abbrev pub summed : PendingBalance
-  summed = record { account = p.account; value_day = p.value_day; cents = sum }
-
   -- this sum of the line's account and value day is pending, and the others as before
   abbrev pub IsSet : (before after : List PendingBalance) → Type 0
   IsSet before after = (a : Account) (d : ℕ) → pending_of after a d ≡ cond (same_account p.account a && p.value_day == d) (Some sum) (pending_of before a d)
 
-  pub set_new : (xs : List PendingBalance) → pending_of xs p.account p.value_day ≡ None → IsSet xs (xs ++ summed ∷ [])
-  set_new xs none a d = ap cents_of (find-append (is_pending_of a d) xs (summed ∷ [])) ∙ go (same_account p.account a && p.value_day == d) refl
+  pub set_new : (xs : List PendingBalance) → pending_of xs p.account p.value_day ≡ None → IsSet xs (xs ++ summed p sum ∷ [])
+  set_new xs none a d = ap cents_of (find-append (is_pending_of a d) xs (summed p sum ∷ [])) ∙ go (same_account p.account a && p.value_day == d) refl
     where
-      behind : (o : Option PendingBalance) → cents_of o ≡ None → cents_of (option_or o (Some summed)) ≡ Some sum
+      behind : (o : Option PendingBalance) → cents_of o ≡ None → cents_of (option_or o (Some (summed p sum))) ≡ Some sum
       behind None h = refl
       behind (Some b) h = cc
 
       go : (b : Bool) → (same_account p.account a && p.value_day == d) ≡ b
-          → cents_of (option_or (find (is_pending_of a d) xs) (cond b (Some summed) None)) ≡ cond b (Some sum) (pending_of xs a d)
+          → cents_of (option_or (find (is_pending_of a d) xs) (cond b (Some (summed p sum)) None)) ≡ cond b (Some sum) (pending_of xs a d)
       go true e = let key = same_key p.account a p.value_day d e in behind (find (is_pending_of a d) xs) ((λ i. pending_of xs (sym key.0 i) (sym key.1 i)) ∙ none)
       go false e = ap cents_of (or_none (find (is_pending_of a d) xs))
 
-  pub set_there : (xs : List PendingBalance) (at : ℕ) → at ≡ position_or_len (is_pending_of p.account p.value_day) xs → at < length xs → IsSet xs (set xs at summed)
+  pub set_there : (xs : List PendingBalance) (at : ℕ) → at ≡ position_or_len (is_pending_of p.account p.value_day) xs → at < length xs → IsSet xs (set xs at (summed p sum))
   set_there xs at first within a d = go (same_account p.account a && p.value_day == d) refl
     where
-      there : is_pending_of p.account p.value_day (get_or xs at summed) ≡ true
-      there = subst (λ n. is_pending_of p.account p.value_day (get_or xs n summed) ≡ true) (sym first) (passes_at_first (is_pending_of p.account p.value_day) xs summed (subst (λ n. n < length xs) first within))
+      there : is_pending_of p.account p.value_day (get_or xs at (summed p sum)) ≡ true
+      there = subst (λ n. is_pending_of p.account p.value_day (get_or xs n (summed p sum)) ≡ true) (sym first) (passes_at_first (is_pending_of p.account p.value_day) xs (summed p sum) (subst (λ n. n < length xs) first within))
 
-      go : (b : Bool) → (same_account p.account a && p.value_day == d) ≡ b → pending_of (set xs at summed) a d ≡ cond b (Some sum) (pending_of xs a d)
+      go : (b : Bool) → (same_account p.account a && p.value_day == d) ≡ b → pending_of (set xs at (summed p sum)) a d ≡ cond b (Some sum) (pending_of xs a d)
       go true e =
           let key = same_key p.account a p.value_day d e in
-          (λ i. pending_of (set xs at summed) (sym key.0 i) (sym key.1 i))
-          ∙ ap cents_of (find-set (is_pending_of p.account p.value_day) xs at summed first within (own_key p.account p.value_day))
+          (λ i. pending_of (set xs at (summed p sum)) (sym key.0 i) (sym key.1 i))
+          ∙ ap cents_of (find-set (is_pending_of p.account p.value_day) xs at (summed p sum) first within (own_key p.account p.value_day))
       go false e =
-          let own = same_key (get_or xs at summed).account p.account (get_or xs at summed).value_day p.value_day there in
-          ap cents_of (find_past (is_pending_of a d) xs at summed summed ((λ i. same_account (own.0 i) a && own.1 i == d) ∙ e) e)
+          let own = same_key (get_or xs at (summed p sum)).account p.account (get_or xs at (summed p sum)).value_day p.value_day there in
+          ap cents_of (find_past (is_pending_of a d) xs at (summed p sum) (summed p sum) ((λ i. same_account (own.0 i) a && own.1 i == d) ∙ e) e)
 
 -- the first balance of an account and value day is the pending one
 pub there_pending : (a : Account) (d : ℕ) (xs : List PendingBalance) (at : ℕ) (b : PendingBalance) → at ≡ position_or_len (is_pending_of a d) xs → at < length xs → pending_of xs a d ≡ Some (get_or xs at b).cents

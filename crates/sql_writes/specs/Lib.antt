@@ -1,8 +1,11 @@
+pub mod Cells
 pub mod CutTexts
+pub mod DeskEdits
 pub mod EntryEdits
 pub mod EntryRuns
 pub mod HeldRows
 pub mod HolidayEdits
+pub mod IntakeEdits
 pub mod IntakeTexts
 pub mod LineEdits
 pub mod LineRows
@@ -11,6 +14,7 @@ pub mod NumberRows
 pub mod Numbering
 pub mod PendingBalances
 pub mod PlaceEdits
+pub mod Retries
 pub mod ReturnRows
 pub mod Runs
 pub mod Texts

@@ -1,12 +1,15 @@
 -- Balances to which lines were added in memory, and whose rows do not have these lines yet.
-use Rattle.std.specs.Prelude.{◌≡◌, IsTrue, ℕ, ℤ, Bool, ◌&&◌, ◌==◌, List, find, Option, option_map}
+use Rattle.std.specs.Prelude.{◌≡◌, IsTrue, ℕ, ℤ, Bool, ◌&&◌, ◌==◌, List, find, Option, option_map, Result}
+use Rattle.std.specs.List.{position_or_len}
 use Rattle.std.specs.Option.{option_or}
+use Rattle.sqlite_trees.specs.declared.store.Store.{Ghosts}
 use Rattle.sqlite.specs.State.{State}
+use Rattle.sqlite.specs.declared.transaction.Transaction.{Transaction}
 use Rattle.sql_statements.specs.Layouts.{Holds}
 use Rattle.desk_accounts.specs.declared.account.Account.{Account}
 use Rattle.desk_accounts.specs.declared.posting.Posting.{Posting}
 use Rattle.desk_accounts.specs.Posting.{same_account}
-use Rattle.sql_statements.specs.Promises.{GoesOn}
+use Rattle.sql_statements.specs.Promises.{GoesOn, Runs}
 use Rattle.sql_tables.specs.Beside.{balance_of}
 use Rattle.sql_tables.specs.Description.{key_cmp}
 use Rattle.sql_tables.specs.DeskTables as the
@@ -19,6 +22,14 @@ use Rattle.sql_writes.specs.declared.account_lines.pending.PendingBalance.{Pendi
 
 abbrev pub is_pending_of : Account → (value_day : ℕ) → PendingBalance → Bool
 is_pending_of account day b = same_account b.account account && b.value_day == day
+
+-- the balance of a line's account and value day, with this sum
+abbrev pub summed : Posting → (cents : ℤ) → PendingBalance
+summed p cents = record { account = p.account; value_day = p.value_day; cents = cents }
+
+-- the place of the balance of a line's account and value day, or after the last where there is none
+abbrev pub pending_place : Posting → List PendingBalance → ℕ
+pending_place p pending = position_or_len (is_pending_of p.account p.value_day) pending
 
 -- the pending sum of an account and value day: of the first such balance
 abbrev pub pending_of : List PendingBalance → Account → (value_day : ℕ) → Option ℤ
@@ -43,3 +54,14 @@ pub record IsMadeBut (before after : List PendingBalance) (become : List Balance
 -- the same, of whatever runs inside a transaction of an open store
 abbrev pub MakesBut : (before after : List PendingBalance) → (become : List BalanceRecord → List BalanceRecord) → State → State → Type 0
 MakesBut before after become old new = IsTrue old.in_transaction → IsTrue old.is_open → IsMadeBut before after become old new
+
+module _ {S : Type 0} (g : Ghosts S) where
+  -- Where it went well, the line is added to the balances, but for what is pending.
+  abbrev pub AddsBut : {A E : Type 0} → (old new : Transaction S) → Result A E
+      → (before after : List PendingBalance) → Posting → Type 0
+  AddsBut old new result before after p = Runs g old.conn new.conn result (MakesBut before after (with_line p))
+
+  -- Where it went well, the balances are as they were, but for what is pending.
+  abbrev pub KeepsBut : {A E : Type 0} → (old new : Transaction S) → Result A E
+      → (before after : List PendingBalance) → Type 0
+  KeepsBut old new result before after = Runs g old.conn new.conn result (MakesBut before after (λ balances. balances))

@@ -1,9 +1,7 @@
 //! A transaction does the same for each row of a list, for sixteen rows at a time as long as there are so
 //! many.
 ghost use Rattle.std.specs.Prelude.{◌≡◌, ◌+◌, ◌<◌, ◌^◌, length};
-ghost use Rattle.sql_statements.specs.Edits.{each_edit_from};
-ghost use Rattle.sql_statements.specs.Transactions.{Makes};
-ghost use Rattle.sql_statements.specs.Promises.{Runs};
+ghost use Rattle.sql_writes.specs.DeskEdits.{EditsEach};
 
 use sql_statements::{RowBody, run_each};
 use sqlite::{Alter, Error, ErrorCode, Transaction};
@@ -21,8 +19,8 @@ pub(crate) trait BatchBody: RowBody {
     ) -> Result<(), Error>
         requires many { length rows.now ≡ 16 }
         requires numbers { first + 16 < 2 ^ 64 }
-        ensures { Runs S.Store tx.old.conn tx.new.conn result
-            (Makes Self.layout (each_edit_from (Self.edit self.now) first rows.now)) };
+        ensures { EditsEach S.Store Self.layout tx.old tx.new result
+            (Self.edit self.now) first rows.now };
 }
 
 /// Runs the statements of each row, in order, with numbers from the first on: of sixteen rows at once, and
@@ -34,8 +32,8 @@ pub(crate) fn run_batches<S: Alter, B: BatchBody>(
     first: u64,
     rows: &[B::Row],
 ) -> Result<(), Error>
-    ensures { Runs S.Store tx.old.conn tx.new.conn result
-        (Makes B.RowBody.layout (each_edit_from (B.RowBody.edit body.now) first rows.now)) }
+    ensures { EditsEach S.Store B.RowBody.layout tx.old tx.new result
+        (B.RowBody.edit body.now) first rows.now }
 {
     let mut number = first;
     let mut rest = rows;

@@ -1,10 +1,8 @@
 //! One value is read inside a transaction.
-ghost use Rattle.std.specs.Prelude.{[], ◌∷◌, IfOk};
-ghost use Rattle.sqlite.specs.Values.{bound};
+ghost use Rattle.std.specs.Prelude.{IfOk};
 ghost use Rattle.sql_statements.specs.SelectTexts.{IsSelectText};
-ghost use Rattle.sql_statements.specs.Promises.{RunsWith, SeesInside};
 ghost use Rattle.sql_tables.specs.Ranges.{FitsIfAny};
-ghost use Rattle.sql_query_laws.specs.Shows.{ReadsFirst};
+ghost use Rattle.sql_writes.specs.Cells.{ReadsCell};
 
 use sql_statements::query_first_inside;
 use sql_tables::{FromColumn, read_only_column};
@@ -20,9 +18,7 @@ pub fn cell_inside<S: Alter, T: FromColumn>(
     params: &[ValueRef<'_>],
 ) -> Result<Option<T>, Error>
     requires { IsSelectText sql.now }
-    ensures runs { RunsWith S.Store tx.old.conn tx.new.conn result
-        (λ x before after. ReadsFirst sql.now (bound params.now)
-        (λ x. T.FromColumn.stored x ∷ []) before after x × SeesInside before after) }
+    ensures runs { ReadsCell S.Store tx.old tx.new result sql.now params.now T.FromColumn.stored }
     ensures fits { IfOk result (FitsIfAny T.FromColumn.fits) }
 {
     let Some(row) = query_first_inside(tx, sql, params)? else {

@@ -1,10 +1,8 @@
 //! Some tables number their rows from 1 on, in the order in which they came.
 ghost use Rattle.std.specs.Prelude.{◌≡◌};
-ghost use Rattle.sql_statements.specs.Transactions.{Makes};
-ghost use Rattle.sql_statements.specs.Promises.{RunsWith};
-ghost use Rattle.sql_tables.specs.Layout.{desk_layout};
 ghost use Rattle.sql_writes.specs.Numbering.{next_is};
 ghost use Rattle.sql_writes.specs.LineTexts.{last_text};
+ghost use Rattle.sql_writes.specs.DeskEdits.{EditsWith};
 
 use crate::cell::cell_inside;
 use sqlite::{Alter, Error, ErrorCode, Transaction};
@@ -40,8 +38,7 @@ pub(crate) fn next_after<S: Alter>(
     tx: &mut Transaction<'_, S>,
     table: NumberedTable,
 ) -> Result<u64, Error>
-    ensures { RunsWith S.Store tx.old.conn tx.new.conn result
-        (λ n. Makes desk_layout (next_is table n)) }
+    ensures { EditsWith S.Store tx.old tx.new result (next_is table) }
 {
     let last: Option<u64> = cell_inside(tx, last_query(table), &[])?;
     match last.unwrap_or(0).checked_add(1) {

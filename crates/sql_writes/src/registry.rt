@@ -1,9 +1,8 @@
 //! The desk, its calendar and its companies are written.
-ghost use Rattle.sql_statements.specs.Transactions.{Makes};
-ghost use Rattle.sql_statements.specs.Promises.{Runs};
 ghost use Rattle.sql_tables.specs.Layout.{desk_layout};
 ghost use Rattle.sql_tables.specs.TableEdits.{set_day_edit, set_holidays_edit, put_company_edit, put_limits_edit};
 ghost use Rattle.sql_writes.specs.HolidayEdits.{clear_holidays_edit, put_holiday_edit};
+ghost use Rattle.sql_writes.specs.DeskEdits.{Edits};
 
 use ach_fields::Id;
 use bank_days::{Calendar, Day};
@@ -30,7 +29,7 @@ impl TransactionBody for SetDay {
 
 // Writes the desk day into the one row of the desk.
 fn set_day<S: Alter>(tx: &mut Transaction<'_, S>, day: Day) -> Result<(), Error>
-    ensures { Runs S.Store tx.old.conn tx.new.conn result (Makes desk_layout (set_day_edit day)) }
+    ensures { Edits S.Store tx.old tx.new result (set_day_edit day) }
 {
     execute(tx, "UPDATE desk SET day = ?1 WHERE id = 1", &[date(day)])?;
     Ok(())
@@ -56,7 +55,7 @@ impl<'a> TransactionBody for SetHolidays<'a> {
 
 // Takes out all holidays.
 fn clear_holidays<S: Alter>(tx: &mut Transaction<'_, S>) -> Result<(), Error>
-    ensures { Runs S.Store tx.old.conn tx.new.conn result (Makes desk_layout clear_holidays_edit) }
+    ensures { Edits S.Store tx.old tx.new result clear_holidays_edit }
 {
     execute(tx, "DELETE FROM holidays", &[])?;
     Ok(())
@@ -102,8 +101,7 @@ impl TransactionBody for PutCompany {
 
 // Writes the row of a new company.
 fn put_company<S: Alter>(tx: &mut Transaction<'_, S>, company: &Company) -> Result<(), Error>
-    ensures { Runs S.Store tx.old.conn tx.new.conn result
-        (Makes desk_layout (put_company_edit company.now)) }
+    ensures { Edits S.Store tx.old tx.new result (put_company_edit company.now) }
 {
     let entry = natural(company.limits.entry)?;
     let credit = natural(company.limits.credit)?;
@@ -147,8 +145,7 @@ fn put_limits<S: Alter>(
     company: &Id,
     limits: &Limits,
 ) -> Result<(), Error>
-    ensures { Runs S.Store tx.old.conn tx.new.conn result
-        (Makes desk_layout (put_limits_edit company.now limits.now)) }
+    ensures { Edits S.Store tx.old tx.new result (put_limits_edit company.now limits.now) }
 {
     let entry = natural(limits.entry)?;
     let credit = natural(limits.credit)?;

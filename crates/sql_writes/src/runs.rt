@@ -1,10 +1,9 @@
 //! A transaction does the same for each row of a list, for rows that follow one another at a time.
 ghost use Rattle.std.specs.Prelude.{◌≡◌, ◌≤◌, ◌<◌, ◌+◌, ◌^◌, ℕ, Bool, true, IsTrue, take, length};
-ghost use Rattle.sql_statements.specs.Edits.{Edit, each_edit_from};
+ghost use Rattle.sql_statements.specs.Edits.{Edit};
 ghost use Rattle.sql_statements.specs.Layouts.{Layout};
-ghost use Rattle.sql_statements.specs.Transactions.{Makes};
-ghost use Rattle.sql_statements.specs.Promises.{Runs};
 ghost use Rattle.sql_writes.specs.Runs.{is_run};
+ghost use Rattle.sql_writes.specs.DeskEdits.{EditsEach};
 
 use sqlite::{Alter, Error, ErrorCode, Transaction};
 
@@ -37,8 +36,7 @@ pub(crate) trait RunBody {
         requires some { 0 < length rows.now }
         requires run { is_run (stands_after self.now) rows.now ≡ true }
         requires numbers { first + length rows.now < 2 ^ 64 }
-        ensures { Runs S.Store tx.old.conn tx.new.conn result
-            (Makes layout (each_edit_from (edit self.now) first rows.now)) };
+        ensures { EditsEach S.Store layout tx.old tx.new result (edit self.now) first rows.now };
 }
 
 // How many rows at the start of a list are a run.
@@ -65,8 +63,7 @@ pub(crate) fn run_runs<S: Alter, B: RunBody>(
     first: u64,
     rows: &[B::Row],
 ) -> Result<(), Error>
-    ensures { Runs S.Store tx.old.conn tx.new.conn result
-        (Makes B.layout (each_edit_from (B.edit body.now) first rows.now)) }
+    ensures { EditsEach S.Store B.layout tx.old tx.new result (B.edit body.now) first rows.now }
 {
     let mut number = first;
     let mut rest = rows;

@@ -1,14 +1,14 @@
 //! A submission or a retry is written with its entries.
-ghost use Rattle.std.specs.Prelude.{◌≡◌, Some, IfOk, IsTrue, option_map, option_and_then};
-ghost use Rattle.sql_statements.specs.Transactions.{Makes};
-ghost use Rattle.sql_statements.specs.Promises.{Runs};
+ghost use Rattle.std.specs.Prelude.{◌≡◌, Some, IfOk, IsTrue, option_and_then};
 ghost use Rattle.sqlite.specs.Values.{bound_value, or_null};
 ghost use Rattle.sqlite_value.specs.Value.{owned};
 ghost use Rattle.sqlite_value.specs.declared.value.Value.TheVariants.{Text};
 ghost use Rattle.sql_tables.specs.Columns.{number};
-ghost use Rattle.sql_tables.specs.Encodes.{AsksAs, retried_entry};
+ghost use Rattle.sql_tables.specs.Encodes.{AsksAs};
 ghost use Rattle.sql_tables.specs.Layout.{desk_layout};
 ghost use Rattle.sql_tables.specs.TableEdits.{add_submission_edit, put_submission_edit, put_authorization_edit};
+ghost use Rattle.sql_writes.specs.DeskEdits.{Edits};
+ghost use Rattle.sql_writes.specs.Retries.{tried_reference, tried_index};
 
 use crate::batches::run_batches;
 use crate::entries::EntryRows;
@@ -63,8 +63,7 @@ fn asks_as(reference: &Ref, day: RuleDay, retry: &Option<Retry>) -> bool
 
 // The reference of the submission whose entry a retry tries again, NULL where there is no retry.
 fn retried_reference<'a>(retry: &'a Option<Retry>) -> ValueRef<'a>
-    ensures { bound_value (owned result) ≡ or_null Text
-        (option_map (λ r. r.of) (option_map retried_entry retry.now)) }
+    ensures { bound_value (owned result) ≡ or_null Text (tried_reference retry.now) }
 {
     match retry {
         None => ValueRef::Null,
@@ -74,9 +73,7 @@ fn retried_reference<'a>(retry: &'a Option<Retry>) -> ValueRef<'a>
 
 // The number of the entry that a retry tries again, NULL where there is no retry.
 fn retried_index<'a>(retry: &Option<Retry>) -> Result<ValueRef<'a>, Error>
-    ensures { IfOk result
-        (λ v. bound_value (owned v) ≡ or_null number
-        (option_map (λ r. r.index) (option_map retried_entry retry.now))) }
+    ensures { IfOk result (λ v. bound_value (owned v) ≡ or_null number (tried_index retry.now)) }
 {
     match retry {
         None => Ok(ValueRef::Null),
@@ -102,8 +99,8 @@ fn put_submission<'x, S: Alter>(
     content: &'x Submission,
     retry: &'x Option<Retry>,
 ) -> Result<(), Error>
-    ensures { Runs S.Store tx.old.conn tx.new.conn result
-        (Makes desk_layout (put_submission_edit company.now order content.now retry.now)) }
+    ensures { Edits S.Store tx.old tx.new result
+        (put_submission_edit company.now order content.now retry.now) }
 {
     if !asks_as(&content.reference, content.day, retry) {
         return Err(Error::InvalidQuery);
@@ -140,8 +137,8 @@ fn put_authorization<S: Alter>(
     order: u64,
     authorized: Option<Day>,
 ) -> Result<(), Error>
-    ensures { Runs S.Store tx.old.conn tx.new.conn result
-        (Makes desk_layout (put_authorization_edit company.now order authorized)) }
+    ensures { Edits S.Store tx.old tx.new result
+        (put_authorization_edit company.now order authorized) }
 {
     match authorized {
         None => Ok(()),
@@ -156,8 +153,8 @@ fn put_authorized_day<S: Alter>(
     order: u64,
     day: Day,
 ) -> Result<(), Error>
-    ensures { Runs S.Store tx.old.conn tx.new.conn result
-        (Makes desk_layout (put_authorization_edit company.now order (Some day))) }
+    ensures { Edits S.Store tx.old tx.new result
+        (put_authorization_edit company.now order (Some day)) }
 {
     let order = natural(order)?;
     execute(

@@ -1,8 +1,6 @@
 //! Balances: the sums of the lines of an account and a value day.
-ghost use Rattle.sql_statements.specs.Transactions.{Makes};
-ghost use Rattle.sql_statements.specs.Promises.{Runs, RunsWith};
-ghost use Rattle.sql_tables.specs.Layout.{desk_layout};
 ghost use Rattle.sql_writes.specs.LineEdits.{put_balance_edit, sum_is};
+ghost use Rattle.sql_writes.specs.DeskEdits.{Edits, EditsWith};
 
 use crate::cell::cell_inside;
 use bank_days::Day;
@@ -18,8 +16,7 @@ pub(crate) fn sum_inside<S: Alter>(
     account: &Account,
     value_day: Day,
 ) -> Result<Option<i128>, Error>
-    ensures { RunsWith S.Store tx.old.conn tx.new.conn result
-        (λ sum. Makes desk_layout (sum_is account.now value_day sum)) }
+    ensures { EditsWith S.Store tx.old tx.new result (sum_is account.now value_day) }
 {
     let text = account_text(account);
     let sum = cell_inside(
@@ -37,8 +34,7 @@ pub(crate) fn put_balance<S: Alter>(
     value_day: Day,
     cents: i128,
 ) -> Result<(), Error>
-    ensures { Runs S.Store tx.old.conn tx.new.conn result
-        (Makes desk_layout (put_balance_edit account.now value_day cents)) }
+    ensures { Edits S.Store tx.old tx.new result (put_balance_edit account.now value_day cents) }
 {
     let text = account_text(account);
     let mut digits = Buffer::new();

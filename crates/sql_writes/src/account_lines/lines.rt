@@ -1,8 +1,6 @@
 //! The lines of accounts are written.
-ghost use Rattle.sql_statements.specs.Transactions.{Makes};
-ghost use Rattle.sql_statements.specs.Promises.{Runs};
-ghost use Rattle.sql_tables.specs.Layout.{desk_layout};
 ghost use Rattle.sql_tables.specs.TableEdits.{put_lines_edit};
+ghost use Rattle.sql_writes.specs.DeskEdits.{Edits};
 
 use crate::account_lines::pending::add_lines;
 use crate::account_lines::rows::LineRows;
@@ -18,8 +16,7 @@ pub(crate) fn put_lines<S: Alter>(
     tx: &mut Transaction<'_, S>,
     lines: &[Posting],
 ) -> Result<(), Error>
-    ensures { Runs S.Store tx.old.conn tx.new.conn result
-        (Makes desk_layout (put_lines_edit lines.now)) }
+    ensures { Edits S.Store tx.old tx.new result (put_lines_edit lines.now) }
 {
     let first = next_after(tx, NumberedTable::Postings)?;
     run_batches(tx, &LineRows, first, lines)?;

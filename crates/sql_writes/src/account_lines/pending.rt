@@ -1,13 +1,10 @@
 //! Lines are added to balances in memory, so that the row of a balance is read and written once for
 //! many lines.
 ghost use Rattle.std.specs.Prelude.{◌≡◌, ◌-◌, ◌<◌, ◌+ℤ◌, ℕ, pos, [], take, IfOk, OnOk, unwrap_or};
-ghost use Rattle.std.specs.List.{position_or_len};
 ghost use Rattle.arrayvec.specs.ArrayVec.{array_vec_len};
-ghost use Rattle.sql_statements.specs.Transactions.{Makes};
-ghost use Rattle.sql_statements.specs.Promises.{Runs};
-ghost use Rattle.sql_tables.specs.Layout.{desk_layout};
-ghost use Rattle.sql_writes.specs.LineEdits.{with_line, add_lines_edit};
-ghost use Rattle.sql_writes.specs.PendingBalances.{is_pending_of, AddsLine, MakesBut};
+ghost use Rattle.sql_writes.specs.LineEdits.{add_lines_edit};
+ghost use Rattle.sql_writes.specs.PendingBalances.{is_pending_of, summed, pending_place, AddsLine, AddsBut, KeepsBut};
+ghost use Rattle.sql_writes.specs.DeskEdits.{Edits};
 
 use crate::account_lines::balances::{put_balance, sum_inside};
 use arrayvec::ArrayVec;
@@ -49,8 +46,7 @@ pub(crate) fn add_lines<S: Alter>(
     tx: &mut Transaction<'_, S>,
     lines: &[Posting],
 ) -> Result<(), Error>
-    ensures { Runs S.Store tx.old.conn tx.new.conn result
-        (Makes desk_layout (add_lines_edit lines.now)) }
+    ensures { Edits S.Store tx.old tx.new result (add_lines_edit lines.now) }
 {
     let mut pending: PendingBalances = ArrayVec::new();
     for line in lines {
@@ -66,8 +62,7 @@ fn add_line<S: Alter>(
     pending: &mut PendingBalances,
     line: &Posting,
 ) -> Result<(), Error>
-    ensures { Runs S.Store tx.old.conn tx.new.conn result
-        (MakesBut pending.old.items pending.new.items (with_line line.now)) }
+    ensures { AddsBut S.Store tx.old tx.new result pending.old.items pending.new.items line.now }
 {
     let at = place_of(pending.as_slice(), line);
     if at < pending.len() {
@@ -80,8 +75,7 @@ fn add_line<S: Alter>(
 
 // The place of the balance of a line's account and value day, or after the last where there is none.
 fn place_of(pending: &[PendingBalance], line: &Posting) -> usize
-    ensures { result ≡ position_or_len
-        (is_pending_of line.now.account line.now.value_day) pending.now }
+    ensures { result ≡ pending_place line.now pending.now }
 {
     let mut at = 0;
     for balance in pending {
@@ -102,8 +96,7 @@ fn is_of(balance: &PendingBalance, line: &Posting) -> bool
 
 // Adds a line to a pending balance, the first of its account and value day.
 fn add_there(pending: &mut PendingBalances, at: usize, line: &Posting) -> Result<(), Error>
-    requires first { at ≡ position_or_len
-        (is_pending_of line.now.account line.now.value_day) pending.old.items }
+    requires first { at ≡ pending_place line.now pending.old.items }
     requires within { at < array_vec_len pending.old }
     ensures { OnOk result (AddsLine line.now pending.old.items pending.new.items) }
 {
@@ -124,8 +117,7 @@ fn sum_with(before: Option<i128>, cents: i64) -> Result<i128, Error>
 
 // The balance of a line's account and value day, with this sum.
 fn with_sum(line: &Posting, cents: i128) -> PendingBalance
-    ensures { result ≡ record
-        { account = line.now.account; value_day = line.now.value_day; cents = cents } }
+    ensures { result ≡ summed line.now cents }
 {
     PendingBalance {
         account: line.account,
@@ -140,10 +132,8 @@ fn add_new<S: Alter>(
     pending: &mut PendingBalances,
     line: &Posting,
 ) -> Result<(), Error>
-    requires { array_vec_len pending.old ≡ position_or_len
-        (is_pending_of line.now.account line.now.value_day) pending.old.items }
-    ensures { Runs S.Store tx.old.conn tx.new.conn result
-        (MakesBut pending.old.items pending.new.items (with_line line.now)) }
+    requires { array_vec_len pending.old ≡ pending_place line.now pending.old.items }
+    ensures { AddsBut S.Store tx.old tx.new result pending.old.items pending.new.items line.now }
 {
     make_room(tx, pending)?;
     let before = sum_inside(tx, &line.account, line.value_day)?;
@@ -159,8 +149,7 @@ fn make_room<S: Alter>(
 ) -> Result<(), Error>
     ensures room { OnOk result (array_vec_len pending.new < MOST_PENDING) }
     ensures front { (count : ℕ) × (pending.new.items ≡ take count pending.old.items) }
-    ensures runs { Runs S.Store tx.old.conn tx.new.conn result
-        (MakesBut pending.old.items pending.new.items (λ balances. balances)) }
+    ensures runs { KeepsBut S.Store tx.old tx.new result pending.old.items pending.new.items }
 {
     if !pending.is_full() {
         return Ok(());
@@ -174,8 +163,7 @@ fn write_all<S: Alter>(
     tx: &mut Transaction<'_, S>,
     pending: &mut PendingBalances,
 ) -> Result<(), Error>
-    ensures { Runs S.Store tx.old.conn tx.new.conn result
-        (MakesBut pending.old.items [] (λ balances. balances)) }
+    ensures { KeepsBut S.Store tx.old tx.new result pending.old.items [] }
 {
     'writes: while !pending.is_empty() {
         write_last(tx, pending)?;
@@ -189,8 +177,7 @@ fn write_last<S: Alter>(
     pending: &mut PendingBalances,
 ) -> Result<(), Error>
     ensures rest { pending.new.items ≡ take (array_vec_len pending.old - 1) pending.old.items }
-    ensures runs { Runs S.Store tx.old.conn tx.new.conn result
-        (MakesBut pending.old.items pending.new.items (λ balances. balances)) }
+    ensures runs { KeepsBut S.Store tx.old tx.new result pending.old.items pending.new.items }
 {
     let Some(last) = pending.pop() else {
         return Ok(());

@@ -1,9 +1,7 @@
 //! A cut gives entries their places.
 ghost use Rattle.sql_statements.specs.Edits.{each_edit_from};
-ghost use Rattle.sql_statements.specs.Transactions.{Makes};
-ghost use Rattle.sql_statements.specs.Promises.{Runs};
-ghost use Rattle.sql_tables.specs.Layout.{desk_layout};
 ghost use Rattle.sql_tables.specs.TableEdits.{place_edit};
+ghost use Rattle.sql_writes.specs.DeskEdits.{Edits};
 
 use crate::cut::marks::MarkEntries;
 use crate::cut::numbers::PutNumbers;
@@ -19,8 +17,7 @@ pub(crate) fn place_entries<S: Alter>(
     first: u64,
     entries: &[SentEntry],
 ) -> Result<(), Error>
-    ensures { Runs S.Store tx.old.conn tx.new.conn result
-        (Makes desk_layout (each_edit_from place_edit first entries.now)) }
+    ensures { Edits S.Store tx.old tx.new result (each_edit_from place_edit first entries.now) }
 {
     run_runs(tx, &MarkEntries, first, entries)?;
     run_runs(tx, &PutNumbers, first, entries)?;

@@ -1,12 +1,11 @@
 //! A cut writes the places of entries: those of a run by one statement.
 ghost use Rattle.std.specs.Prelude.{◌≡◌, ◌<◌, ◌≤◌, ◌+◌, ◌^◌, Some, true, length, slice_get, IfOk};
 ghost use Rattle.sql_statements.specs.Edits.{each_edit_from};
-ghost use Rattle.sql_statements.specs.Transactions.{Makes};
-ghost use Rattle.sql_statements.specs.Promises.{Runs};
 ghost use Rattle.sql_tables.specs.Layout.{desk_layout};
 ghost use Rattle.sql_writes.specs.EntryRuns.{stands_after};
 ghost use Rattle.sql_writes.specs.PlaceEdits.{mark_entry_edit};
 ghost use Rattle.sql_writes.specs.Runs.{is_run};
+ghost use Rattle.sql_writes.specs.DeskEdits.{Edits};
 
 use crate::runs::RunBody;
 use desk_history::SentEntry;
@@ -92,8 +91,7 @@ fn mark_run<S: Alter>(
     requires first { slice_get run.now 0 ≡ Some first.now }
     requires run { is_run stands_after run.now ≡ true }
     requires after { first.now.index ≤ place }
-    ensures { Runs S.Store tx.old.conn tx.new.conn result
-        (Makes desk_layout (each_edit_from mark_entry_edit place run.now)) }
+    ensures { Edits S.Store tx.old tx.new result (each_edit_from mark_entry_edit place run.now) }
 {
     let before = place - first.index;
     let last = last_index(before, first.index, run.len())?;

@@ -4,11 +4,10 @@
 ghost use Rattle.std.specs.Prelude.{◌≡◌, ◌≤◌, ◌<◌, ◌+◌, IfOk, OnOk};
 ghost use Rattle.sqlite.specs.Values.{bound};
 ghost use Rattle.ach_fields.specs.Trace.{most_sequence};
-ghost use Rattle.sql_statements.specs.Transactions.{Makes};
-ghost use Rattle.sql_statements.specs.Promises.{Runs};
 ghost use Rattle.sql_tables.specs.Layout.{desk_layout};
 ghost use Rattle.sql_writes.specs.NumberRows.{held_number, stored_number};
 ghost use Rattle.sql_writes.specs.PlaceEdits.{put_number_edit, follows_in_sequence, clear_numbers_edit, insert_number_edit};
+ghost use Rattle.sql_writes.specs.DeskEdits.{Edits};
 
 use crate::batches::{BatchBody, run_batches};
 use crate::held_rows::{HoldBody, hold_sixteen};
@@ -70,8 +69,7 @@ fn last_sequence(from: u64, many: usize) -> Result<u64, Error>
 
 // Takes out the numbers of a range of sequences.
 fn clear_numbers<S: Alter>(tx: &mut Transaction<'_, S>, from: u64, to: u64) -> Result<(), Error>
-    ensures { Runs S.Store tx.old.conn tx.new.conn result
-        (Makes desk_layout (clear_numbers_edit from to)) }
+    ensures { Edits S.Store tx.old tx.new result (clear_numbers_edit from to) }
 {
     let first = natural(from)?;
     let last = natural(to)?;

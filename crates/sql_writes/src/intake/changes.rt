@@ -1,8 +1,8 @@
 //! The notifications of change of an incoming file are written.
-ghost use Rattle.sql_statements.specs.Transactions.{Makes};
-ghost use Rattle.sql_statements.specs.Promises.{Runs};
 ghost use Rattle.sql_tables.specs.Layout.{desk_layout};
-ghost use Rattle.sql_tables.specs.TableEdits.{put_change_edit, each_edit_on, next_number};
+ghost use Rattle.sql_tables.specs.TableEdits.{put_change_edit};
+ghost use Rattle.sql_writes.specs.DeskEdits.{Edits};
+ghost use Rattle.sql_writes.specs.IntakeEdits.{put_changes_edit};
 
 use crate::numbering::{NumberedTable, next_after};
 use desk_book::ChangedRow;
@@ -15,9 +15,7 @@ pub(crate) fn put_changes<S: Alter>(
     tx: &mut Transaction<'_, S>,
     changed: &[ChangedRow],
 ) -> Result<(), Error>
-    ensures { Runs S.Store tx.old.conn tx.new.conn result
-        (Makes desk_layout
-        (each_edit_on (λ t. next_number (λ c. c.number) t.changes) put_change_edit changed.now)) }
+    ensures { Edits S.Store tx.old tx.new result (put_changes_edit changed.now) }
 {
     let first = next_after(tx, NumberedTable::Changes)?;
     run_each(tx, &ChangeRows, first, changed)?;

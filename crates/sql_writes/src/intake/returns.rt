@@ -1,8 +1,6 @@
 //! The returns of an incoming file are written.
-ghost use Rattle.sql_statements.specs.Transactions.{Makes};
-ghost use Rattle.sql_statements.specs.Promises.{Runs};
-ghost use Rattle.sql_tables.specs.Layout.{desk_layout};
-ghost use Rattle.sql_tables.specs.TableEdits.{put_return_edit, each_edit_on, next_number};
+ghost use Rattle.sql_writes.specs.DeskEdits.{Edits};
+ghost use Rattle.sql_writes.specs.IntakeEdits.{put_returns_edit};
 
 use crate::batches::run_batches;
 use crate::intake::return_rows::ReturnRows;
@@ -16,9 +14,7 @@ pub(crate) fn put_returns<S: Alter>(
     tx: &mut Transaction<'_, S>,
     returned: &[ReturnedRow],
 ) -> Result<(), Error>
-    ensures { Runs S.Store tx.old.conn tx.new.conn result
-        (Makes desk_layout
-        (each_edit_on (λ t. next_number (λ r. r.number) t.returns) put_return_edit returned.now)) }
+    ensures { Edits S.Store tx.old tx.new result (put_returns_edit returned.now) }
 {
     let first = next_after(tx, NumberedTable::Returns)?;
     run_batches(tx, &ReturnRows, first, returned)?;

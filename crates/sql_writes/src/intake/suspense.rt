@@ -1,8 +1,8 @@
 //! The items of an incoming file that name no sent entry are written.
-ghost use Rattle.sql_statements.specs.Transactions.{Makes};
-ghost use Rattle.sql_statements.specs.Promises.{Runs};
 ghost use Rattle.sql_tables.specs.Layout.{desk_layout};
-ghost use Rattle.sql_tables.specs.TableEdits.{put_suspense_edit, each_edit_on, next_number};
+ghost use Rattle.sql_tables.specs.TableEdits.{put_suspense_edit};
+ghost use Rattle.sql_writes.specs.DeskEdits.{Edits};
+ghost use Rattle.sql_writes.specs.IntakeEdits.{put_suspense_rows_edit};
 
 use crate::numbering::{NumberedTable, next_after};
 use desk_history::SuspenseRow;
@@ -15,9 +15,7 @@ pub(crate) fn put_suspense<S: Alter>(
     tx: &mut Transaction<'_, S>,
     suspense: &[SuspenseRow],
 ) -> Result<(), Error>
-    ensures { Runs S.Store tx.old.conn tx.new.conn result
-        (Makes desk_layout (each_edit_on
-        (λ t. next_number (λ s. s.number) t.suspense) put_suspense_edit suspense.now)) }
+    ensures { Edits S.Store tx.old tx.new result (put_suspense_rows_edit suspense.now) }
 {
     let first = next_after(tx, NumberedTable::Suspense)?;
     run_each(tx, &SuspenseRows, first, suspense)?;

@@ -1,8 +1,6 @@
 //! An incoming file is kept, with its answer.
-ghost use Rattle.sql_statements.specs.Transactions.{Makes};
-ghost use Rattle.sql_statements.specs.Promises.{Runs};
-ghost use Rattle.sql_tables.specs.Layout.{desk_layout};
 ghost use Rattle.sql_tables.specs.TableEdits.{put_taken_edit};
+ghost use Rattle.sql_writes.specs.DeskEdits.{Edits};
 
 use desk_history::TakenFile;
 use sql_statements::{blob, execute};
@@ -14,8 +12,7 @@ pub(crate) fn put_taken<S: Alter>(
     tx: &mut Transaction<'_, S>,
     file: &TakenFile,
 ) -> Result<(), Error>
-    ensures { Runs S.Store tx.old.conn tx.new.conn result
-        (Makes desk_layout (put_taken_edit file.now)) }
+    ensures { Edits S.Store tx.old tx.new result (put_taken_edit file.now) }
 {
     let returns = natural(file.answer.returns)?;
     let changes = natural(file.answer.changes)?;

@@ -4,8 +4,8 @@ use Rattle.sqlite.specs.Held.{state}
 use Rattle.sqlite.specs.State.{HasCleanDisk}
 use Rattle.sqlite.proofs.StateLemmas.{survives_then}
 use Rattle.sql_writes.specs.LineEdits.{with_line}
-use Rattle.sql_writes.specs.PendingBalances.{pending_of, MakesBut}
-use Rattle.sql_writes.proofs.PendingSums.{summed, none_pending, none_in_front, but_read, but_then}
+use Rattle.sql_writes.specs.PendingBalances.{summed, pending_of, MakesBut}
+use Rattle.sql_writes.proofs.PendingSums.{none_pending, none_in_front, but_read, but_then}
 use Rattle.sql_writes.proofs.account_lines.pending.add_new.Goals as goal
 
 pub returns : goal.returns

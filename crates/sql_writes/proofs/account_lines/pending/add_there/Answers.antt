@@ -1,8 +1,8 @@
 use Rattle.std.proofs.Common.{◌≡◌, ◌+ℤ◌, length, set, get_or, to_z, of_z, sym, ap, ◌∙◌, subst, rules}
 use Rattle.std.specs.Int.{w64, w128}
 use Rattle.std.specs.List.{refill}
-use Rattle.sql_writes.specs.PendingBalances.{AddsLine}
-use Rattle.sql_writes.proofs.PendingSums.{summed, set_through, added_there}
+use Rattle.sql_writes.specs.PendingBalances.{summed, AddsLine}
+use Rattle.sql_writes.proofs.PendingSums.{set_through, added_there}
 use Rattle.sql_writes.proofs.account_lines.pending.add_there.Goals as goal
 
 pub returns : goal.returns
