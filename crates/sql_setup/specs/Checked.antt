@@ -10,6 +10,14 @@ use Rattle.sql_tables.specs.ByName.{IsStored}
 use Rattle.sql_tables.specs.Tables.{Tables}
 use Rattle.sql_setup.specs.Versions.{ShowsVersion}
 
+-- the row of the desk says the version of the desk's tables
+abbrev pub HasDeskVersion : (old new : State) → Type 0
+HasDeskVersion old new = ShowsVersion old new (pos version)
+
+-- and all tables and indexes are those of a desk
+abbrev pub HasDeskTables : (old new : State) → Type 0
+HasDeskTables old new = HasDeskVersion old new × (new.now.schema ≡ desk_schema)
+
 -- All tables and indexes are those of a desk, and the version is theirs. What is committed is seen: whatever records and
 -- whatever book the trees keep, the connection has.
 pub record IsDesk (old new : State) : Type 0 where

@@ -15,6 +15,22 @@ IsPlainColumn c = c.default ≡ Null
 abbrev pub no_stamps : Stamps
 no_stamps = record { places = []; terms = []; formats = [] }
 
+-- there is no CHECK, no reference, and no default that is computed
+abbrev pub HasColumnsAlone : Table → Type 0
+HasColumnsAlone t = (t.checks ≡ []) × (t.references ≡ []) × (t.computed ≡ []) × (t.stamps ≡ no_stamps)
+
+-- two tables have the same primary key and UNIQUE keys, in the same orders
+abbrev pub HaveSameKeys : (this other : Table) → Type 0
+HaveSameKeys this other =
+    (this.key ≡ other.key) × (this.primary ≡ other.primary)
+    × (this.uniques ≡ other.uniques) × (this.orders ≡ other.orders)
+
+-- where they have the same, this holds
+abbrev pub IfSameKeys : (this other : Table) → (Holds : Type 0) → Type 0
+IfSameKeys this other Holds =
+    this.key ≡ other.key → this.primary ≡ other.primary
+    → this.uniques ≡ other.uniques → this.orders ≡ other.orders → Holds
+
 -- there is no CHECK, no reference, and no default
 pub record IsPlainTable (t : Table) : Type 0 where
   pub columns : AllByRecursion IsPlainColumn t.columns

@@ -1,15 +1,19 @@
 -- Why a database is refused where a desk of one version is asked for, and what the refused call leaves.
-use Rattle.std.specs.Prelude.{◌≡◌, ◌≢◌, ◌⊎◌, ◌↔◌, ℕ, ℤ, pos, false, List, [], Some, slice_get, ⊤, IsTrue}
+use Rattle.std.specs.Prelude.{◌≡◌, ◌≢◌, ◌⊎◌, ◌↔◌, ℕ, ℤ, pos, Bool, false, List, [], Some, slice_get, Result, Err, ⊤, IsTrue}
 use Rattle.sqlite_trees.specs.Tree.{Trees}
 use Rattle.sqlite_trees.specs.declared.store.Store.{Ghosts}
 use Rattle.sqlite.specs.Held.{Held, state}
-use Rattle.sqlite.specs.State.{HasCleanDisk, Survives, Shown}
+use Rattle.sqlite.specs.State.{State, HasCleanDisk, Survives, Shown}
 use Rattle.sqlite_value.specs.Order.{Row}
 use Rattle.sql_statements.specs.Queries.{Stays}
 use Rattle.sql_setup.specs.Setup.{HasDesk}
 use Rattle.sql_setup.specs.Versions.{row_text, version_text, version_row, IsOfVersion}
 use Rattle.sql_setup.specs.declared.fault.OpenFault.{OpenFault}
 use Rattle.sql_setup.specs.declared.fault.OpenFault.TheVariants.{NotADesk, WrongVersion, Unavailable, Exists}
+
+-- a fault of making a desk
+abbrev pub IsOfMaking : OpenFault → Type 0
+IsOfMaking fault = (fault ≡ Exists) ⊎ (fault ≡ Unavailable)
 
 module _ {X : Type 0} (g : Ghosts X) where
   -- a query of the database that the connection sees showed these rows
@@ -19,6 +23,18 @@ module _ {X : Type 0} (g : Ghosts X) where
     pub to : Held X
     pub seen : (state g from).now ≡ (state g c).now
     pub shown : Shown text [] (state g from) (state g to) rows
+
+  -- a query of a row showed rows, and none where this is true
+  abbrev pub TellsEmpty : Held X → (none : Bool) → (old new : State) → Type 0
+  TellsEmpty c none old new = (rows : List Row) × Showed c row_text rows × (IsTrue none → rows ≡ [])
+
+  -- where the disk is clean as it ends, it is NotADesk only of a table that has no row
+  abbrev pub TellsNoRow : (was left : Held X) → OpenFault → Type 0
+  TellsNoRow was left fault = HasCleanDisk (state g left) → fault ≡ NotADesk → Showed was row_text []
+
+  -- outside of a transaction, where there is no table `desk`, that is the fault
+  abbrev pub TellsNoDesk : {A : Type 0} → Held X → Result A OpenFault → Type 0
+  TellsNoDesk was result = was.in_transaction ≡ false → ¬ HasDesk (state g was).now.schema → result ≡ Err NotADesk
 
   -- there is no table `desk`, or it has no row
   abbrev pub HasNoDesk : Held X → Type 0

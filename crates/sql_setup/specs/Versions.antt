@@ -1,5 +1,5 @@
 -- What the row of the desk says of the version of the tables.
-use Rattle.std.specs.Prelude.{◌≡◌, ◌⊎◌, ℕ, ℤ, List, [], ◌∷◌, codes, drop, Some}
+use Rattle.std.specs.Prelude.{◌≡◌, ◌⊎◌, ℕ, ℤ, List, [], ◌∷◌, codes, drop, Option, Some}
 use Rattle.sqlite.specs.Effect.{Database}
 use Rattle.sqlite.specs.State.{State}
 use Rattle.sqlite_value.specs.declared.value.Value.TheVariants.{Int}
@@ -23,6 +23,10 @@ row_text = codes "SELECT 1 FROM desk LIMIT 1"
 
 abbrev pub version_row : (version : ℤ) → Row
 version_row n = Int n ∷ []
+
+-- the first row of a query has the version that was found, if there is a row
+abbrev pub ReadsVersion : (sql : List ℕ) → (found : Option ℤ) → (old new : State) → Type 0
+ReadsVersion sql found old new = ReadsFirst sql [] version_row old new found
 
 -- the query of the version shows this one
 abbrev pub ShowsVersion : (old new : State) → (version : ℤ) → Type 0

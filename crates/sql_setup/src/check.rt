@@ -1,13 +1,10 @@
 //! A connection is told to have a desk's tables.
-ghost use Rattle.std.specs.Prelude.{◌≡◌, ◌≢◌, false, pos, Err, IfErr};
-ghost use Rattle.sqlite.specs.Held.{state};
+ghost use Rattle.std.specs.Prelude.{◌≡◌, ◌≢◌, IfErr};
 ghost use Rattle.sql_statements.specs.Promises.{SucceedsIn, LeavesNothingNew, SeesStill};
 ghost use Rattle.sql_tables.specs.Schema.{desk_schema};
 ghost use Rattle.sql_tables.specs.DeskTables.{version};
-ghost use Rattle.sql_setup.specs.Checked.{IsDesk};
-ghost use Rattle.sql_setup.specs.Refusals.{IsRefused};
-ghost use Rattle.sql_setup.specs.Setup.{HasDesk};
-ghost use Rattle.sql_setup.specs.Versions.{ShowsVersion};
+ghost use Rattle.sql_setup.specs.Checked.{IsDesk, HasDeskVersion, HasDeskTables};
+ghost use Rattle.sql_setup.specs.Refusals.{IsRefused, TellsNoDesk};
 
 use crate::fault::OpenFault;
 use crate::pattern::empty_tables;
@@ -21,8 +18,7 @@ use std::alloc::Global;
 // Tells that the row of the desk has the version of this crate's tables, whatever the other columns and
 // tables are.
 fn check_version<S: Alter>(conn: &mut Connection<S>) -> Result<(), OpenFault>
-    ensures version { SucceedsIn S.Store conn.old conn.new result
-        (λ before after. ShowsVersion before after (pos version)) }
+    ensures version { SucceedsIn S.Store conn.old conn.new result HasDeskVersion }
     ensures refused { IfErr result (IsRefused S.Store version conn.old conn.new) }
     ensures otherwise { IfErr result (λ fault. fault ≢ OpenFault.Exists) }
     ensures stays { SeesStill S.Store conn.old conn.new }
@@ -41,9 +37,7 @@ fn check_version<S: Alter>(conn: &mut Connection<S>) -> Result<(), OpenFault>
 // the desk has its version.
 fn check_tables<S: Alter>(conn: &mut Connection<S>, pattern: &Schema) -> Result<(), OpenFault>
     requires { pattern.now ≡ desk_schema }
-    ensures checked { SucceedsIn S.Store conn.old conn.new result
-        (λ before after. ShowsVersion before after (pos version)
-        × (after.now.schema ≡ desk_schema)) }
+    ensures checked { SucceedsIn S.Store conn.old conn.new result HasDeskTables }
     ensures refused { IfErr result (IsRefused S.Store version conn.old conn.new) }
     ensures otherwise { IfErr result (λ fault. fault ≢ OpenFault.Exists) }
     ensures stays { SeesStill S.Store conn.old conn.new }
@@ -64,8 +58,7 @@ fn check_tables<S: Alter>(conn: &mut Connection<S>, pattern: &Schema) -> Result<
 /// a connection that is inside a transaction, is `OpenFault::Unavailable`.
 pub fn check_desk<S: Alter>(alloc: Global, conn: &mut Connection<S>) -> Result<(), OpenFault>
     ensures checked { SucceedsIn S.Store conn.old conn.new result IsDesk }
-    ensures absent { conn.old.in_transaction ≡ false → ¬ HasDesk (state S.Store conn.old).now.schema
-        → result ≡ Err OpenFault.NotADesk }
+    ensures absent { TellsNoDesk S.Store conn.old result }
     ensures refused { IfErr result (IsRefused S.Store version conn.old conn.new) }
     ensures otherwise { IfErr result (λ fault. fault ≢ OpenFault.Exists) }
     ensures stays { SeesStill S.Store conn.old conn.new }

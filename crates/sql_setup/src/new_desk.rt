@@ -1,14 +1,10 @@
 //! A new desk is made in a blank database.
-ghost use Rattle.std.specs.Prelude.{◌≡◌, ◌⊎◌, ◌↔◌, [], false, Err, OnOk, IfErr};
+ghost use Rattle.std.specs.Prelude.{◌≡◌, ◌↔◌, [], false, Err, OnOk, IfErr};
 ghost use Rattle.sqlite.specs.Held.{state};
-ghost use Rattle.sqlite.specs.State.{Survives};
-ghost use Rattle.sql_statements.specs.Definitions.{IsBlank};
-ghost use Rattle.sql_statements.specs.Layouts.{Holds};
-ghost use Rattle.sql_statements.specs.Promises.{Runs, SucceedsIn, FailsUnchanged, GoesOn};
-ghost use Rattle.desk_book.specs.Book.{book_of};
-ghost use Rattle.sql_tables.specs.Schema.{desk_schema, schema_of};
-ghost use Rattle.sql_tables.specs.Layout.{desk_layout, Keeps};
-ghost use Rattle.sql_setup.specs.Setup.{new_tables, HasDesk, setup_layout, new_desk_edit, HasNewDesk};
+ghost use Rattle.sql_statements.specs.Promises.{Runs, SucceedsIn, FailsUnchanged};
+ghost use Rattle.sql_tables.specs.Schema.{schema_of};
+ghost use Rattle.sql_setup.specs.Refusals.{IsOfMaking};
+ghost use Rattle.sql_setup.specs.Setup.{KeepsNewDesk, HasDesk, setup_layout, new_desk_edit, HasOwnDigits, PutsRow, MayLeave, HasNewDesk};
 
 use crate::blank::{check_name, is_blank};
 use crate::create::create_tables;
@@ -31,12 +27,8 @@ struct NewRow {
 
 // Writes the row of the desk into tables that have no rows.
 fn put_desk<S: Alter>(tx: &mut Transaction<'_, S>, row: &NewRow) -> Result<(), Error>
-    requires { (row.now.odfi ≡ row.now.identity.odfi)
-        × (row.now.destination ≡ row.now.identity.destination) }
-    ensures { Runs S.Store tx.old.conn tx.new.conn result
-        (λ before after. (IsBlank desk_schema before.now
-        → Holds desk_layout after.now (new_tables row.now.identity row.now.operator_key))
-        × GoesOn before after) }
+    requires { HasOwnDigits row.now }
+    ensures { Runs S.Store tx.old.conn tx.new.conn result (PutsRow row.now) }
 {
     execute(
         tx,
@@ -90,8 +82,7 @@ fn set_up<S: Alter>(
     requires { (state S.Store conn.old).now.schema ≡ schema_of [] }
     ensures made { SucceedsIn S.Store conn.old conn.new result (HasNewDesk identity operator_key) }
     ensures unmade { FailsUnchanged S.Store conn.old conn.new result }
-    ensures survives { Survives (state S.Store conn.old) (state S.Store conn.new)
-        (λ trees. Keeps trees (book_of identity operator_key [])) }
+    ensures survives { MayLeave S.Store conn.old conn.new (KeepsNewDesk identity operator_key) }
     ensures ended { conn.old.in_transaction ≡ false → conn.new.in_transaction ≡ false }
 {
     let body = NewDesk {
@@ -114,13 +105,11 @@ pub fn make_desk<S: Alter>(
 ) -> Result<(), OpenFault>
     ensures exists { (result ≡ Err OpenFault.Exists) ↔ HasDesk (state S.Store conn.old).now.schema }
     ensures untouched { result ≡ Err OpenFault.Exists → conn.new ≡ conn.old }
-    ensures otherwise { IfErr result
-        (λ fault. (fault ≡ OpenFault.Exists) ⊎ (fault ≡ OpenFault.Unavailable)) }
+    ensures otherwise { IfErr result IsOfMaking }
     ensures blank { OnOk result ((state S.Store conn.old).now.schema ≡ schema_of []) }
     ensures made { SucceedsIn S.Store conn.old conn.new result (HasNewDesk identity operator_key) }
     ensures unmade { FailsUnchanged S.Store conn.old conn.new result }
-    ensures survives { Survives (state S.Store conn.old) (state S.Store conn.new)
-        (λ trees. Keeps trees (book_of identity operator_key [])) }
+    ensures survives { MayLeave S.Store conn.old conn.new (KeepsNewDesk identity operator_key) }
     ensures ended { conn.old.in_transaction ≡ false → conn.new.in_transaction ≡ false }
 {
     let schema = conn.schema();

@@ -1,11 +1,7 @@
 //! A table `desk` is told to have a row.
-ghost use Rattle.std.specs.Prelude.{◌≡◌, ◌⊎◌, List, [], false, IsTrue};
-ghost use Rattle.sqlite.specs.Held.{state};
-ghost use Rattle.sqlite.specs.State.{HasCleanDisk};
-ghost use Rattle.sqlite_value.specs.Order.{Row};
+ghost use Rattle.std.specs.Prelude.{◌≡◌, ◌⊎◌, false};
 ghost use Rattle.sql_statements.specs.Promises.{SucceedsWith, LeavesNothingNew, SeesStill};
-ghost use Rattle.sql_setup.specs.Refusals.{Showed};
-ghost use Rattle.sql_setup.specs.Versions.{row_text};
+ghost use Rattle.sql_setup.specs.Refusals.{TellsEmpty, TellsNoRow};
 
 use crate::fault::OpenFault;
 use sql_statements::query_first_inside;
@@ -14,9 +10,7 @@ use sqlite::{Alter, Connection, Error};
 // Has the table no row? It is read in a transaction of its own, so that none stays open where the read
 // fails.
 fn is_empty<S: Alter>(conn: &mut Connection<S>) -> Result<bool, Error>
-    ensures shown { SucceedsWith S.Store conn.old conn.new result
-        (λ none _ _. (rows : List Row) × Showed S.Store conn.old row_text rows
-        × (IsTrue none → rows ≡ [])) }
+    ensures shown { SucceedsWith S.Store conn.old conn.new result (TellsEmpty S.Store conn.old) }
     ensures stays { SeesStill S.Store conn.old conn.new }
     ensures survives { LeavesNothingNew S.Store conn.old conn.new }
     ensures ended { conn.old.in_transaction ≡ false → conn.new.in_transaction ≡ false }
@@ -33,8 +27,7 @@ fn is_empty<S: Alter>(conn: &mut Connection<S>) -> Result<bool, Error>
 /// Tells why no version was read of a table `desk`: it has no row, which is `OpenFault::NotADesk`; else
 /// it is `OpenFault::Unavailable`.
 pub fn unread_fault<S: Alter>(conn: &mut Connection<S>) -> OpenFault
-    ensures no_row { HasCleanDisk (state S.Store conn.new) → result ≡ OpenFault.NotADesk
-        → Showed S.Store conn.old row_text [] }
+    ensures no_row { TellsNoRow S.Store conn.old conn.new result }
     ensures otherwise { (result ≡ OpenFault.NotADesk) ⊎ (result ≡ OpenFault.Unavailable) }
     ensures stays { SeesStill S.Store conn.old conn.new }
     ensures survives { LeavesNothingNew S.Store conn.old conn.new }

@@ -1,7 +1,7 @@
 //! Two schemas of plain tables are told to be the same.
 ghost use Rattle.std.specs.Prelude.{◌≡◌, ◌↔◌, [], ⊤, IsTrue, None};
 ghost use Rattle.std.specs.List.{AllByRecursion};
-ghost use Rattle.sql_setup.specs.Plain.{IsPlainColumn, IsPlainTable, IsPlainSchema, no_stamps};
+ghost use Rattle.sql_setup.specs.Plain.{IsPlainColumn, IsPlainTable, IsPlainSchema, no_stamps, HasColumnsAlone, HaveSameKeys, IfSameKeys};
 
 use sqlite_items::Items;
 use sqlite_schema::code::Terms;
@@ -82,8 +82,7 @@ fn stamps_nothing(stamps: &Stamps) -> bool
 
 // Has the table no CHECK, no reference and no default that is computed?
 fn is_plain(table: &Table) -> bool
-    ensures { IsTrue result ↔ ((table.now.checks ≡ [])
-        × (table.now.references ≡ []) × (table.now.computed ≡ []) × (table.now.stamps ≡ no_stamps)) }
+    ensures { IsTrue result ↔ HasColumnsAlone table.now }
 {
     are_none(&table.checks)
         && table.references.is_empty()
@@ -125,11 +124,8 @@ fn are_same_orders(these: &[Order], others: &[Order]) -> bool
 
 // Have the tables the same primary key, which both name as the rowid or neither does, and the same UNIQUE keys?
 fn have_same_keys(this: &Table, other: &Table) -> bool
-    ensures told { IsTrue result → (this.now.key ≡ other.now.key) × (this.now.primary ≡ other.now.primary)
-        × (this.now.uniques ≡ other.now.uniques) × (this.now.orders ≡ other.now.orders) }
-    ensures found { this.now.key ≡ other.now.key → this.now.primary ≡ other.now.primary
-        → this.now.uniques ≡ other.now.uniques → this.now.orders ≡ other.now.orders
-        → IsTrue result }
+    ensures told { IsTrue result → HaveSameKeys this.now other.now }
+    ensures found { IfSameKeys this.now other.now (IsTrue result) }
 {
     this.key == other.key
         && this.primary.as_slice() == other.primary.as_slice()

@@ -1,9 +1,8 @@
 //! The version of the tables.
-ghost use Rattle.std.specs.Prelude.{◌≡◌, [], IfOk, option_map, slice_get};
+ghost use Rattle.std.specs.Prelude.{◌≡◌, IfOk, option_map, slice_get};
 ghost use Rattle.sql_statements.specs.SelectTexts.{IsSelectText};
 ghost use Rattle.sql_statements.specs.Promises.{AskedOn};
-ghost use Rattle.sql_query_laws.specs.Shows.{ReadsFirst};
-ghost use Rattle.sql_setup.specs.Versions.{version_text, version_row};
+ghost use Rattle.sql_setup.specs.Versions.{version_text, version_row, ReadsVersion};
 
 use sql_statements::query;
 use sql_tables::read_only_column;
@@ -28,8 +27,7 @@ fn read_version(rows: &[Row]) -> Result<Option<i64>, Error>
 // Gives the version that the first row of a query has. The text has to be a SELECT.
 fn version_of<S: Alter>(conn: &mut Connection<S>, sql: &str) -> Result<Option<i64>, Error>
     requires { IsSelectText sql.now }
-    ensures { AskedOn S.Store conn.old conn.new result
-        (λ found before after. ReadsFirst sql.now [] version_row before after found) }
+    ensures { AskedOn S.Store conn.old conn.new result (ReadsVersion sql.now) }
 {
     let rows = query(conn, sql, &[])?;
     read_version(&rows)
@@ -37,8 +35,7 @@ fn version_of<S: Alter>(conn: &mut Connection<S>, sql: &str) -> Result<Option<i6
 
 /// Gives the version that the row of the desk says, where there is a row.
 pub(crate) fn found_version<S: Alter>(conn: &mut Connection<S>) -> Result<Option<i64>, Error>
-    ensures { AskedOn S.Store conn.old conn.new result
-        (λ found before after. ReadsFirst version_text [] version_row before after found) }
+    ensures { AskedOn S.Store conn.old conn.new result (ReadsVersion version_text) }
 {
     version_of(conn, "SELECT version FROM desk WHERE id = 1 ORDER BY id")
 }
