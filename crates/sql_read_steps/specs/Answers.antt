@@ -1,5 +1,6 @@
 -- What a read answers of the tables of a desk, and what it leaves.
-use Rattle.std.specs.Prelude.{IsTrue, Result}
+use Rattle.std.specs.Prelude.{◌≡◌, IsTrue, List, map, Result, Vec}
+use Rattle.std.specs.declared.alloc.Global.{Global}
 use Rattle.sqlite_trees.specs.declared.store.Store.{Ghosts}
 use Rattle.sqlite.specs.Held.{Held, state}
 use Rattle.sqlite.specs.State.{State}
@@ -25,3 +26,14 @@ module _ {A E : Type 0} (Tells : A → Tables → Type 0) (result : Result A E) 
 -- the same of a connection, as contracts have it; `g` says what a database over this storage holds
 abbrev pub LearnsOn : {S A E : Type 0} → (g : Ghosts S) → (old new : Held S) → Result A E → (Tells : A → Tables → Type 0) → Type 0
 LearnsOn g old new result Tells = Learns Tells result (state g old) (state g new)
+
+-- what was found of an item shows what the tables have for it
+abbrev pub ShowsItem : {Item Found Shown : Type 0} → (shown : Found → Shown) → (value : Tables → Item → Shown) → Item
+    → Found → Tables → Type 0
+ShowsItem shown value item found t = shown found ≡ value t item
+
+-- what was found of each item of a list, one after another, shows what the tables have for it
+abbrev pub LearnsEach : {S Item Found Shown E : Type 0} → (g : Ghosts S) → (old new : Held S)
+    → Result (Vec Found Global) E → (shown : Found → Shown) → (value : Tables → Item → Shown) → List Item → Type 0
+LearnsEach g old new result shown value items =
+    LearnsOn g old new result (λ found t. map shown found.items ≡ map (value t) items)

@@ -1,8 +1,8 @@
 //! A read does the same for each item of a list.
-ghost use Rattle.std.specs.Prelude.{◌≡◌, map, IfOk};
+ghost use Rattle.std.specs.Prelude.{◌≡◌, IfOk};
 ghost use Rattle.std.specs.List.{flat_map};
 ghost use Rattle.sql_tables.specs.Tables.{Tables};
-ghost use Rattle.sql_read_steps.specs.Answers.{LearnsOn};
+ghost use Rattle.sql_read_steps.specs.Answers.{LearnsEach, LearnsOn, ShowsItem};
 
 use desk_store::StoreFault;
 use emptying_lists::EmptyingList;
@@ -32,7 +32,7 @@ pub trait ItemRead {
         item: &Self::Item,
     ) -> Result<Self::Found, StoreFault>
         ensures { LearnsOn S.Store conn.old conn.new result
-            (λ found t. shown found ≡ value self.now t item.now) };
+            (ShowsItem shown (value self.now) item.now) };
 }
 
 /// Reads what belongs to each item of a list, in its order. The items are let go as they are read, so
@@ -43,9 +43,8 @@ pub fn read_each<S: Alter, R: ItemRead>(
     read: &R,
     items: Vec<R::Item>,
 ) -> Result<Vec<R::Found>, StoreFault>
-    ensures { LearnsOn S.Store conn.old conn.new result
-        (λ found t. map R.ItemRead.shown found.items ≡ map (R.ItemRead.value read.now t)
-        items.items) }
+    ensures { LearnsEach S.Store conn.old conn.new result R.ItemRead.shown
+        (R.ItemRead.value read.now) items.items }
 {
     let mut left = EmptyingList::new(items);
     let mut all = Vec::new(alloc);
