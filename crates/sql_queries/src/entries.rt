@@ -1,7 +1,6 @@
 //! Entries, and the places of those that were sent.
-ghost use Rattle.std.specs.Prelude.{◌≡◌};
 ghost use Rattle.sql_tables.specs.TableReads.{entries_in, amounts_in, cents_in, entry_at_place, entry_places_in, place_in, places_between, IsLastNumber};
-ghost use Rattle.sql_queries.specs.Asking.{Asks};
+ghost use Rattle.sql_queries.specs.Asking.{Asks, AreThe, IsThe};
 
 use crate::rows::{all_of, cell_of, column_of, first_of};
 use ach_fields::Id;
@@ -18,8 +17,7 @@ pub fn entries_of<S: Alter>(
     company: Id,
     order: u64,
 ) -> Result<Vec<NumberedEntry>, Error>
-    ensures { Asks S.Store conn.old conn.new result
-        (λ found t. found.items ≡ entries_in company order t) }
+    ensures { Asks S.Store conn.old conn.new result (AreThe (entries_in company order)) }
 {
     all_of(
         conn,
@@ -36,8 +34,7 @@ pub fn amounts_of<S: Alter>(
     company: Id,
     order: u64,
 ) -> Result<Vec<EntryAmount>, Error>
-    ensures { Asks S.Store conn.old conn.new result
-        (λ found t. found.items ≡ amounts_in company order t) }
+    ensures { Asks S.Store conn.old conn.new result (AreThe (amounts_in company order)) }
 {
     all_of(
         conn,
@@ -49,7 +46,7 @@ pub fn amounts_of<S: Alter>(
 
 /// Gives the sum of their cents. `Error::InvalidQuery` says that it is past 2^63 - 1.
 pub fn cents_of<S: Alter>(conn: &mut Connection<S>, company: Id, order: u64) -> Result<u64, Error>
-    ensures { Asks S.Store conn.old conn.new result (λ found t. found ≡ cents_in company order t) }
+    ensures { Asks S.Store conn.old conn.new result (IsThe (cents_in company order)) }
 {
     match cell_of(
         conn,
@@ -66,7 +63,7 @@ pub fn sent_entry<S: Alter>(
     conn: &mut Connection<S>,
     place: u64,
 ) -> Result<Option<PlacedEntry>, Error>
-    ensures { Asks S.Store conn.old conn.new result (λ found t. found ≡ entry_at_place place t) }
+    ensures { Asks S.Store conn.old conn.new result (IsThe (entry_at_place place)) }
 {
     first_of(
         conn,
@@ -83,8 +80,7 @@ pub fn entry_places<S: Alter>(
     from: u64,
     to: u64,
 ) -> Result<Vec<EntryPlace>, Error>
-    ensures { Asks S.Store conn.old conn.new result
-        (λ found t. found.items ≡ entry_places_in from to t) }
+    ensures { Asks S.Store conn.old conn.new result (AreThe (entry_places_in from to)) }
 {
     all_of(
         conn,
@@ -100,7 +96,7 @@ const PLACES: &str =
 
 /// Finds the place of the youngest sent entry that has a sequence.
 pub fn place<S: Alter>(conn: &mut Connection<S>, sequence: u32) -> Result<Option<u64>, Error>
-    ensures { Asks S.Store conn.old conn.new result (λ found t. found ≡ place_in sequence t) }
+    ensures { Asks S.Store conn.old conn.new result (IsThe (place_in sequence)) }
 {
     cell_of(
         conn,
@@ -116,8 +112,7 @@ pub fn places<S: Alter>(
     from: u32,
     to: u32,
 ) -> Result<Vec<u64>, Error>
-    ensures { Asks S.Store conn.old conn.new result
-        (λ found t. found.items ≡ places_between from to t) }
+    ensures { Asks S.Store conn.old conn.new result (AreThe (places_between from to)) }
 {
     column_of(
         conn,

@@ -1,7 +1,6 @@
 //! Files: those that were cut, and those that were taken.
-ghost use Rattle.std.specs.Prelude.{◌≡◌, option_map};
-ghost use Rattle.sql_tables.specs.TableReads.{modifiers_in, text_in, taken_in};
-ghost use Rattle.sql_queries.specs.Asking.{Asks};
+ghost use Rattle.sql_tables.specs.TableReads.{modifiers_in, taken_in};
+ghost use Rattle.sql_queries.specs.Asking.{Asks, AreThe, IsTextOf, IsThe};
 
 use crate::rows::{blob_of, column_of, first_of};
 use bank_days::Day;
@@ -16,7 +15,7 @@ pub fn modifiers<S: Alter>(
     alloc: Global,
     day: Day,
 ) -> Result<Vec<u8>, Error>
-    ensures { Asks S.Store conn.old conn.new result (λ found t. found.items ≡ modifiers_in day t) }
+    ensures { Asks S.Store conn.old conn.new result (AreThe (modifiers_in day)) }
 {
     column_of(
         conn,
@@ -31,7 +30,7 @@ pub fn taken_file<S: Alter>(
     conn: &mut Connection<S>,
     key: [u8; 21],
 ) -> Result<Option<TakenFile>, Error>
-    ensures { Asks S.Store conn.old conn.new result (λ found t. found ≡ taken_in key t) }
+    ensures { Asks S.Store conn.old conn.new result (IsThe (taken_in key)) }
 {
     first_of(
         conn,
@@ -47,8 +46,7 @@ pub fn file_text<S: Alter>(
     day: Day,
     modifier: u8,
 ) -> Result<Option<Vec<u8>>, Error>
-    ensures { Asks S.Store conn.old conn.new result
-        (λ found t. option_map (λ v. v.items) found ≡ text_in day modifier t) }
+    ensures { Asks S.Store conn.old conn.new result (IsTextOf day modifier) }
 {
     let letter = [modifier];
     blob_of(

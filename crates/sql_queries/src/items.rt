@@ -1,8 +1,9 @@
 //! What came back of entries.
-ghost use Rattle.std.specs.Prelude.{◌≡◌, IsPermutation, IsSorted};
+ghost use Rattle.std.specs.Prelude.{IsPermutation, IsSorted};
 ghost use Rattle.sql_queries.specs.ByNumber.{by_line_number};
-ghost use Rattle.sql_tables.specs.TableReads.{number_of_last, returns_in, return_at, orders_returned, return_lines_in, change_lines_in, suspense_in};
-ghost use Rattle.sql_queries.specs.Asking.{Asks};
+ghost use Rattle.sql_tables.specs.TableReads.{returns_in, return_at, orders_returned, return_lines_in, change_lines_in, suspense_in};
+ghost use Rattle.sql_queries.specs.Suspense.{last_suspense_in};
+ghost use Rattle.sql_queries.specs.Asking.{Asks, AreThe, IsThe};
 
 use crate::rows::{all_of, cell_of, column_of, first_of};
 use ach_fields::Id;
@@ -18,8 +19,7 @@ pub fn returns<S: Alter>(
     company: Id,
     order: u64,
 ) -> Result<Vec<EntryReturn>, Error>
-    ensures { Asks S.Store conn.old conn.new result
-        (λ found t. found.items ≡ returns_in company order t) }
+    ensures { Asks S.Store conn.old conn.new result (AreThe (returns_in company order)) }
 {
     all_of(
         conn,
@@ -36,8 +36,7 @@ pub fn entry_return<S: Alter>(
     order: u64,
     index: u64,
 ) -> Result<Option<EntryReturn>, Error>
-    ensures { Asks S.Store conn.old conn.new result
-        (λ found t. found ≡ return_at company order index t) }
+    ensures { Asks S.Store conn.old conn.new result (IsThe (return_at company order index)) }
 {
     first_of(
         conn,
@@ -58,8 +57,7 @@ pub fn orders_returned<S: Alter>(
     company: Id,
     since: u64,
 ) -> Result<Vec<u64>, Error>
-    ensures { Asks S.Store conn.old conn.new result
-        (λ found t. found.items ≡ orders_returned company since t) }
+    ensures { Asks S.Store conn.old conn.new result (AreThe (orders_returned company since)) }
 {
     column_of(
         conn,
@@ -75,8 +73,7 @@ pub fn return_lines<S: Alter>(
     alloc: Global,
     company: Id,
 ) -> Result<Vec<ReturnLine>, Error>
-    ensures { Asks S.Store conn.old conn.new result
-        (λ found t. found.items ≡ return_lines_in company t) }
+    ensures { Asks S.Store conn.old conn.new result (AreThe (return_lines_in company)) }
 {
     // No index gives them by their numbers, and the engine would hold all of them to sort them.
     let lines = all_of(
@@ -103,8 +100,7 @@ pub fn change_lines<S: Alter>(
     alloc: Global,
     company: Id,
 ) -> Result<Vec<ChangeLine>, Error>
-    ensures { Asks S.Store conn.old conn.new result
-        (λ found t. found.items ≡ change_lines_in company t) }
+    ensures { Asks S.Store conn.old conn.new result (AreThe (change_lines_in company)) }
 {
     all_of(
         conn,
@@ -119,7 +115,7 @@ pub fn suspense<S: Alter>(
     conn: &mut Connection<S>,
     alloc: Global,
 ) -> Result<Vec<SuspenseRow>, Error>
-    ensures { Asks S.Store conn.old conn.new result (λ found t. found.items ≡ suspense_in t) }
+    ensures { Asks S.Store conn.old conn.new result (AreThe suspense_in) }
 {
     all_of(
         conn,
@@ -131,8 +127,7 @@ pub fn suspense<S: Alter>(
 
 /// Gives the number of the last item in suspense, 0 before the first.
 pub fn last_suspense_number<S: Alter>(conn: &mut Connection<S>) -> Result<u64, Error>
-    ensures { Asks S.Store conn.old conn.new result
-        (λ found t. found ≡ number_of_last (λ s. s.number) t.suspense) }
+    ensures { Asks S.Store conn.old conn.new result (IsThe last_suspense_in) }
 {
     match cell_of(
         conn,

@@ -2,7 +2,7 @@
 ghost use Rattle.std.specs.Prelude.{◌≡◌, IfOk, map};
 ghost use Rattle.sql_tables.specs.TableReads.{lines_in, sums_in};
 ghost use Rattle.sql_query_laws.specs.Postings.{posting_of};
-ghost use Rattle.sql_queries.specs.Asking.{Asks};
+ghost use Rattle.sql_queries.specs.Asking.{Asks, AreThe};
 
 use crate::rows::all_of;
 use desk_accounts::{Account, Posting};
@@ -18,7 +18,7 @@ pub fn postings<S: Alter>(
     alloc: Global,
     account: Account,
 ) -> Result<Vec<Posting>, Error>
-    ensures { Asks S.Store conn.old conn.new result (λ found t. found.items ≡ lines_in account t) }
+    ensures { Asks S.Store conn.old conn.new result (AreThe (lines_in account)) }
 {
     let text = account_text(&account);
     let lines = all_of(
@@ -59,7 +59,7 @@ pub fn sums<S: Alter>(
     alloc: Global,
     account: Account,
 ) -> Result<Vec<DaySum>, Error>
-    ensures { Asks S.Store conn.old conn.new result (λ found t. found.items ≡ sums_in account t) }
+    ensures { Asks S.Store conn.old conn.new result (AreThe (sums_in account)) }
 {
     let text = account_text(&account);
     all_of(

@@ -1,14 +1,11 @@
 //! The rows of a query are read one at a time, up to the last, or up to one behind which nobody looks.
-ghost use Rattle.std.specs.Prelude.{◌≡◌, ◌⊎◌, Bool, Option, option_map, IfOk, IfErr, OnOk};
+ghost use Rattle.std.specs.Prelude.{◌≡◌, Bool, IfOk};
 ghost use Rattle.std.specs.List.{AllByRecursion};
-ghost use Rattle.sqlite.specs.Given.{Advances};
-ghost use Rattle.sqlite.specs.Held.{state};
-ghost use Rattle.sqlite.specs.State.{HasCleanDisk, IsUnchanged, Fails};
-ghost use Rattle.sqlite.specs.Values.{bound};
+ghost use Rattle.sqlite.specs.State.{IsUnchanged};
 ghost use Rattle.sql_statements.specs.SelectTexts.{IsSelectText};
-ghost use Rattle.sql_statements.specs.Promises.{SucceedsWith, LeavesNothingNew, SeesStill};
+ghost use Rattle.sql_statements.specs.Promises.{SucceedsIn, LeavesNothingNew, SeesStill};
 ghost use Rattle.sql_tables.specs.Ranges.{FitsIfAny};
-ghost use Rattle.sql_query_laws.specs.Shows.{ReadsWhile};
+ghost use Rattle.sql_queries.specs.RowsRead.{GivesWhile, UndoesOrKeeps, Yields};
 
 use sql_tables::FromRow;
 use sqlite::types::ValueRef;
@@ -29,16 +26,10 @@ pub(crate) trait RowTest<T> {
 // The value that the next row stores, and `None` behind the last row.
 fn next_of<S: Alter, T: FromRow>(rows: &mut Rows<'_, S>) -> Result<Option<T>, Error>
     ensures same_reference { rows.new.conn.ghost_name ≡ rows.old.conn.ghost_name }
-    ensures advances { HasCleanDisk (state S.Store rows.new.conn.now) →
-        IfOk result (λ value. Advances S.Store rows.old.conn.now rows.new.conn.now
-        (option_map T.FromRow.stored_row value)) }
+    ensures advances { Yields S.Store rows.old.conn.now rows.new.conn.now result T.FromRow }
     ensures fits { IfOk result (FitsIfAny T.FromRow.fits) }
-    ensures same { HasCleanDisk (state S.Store rows.new.conn.now) →
-        OnOk result
-        (IsUnchanged (state S.Store rows.old.conn.now) (state S.Store rows.new.conn.now)) }
-    ensures kept { HasCleanDisk (state S.Store rows.new.conn.now) →
-        IfErr result (λ e. Fails (state S.Store rows.old.conn.now) (state S.Store rows.new.conn.now)
-        ⊥ e ⊎ IsUnchanged (state S.Store rows.old.conn.now) (state S.Store rows.new.conn.now)) }
+    ensures same { SucceedsIn S.Store rows.old.conn.now rows.new.conn.now result IsUnchanged }
+    ensures kept { UndoesOrKeeps S.Store rows.old.conn.now rows.new.conn.now result }
     ensures survives { LeavesNothingNew S.Store rows.old.conn.now rows.new.conn.now }
 {
     rows.advance()?;
@@ -61,9 +52,8 @@ pub(crate) fn read_while<S: Alter, T: FromRow, P: RowTest<T>>(
     test: &P,
 ) -> Result<Vec<T>, Error>
     requires { IsSelectText sql.now }
-    ensures answer { SucceedsWith S.Store conn.old conn.new result
-        (λ xs before after. ReadsWhile sql.now (bound params.now) T.FromRow.stored_row
-        (P.passes test.now) before after xs.items) }
+    ensures answer { GivesWhile S.Store conn.old conn.new result sql.now params.now T.FromRow
+        (P.passes test.now) }
     ensures stays { SeesStill S.Store conn.old conn.new }
     ensures survives { LeavesNothingNew S.Store conn.old conn.new }
     ensures fit { IfOk result (λ xs. AllByRecursion T.FromRow.fits xs.items) }

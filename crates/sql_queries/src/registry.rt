@@ -2,7 +2,7 @@
 ghost use Rattle.std.specs.Prelude.{◌≡◌};
 ghost use Rattle.sql_tables.specs.Selected.{keyed_identity_of};
 ghost use Rattle.sql_tables.specs.TableReads.{company_in};
-ghost use Rattle.sql_queries.specs.Asking.{Asks};
+ghost use Rattle.sql_queries.specs.Asking.{Asks, IsThe};
 
 use crate::rows::{all_of, cell_of, first_of};
 use ach_fields::Id;
@@ -66,7 +66,7 @@ pub fn companies<S: Alter>(conn: &mut Connection<S>, alloc: Global) -> Result<Ve
 
 /// Finds a company.
 pub fn company<S: Alter>(conn: &mut Connection<S>, id: Id) -> Result<Option<Company>, Error>
-    ensures { Asks S.Store conn.old conn.new result (λ found t. found ≡ company_in id t) }
+    ensures { Asks S.Store conn.old conn.new result (IsThe (company_in id)) }
 {
     first_of(
         conn,

@@ -1,12 +1,11 @@
 //! The rows of a query are read back.
-ghost use Rattle.std.specs.Prelude.{◌≡◌, [], ◌∷◌, true, map, slice_get, option_map, IfOk};
+ghost use Rattle.std.specs.Prelude.{◌≡◌, true, map, IfOk};
 ghost use Rattle.std.specs.List.{AllByRecursion};
-ghost use Rattle.sqlite.specs.Values.{bound};
 ghost use Rattle.sqlite_value.specs.declared.value.Value.TheVariants.{Blob};
 ghost use Rattle.sql_statements.specs.SelectTexts.{IsSelectText};
-ghost use Rattle.sql_statements.specs.Promises.{AskedOn, SucceedsWith, LeavesNothingNew, SeesStill};
+ghost use Rattle.sql_statements.specs.Promises.{LeavesNothingNew, SeesStill};
 ghost use Rattle.sql_tables.specs.Ranges.{FitsIfAny};
-ghost use Rattle.sql_query_laws.specs.Shows.{ReadsAll, ReadsFirst};
+ghost use Rattle.sql_queries.specs.RowsRead.{GivesAll, IsFirst, ReadsBlob, ReadsCell, ReadsColumn, ReadsRow, bytes_of, cell};
 
 use crate::reading::{RowTest, read_while};
 use sql_statements::query;
@@ -17,7 +16,7 @@ use std::alloc::Global;
 
 // The value that the first row stores.
 fn read_first<T: FromRow>(rows: &[Row]) -> Result<Option<T>, Error>
-    ensures { IfOk result (λ x. option_map T.FromRow.stored_row x ≡ slice_get rows.now 0) }
+    ensures { IfOk result (IsFirst T.FromRow.stored_row rows.now) }
 {
     let Some(row) = rows.first() else {
         return Ok(None);
@@ -47,9 +46,7 @@ pub(crate) fn all_of<S: Alter, T: FromRow>(
     params: &[ValueRef<'_>],
 ) -> Result<Vec<T>, Error>
     requires { IsSelectText sql.now }
-    ensures answer { SucceedsWith S.Store conn.old conn.new result
-        (λ xs before after. ReadsAll sql.now (bound params.now) T.FromRow.stored_row
-        before after xs.items) }
+    ensures answer { GivesAll S.Store conn.old conn.new result sql.now params.now T.FromRow }
     ensures stays { SeesStill S.Store conn.old conn.new }
     ensures survives { LeavesNothingNew S.Store conn.old conn.new }
     ensures fit { IfOk result (λ xs. AllByRecursion T.FromRow.fits xs.items) }
@@ -65,9 +62,7 @@ pub(crate) fn first_of<S: Alter, T: FromRow>(
     params: &[ValueRef<'_>],
 ) -> Result<Option<T>, Error>
     requires { IsSelectText sql.now }
-    ensures { AskedOn S.Store conn.old conn.new result
-        (λ x before after. ReadsFirst sql.now (bound params.now) T.FromRow.stored_row
-        before after x) }
+    ensures { ReadsRow S.Store conn.old conn.new result sql.now params.now T.FromRow }
 {
     let rows = query(conn, sql, params)?;
     read_first(&rows)
@@ -75,7 +70,7 @@ pub(crate) fn first_of<S: Alter, T: FromRow>(
 
 // The values that rows of one column store.
 fn read_column_of_all<T: FromColumn>(alloc: Global, rows: &[Row]) -> Result<Vec<T>, Error>
-    ensures { IfOk result (λ xs. map (λ x. T.FromColumn.stored x ∷ []) xs.items ≡ rows.now) }
+    ensures { IfOk result (λ xs. map (cell T.FromColumn.stored) xs.items ≡ rows.now) }
 {
     let mut values = Vec::new(alloc);
     for row in rows {
@@ -89,8 +84,7 @@ fn read_column_of_all<T: FromColumn>(alloc: Global, rows: &[Row]) -> Result<Vec<
 
 // The value that the first of rows of one column stores.
 fn read_first_cell<T: FromColumn>(rows: &[Row]) -> Result<Option<T>, Error>
-    ensures is { IfOk result
-        (λ x. option_map (λ x. T.FromColumn.stored x ∷ []) x ≡ slice_get rows.now 0) }
+    ensures is { IfOk result (IsFirst (cell T.FromColumn.stored) rows.now) }
     ensures fits { IfOk result (FitsIfAny T.FromColumn.fits) }
 {
     let Some(row) = rows.first() else {
@@ -110,9 +104,7 @@ pub(crate) fn column_of<S: Alter, T: FromColumn>(
     params: &[ValueRef<'_>],
 ) -> Result<Vec<T>, Error>
     requires { IsSelectText sql.now }
-    ensures { AskedOn S.Store conn.old conn.new result
-        (λ xs before after. ReadsAll sql.now (bound params.now)
-        (λ x. T.FromColumn.stored x ∷ []) before after xs.items) }
+    ensures { ReadsColumn S.Store conn.old conn.new result sql.now params.now T.FromColumn.stored }
 {
     let rows = query(conn, sql, params)?;
     read_column_of_all(alloc, &rows)
@@ -126,9 +118,8 @@ pub(crate) fn cell_of<S: Alter, T: FromColumn>(
     params: &[ValueRef<'_>],
 ) -> Result<Option<T>, Error>
     requires { IsSelectText sql.now }
-    ensures asked { AskedOn S.Store conn.old conn.new result
-        (λ x before after. ReadsFirst sql.now (bound params.now)
-        (λ x. T.FromColumn.stored x ∷ []) before after x) }
+    ensures asked { ReadsCell S.Store conn.old conn.new result sql.now params.now
+        T.FromColumn.stored }
     ensures fits { IfOk result (FitsIfAny T.FromColumn.fits) }
 {
     let rows = query(conn, sql, params)?;
@@ -137,8 +128,7 @@ pub(crate) fn cell_of<S: Alter, T: FromColumn>(
 
 // The bytes in the first of rows of one column.
 fn read_first_blob(alloc: Global, rows: &[Row]) -> Result<Option<Vec<u8>>, Error>
-    ensures { IfOk result
-        (λ x. option_map (λ b. Blob b ∷ []) (option_map (λ v. v.items) x) ≡ slice_get rows.now 0) }
+    ensures { IfOk result (λ x. IsFirst (cell Blob) rows.now (bytes_of x)) }
 {
     let Some(row) = rows.first() else {
         return Ok(None);
@@ -161,9 +151,7 @@ pub(crate) fn blob_of<S: Alter>(
     params: &[ValueRef<'_>],
 ) -> Result<Option<Vec<u8>>, Error>
     requires { IsSelectText sql.now }
-    ensures { AskedOn S.Store conn.old conn.new result
-        (λ x before after. ReadsFirst sql.now (bound params.now)
-        (λ b. Blob b ∷ []) before after (option_map (λ v. v.items) x)) }
+    ensures { ReadsBlob S.Store conn.old conn.new result sql.now params.now }
 {
     let rows = query(conn, sql, params)?;
     read_first_blob(alloc, &rows)

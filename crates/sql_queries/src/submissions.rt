@@ -1,9 +1,9 @@
 //! Submissions.
-ghost use Rattle.std.specs.Prelude.{◌≡◌, ◌++◌, IfOk, IsPermutation, IsSorted};
+ghost use Rattle.std.specs.Prelude.{◌++◌, IfOk, IsPermutation, IsSorted};
 ghost use Rattle.sql_tables.specs.CutTables.{is_row};
 ghost use Rattle.sql_tables.specs.TableReads.{is_of, is_open_of, is_waiting_of, is_retry_of, heads_in, head_under, order_in, facts_in, last_order, authorized_in};
 ghost use Rattle.sql_queries.specs.Waiting.{by_head_order, is_settled_of};
-ghost use Rattle.sql_queries.specs.Asking.{Asks};
+ghost use Rattle.sql_queries.specs.Asking.{Asks, AreThe, IsThe};
 
 use crate::reading::read_while;
 use crate::rows::{all_of, cell_of, first_of};
@@ -22,8 +22,7 @@ pub fn submissions_of<S: Alter>(
     alloc: Global,
     company: Id,
 ) -> Result<Vec<SubmissionHead>, Error>
-    ensures { Asks S.Store conn.old conn.new result
-        (λ found t. found.items ≡ heads_in (is_of company) t) }
+    ensures { Asks S.Store conn.old conn.new result (AreThe (heads_in (is_of company))) }
 {
     all_of(
         conn,
@@ -40,8 +39,7 @@ pub fn open_submissions<S: Alter>(
     company: Id,
     since: Day,
 ) -> Result<Vec<SubmissionHead>, Error>
-    ensures { Asks S.Store conn.old conn.new result
-        (λ found t. found.items ≡ heads_in (is_open_of company since) t) }
+    ensures { Asks S.Store conn.old conn.new result (AreThe (heads_in (is_open_of company since))) }
 {
     let waiting = waiting_submissions(conn, alloc, company)?;
     let settled = settled_submissions(conn, alloc, company, number_of(since))?;
@@ -69,7 +67,7 @@ pub fn settled_submissions<S: Alter>(
     since: u64,
 ) -> Result<Vec<SubmissionHead>, Error>
     ensures { Asks S.Store conn.old conn.new result
-        (λ found t. found.items ≡ heads_in (is_settled_of company since) t) }
+        (AreThe (heads_in (is_settled_of company since))) }
 {
     all_of(
         conn,
@@ -85,8 +83,7 @@ pub fn waiting_submissions<S: Alter>(
     alloc: Global,
     company: Id,
 ) -> Result<Vec<SubmissionHead>, Error>
-    ensures { Asks S.Store conn.old conn.new result
-        (λ found t. found.items ≡ heads_in (is_waiting_of company) t) }
+    ensures { Asks S.Store conn.old conn.new result (AreThe (heads_in (is_waiting_of company))) }
 {
     read_while(
         conn,
@@ -107,7 +104,7 @@ pub fn retries<S: Alter>(
     index: u64,
 ) -> Result<Vec<SubmissionHead>, Error>
     ensures { Asks S.Store conn.old conn.new result
-        (λ found t. found.items ≡ heads_in (is_retry_of company of index) t) }
+        (AreThe (heads_in (is_retry_of company of index))) }
 {
     all_of(
         conn,
@@ -128,8 +125,7 @@ pub fn numbered_submission<S: Alter>(
     company: Id,
     order: u64,
 ) -> Result<Vec<SubmissionHead>, Error>
-    ensures { Asks S.Store conn.old conn.new result
-        (λ found t. found.items ≡ heads_in (is_row company order) t) }
+    ensures { Asks S.Store conn.old conn.new result (AreThe (heads_in (is_row company order))) }
 {
     all_of(
         conn,
@@ -145,8 +141,7 @@ pub fn submission<S: Alter>(
     company: Id,
     reference: Ref,
 ) -> Result<Option<SubmissionHead>, Error>
-    ensures { Asks S.Store conn.old conn.new result
-        (λ found t. found ≡ head_under company reference t) }
+    ensures { Asks S.Store conn.old conn.new result (IsThe (head_under company reference)) }
 {
     first_of(
         conn,
@@ -161,8 +156,7 @@ pub fn order_and_settlement<S: Alter>(
     company: Id,
     reference: Ref,
 ) -> Result<Option<OrderAndSettlement>, Error>
-    ensures { Asks S.Store conn.old conn.new result
-        (λ found t. found ≡ order_in company reference t) }
+    ensures { Asks S.Store conn.old conn.new result (IsThe (order_in company reference)) }
 {
     first_of(
         conn,
@@ -177,7 +171,7 @@ pub fn facts<S: Alter>(
     company: Id,
     order: u64,
 ) -> Result<Option<SubmissionFacts>, Error>
-    ensures { Asks S.Store conn.old conn.new result (λ found t. found ≡ facts_in company order t) }
+    ensures { Asks S.Store conn.old conn.new result (IsThe (facts_in company order)) }
 {
     first_of(
         conn,
@@ -192,8 +186,7 @@ pub fn authorization<S: Alter>(
     company: Id,
     order: u64,
 ) -> Result<Option<Day>, Error>
-    ensures { Asks S.Store conn.old conn.new result
-        (λ found t. found ≡ authorized_in company order t) }
+    ensures { Asks S.Store conn.old conn.new result (IsThe (authorized_in company order)) }
 {
     cell_of(
         conn,
@@ -204,7 +197,7 @@ pub fn authorization<S: Alter>(
 
 /// Gives the number of the last submission or retry of a company, 0 before the first.
 pub fn last_order<S: Alter>(conn: &mut Connection<S>, company: Id) -> Result<u64, Error>
-    ensures { Asks S.Store conn.old conn.new result (λ found t. found ≡ last_order company t) }
+    ensures { Asks S.Store conn.old conn.new result (IsThe (last_order company)) }
 {
     match cell_of(
         conn,
