@@ -1,11 +1,9 @@
 //! What the rules read of the entries of submissions, without their names and texts.
-ghost use Rattle.std.specs.Prelude.{◌≡◌, List};
-ghost use Rattle.std.specs.List.{flat_map};
-ghost use Rattle.desk_book.specs.Standing.{row_facts};
+ghost use Rattle.std.specs.Prelude.{List};
 ghost use Rattle.sql_tables.specs.TableReads.{whole_row};
-ghost use Rattle.sql_queries.specs.Asking.{Asks};
+ghost use Rattle.sql_queries.specs.Asking.{Asks, AreThe};
 ghost use Rattle.sql_read_steps.specs.Answers.{LearnsOn};
-ghost use Rattle.sql_measures.specs.Counted.{debit_facts};
+ghost use Rattle.sql_measures.specs.Counted.{debit_facts, head_debit_facts, head_facts, heads_debit_facts};
 ghost use Rattle.desk_rules.specs.declared.rules.entry_fact.EntryFact.{EntryFact as Fact};
 
 use desk_rules::{Direction, EntryFact};
@@ -22,8 +20,7 @@ pub(crate) fn facts<S: Alter>(
     alloc: Global,
     head: &SubmissionHead,
 ) -> Result<Vec<EntryFact>, StoreFault>
-    ensures { Asks S.Store conn.old conn.new result
-        (λ found t. found.items ≡ row_facts (whole_row t head.now)) }
+    ensures { Asks S.Store conn.old conn.new result (AreThe (head_facts head.now)) }
 {
     let amounts = or_unavailable(amounts_of(conn, alloc, head.company, head.order))?;
     let returns = or_unavailable(returns(conn, alloc, head.company, head.order))?;
@@ -37,8 +34,7 @@ fn debit_facts<S: Alter>(
     alloc: Global,
     head: &SubmissionHead,
 ) -> Result<Vec<EntryFact>, StoreFault>
-    ensures { LearnsOn S.Store conn.old conn.new result
-        (λ found t. found.items ≡ debit_facts (whole_row t head.now)) }
+    ensures { LearnsOn S.Store conn.old conn.new result (AreThe (head_debit_facts head.now)) }
 {
     match head.direction {
         Direction::Credit => Ok(Vec::new(alloc)),
@@ -80,8 +76,7 @@ pub(crate) fn facts_of_debits<S: Alter>(
     alloc: Global,
     heads: Vec<SubmissionHead>,
 ) -> Result<Vec<EntryFact>, StoreFault>
-    ensures { LearnsOn S.Store conn.old conn.new result
-        (λ found t. found.items ≡ flat_map (λ head. debit_facts (whole_row t head)) heads.items) }
+    ensures { LearnsOn S.Store conn.old conn.new result (AreThe (heads_debit_facts heads.items)) }
 {
     let lists = read_each(conn, alloc, &DebitFacts, heads)?;
     let all = joined(alloc, lists)?;

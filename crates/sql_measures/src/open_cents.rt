@@ -1,13 +1,9 @@
 //! What a company's entries may still cost the bank, by the sums of the cents of what is open.
-ghost use Rattle.std.specs.Prelude.{◌≡◌, ℕ, true, false, sum_by};
-ghost use Rattle.desk_book.specs.Standing.{row_facts};
-ghost use Rattle.desk_rules.specs.Exposure.{credit_exposure, debit_exposure, is_open_debit};
-ghost use Rattle.desk_rules.specs.LimitChecks.{is_debit};
-ghost use Rattle.sql_tables.specs.Composed.{exposures_in};
+ghost use Rattle.std.specs.Prelude.{◌≡◌, ℕ, true, sum_by};
 ghost use Rattle.sql_tables.specs.TableReads.{whole_row};
-ghost use Rattle.sql_queries.specs.Asking.{Asks};
+ghost use Rattle.sql_queries.specs.Asking.{Asks, IsThe};
 ghost use Rattle.sql_read_steps.specs.Answers.{LearnsOn};
-ghost use Rattle.sql_measures.specs.Counted.{IsWhole, heads_exposures, row_exposures, state_alone};
+ghost use Rattle.sql_measures.specs.Counted.{HaveExposuresOf, IsCreditExposure, IsDebitExposure, IsOpenExposure, IsWhole, company_exposures, head_debit_exposure, row_exposures};
 
 use crate::facts::facts;
 use ach_fields::Id;
@@ -27,9 +23,7 @@ fn credit_of<S: Alter>(
     head: &SubmissionHead,
     today: Day,
 ) -> Result<u64, StoreFault>
-    ensures { LearnsOn S.Store conn.old conn.new result
-        (λ found t. is_debit head.now.direction ≡ false → found ≡ credit_exposure
-        (row_facts (whole_row t head.now)) today) }
+    ensures { LearnsOn S.Store conn.old conn.new result (IsCreditExposure head.now today) }
 {
     if is_open_credit(entry_state(head, None), today) {
         let cents = or_unavailable(cents_of(conn, head.company, head.order))?;
@@ -66,7 +60,7 @@ fn standing_debits<S: Alter>(
     calendar: &Calendar,
 ) -> Result<u64, StoreFault>
     ensures { LearnsOn S.Store conn.old conn.new result
-        (λ found t. found ≡ debit_exposure (row_facts (whole_row t head.now)) today calendar.now) }
+        (IsThe (head_debit_exposure head.now today calendar.now)) }
 {
     let found = facts(conn, alloc, head)?;
     match u64::try_from(debit_exposure(&found, today, calendar)) {
@@ -84,9 +78,7 @@ fn open_debit_of<S: Alter>(
     calendar: &Calendar,
 ) -> Result<u64, StoreFault>
     ensures { LearnsOn S.Store conn.old conn.new result
-        (λ found t. is_debit head.now.direction ≡ true → is_open_debit (state_alone head.now) today
-        calendar.now ≡ true → found ≡ debit_exposure (row_facts (whole_row t head.now)) today
-        calendar.now) }
+        (IsOpenExposure head.now today calendar.now) }
 {
     let whole = is_whole(conn, alloc, head)?;
     if whole {
@@ -107,8 +99,7 @@ fn debit_of<S: Alter>(
     calendar: &Calendar,
 ) -> Result<u64, StoreFault>
     ensures { LearnsOn S.Store conn.old conn.new result
-        (λ found t. is_debit head.now.direction ≡ true → found ≡ debit_exposure
-        (row_facts (whole_row t head.now)) today calendar.now) }
+        (IsDebitExposure head.now today calendar.now) }
 {
     if is_open_debit(entry_state(head, None), today, calendar) {
         let cents = open_debit_of(conn, alloc, head, today, calendar)?;
@@ -186,9 +177,7 @@ fn exposed_submissions<S: Alter>(
     today: Day,
     calendar: &Calendar,
 ) -> Result<Vec<SubmissionHead>, StoreFault>
-    ensures { Asks S.Store conn.old conn.new result
-        (λ found t. heads_exposures t found.items today calendar.now ≡ exposures_in company today
-        calendar.now t) }
+    ensures { Asks S.Store conn.old conn.new result (HaveExposuresOf company today calendar.now) }
 {
     match first_open_day(calendar, today) {
         Some(since) => {
@@ -210,8 +199,7 @@ pub fn exposures<S: Alter>(
     company: Id,
     today: Day,
 ) -> Result<(u128, u128), StoreFault>
-    ensures { Asks S.Store conn.old conn.new result
-        (λ found t. found ≡ exposures_in company today t.holidays t) }
+    ensures { Asks S.Store conn.old conn.new result (IsThe (company_exposures company today)) }
 {
     let calendar = or_unavailable(calendar(conn, alloc))?;
     let heads = exposed_submissions(conn, alloc, company, today, &calendar)?;

@@ -1,13 +1,11 @@
 //! Return rates, of what lies in their window.
 ghost use Rattle.std.specs.Prelude.{◌≡◌, ℕ, List, Contains};
 ghost use Rattle.std.specs.Ordering.{nat_cmp};
-ghost use Rattle.std.specs.List.{flat_map};
 ghost use Rattle.std.specs.List.Sorted.{IsStrictlySortedBy};
 ghost use Rattle.sql_tables.specs.Composed.{rates_in};
-ghost use Rattle.sql_tables.specs.TableReads.{heads_in, is_since, whole_row};
-ghost use Rattle.sql_queries.specs.Waiting.{is_settled_of};
-ghost use Rattle.sql_queries.specs.Asking.{Asks};
-ghost use Rattle.sql_measures.specs.Counted.{AreReturned, debit_facts, earlier_facts};
+ghost use Rattle.sql_tables.specs.TableReads.{is_since};
+ghost use Rattle.sql_queries.specs.Asking.{Asks, AreThe, IsThe};
+ghost use Rattle.sql_measures.specs.Counted.{AreReturned, earlier_facts, settled_debit_facts};
 ghost use Rattle.desk_rules.specs.declared.rules.entry_fact.EntryFact.{EntryFact as Fact};
 
 use crate::facts::facts_of_debits;
@@ -85,7 +83,7 @@ fn returned_facts<S: Alter>(
     since: u64,
 ) -> Result<Vec<EntryFact>, StoreFault>
     ensures { Asks S.Store conn.old conn.new result
-        (λ found t. AreReturned company since t found.items) }
+        (λ all t. AreReturned company since t all.items) }
 {
     let orders = or_unavailable(orders_returned(conn, alloc, company, since))?;
     let orders = distinct(orders);
@@ -101,9 +99,7 @@ fn settled_facts<S: Alter>(
     company: Id,
     since: u64,
 ) -> Result<Vec<EntryFact>, StoreFault>
-    ensures { Asks S.Store conn.old conn.new result
-        (λ found t. found.items ≡ flat_map (λ head. debit_facts (whole_row t head))
-        (heads_in (is_settled_of company since) t)) }
+    ensures { Asks S.Store conn.old conn.new result (AreThe (settled_debit_facts company since)) }
 {
     let heads = or_unavailable(settled_submissions(conn, alloc, company, since))?;
     let all = facts_of_debits(conn, alloc, heads)?;
@@ -118,7 +114,7 @@ pub fn rates_of<S: Alter>(
     company: Id,
     today: Day,
 ) -> Result<Rates, StoreFault>
-    ensures { Asks S.Store conn.old conn.new result (λ found t. found ≡ rates_in company today t) }
+    ensures { Asks S.Store conn.old conn.new result (IsThe (rates_in company today)) }
 {
     let since = number_of(today).saturating_sub(DAYS_BEFORE);
     let mut all = settled_facts(conn, alloc, company, since)?;
