@@ -1,5 +1,5 @@
 -- The drafts that JSON objects are, each field under its key.
-use Rattle.std.specs.Prelude.{◌≢◌, Any, IsSome, IsSomeAnd, ℕ, List, [], ◌∷◌, Option, Some, None, option_map, option_and_then}
+use Rattle.std.specs.Prelude.{◌≢◌, ◌⊎◌, Any, IsSome, IsSomeAnd, ℕ, List, [], ◌∷◌, Option, Some, None, option_map, option_and_then}
 use Rattle.serde_json.specs.Data.{Data, Items, no_items, item}
 use Rattle.serde_json.specs.Find.{get, as_str, as_bool, as_number, as_u64, as_array, as_object}
 use Rattle.desk_rules.specs.declared.bodies.draft.CompanyDraft.{CompanyDraft}
@@ -120,3 +120,7 @@ retry_texts = field.Reference ∷ field.Of ∷ field.Day ∷ field.Authorized �
 -- and a company
 abbrev pub company_texts : List Field
 company_texts = field.Id ∷ field.Name ∷ field.Key ∷ []
+
+-- A submission has a text or an entry, which is copied, so that only then memory can run out.
+abbrev pub HasTextOrEntry : Data → Type 0
+HasTextOrEntry d = HasText submission_texts d ⊎ HasEntry d

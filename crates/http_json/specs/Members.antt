@@ -1,5 +1,5 @@
 -- Objects whose members are a list, and their texts member by member.
-use Rattle.std.specs.Prelude.{ℕ, Bool, true, List, [], ◌∷◌, ◌++◌}
+use Rattle.std.specs.Prelude.{ℕ, ◌+◌, ◌*◌, Bool, true, List, [], ◌∷◌, ◌++◌, length}
 use Rattle.json.specs.Print.{quoted}
 use Rattle.serde_json.specs.Data.{Data, Members, no_members, member, object}
 use Rattle.serde_json.specs.Written.{comma_if, compact_text}
@@ -26,3 +26,7 @@ more_members_text (m ∷ ms) = member_text true m.0 m.1 ++ more_members_text ms
 abbrev pub last_members_text : (later : Bool) → List (List ℕ × Data) → List ℕ
 last_members_text later [] = 125 ∷ []
 last_members_text later (m ∷ ms) = member_text later m.0 m.1 ++ last_members_text true ms
+
+-- the most bytes that a member has whose value is this text: six for a byte of either, and six around them
+abbrev pub text_member_bound : (key value : List ℕ) → ℕ
+text_member_bound key value = 6 * length key + 6 * length value + 6

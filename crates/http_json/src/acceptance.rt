@@ -1,8 +1,8 @@
 //! The body of an accepted submission or retry. It is written without growth, so that an answer is
 //! whole before the desk commits to it.
-ghost use Rattle.std.specs.Prelude.{◌≡◌, ◌≤◌, ◌+◌, ◌++◌, vec_len, vec_capacity};
-ghost use Rattle.serde_json.specs.Written.{compact_text};
+ghost use Rattle.std.specs.Prelude.{◌≤◌, ◌+◌, vec_len, vec_capacity};
 ghost use Rattle.http_json.specs.Acceptance.{acceptance_body};
+ghost use Rattle.http_json.specs.Gains.{GainsValue};
 
 use crate::members::{put_number, put_text};
 use crate::room::put;
@@ -12,8 +12,8 @@ use ach_fields::Ref;
 /// has, its `order` number and its `ref`. The caller has taken room for 320 more bytes.
 pub fn put_acceptance(text: &mut Vec<u8>, reference: &Ref, cents: u64, entries: u64, order: u64)
     requires { vec_len text.old + 320 ≤ vec_capacity text.old }
-    ensures items { text.new.items ≡ text.old.items
-        ++ compact_text (acceptance_body reference.now cents entries order) }
+    ensures items { GainsValue text.old text.new
+        (acceptance_body reference.now cents entries order) }
     ensures len { vec_len text.new ≤ vec_len text.old + 320 }
     ensures capacity { vec_capacity text.old ≤ vec_capacity text.new }
 {

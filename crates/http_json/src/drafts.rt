@@ -1,8 +1,8 @@
 //! The drafts that JSON objects are. A key that is not named here is not looked at.
-ghost use Rattle.std.specs.Prelude.{◌≡◌, ◌≢◌, ◌⊎◌, [], IfOk, IsSome, OnErr};
+ghost use Rattle.std.specs.Prelude.{◌≡◌, ◌≢◌, [], IfOk, IsSome, OnErr};
 ghost use Rattle.serde_json.specs.Find.{as_bool, as_str};
 ghost use Rattle.serde_json.specs.View.{view, items_view};
-ghost use Rattle.http_json.specs.Drafts.{value_at, text_at, number_at, given_or_wrong, optional_from, entry_draft_of, entry_drafts_of, submission_draft_of, retry_draft_of, company_draft_of, limits_draft_of, limit_drafts_of, entries_at, HasEntry, HasText, submission_texts, retry_texts, company_texts};
+ghost use Rattle.http_json.specs.Drafts.{value_at, text_at, number_at, given_or_wrong, optional_from, entry_draft_of, entry_drafts_of, submission_draft_of, retry_draft_of, company_draft_of, limits_draft_of, limit_drafts_of, entries_at, HasEntry, HasText, HasTextOrEntry, retry_texts, company_texts};
 
 use crate::field_keys::key_of;
 use desk_rules::{
@@ -17,8 +17,7 @@ use std::alloc::{AllocError, Global};
 /// an entry that it has to copy.
 pub fn submission_draft(alloc: Global, value: &Value) -> Result<Draft, AllocError>
     ensures draft { IfOk result (λ d. d ≡ submission_draft_of (view value.now)) }
-    ensures memory { OnErr result
-        (HasText submission_texts (view value.now) ⊎ HasEntry (view value.now)) }
+    ensures memory { OnErr result (HasTextOrEntry (view value.now)) }
 {
     let reference = text_at(alloc, value, Field::Reference)?;
     let sec = text_at(alloc, value, Field::Sec)?;

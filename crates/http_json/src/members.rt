@@ -1,10 +1,11 @@
 //! Members by the kind of their value.
-ghost use Rattle.std.specs.Prelude.{◌≡◌, ◌≤◌, ◌+◌, ◌*◌, ◌++◌, ◌∷◌, [], length, vec_len, vec_capacity};
+ghost use Rattle.std.specs.Prelude.{◌≤◌, ◌+◌, ◌*◌, ◌++◌, ◌∷◌, [], length, vec_len, vec_capacity};
 ghost use Rattle.json.specs.Print.{quoted};
 ghost use Rattle.serde_json.specs.Data.{number, unsigned, string, boolean};
 ghost use Rattle.serde_json.specs.Find.{of_integer};
 ghost use Rattle.serde_json.specs.Written.{comma_if};
-ghost use Rattle.http_json.specs.Members.{member_text};
+ghost use Rattle.http_json.specs.Gains.{Gains, GainsMember};
+ghost use Rattle.http_json.specs.Members.{text_member_bound};
 
 use crate::quoted::put_quoted;
 use crate::room::{put, put_comma};
@@ -13,8 +14,7 @@ use itoa::{Buffer, Integer};
 /// Appends the key of a member with its colon, after a comma where it is not the first.
 pub fn put_key(text: &mut Vec<u8>, later: bool, key: &[u8])
     requires { vec_len text.old + (6 * length key.now + 4) ≤ vec_capacity text.old }
-    ensures items { text.new.items ≡ text.old.items ++
-        (comma_if later ++ (quoted key.now ++ 58 ∷ [])) }
+    ensures items { Gains text.old text.new (comma_if later ++ (quoted key.now ++ 58 ∷ [])) }
     ensures len { vec_len text.new ≤ vec_len text.old + (6 * length key.now + 4) }
     ensures capacity { vec_capacity text.old ≤ vec_capacity text.new }
 {
@@ -26,12 +26,9 @@ pub fn put_key(text: &mut Vec<u8>, later: bool, key: &[u8])
 /// Appends a member whose value is a text.
 #[tactic(auto, unfolding(crate::specs::Members::member_text))]
 pub fn put_text(text: &mut Vec<u8>, later: bool, key: &[u8], value: &[u8])
-    requires { vec_len text.old + (6 * length key.now + 6 * length value.now + 6) ≤ vec_capacity
-        text.old }
-    ensures items { text.new.items ≡ text.old.items ++ member_text later key.now
-        (string value.now) }
-    ensures len { vec_len text.new ≤ vec_len text.old +
-        (6 * length key.now + 6 * length value.now + 6) }
+    requires { vec_len text.old + text_member_bound key.now value.now ≤ vec_capacity text.old }
+    ensures items { GainsMember text.old text.new later key.now (string value.now) }
+    ensures len { vec_len text.new ≤ vec_len text.old + text_member_bound key.now value.now }
     ensures capacity { vec_capacity text.old ≤ vec_capacity text.new }
 {
     put_key(text, later, key);
@@ -42,8 +39,7 @@ pub fn put_text(text: &mut Vec<u8>, later: bool, key: &[u8], value: &[u8])
 #[tactic(auto, unfolding(crate::specs::Members::member_text))]
 pub fn put_number(text: &mut Vec<u8>, later: bool, key: &[u8], value: u64)
     requires { vec_len text.old + (6 * length key.now + 24) ≤ vec_capacity text.old }
-    ensures items { text.new.items ≡ text.old.items ++ member_text later key.now
-        (number (unsigned value)) }
+    ensures items { GainsMember text.old text.new later key.now (number (unsigned value)) }
     ensures len { vec_len text.new ≤ vec_len text.old + (6 * length key.now + 24) }
     ensures capacity { vec_capacity text.old ≤ vec_capacity text.new }
 {
@@ -56,8 +52,7 @@ pub fn put_number(text: &mut Vec<u8>, later: bool, key: &[u8], value: u64)
 #[tactic(auto, unfolding(crate::specs::Members::member_text))]
 pub fn put_signed(text: &mut Vec<u8>, later: bool, key: &[u8], value: i64)
     requires { vec_len text.old + (6 * length key.now + 24) ≤ vec_capacity text.old }
-    ensures items { text.new.items ≡ text.old.items ++ member_text later key.now
-        (number (of_integer value)) }
+    ensures items { GainsMember text.old text.new later key.now (number (of_integer value)) }
     ensures len { vec_len text.new ≤ vec_len text.old + (6 * length key.now + 24) }
     ensures capacity { vec_capacity text.old ≤ vec_capacity text.new }
 {
@@ -71,8 +66,7 @@ pub fn put_signed(text: &mut Vec<u8>, later: bool, key: &[u8], value: i64)
 #[tactic(auto, unfolding(crate::specs::Members::member_text))]
 pub fn put_decimal<I: Integer>(text: &mut Vec<u8>, later: bool, key: &[u8], value: I)
     requires { vec_len text.old + (6 * length key.now + 246) ≤ vec_capacity text.old }
-    ensures items { text.new.items ≡ text.old.items ++ member_text later key.now
-        (string (I.text value)) }
+    ensures items { GainsMember text.old text.new later key.now (string (I.text value)) }
     ensures len { vec_len text.new ≤ vec_len text.old + (6 * length key.now + 246) }
     ensures capacity { vec_capacity text.old ≤ vec_capacity text.new }
 {
@@ -85,7 +79,7 @@ pub fn put_decimal<I: Integer>(text: &mut Vec<u8>, later: bool, key: &[u8], valu
 #[tactic(auto, unfolding(crate::specs::Members::member_text))]
 pub fn put_flag(text: &mut Vec<u8>, later: bool, key: &[u8], value: bool)
     requires { vec_len text.old + (6 * length key.now + 9) ≤ vec_capacity text.old }
-    ensures items { text.new.items ≡ text.old.items ++ member_text later key.now (boolean value) }
+    ensures items { GainsMember text.old text.new later key.now (boolean value) }
     ensures len { vec_len text.new ≤ vec_len text.old + (6 * length key.now + 9) }
     ensures capacity { vec_capacity text.old ≤ vec_capacity text.new }
 {

@@ -1,14 +1,15 @@
 //! Texts in quotes.
-ghost use Rattle.std.specs.Prelude.{◌≡◌, ◌≤◌, ◌<◌, ◌+◌, ◌*◌, ◌++◌, length, true, vec_len, vec_capacity};
+ghost use Rattle.std.specs.Prelude.{◌≡◌, ◌≤◌, ◌<◌, ◌+◌, ◌*◌, length, true, vec_len, vec_capacity};
 ghost use Rattle.std.specs.Char.{digit_char};
 ghost use Rattle.json.specs.Print.{quoted, escape, escape_byte, escape_letter};
+ghost use Rattle.http_json.specs.Gains.{Gains};
 
 use crate::room::put;
 
 /// Appends a text in quotes, with its escapes. A byte of the text has at most six there.
 pub fn put_quoted(text: &mut Vec<u8>, value: &[u8])
     requires { vec_len text.old + (6 * length value.now + 2) ≤ vec_capacity text.old }
-    ensures items { text.new.items ≡ text.old.items ++ quoted value.now }
+    ensures items { Gains text.old text.new (quoted value.now) }
     ensures len { vec_len text.new ≤ vec_len text.old + (6 * length value.now + 2) }
     ensures capacity { vec_capacity text.old ≤ vec_capacity text.new }
 {
@@ -20,7 +21,7 @@ pub fn put_quoted(text: &mut Vec<u8>, value: &[u8])
 // Most texts have nothing to escape, and are copied whole.
 fn put_escaped(text: &mut Vec<u8>, value: &[u8])
     requires { vec_len text.old + 6 * length value.now ≤ vec_capacity text.old }
-    ensures items { text.new.items ≡ text.old.items ++ escape value.now }
+    ensures items { Gains text.old text.new (escape value.now) }
     ensures len { vec_len text.new ≤ vec_len text.old + 6 * length value.now }
     ensures capacity { vec_capacity text.old ≤ vec_capacity text.new }
 {
@@ -33,7 +34,7 @@ fn put_escaped(text: &mut Vec<u8>, value: &[u8])
 
 fn put_bytes(text: &mut Vec<u8>, value: &[u8])
     requires { vec_len text.old + 6 * length value.now ≤ vec_capacity text.old }
-    ensures items { text.new.items ≡ text.old.items ++ escape value.now }
+    ensures items { Gains text.old text.new (escape value.now) }
     ensures len { vec_len text.new ≤ vec_len text.old + 6 * length value.now }
     ensures capacity { vec_capacity text.old ≤ vec_capacity text.new }
 {
@@ -45,7 +46,7 @@ fn put_bytes(text: &mut Vec<u8>, value: &[u8])
 #[tactic(auto, unfolding(json::specs::Print::escape_byte))]
 fn put_byte(text: &mut Vec<u8>, byte: u8)
     requires { vec_len text.old + 6 ≤ vec_capacity text.old }
-    ensures items { text.new.items ≡ text.old.items ++ escape_byte byte }
+    ensures items { Gains text.old text.new (escape_byte byte) }
     ensures len { vec_len text.new ≤ vec_len text.old + 6 }
     ensures capacity { vec_capacity text.old ≤ vec_capacity text.new }
 {
