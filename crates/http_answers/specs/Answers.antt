@@ -1,7 +1,9 @@
 -- The body of each answer of the desk.
-use Rattle.std.specs.Prelude.{◌≤◌, ⊤, ℕ, List, length, Bool, true, false, Some, None}
+use Rattle.std.specs.Prelude.{◌≤◌, ⊤, ℕ, List, length, Bool, true, false, Some, None, Vec}
+use Rattle.std.specs.declared.alloc.Global.{Global}
 use Rattle.serde_json.specs.Written.{compact_text}
 use Rattle.http_json.specs.Acceptance.{acceptance_body}
+use Rattle.http_json.specs.Gains.{Gains}
 use Rattle.desk_history.specs.declared.answer.Answer.{Answer}
 use Rattle.desk_history.specs.declared.answer.Answer.TheVariants as answers
 use Rattle.desk_history.specs.declared.answer.Outcome.{Outcome}
@@ -62,3 +64,17 @@ IsShort outcome = ⊤
 abbrev pub FitsRoom : Answer → Type 0
 FitsRoom (answers.Done outcome) = IsShort outcome
 FitsRoom (answers.Refused why) = ⊤
+
+-- ---- what a text gains
+
+-- the body of what a call did or found
+abbrev pub GainsOutcome : (old new : Vec ℕ Global) → Outcome → Type 0
+GainsOutcome old new outcome = Gains old new (outcome_body outcome)
+
+-- and where that is short
+abbrev pub GainsShort : (old new : Vec ℕ Global) → Outcome → Type 0
+GainsShort old new outcome = IsShort outcome → GainsOutcome old new outcome
+
+-- the body of an answer that fits the room
+abbrev pub GainsAnswer : (old new : Vec ℕ Global) → Answer → Type 0
+GainsAnswer old new answer = FitsRoom answer → Gains old new (answer_body answer)

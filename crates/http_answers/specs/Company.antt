@@ -1,9 +1,8 @@
 -- The bodies of what a company is told, each with its keys in byte order.
-use Rattle.std.specs.Prelude.{ℕ, Bool, List, [], ◌∷◌, ◌++◌, map, codes, decimal, Option, Some, None}
+use Rattle.std.specs.Prelude.{ℕ, Bool, List, [], ◌∷◌, ◌++◌, codes, decimal, Option, Some, None}
 use Rattle.std.specs.Fmt.{signed_decimal}
-use Rattle.serde_json.specs.Data.{Data, number, unsigned, string, boolean, array}
+use Rattle.serde_json.specs.Data.{Data, number, unsigned, string, boolean}
 use Rattle.serde_json.specs.Find.{of_integer}
-use Rattle.serde_json.specs.View.{items_of}
 use Rattle.ach_fields.specs.Text.{without_blanks_after}
 use Rattle.bank_days.specs.Day.{day_text}
 use Rattle.desk_accounts.specs.declared.posting.Cause.{Cause}
@@ -25,6 +24,7 @@ use Rattle.desk_history.specs.declared.reports.ReturnRow.{ReturnRow}
 use Rattle.desk_history.specs.declared.reports.Statement.{Statement}
 use Rattle.desk_history.specs.declared.reports.StatementLine.{StatementLine}
 use Rattle.desk_history.specs.declared.reports.SubmissionReport.{SubmissionReport}
+use Rattle.http_answers.specs.Lists.{list_of, list_alone}
 
 -- ---- a submission that was looked up
 
@@ -59,6 +59,16 @@ returned_members cents index settled code returned late =
     ∷ (codes "settled", string (day_text settled))
     ∷ (codes "state", string (codes "returned")) ∷ []
 
+-- an entry in each of these states, with its cents and its number
+abbrev pub unsent_entry : ReportedEntry → (state : List ℕ) → Data
+unsent_entry e state = object_of (unsent_members e.cents e.index state)
+
+abbrev pub sent_entry : ReportedEntry → (settled : ℕ) → Data
+sent_entry e settled = object_of (sent_members e.cents e.index settled)
+
+abbrev pub returned_entry : ReportedEntry → (settled code returned : ℕ) → (late : Bool) → Data
+returned_entry e settled code returned late = object_of (returned_members e.cents e.index settled code returned late)
+
 abbrev pub entry_members : (cents index : ℕ) → EntryState → List (List ℕ × Data)
 entry_members cents index states.Held = unsent_members cents index (codes "held")
 entry_members cents index states.Lapsed = unsent_members cents index (codes "lapsed")
@@ -85,7 +95,7 @@ report_members r =
     (codes "cents", number (unsigned r.cents))
     ∷ (codes "day", string (day_text r.day))
     ∷ (codes "direction", string (direction_text r.direction))
-    ∷ (codes "entries", array (items_of (map entry_body r.entries)))
+    ∷ (codes "entries", list_of entry_body r.entries)
     ∷ (retried_members r.retried ++ report_last_members r)
 
 unfoldable pub report_body : SubmissionReport → Data
@@ -107,7 +117,7 @@ unfoldable pub return_body : ReturnRow → Data
 return_body row = object_of (return_members row)
 
 unfoldable pub returns_body : List ReturnRow → Data
-returns_body rows = object_of ((codes "returns", array (items_of (map return_body rows))) ∷ [])
+returns_body rows = list_alone (codes "returns") return_body rows
 
 -- the corrected data with all its characters
 abbrev pub change_members : ChangeRow → List (List ℕ × Data)
@@ -122,7 +132,7 @@ unfoldable pub change_body : ChangeRow → Data
 change_body row = object_of (change_members row)
 
 unfoldable pub changes_body : List ChangeRow → Data
-changes_body rows = object_of ((codes "changes", array (items_of (map change_body rows))) ∷ [])
+changes_body rows = list_alone (codes "changes") change_body rows
 
 -- ---- a statement
 
@@ -146,7 +156,7 @@ abbrev pub statement_members : Statement → List (List ℕ × Data)
 statement_members s =
     (codes "balance", string (signed_decimal s.balance))
     ∷ (codes "day", string (day_text s.day))
-    ∷ (codes "lines", array (items_of (map line_body s.lines))) ∷ []
+    ∷ (codes "lines", list_of line_body s.lines) ∷ []
 
 unfoldable pub statement_body : Statement → Data
 statement_body s = object_of (statement_members s)

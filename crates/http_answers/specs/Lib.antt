@@ -1,3 +1,4 @@
+pub mod Lists
 pub mod Company
 pub mod Operator
 pub mod Faults

@@ -1,8 +1,7 @@
 -- The bodies of what the operator is told, each with its keys in byte order.
-use Rattle.std.specs.Prelude.{ℕ, List, [], ◌∷◌, map, codes}
+use Rattle.std.specs.Prelude.{ℕ, List, [], ◌∷◌, codes}
 use Rattle.std.specs.Fmt.{signed_decimal}
-use Rattle.serde_json.specs.Data.{Data, number, unsigned, string, array}
-use Rattle.serde_json.specs.View.{items_of}
+use Rattle.serde_json.specs.Data.{Data, number, unsigned, string}
 use Rattle.bank_days.specs.Day.{day_text}
 use Rattle.http_json.specs.Members.{object_of}
 use Rattle.desk_history.specs.declared.operations.CutSummary.{CutSummary}
@@ -12,6 +11,7 @@ use Rattle.desk_history.specs.declared.operations.Settlement.{Settlement}
 use Rattle.desk_history.specs.declared.operations.SuspenseReason.{SuspenseReason}
 use Rattle.desk_history.specs.declared.operations.SuspenseReason.TheVariants as reasons
 use Rattle.desk_history.specs.declared.operations.SuspenseRow.{SuspenseRow}
+use Rattle.http_answers.specs.Lists.{list_of, list_alone}
 
 -- ---- what was set
 
@@ -39,11 +39,15 @@ company_body id = object_of (company_members id)
 abbrev pub modifier_body : ℕ → Data
 modifier_body modifier = string (modifier ∷ [])
 
+-- the files of a day
+abbrev pub files_body : (modifiers : List ℕ) → Data
+files_body modifiers = list_of modifier_body modifiers
+
 abbrev pub cut_members : CutSummary → List (List ℕ × Data)
 cut_members cut =
     (codes "day", string (day_text cut.day))
     ∷ (codes "entries", number (unsigned cut.entries))
-    ∷ (codes "files", array (items_of (map modifier_body cut.files)))
+    ∷ (codes "files", files_body cut.files)
     ∷ (codes "lapsed", number (unsigned cut.lapsed)) ∷ []
 
 unfoldable pub cut_body : CutSummary → Data
@@ -74,7 +78,7 @@ abbrev pub settlement_members : Settlement → List (List ℕ × Data)
 settlement_members s =
     (codes "balance", string (signed_decimal s.balance))
     ∷ (codes "day", string (day_text s.day))
-    ∷ (codes "days", array (items_of (map day_sum_body s.days))) ∷ []
+    ∷ (codes "days", list_of day_sum_body s.days) ∷ []
 
 unfoldable pub settlement_body : Settlement → Data
 settlement_body s = object_of (settlement_members s)
@@ -101,4 +105,4 @@ unfoldable pub suspense_row_body : SuspenseRow → Data
 suspense_row_body row = object_of (suspense_members row)
 
 unfoldable pub suspense_body : List SuspenseRow → Data
-suspense_body rows = object_of ((codes "items", array (items_of (map suspense_row_body rows))) ∷ [])
+suspense_body rows = list_alone (codes "items") suspense_row_body rows

@@ -1,8 +1,7 @@
 -- The body of how the desk stands, with its keys in byte order.
-use Rattle.std.specs.Prelude.{ℕ, List, [], ◌∷◌, map, codes, Option, Some, None}
+use Rattle.std.specs.Prelude.{ℕ, List, [], ◌∷◌, codes, Option, Some, None}
 use Rattle.std.specs.Fmt.{decimal}
-use Rattle.serde_json.specs.Data.{Data, null, number, unsigned, string, array}
-use Rattle.serde_json.specs.View.{items_of}
+use Rattle.serde_json.specs.Data.{Data, null, number, unsigned, string}
 use Rattle.bank_days.specs.Day.{day_text}
 use Rattle.http_json.specs.Members.{object_of}
 use Rattle.desk_history.specs.declared.status.CompanyStatus.{CompanyStatus}
@@ -10,7 +9,8 @@ use Rattle.desk_history.specs.declared.status.DeskStatus.{DeskStatus}
 use Rattle.desk_history.specs.declared.status.DueDay.{DueDay}
 use Rattle.desk_history.specs.declared.status.Tallies.{Tallies}
 use Rattle.desk_history.specs.declared.status.Tally.{Tally}
-use Rattle.http_answers.specs.Operator.{modifier_body}
+use Rattle.http_answers.specs.Lists.{list_of}
+use Rattle.http_answers.specs.Operator.{files_body}
 
 -- cents as decimal text
 abbrev pub tally_members : Tally → List (List ℕ × Data)
@@ -36,7 +36,7 @@ due_body d = object_of (due_members d)
 
 abbrev pub company_status_members : CompanyStatus → List (List ℕ × Data)
 company_status_members s =
-    (codes "due", array (items_of (map due_body s.due)))
+    (codes "due", list_of due_body s.due)
     ∷ (codes "held", tallies_body s.held)
     ∷ (codes "id", string s.id)
     ∷ (codes "lapsing", number (unsigned s.lapsing))
@@ -50,11 +50,15 @@ abbrev pub day_or_null : Option ℕ → Data
 day_or_null None = null
 day_or_null (Some day) = string (day_text day)
 
+-- how each company stands
+abbrev pub companies_body : List CompanyStatus → Data
+companies_body companies = list_of company_status_body companies
+
 abbrev pub status_members : DeskStatus → List (List ℕ × Data)
 status_members s =
-    (codes "companies", array (items_of (map company_status_body s.companies)))
+    (codes "companies", companies_body s.companies)
     ∷ (codes "day", day_or_null s.day)
-    ∷ (codes "files", array (items_of (map modifier_body s.files)))
+    ∷ (codes "files", files_body s.files)
     ∷ (codes "holidays", number (unsigned s.holidays))
     ∷ (codes "sent", number (unsigned s.sent))
     ∷ (codes "suspense", number (unsigned s.suspense)) ∷ []

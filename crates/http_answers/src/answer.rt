@@ -1,7 +1,8 @@
 //! The body of each answer of the desk.
-ghost use Rattle.std.specs.Prelude.{◌≡◌, ◌≤◌, ◌+◌, ◌++◌, true, false, OnOk, OnErr, vec_len, vec_capacity};
+ghost use Rattle.std.specs.Prelude.{◌≡◌, ◌≤◌, ◌+◌, true, false, OnOk, OnErr, vec_len, vec_capacity};
 ghost use Rattle.desk_history.specs.declared.answer.Outcome.TheVariants as outcomes;
-ghost use Rattle.http_answers.specs.Answers.{outcome_body, answer_body, is_of_command, is_command, IsShort, FitsRoom};
+ghost use Rattle.http_json.specs.Gains.{Gains};
+ghost use Rattle.http_answers.specs.Answers.{is_of_command, is_command, GainsOutcome, GainsShort, GainsAnswer};
 
 use crate::company::{
     add_changes, add_exposure, add_rates, add_report, add_returns, add_statement,
@@ -26,8 +27,7 @@ pub const BODY_ROOM: usize = 640;
 /// more on a day.
 pub fn write_answer(alloc: Global, text: &mut Vec<u8>, answer: Answer) -> Result<(), AllocError>
     requires { vec_len text.old + BODY_ROOM ≤ vec_capacity text.old }
-    ensures body { OnOk result
-        (FitsRoom answer → text.new.items ≡ text.old.items ++ answer_body answer) }
+    ensures body { OnOk result (GainsAnswer text.old text.new answer) }
     ensures memory { OnErr result (is_command answer ≡ false) }
     ensures len { is_command answer ≡ true → vec_len text.new ≤ vec_len text.old + BODY_ROOM }
 {
@@ -63,8 +63,7 @@ fn is_of_command(outcome: &Outcome) -> bool
 
 fn write_outcome(alloc: Global, text: &mut Vec<u8>, outcome: Outcome) -> Result<(), AllocError>
     requires { vec_len text.old + BODY_ROOM ≤ vec_capacity text.old }
-    ensures body { OnOk result
-        (IsShort outcome → text.new.items ≡ text.old.items ++ outcome_body outcome) }
+    ensures body { OnOk result (GainsShort text.old text.new outcome) }
     ensures memory { OnErr result (is_of_command outcome ≡ false) }
     ensures len { is_of_command outcome ≡ true → vec_len text.new ≤ vec_len text.old + BODY_ROOM }
 {
@@ -79,8 +78,7 @@ fn write_outcome(alloc: Global, text: &mut Vec<u8>, outcome: Outcome) -> Result<
 // What a command did, into the room.
 fn put_outcome(text: &mut Vec<u8>, outcome: &Outcome)
     requires { vec_len text.old + BODY_ROOM ≤ vec_capacity text.old }
-    ensures body { is_of_command outcome.now ≡ true → IsShort outcome.now →
-        text.new.items ≡ text.old.items ++ outcome_body outcome.now }
+    ensures body { is_of_command outcome.now ≡ true → GainsShort text.old text.new outcome.now }
     ensures len { vec_len text.new ≤ vec_len text.old + BODY_ROOM }
 {
     match outcome {
@@ -96,8 +94,7 @@ fn put_outcome(text: &mut Vec<u8>, outcome: &Outcome)
 
 fn put_receipt(text: &mut Vec<u8>, receipt: &Receipt)
     requires { vec_len text.old + BODY_ROOM ≤ vec_capacity text.old }
-    ensures body { text.new.items ≡ text.old.items ++ outcome_body
-        (outcomes.Submitted receipt.now) }
+    ensures body { GainsOutcome text.old text.new (outcomes.Submitted receipt.now) }
     ensures len { vec_len text.new ≤ vec_len text.old + BODY_ROOM }
 {
     put_acceptance(
@@ -111,8 +108,7 @@ fn put_receipt(text: &mut Vec<u8>, receipt: &Receipt)
 
 // What was looked up, with growth.
 fn add_outcome(alloc: Global, text: &mut Vec<u8>, outcome: Outcome) -> Result<(), AllocError>
-    ensures { OnOk result
-        (is_of_command outcome ≡ false → text.new.items ≡ text.old.items ++ outcome_body outcome) }
+    ensures { OnOk result (is_of_command outcome ≡ false → GainsOutcome text.old text.new outcome) }
 {
     match outcome {
         Outcome::Found(report) => add_found(alloc, text, report),
@@ -134,8 +130,7 @@ fn add_found(
     text: &mut Vec<u8>,
     report: Option<SubmissionReport>,
 ) -> Result<(), AllocError>
-    ensures { OnOk result
-        (text.new.items ≡ text.old.items ++ outcome_body (outcomes.Found report)) }
+    ensures { OnOk result (GainsOutcome text.old text.new (outcomes.Found report)) }
 {
     match report {
         Some(report) => add_report(text, report),
@@ -144,8 +139,7 @@ fn add_found(
 }
 
 fn add_file(alloc: Global, text: &mut Vec<u8>, file: &Option<ListOf<u8>>) -> Result<(), AllocError>
-    ensures { OnOk result
-        (text.new.items ≡ text.old.items ++ outcome_body (outcomes.File file.now)) }
+    ensures { OnOk result (GainsOutcome text.old text.new (outcomes.File file.now)) }
 {
     match file {
         Some(bytes) => text.extend_from_slice(bytes.as_slice()),
@@ -154,7 +148,7 @@ fn add_file(alloc: Global, text: &mut Vec<u8>, file: &Option<ListOf<u8>>) -> Res
 }
 
 fn add_body(text: &mut Vec<u8>, body: Vec<u8>) -> Result<(), AllocError>
-    ensures { OnOk result (text.new.items ≡ text.old.items ++ body.items) }
+    ensures { OnOk result (Gains text.old text.new body.items) }
 {
     text.extend_from_slice(&body)
 }

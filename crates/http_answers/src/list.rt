@@ -1,9 +1,7 @@
 //! Lists of objects.
-ghost use Rattle.std.specs.Prelude.{◌≡◌, ◌≤◌, ◌++◌, ◌∷◌, [], length, map, false, OnOk};
-ghost use Rattle.serde_json.specs.Data.{array};
-ghost use Rattle.serde_json.specs.View.{items_of};
-ghost use Rattle.serde_json.specs.Written.{comma_if, compact_text, items_text};
-ghost use Rattle.http_json.specs.Members.{member_text, object_of};
+ghost use Rattle.std.specs.Prelude.{◌≤◌, length, OnOk};
+ghost use Rattle.http_json.specs.Gains.{GainsMember, GainsValue};
+ghost use Rattle.http_answers.specs.Lists.{list_of, list_alone, GainsRow, GainsRows};
 
 use desk_history::ListOf;
 use emptying_lists::EmptyingList;
@@ -18,9 +16,9 @@ const ROW_LENGTH: usize = 128;
 
 /// A `Row` is an object in a list of a body.
 pub(crate) trait Row {
-    ghost use Rattle.std.specs.Prelude.{◌≡◌, ◌≤◌, ◌+◌, ◌++◌, vec_len, vec_capacity};
+    ghost use Rattle.std.specs.Prelude.{◌≤◌, ◌+◌, vec_len, vec_capacity};
     ghost use Rattle.serde_json.specs.Data.{Data};
-    ghost use Rattle.serde_json.specs.Written.{compact_text};
+    ghost use Rattle.http_json.specs.Gains.{GainsValue};
 
     /// What it is in JSON.
     ghost body: { Self → Data };
@@ -28,7 +26,7 @@ pub(crate) trait Row {
     /// Appends it.
     fn put(&self, text: &mut Vec<u8>)
         requires { vec_len text.old + 1_024 ≤ vec_capacity text.old }
-        ensures { text.new.items ≡ text.old.items ++ compact_text (body self.now) };
+        ensures { GainsValue text.old text.new (body self.now) };
 }
 
 /// Appends a member whose value is a list. The objects are let go as they are written, so that the text
@@ -41,8 +39,7 @@ pub(crate) fn add_list<R: Row + Drop>(
     rows: ListOf<R>,
 ) -> Result<(), AllocError>
     requires { length key.now ≤ 32 }
-    ensures { OnOk result (text.new.items ≡ text.old.items ++ member_text later key.now
-        (array (items_of (map R.body rows)))) }
+    ensures { OnOk result (GainsMember text.old text.new later key.now (list_of R.body rows)) }
 {
     // A long text has a block of its own from the start, which then grows without a copy.
     text.reserve(rows.as_slice().len().saturating_mul(ROW_LENGTH))?;
@@ -54,8 +51,7 @@ pub(crate) fn add_list<R: Row + Drop>(
 
 // With the closing bracket.
 fn add_rows<R: Row + Drop>(text: &mut Vec<u8>, rows: EmptyingList<R>) -> Result<(), AllocError>
-    ensures { OnOk result
-        (text.new.items ≡ text.old.items ++ items_text false (items_of (map R.body rows))) }
+    ensures { OnOk result (GainsRows text.old text.new R.body rows) }
 {
     let mut left = rows;
     let mut later = false;
@@ -68,8 +64,7 @@ fn add_rows<R: Row + Drop>(text: &mut Vec<u8>, rows: EmptyingList<R>) -> Result<
 }
 
 fn add_row<R: Row>(text: &mut Vec<u8>, later: bool, row: &R) -> Result<(), AllocError>
-    ensures { OnOk result
-        (text.new.items ≡ text.old.items ++ (comma_if later ++ compact_text (R.body row.now))) }
+    ensures { OnOk result (GainsRow text.old text.new later (R.body row.now)) }
 {
     text.reserve(ROW_ROOM + 1)?;
     put_comma(text, later);
@@ -84,8 +79,7 @@ pub(crate) fn add_list_alone<R: Row + Drop>(
     rows: ListOf<R>,
 ) -> Result<(), AllocError>
     requires { length key.now ≤ 32 }
-    ensures { OnOk result (text.new.items ≡ text.old.items ++ compact_text
-        (object_of ((key.now, array (items_of (map R.body rows))) ∷ []))) }
+    ensures { OnOk result (GainsValue text.old text.new (list_alone key.now R.body rows)) }
 {
     text.push(b'{')?;
     add_list(text, false, key, rows)?;

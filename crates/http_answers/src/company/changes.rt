@@ -1,6 +1,6 @@
 //! The body of a company's notifications of change.
-ghost use Rattle.std.specs.Prelude.{◌≡◌, ◌++◌, OnOk};
-ghost use Rattle.serde_json.specs.Written.{compact_text};
+ghost use Rattle.std.specs.Prelude.{OnOk};
+ghost use Rattle.http_json.specs.Gains.{GainsValue};
 ghost use Rattle.http_answers.specs.Company.{change_body, changes_body};
 
 use crate::list::{Row, add_list_alone};
@@ -11,7 +11,7 @@ use std::alloc::AllocError;
 /// Appends the body of a company's notifications of change.
 #[tactic(auto, unfolding(crate::specs::Company::changes_body))]
 pub(crate) fn add_changes(text: &mut Vec<u8>, rows: ListOf<ChangeRow>) -> Result<(), AllocError>
-    ensures { OnOk result (text.new.items ≡ text.old.items ++ compact_text (changes_body rows)) }
+    ensures { OnOk result (GainsValue text.old text.new (changes_body rows)) }
 {
     add_list_alone(text, b"changes", rows)
 }

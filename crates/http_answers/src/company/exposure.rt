@@ -1,6 +1,6 @@
 //! The body of a company's exposure.
-ghost use Rattle.std.specs.Prelude.{◌≡◌, ◌++◌, OnOk};
-ghost use Rattle.serde_json.specs.Written.{compact_text};
+ghost use Rattle.std.specs.Prelude.{OnOk};
+ghost use Rattle.http_json.specs.Gains.{GainsValue};
 ghost use Rattle.http_answers.specs.Company.{exposure_body};
 
 use crate::list::ROW_ROOM;
@@ -10,8 +10,7 @@ use std::alloc::AllocError;
 
 /// Appends the body of a company's exposure and limits.
 pub(crate) fn add_exposure(text: &mut Vec<u8>, exposure: &Exposure) -> Result<(), AllocError>
-    ensures { OnOk result
-        (text.new.items ≡ text.old.items ++ compact_text (exposure_body exposure.now)) }
+    ensures { OnOk result (GainsValue text.old text.new (exposure_body exposure.now)) }
 {
     text.reserve(ROW_ROOM)?;
     put(text, b"{");

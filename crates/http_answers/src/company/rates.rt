@@ -1,7 +1,6 @@
 //! The body of a company's return rates.
-ghost use Rattle.std.specs.Prelude.{◌≡◌, ◌≤◌, ◌+◌, ◌*◌, ◌++◌, length, true, false, OnOk, vec_len, vec_capacity};
-ghost use Rattle.serde_json.specs.Written.{compact_text};
-ghost use Rattle.http_json.specs.Members.{member_text};
+ghost use Rattle.std.specs.Prelude.{◌≤◌, ◌+◌, ◌*◌, length, true, false, OnOk, vec_len, vec_capacity};
+ghost use Rattle.http_json.specs.Gains.{GainsMember, GainsValue};
 ghost use Rattle.http_answers.specs.Company.{rate_body, rates_body};
 
 use crate::list::ROW_ROOM;
@@ -12,7 +11,7 @@ use std::alloc::AllocError;
 
 /// Appends the body of a company's return rates.
 pub(crate) fn add_rates(text: &mut Vec<u8>, rates: &DayRates) -> Result<(), AllocError>
-    ensures { OnOk result (text.new.items ≡ text.old.items ++ compact_text (rates_body rates.now)) }
+    ensures { OnOk result (GainsValue text.old text.new (rates_body rates.now)) }
 {
     text.reserve(ROW_ROOM)?;
     put(text, b"{");
@@ -28,8 +27,7 @@ pub(crate) fn add_rates(text: &mut Vec<u8>, rates: &DayRates) -> Result<(), Allo
 #[tactic(auto, unfolding(http_json::specs::Members::member_text))]
 fn put_rate(text: &mut Vec<u8>, later: bool, key: &[u8], rate: &Rate)
     requires { vec_len text.old + (6 * length key.now + 104) ≤ vec_capacity text.old }
-    ensures items { text.new.items ≡ text.old.items ++ member_text later key.now
-        (rate_body rate.now) }
+    ensures items { GainsMember text.old text.new later key.now (rate_body rate.now) }
     ensures len { vec_len text.new ≤ vec_len text.old + (6 * length key.now + 104) }
     ensures capacity { vec_capacity text.old ≤ vec_capacity text.new }
 {
@@ -39,7 +37,7 @@ fn put_rate(text: &mut Vec<u8>, later: bool, key: &[u8], rate: &Rate)
 
 fn put_rate_object(text: &mut Vec<u8>, rate: &Rate)
     requires { vec_len text.old + 100 ≤ vec_capacity text.old }
-    ensures items { text.new.items ≡ text.old.items ++ compact_text (rate_body rate.now) }
+    ensures items { GainsValue text.old text.new (rate_body rate.now) }
     ensures len { vec_len text.new ≤ vec_len text.old + 100 }
     ensures capacity { vec_capacity text.old ≤ vec_capacity text.new }
 {

@@ -1,8 +1,8 @@
 //! The body of a submission or retry that was looked up.
-ghost use Rattle.std.specs.Prelude.{◌≡◌, ◌≤◌, ◌+◌, ◌++◌, length, OnOk, vec_len, vec_capacity};
-ghost use Rattle.serde_json.specs.Written.{compact_text};
-ghost use Rattle.http_json.specs.Members.{object_of, more_members_text};
-ghost use Rattle.http_answers.specs.Company.{direction_text, unsent_members, sent_members, returned_members, entry_body, retried_members, report_body};
+ghost use Rattle.std.specs.Prelude.{◌≡◌, ◌≤◌, ◌+◌, length, OnOk, vec_len, vec_capacity};
+ghost use Rattle.http_json.specs.Gains.{Gains, GainsValue};
+ghost use Rattle.http_json.specs.Members.{more_members_text};
+ghost use Rattle.http_answers.specs.Company.{direction_text, unsent_entry, sent_entry, returned_entry, entry_body, retried_members, report_body};
 
 use crate::list::{ROW_ROOM, Row, add_list};
 use bank_days::Day;
@@ -13,7 +13,7 @@ use std::alloc::AllocError;
 
 /// Appends the body of a submission or retry that was looked up.
 pub(crate) fn add_report(text: &mut Vec<u8>, report: SubmissionReport) -> Result<(), AllocError>
-    ensures { OnOk result (text.new.items ≡ text.old.items ++ compact_text (report_body report)) }
+    ensures { OnOk result (GainsValue text.old text.new (report_body report)) }
 {
     text.reserve(ROW_ROOM)?;
     put(text, b"{");
@@ -48,8 +48,7 @@ fn direction_text(direction: Direction) -> &'static str
 // The entry that a retry tries again.
 fn put_retried(text: &mut Vec<u8>, retried: &Option<RetriedEntry>)
     requires { vec_len text.old + 220 ≤ vec_capacity text.old }
-    ensures items { text.new.items ≡ text.old.items ++ more_members_text
-        (retried_members retried.now) }
+    ensures items { Gains text.old text.new (more_members_text (retried_members retried.now)) }
     ensures len { vec_len text.new ≤ vec_len text.old + 220 }
     ensures capacity { vec_capacity text.old ≤ vec_capacity text.new }
 {
@@ -83,8 +82,7 @@ impl Row for ReportedEntry {
 fn put_unsent(text: &mut Vec<u8>, entry: &ReportedEntry, state: &str)
     requires room { vec_len text.old + 1_024 ≤ vec_capacity text.old }
     requires short { length state.now ≤ 8 }
-    ensures { text.new.items ≡ text.old.items
-        ++ compact_text (object_of (unsent_members entry.now.cents entry.now.index state.now)) }
+    ensures { GainsValue text.old text.new (unsent_entry entry.now state.now) }
 {
     put(text, b"{");
     put_number(text, false, b"cents", entry.cents.get());
@@ -95,8 +93,7 @@ fn put_unsent(text: &mut Vec<u8>, entry: &ReportedEntry, state: &str)
 
 fn put_sent(text: &mut Vec<u8>, entry: &ReportedEntry, settled: RuleDay)
     requires { vec_len text.old + 1_024 ≤ vec_capacity text.old }
-    ensures { text.new.items ≡ text.old.items
-        ++ compact_text (object_of (sent_members entry.now.cents entry.now.index settled)) }
+    ensures { GainsValue text.old text.new (sent_entry entry.now settled) }
 {
     put(text, b"{");
     put_number(text, false, b"cents", entry.cents.get());
@@ -115,8 +112,7 @@ fn put_returned(
     late: bool,
 )
     requires { vec_len text.old + 1_024 ≤ vec_capacity text.old }
-    ensures { text.new.items ≡ text.old.items
-        ++ compact_text (object_of (returned_members entry.now.cents entry.now.index settled code returned late)) }
+    ensures { GainsValue text.old text.new (returned_entry entry.now settled code returned late) }
 {
     put(text, b"{");
     put_number(text, false, b"cents", entry.cents.get());

@@ -1,6 +1,6 @@
 //! The body of a company's returns.
-ghost use Rattle.std.specs.Prelude.{◌≡◌, ◌≤◌, ◌++◌, length, OnOk};
-ghost use Rattle.serde_json.specs.Written.{compact_text};
+ghost use Rattle.std.specs.Prelude.{◌≡◌, ◌≤◌, length, OnOk};
+ghost use Rattle.http_json.specs.Gains.{GainsValue};
 ghost use Rattle.ach_fields.specs.Text.{without_blanks_after};
 ghost use Rattle.http_answers.specs.Company.{return_body, returns_body};
 
@@ -13,7 +13,7 @@ use std::alloc::AllocError;
 /// Appends the body of a company's returns.
 #[tactic(auto, unfolding(crate::specs::Company::returns_body))]
 pub(crate) fn add_returns(text: &mut Vec<u8>, rows: ListOf<ReturnRow>) -> Result<(), AllocError>
-    ensures { OnOk result (text.new.items ≡ text.old.items ++ compact_text (returns_body rows)) }
+    ensures { OnOk result (GainsValue text.old text.new (returns_body rows)) }
 {
     add_list_alone(text, b"returns", rows)
 }

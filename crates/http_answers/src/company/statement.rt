@@ -1,6 +1,6 @@
 //! The body of a company's statement.
-ghost use Rattle.std.specs.Prelude.{◌≡◌, ◌≤◌, ◌++◌, length, OnOk};
-ghost use Rattle.serde_json.specs.Written.{compact_text};
+ghost use Rattle.std.specs.Prelude.{◌≡◌, ◌≤◌, length, OnOk};
+ghost use Rattle.http_json.specs.Gains.{GainsValue};
 ghost use Rattle.http_answers.specs.Company.{cause_text, line_body, statement_body};
 
 use crate::list::{ROW_ROOM, Row, add_list};
@@ -11,8 +11,7 @@ use std::alloc::AllocError;
 
 /// Appends the body of a company's statement.
 pub(crate) fn add_statement(text: &mut Vec<u8>, statement: Statement) -> Result<(), AllocError>
-    ensures { OnOk result
-        (text.new.items ≡ text.old.items ++ compact_text (statement_body statement)) }
+    ensures { OnOk result (GainsValue text.old text.new (statement_body statement)) }
 {
     text.reserve(ROW_ROOM)?;
     put(text, b"{");

@@ -1,10 +1,8 @@
 //! The body of a cut.
-ghost use Rattle.std.specs.Prelude.{◌≡◌, ◌≤◌, ◌+◌, ◌*◌, ◌++◌, map, length, codes, false, true, vec_len, vec_capacity};
-ghost use Rattle.serde_json.specs.Data.{array};
-ghost use Rattle.serde_json.specs.View.{items_of};
-ghost use Rattle.serde_json.specs.Written.{compact_text, comma_if, items_text};
-ghost use Rattle.http_json.specs.Members.{member_text};
-ghost use Rattle.http_answers.specs.Operator.{modifier_body, cut_body};
+ghost use Rattle.std.specs.Prelude.{◌≡◌, ◌≤◌, ◌+◌, ◌*◌, length, codes, true, vec_len, vec_capacity};
+ghost use Rattle.http_json.specs.Gains.{GainsMember, GainsValue};
+ghost use Rattle.http_answers.specs.Lists.{GainsRow, GainsRows};
+ghost use Rattle.http_answers.specs.Operator.{modifier_body, files_body, cut_body};
 
 use desk_history::CutSummary;
 use http_json::{put, put_comma, put_key, put_number, put_quoted, put_text};
@@ -15,8 +13,7 @@ const MOST_FILES: usize = 36;
 /// Appends the body of a cut that made at most 36 files, which is the most that a day has.
 pub(crate) fn put_cut(text: &mut Vec<u8>, cut: &CutSummary)
     requires { vec_len text.old + 640 ≤ vec_capacity text.old }
-    ensures items { length cut.now.files ≤ 36 →
-        text.new.items ≡ text.old.items ++ compact_text (cut_body cut.now) }
+    ensures items { length cut.now.files ≤ 36 → GainsValue text.old text.new (cut_body cut.now) }
     ensures len { vec_len text.new ≤ vec_len text.old + 640 }
 {
     put(text, b"{");
@@ -42,8 +39,7 @@ fn first_files(files: &[u8]) -> &[u8]
 #[tactic(auto, unfolding(http_json::specs::Members::member_text))]
 fn put_files(text: &mut Vec<u8>, files: &[u8])
     requires { vec_len text.old + (9 * length files.now + 36) ≤ vec_capacity text.old }
-    ensures items { text.new.items ≡ text.old.items ++ member_text true (codes "files")
-        (array (items_of (map modifier_body files.now))) }
+    ensures items { GainsMember text.old text.new true (codes "files") (files_body files.now) }
     ensures len { vec_len text.new ≤ vec_len text.old + (9 * length files.now + 36) }
     ensures capacity { vec_capacity text.old ≤ vec_capacity text.new }
 {
@@ -55,8 +51,7 @@ fn put_files(text: &mut Vec<u8>, files: &[u8])
 // With the closing bracket.
 fn put_modifiers(text: &mut Vec<u8>, files: &[u8])
     requires { vec_len text.old + (9 * length files.now + 1) ≤ vec_capacity text.old }
-    ensures items { text.new.items ≡ text.old.items ++ items_text false
-        (items_of (map modifier_body files.now)) }
+    ensures items { GainsRows text.old text.new modifier_body files.now }
     ensures len { vec_len text.new ≤ vec_len text.old + (9 * length files.now + 1) }
     ensures capacity { vec_capacity text.old ≤ vec_capacity text.new }
 {
@@ -70,8 +65,7 @@ fn put_modifiers(text: &mut Vec<u8>, files: &[u8])
 
 fn put_modifier(text: &mut Vec<u8>, later: bool, modifier: u8)
     requires { vec_len text.old + 9 ≤ vec_capacity text.old }
-    ensures items { text.new.items ≡ text.old.items ++
-        (comma_if later ++ compact_text (modifier_body modifier)) }
+    ensures items { GainsRow text.old text.new later (modifier_body modifier) }
     ensures len { vec_len text.new ≤ vec_len text.old + 9 }
     ensures capacity { vec_capacity text.old ≤ vec_capacity text.new }
 {

@@ -1,6 +1,6 @@
 //! The body of a file that was taken.
-ghost use Rattle.std.specs.Prelude.{◌≡◌, ◌≤◌, ◌+◌, ◌++◌, vec_len, vec_capacity};
-ghost use Rattle.serde_json.specs.Written.{compact_text};
+ghost use Rattle.std.specs.Prelude.{◌≤◌, ◌+◌, vec_len, vec_capacity};
+ghost use Rattle.http_json.specs.Gains.{GainsValue};
 ghost use Rattle.http_answers.specs.Operator.{intake_body};
 
 use desk_history::Intake;
@@ -9,7 +9,7 @@ use http_json::{put, put_number, put_text};
 /// Appends the body of a file that was taken.
 pub(crate) fn put_intake(text: &mut Vec<u8>, intake: &Intake)
     requires { vec_len text.old + 640 ≤ vec_capacity text.old }
-    ensures items { text.new.items ≡ text.old.items ++ compact_text (intake_body intake.now) }
+    ensures items { GainsValue text.old text.new (intake_body intake.now) }
     ensures len { vec_len text.new ≤ vec_len text.old + 640 }
 {
     put(text, b"{");

@@ -1,6 +1,6 @@
 //! The body of the operator's account.
-ghost use Rattle.std.specs.Prelude.{◌≡◌, ◌++◌, OnOk};
-ghost use Rattle.serde_json.specs.Written.{compact_text};
+ghost use Rattle.std.specs.Prelude.{OnOk};
+ghost use Rattle.http_json.specs.Gains.{GainsValue};
 ghost use Rattle.http_answers.specs.Operator.{day_sum_body, settlement_body};
 
 use crate::list::{ROW_ROOM, Row, add_list};
@@ -10,8 +10,7 @@ use std::alloc::AllocError;
 
 /// Appends the body of the operator's account.
 pub(crate) fn add_settlement(text: &mut Vec<u8>, settlement: Settlement) -> Result<(), AllocError>
-    ensures { OnOk result
-        (text.new.items ≡ text.old.items ++ compact_text (settlement_body settlement)) }
+    ensures { OnOk result (GainsValue text.old text.new (settlement_body settlement)) }
 {
     text.reserve(ROW_ROOM)?;
     put(text, b"{");

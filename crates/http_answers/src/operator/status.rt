@@ -1,11 +1,9 @@
 //! The body of how the desk stands.
-ghost use Rattle.std.specs.Prelude.{◌≡◌, ◌≤◌, ◌+◌, ◌*◌, ◌++◌, codes, false, length, map, true, OnOk, vec_len, vec_capacity};
-ghost use Rattle.serde_json.specs.Data.{array};
-ghost use Rattle.serde_json.specs.View.{items_of};
-ghost use Rattle.serde_json.specs.Written.{comma_if, compact_text, items_text};
-ghost use Rattle.http_json.specs.Members.{member_text};
+ghost use Rattle.std.specs.Prelude.{◌≤◌, ◌+◌, ◌*◌, codes, false, length, true, OnOk, vec_len, vec_capacity};
+ghost use Rattle.http_json.specs.Gains.{GainsMember, GainsValue};
+ghost use Rattle.http_answers.specs.Lists.{GainsRow, GainsRows};
 ghost use Rattle.http_answers.specs.Operator.{modifier_body};
-ghost use Rattle.http_answers.specs.Status.{company_status_body, day_or_null, due_body, status_body, tallies_body, tally_body};
+ghost use Rattle.http_answers.specs.Status.{companies_body, company_status_body, day_or_null, due_body, status_body, tallies_body, tally_body};
 
 use crate::list::{ROW_ROOM, Row, add_list};
 use bank_days::Day;
@@ -16,7 +14,7 @@ use std::alloc::AllocError;
 
 /// Appends the body of how the desk stands.
 pub(crate) fn add_status(text: &mut Vec<u8>, status: DeskStatus) -> Result<(), AllocError>
-    ensures { OnOk result (text.new.items ≡ text.old.items ++ compact_text (status_body status)) }
+    ensures { OnOk result (GainsValue text.old text.new (status_body status)) }
 {
     text.push(b'{')?;
     add_companies(text, status.companies)?;
@@ -35,8 +33,7 @@ pub(crate) fn add_status(text: &mut Vec<u8>, status: DeskStatus) -> Result<(), A
 #[tactic(auto, unfolding(http_json::specs::Members::member_text))]
 fn put_desk_day(text: &mut Vec<u8>, day: Option<Day>)
     requires { vec_len text.old + 100 ≤ vec_capacity text.old }
-    ensures items { text.new.items ≡ text.old.items ++ member_text true (codes "day")
-        (day_or_null day) }
+    ensures items { GainsMember text.old text.new true (codes "day") (day_or_null day) }
 {
     match day {
         Some(day) => put_text(text, true, b"day", &day.text()),
@@ -58,8 +55,8 @@ impl Row for u8 {
 
 #[tactic(auto, unfolding(http_json::specs::Members::member_text))]
 fn add_companies(text: &mut Vec<u8>, companies: ListOf<CompanyStatus>) -> Result<(), AllocError>
-    ensures { OnOk result (text.new.items ≡ text.old.items ++ member_text false (codes "companies")
-        (array (items_of (map company_status_body companies)))) }
+    ensures { OnOk result
+        (GainsMember text.old text.new false (codes "companies") (companies_body companies)) }
 {
     text.reserve(ROW_ROOM)?;
     put_key(text, false, b"companies");
@@ -69,8 +66,7 @@ fn add_companies(text: &mut Vec<u8>, companies: ListOf<CompanyStatus>) -> Result
 
 // With the closing bracket.
 fn add_each(text: &mut Vec<u8>, companies: EmptyingList<CompanyStatus>) -> Result<(), AllocError>
-    ensures { OnOk result (text.new.items ≡ text.old.items ++ items_text false
-        (items_of (map company_status_body companies))) }
+    ensures { OnOk result (GainsRows text.old text.new company_status_body companies) }
 {
     let mut left = companies;
     let mut later = false;
@@ -87,8 +83,7 @@ fn add_company_behind(
     later: bool,
     company: CompanyStatus,
 ) -> Result<(), AllocError>
-    ensures { OnOk result (text.new.items ≡ text.old.items ++
-        (comma_if later ++ compact_text (company_status_body company))) }
+    ensures { OnOk result (GainsRow text.old text.new later (company_status_body company)) }
 {
     text.reserve(ROW_ROOM)?;
     put_comma(text, later);
@@ -96,8 +91,7 @@ fn add_company_behind(
 }
 
 fn add_company(text: &mut Vec<u8>, company: CompanyStatus) -> Result<(), AllocError>
-    ensures { OnOk result
-        (text.new.items ≡ text.old.items ++ compact_text (company_status_body company)) }
+    ensures { OnOk result (GainsValue text.old text.new (company_status_body company)) }
 {
     text.push(b'{')?;
     add_list(text, false, b"due", company.due)?;
@@ -114,8 +108,7 @@ fn add_company(text: &mut Vec<u8>, company: CompanyStatus) -> Result<(), AllocEr
 #[tactic(auto, unfolding(http_json::specs::Members::member_text))]
 fn put_held(text: &mut Vec<u8>, held: &Tallies)
     requires { vec_len text.old + 1_024 ≤ vec_capacity text.old }
-    ensures { text.new.items ≡ text.old.items ++ member_text true (codes "held")
-        (tallies_body held.now) }
+    ensures { GainsMember text.old text.new true (codes "held") (tallies_body held.now) }
 {
     put_key(text, true, b"held");
     put_tallies(text, held);
@@ -123,7 +116,7 @@ fn put_held(text: &mut Vec<u8>, held: &Tallies)
 
 fn put_tallies(text: &mut Vec<u8>, sums: &Tallies)
     requires { vec_len text.old + 840 ≤ vec_capacity text.old }
-    ensures { text.new.items ≡ text.old.items ++ compact_text (tallies_body sums.now) }
+    ensures { GainsValue text.old text.new (tallies_body sums.now) }
 {
     put(text, b"{");
     put_tally(text, false, b"credits", &sums.credits);
@@ -135,8 +128,7 @@ fn put_tallies(text: &mut Vec<u8>, sums: &Tallies)
 #[tactic(auto, unfolding(http_json::specs::Members::member_text))]
 fn put_tally(text: &mut Vec<u8>, later: bool, key: &[u8], tally: &Tally)
     requires { vec_len text.old + (6 * length key.now + 372) ≤ vec_capacity text.old }
-    ensures items { text.new.items ≡ text.old.items ++ member_text later key.now
-        (tally_body tally.now) }
+    ensures items { GainsMember text.old text.new later key.now (tally_body tally.now) }
     ensures len { vec_len text.new ≤ vec_len text.old + (6 * length key.now + 372) }
     ensures capacity { vec_capacity text.old ≤ vec_capacity text.new }
 {
@@ -146,7 +138,7 @@ fn put_tally(text: &mut Vec<u8>, later: bool, key: &[u8], tally: &Tally)
 
 fn put_tally_object(text: &mut Vec<u8>, tally: &Tally)
     requires { vec_len text.old + 368 ≤ vec_capacity text.old }
-    ensures items { text.new.items ≡ text.old.items ++ compact_text (tally_body tally.now) }
+    ensures items { GainsValue text.old text.new (tally_body tally.now) }
     ensures len { vec_len text.new ≤ vec_len text.old + 368 }
     ensures capacity { vec_capacity text.old ≤ vec_capacity text.new }
 {

@@ -1,6 +1,6 @@
 //! The body of the items in suspense.
-ghost use Rattle.std.specs.Prelude.{◌≡◌, ◌≤◌, ◌++◌, length, OnOk};
-ghost use Rattle.serde_json.specs.Written.{compact_text};
+ghost use Rattle.std.specs.Prelude.{◌≡◌, ◌≤◌, length, OnOk};
+ghost use Rattle.http_json.specs.Gains.{GainsValue};
 ghost use Rattle.http_answers.specs.Operator.{reason_text, suspense_row_body, suspense_body};
 
 use crate::list::{Row, add_list_alone};
@@ -11,7 +11,7 @@ use std::alloc::AllocError;
 /// Appends the body of the items in suspense.
 #[tactic(auto, unfolding(crate::specs::Operator::suspense_body))]
 pub(crate) fn add_suspense(text: &mut Vec<u8>, rows: ListOf<SuspenseRow>) -> Result<(), AllocError>
-    ensures { OnOk result (text.new.items ≡ text.old.items ++ compact_text (suspense_body rows)) }
+    ensures { OnOk result (GainsValue text.old text.new (suspense_body rows)) }
 {
     add_list_alone(text, b"items", rows)
 }
