@@ -1,7 +1,7 @@
 //! The tries that a run has left, and the mark of a call that failed.
-ghost use Rattle.std.specs.Prelude.{◌≡◌, ◌≢◌, ◌+◌, ◌<◌, ◌↔◌, Err, Some, IsOk, IfErr, OnOk, OnErr};
+ghost use Rattle.std.specs.Prelude.{◌≡◌, ◌≢◌, ◌+◌, ◌↔◌, Err, Some, IsOk, IfErr, OnOk, OnErr};
 ghost use Rattle.std.specs.IoError.{error_kind};
-ghost use Rattle.io_retries.specs.Marks.{IsUnused, Marks};
+ghost use Rattle.io_retries.specs.Marks.{IsUnused, Marks, IsMadeAgain};
 
 use std::io;
 use std::io::ErrorKind;
@@ -50,8 +50,7 @@ impl Tries {
     /// interrupted where no try is left, has failed: that is marked, and the error is given back, and is
     /// no interruption, so that no caller makes the call again.
     pub(crate) fn spend(&mut self, failure: Failure, error: io::Error) -> io::Result<()>
-        ensures interrupted { IsOk result ↔
-            ((error_kind error ≡ ErrorKind.Interrupted) × (0 < self.old.left)) }
+        ensures interrupted { IsOk result ↔ IsMadeAgain error self.old.left }
         ensures spent { OnOk result (self.new.left + 1 ≡ self.old.left) }
         ensures kept { OnErr result (self.new.left ≡ self.old.left) }
         ensures mark { Marks result failure self.old self.new }

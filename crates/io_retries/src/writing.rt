@@ -1,10 +1,10 @@
 //! Writes and flushes that are made again where they are interrupted.
-ghost use Rattle.std.specs.Prelude.{◌≡◌, ◌≢◌, ◌≤◌, IfErr, MatchResult};
+ghost use Rattle.std.specs.Prelude.{◌≡◌, ◌≢◌, ◌≤◌, IfErr};
 ghost use Rattle.std.specs.Io.{WritesAtMost};
-ghost use Rattle.std.specs.Io.KnownBytes.{Appends, Keeps, WriteAppends};
+ghost use Rattle.std.specs.Io.KnownBytes.{Keeps, WriteAppends};
 ghost use Rattle.std.specs.IoError.{error_kind};
 ghost use Rattle.io_retries.specs.Marks.{Marks};
-ghost use Rattle.io_retries.specs.Prefixes.{AppendsPrefix};
+ghost use Rattle.io_retries.specs.Prefixes.{WriteAllAppends};
 
 use crate::tries::{Failure, Tries};
 use std::io;
@@ -52,9 +52,8 @@ pub fn write_all_with_retries<W: Write>(
     bytes: &[u8],
     tries: &mut Tries,
 ) -> io::Result<()>
-    ensures bytes { MatchResult result
-        (λ _. Appends (W.contents writer.old) (W.contents writer.new) bytes.now)
-        (λ _. AppendsPrefix (W.contents writer.old) (W.contents writer.new) bytes.now) }
+    ensures bytes { WriteAllAppends (W.contents writer.old) (W.contents writer.new)
+        result bytes.now }
     ensures tries { tries.new.left ≤ tries.old.left }
     ensures mark { Marks result Failure.Write tries.old tries.new }
 {
