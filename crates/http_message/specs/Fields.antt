@@ -26,3 +26,11 @@ values_of name fields = map (λ field. field.1) (filter (is_named name) fields)
 abbrev pub first_of : List (List ℕ) → Option (List ℕ)
 first_of [] = None
 first_of (value ∷ values) = Some value
+
+-- the values of fields of the program
+abbrev pub field_values : List Field → List FieldValue
+field_values fields = map field_value fields
+
+-- the value of the first field of this name, if there is one
+abbrev pub first_value : (name : List ℕ) → List FieldValue → Option (List ℕ)
+first_value name fields = first_of (values_of name fields)

@@ -1,11 +1,12 @@
 -- The head of a request at the start of a stream.
-use Rattle.std.specs.Prelude.{ℕ, ◌≤◌, ◌==◌, Bool, List, ◌++◌, length, map, if◌then◌else◌}
+use Rattle.std.specs.Prelude.{◌≡◌, ℕ, ◌≤◌, ◌==◌, Bool, List, ◌++◌, length, map, if◌then◌else◌}
 use Rattle.httparse.specs.Grammar.{RequestHead, print_request, ReadsRequest}
 use Rattle.httparse.specs.Spans.{name_and_value}
 use Rattle.http_message.specs.Fields.{FieldValue}
 use Rattle.http_message.specs.Framing.{framing_of}
-use Rattle.http_message.specs.Message.{RequestValue}
+use Rattle.http_message.specs.Message.{RequestValue, request_value}
 use Rattle.http_message.specs.declared.framing.Framing.{Framing}
+use Rattle.http_message.specs.declared.message.Request.{Request}
 use Rattle.http_message.specs.declared.message.Version.{Version}
 use Rattle.http_message.specs.declared.message.Version.TheVariants.{Http10, Http11}
 
@@ -42,3 +43,7 @@ request_of head body is_last = record {
   body = body;
   is_last = is_last;
 }
+
+-- a request of the program has this head and this body
+abbrev pub HasHead : Request → RequestHead → (body : List ℕ) → (is_last : Bool) → Type 0
+HasHead request head body is_last = request_value request ≡ request_of head body is_last

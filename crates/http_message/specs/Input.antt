@@ -1,5 +1,5 @@
 -- What reading from a reader does.
-use Rattle.std.specs.Prelude.{◌≡◌, ℕ, ◌+◌, ◌<◌, ◌≤◌, ◌==◌, ◌||◌, Bool, true, false, List, [], ◌++◌, length, drop, Option, Some, None, Result, Ok, Err, Vec}
+use Rattle.std.specs.Prelude.{◌≡◌, ℕ, ◌+◌, ◌<◌, ◌≤◌, ◌==◌, ◌||◌, Bool, true, false, List, [], ◌++◌, length, min, take, drop, Option, Some, None, Result, Ok, Err, Vec}
 use Rattle.std.specs.declared.alloc.Global.{Global}
 use Rattle.std.specs.Io.KnownBytes.{Consumes, IsAtEnd}
 use Rattle.httparse.specs.Grammar.{RequestHead, HasNoRequest}
@@ -125,3 +125,7 @@ StopMarks result old new = new.failed ≡ old.failed
 abbrev pub ArrivalMarks : Arrival → (old new : Tries) → Type 0
 ArrivalMarks arrivals.Fault old new = new.failed ≡ Some Read
 ArrivalMarks arrival old new = new.failed ≡ old.failed
+
+-- a room for so many bytes begins with those of them that had come
+abbrev pub HasWhatCame : (size : ℕ) → (come room : List ℕ) → Type 0
+HasWhatCame size come room = take (min size (length come)) room ≡ take size come

@@ -5,4 +5,5 @@ pub mod Heads
 pub mod Stream
 pub mod Start
 pub mod Input
+pub mod Readers
 pub mod Laws

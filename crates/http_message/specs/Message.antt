@@ -1,7 +1,7 @@
 -- A message of a session, as a value.
-use Rattle.std.specs.Prelude.{ℕ, Bool, true, false, ◌||◌, List, map, ◌==◌, codes, Option, Some, None}
+use Rattle.std.specs.Prelude.{ℕ, Bool, true, false, ◌||◌, List, ◌==◌, codes, Option, Some, None}
 use Rattle.std.specs.List.{before_first}
-use Rattle.http_message.specs.Fields.{FieldValue, field_value, same_in_any_case, values_of, first_of}
+use Rattle.http_message.specs.Fields.{FieldValue, field_values, same_in_any_case, first_value}
 use Rattle.http_message.specs.Framing.{framing_of, ends_connection}
 use Rattle.http_message.specs.declared.message.Version.{Version}
 use Rattle.http_message.specs.declared.message.Version.TheVariants.{Http10, Http11}
@@ -29,7 +29,7 @@ request_value r = record {
   method = r.method.now;
   target = r.target.now;
   version = r.version;
-  fields = map field_value r.fields.now;
+  fields = field_values r.fields.now;
   body = r.body.items;
   is_last = r.is_last;
 }
@@ -55,7 +55,7 @@ says_close (Some value) = same_in_any_case value (codes "close")
 -- whether the connection ends after the answer to a request, if it is answered
 abbrev pub request_closes : RequestValue → Bool
 request_closes r =
-    r.is_last || is_old r.version || says_close (first_of (values_of (codes "Connection") r.fields))
+    r.is_last || is_old r.version || says_close (first_value (codes "Connection") r.fields)
     || ends_connection (framing_of r.method r.fields)
 
 -- whether the connection ends after the answer to a message, if it is answered

@@ -19,3 +19,7 @@ abbrev pub IsStart : List ℕ → List HeaderSpan → Start → Type 0
 IsStart bytes fields Unfinished = (length bytes < 16384) × HasNoRequest bytes
 IsStart bytes fields Bad = NeverOpens bytes
 IsStart bytes fields (Head spans) = (head : RequestHead) × IsHeadAt bytes fields spans head
+
+-- this holds of the head whose parts lie where the spans say
+abbrev pub OnHeadAt : (bytes : List ℕ) → List HeaderSpan → RequestSpans → (RequestHead → Type 0) → Type 0
+OnHeadAt bytes fields spans Holds = (head : RequestHead) → IsRequestAt bytes fields spans head → Holds head

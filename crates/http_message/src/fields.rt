@@ -1,6 +1,6 @@
 //! The values of fields by their names.
-ghost use Rattle.std.specs.Prelude.{◌≡◌, map, nat_lt, length, option_copied};
-ghost use Rattle.http_message.specs.Fields.{field_value, is_named, values_of, first_of};
+ghost use Rattle.std.specs.Prelude.{◌≡◌, nat_lt, length, option_copied};
+ghost use Rattle.http_message.specs.Fields.{field_value, field_values, is_named, values_of, first_value};
 
 use crate::message::Field;
 
@@ -13,7 +13,7 @@ fn is_named(field: &Field<'_>, name: &[u8]) -> bool
 
 /// The value of the first field of this name, in any ASCII case.
 pub fn value_of<'a>(fields: &[Field<'a>], name: &[u8]) -> Option<&'a [u8]>
-    ensures { option_copied result ≡ first_of (values_of name.now (map field_value fields.now)) }
+    ensures { option_copied result ≡ first_value name.now (field_values fields.now) }
 {
     let mut unread = fields;
     while let [field, rest @ ..] = unread {
@@ -27,7 +27,7 @@ pub fn value_of<'a>(fields: &[Field<'a>], name: &[u8]) -> Option<&'a [u8]>
 
 /// Whether more than one field has this name, in any ASCII case.
 pub(crate) fn is_repeated(fields: &[Field<'_>], name: &[u8]) -> bool
-    ensures { result ≡ nat_lt 1 (length (values_of name.now (map field_value fields.now))) }
+    ensures { result ≡ nat_lt 1 (length (values_of name.now (field_values fields.now))) }
 {
     let mut unread = fields;
     while let [field, rest @ ..] = unread {

@@ -1,11 +1,9 @@
 //! The head at the start of the bytes that came.
 ghost use Rattle.std.specs.Prelude.{◌≡◌, ◌≤◌, List, [], All, length, map, take};
-ghost use Rattle.httparse.specs.Grammar.{RequestHead};
-ghost use Rattle.httparse.specs.Spans.{header_bytes, IsHeaderWithin, IsRequestAt, IsRequestWithin};
-ghost use Rattle.http_message.specs.Fields.{field_value};
-ghost use Rattle.http_message.specs.Start.{IsStart};
-ghost use Rattle.http_message.specs.Heads.{request_of, version_of};
-ghost use Rattle.http_message.specs.Message.{request_value};
+ghost use Rattle.httparse.specs.Spans.{header_bytes, IsHeaderWithin, IsRequestWithin};
+ghost use Rattle.http_message.specs.Fields.{field_values};
+ghost use Rattle.http_message.specs.Start.{IsStart, OnHeadAt};
+ghost use Rattle.http_message.specs.Heads.{HasHead, version_of};
 
 use crate::message::{Field, Request, Version};
 use crate::unread::MAX_HEAD;
@@ -53,8 +51,8 @@ pub(crate) fn start_of(bytes: &[u8], fields: &mut [HeaderSpan]) -> Start
 fn put_fields<'b>(bytes: &'b [u8], spans: &[HeaderSpan], room: &mut [Field<'b>])
     requires within { All (IsHeaderWithin (length bytes.now)) spans.now }
     requires fits { length spans.now ≤ length room.old }
-    ensures { map field_value (take (length spans.now) room.new) ≡ map
-        (header_bytes bytes.now) spans.now }
+    ensures { field_values (take (length spans.now) room.new)
+        ≡ map (header_bytes bytes.now) spans.now }
 {
     for at in 0..spans.len() {
         let span = spans[at];
@@ -86,8 +84,7 @@ pub fn request_at<'f, 'b: 'f>(
 ) -> Request<'f>
     requires within { IsRequestWithin bytes.now fields.now head.now }
     requires fits { length fields.now ≤ length room.old }
-    ensures { (h : RequestHead) → IsRequestAt bytes.now fields.now head.now h
-        → request_value result ≡ request_of h body.items is_last }
+    ensures { OnHeadAt bytes.now fields.now head.now (λ h. HasHead result h body.items is_last) }
 {
     let count = head.headers;
     put_fields(bytes, &fields[..count], room);

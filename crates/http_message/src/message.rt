@@ -1,6 +1,6 @@
 //! A message of a session.
-ghost use Rattle.std.specs.Prelude.{◌≡◌, codes, map};
-ghost use Rattle.http_message.specs.Fields.{field_value, values_of, first_of};
+ghost use Rattle.std.specs.Prelude.{◌≡◌, codes};
+ghost use Rattle.http_message.specs.Fields.{field_values, first_value};
 ghost use Rattle.http_message.specs.Message.{message_value, request_value, path_of, closes, request_closes, says_close};
 
 use crate::fields::value_of;
@@ -83,8 +83,7 @@ fn request_closes(request: &Request<'_>) -> bool
 
 /// Whether the first `Connection` says that the connection is to close.
 fn says_close(fields: &[Field<'_>]) -> bool
-    ensures { result ≡ says_close
-        (first_of (values_of (codes "Connection") (map field_value fields.now))) }
+    ensures { result ≡ says_close (first_value (codes "Connection") (field_values fields.now)) }
 {
     match value_of(fields, b"Connection") {
         Some(value) => value.eq_ignore_ascii_case(b"close"),

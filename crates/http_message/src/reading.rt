@@ -1,12 +1,12 @@
 //! Reading messages from any reader.
-ghost use Rattle.std.specs.Prelude.{◌≡◌, ◌≤◌, length, min, take, IfOk};
+ghost use Rattle.std.specs.Prelude.{◌≡◌, ◌≤◌, length, IfOk};
 ghost use Rattle.std.specs.List.{list_all};
-ghost use Rattle.httparse.specs.Grammar.{RequestHead};
-ghost use Rattle.httparse.specs.Spans.{IsRequestAt, IsRequestWithin};
+ghost use Rattle.httparse.specs.Spans.{IsRequestWithin};
 ghost use Rattle.io_retries.specs.Marks.{Marks};
-ghost use Rattle.http_message.specs.Start.{IsStart};
+ghost use Rattle.http_message.specs.Start.{IsStart, OnHeadAt};
 ghost use Rattle.http_message.specs.Heads.{head_framing};
-ghost use Rattle.http_message.specs.Input.{is_line_end_byte, IsOpen, FillsRoom, ReadsOn, ReadsHead, ReadsBody, Arrives, ArrivalMarks, StopMarks};
+ghost use Rattle.http_message.specs.Input.{is_line_end_byte, IsOpen, FillsRoom, ReadsBody, HasWhatCame, ArrivalMarks, StopMarks};
+ghost use Rattle.http_message.specs.Readers.{ReadsOnFrom, ReadsHeadFrom, ArrivesFrom};
 
 use crate::framing::{Framing, framing_of};
 use crate::head::{MAX_FIELDS, Start, request_at, start_of};
@@ -77,8 +77,7 @@ fn is_blank(bytes: &[u8]) -> bool
 /// came, and a reader that gives one byte a time has it looked for once for each of its lines.
 fn read_on<R: Read>(reader: &mut R, tries: &mut Tries, unread: &mut Unread) -> io::Result<bool>
     requires { IsOpen unread.old }
-    ensures read { ReadsOn result (R.remaining reader.old)
-        (R.remaining reader.new) unread.old unread.new }
+    ensures read { ReadsOnFrom R.Read reader.old reader.new result unread.old unread.new }
     ensures mark { Marks result Failure.Read tries.old tries.new }
 {
     let mut blank = is_blank(unread.bytes());
@@ -104,8 +103,8 @@ fn read_head<R: Read>(
     fields: &mut [HeaderSpan],
 ) -> io::Result<Start>
     requires { length fields.old ≡ MAX_FIELDS }
-    ensures read { ReadsHead result fields.new (R.remaining reader.old)
-        (R.remaining reader.new) unread.old unread.new }
+    ensures read { ReadsHeadFrom R.Read reader.old reader.new
+        result fields.new unread.old unread.new }
     ensures mark { Marks result Failure.Read tries.old tries.new }
 {
     loop {
@@ -140,8 +139,7 @@ fn read_whole<R: Read>(reader: &mut R, tries: &mut Tries, room: &mut [u8]) -> io
 /// Gives room for a body of this size, with what came of it at the start.
 fn room_for(alloc: Global, come: &[u8], size: usize) -> Result<Vec<u8>, AllocError>
     ensures size { IfOk result (λ room. length room.items ≡ size) }
-    ensures start { IfOk result
-        (λ room. take (min size (length come.now)) room.items ≡ take size come.now) }
+    ensures start { IfOk result (λ room. HasWhatCame size come.now room.items) }
 {
     let mut room = Vec::with_capacity(alloc, size)?;
     room.extend_from_slice(&come[..size.min(come.len())])?;
@@ -181,8 +179,7 @@ fn read_body<R: Read>(
 fn head_framing(alloc: Global, bytes: &[u8], fields: &[HeaderSpan], head: &RequestSpans) -> Framing
     requires within { IsRequestWithin bytes.now fields.now head.now }
     requires fits { length fields.now ≡ MAX_FIELDS }
-    ensures { (h : RequestHead) → IsRequestAt bytes.now fields.now head.now h →
-        result ≡ head_framing h }
+    ensures { OnHeadAt bytes.now fields.now head.now (λ h. result ≡ head_framing h) }
 {
     let mut room = [EMPTY_FIELD; MAX_FIELDS];
     let request = request_at(bytes, fields, head, &mut room, Vec::new(alloc), false);
@@ -201,8 +198,8 @@ fn read_rest<R: Read>(
     requires start { IsStart bytes.now fields.now (Start.Head head) }
     requires fits { length fields.now ≡ MAX_FIELDS }
     requires few { length bytes.now ≤ MAX_HEAD }
-    ensures arrived { Arrives result fields.now (R.remaining reader.old)
-        (R.remaining reader.new) bytes.now bytes.now }
+    ensures arrived { ArrivesFrom R.Read reader.old reader.new
+        result fields.now bytes.now bytes.now }
     ensures mark { ArrivalMarks result tries.old tries.new }
 {
     match head_framing(alloc, bytes, fields, &head) {
@@ -231,8 +228,8 @@ pub fn read_message<R: Read>(
     fields: &mut [HeaderSpan],
 ) -> Arrival
     requires { length fields.old ≡ MAX_FIELDS }
-    ensures arrived { Arrives result fields.new (R.remaining reader.old)
-        (R.remaining reader.new) unread.old unread.new }
+    ensures arrived { ArrivesFrom R.Read reader.old reader.new
+        result fields.new unread.old unread.new }
     ensures mark { ArrivalMarks result tries.old tries.new }
 {
     match read_head(reader, tries, unread, fields) {

@@ -1,8 +1,8 @@
 //! Bytes that came and belong to no message yet.
 ghost use Rattle.std.specs.Prelude.{◌≡◌, ◌+◌, ◌<◌, ◌≤◌, ℕ, List, [], length, take, drop, slice_range, IfOk, OnErr};
-ghost use Rattle.std.specs.Io.KnownBytes.{Consumes, IsAtEnd};
+ghost use Rattle.std.specs.Io.KnownBytes.{IsAtEnd};
 ghost use Rattle.io_retries.specs.Marks.{Marks};
-ghost use Rattle.http_message.specs.Input.{Grows};
+ghost use Rattle.http_message.specs.Readers.{GrowsFrom, NoneCame};
 
 use io_retries::{Failure, Tries, read_with_retries};
 use std::io;
@@ -74,11 +74,9 @@ impl Unread {
     /// the input alone.
     pub(crate) fn fill<R: Read>(&mut self, reader: &mut R, tries: &mut Tries) -> io::Result<usize>
         requires { length self.old < MAX_HEAD }
-        ensures ok { IfOk result
-            (λ n. Grows n (R.remaining reader.old) (R.remaining reader.new) self.old self.new) }
+        ensures ok { IfOk result (λ n. GrowsFrom R.Read reader.old reader.new n self.old self.new) }
         ensures end { IfOk result (λ n. n ≡ 0 → IsAtEnd (R.remaining reader.new)) }
-        ensures err { OnErr result ((self.new ≡ self.old) × Consumes (R.remaining reader.old)
-            (R.remaining reader.new) []) }
+        ensures err { OnErr result (NoneCame R.Read reader.old reader.new self.old self.new) }
         ensures mark { Marks result Failure.Read tries.old tries.new }
     {
         self.end = move_to_start(&mut self.bytes, self.start, self.end);
