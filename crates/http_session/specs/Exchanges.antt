@@ -1,7 +1,8 @@
 -- Messages with their answers.
 use Rattle.std.specs.Prelude.{◌≡◌, ℕ, ◌||◌, Bool, List, [], ◌∷◌, flat_map, map, Option, Some, None, is_none, unwrap_or, IsFalse, Result, Ok, Err, Vec}
 use Rattle.std.specs.declared.alloc.Global.{Global}
-use Rattle.http_message.specs.Message.{MessageValue, closes}
+use Rattle.http_message.specs.Message.{MessageValue, message_value, closes}
+use Rattle.http_message.specs.declared.message.Message.{Message}
 use Rattle.http_response.specs.Response.{unavailable_text}
 use Rattle.http_session.specs.declared.answers.Unavailable.{Unavailable}
 
@@ -44,3 +45,10 @@ Follows {B} step before (x ∷ xs) after = (mid : B) × StepsWith step before x.
 abbrev pub Answered : {B : Type 0} → (B → MessageValue → List ℕ → B → Type 0) → B → MessageValue → (B → Type 0) → Result (Vec ℕ Global) Unavailable → Type 0
 Answered {B} step before message stands (Ok bytes) = (after : B) × step before message bytes.items after × stands after
 Answered step before message stands (Err fault) = stands before
+
+-- If the answerer is clean, it answers so whatever stood behind it.
+abbrev pub AnswersAs : {D B : Type 0} → (is_clean : D → Type 0) → (stands_for : D → B → Type 0)
+    → (step : B → MessageValue → List ℕ → B → Type 0) → (old new : D)
+    → Message → Result (Vec ℕ Global) Unavailable → Type 0
+AnswersAs {D} {B} is_clean stands_for step old new message result =
+    is_clean new → (w : B) → stands_for old w → Answered step w (message_value message) (stands_for new) result

@@ -1,6 +1,5 @@
 //! What answers messages.
-ghost use Rattle.http_message.specs.Message.{message_value};
-ghost use Rattle.http_session.specs.Exchanges.{Answered};
+ghost use Rattle.http_session.specs.Exchanges.{AnswersAs};
 
 use http_message::Message;
 use std::alloc::Global;
@@ -29,6 +28,6 @@ pub trait Answers {
     /// The answer to a message, whole with its head. The answerer may keep the message's body.
     fn answer(&mut self, alloc: Global, message: Message<'_>) -> Result<Vec<u8>, Unavailable>
         ensures before { is_clean self.new → is_clean self.old }
-        ensures answers { is_clean self.new → (w : Behind) → stands_for self.old w
-            → Answered step w (message_value message.entry) (stands_for self.new) result };
+        ensures answers { AnswersAs is_clean stands_for step
+            self.old self.new message.entry result };
 }

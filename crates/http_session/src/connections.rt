@@ -1,5 +1,6 @@
 //! Serving the connections of a listener.
-ghost use Rattle.http_session.specs.Serving.{HasServed, HasCounted, IsUnasked};
+ghost use Rattle.http_session.specs.Serving.{HasCounted, IsUnasked};
+ghost use Rattle.http_session.specs.Sides.{ServesOn};
 
 use crate::answers::Answers;
 use crate::counted::CountedListener;
@@ -43,8 +44,7 @@ where
     L::Stream: Read + Write + OpenStream,
     requires unasked { IsUnasked listener.old }
     ensures before { D.is_clean desk.new → D.is_clean desk.old }
-    ensures served { HasServed D.step (D.is_clean desk.new) (D.stands_for desk.old)
-        (D.stands_for desk.new) }
+    ensures served { ServesOn D.Answers desk.old desk.new }
     ensures counted { HasCounted result connections listener.new }
 {
     for served in 0..connections {
@@ -71,8 +71,7 @@ fn serve_connection<D: Answers, S: Read + Write + OpenStream + Drop>(
     patience: Duration,
 )
     ensures before { D.is_clean desk.new → D.is_clean desk.old }
-    ensures served { HasServed D.step (D.is_clean desk.new) (D.stands_for desk.old)
-        (D.stands_for desk.new) }
+    ensures served { ServesOn D.Answers desk.old desk.new }
 {
     if set_patience(&stream, patience).is_ok() {
         match stream.try_clone() {
@@ -90,8 +89,7 @@ fn answer<D: Answers, S: Read + Write + OpenStream + Drop>(
     writer: S,
 )
     ensures before { D.is_clean desk.new → D.is_clean desk.old }
-    ensures served { HasServed D.step (D.is_clean desk.new) (D.stands_for desk.old)
-        (D.stands_for desk.new) }
+    ensures served { ServesOn D.Answers desk.old desk.new }
 {
     let mut reader = reader;
     let mut writer = writer;

@@ -1,12 +1,10 @@
 //! Answering one message.
 ghost use Rattle.std.specs.Prelude.{◌≡◌, length};
-ghost use Rattle.httparse.specs.Grammar.{RequestHead};
-ghost use Rattle.httparse.specs.Spans.{IsRequestAt, IsRequestWithin};
-ghost use Rattle.http_message.specs.Heads.{request_of};
-ghost use Rattle.http_message.specs.Message.{asked, message_value};
+ghost use Rattle.httparse.specs.Spans.{IsRequestWithin};
 ghost use Rattle.http_response.specs.Response.{unavailable_text};
 ghost use Rattle.http_session.specs.Causes.{HasCause};
-ghost use Rattle.http_session.specs.Turns.{Replied, Sends};
+ghost use Rattle.http_session.specs.Sides.{Replies, RepliesAt};
+ghost use Rattle.http_session.specs.Turns.{Sends};
 
 use crate::answers::Answers;
 use crate::sessions::SessionFault;
@@ -48,8 +46,8 @@ pub(crate) fn reply<D: Answers, W: Write>(
     message: Message<'_>,
 ) -> Result<bool, SessionFault>
     ensures before { D.is_clean desk.new → D.is_clean desk.old }
-    ensures replied { Replied D.step (D.is_clean desk.new) (D.stands_for desk.old) (D.stands_for desk.new)
-        (message_value message.entry) (W.contents writer.old) (W.contents writer.new) result }
+    ensures replied { Replies D.Answers W.Write desk.old desk.new
+        writer.old writer.new message.entry result }
     ensures cause { HasCause result tries.old tries.new }
 {
     let closes = closes(&message);
@@ -80,9 +78,8 @@ pub(crate) fn reply_to_request<D: Answers, W: Write>(
     requires within { IsRequestWithin bytes.now fields.now head.now }
     requires fits { length fields.now ≡ MAX_FIELDS }
     ensures before { D.is_clean desk.new → D.is_clean desk.old }
-    ensures replied { (h : RequestHead) → IsRequestAt bytes.now fields.now head.now h
-        → Replied D.step (D.is_clean desk.new) (D.stands_for desk.old) (D.stands_for desk.new)
-        (asked (request_of h body.items is_last)) (W.contents writer.old) (W.contents writer.new) result }
+    ensures replied { RepliesAt D.Answers W.Write desk.old desk.new
+        writer.old writer.new bytes.now fields.now head.now body is_last result }
     ensures cause { HasCause result tries.old tries.new }
 {
     let mut room = [EMPTY_FIELD; MAX_FIELDS];

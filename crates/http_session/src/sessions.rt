@@ -1,10 +1,9 @@
 //! Sessions.
-ghost use Rattle.std.specs.Prelude.{◌≡◌, ◌<◌, ℕ, List, Option, length};
-ghost use Rattle.http_message.specs.Stream.{is_last_after};
+ghost use Rattle.std.specs.Prelude.{◌≡◌, ◌<◌, length};
 ghost use Rattle.io_retries.specs.Marks.{IsUnused};
 ghost use Rattle.http_session.specs.Causes.{HasCause};
-ghost use Rattle.http_session.specs.Session.{SessionRan};
-ghost use Rattle.http_session.specs.Turns.{SoFar, Turned, turn_of};
+ghost use Rattle.http_session.specs.Sides.{Runs, Turns};
+ghost use Rattle.http_session.specs.Turns.{turn_of};
 
 use crate::answers::Answers;
 use crate::replying::{reply, reply_to_request, send_unavailable};
@@ -64,11 +63,8 @@ fn turn<D: Answers, R: Read, W: Write>(
 ) -> Result<Option<Ended>, SessionFault>
     requires { length fields.old ≡ MAX_FIELDS }
     ensures before { D.is_clean desk.new → D.is_clean desk.old }
-    ensures turned { (start : D) (before old : Option (List ℕ)) (count : ℕ) → is_last ≡ is_last_after count
-        → SoFar D.step (D.is_clean desk.old) (D.stands_for start) (D.stands_for desk.old)
-        before (R.remaining reader.old) old (W.contents writer.old) count unread.old
-        → Turned D.step (D.is_clean desk.new) (D.stands_for start) (D.stands_for desk.new)
-        before (R.remaining reader.new) old (W.contents writer.new) count unread.new result }
+    ensures turned { Turns D.Answers R.Read W.Write is_last desk.old desk.new
+        reader.old reader.new writer.old writer.new unread.old unread.new result }
     ensures cause { HasCause result tries.old tries.new }
 {
     match read_message(alloc, reader, tries, unread, fields) {
@@ -121,8 +117,8 @@ pub fn session<D: Answers, R: Read, W: Write>(
 ) -> Result<Ended, SessionFault>
     requires unused { IsUnused tries.old }
     ensures before { D.is_clean desk.new → D.is_clean desk.old }
-    ensures ran { SessionRan D.step (D.is_clean desk.new) (D.stands_for desk.old) (D.stands_for desk.new)
-        (R.remaining reader.old) (R.remaining reader.new) (W.contents writer.old) (W.contents writer.new) result }
+    ensures ran { Runs D.Answers R.Read W.Write desk.old desk.new
+        reader.old reader.new writer.old writer.new result }
     ensures cause { HasCause result tries.old tries.new }
 {
     let mut unread = Unread::new();
