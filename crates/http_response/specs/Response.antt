@@ -1,5 +1,5 @@
 -- The bytes of a response.
-use Rattle.std.specs.Prelude.{ℕ, Bool, List, [], ◌++◌, length, decimal, codes, unwrap_or, if◌then◌else◌}
+use Rattle.std.specs.Prelude.{ℕ, ◌+◌, Bool, List, [], ◌++◌, length, decimal, codes, unwrap_or, if◌then◌else◌}
 use Rattle.http.specs.StatusCode.{reason_phrase}
 use Rattle.http_response.specs.declared.response.Content.{Content}
 use Rattle.http_response.specs.declared.response.Content.TheVariants.{Json, PlainText}
@@ -21,6 +21,10 @@ connection closes = if closes then codes "close" else codes "keep-alive"
 -- a line of the head
 unfoldable pub line : List ℕ → List ℕ → List ℕ
 line name value = name ++ value ++ crlf
+
+-- the size of what is written with such a line behind it
+abbrev pub size_with_line : (written name value : List ℕ) → ℕ
+size_with_line written name value = length written + length name + length value + 2
 
 -- the version, the status and its phrase
 unfoldable pub status_line : ℕ → List ℕ

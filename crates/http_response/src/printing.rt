@@ -1,7 +1,7 @@
 //! Printing responses, with growth and without.
 ghost use Rattle.std.specs.Prelude.{◌≡◌, ◌+◌, ◌≤◌, ◌++◌, [], length, codes, decimal, unwrap_or, IfOk, vec_capacity};
 ghost use Rattle.http.specs.StatusCode.{reason_phrase};
-ghost use Rattle.http_response.specs.Response.{text_of, connection, content_type, head_text, header_lines, line, status_line};
+ghost use Rattle.http_response.specs.Response.{text_of, connection, content_type, head_text, header_lines, line, size_with_line, status_line};
 
 use crate::response::{Content, Response};
 use http::StatusCode;
@@ -54,11 +54,9 @@ fn put(out: &mut Vec<u8>, bytes: &[u8])
 /// Appends a line of the head, for which there is room.
 #[tactic(auto, unfolding(crate::specs::Response::line))]
 fn put_line(out: &mut Vec<u8>, name: &[u8], value: &[u8])
-    requires { length out.old.items + length name.now + length value.now + 2 ≤ vec_capacity
-        out.old }
+    requires { size_with_line out.old.items name.now value.now ≤ vec_capacity out.old }
     ensures items { out.new.items ≡ out.old.items ++ line name.now value.now }
-    ensures size { length out.new.items ≡ length out.old.items + length name.now + length value.now
-        + 2 }
+    ensures size { length out.new.items ≡ size_with_line out.old.items name.now value.now }
     ensures capacity { vec_capacity out.old ≤ vec_capacity out.new }
 {
     put(out, name);
