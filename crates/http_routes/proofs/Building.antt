@@ -1,5 +1,5 @@
 -- A router that is built of routes one after another.
-use Rattle.std.proofs.Common.{◌≡◌, ℕ, List, sym, Ok, Err, Result, Bor, inl, inr}
+use Rattle.std.proofs.Common.{◌≡◌, sym, Ok, Err, Result, inl, inr}
 use Rattle.std.specs.Prelude.{◌⊎◌}
 use Rattle.matchit.specs.Route.{Scan}
 use Rattle.matchit.specs.Router.{RouteOf, InsertsRead}
@@ -7,13 +7,7 @@ use Rattle.matchit.specs.Rows.{RowsOf}
 use Rattle.matchit.specs.declared.error.InsertError.{InsertError}
 use Rattle.matchit.specs.declared.error.InsertError.TheVariants.{OutOfMemory}
 use Rattle.http_routes.specs.Table.{with_read}
-use Rattle.http_routes.specs.declared.route.Method.{Method}
-use Rattle.http_routes.specs.declared.route.Route.{Route}
 use Rattle.http_routes.specs.declared.route.Served.{Served}
-
--- a route of the code, by its path
-abbrev pub route_by_path : Method × Bor (List ℕ) × Route → List ℕ × Served
-route_by_path r = (r.1.now, record { method = r.0; route = r.2 })
 
 -- what is inserted is what is read
 pub inserted : (read : Result Scan InsertError) (served : Served) (old new : RowsOf (RouteOf Served)) (u : Unit {0}) → InsertsRead read served old new (Ok u) → with_read read served old ≡ new

@@ -1,5 +1,6 @@
 -- The routes of the desk: one table.
 use Rattle.std.specs.Prelude.{ℕ, ◌+◌, List, [], ◌∷◌, ◌++◌, length, map, fold, codes, Result, Ok, Err}
+use Rattle.std.specs.Borrow.{Bor}
 use Rattle.matchit.specs.Rows.{RowsOf, param_token}
 use Rattle.matchit.specs.Order.{placed}
 use Rattle.matchit.specs.Router.{RouteOf, route_from}
@@ -94,3 +95,7 @@ with_route rows route = with_read (parse_route route.0) route.1 rows
 -- and with more routes, one after another
 abbrev pub with_routes : RowsOf (RouteOf Served) → List (List ℕ × Served) → RowsOf (RouteOf Served)
 with_routes = fold with_route
+
+-- a route of the program, by its path
+abbrev pub route_by_path : Method × Bor (List ℕ) × Route → List ℕ × Served
+route_by_path r = (r.1.now, record { method = r.0; route = r.2 })

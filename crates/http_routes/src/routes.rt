@@ -1,7 +1,7 @@
 //! The routes, by path.
 ghost use Rattle.std.specs.Prelude.{◌≡◌, IfOk, OnOk, Err, IsUtf8, bytes_eq, map};
 ghost use Rattle.http_routes.specs.Finding.{route_verdict, method_text, route_at};
-ghost use Rattle.http_routes.specs.Table.{router_rows, with_routes};
+ghost use Rattle.http_routes.specs.Table.{route_by_path, router_rows, with_routes};
 
 use crate::route::Route::{Company, Operator};
 use crate::route::{CompanyRoute, Method, OperatorRoute, Route, Served};
@@ -59,8 +59,7 @@ fn add_routes(
     router: &mut Router<Served>,
     routes: &[(Method, &'static str, Route)],
 ) -> Result<(), InsertError>
-    ensures { OnOk result (router.new ≡ with_routes router.old
-        (map (λ r. (r.1.now, record { method = r.0; route = r.2 })) routes.now)) }
+    ensures { OnOk result (router.new ≡ with_routes router.old (map route_by_path routes.now)) }
 {
     for served in routes {
         let (method, path, route) = *served;

@@ -1,7 +1,7 @@
 use Rattle.std.proofs.Common.{◌≡◌, ◌∙◌, ◌+◌, [], ap, sym, map, drop, arith}
 use Rattle.std.proofs.lemmas.List.{at_drop_more, drop_all}
-use Rattle.http_routes.specs.Table.{with_routes}
-use Rattle.http_routes.proofs.Building.{inserted, route_by_path}
+use Rattle.http_routes.specs.Table.{route_by_path, with_routes}
+use Rattle.http_routes.proofs.Building.{inserted}
 use Rattle.http_routes.proofs.routes.add_routes.Goals as goal
 
 pub loop-served-preserved : goal.loop-served-preserved

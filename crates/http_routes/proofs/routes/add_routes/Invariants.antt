@@ -1,6 +1,5 @@
 use Rattle.std.proofs.Common.{◌≡◌, map, drop}
-use Rattle.http_routes.specs.Table.{with_routes}
-use Rattle.http_routes.proofs.Building.{route_by_path}
+use Rattle.http_routes.specs.Table.{route_by_path, with_routes}
 use Rattle.http_routes.proofs.routes.add_routes.Given as goal
 
 abbrev pub invariant-loop-served : goal.invariant-loop-served
