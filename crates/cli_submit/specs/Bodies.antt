@@ -1,9 +1,12 @@
 -- The submission that a message's body is, in JSON. Keys stand in byte order.
-use Rattle.std.specs.Prelude.{ℕ, Bool, true, false, List, Option, Some, None, codes, map}
-use Rattle.serde_json.specs.Data.{Data, Items, Members, array, boolean, member, no_members, number, object, string, unsigned}
-use Rattle.serde_json.specs.View.{items_of}
+use Rattle.std.specs.Prelude.{◌≡◌, ℕ, Bool, true, false, List, [], ◌∷◌, ◌++◌, Option, Some, None, codes, map, String, Vec}
+use Rattle.std.specs.declared.alloc.Global.{Global}
+use Rattle.serde_json.specs.Data.{Data, Items, Members, array, boolean, member, no_members, number, object, put, string, unsigned}
+use Rattle.serde_json.specs.View.{items_of, items_view, members_view, view}
+use Rattle.serde_json.specs.declared.value.Value.{Value}
 use Rattle.cli_submit.specs.Options.{OptionTexts}
-use Rattle.cli_submit.specs.Rows.{EntryTexts}
+use Rattle.cli_submit.specs.Rows.{EntryTexts, entry_of}
+use Rattle.cli_submit.specs.declared.row.RowEntry.{RowEntry}
 
 -- the information under its key, if there is any
 abbrev pub with_info : Option (List ℕ) → Members → Members
@@ -44,3 +47,17 @@ body_with o entries = object
 -- the submission of these entries
 abbrev pub body_data : OptionTexts → List EntryTexts → Data
 body_data o entries = body_with o (entry_items entries)
+
+-- ---- of the values that the program makes
+
+-- a member was put among the members of an object
+abbrev pub Puts : (key : List ℕ) → Data → (old new : List (String Global × Value)) → Type 0
+Puts key d old new = members_view new ≡ put key d (members_view old)
+
+-- the values are these entries
+abbrev pub AreEntries : Vec Value Global → List EntryTexts → Type 0
+AreEntries values entries = items_view values.items ≡ entry_items entries
+
+-- an entry was put after those that the values were
+abbrev pub AddsEntry : RowEntry → (old new : Vec Value Global) → Type 0
+AddsEntry entry old new = map view new.items ≡ map view old.items ++ entry_data (entry_of entry) ∷ []

@@ -1,11 +1,14 @@
 -- The message that hands in a list of entries, or why there is none.
-use Rattle.std.specs.Prelude.{◌≡◌, ℕ, not, List, ◌++◌, length, nat_lt, if◌then◌else◌, codes, decimal, Option, Some, None, Result, Ok, Err, Vec}
+use Rattle.std.specs.Prelude.{◌≡◌, ℕ, true, not, List, ◌++◌, length, nat_lt, if◌then◌else◌, codes, decimal, Option, Some, None, Result, Ok, Err, Vec}
+use Rattle.std.specs.Str.{is_utf8}
 use Rattle.std.specs.declared.alloc.Global.{Global}
+use Rattle.serde_json.specs.Read.{read}
 use Rattle.serde_json.specs.Written.{compact_text}
+use Rattle.serde_json.specs.declared.value.Value.{Value}
 use Rattle.ach_fields.specs.Names.{is_id}
 use Rattle.http_json.specs.Read.{object_of}
 use Rattle.desk_rules.specs.Fields.{is_key}
-use Rattle.cli_submit.specs.Bodies.{body_data}
+use Rattle.cli_submit.specs.Bodies.{body_data, AreEntries}
 use Rattle.cli_submit.specs.Lists.{entries_of_list, IsUnlessNoMemory}
 use Rattle.cli_submit.specs.Options.{OptionTexts}
 use Rattle.cli_submit.specs.Rows.{EntryTexts}
@@ -64,6 +67,23 @@ Gives wanted given = IsUnlessNoMemory (λ v text. v.items ≡ text) wanted given
 abbrev pub ReadsAs : OptionTexts → List EntryTexts → (message : List ℕ) → Type 0
 ReadsAs o entries message =
     (body : List ℕ) × (message ≡ head_text o (length body) ++ body) × (object_of body ≡ Some (body_data o entries))
+
+-- the text is the body of these entries
+abbrev pub IsBody : OptionTexts → List EntryTexts → (text : List ℕ) → Type 0
+IsBody o entries text = text ≡ body_text o entries
+
+-- the text is UTF-8, and is read as their submission
+abbrev pub IsReadAsBody : OptionTexts → List EntryTexts → (text : List ℕ) → Type 0
+IsReadAsBody o entries text = (is_utf8 text ≡ true) × (read text ≡ Some (body_data o entries))
+
+-- the text is the message of these entries
+abbrev pub IsMessage : OptionTexts → List EntryTexts → (text : List ℕ) → Type 0
+IsMessage o entries text = text ≡ text_of o entries
+
+-- this is said of a text, for all entries that the values are
+abbrev pub OfEntries : (values : Vec Value Global) → (Is : List EntryTexts → List ℕ → Type 0)
+    → (text : Vec ℕ Global) → Type 0
+OfEntries values Is text = (entries : List EntryTexts) → AreEntries values entries → Is entries text.items
 
 -- the desk reads the message as the submission of the list's entries
 abbrev pub ReadsBack : OptionTexts → (list message : List ℕ) → Type 0

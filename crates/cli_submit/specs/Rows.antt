@@ -1,5 +1,5 @@
 -- The entry that a row is, or why it is none.
-use Rattle.std.specs.Prelude.{◌&&◌, ℕ, Bool, true, false, List, [], ◌∷◌, Option, Some, None, option_map, option_and_then, if◌then◌else◌, codes, Result, Ok, Err}
+use Rattle.std.specs.Prelude.{◌≡◌, ◌&&◌, ℕ, Bool, true, false, List, [], ◌∷◌, Option, Some, None, option_map, option_and_then, if◌then◌else◌, codes, Result, Ok, Err, MatchResult}
 use Rattle.std.specs.List.{list_all}
 use Rattle.std.specs.Result.{result_ok}
 use Rattle.std.specs.Str.{bytes_eq, is_utf8}
@@ -119,3 +119,7 @@ entry_of e = record {
   name = e.name.now;
   info = option_map (λ t. t.now) e.info;
 }
+
+-- the entry that the program has is the one wanted, or the fault is
+abbrev pub GivesEntry : (wanted : Result EntryTexts RowFault) → Result RowEntry RowFault → Type 0
+GivesEntry wanted given = MatchResult given (λ entry. wanted ≡ Ok (entry_of entry)) (λ fault. wanted ≡ Err fault)

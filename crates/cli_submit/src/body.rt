@@ -1,13 +1,11 @@
 //! The body of a message: a submission in compact JSON, with its keys in byte order.
-ghost use Rattle.std.specs.Prelude.{◌≡◌, IfOk, OnOk, List, Some, true};
-ghost use Rattle.serde_json.specs.Data.{string, boolean, put as with_member};
-ghost use Rattle.serde_json.specs.Read.{read};
-ghost use Rattle.serde_json.specs.View.{view, items_view, members_view};
-ghost use Rattle.serde_json.specs.Written.{compact_text};
-ghost use Rattle.std.specs.Str.{is_utf8};
-ghost use Rattle.cli_submit.specs.Bodies.{body_data, body_with, entry_data, entry_items};
+ghost use Rattle.std.specs.Prelude.{◌≡◌, IfOk, OnOk};
+ghost use Rattle.serde_json.specs.Data.{string};
+ghost use Rattle.serde_json.specs.View.{view, items_view};
+ghost use Rattle.cli_submit.specs.Bodies.{body_with, entry_data, Puts};
+ghost use Rattle.cli_submit.specs.Messages.{IsBody, IsReadAsBody, OfEntries};
 ghost use Rattle.cli_submit.specs.Options.{texts_of};
-ghost use Rattle.cli_submit.specs.Rows.{EntryTexts, entry_of};
+ghost use Rattle.cli_submit.specs.Rows.{entry_of};
 
 use crate::options::SubmitOptions;
 use crate::row::RowEntry;
@@ -40,8 +38,7 @@ fn add_text(
     key: &str,
     text: &str,
 ) -> Result<(), AllocError>
-    ensures { OnOk result (members_view members.new.entries
-        ≡ with_member key.now (string text.now) (members_view members.old.entries)) }
+    ensures { OnOk result (Puts key.now (string text.now) members.old.entries members.new.entries) }
 {
     let value = Value::String(String::from_str(alloc, text)?);
     add(members, alloc, key, value)
@@ -53,8 +50,7 @@ fn add(
     key: &str,
     value: Value,
 ) -> Result<(), AllocError>
-    ensures { OnOk result (members_view members.new.entries
-        ≡ with_member key.now (view value) (members_view members.old.entries)) }
+    ensures { OnOk result (Puts key.now (view value) members.old.entries members.new.entries) }
 {
     let key = String::from_str(alloc, key)?;
     drop(members.insert(key, value)?);
@@ -67,10 +63,8 @@ pub fn body_text(
     options: &SubmitOptions<'_>,
     entries: Vec<Value>,
 ) -> Result<Vec<u8>, AllocError>
-    ensures text { IfOk result (λ t. (rows : List EntryTexts) → items_view entries.items ≡ entry_items rows
-        → t.items ≡ compact_text (body_data (texts_of options.now) rows)) }
-    ensures reads_back { IfOk result (λ t. (rows : List EntryTexts) → items_view entries.items ≡ entry_items rows
-        → (is_utf8 t.items ≡ true) × (read t.items ≡ Some (body_data (texts_of options.now) rows))) }
+    ensures text { IfOk result (OfEntries entries (IsBody (texts_of options.now))) }
+    ensures reads_back { IfOk result (OfEntries entries (IsReadAsBody (texts_of options.now))) }
 {
     body_value(alloc, options, entries)?.to_vec(alloc)
 }

@@ -1,10 +1,7 @@
 //! The message that hands in a list of entries.
-ghost use Rattle.std.specs.Prelude.{◌≡◌, IfOk, List, string_bytes};
-ghost use Rattle.serde_json.specs.View.{items_view};
-ghost use Rattle.cli_submit.specs.Bodies.{entry_items};
-ghost use Rattle.cli_submit.specs.Messages.{head_text, input_fault, message_of, text_of, Gives, ReadsAs, ReadsBack};
+ghost use Rattle.std.specs.Prelude.{◌≡◌, IfOk, string_bytes};
+ghost use Rattle.cli_submit.specs.Messages.{head_text, input_fault, message_of, Gives, IsMessage, OfEntries, ReadsAs, ReadsBack};
 ghost use Rattle.cli_submit.specs.Options.{texts_of};
-ghost use Rattle.cli_submit.specs.Rows.{EntryTexts};
 
 use crate::body::body_text;
 use crate::fault::{InputFault, SubmitFault};
@@ -37,7 +34,7 @@ pub fn submit_message(
 ) -> Result<Vec<u8>, SubmitFault>
     ensures message { Gives (message_of (texts_of options.now) list.now) result }
     ensures reads_back { IfOk result
-        (λ message. ReadsBack (texts_of options.now) list.now message.items) }
+        (λ text. ReadsBack (texts_of options.now) list.now text.items) }
 {
     if let Some(fault) = input_fault(options, list.len()) {
         return Err(SubmitFault::Input(fault));
@@ -68,10 +65,8 @@ fn message_text(
     options: &SubmitOptions<'_>,
     entries: Vec<Value>,
 ) -> Result<Vec<u8>, AllocError>
-    ensures text { IfOk result (λ message. (rows : List EntryTexts) → items_view entries.items ≡ entry_items rows
-        → message.items ≡ text_of (texts_of options.now) rows) }
-    ensures reads_back { IfOk result (λ message. (rows : List EntryTexts) → items_view entries.items ≡ entry_items rows
-        → ReadsAs (texts_of options.now) rows message.items) }
+    ensures text { IfOk result (OfEntries entries (IsMessage (texts_of options.now))) }
+    ensures reads_back { IfOk result (OfEntries entries (ReadsAs (texts_of options.now))) }
 {
     let body = body_text(alloc, options, entries)?;
     let mut message = head_text(alloc, options, body.len())?.into_bytes();

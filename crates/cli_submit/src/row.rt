@@ -1,7 +1,7 @@
 //! A row of a list of entries.
-ghost use Rattle.std.specs.Prelude.{◌≡◌, option_map, MatchResult, Ok, Err, None, IfSome, IfNone};
+ghost use Rattle.std.specs.Prelude.{◌≡◌, option_map};
 ghost use Rattle.csv.specs.Records.{fields_of};
-ghost use Rattle.cli_submit.specs.Rows.{columns_in, text_at, entry_in, is_header, row_entry, columns_of, entry_of, prenote_in, names_columns, unless_empty};
+ghost use Rattle.cli_submit.specs.Rows.{columns_in, text_at, entry_in, is_header, row_entry, columns_of, prenote_in, names_columns, unless_empty, GivesEntry};
 
 use crate::fault::RowFault;
 use ach_fields::take_number;
@@ -48,9 +48,7 @@ pub fn is_header(row: &ByteRecord) -> bool
 
 /// Gives the entry that a row is, or says why it is none.
 pub fn row_entry(row: &ByteRecord) -> Result<RowEntry<'_>, RowFault>
-    ensures { MatchResult result
-        (λ entry. row_entry (fields_of row.now) ≡ Ok (entry_of entry))
-        (λ fault. row_entry (fields_of row.now) ≡ Err fault) }
+    ensures { GivesEntry (row_entry (fields_of row.now)) result }
 {
     match columns_in(row) {
         Some(columns) => entry_in(&columns),
@@ -97,9 +95,7 @@ fn names_columns(columns: &Columns<'_>) -> bool
 }
 
 fn entry_in<'a>(columns: &Columns<'a>) -> Result<RowEntry<'a>, RowFault>
-    ensures { MatchResult result
-        (λ entry. entry_in (columns_of columns.now) ≡ Ok (entry_of entry))
-        (λ fault. entry_in (columns_of columns.now) ≡ Err fault) }
+    ensures { GivesEntry (entry_in (columns_of columns.now)) result }
 {
     let Ok(cents) = take_number(columns.cents.as_bytes()) else {
         return Err(RowFault::BadCents);

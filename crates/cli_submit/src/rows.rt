@@ -1,9 +1,7 @@
 //! The rows of a list of entries.
-ghost use Rattle.std.specs.Prelude.{◌≡◌, ◌++◌, ◌∷◌, [], map, IfOk, OnOk};
+ghost use Rattle.std.specs.Prelude.{◌≡◌, map, IfOk, OnOk};
 ghost use Rattle.csv.specs.Records.{fields_of};
-ghost use Rattle.serde_json.specs.View.{view, items_view};
-ghost use Rattle.cli_submit.specs.Bodies.{entry_data, entry_items};
-ghost use Rattle.cli_submit.specs.Rows.{entry_of};
+ghost use Rattle.cli_submit.specs.Bodies.{AddsEntry, AreEntries};
 ghost use Rattle.cli_submit.specs.Lists.{entries_of_list, entries_of_rows, rows_in, IsUnlessNoMemory};
 
 use crate::body::entry_value;
@@ -15,8 +13,7 @@ use std::alloc::{AllocError, Global};
 
 /// Gives the entries of a list in CSV as JSON, or the first fault of its rows.
 pub fn entries_of_list(alloc: Global, list: &[u8]) -> Result<Vec<Value>, SubmitFault>
-    ensures { IsUnlessNoMemory (λ values entries. items_view values.items ≡ entry_items entries)
-        (entries_of_list list.now) result }
+    ensures { IsUnlessNoMemory AreEntries (entries_of_list list.now) result }
 {
     let rows = rows_in(alloc, list)?;
     match rows.split_first() {
@@ -44,8 +41,7 @@ fn rows_in(alloc: Global, text: &[u8]) -> Result<Vec<ByteRecord>, AllocError>
 }
 
 fn entries_of_rows(alloc: Global, rows: &[ByteRecord]) -> Result<Vec<Value>, SubmitFault>
-    ensures { IsUnlessNoMemory (λ values entries. items_view values.items ≡ entry_items entries)
-        (entries_of_rows (map fields_of rows.now)) result }
+    ensures { IsUnlessNoMemory AreEntries (entries_of_rows (map fields_of rows.now)) result }
 {
     let mut values = Vec::new(alloc);
     for row in rows {
@@ -65,8 +61,7 @@ fn push_entry(
     values: &mut Vec<Value>,
     entry: &RowEntry<'_>,
 ) -> Result<(), AllocError>
-    ensures { OnOk result (map view values.new.items
-        ≡ map view values.old.items ++ entry_data (entry_of entry.now) ∷ []) }
+    ensures { OnOk result (AddsEntry entry.now values.old values.new) }
 {
     values.push(entry_value(alloc, entry)?)?;
     Ok(())
