@@ -3,4 +3,3 @@ pub mod CommandLineVectors
 pub mod HelpLemmas
 pub mod NumberLemmas
 pub mod ServeLemmas
-pub mod Adding

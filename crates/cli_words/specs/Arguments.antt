@@ -1,8 +1,10 @@
 -- The arguments that each command takes, by `clap`'s rules.
-use Rattle.std.specs.Prelude.{ℕ, pos, true, List, [], ◌∷◌, Some, codes, fold}
-use Rattle.clap.specs.Words.{App, Rule, Text, new_app, new_rule, with_rule, with_subcommand}
+use Rattle.std.specs.Prelude.{◌≡◌, ℕ, pos, true, List, [], ◌∷◌, Some, codes, fold}
+use Rattle.std.specs.Borrow.{Bor}
+use Rattle.clap.specs.Words.{App, Rule, Text, app_of, new_app, new_rule, with_rule, with_subcommand}
 use Rattle.clap.specs.Simple.{new_shape}
 use Rattle.clap.specs.declared.builder.action.ArgAction.TheVariants.{Set}
+use Rattle.clap.specs.declared.builder.command.Command.{Command}
 use Rattle.clap.specs.declared.builder.value_parser.ValueParser.{ValueParser}
 use Rattle.clap.specs.declared.builder.value_parser.ValueParser.TheVariants as parser
 
@@ -49,6 +51,10 @@ app_with name rules = record { top = record (new_shape name) { rules = rules }; 
 -- a command with options more that have to be there, each with its identification and its long name
 abbrev pub with_options : App → List (Text × Text) → App
 with_options = fold (λ app option. with_rule app (required_option option.0 option.1))
+
+-- an option of the code, by its identification and its long name
+abbrev pub option_texts : Bor (List ℕ) × Bor (List ℕ) × Bor (List ℕ) → Text × Text
+option_texts option = (option.0.now, option.1.now)
 
 -- the arguments of `check`
 abbrev pub check_rules : List Rule
@@ -109,10 +115,22 @@ program_top =
 abbrev pub with_command : App → (name : Text) → App
 with_command program name = with_subcommand program (new_app name).top
 
+-- and with the names of commands more, one after another
+abbrev pub with_commands : App → (names : List Text) → App
+with_commands = fold with_command
+
+-- a command of the code, by its name
+abbrev pub name_text : Bor (List ℕ) × Bor (List ℕ) → Text
+name_text command = command.0.now
+
 -- the names of the commands, in the help's order
 abbrev pub command_names : List Text
 command_names = codes "check" ∷ codes "submit" ∷ codes "stdio" ∷ codes "init" ∷ codes "serve" ∷ codes "migrate" ∷ []
 
 -- and with the names of its commands
 abbrev pub program_app : App
-program_app = fold with_command program_top command_names
+program_app = with_commands program_top command_names
+
+-- a command of `clap` that was built is this one
+abbrev pub IsApp : App → Command → Type 0
+IsApp app command = app_of command ≡ app

@@ -1,7 +1,7 @@
 //! The arguments of the commands that take a desk's file, by `clap`'s rules.
-ghost use Rattle.std.specs.Prelude.{◌≡◌, map, IfOk};
-ghost use Rattle.clap.specs.Words.{app_of, found_of, rows_of};
-ghost use Rattle.cli_words.specs.Arguments.{init_app, migrate_app, serve_app};
+ghost use Rattle.std.specs.Prelude.{map, IfOk};
+ghost use Rattle.clap.specs.Words.{found_of, rows_of};
+ghost use Rattle.cli_words.specs.Arguments.{init_app, migrate_app, serve_app, IsApp};
 ghost use Rattle.cli_words.specs.CommandLine.{HasConnections, HasPatience, HasPort, Parses};
 
 use crate::plain_arguments::{HELP_REQUIRED, add_argument, add_options, new_command};
@@ -55,7 +55,7 @@ pub fn init_matches<'a>(alloc: Global, words: &'a [&'a str]) -> Result<ArgMatche
 }
 
 fn init_command<'a>(alloc: Global) -> Result<ClapCommand<'a>, AllocError>
-    ensures { IfOk result (λ command. app_of command ≡ init_app) }
+    ensures { IfOk result (IsApp init_app) }
 {
     let command = new_command(alloc, "achdesk init", ABOUT_INIT)?;
     let command = add_argument(alloc, command, "DB", "The path of the new desk's file")?;
@@ -75,7 +75,7 @@ pub fn serve_matches<'a>(alloc: Global, words: &'a [&'a str]) -> Result<ArgMatch
 }
 
 fn serve_command<'a>(alloc: Global) -> Result<ClapCommand<'a>, AllocError>
-    ensures { IfOk result (λ command. app_of command ≡ serve_app) }
+    ensures { IfOk result (IsApp serve_app) }
 {
     let command = new_command(alloc, "achdesk serve", ABOUT_SERVE)?;
     let command = add_argument(alloc, command, "DB", HELP_DESK)?;
@@ -94,7 +94,7 @@ pub fn migrate_matches<'a>(alloc: Global, words: &'a [&'a str]) -> Result<ArgMat
 }
 
 fn migrate_command<'a>(alloc: Global) -> Result<ClapCommand<'a>, AllocError>
-    ensures { IfOk result (λ command. app_of command ≡ migrate_app) }
+    ensures { IfOk result (IsApp migrate_app) }
 {
     let command = new_command(alloc, "achdesk migrate", ABOUT_MIGRATE)?;
     add_argument(alloc, command, "DB", HELP_DESK)

@@ -1,8 +1,8 @@
 //! The arguments of the commands that need no desk's file, by `clap`'s rules, and how a command gets
 //! an argument or an option.
-ghost use Rattle.std.specs.Prelude.{◌≡◌, codes, map, IfOk};
+ghost use Rattle.std.specs.Prelude.{map, IfOk};
 ghost use Rattle.clap.specs.Words.{app_of, new_app, with_rule};
-ghost use Rattle.cli_words.specs.Arguments.{check_app, required_argument, required_option, stdio_app, submit_app, with_options};
+ghost use Rattle.cli_words.specs.Arguments.{check_app, option_texts, required_argument, required_option, stdio_app, submit_app, with_options, IsApp};
 ghost use Rattle.cli_words.specs.CommandLine.{Parses};
 
 use clap::{Arg, ArgAction, ArgMatches, Command as ClapCommand, Error};
@@ -80,14 +80,14 @@ pub fn stdio_matches<'a>(alloc: Global, words: &'a [&'a str]) -> Result<ArgMatch
 }
 
 fn check_command<'a>(alloc: Global) -> Result<ClapCommand<'a>, AllocError>
-    ensures { IfOk result (λ command. app_of command ≡ check_app) }
+    ensures { IfOk result (IsApp check_app) }
 {
     let command = new_command(alloc, "achdesk check", ABOUT_CHECK)?;
     add_argument(alloc, command, "FILE", "The path of the file")
 }
 
 fn stdio_command<'a>(alloc: Global) -> Result<ClapCommand<'a>, AllocError>
-    ensures { IfOk result (λ command. app_of command ≡ stdio_app) }
+    ensures { IfOk result (IsApp stdio_app) }
 {
     let command = new_command(alloc, "achdesk stdio", ABOUT_STDIO)?;
     let path = Arg::new(alloc, "DB")
@@ -98,7 +98,7 @@ fn stdio_command<'a>(alloc: Global) -> Result<ClapCommand<'a>, AllocError>
 }
 
 fn submit_command<'a>(alloc: Global) -> Result<ClapCommand<'a>, AllocError>
-    ensures { IfOk result (λ command. app_of command ≡ submit_app) }
+    ensures { IfOk result (IsApp submit_app) }
 {
     let command = new_command(alloc, "achdesk submit", ABOUT_SUBMIT)?;
     let command = add_argument(alloc, command, "FILE", HELP_LIST)?;
@@ -111,7 +111,7 @@ pub fn new_command<'a>(
     name: &'a str,
     about: &'a str,
 ) -> Result<ClapCommand<'a>, AllocError>
-    ensures { IfOk result (λ command. app_of command ≡ new_app name.now) }
+    ensures { IfOk result (IsApp (new_app name.now)) }
 {
     let command = ClapCommand::new(alloc, name).about(about).bin_name(name)?;
     Ok(command)
@@ -124,8 +124,7 @@ pub fn add_argument<'a>(
     id: &'a str,
     help: &'a str,
 ) -> Result<ClapCommand<'a>, AllocError>
-    ensures { IfOk result
-        (λ more. app_of more ≡ with_rule (app_of command.entry) (required_argument id.now)) }
+    ensures { IfOk result (IsApp (with_rule (app_of command.entry) (required_argument id.now))) }
 {
     let argument = Arg::new(alloc, id)
         .required(true)
@@ -144,7 +143,7 @@ pub fn add_option<'a>(
     help: &'a str,
 ) -> Result<ClapCommand<'a>, AllocError>
     ensures { IfOk result
-        (λ more. app_of more ≡ with_rule (app_of command.entry) (required_option id.now name.now)) }
+        (IsApp (with_rule (app_of command.entry) (required_option id.now name.now))) }
 {
     let option = Arg::new(alloc, id)
         .long(name)
@@ -163,8 +162,7 @@ pub fn add_options<'a>(
     options: &[(&'static str, &'static str, &'static str)],
 ) -> Result<ClapCommand<'a>, AllocError>
     ensures { IfOk result
-        (λ more. app_of more ≡ with_options (app_of command.entry)
-        (map (λ o. (o.0.now, o.1.now)) options.now)) }
+        (IsApp (with_options (app_of command.entry) (map option_texts options.now))) }
 {
     let mut command = command;
     for option in options {

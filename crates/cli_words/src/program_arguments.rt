@@ -1,7 +1,7 @@
 //! The names of the commands, by `clap`'s rules.
-ghost use Rattle.std.specs.Prelude.{◌≡◌, fold, map, IfOk};
+ghost use Rattle.std.specs.Prelude.{map, IfOk};
 ghost use Rattle.clap.specs.Words.{app_of, fault_of, FailsBy};
-ghost use Rattle.cli_words.specs.Arguments.{program_app, with_command};
+ghost use Rattle.cli_words.specs.Arguments.{name_text, program_app, with_command, with_commands, IsApp};
 
 use crate::desk_arguments::{ABOUT_INIT, ABOUT_MIGRATE, ABOUT_SERVE};
 use crate::plain_arguments::{ABOUT_CHECK, ABOUT_STDIO, ABOUT_SUBMIT};
@@ -36,7 +36,7 @@ pub fn program_matches<'a>(alloc: Global, words: &'a [&'a str]) -> Result<ArgMat
 }
 
 fn program_command<'a>(alloc: Global) -> Result<ClapCommand<'a>, AllocError>
-    ensures { IfOk result (λ program. app_of program ≡ program_app) }
+    ensures { IfOk result (IsApp program_app) }
 {
     let program = ClapCommand::new(alloc, "achdesk")
         .about(ABOUT_PROGRAM)
@@ -54,8 +54,7 @@ fn add_commands<'a>(
     commands: &[(&'static str, &'static str)],
 ) -> Result<ClapCommand<'a>, AllocError>
     ensures { IfOk result
-        (λ more. app_of more ≡ fold with_command (app_of program.entry)
-        (map (λ c. c.0.now) commands.now)) }
+        (IsApp (with_commands (app_of program.entry) (map name_text commands.now))) }
 {
     let mut program = program;
     for command in commands {
@@ -72,7 +71,7 @@ fn add_command<'a>(
     name: &'a str,
     about: &'a str,
 ) -> Result<ClapCommand<'a>, AllocError>
-    ensures { IfOk result (λ more. app_of more ≡ with_command (app_of program.entry) name.now) }
+    ensures { IfOk result (IsApp (with_command (app_of program.entry) name.now)) }
 {
     let command = ClapCommand::new(alloc, name).about(about);
     let program = program.subcommand(command)?;

@@ -1,8 +1,7 @@
 use Rattle.std.proofs.Common.{◌≡◌, ◌∙◌, ◌+◌, [], ap, sym, map, drop, arith}
 use Rattle.std.proofs.lemmas.List.{at_drop_more, drop_all}
 use Rattle.clap.specs.Words.{app_of}
-use Rattle.cli_words.specs.Arguments.{with_options}
-use Rattle.cli_words.proofs.Adding.{option_texts}
+use Rattle.cli_words.specs.Arguments.{option_texts, with_options}
 use Rattle.cli_words.proofs.plain_arguments.add_options.Goals as goal
 
 pub loop-option-preserved : goal.loop-option-preserved

@@ -1,7 +1,6 @@
 use Rattle.std.proofs.Common.{◌≡◌, map, drop}
 use Rattle.clap.specs.Words.{app_of}
-use Rattle.cli_words.specs.Arguments.{with_options}
-use Rattle.cli_words.proofs.Adding.{option_texts}
+use Rattle.cli_words.specs.Arguments.{option_texts, with_options}
 use Rattle.cli_words.proofs.plain_arguments.add_options.Given as goal
 
 abbrev pub invariant-loop-option : goal.invariant-loop-option
