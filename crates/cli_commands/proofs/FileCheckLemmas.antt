@@ -67,12 +67,12 @@ on_taken known v None files stands long on given = tt
 on_taken known v (Some a) files stands long on given = (v, on_whole known v files stands long on, given)
 
 pub checked : (input old new : Option (List ℕ)) (answer : Answer) (status : Status)
-    → IfSome answer (IsCheckAnswer input) → PrintsLine old new answer status → HasChecked input old new status
+    → IfSome answer (IsCheckAnswer input) → PrintsLine answer old new status → HasChecked input old new status
 checked input old new None status is printed = elim printed [ ]
 checked input old new (Some a) status is printed =
     (is.0, is.1, (printed.0 ∙ ap status_of is.2.0, subst (λ t. Appends old new t) is.2.1 printed.1))
 
 pub check_failed : (input old new : Option (List ℕ)) (answer : Answer)
-    → IfSome answer (IsCheckAnswer input) → PrintsPrefixOf old new answer → IsFailedCheck input old new
+    → IfSome answer (IsCheckAnswer input) → PrintsPrefixOf answer old new → IsFailedCheck input old new
 check_failed input old new None is prefix = inl prefix
 check_failed input old new (Some a) is prefix = inr (is.0, is.1, subst (λ t. AppendsPrefix old new t) is.2.1 prefix)

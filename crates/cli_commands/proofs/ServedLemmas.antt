@@ -7,8 +7,8 @@ use Rattle.cli_commands.specs.declared.status.Status.{Status}
 
 -- the line is the one that tells where the desk listens
 pub has_served : (port : ℕ) (old new : Option (List ℕ)) (line : List ℕ) (status : Status) → line ≡ (listening_answer port).1
-    → PrintsAnswer old new (true, line) status → HasServedConnections port old new status
-has_served port old new line status is printed = subst (λ (l : List ℕ). PrintsAnswer old new (true, l) status) is printed
+    → PrintsAnswer (true, line) old new status → HasServedConnections port old new status
+has_served port old new line status is printed = subst (λ (l : List ℕ). PrintsAnswer (true, l) old new status) is printed
 
 pub fails_to_serve : (port : ℕ) (old new : Option (List ℕ)) (line : List ℕ) → line ≡ (listening_answer port).1
     → AppendsPrefix old new (line ++ unavailable) → FailsToServe port old new

@@ -59,7 +59,9 @@ IsCheckAnswer input given = (verdict : Verdict) × IsVerdictOn input verdict × 
 
 -- the command answered all that its input had
 abbrev pub HasChecked : (input old new : Option (List ℕ)) → Status → Type 0
-HasChecked input old new status = (verdict : Verdict) × IsVerdictOn input verdict × PrintsAnswer old new (with_line_feed (verdict_answer verdict)) status
+HasChecked input old new status =
+    (verdict : Verdict) × IsVerdictOn input verdict
+    × PrintsAnswer (with_line_feed (verdict_answer verdict)) old new status
 
 -- a check that failed printed a prefix of `unavailable`, or of its answer
 abbrev pub IsFailedCheck : (input old new : Option (List ℕ)) → Type 0

@@ -17,7 +17,8 @@ IsInputAnswer answer input given = (bytes : List ℕ) × MayHave input bytes × 
 
 -- the command answered all that its input had
 abbrev pub HasAnswered : Answering → (input old new : Option (List ℕ)) → Status → Type 0
-HasAnswered answer input old new status = (bytes : List ℕ) × MayHave input bytes × PrintsAnswer old new (answer bytes) status
+HasAnswered answer input old new status =
+    (bytes : List ℕ) × MayHave input bytes × PrintsAnswer (answer bytes) old new status
 
 -- a command that failed printed a prefix of `unavailable`, or of its answer
 abbrev pub IsFailedRun : Answering → (input old new : Option (List ℕ)) → Type 0

@@ -1,5 +1,5 @@
 -- How much of an input is read, and what it has.
-use Rattle.std.specs.Prelude.{◌≡◌, ℕ, List, Option, IfSome}
+use Rattle.std.specs.Prelude.{◌≡◌, ℕ, List, Option, option_map, take, IfSome}
 
 -- how many bytes a body, a list or a file has at most
 abbrev pub most_input : ℕ
@@ -12,6 +12,10 @@ most_read = 4_194_305
 -- how many of them at once, where a file is read
 abbrev pub most_piece : ℕ
 most_piece = 65_536
+
+-- what is read of an input
+abbrev pub bounded : (input : Option (List ℕ)) → Option (List ℕ)
+bounded input = option_map (take most_read) input
 
 -- an input has these bytes, where it is known what it has
 abbrev pub MayHave : (input : Option (List ℕ)) → (bytes : List ℕ) → Type 0

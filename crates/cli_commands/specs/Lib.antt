@@ -1,4 +1,5 @@
 pub mod BodyAnswers
+pub mod Endings
 pub mod ExitCodes
 pub mod Feeding
 pub mod FileChecks

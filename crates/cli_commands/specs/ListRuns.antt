@@ -1,10 +1,13 @@
 -- The command that makes the message of a list of entries.
-use Rattle.std.specs.Prelude.{ℕ, Bool, true, false, List, Result, Ok, Err}
+use Rattle.std.specs.Prelude.{ℕ, Bool, true, false, List, Option, Result, Ok, Err}
 use Rattle.cli_submit.specs.FaultLines.{fault_line}
 use Rattle.cli_submit.specs.Messages.{message_of}
-use Rattle.cli_submit.specs.Options.{OptionTexts}
+use Rattle.cli_submit.specs.Options.{OptionTexts, texts_of}
 use Rattle.cli_submit.specs.declared.fault.InputFault.{InputFault}
+use Rattle.cli_submit.specs.declared.options.SubmitOptions.{SubmitOptions}
+use Rattle.cli_commands.specs.InputRuns.{Answering, HasAnswered, IsFailedRun}
 use Rattle.cli_commands.specs.Printing.{with_line_feed}
+use Rattle.cli_commands.specs.declared.status.Status.{Status}
 
 -- the message with nothing after it, or the line of the fault
 abbrev pub outcome_text : (message : Result (List ℕ) InputFault) → Bool × List ℕ
@@ -14,3 +17,15 @@ outcome_text (Err fault) = with_line_feed (false, fault_line fault)
 -- what is printed of a list
 abbrev pub list_answer : OptionTexts → (list : List ℕ) → Bool × List ℕ
 list_answer options list = outcome_text (message_of options list)
+
+-- and by the options that the program has
+abbrev pub submit_answer : SubmitOptions → Answering
+submit_answer options = list_answer (texts_of options)
+
+-- the message of the list that the input had was printed, or the line of its fault
+abbrev pub HasSubmitted : SubmitOptions → (input old new : Option (List ℕ)) → Status → Type 0
+HasSubmitted options input old new status = HasAnswered (submit_answer options) input old new status
+
+-- a prefix of that was printed, or of `unavailable`
+abbrev pub IsFailedSubmit : SubmitOptions → (input old new : Option (List ℕ)) → Type 0
+IsFailedSubmit options input old new = IsFailedRun (submit_answer options) input old new

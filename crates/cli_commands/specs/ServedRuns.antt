@@ -18,7 +18,7 @@ listening_answer port = with_line_feed (true, listening_text port)
 
 -- it told where it listens, and served all connections
 abbrev pub HasServedConnections : (port : ℕ) → (old new : Option (List ℕ)) → Status → Type 0
-HasServedConnections port old new status = PrintsAnswer old new (listening_answer port) status
+HasServedConnections port old new status = PrintsAnswer (listening_answer port) old new status
 
 -- it could not listen; or it told where it listens, and then a connection could not be accepted; or a write failed
 abbrev pub FailsToServe : (port : ℕ) → (old new : Option (List ℕ)) → Type 0
@@ -31,3 +31,8 @@ pub record Serves {S : Type 0} (g : Ghosts S) (store back : S) (port : ℕ) (old
   pub served : HasServed IsAnswered (g.is_clean back) (StandsBehind (g.holds store)) (StandsBehind (g.holds back))
   pub answered : status ≢ Failed → HasServedConnections port old new status
   pub failed : status ≡ Failed → FailsToServe port old new
+
+-- a call served the desk of a store, and gave its status and the store back
+abbrev pub StoreServes : {S W : Type 0} → (g : Ghosts S) → (store : S) → (port : ℕ) → (contents : W → Option (List ℕ))
+    → (old new : W) → (given : Status × S) → Type 0
+StoreServes g store port contents old new given = Serves g store given.1 port (contents old) (contents new) given.0

@@ -38,3 +38,9 @@ pub record AnswersBy {S : Type 0} (g : Ghosts S) (store back : S) (input old new
   pub before : g.is_clean back → g.is_clean store
   pub answered : status ≢ Failed → HasAnsweredFrom (g.is_clean back) (StandsBehind (g.holds store)) (StandsBehind (g.holds back)) input old new status
   pub failed : status ≡ Failed → BreaksOffFrom (g.is_clean back) (StandsBehind (g.holds store)) (StandsBehind (g.holds back)) input old new
+
+-- a session was answered by the desk of a store, and its status and the store were given back
+abbrev pub StoreAnswers : {S W : Type 0} → (g : Ghosts S) → (store : S) → (input : Option (List ℕ))
+    → (contents : W → Option (List ℕ)) → (old new : W) → (given : Status × S) → Type 0
+StoreAnswers g store input contents old new given =
+    AnswersBy g store given.1 input (contents old) (contents new) given.0

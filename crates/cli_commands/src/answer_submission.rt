@@ -1,6 +1,7 @@
 //! The command that reads one submission's body and answers it.
-ghost use Rattle.std.specs.Prelude.{◌≡◌, ◌≢◌, IfSome, IfOk};
+ghost use Rattle.std.specs.Prelude.{IfSome, IfOk};
 ghost use Rattle.cli_commands.specs.BodyAnswers.{IsAnswer};
+ghost use Rattle.cli_commands.specs.Endings.{IfAnswered, IfFailed};
 ghost use Rattle.cli_commands.specs.InputRuns.{HasAnswered, IsFailedRun, IsInputAnswer};
 ghost use Rattle.cli_commands.specs.SubmissionRuns.{first_run_answer, first_run_line};
 
@@ -18,10 +19,10 @@ use std::io::{Read, Write};
 /// At most 4,194,304 bytes are read; one more is `{"error":"TooLarge"}`. Where a read fails or memory
 /// runs out, `unavailable` is printed; where a write fails, nothing more is printed.
 pub fn first_run<R: Read + Drop, W: Write>(alloc: Global, reader: R, writer: &mut W) -> Status
-    ensures answered { result ≢ Status.Failed →
-        HasAnswered first_run_line (R.remaining reader) (W.contents writer.old) (W.contents writer.new) result }
-    ensures failed { result ≡ Status.Failed →
-        IsFailedRun first_run_line (R.remaining reader) (W.contents writer.old) (W.contents writer.new) }
+    ensures answered { IfAnswered result W.contents writer.old writer.new
+        (HasAnswered first_run_line (R.remaining reader)) }
+    ensures failed { IfFailed result W.contents writer.old writer.new
+        (IsFailedRun first_run_line (R.remaining reader)) }
 {
     let (answer, tries) = input_answer(alloc, reader);
     print_answer(writer, &answer, tries)

@@ -1,6 +1,7 @@
 //! The command that checks an incoming file.
-ghost use Rattle.std.specs.Prelude.{◌≡◌, ◌≢◌, IfSome, IfOk, None, string_bytes};
+ghost use Rattle.std.specs.Prelude.{◌≡◌, IfSome, IfOk, None, string_bytes};
 ghost use Rattle.cli_commands.specs.BodyAnswers.{IsAnswer};
+ghost use Rattle.cli_commands.specs.Endings.{IfAnswered, IfFailed};
 ghost use Rattle.cli_commands.specs.FileChecks.{fault_line, counts_line, verdict_answer, IsCheckAnswer, HasChecked, IsFailedCheck};
 ghost use Rattle.cli_commands.specs.Printing.{with_line_feed};
 
@@ -20,10 +21,10 @@ use std::io::{Read, Write};
 /// Where a read fails or memory runs out, `unavailable` is printed; where a write fails, nothing more
 /// is printed.
 pub fn check_file<R: Read + Drop, W: Write>(alloc: Global, reader: R, writer: &mut W) -> Status
-    ensures answered { result ≢ Status.Failed →
-        HasChecked (R.remaining reader) (W.contents writer.old) (W.contents writer.new) result }
-    ensures failed { result ≡ Status.Failed →
-        IsFailedCheck (R.remaining reader) (W.contents writer.old) (W.contents writer.new) }
+    ensures answered { IfAnswered result W.contents writer.old writer.new
+        (HasChecked (R.remaining reader)) }
+    ensures failed { IfFailed result W.contents writer.old writer.new
+        (IsFailedCheck (R.remaining reader)) }
 {
     let (answer, tries) = file_answer(alloc, reader);
     print_answer(writer, &answer, tries)
@@ -31,10 +32,8 @@ pub fn check_file<R: Read + Drop, W: Write>(alloc: Global, reader: R, writer: &m
 
 /// Checks the incoming file at a path. Where it cannot be opened, `unavailable` is printed.
 pub fn check_path<W: Write>(rt: &HostRuntime, path: &str, writer: &mut W) -> Status
-    ensures answered { result ≢ Status.Failed →
-        HasChecked None (W.contents writer.old) (W.contents writer.new) result }
-    ensures failed { result ≡ Status.Failed →
-        IsFailedCheck None (W.contents writer.old) (W.contents writer.new) }
+    ensures answered { IfAnswered result W.contents writer.old writer.new (HasChecked None) }
+    ensures failed { IfFailed result W.contents writer.old writer.new (IsFailedCheck None) }
 {
     match File::open(rt, path) {
         Ok(file) => check_file(rt.alloc(), file, writer),

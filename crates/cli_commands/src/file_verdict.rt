@@ -76,8 +76,7 @@ fn feed_input<R: Read>(alloc: Global, input: &mut Take<R>, reader: &mut Reader) 
 
 fn stop_verdict(stop: Stop) -> Option<Verdict>
     ensures memory { IfNone result (GivesUp stop) }
-    ensures verdict { (bytes : List ℕ) → StopsBy bytes stop →
-        IfSome result (λ verdict. IsVerdict bytes verdict) }
+    ensures verdict { (bytes : List ℕ) → StopsBy bytes stop → IfSome result (IsVerdict bytes) }
 {
     match stop {
         Stop::Failed => None,
@@ -89,7 +88,7 @@ fn stop_verdict(stop: Stop) -> Option<Verdict>
 fn fault_verdict(found: Fault) -> Option<Verdict>
     ensures memory { IfNone result (found.kind ≡ FileFault.NoMemory) }
     ensures verdict { (bytes : List ℕ) → Tells found (fault bytes) →
-        IfSome result (λ verdict. IsVerdict bytes verdict) }
+        IfSome result (IsVerdict bytes) }
 {
     match found.kind {
         FileFault::NoMemory => None,
@@ -98,8 +97,7 @@ fn fault_verdict(found: Fault) -> Option<Verdict>
 }
 
 fn end_verdict(reader: &mut Reader) -> Option<Verdict>
-    ensures { (bytes : List ℕ) → HasRead reader.old bytes →
-        IfSome result (λ verdict. IsVerdict bytes verdict) }
+    ensures { (bytes : List ℕ) → HasRead reader.old bytes → IfSome result (IsVerdict bytes) }
 {
     match reader.finish() {
         Ok(incoming) => Some(items_verdict(incoming.items())),

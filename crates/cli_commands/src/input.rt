@@ -1,7 +1,7 @@
 //! The input of a command, of which no more is read than decides.
-ghost use Rattle.std.specs.Prelude.{◌≡◌, option_map, take, IfSome};
+ghost use Rattle.std.specs.Prelude.{◌≡◌, IfSome};
 ghost use Rattle.std.specs.Io.Take.{take_inner, take_limit};
-ghost use Rattle.cli_commands.specs.Inputs.{most_read, MayHave};
+ghost use Rattle.cli_commands.specs.Inputs.{bounded, most_read, MayHave};
 
 use io_retries::{RetryingReader, Tries};
 use std::alloc::Global;
@@ -13,8 +13,7 @@ pub const MOST_INPUT: u64 = 4_194_304;
 /// Reads an input to its end, or to one byte more than it may have, and gives the tries that are left.
 /// It gives no bytes where a read failed or memory ran out.
 pub fn read_input<R: Read + Drop>(alloc: Global, reader: R) -> (Option<Vec<u8>>, Tries)
-    ensures { IfSome result.0
-        (λ bytes. MayHave (option_map (take most_read) (R.remaining reader)) bytes.items) }
+    ensures { IfSome result.0 (λ bytes. MayHave (bounded (R.remaining reader)) bytes.items) }
 {
     let mut input = bounded_input(reader);
     let mut bytes = Vec::new(alloc);

@@ -1,5 +1,6 @@
 //! The command that answers messages of HTTP/1.1.
-ghost use Rattle.std.specs.Prelude.{◌≡◌, ◌≢◌};
+ghost use Rattle.std.specs.Prelude.{◌≡◌};
+ghost use Rattle.cli_commands.specs.Endings.{IfAnswered, IfFailed};
 ghost use Rattle.cli_commands.specs.MessageRuns.{status_of_session, HasAnsweredMessages, HasBrokenOff};
 
 use crate::output::print_unavailable;
@@ -19,10 +20,10 @@ use std::io::{Read, Write};
 /// read or a write fails. A session prints its answers alone. Where memory runs out before it begins,
 /// `unavailable` is printed, and the command has failed.
 pub fn answer_messages<R: Read + Drop, W: Write>(alloc: Global, reader: R, writer: &mut W) -> Status
-    ensures answered { result ≢ Status.Failed →
-        HasAnsweredMessages (R.remaining reader) (W.contents writer.old) (W.contents writer.new) result }
-    ensures failed { result ≡ Status.Failed →
-        HasBrokenOff (R.remaining reader) (W.contents writer.old) (W.contents writer.new) }
+    ensures answered { IfAnswered result W.contents writer.old writer.new
+        (HasAnsweredMessages (R.remaining reader)) }
+    ensures failed { IfFailed result W.contents writer.old writer.new
+        (HasBrokenOff (R.remaining reader)) }
 {
     let Ok(routes) = Routes::new(alloc) else {
         return print_unavailable(writer, Tries::new());

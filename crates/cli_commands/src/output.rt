@@ -1,9 +1,9 @@
 //! The lines that a command prints.
-ghost use Rattle.std.specs.Prelude.{◌≡◌, ◌≢◌, IfSome, MatchResult};
-ghost use Rattle.std.specs.Io.KnownBytes.{Appends};
+ghost use Rattle.std.specs.Prelude.{◌≡◌, IfSome};
 ghost use Rattle.io_retries.specs.Prefixes.{AppendsPrefix};
 ghost use Rattle.cli_commands.specs.BodyAnswers.{IsAnswer};
-ghost use Rattle.cli_commands.specs.Printing.{status_of, unavailable, with_line_feed, PrintsAnswer, PrintsLine, PrintsPrefixOf};
+ghost use Rattle.cli_commands.specs.Endings.{IfAnswered, IfFailed};
+ghost use Rattle.cli_commands.specs.Printing.{status_of, unavailable, with_line_feed, PrintsAnswer, PrintsLine, PrintsPrefix, PrintsPrefixOf, WritesLine};
 
 use crate::status::Status;
 use io_retries::{Tries, write_all_with_retries};
@@ -27,9 +27,7 @@ pub fn end_line(is_accepted: bool, mut line: Vec<u8>) -> Option<(bool, Vec<u8>)>
 /// Prints a line and flushes the writer, with the tries that the run has left. Where a write or the
 /// flush fails, the writer has taken a prefix of the line.
 pub fn write_line<W: Write>(writer: &mut W, line: &[u8], mut tries: Tries) -> io::Result<()>
-    ensures { MatchResult result
-        (λ _. Appends (W.contents writer.old) (W.contents writer.new) line.now)
-        (λ _. AppendsPrefix (W.contents writer.old) (W.contents writer.new) line.now) }
+    ensures { WritesLine line.now (W.contents writer.old) (W.contents writer.new) result }
 {
     write_all_with_retries(writer, line, &mut tries)
 }
@@ -50,10 +48,8 @@ pub fn print_answer<W: Write>(
     answer: &Option<(bool, Vec<u8>)>,
     tries: Tries,
 ) -> Status
-    ensures printed { result ≢ Status.Failed →
-        PrintsLine (W.contents writer.old) (W.contents writer.new) answer.now result }
-    ensures failed { result ≡ Status.Failed →
-        PrintsPrefixOf (W.contents writer.old) (W.contents writer.new) answer.now }
+    ensures printed { IfAnswered result W.contents writer.old writer.new (PrintsLine answer.now) }
+    ensures failed { IfFailed result W.contents writer.old writer.new (PrintsPrefixOf answer.now) }
 {
     match answer {
         Some((is_accepted, line)) => match write_line(writer, line.as_slice(), tries) {
@@ -66,10 +62,9 @@ pub fn print_answer<W: Write>(
 
 /// Prints a line that is known, which says whether the input is accepted.
 pub fn print_line<W: Write>(writer: &mut W, is_accepted: bool, line: &[u8]) -> Status
-    ensures printed { result ≢ Status.Failed →
-        PrintsAnswer (W.contents writer.old) (W.contents writer.new) (is_accepted, line.now) result }
-    ensures failed { result ≡ Status.Failed →
-        AppendsPrefix (W.contents writer.old) (W.contents writer.new) line.now }
+    ensures printed { IfAnswered result W.contents writer.old writer.new
+        (PrintsAnswer (is_accepted, line.now)) }
+    ensures failed { IfFailed result W.contents writer.old writer.new (PrintsPrefix line.now) }
 {
     match write_line(writer, line, Tries::new()) {
         Ok(()) => status_of(is_accepted),

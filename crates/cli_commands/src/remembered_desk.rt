@@ -1,6 +1,6 @@
 //! The desk of a store answers and is served by what it remembers of the store.
-ghost use Rattle.cli_commands.specs.ServedRuns.{Serves};
-ghost use Rattle.cli_commands.specs.StoreRuns.{AnswersBy};
+ghost use Rattle.cli_commands.specs.ServedRuns.{StoreServes};
+ghost use Rattle.cli_commands.specs.StoreRuns.{StoreAnswers};
 
 use crate::served_store::serve_by_store;
 use crate::status::Status;
@@ -19,8 +19,7 @@ pub fn serve_remembering<S: Store + Drop, W: Write>(
     options: ServeOptions,
     writer: &mut W,
 ) -> (Status, S)
-    ensures { Serves S.Store store result.1 options.port (W.contents writer.old)
-        (W.contents writer.new) result.0 }
+    ensures { StoreServes S.Store store options.port W.contents writer.old writer.new result }
 {
     let store = Remembering::new(rt.alloc(), store);
     let (status, store) = serve_by_store(rt, store, options, writer);
@@ -35,8 +34,8 @@ pub fn answer_remembering<S: Store + Drop, R: Read + Drop, W: Write>(
     reader: R,
     writer: &mut W,
 ) -> (Status, S)
-    ensures { AnswersBy S.Store store result.1 (R.remaining reader) (W.contents writer.old)
-        (W.contents writer.new) result.0 }
+    ensures { StoreAnswers S.Store store (R.remaining reader)
+        W.contents writer.old writer.new result }
 {
     let store = Remembering::new(alloc, store);
     let (status, store) = answer_by_store(alloc, store, reader, writer);

@@ -1,10 +1,10 @@
 //! The desk of a store is served on a port.
-ghost use Rattle.std.specs.Prelude.{◌≡◌, ◌≢◌, ◌++◌, true, IfSome};
-ghost use Rattle.io_retries.specs.Prefixes.{AppendsPrefix};
+ghost use Rattle.std.specs.Prelude.{◌++◌, true, IfSome};
 ghost use Rattle.http_session.specs.Serving.{HasServed, IsUnasked};
 ghost use Rattle.cli_commands.specs.BodyAnswers.{IsAnswer};
-ghost use Rattle.cli_commands.specs.Printing.{unavailable, PrintsAnswer};
-ghost use Rattle.cli_commands.specs.ServedRuns.{listening_answer, Serves};
+ghost use Rattle.cli_commands.specs.Endings.{IfAnswered, IfFailed};
+ghost use Rattle.cli_commands.specs.Printing.{unavailable, PrintsAnswer, PrintsPrefix};
+ghost use Rattle.cli_commands.specs.ServedRuns.{listening_answer, StoreServes};
 
 use crate::output::{end_line, print_unavailable};
 use crate::status::Status;
@@ -34,8 +34,7 @@ pub fn serve_by_store<S: Store + Drop, W: Write>(
     options: ServeOptions,
     writer: &mut W,
 ) -> (Status, S)
-    ensures { Serves S.Store store result.1 options.port (W.contents writer.old)
-        (W.contents writer.new) result.0 }
+    ensures { StoreServes S.Store store options.port W.contents writer.old writer.new result }
 {
     let Ok(routes) = Routes::new(rt.alloc()) else {
         return (print_unavailable(writer, Tries::new()), store);
@@ -74,10 +73,10 @@ where
     ensures before { D.is_clean desk.new → D.is_clean desk.old }
     ensures served { HasServed D.step (D.is_clean desk.new) (D.stands_for desk.old)
         (D.stands_for desk.new) }
-    ensures answered { result ≢ Status.Failed →
-        PrintsAnswer (W.contents writer.old) (W.contents writer.new) (true, line.now) result }
-    ensures failed { result ≡ Status.Failed →
-        AppendsPrefix (W.contents writer.old) (W.contents writer.new) (line.now ++ unavailable) }
+    ensures answered { IfAnswered result W.contents writer.old writer.new
+        (PrintsAnswer (true, line.now)) }
+    ensures failed { IfFailed result W.contents writer.old writer.new
+        (PrintsPrefix (line.now ++ unavailable)) }
 {
     let mut tries = Tries::new();
     let Ok(()) = write_all_with_retries(writer, line, &mut tries) else {

@@ -1,5 +1,5 @@
 //! Messages of HTTP/1.1 are answered by the desk of a store.
-ghost use Rattle.cli_commands.specs.StoreRuns.{AnswersBy};
+ghost use Rattle.cli_commands.specs.StoreRuns.{StoreAnswers};
 
 use crate::message_session::status_of_session;
 use crate::output::print_unavailable;
@@ -25,8 +25,8 @@ pub fn answer_by_store<S: Store + Drop, R: Read + Drop, W: Write>(
     reader: R,
     writer: &mut W,
 ) -> (Status, S)
-    ensures { AnswersBy S.Store store result.1 (R.remaining reader) (W.contents writer.old)
-        (W.contents writer.new) result.0 }
+    ensures { StoreAnswers S.Store store (R.remaining reader)
+        W.contents writer.old writer.new result }
 {
     let Ok(routes) = Routes::new(alloc) else {
         return (print_unavailable(writer, Tries::new()), store);

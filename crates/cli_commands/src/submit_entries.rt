@@ -1,9 +1,9 @@
 //! The command that makes the message of a list of entries.
-ghost use Rattle.std.specs.Prelude.{◌≡◌, ◌≢◌, IfSome, Err, None};
-ghost use Rattle.cli_submit.specs.Options.{texts_of};
+ghost use Rattle.std.specs.Prelude.{IfSome, Err, None};
 ghost use Rattle.cli_commands.specs.BodyAnswers.{IsAnswer};
-ghost use Rattle.cli_commands.specs.InputRuns.{HasAnswered, IsFailedRun, IsInputAnswer};
-ghost use Rattle.cli_commands.specs.ListRuns.{list_answer, outcome_text};
+ghost use Rattle.cli_commands.specs.Endings.{IfAnswered, IfFailed};
+ghost use Rattle.cli_commands.specs.InputRuns.{IsInputAnswer};
+ghost use Rattle.cli_commands.specs.ListRuns.{outcome_text, submit_answer, HasSubmitted, IsFailedSubmit};
 
 use crate::input::read_input;
 use crate::output::{end_line, print_answer, print_unavailable};
@@ -25,12 +25,10 @@ pub fn submit_list<R: Read + Drop, W: Write>(
     reader: R,
     writer: &mut W,
 ) -> Status
-    ensures answered { result ≢ Status.Failed →
-        HasAnswered (list_answer (texts_of options.now)) (R.remaining reader)
-        (W.contents writer.old) (W.contents writer.new) result }
-    ensures failed { result ≡ Status.Failed →
-        IsFailedRun (list_answer (texts_of options.now)) (R.remaining reader)
-        (W.contents writer.old) (W.contents writer.new) }
+    ensures answered { IfAnswered result W.contents writer.old writer.new
+        (HasSubmitted options.now (R.remaining reader)) }
+    ensures failed { IfFailed result W.contents writer.old writer.new
+        (IsFailedSubmit options.now (R.remaining reader)) }
 {
     let (answer, tries) = input_answer(alloc, options, reader);
     print_answer(writer, &answer, tries)
@@ -43,10 +41,10 @@ pub fn submit_path<W: Write>(
     options: &SubmitOptions<'_>,
     writer: &mut W,
 ) -> Status
-    ensures answered { result ≢ Status.Failed →
-        HasAnswered (list_answer (texts_of options.now)) None (W.contents writer.old) (W.contents writer.new) result }
-    ensures failed { result ≡ Status.Failed →
-        IsFailedRun (list_answer (texts_of options.now)) None (W.contents writer.old) (W.contents writer.new) }
+    ensures answered { IfAnswered result W.contents writer.old writer.new
+        (HasSubmitted options.now None) }
+    ensures failed { IfFailed result W.contents writer.old writer.new
+        (IsFailedSubmit options.now None) }
 {
     match File::open(rt, path) {
         Ok(file) => submit_list(rt.alloc(), options, file, writer),
@@ -60,8 +58,7 @@ fn input_answer<R: Read + Drop>(
     options: &SubmitOptions<'_>,
     reader: R,
 ) -> (Option<(bool, Vec<u8>)>, Tries)
-    ensures { IfSome result.0
-        (IsInputAnswer (list_answer (texts_of options.now)) (R.remaining reader)) }
+    ensures { IfSome result.0 (IsInputAnswer (submit_answer options.now) (R.remaining reader)) }
 {
     let (list, tries) = read_input(alloc, reader);
     let Some(list) = list else {
@@ -72,7 +69,7 @@ fn input_answer<R: Read + Drop>(
 
 // Whether a list has a message, and the message or the line of the first fault.
 fn list_answer(alloc: Global, options: &SubmitOptions<'_>, list: &[u8]) -> Option<(bool, Vec<u8>)>
-    ensures { IfSome result (IsAnswer (list_answer (texts_of options.now) list.now)) }
+    ensures { IfSome result (IsAnswer (submit_answer options.now list.now)) }
 {
     match submit_message(alloc, options, list) {
         Ok(message) => Some((true, message)),

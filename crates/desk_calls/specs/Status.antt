@@ -6,6 +6,10 @@ use Rattle.desk_book.specs.Book.{Book}
 use Rattle.desk_book.specs.OnStatus.{company_status}
 use Rattle.desk_book.specs.Reads.{waiting_of}
 
+-- what a company has waiting
+abbrev pub status_on : (day : Option ℕ) → (holidays : List ℕ) → Company → Book → CompanyStatus
+status_on day holidays k b = company_status day holidays k (waiting_of k b)
+
 -- what each of these companies has waiting
 abbrev pub statuses : (day : Option ℕ) → (holidays : List ℕ) → List Company → Book → List CompanyStatus
-statuses day holidays ks b = map (λ k. company_status day holidays k (waiting_of k b)) ks
+statuses day holidays ks b = map (λ k. status_on day holidays k b) ks

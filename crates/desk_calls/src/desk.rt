@@ -1,8 +1,7 @@
 ghost use Rattle.std.specs.Prelude.{◌≡◌};
-ghost use Rattle.desk_store.specs.Words.{LeavesRead};
-ghost use Rattle.desk_admission.specs.Answering.{Allows};
-ghost use Rattle.desk_calls.specs.Applying.{AnswersCall, IsReadCall, LeavesMessage, HasBook, Goes, Replies, LeavesBook};
-ghost use Rattle.desk_admission.specs.OverStores.{LeavesNoMore};
+ghost use Rattle.desk_admission.specs.OverStores.{AllowsKey, LeavesNoMore};
+ghost use Rattle.desk_calls.specs.Applying.{HasBook, Goes, Replies};
+ghost use Rattle.desk_calls.specs.OverStores.{AnswersByBook, LeavesByBook, LeavesByHistory, LeavesIfRead};
 
 use crate::respond::respond;
 use desk_admission::allow;
@@ -55,21 +54,15 @@ impl<S: Store> Desk<S> {
     /// not, changes nothing that a crash may leave.
     pub fn apply(&mut self, alloc: Global, call: Call) -> Result<Answer, StoreFault>
         ensures before { S.is_clean self.new → S.is_clean self.old }
-        ensures answers { S.is_clean self.new →
-            AnswersCall (S.holds self.old) call result (S.holds self.new) }
-        ensures leaves { S.is_clean self.new →
-            LeavesMessage S.keeps (S.holds self.old) (S.may_leave self.old) call result
-            (S.may_leave self.new) }
+        ensures answers { AnswersByBook S.Store self.old self.new result call }
+        ensures leaves { LeavesByBook S.Store self.old self.new result call }
         ensures book { S.is_clean self.new → HasBook (S.holds self.old) →
             HasBook (S.holds self.new) }
         ensures goes { S.is_clean self.new →
             Goes (S.holds self.old) call result (S.holds self.new) }
         ensures replies { S.is_clean self.new → Replies (S.holds self.old) call result }
-        ensures left { S.is_clean self.new →
-            LeavesBook S.keeps (S.holds self.old) (S.may_leave self.old) call result
-            (S.may_leave self.new) }
-        ensures read { S.is_clean self.new → IsReadCall call →
-            LeavesRead (S.may_leave self.old) (S.may_leave self.new) }
+        ensures left { LeavesByHistory S.Store self.old self.new result call }
+        ensures read { LeavesIfRead S.Store self.old self.new call }
     {
         desk_history::one_message();
         desk_book::book_tells();
@@ -85,8 +78,7 @@ impl<S: Store> Desk<S> {
         digest: [u8; 32],
     ) -> Result<bool, StoreFault>
         ensures before { S.is_clean self.new → S.is_clean self.old }
-        ensures allows { S.is_clean self.new →
-            Allows (S.holds self.old) result caller digest (S.holds self.new) }
+        ensures allows { AllowsKey S.Store self.old self.new result caller digest }
         ensures left { LeavesNoMore S.Store self.old self.new }
     {
         allow(&mut self.store, alloc, caller, digest)

@@ -1,6 +1,5 @@
 //! A call is answered by the book.
-ghost use Rattle.desk_store.specs.Words.{LeavesRead};
-ghost use Rattle.desk_calls.specs.Applying.{AnswersCall, IsReadCall, LeavesMessage};
+ghost use Rattle.desk_calls.specs.OverStores.{AnswersByBook, LeavesByBook, LeavesIfRead};
 
 use crate::company::reads::{changes_of, exposure_of, look_up, rates_of, returns_of, statement_of};
 use crate::company::submission::submit;
@@ -21,13 +20,9 @@ pub(crate) fn respond<S: Store>(
     call: Call,
 ) -> Result<Answer, StoreFault>
     ensures before { S.is_clean store.new → S.is_clean store.old }
-    ensures answers { S.is_clean store.new →
-        AnswersCall (S.holds store.old) call result (S.holds store.new) }
-    ensures left { S.is_clean store.new →
-        LeavesMessage S.keeps (S.holds store.old) (S.may_leave store.old) call result
-        (S.may_leave store.new) }
-    ensures read { S.is_clean store.new → IsReadCall call →
-        LeavesRead (S.may_leave store.old) (S.may_leave store.new) }
+    ensures answers { AnswersByBook S.Store store.old store.new result call }
+    ensures left { LeavesByBook S.Store store.old store.new result call }
+    ensures read { LeavesIfRead S.Store store.old store.new call }
 {
     match call {
         Call::PutCompany(draft) => put_company(store, alloc, &draft),

@@ -1,8 +1,9 @@
 -- The command that makes a new desk.
-use Rattle.std.specs.Prelude.{◌≡◌, ◌⊎◌, ℕ, Bool, true, false, List, codes, Option, Ok, Err}
+use Rattle.std.specs.Prelude.{◌≡◌, ◌⊎◌, ℕ, Bool, true, false, List, codes, Option, MatchOption, Ok, Err}
 use Rattle.io_retries.specs.Prefixes.{AppendsPrefix}
 use Rattle.desk_history.specs.declared.identity.Identity.{Identity}
-use Rattle.cli_words.specs.InitOptions.{InitTexts}
+use Rattle.cli_words.specs.InitOptions.{InitTexts, init_texts_of}
+use Rattle.cli_words.specs.declared.init_options.InitOptions.{InitOptions}
 use Rattle.cli_commands.specs.NewIdentities.{fault_line, identity_of}
 use Rattle.cli_commands.specs.Printing.{unavailable, with_line_feed, PrintsAnswer}
 use Rattle.cli_commands.specs.declared.new_identity.OptionFault.{OptionFault}
@@ -25,7 +26,7 @@ IsBad t fault = identity_of t ≡ Err fault
 
 -- a desk was made
 abbrev pub SaysCreated : (old new : Option (List ℕ)) → Status → Type 0
-SaysCreated old new status = PrintsAnswer old new created_answer status
+SaysCreated old new status = PrintsAnswer created_answer old new status
 
 abbrev pub FailsToSayCreated : (old new : Option (List ℕ)) → Type 0
 FailsToSayCreated old new = AppendsPrefix old new created_answer.1
@@ -33,14 +34,25 @@ FailsToSayCreated old new = AppendsPrefix old new created_answer.1
 -- none was made, as an option is bad, or the file is a desk already
 abbrev pub SaysUncreated : InitTexts → (old new : Option (List ℕ)) → Status → Type 0
 SaysUncreated t old new status =
-    ((fault : OptionFault) × IsBad t fault × PrintsAnswer old new (false, fault_line fault) status)
-    ⊎ (AreGood t × PrintsAnswer old new exists_answer status)
+    ((fault : OptionFault) × IsBad t fault × PrintsAnswer (false, fault_line fault) old new status)
+    ⊎ (AreGood t × PrintsAnswer exists_answer old new status)
 
 -- a prefix of that; of `unavailable` where the options are good alone
 abbrev pub FailsToSayUncreated : InitTexts → (old new : Option (List ℕ)) → Type 0
 FailsToSayUncreated t old new =
     ((fault : OptionFault) × IsBad t fault × AppendsPrefix old new (fault_line fault))
     ⊎ (AreGood t × (AppendsPrefix old new unavailable ⊎ AppendsPrefix old new exists_answer.1))
+
+-- whether a desk was made was printed, and its connection was given if it was
+abbrev pub SaysWhetherCreated : {C : Type 0} → InitOptions → (given : Option C) → (old new : Option (List ℕ)) → Status
+    → Type 0
+SaysWhetherCreated options given old new status =
+    MatchOption given (SaysUncreated (init_texts_of options) old new status) (λ _. SaysCreated old new status)
+
+abbrev pub FailsToSayWhetherCreated : {C : Type 0} → InitOptions → (given : Option C) → (old new : Option (List ℕ))
+    → Type 0
+FailsToSayWhetherCreated options given old new =
+    MatchOption given (FailsToSayUncreated (init_texts_of options) old new) (λ _. FailsToSayCreated old new)
 
 -- ---- of the command, whose file is closed as it ends
 

@@ -23,7 +23,7 @@ IsFaultAnswer fault given = (text : List ℕ) × (fault_text fault ≡ Some text
 -- the line was printed, and the command is refused
 abbrev pub SaysFault : OpenFault → (old new : Option (List ℕ)) → Status → Type 0
 SaysFault fault old new status =
-    (text : List ℕ) × (fault_text fault ≡ Some text) × PrintsAnswer old new (with_line_feed (false, text)) status
+    (text : List ℕ) × (fault_text fault ≡ Some text) × PrintsAnswer (with_line_feed (false, text)) old new status
 
 -- a prefix of it, or of `unavailable`
 abbrev pub FailsToSayFault : OpenFault → (old new : Option (List ℕ)) → Type 0

@@ -1,5 +1,6 @@
 -- What the program does by its words.
 use Rattle.std.specs.Prelude.{◌≡◌, ◌≢◌, ℕ, ⊤, List, drop, map, Option, Result, Ok, Err, Vec, String, codes, string_bytes}
+use Rattle.std.specs.Borrow.{Bor}
 use Rattle.std.specs.IoError.{error_kind}
 use Rattle.std.specs.Vec.Iter.{into_iter_items}
 use Rattle.std.specs.declared.alloc.Global.{Global}
@@ -34,6 +35,15 @@ DoesRead (Err fault) input old new code = PrintsLineFault fault old new code
 abbrev pub RunsWords : (words : List Text) → (input old new : Option (List ℕ)) → (code : ℕ) → Type 0
 RunsWords words input old new code =
     (read : Result Command LineFault) × GivesAt words read × DoesRead read input old new code
+
+-- the words behind references
+abbrev pub words_in : List (Bor (List ℕ)) → List Text
+words_in words = map (λ w. w.now) words
+
+-- and does so over a reader and a writer
+abbrev pub RunsTexts : {W : Type 0} → (texts : List (Bor (List ℕ))) → (input : Option (List ℕ))
+    → (contents : W → Option (List ℕ)) → (old new : W) → (code : ℕ) → Type 0
+RunsTexts texts input contents old new code = RunsWords (words_in texts) input (contents old) (contents new) code
 
 -- The words that the program was started with are its name, which asks for nothing, and those that are run. Where they
 -- could not be had, why is printed.

@@ -1,8 +1,5 @@
 //! Commands that are carried out, and line faults that are printed.
-ghost use Rattle.std.specs.Prelude.{◌≡◌, ◌≢◌};
-ghost use Rattle.sqlite_wal.specs.Files.{image_at};
-ghost use Rattle.desk_cli.specs.Commands.{CarriesOut, FailsToCarryOut, PrintsLineFault, PrintsWithCode, NoneKnown};
-ghost use Rattle.desk_cli.specs.KeptRuns.{IsKeptIn};
+ghost use Rattle.desk_cli.specs.Commands.{IfCarriedOut, IfCarriedOutFrom, IfGivenUp, IfGivenUpFrom, NoneKnown, PrintsLineFault, PrintsWithCode};
 
 use crate::init_desk::make_desk;
 use crate::kept_session::answer_by_file;
@@ -28,12 +25,10 @@ pub fn run<R: Read + Drop, W: Write>(
     reader: R,
     writer: &mut W,
 ) -> Status
-    ensures answered { result ≢ Status.Failed →
-        CarriesOut NoneKnown command.now (R.remaining reader) (W.contents writer.old)
-        (W.contents writer.new) result }
-    ensures failed { result ≡ Status.Failed →
-        FailsToCarryOut NoneKnown command.now (R.remaining reader) (W.contents writer.old)
-        (W.contents writer.new) }
+    ensures answered { IfCarriedOut NoneKnown command.now (R.remaining reader)
+        W.contents writer.old writer.new result }
+    ensures failed { IfGivenUp NoneKnown command.now (R.remaining reader)
+        W.contents writer.old writer.new result }
 {
     run_from(rt, Wary, command, reader, writer)
 }
@@ -47,12 +42,10 @@ pub fn run_from<S: Start, R: Read + Drop, W: Write>(
     reader: R,
     writer: &mut W,
 ) -> Status
-    ensures answered { result ≢ Status.Failed →
-        CarriesOut (IsKeptIn (image_at S.Start)) command.now (R.remaining reader)
-        (W.contents writer.old) (W.contents writer.new) result }
-    ensures failed { result ≡ Status.Failed →
-        FailsToCarryOut (IsKeptIn (image_at S.Start)) command.now (R.remaining reader)
-        (W.contents writer.old) (W.contents writer.new) }
+    ensures answered { IfCarriedOutFrom S.Start command.now (R.remaining reader)
+        W.contents writer.old writer.new result }
+    ensures failed { IfGivenUpFrom S.Start command.now (R.remaining reader)
+        W.contents writer.old writer.new result }
 {
     let (status, _opened) = carry_out(rt, start, command, reader, writer);
     status
@@ -67,12 +60,10 @@ fn carry_out<S: Start, R: Read + Drop, W: Write>(
     reader: R,
     writer: &mut W,
 ) -> (Status, Option<Connection<FileStore<FileFrom<S>>>>)
-    ensures answered { result.0 ≢ Status.Failed →
-        CarriesOut (IsKeptIn (image_at S.Start)) command.now (R.remaining reader)
-        (W.contents writer.old) (W.contents writer.new) result.0 }
-    ensures failed { result.0 ≡ Status.Failed →
-        FailsToCarryOut (IsKeptIn (image_at S.Start)) command.now (R.remaining reader)
-        (W.contents writer.old) (W.contents writer.new) }
+    ensures answered { IfCarriedOutFrom S.Start command.now (R.remaining reader)
+        W.contents writer.old writer.new result.0 }
+    ensures failed { IfGivenUpFrom S.Start command.now (R.remaining reader)
+        W.contents writer.old writer.new result.0 }
 {
     match *command {
         Command::AnswerSubmission => (first_run(rt.alloc(), reader, writer), None),

@@ -1,12 +1,8 @@
 //! The command that makes a new desk.
-ghost use Rattle.std.specs.Prelude.{◌≡◌, ◌≢◌, IfSome, MatchOption};
-ghost use Rattle.sqlite.specs.Files.{file_state};
-ghost use Rattle.sqlite.specs.State.{HasCleanDisk};
-ghost use Rattle.sqlite_wal.specs.Files.{image_at};
-ghost use Rattle.sql_files.specs.Opened.{IsMadeIn};
-ghost use Rattle.cli_words.specs.InitOptions.{init_texts_of};
-ghost use Rattle.desk_cli.specs.NewDesks.{IsMade};
-ghost use Rattle.desk_cli.specs.InitRuns.{SaysCreated, SaysUncreated, FailsToSayCreated, FailsToSayUncreated};
+ghost use Rattle.std.specs.Prelude.{IfSome};
+ghost use Rattle.cli_commands.specs.Endings.{IfAnswered, IfFailed};
+ghost use Rattle.desk_cli.specs.NewDesks.{IsMadeFrom};
+ghost use Rattle.desk_cli.specs.InitRuns.{FailsToSayWhetherCreated, SaysWhetherCreated};
 
 use crate::init_file::{InitFault, new_desk};
 use crate::open_fault::print_open_fault;
@@ -31,17 +27,11 @@ pub fn make_desk<S: Start, W: Write>(
     options: &InitOptions<'_>,
     writer: &mut W,
 ) -> (Status, Option<Connection<FileStore<FileFrom<S>>>>)
-    ensures made { IfSome result.1
-        (λ c. IsMade (init_texts_of options.now) (λ identity key. HasCleanDisk (file_state c)
-        → IsMadeIn (image_at S.Start) identity key c)) }
-    ensures answered { result.0 ≢ Status.Failed → MatchOption result.1
-        (SaysUncreated (init_texts_of options.now) (W.contents writer.old)
-        (W.contents writer.new) result.0)
-        (λ _. SaysCreated (W.contents writer.old) (W.contents writer.new) result.0) }
-    ensures failed { result.0 ≡ Status.Failed → MatchOption result.1
-        (FailsToSayUncreated (init_texts_of options.now) (W.contents writer.old)
-        (W.contents writer.new))
-        (λ _. FailsToSayCreated (W.contents writer.old) (W.contents writer.new)) }
+    ensures made { IfSome result.1 (IsMadeFrom S.Start options.now) }
+    ensures answered { IfAnswered result.0 W.contents writer.old writer.new
+        (SaysWhetherCreated options.now result.1) }
+    ensures failed { IfFailed result.0 W.contents writer.old writer.new
+        (FailsToSayWhetherCreated options.now result.1) }
 {
     match new_desk(rt, path, start, options) {
         Ok(conn) => (print_line(writer, true, CREATED), Some(conn)),

@@ -1,11 +1,7 @@
 //! A new desk is made in a file, as the options of `init` say.
-ghost use Rattle.std.specs.Prelude.{◌≡◌, IfErr, IfOk};
-ghost use Rattle.sqlite.specs.Files.{file_state};
-ghost use Rattle.sqlite.specs.State.{HasCleanDisk};
-ghost use Rattle.sqlite_wal.specs.Files.{image_at};
-ghost use Rattle.sql_files.specs.Opened.{IsMadeIn};
+ghost use Rattle.std.specs.Prelude.{IfErr, IfOk};
 ghost use Rattle.cli_words.specs.InitOptions.{init_texts_of};
-ghost use Rattle.desk_cli.specs.NewDesks.{FailsAs, IsMade};
+ghost use Rattle.desk_cli.specs.NewDesks.{FailsAs, IsMadeFrom};
 
 use cli_commands::{OptionFault, identity_of};
 use cli_words::InitOptions;
@@ -29,9 +25,7 @@ pub fn new_desk<S: Start>(
     start: S,
     options: &InitOptions<'_>,
 ) -> Result<Connection<FileStore<FileFrom<S>>>, InitFault>
-    ensures made { IfOk result
-        (λ c. IsMade (init_texts_of options.now) (λ identity key. HasCleanDisk (file_state c)
-        → IsMadeIn (image_at S.Start) identity key c)) }
+    ensures made { IfOk result (IsMadeFrom S.Start options.now) }
     ensures fault { IfErr result (FailsAs (init_texts_of options.now)) }
 {
     let identity = match identity_of(options) {

@@ -1,13 +1,7 @@
 //! The command that answers messages by the desk in a file.
-ghost use Rattle.std.specs.Prelude.{◌≡◌, ◌≢◌, MatchOption};
-ghost use Rattle.sqlite.specs.Files.{file_state};
 ghost use Rattle.sqlite.specs.Held.{state};
 ghost use Rattle.sqlite.specs.State.{HasCleanDisk};
-ghost use Rattle.sqlite_wal.specs.Files.{image_at};
-ghost use Rattle.sql_tables.specs.Layout.{Sees};
-ghost use Rattle.desk_http.specs.Answering.{StandsBehind};
-ghost use Rattle.cli_commands.specs.StoreRuns.{BreaksOffFrom, HasAnsweredFrom};
-ghost use Rattle.desk_cli.specs.KeptRuns.{IsKeptIn, BreaksOffUnopened, SaysUnopened};
+ghost use Rattle.desk_cli.specs.KeptRuns.{IfFileAnswered, IfFileBrokeOff, IfTablesAnswered, IfTablesBrokeOff};
 
 use crate::open_fault::print_open_fault;
 use cli_commands::{Status, answer_remembering};
@@ -33,16 +27,10 @@ pub fn answer_by_file<S: Start, R: Read + Drop, W: Write>(
     reader: R,
     writer: &mut W,
 ) -> (Status, Option<Connection<FileStore<FileFrom<S>>>>)
-    ensures answered { result.0 ≢ Status.Failed → MatchOption result.1
-        (SaysUnopened (W.contents writer.old) (W.contents writer.new) result.0)
-        (λ c. HasAnsweredFrom (HasCleanDisk (file_state c)) (IsKeptIn (image_at S.Start))
-        (StandsBehind (Sees (file_state c)))
-        (R.remaining reader) (W.contents writer.old) (W.contents writer.new) result.0) }
-    ensures failed { result.0 ≡ Status.Failed → MatchOption result.1
-        (BreaksOffUnopened (W.contents writer.old) (W.contents writer.new))
-        (λ c. BreaksOffFrom (HasCleanDisk (file_state c)) (IsKeptIn (image_at S.Start))
-        (StandsBehind (Sees (file_state c)))
-        (R.remaining reader) (W.contents writer.old) (W.contents writer.new)) }
+    ensures answered { IfFileAnswered S.Start (R.remaining reader)
+        W.contents writer.old writer.new result }
+    ensures failed { IfFileBrokeOff S.Start (R.remaining reader)
+        W.contents writer.old writer.new result }
 {
     match open(rt, path, start) {
         Ok(conn) => {
@@ -62,16 +50,10 @@ fn answer_by_tables<P: Alter + Drop, R: Read + Drop, W: Write>(
     writer: &mut W,
 ) -> (Status, Connection<P>)
     ensures before { HasCleanDisk (state P.Store result.1) → HasCleanDisk (state P.Store conn) }
-    ensures answered { result.0 ≢ Status.Failed →
-        HasAnsweredFrom (HasCleanDisk (state P.Store result.1))
-        (StandsBehind (Sees (state P.Store conn)))
-        (StandsBehind (Sees (state P.Store result.1)))
-        (R.remaining reader) (W.contents writer.old) (W.contents writer.new) result.0 }
-    ensures failed { result.0 ≡ Status.Failed →
-        BreaksOffFrom (HasCleanDisk (state P.Store result.1))
-        (StandsBehind (Sees (state P.Store conn)))
-        (StandsBehind (Sees (state P.Store result.1)))
-        (R.remaining reader) (W.contents writer.old) (W.contents writer.new) }
+    ensures answered { IfTablesAnswered P.Store conn (R.remaining reader)
+        W.contents writer.old writer.new result }
+    ensures failed { IfTablesBrokeOff P.Store conn (R.remaining reader)
+        W.contents writer.old writer.new result }
 {
     let (status, store) = answer_remembering(alloc, SqlStore::new(conn), reader, writer);
     (status, store.into_connection())

@@ -1,10 +1,7 @@
 //! The command that makes a desk's file of version 1 one of version 2.
-ghost use Rattle.std.specs.Prelude.{◌≡◌, ◌≢◌, IfSome, MatchOption};
-ghost use Rattle.sqlite.specs.Files.{file_state};
-ghost use Rattle.sqlite.specs.State.{HasCleanDisk};
-ghost use Rattle.sqlite_wal.specs.Files.{image_at};
-ghost use Rattle.sql_files.specs.Opened.{IsMigratedIn};
-ghost use Rattle.desk_cli.specs.MigrationRuns.{SaysMigrated, SaysUnmigrated, FailsToSayMigrated, FailsToSayUnmigrated};
+ghost use Rattle.std.specs.Prelude.{IfSome};
+ghost use Rattle.cli_commands.specs.Endings.{IfAnswered, IfFailed};
+ghost use Rattle.desk_cli.specs.MigrationRuns.{FailsToSayWhetherMigrated, IsMigratedFrom, SaysWhetherMigrated};
 
 use crate::open_fault::print_open_fault;
 use cli_commands::{Status, print_line};
@@ -25,14 +22,11 @@ pub fn migrate_by_file<S: Start, W: Write>(
     start: S,
     writer: &mut W,
 ) -> (Status, Option<Connection<FileStore<FileFrom<S>>>>)
-    ensures migrated { IfSome result.1
-        (λ c. HasCleanDisk (file_state c) → IsMigratedIn (image_at S.Start) c) }
-    ensures answered { result.0 ≢ Status.Failed → MatchOption result.1
-        (SaysUnmigrated (W.contents writer.old) (W.contents writer.new) result.0)
-        (λ _. SaysMigrated (W.contents writer.old) (W.contents writer.new) result.0) }
-    ensures failed { result.0 ≡ Status.Failed → MatchOption result.1
-        (FailsToSayUnmigrated (W.contents writer.old) (W.contents writer.new))
-        (λ _. FailsToSayMigrated (W.contents writer.old) (W.contents writer.new)) }
+    ensures migrated { IfSome result.1 (IsMigratedFrom S.Start) }
+    ensures answered { IfAnswered result.0 W.contents writer.old writer.new
+        (SaysWhetherMigrated result.1) }
+    ensures failed { IfFailed result.0 W.contents writer.old writer.new
+        (FailsToSayWhetherMigrated result.1) }
 {
     match migrate_file(rt, path, start) {
         Ok(conn) => (print_line(writer, true, MIGRATED), Some(conn)),

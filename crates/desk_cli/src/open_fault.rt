@@ -1,5 +1,6 @@
 //! Why a file is not opened as a desk, as it is printed.
-ghost use Rattle.std.specs.Prelude.{◌≡◌, ◌≢◌, IfOk, IfSome, Some, string_bytes};
+ghost use Rattle.std.specs.Prelude.{◌≡◌, IfOk, IfSome, Some, string_bytes};
+ghost use Rattle.cli_commands.specs.Endings.{IfAnswered, IfFailed};
 ghost use Rattle.desk_cli.specs.OpenFaults.{fault_text, IsFaultAnswer, SaysFault, FailsToSayFault};
 
 use cli_commands::{Status, end_line, print_answer};
@@ -10,10 +11,8 @@ use std::io::Write;
 
 /// Prints why a file is not opened as a desk: `NotADesk`, `WrongVersion 9`, `Exists` or `unavailable`.
 pub fn print_open_fault<W: Write>(alloc: Global, writer: &mut W, fault: OpenFault) -> Status
-    ensures answered { result ≢ Status.Failed →
-        SaysFault fault (W.contents writer.old) (W.contents writer.new) result }
-    ensures failed { result ≡ Status.Failed →
-        FailsToSayFault fault (W.contents writer.old) (W.contents writer.new) }
+    ensures answered { IfAnswered result W.contents writer.old writer.new (SaysFault fault) }
+    ensures failed { IfFailed result W.contents writer.old writer.new (FailsToSayFault fault) }
 {
     print_answer(writer, &fault_answer(alloc, fault), Tries::new())
 }

@@ -1,7 +1,7 @@
 //! The program: the words that it was started with, and what they ask for.
 ghost use Rattle.std.specs.Prelude.{◌≡◌, ◌≢◌, ◌≤◌, [], drop, map, IfOk, IfErr, OnErr, string_bytes};
 ghost use Rattle.std.specs.Vec.Iter.{into_iter_items};
-ghost use Rattle.desk_cli.specs.Programs.{GivesStarted, IsNotTextFault, RunsStarted, RunsWords};
+ghost use Rattle.desk_cli.specs.Programs.{words_in, GivesStarted, IsNotTextFault, RunsStarted, RunsTexts};
 
 use crate::dispatch::{print_line_fault, run};
 use cli_words::{LineFault, command_of};
@@ -18,8 +18,7 @@ pub fn run_words<R: Read + Drop, W: Write>(
     reader: R,
     writer: &mut W,
 ) -> u8
-    ensures { RunsWords (map (λ w. w.now) words.now)
-        (R.remaining reader) (W.contents writer.old) (W.contents writer.new) result }
+    ensures { RunsTexts words.now (R.remaining reader) W.contents writer.old writer.new result }
 {
     match command_of(rt.alloc(), words) {
         Ok(command) => run(rt, &command, reader, writer).code(),
@@ -51,8 +50,8 @@ pub fn run_started<R: Read + Drop, W: Write>(
 
 // The texts of all words but the first. No such words take no memory.
 fn texts_after_name<'a>(alloc: Global, words: &'a [String]) -> Result<Vec<&'a str>, AllocError>
-    ensures texts { IfOk result (λ texts.
-        map (λ w. w.now) texts.items ≡ map string_bytes (drop 1 words.now)) }
+    ensures texts { IfOk result
+        (λ texts. words_in texts.items ≡ map string_bytes (drop 1 words.now)) }
     ensures memory { OnErr result (drop 1 words.now ≢ []) }
 {
     let mut texts = Vec::new(alloc);

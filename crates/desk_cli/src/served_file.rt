@@ -1,14 +1,12 @@
 //! The command that serves the desk in a file on a port.
-ghost use Rattle.std.specs.Prelude.{◌≡◌, ◌≢◌, IfSome, MatchOption};
+ghost use Rattle.std.specs.Prelude.{IfSome};
 ghost use Rattle.sqlite.specs.Files.{file_state};
 ghost use Rattle.sqlite.specs.Held.{state};
 ghost use Rattle.sqlite.specs.State.{HasCleanDisk};
-ghost use Rattle.sqlite_wal.specs.Files.{image_at};
-ghost use Rattle.sql_tables.specs.Layout.{Sees};
-ghost use Rattle.http_session.specs.Serving.{HasServed};
-ghost use Rattle.desk_http.specs.Answering.{IsAnswered, StandsBehind};
+ghost use Rattle.cli_commands.specs.Endings.{IfAnswered, IfFailed};
 ghost use Rattle.cli_commands.specs.ServedRuns.{HasServedConnections, FailsToServe};
-ghost use Rattle.desk_cli.specs.KeptRuns.{BreaksOffUnopened, IsKeptIn, SaysUnopened};
+ghost use Rattle.desk_cli.specs.KeptRuns.{IsKeptAt, StandsInTables};
+ghost use Rattle.desk_cli.specs.ServedFiles.{FailsToSayWhetherServed, HasServedTables, SaysWhetherServed};
 
 use crate::open_fault::print_open_fault;
 use cli_commands::{Status, serve_remembering};
@@ -34,16 +32,11 @@ pub fn serve_by_file<S: Start, W: Write>(
     options: ServeOptions,
     writer: &mut W,
 ) -> (Status, Option<Connection<FileStore<FileFrom<S>>>>)
-    ensures served { IfSome result.1 (λ c.
-        HasServed IsAnswered (HasCleanDisk (file_state c)) (IsKeptIn (image_at S.Start))
-        (StandsBehind (Sees (file_state c)))) }
-    ensures answered { result.0 ≢ Status.Failed → MatchOption result.1
-        (SaysUnopened (W.contents writer.old) (W.contents writer.new) result.0)
-        (λ _. HasServedConnections options.port (W.contents writer.old)
-        (W.contents writer.new) result.0) }
-    ensures failed { result.0 ≡ Status.Failed → MatchOption result.1
-        (BreaksOffUnopened (W.contents writer.old) (W.contents writer.new))
-        (λ _. FailsToServe options.port (W.contents writer.old) (W.contents writer.new)) }
+    ensures served { IfSome result.1 (λ c. HasServedTables (IsKeptAt S.Start) (file_state c)) }
+    ensures answered { IfAnswered result.0 W.contents writer.old writer.new
+        (SaysWhetherServed options.port result.1) }
+    ensures failed { IfFailed result.0 W.contents writer.old writer.new
+        (FailsToSayWhetherServed options.port result.1) }
 {
     match open(rt, path, start) {
         Ok(conn) => {
@@ -62,13 +55,12 @@ fn serve_by_tables<P: Alter + Drop, W: Write>(
     writer: &mut W,
 ) -> (Status, Connection<P>)
     ensures before { HasCleanDisk (state P.Store result.1) → HasCleanDisk (state P.Store conn) }
-    ensures served { HasServed IsAnswered (HasCleanDisk (state P.Store result.1))
-        (StandsBehind (Sees (state P.Store conn)))
-        (StandsBehind (Sees (state P.Store result.1))) }
-    ensures answered { result.0 ≢ Status.Failed →
-        HasServedConnections options.port (W.contents writer.old) (W.contents writer.new) result.0 }
-    ensures failed { result.0 ≡ Status.Failed →
-        FailsToServe options.port (W.contents writer.old) (W.contents writer.new) }
+    ensures served { HasServedTables (StandsInTables (state P.Store conn))
+        (state P.Store result.1) }
+    ensures answered { IfAnswered result.0 W.contents writer.old writer.new
+        (HasServedConnections options.port) }
+    ensures failed { IfFailed result.0 W.contents writer.old writer.new
+        (FailsToServe options.port) }
 {
     let (status, store) = serve_remembering(rt, SqlStore::new(conn), options, writer);
     (status, store.into_connection())

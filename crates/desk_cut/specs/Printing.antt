@@ -39,4 +39,5 @@ Prints old new result b =
 
 -- Where it went well, and no batch was printed before, these are.
 abbrev pub PrintsAll : {A E : Type 0} → (old new : Printer) → Result A E → List OutgoingBatch → Type 0
-PrintsAll old new result bs = (header : FileHeaderText) → HasPrinted old header [] → OnOk result (HasPrinted new header bs)
+PrintsAll old new result bs =
+    (header : FileHeaderText) → HasPrinted old header [] → OnOk result (HasPrinted new header bs)

@@ -1,3 +1,4 @@
 pub mod Addressing
 pub mod MadeCalls
 pub mod Answering
+pub mod Promises

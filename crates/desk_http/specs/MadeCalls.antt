@@ -1,6 +1,7 @@
 -- The bytes that answer a call of the desk.
 use Rattle.std.specs.Prelude.{◌≡◌, ◌⊎◌, ℕ, Bool, IsFalse, List, Result, Ok, Err, Vec}
 use Rattle.std.specs.declared.alloc.Global.{Global}
+use Rattle.desk_history.specs.declared.answer.Answer.{Answer}
 use Rattle.desk_history.specs.declared.call.Call.{Call}
 use Rattle.desk_history.specs.declared.identity.Identity.{Identity}
 use Rattle.desk_history.specs.Message.{Message, Pair}
@@ -9,7 +10,10 @@ use Rattle.desk_book.specs.Book.{Book, book_of}
 use Rattle.desk_book.specs.Writes.{is_read, writes_on}
 use Rattle.desk_admission.specs.Answering.{IsLeft}
 use Rattle.desk_calls.specs.Applying.{IsAsked, book_after}
+use Rattle.http_response.specs.declared.response.Content.{Content}
+use Rattle.http_response.specs.Response.{response_text}
 use Rattle.http_session.specs.declared.answers.Unavailable.{Unavailable}
+use Rattle.http_answers.specs.Answers.{answer_body, FitsRoom}
 use Rattle.http_history.specs.Texts.{call_text}
 
 -- The bytes are the text of the definitions' answer, and the store holds the book after the call; or the
@@ -30,3 +34,8 @@ LeavesCallOn keeps old identity key G m (Err fault) k = old k ⊎ (IsFalse (is_r
 abbrev pub LeavesCall : {Kept : Type 0} → (keeps : Kept → Book → Type 0) → (holds : Book → Type 0) → (old : Kept → Type 0) → Call → Result (Vec ℕ Global) Unavailable → (new : Kept → Type 0) → Type 0
 LeavesCall {Kept} keeps holds old call result new =
     (identity : Identity) (key : List ℕ) (G : List Pair) (m : Message) (k : Kept) → IsAsked holds call identity key G m → new k → LeavesCallOn keeps old identity key G m result k
+
+-- the bytes are a response with this status and this content, and with the body of an answer that fits the room
+abbrev pub IsResponse : (status : ℕ) → Content → (closes : Bool) → Answer → Vec ℕ Global → Type 0
+IsResponse status content closes answer bytes =
+    FitsRoom answer → bytes.items ≡ response_text status content closes (answer_body answer)

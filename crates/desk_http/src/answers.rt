@@ -1,6 +1,6 @@
 //! The bytes of the answer to a message.
 ghost use Rattle.http_message.specs.Message.{message_value};
-ghost use Rattle.desk_http.specs.Answering.{GoesBytes, RepliesBytes, LeavesBytes};
+ghost use Rattle.desk_http.specs.Promises.{MessageGoes, MessageReplies, MessageLeaves};
 
 use crate::made_calls::carry_out;
 use crate::print::answer_fault;
@@ -32,13 +32,10 @@ pub fn answer<S: Store>(
     message: Message<'_>,
 ) -> Result<Vec<u8>, Unavailable>
     ensures before { S.is_clean desk.new → S.is_clean desk.old }
-    ensures goes { S.is_clean desk.new →
-        GoesBytes (S.holds desk.old) (message_value message.entry) result (S.holds desk.new) }
-    ensures replies { S.is_clean desk.new →
-        RepliesBytes (S.holds desk.old) (message_value message.entry) result }
-    ensures left { S.is_clean desk.new →
-        LeavesBytes S.keeps (S.holds desk.old) (S.may_leave desk.old) (message_value message.entry)
-        result (S.may_leave desk.new) }
+    ensures goes { MessageGoes S.Store desk.old desk.new (message_value message.entry) result }
+    ensures replies { MessageReplies S.Store desk.old desk.new
+        (message_value message.entry) result }
+    ensures left { MessageLeaves S.Store desk.old desk.new (message_value message.entry) result }
 {
     http_history::one_meaning();
     http_history::own_text();

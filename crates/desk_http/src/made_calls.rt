@@ -1,6 +1,6 @@
 //! A call, made and answered in bytes.
 ghost use Rattle.std.specs.Prelude.{◌≡◌};
-ghost use Rattle.desk_http.specs.MadeCalls.{GoesCall, LeavesCall};
+ghost use Rattle.desk_http.specs.Promises.{CallGoes, CallLeaves};
 
 use crate::print::print_answer;
 use desk_calls::Desk;
@@ -20,11 +20,8 @@ pub(crate) fn carry_out<S: Store>(
     closes: bool,
 ) -> Result<Vec<u8>, Unavailable>
     ensures before { S.is_clean desk.new → S.is_clean desk.old }
-    ensures goes { S.is_clean desk.new →
-        GoesCall (S.holds desk.old) call closes result (S.holds desk.new) }
-    ensures left { S.is_clean desk.new →
-        LeavesCall S.keeps (S.holds desk.old) (S.may_leave desk.old) call result
-        (S.may_leave desk.new) }
+    ensures goes { CallGoes S.Store desk.old desk.new call closes result }
+    ensures left { CallLeaves S.Store desk.old desk.new call result }
 {
     desk_book::book_tells();
     desk_book::reads_leave();

@@ -2,8 +2,8 @@
 ghost use Rattle.std.specs.Prelude.{◌≡◌, ◌≤◌, [], true, false, IfOk, IsOk, OnErr, Err, vec_capacity};
 ghost use Rattle.http_answers.specs.Answers.{answer_body, is_command, FitsRoom};
 ghost use Rattle.http_answers.specs.Statuses.{status_of, content_of};
-ghost use Rattle.http_response.specs.Response.{response_text};
 ghost use Rattle.http_history.specs.Texts.{fault_text};
+ghost use Rattle.desk_http.specs.MadeCalls.{IsResponse};
 
 use desk_history::{Answer, Outcome};
 use http::StatusCode;
@@ -29,8 +29,8 @@ pub(crate) fn print_answer(
     requires body_room { BODY_ROOM ≤ vec_capacity body }
     requires out { out.items ≡ [] }
     requires out_room { ROOM ≤ vec_capacity out }
-    ensures text { IfOk result (λ bytes. FitsRoom answer
-        → bytes.items ≡ response_text (status_of kind answer) (content_of answer) closes (answer_body answer)) }
+    ensures text { IfOk result
+        (IsResponse (status_of kind answer) (content_of answer) closes answer) }
     ensures memory { OnErr result (is_command answer ≡ false) }
 {
     let status = status_of(kind, &answer);
@@ -58,8 +58,7 @@ fn print_command(
     requires body_room { BODY_ROOM ≤ vec_capacity body }
     requires out { out.items ≡ [] }
     requires out_room { ROOM ≤ vec_capacity out }
-    ensures text { IfOk result (λ bytes. FitsRoom answer
-        → bytes.items ≡ response_text status content closes (answer_body answer)) }
+    ensures text { IfOk result (IsResponse status content closes answer) }
     ensures memory { IsOk result }
 {
     write_answer(alloc, &mut body, answer)?;

@@ -1,10 +1,10 @@
 //! What a message comes to: a call of the desk, or a fault.
 ghost use Rattle.std.specs.Prelude.{◌≡◌};
-ghost use Rattle.http_message.specs.Message.{asked, message_value, request_value};
+ghost use Rattle.http_message.specs.Message.{message_value, request_value};
 ghost use Rattle.desk_admission.specs.OverStores.{Gives};
-ghost use Rattle.http_history.specs.Addressee.{addressee_of, addressee_by_framing, route_of_path};
+ghost use Rattle.http_history.specs.Addressee.{route_of_path};
 ghost use Rattle.http_history.specs.Verdict.{verdict_on};
-ghost use Rattle.desk_http.specs.Addressing.{addressee_with};
+ghost use Rattle.desk_http.specs.Addressing.{request_verdict, TellsAddressee, TellsByRoute};
 
 mod company;
 mod object;
@@ -45,7 +45,7 @@ fn request_verdict<S: Store>(
     request: Request<'_>,
 ) -> Result<Result<Call, MessageFault>, StoreFault>
     ensures { Gives S.Store desk.old desk.new result
-        (λ b. verdict_on b (asked (request_value request.entry))) }
+        (request_verdict (request_value request.entry)) }
 {
     match route_of(routes, &request) {
         Ok(Route::Company(route)) => company_verdict(alloc, desk, route, &request),
@@ -56,8 +56,7 @@ fn request_verdict<S: Store>(
 
 // The route of a request, or the fault that its head alone tells.
 fn route_of(routes: &Routes, request: &Request<'_>) -> Result<Route, MessageFault>
-    ensures { addressee_of (asked (request_value request.now)) ≡ addressee_with
-        (request_value request.now) result }
+    ensures { TellsAddressee (request_value request.now) result }
 {
     match framing_of(request.method, request.fields) {
         Framing::BadLength => Err(MessageFault::BadHead),
@@ -68,8 +67,7 @@ fn route_of(routes: &Routes, request: &Request<'_>) -> Result<Route, MessageFaul
 }
 
 fn find_route(routes: &Routes, request: &Request<'_>) -> Result<Route, MessageFault>
-    ensures { addressee_with (request_value request.now) result
-        ≡ addressee_by_framing (request_value request.now) (Framing.Body 0) }
+    ensures { TellsByRoute (request_value request.now) result }
 {
     match route_of_path(routes, request.method, path_of(request.target)) {
         Ok(route) => Ok(route),

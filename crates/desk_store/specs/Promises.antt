@@ -1,10 +1,12 @@
 -- What a call of a store promises, in one word for each kind of call: that the store was clean as the call began if it is
 -- clean as it ends, what the call tells of the book or makes of it, and what a crash may leave then. `is_clean`, `holds`,
 -- `keeps` and `may_leave` say of a store what the trait says that they do.
-use Rattle.std.specs.Prelude.{List, Result, Vec}
+use Rattle.std.specs.Prelude.{ℕ, List, Option, Result, Vec}
 use Rattle.std.specs.declared.alloc.Global.{Global}
+use Rattle.desk_rules.specs.declared.bodies.submission.Retry.{Retry}
+use Rattle.desk_rules.specs.declared.bodies.submission.Submission.{Submission}
 use Rattle.desk_book.specs.Book.{Book}
-use Rattle.desk_book.specs.Steps.{Step}
+use Rattle.desk_book.specs.Steps.{Step, add_submission}
 use Rattle.desk_store.specs.Words.{Reads, ReadsList, Writes, LeavesRead, LeavesWrite}
 use Rattle.desk_store.specs.declared.store.StoreFault.{StoreFault}
 
@@ -34,3 +36,9 @@ module _ {S Kept : Type 0} (is_clean : S → Type 0) (holds : S → Book → Typ
   abbrev pub CallTakes : (keeps : Kept → Book → Type 0) → (old new : S) → Result (Unit {0}) StoreFault → Step → Type 0
   CallTakes keeps old new result step =
       CallMakes is_clean old new (Writes (holds old) result step (holds new)) (LeavesWrite keeps (holds old) (may_leave old) result step (may_leave new))
+
+  -- So it takes the step that adds a company's submission or retry.
+  abbrev pub CallAdds : (keeps : Kept → Book → Type 0) → (old new : S) → Result (Unit {0}) StoreFault
+      → (company : List ℕ) → (order : ℕ) → Submission → Option Retry → Type 0
+  CallAdds keeps old new result company order s retry =
+      CallTakes keeps old new result (add_submission company order s retry)

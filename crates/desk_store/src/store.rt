@@ -1,15 +1,15 @@
 //! A desk keeps its book in a store, in whatever way.
 ghost use Rattle.std.specs.Prelude.{◌≡◌, length, Option};
-ghost use Rattle.desk_accounts.specs.Balance.{lines_of, day_sums};
 ghost use Rattle.desk_book.specs.Book.{Book};
 ghost use Rattle.desk_book.specs.OnIntake.{traced_entries};
 ghost use Rattle.desk_book.specs.Reads.{key_of, company, submission, submission_count, open_rows_of, retries_of, waiting_of, waiting, last_sequence, sent_count, latest_settled, items_of};
-ghost use Rattle.desk_book.specs.Steps.{set_day, set_holidays, put_company, put_limits, add_submission, commit_intake};
+ghost use Rattle.desk_book.specs.Steps.{set_day, set_holidays, put_company, put_limits};
 ghost use Rattle.desk_book.specs.Sums.{exposures_of, rates_of};
+ghost use Rattle.desk_store.specs.Accounts.{postings_of, balances_of};
 ghost use Rattle.desk_store.specs.LastNumber.{last_number};
-ghost use Rattle.desk_store.specs.Written.{commit_cut_after, cut_rows, intake_rows};
+ghost use Rattle.desk_store.specs.Written.{cut_step, intake_step};
 ghost use Rattle.desk_store.specs.declared.store.StoreFault.TheVariants.{Unavailable};
-ghost use Rattle.desk_store.specs.Promises.{CallGives, CallGivesList, CallTakes};
+ghost use Rattle.desk_store.specs.Promises.{CallGives, CallGivesList, CallTakes, CallAdds};
 
 use ach_fields::{Id, Ref, Trace};
 use bank_days::{Calendar, Day};
@@ -262,7 +262,7 @@ pub trait Store {
     /// Reads the lines of an account, in the order in which they came.
     fn postings_of(&mut self, alloc: Global, account: Account) -> Result<Vec<Posting>, StoreFault>
         ensures { CallGivesList is_clean holds may_leave self.old self.new result
-            (λ b. lines_of account b.postings) };
+            (postings_of account) };
 
     /// Reads the sums of an account's lines by value day, ascending, in cents.
     fn balances_of(
@@ -271,7 +271,7 @@ pub trait Store {
         account: Account,
     ) -> Result<Vec<(Day, i128)>, StoreFault>
         ensures { CallGivesList is_clean holds may_leave self.old self.new result
-            (λ b. day_sums account b.postings) };
+            (balances_of account) };
 
     /// Reads what stands in suspense, in the order in which it came.
     fn suspense(&mut self, alloc: Global) -> Result<Vec<SuspenseRow>, StoreFault>
@@ -325,18 +325,18 @@ pub trait Store {
         content: &SizedSubmission,
         retry: Option<Retry>,
     ) -> Result<(), StoreFault>
-        ensures { CallTakes is_clean holds may_leave keeps self.old self.new result
-            (add_submission company order content.now retry) };
+        ensures { CallAdds is_clean holds may_leave keeps self.old self.new result
+            company order content.now retry };
 
     /// Writes all that a cut does. Each of its entries is one of a submission that it sends, as the
     /// book has that submission, and so many entries were sent before as it says.
     fn commit_cut(&mut self, alloc: Global, cut: &CutRows<'_>) -> Result<(), StoreFault>
         ensures { CallTakes is_clean holds may_leave keeps self.old self.new result
-            (commit_cut_after cut.now.before (cut_rows cut.now)) };
+            (cut_step cut.now) };
 
     /// Writes all that an incoming file does. Each of its returns and changes is of an entry that was
     /// sent, with the order number and the reference of the submission that had it.
     fn commit_intake(&mut self, alloc: Global, intake: &IntakeRows<'_>) -> Result<(), StoreFault>
         ensures { CallTakes is_clean holds may_leave keeps self.old self.new result
-            (commit_intake (intake_rows intake.now)) };
+            (intake_step intake.now) };
 }

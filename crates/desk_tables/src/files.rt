@@ -1,14 +1,10 @@
 //! The store of a desk is made, opened or migrated in the file at a path.
-ghost use Rattle.std.specs.Prelude.{◌≡◌, ◌≢◌, ◌⊎◌, [], codes, Err, IfOk, IfErr};
-ghost use Rattle.sqlite.specs.Files.{file_state};
-ghost use Rattle.sqlite.specs.State.{HasCleanDisk};
+ghost use Rattle.std.specs.Prelude.{◌≡◌, ◌≢◌, codes, Err, IfOk, IfErr};
 ghost use Rattle.sqlite_wal.specs.Files.{image_at};
-ghost use Rattle.desk_book.specs.Book.{book_of};
-ghost use Rattle.sql_tables.specs.Layout.{Keeps};
-ghost use Rattle.sql_tables.specs.DeskTables.{version};
-ghost use Rattle.sql_migration.specs.FirstVersion.{first_version};
-ghost use Rattle.sql_files.specs.Opened.{IsFoundIn, IsMadeIn, IsMigratedIn, RefusesIn, UnmadeIn, leaves_migrated, leaves_nothing};
-ghost use Rattle.desk_tables.specs.Stores.{connection_in};
+ghost use Rattle.sql_setup.specs.declared.fault.OpenFault.TheVariants.{NotADesk};
+ghost use Rattle.sql_files.specs.Connections.{RefusesNew};
+ghost use Rattle.sql_files.specs.Opened.{IsFoundIn, IsMadeIn, IsMigratedIn, RefusesDesk, RefusesFirst, UnmadeIn, leaves_new};
+ghost use Rattle.desk_tables.specs.Stores.{IfCleanStore, connection_in};
 
 use desk_history::Identity;
 use sql_files::{FileFrom, FileStore, Start};
@@ -29,13 +25,12 @@ pub fn create<S: Start>(
     identity: Identity,
     operator_key: [u8; 32],
 ) -> Result<SqlStore<FileStore<FileFrom<S>>>, OpenFault>
-    ensures created { IfOk result (λ s. HasCleanDisk (file_state s.conn)
-        → IsMadeIn (image_at S.Start) identity operator_key s.conn) }
-    ensures unmade { UnmadeIn (image_at S.Start)
-        (λ trees. Keeps trees (book_of identity operator_key [])) (connection_in result) }
+    ensures created { IfOk result
+        (IfCleanStore (IsMadeIn (image_at S.Start) identity operator_key)) }
+    ensures unmade { UnmadeIn (image_at S.Start) (leaves_new identity operator_key)
+        (connection_in result) }
     ensures memory { path.now ≡ codes ":memory:" → result ≡ Err OpenFault.Unavailable }
-    ensures otherwise { IfErr result
-        (λ fault. (fault ≡ OpenFault.Exists) ⊎ (fault ≡ OpenFault.Unavailable)) }
+    ensures otherwise { IfErr result RefusesNew }
 {
     match sql_files::create(rt, path, start, identity, operator_key) {
         Ok(conn) => Ok(SqlStore::new(conn)),
@@ -55,10 +50,9 @@ pub fn open<S: Start>(
     path: &str,
     start: S,
 ) -> Result<SqlStore<FileStore<FileFrom<S>>>, OpenFault>
-    ensures found { IfOk result
-        (λ s. HasCleanDisk (file_state s.conn) → IsFoundIn (image_at S.Start) s.conn) }
-    ensures refused { result ≢ Err OpenFault.NotADesk →
-        RefusesIn (image_at S.Start) version leaves_nothing (connection_in result) }
+    ensures found { IfOk result (IfCleanStore (IsFoundIn (image_at S.Start))) }
+    ensures refused { result ≢ Err NotADesk →
+        RefusesDesk (image_at S.Start) (connection_in result) }
     ensures otherwise { IfErr result (λ fault. fault ≢ OpenFault.Exists) }
 {
     match sql_files::open(rt, path, start) {
@@ -80,10 +74,9 @@ pub fn migrate_file<S: Start>(
     path: &str,
     start: S,
 ) -> Result<SqlStore<FileStore<FileFrom<S>>>, OpenFault>
-    ensures migrated { IfOk result
-        (λ s. HasCleanDisk (file_state s.conn) → IsMigratedIn (image_at S.Start) s.conn) }
-    ensures refused { result ≢ Err OpenFault.NotADesk →
-        RefusesIn (image_at S.Start) first_version leaves_migrated (connection_in result) }
+    ensures migrated { IfOk result (IfCleanStore (IsMigratedIn (image_at S.Start))) }
+    ensures refused { result ≢ Err NotADesk →
+        RefusesFirst (image_at S.Start) (connection_in result) }
     ensures otherwise { IfErr result (λ fault. fault ≢ OpenFault.Exists) }
 {
     match sql_files::migrate_file(rt, path, start) {

@@ -96,16 +96,28 @@ company_verdict c (Err fault) = Err fault
 abbrev pub company_with_digest : Data → CompanyDraft
 company_with_digest d = company_draft_of (sha256 (unwrap_or (text_at field.Key d) [])) d
 
+-- the call that the object of a body makes: a new desk day
+abbrev pub day_in : (body : List ℕ) → Verdict
+day_in body = with_object (object_of body) (λ d. calls.SetDay (text_at field.Day d))
+
+-- a company that is registered
+abbrev pub company_in : (body : List ℕ) → Verdict
+company_in body = with_object (object_of body) (λ d. calls.PutCompany (company_with_digest d))
+
+-- a company's new limits
+abbrev pub limits_in : (body : List ℕ) → Verdict
+limits_in body = with_object (object_of body) (λ d. calls.PutLimits (limits_draft_of d))
+
 abbrev pub file_text : (day : Option ℕ) → (modifier : List ℕ) → Verdict
 file_text (Some day) (modifier ∷ []) = Ok (calls.FileText day modifier)
 file_text day modifier = Err NoFile
 
 -- what is called on a route; a file's day is the piece of the path after three slashes, its modifier the next
 abbrev pub operator_call : OperatorRoute → RequestValue → Verdict
-operator_call operator_routes.SetDay r = with_object (object_of r.body) (λ d. calls.SetDay (text_at field.Day d))
+operator_call operator_routes.SetDay r = day_in r.body
 operator_call operator_routes.SetHolidays r = Ok (calls.SetHolidays r.body)
-operator_call operator_routes.PutCompany r = with_object (object_of r.body) (λ d. calls.PutCompany (company_with_digest d))
-operator_call operator_routes.PutLimits r = with_object (object_of r.body) (λ d. calls.PutLimits (limits_draft_of d))
+operator_call operator_routes.PutCompany r = company_in r.body
+operator_call operator_routes.PutLimits r = limits_in r.body
 operator_call operator_routes.Cut r = Ok calls.Cut
 operator_call operator_routes.TakeFile r = Ok (calls.TakeFile r.body)
 operator_call operator_routes.FileText r = file_text (day_of (piece_of 3 (request_path r))) (piece_of 4 (request_path r))

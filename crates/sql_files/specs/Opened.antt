@@ -9,7 +9,7 @@ use Rattle.sqlite.specs.Held.{Held}
 use Rattle.sqlite.specs.Start.{FindsIn}
 use Rattle.sqlite.specs.State.{State, HasCleanDisk}
 use Rattle.sql_statements.specs.StoredRows.{whole, Stores}
-use Rattle.desk_book.specs.Book.{Book}
+use Rattle.desk_book.specs.Book.{Book, book_of}
 use Rattle.desk_history.specs.Message.{Pair}
 use Rattle.desk_history.specs.declared.identity.Identity.{Identity}
 use Rattle.sql_tables.specs.Description.{table}
@@ -26,6 +26,10 @@ use Rattle.sql_migration.specs.FirstVersion.{first_version, versioned_row, Keeps
 use Rattle.sql_migration.specs.Migration.{HasMigrated}
 
 module _ {D : Type 0} {g : Ghosts D} where
+  -- where its disk is clean, the connection is so
+  abbrev pub IfCleanFiles : (Is : Held (FileStore D g) → Type 0) → (now : Held (FileStore D g)) → Type 0
+  IfCleanFiles Is now = HasCleanDisk (file_state now) → Is now
+
   -- it has just been opened, and what is committed is what the files held
   pub record IsOpenedOn (held : Image) (c : Held (FileStore D g)) : Type 0 where
     pub opened : IsOpened c
@@ -85,3 +89,17 @@ leaves_nothing old trees = ⊥
 -- each book of version 1's tables is kept
 abbrev pub leaves_migrated : State → Trees → Type 0
 leaves_migrated old trees = (b : Book) → KeepsFirst old.committed.trees b → Keeps trees b
+
+-- the book of a new desk is kept
+abbrev pub leaves_new : Identity → (operator_key : List ℕ) → Trees → Type 0
+leaves_new identity operator_key = λ trees. Keeps trees (book_of identity operator_key [])
+
+-- where no connection was given to who asked for a desk: `RefusesIn`, and a crash leaves nothing new
+abbrev pub RefusesDesk : {D : Type 0} {g : Ghosts D} → (held : Image)
+    → Result (Held (FileStore D g)) OpenFault → Type 0
+RefusesDesk held result = RefusesIn held the.version leaves_nothing result
+
+-- and to who asked for one of version 1, to migrate it: a crash leaves what migrated tables keep
+abbrev pub RefusesFirst : {D : Type 0} {g : Ghosts D} → (held : Image)
+    → Result (Held (FileStore D g)) OpenFault → Type 0
+RefusesFirst held result = RefusesIn held first_version leaves_migrated result

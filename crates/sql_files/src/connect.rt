@@ -2,8 +2,8 @@
 ghost use Rattle.std.specs.Prelude.{◌≡◌, codes, Err, IfOk, IfErr};
 ghost use Rattle.sqlite.specs.Files.{file_state, IsOpened};
 ghost use Rattle.sqlite.specs.Start.{FindsIn};
-ghost use Rattle.sqlite.specs.State.{HasCleanDisk};
 ghost use Rattle.sqlite_wal.specs.Files.{image_at};
+ghost use Rattle.sql_files.specs.Opened.{IfCleanFiles};
 
 use sql_setup::OpenFault;
 use sqlite::{Connection, FileFrom, FileStore, Start};
@@ -17,9 +17,8 @@ pub(crate) fn connect<S: Start>(
     path: &str,
     start: S,
 ) -> Result<Connection<FileStore<FileFrom<S>>>, OpenFault>
-    ensures opened { IfOk result (λ c. HasCleanDisk (file_state c) → IsOpened c) }
-    ensures found { IfOk result
-        (λ c. HasCleanDisk (file_state c) → FindsIn (image_at S.Start) (file_state c)) }
+    ensures opened { IfOk result (IfCleanFiles IsOpened) }
+    ensures found { IfOk result (IfCleanFiles (λ c. FindsIn (image_at S.Start) (file_state c))) }
     ensures memory { path.now ≡ codes ":memory:" → result ≡ Err OpenFault.Unavailable }
     ensures otherwise { IfErr result (λ fault. fault ≡ OpenFault.Unavailable) }
 {

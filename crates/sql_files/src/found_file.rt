@@ -1,13 +1,11 @@
 //! The desk in the file at a path is opened.
 ghost use Rattle.std.specs.Prelude.{◌≡◌, ◌≢◌, Err, IfOk, IfErr};
-ghost use Rattle.sqlite.specs.Files.{file_state};
-ghost use Rattle.sqlite.specs.Held.{state};
-ghost use Rattle.sqlite.specs.State.{HasCleanDisk};
 ghost use Rattle.sqlite_wal.specs.Files.{image_at};
 ghost use Rattle.sql_tables.specs.DeskTables.{version};
 ghost use Rattle.sql_setup.specs.Checked.{IsDesk};
 ghost use Rattle.sql_setup.specs.Refusals.{IsDropped};
-ghost use Rattle.sql_files.specs.Opened.{IsFoundIn, RefusesIn, leaves_nothing};
+ghost use Rattle.sql_files.specs.Connections.{IfClean, WasClean};
+ghost use Rattle.sql_files.specs.Opened.{IfCleanFiles, IsFoundIn, RefusesDesk};
 
 use crate::connect::connect;
 use crate::presence::check_presence;
@@ -30,10 +28,8 @@ pub fn open<S: Start>(
     path: &str,
     start: S,
 ) -> Result<Connection<FileStore<FileFrom<S>>>, OpenFault>
-    ensures found { IfOk result
-        (λ c. HasCleanDisk (file_state c) → IsFoundIn (image_at S.Start) c) }
-    ensures refused { result ≢ Err OpenFault.NotADesk
-        → RefusesIn (image_at S.Start) version leaves_nothing result }
+    ensures found { IfOk result (IfCleanFiles (IsFoundIn (image_at S.Start))) }
+    ensures refused { result ≢ Err OpenFault.NotADesk → RefusesDesk (image_at S.Start) result }
     ensures otherwise { IfErr result (λ fault. fault ≢ OpenFault.Exists) }
 {
     check_presence(rt, path)?;
@@ -47,10 +43,8 @@ fn with_desk<P: Alter + Drop>(
     alloc: Global,
     conn: Connection<P>,
 ) -> Result<Connection<P>, OpenFault>
-    ensures before { IfOk result
-        (λ c. HasCleanDisk (state P.Store c) → HasCleanDisk (state P.Store conn)) }
-    ensures desk { IfOk result
-        (λ c. HasCleanDisk (state P.Store c) → IsDesk (state P.Store conn) (state P.Store c)) }
+    ensures before { IfOk result (IfClean P.Store WasClean conn) }
+    ensures desk { IfOk result (IfClean P.Store IsDesk conn) }
     ensures refused { IfErr result (IsDropped P.Store version (λ _. ⊥) conn) }
     ensures otherwise { IfErr result (λ fault. fault ≢ OpenFault.Exists) }
 {

@@ -1,14 +1,9 @@
 //! The desk of version 1 in the file at a path becomes one of version 2.
-ghost use Rattle.std.specs.Prelude.{◌≡◌, ◌≢◌, ℕ, Err, IfOk, IfErr};
-ghost use Rattle.sqlite.specs.Files.{file_state};
-ghost use Rattle.sqlite.specs.Held.{state};
-ghost use Rattle.sqlite.specs.State.{HasCleanDisk};
+ghost use Rattle.std.specs.Prelude.{◌≡◌, ◌≢◌, Err, IfOk, IfErr};
 ghost use Rattle.sqlite_wal.specs.Files.{image_at};
-ghost use Rattle.sql_setup.specs.Refusals.{IsDropped};
-ghost use Rattle.sql_setup.specs.Versions.{IsOfVersion};
-ghost use Rattle.sql_migration.specs.FirstVersion.{first_version};
 ghost use Rattle.sql_migration.specs.Migration.{HasMigrated};
-ghost use Rattle.sql_files.specs.Opened.{IsMigratedIn, RefusesIn, leaves_migrated};
+ghost use Rattle.sql_files.specs.Connections.{IfClean, IsUnmigrated, WasClean, WasFirst};
+ghost use Rattle.sql_files.specs.Opened.{IfCleanFiles, IsMigratedIn, RefusesFirst};
 
 use crate::connect::connect;
 use crate::presence::check_presence;
@@ -31,10 +26,8 @@ pub fn migrate_file<S: Start>(
     path: &str,
     start: S,
 ) -> Result<Connection<FileStore<FileFrom<S>>>, OpenFault>
-    ensures migrated { IfOk result
-        (λ c. HasCleanDisk (file_state c) → IsMigratedIn (image_at S.Start) c) }
-    ensures refused { result ≢ Err OpenFault.NotADesk
-        → RefusesIn (image_at S.Start) first_version leaves_migrated result }
+    ensures migrated { IfOk result (IfCleanFiles (IsMigratedIn (image_at S.Start))) }
+    ensures refused { result ≢ Err OpenFault.NotADesk → RefusesFirst (image_at S.Start) result }
     ensures otherwise { IfErr result (λ fault. fault ≢ OpenFault.Exists) }
 {
     check_presence(rt, path)?;
@@ -47,15 +40,10 @@ fn with_second_version<P: Alter + Drop>(
     alloc: Global,
     conn: Connection<P>,
 ) -> Result<Connection<P>, OpenFault>
-    ensures before { IfOk result
-        (λ c. HasCleanDisk (state P.Store c) → HasCleanDisk (state P.Store conn)) }
-    ensures migrated { IfOk result
-        (λ c. HasCleanDisk (state P.Store c) → HasMigrated (state P.Store conn) (state P.Store c)) }
-    ensures first { IfOk result
-        (λ c. HasCleanDisk (state P.Store c) → (n : ℕ) → IsOfVersion (state P.Store conn).now n
-        → n ≡ first_version) }
-    ensures refused { IfErr result
-        (IsDropped P.Store first_version (leaves_migrated (state P.Store conn)) conn) }
+    ensures before { IfOk result (IfClean P.Store WasClean conn) }
+    ensures migrated { IfOk result (IfClean P.Store HasMigrated conn) }
+    ensures first { IfOk result (IfClean P.Store WasFirst conn) }
+    ensures refused { IfErr result (IsUnmigrated P.Store conn) }
     ensures otherwise { IfErr result (λ fault. fault ≢ OpenFault.Exists) }
 {
     let mut conn = conn;

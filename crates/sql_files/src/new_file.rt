@@ -1,14 +1,10 @@
 //! A new desk is made in the file at a path.
-ghost use Rattle.std.specs.Prelude.{◌≡◌, ◌⊎◌, [], codes, Err, IfOk, IfErr};
-ghost use Rattle.sqlite.specs.Files.{file_state};
-ghost use Rattle.sqlite.specs.Held.{state};
-ghost use Rattle.sqlite.specs.State.{HasCleanDisk};
+ghost use Rattle.std.specs.Prelude.{◌≡◌, codes, Err, IfOk, IfErr};
 ghost use Rattle.sqlite_wal.specs.Files.{image_at};
-ghost use Rattle.desk_book.specs.Book.{book_of};
-ghost use Rattle.sql_tables.specs.Layout.{Keeps};
 ghost use Rattle.sql_setup.specs.Refusals.{IsUnmade};
 ghost use Rattle.sql_setup.specs.Setup.{HasNewDesk};
-ghost use Rattle.sql_files.specs.Opened.{IsMadeIn, UnmadeIn};
+ghost use Rattle.sql_files.specs.Connections.{IfClean, RefusesNew, WasClean};
+ghost use Rattle.sql_files.specs.Opened.{IfCleanFiles, IsMadeIn, UnmadeIn, leaves_new};
 
 use crate::connect::connect;
 use crate::private_file::make_private;
@@ -31,12 +27,10 @@ pub fn create<S: Start>(
     operator_key: [u8; 32],
 ) -> Result<Connection<FileStore<FileFrom<S>>>, OpenFault>
     ensures created { IfOk result
-        (λ c. HasCleanDisk (file_state c) → IsMadeIn (image_at S.Start) identity operator_key c) }
-    ensures unmade { UnmadeIn (image_at S.Start)
-        (λ trees. Keeps trees (book_of identity operator_key [])) result }
+        (IfCleanFiles (IsMadeIn (image_at S.Start) identity operator_key)) }
+    ensures unmade { UnmadeIn (image_at S.Start) (leaves_new identity operator_key) result }
     ensures memory { path.now ≡ codes ":memory:" → result ≡ Err OpenFault.Unavailable }
-    ensures otherwise { IfErr result
-        (λ fault. (fault ≡ OpenFault.Exists) ⊎ (fault ≡ OpenFault.Unavailable)) }
+    ensures otherwise { IfErr result RefusesNew }
 {
     make_private(rt, path)?;
     let conn = connect(rt, path, start)?;
@@ -49,15 +43,10 @@ fn with_new_desk<P: Alter + Drop>(
     identity: Identity,
     operator_key: [u8; 32],
 ) -> Result<Connection<P>, OpenFault>
-    ensures before { IfOk result
-        (λ c. HasCleanDisk (state P.Store c) → HasCleanDisk (state P.Store conn)) }
-    ensures desk { IfOk result
-        (λ c. HasCleanDisk (state P.Store c)
-        → HasNewDesk identity operator_key (state P.Store conn) (state P.Store c)) }
-    ensures unmade { IfErr result
-        (IsUnmade P.Store (λ trees. Keeps trees (book_of identity operator_key [])) conn) }
-    ensures otherwise { IfErr result
-        (λ fault. (fault ≡ OpenFault.Exists) ⊎ (fault ≡ OpenFault.Unavailable)) }
+    ensures before { IfOk result (IfClean P.Store WasClean conn) }
+    ensures desk { IfOk result (IfClean P.Store (HasNewDesk identity operator_key) conn) }
+    ensures unmade { IfErr result (IsUnmade P.Store (leaves_new identity operator_key) conn) }
+    ensures otherwise { IfErr result RefusesNew }
 {
     let mut conn = conn;
     make_desk(&mut conn, identity, operator_key)?;

@@ -1,8 +1,11 @@
 -- The tables of version 1, which has no table of numbers and none of authorizations, and which book they hold.
-use Rattle.std.specs.Prelude.{◌≡◌, ℕ, List, [], ◌∷◌, All}
+use Rattle.std.specs.Prelude.{◌≡◌, ℕ, ℤ, List, [], ◌∷◌, All, Option, Some}
 use Rattle.std.specs.List.{enumerate_from}
 use Rattle.std.specs.Ordering.{nat_cmp, on}
 use Rattle.sqlite_trees.specs.Tree.{Trees}
+use Rattle.sqlite_trees.specs.declared.store.Store.{Ghosts}
+use Rattle.sqlite.specs.Held.{Held, state}
+use Rattle.sqlite.specs.State.{State}
 use Rattle.sql_statements.specs.StoredRows.{whole, Stores}
 use Rattle.sql_statements.specs.Books.{keeps}
 use Rattle.sql_statements.specs.Layouts.{Layout}
@@ -13,13 +16,25 @@ use Rattle.sql_tables.specs.Beside.{Beside}
 use Rattle.sql_tables.specs.Description.{form, key_cmp, table}
 use Rattle.sql_tables.specs.DeskTables as the
 use Rattle.sql_tables.specs.Encodes.{Encodes}
+use Rattle.sql_tables.specs.Layout.{Keeps}
 use Rattle.sql_tables.specs.Tables.{Tables, IsTableOf}
 use Rattle.sql_tables.specs.declared.records.AuthorizationRecord.{AuthorizationRecord}
 use Rattle.sql_tables.specs.declared.records.NumberRecord.{NumberRecord}
+use Rattle.sql_setup.specs.Refusals.{SaysVersion}
+use Rattle.sql_setup.specs.Versions.{IsOfVersion}
 pub use Rattle.sql_setup.specs.Versions.{first_schema, versioned_row}
 
 abbrev pub first_version : ℕ
 first_version = 1
+
+-- where the row of the desk said a version, it was the first
+abbrev pub WasFirst : (old new : State) → Type 0
+WasFirst old new = (n : ℕ) → IsOfVersion old.now n → n ≡ first_version
+
+module _ {X : Type 0} (g : Ghosts X) where
+  -- the version that was found is that which the row of the desk says
+  abbrev pub FindsVersion : Held X → (found : Option ℤ) → (old new : State) → Type 0
+  FindsVersion c found old new = (n : ℤ) → found ≡ Some n → SaysVersion g c n
 
 -- The trees store these records, but for the tables that version 1 has not.
 pub record IsFirstStored (trees : Trees) (t : Tables) : Type 0 where
@@ -64,3 +79,7 @@ HasFirstTables = keeps first_layout AreFirstTablesOf
 -- and they tell it whole
 abbrev pub KeepsFirst : Trees → Book → Type 0
 KeepsFirst = keeps first_layout IsFirstBookIn
+
+-- each book that version 1's tables kept where it was committed, these trees keep
+abbrev pub KeepsBooksOf : {X : Type 0} → Ghosts X → Held X → Trees → Type 0
+KeepsBooksOf g c trees = (b : Book) → KeepsFirst (state g c).committed.trees b → Keeps trees b

@@ -1,13 +1,17 @@
 -- The transaction of a migration, and what is then said of the connection.
-use Rattle.std.specs.Prelude.{◌≡◌, ⊤, ℕ, List, [], ◌∷◌, fold, pos, Option, None, Some, option_map, IsTrue}
+use Rattle.std.specs.Prelude.{◌≡◌, ⊤, ℕ, List, [], ◌∷◌, fold, pos, Option, None, Some, option_map, Result, IsTrue}
 use Rattle.sqlite_schema.specs.declared.schema.Schema.{Schema}
 use Rattle.sqlite_trees.specs.Tree.{Trees}
+use Rattle.sqlite_trees.specs.declared.store.Store.{Ghosts}
 use Rattle.sqlite_value.specs.Order.{Row}
 use Rattle.sqlite_value.specs.declared.value.Value.{Value}
 use Rattle.sqlite_value.specs.declared.value.Value.TheVariants.{Int}
 use Rattle.sqlite.specs.State.{State}
+use Rattle.sqlite.specs.declared.transaction.Transaction.{Transaction}
 use Rattle.sql_statements.specs.Edits.{Edit}
 use Rattle.sql_statements.specs.Layouts.{Layout}
+use Rattle.sql_statements.specs.Promises.{Runs}
+use Rattle.sql_statements.specs.Transactions.{Makes}
 use Rattle.desk_history.specs.declared.identity.Identity.{Identity}
 use Rattle.desk_history.specs.Message.{Pair}
 use Rattle.desk_book.specs.Book.{Book}
@@ -50,6 +54,11 @@ seen_layout = record { Tables = Option Tables; schema = λ _. desk_schema; IsSto
 
 abbrev pub if_seen : Edit Tables → Edit (Option Tables)
 if_seen edit = record { after = option_map edit.after; Tells = λ _. ⊤ }
+
+module _ {S : Type 0} (g : Ghosts S) where
+  -- Where it went well, this edit is made of the tables, if it is known what their rows are.
+  abbrev pub EditsIfSeen : {A E : Type 0} → (old new : Transaction S) → Result A E → Edit Tables → Type 0
+  EditsIfSeen old new result edit = Runs g old.conn new.conn result (Makes seen_layout (if_seen edit))
 
 -- ---- before the transaction the tables are version 1's, and after it version 2's
 

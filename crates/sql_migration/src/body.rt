@@ -1,14 +1,9 @@
 //! Version 1's tables become version 2's.
-ghost use Rattle.std.specs.Prelude.{◌≡◌, ◌≢◌, ℕ, false, Err, IfErr};
-ghost use Rattle.sqlite.specs.Held.{state};
-ghost use Rattle.sqlite.specs.State.{Survives};
-ghost use Rattle.desk_book.specs.Book.{Book};
+ghost use Rattle.std.specs.Prelude.{◌≡◌, ◌≢◌, false, IfErr};
 ghost use Rattle.sql_statements.specs.Promises.{SucceedsIn, FailsUnchanged};
-ghost use Rattle.sql_tables.specs.Layout.{Keeps};
-ghost use Rattle.sql_setup.specs.Refusals.{IsRefused};
-ghost use Rattle.sql_setup.specs.Setup.{HasDesk};
-ghost use Rattle.sql_setup.specs.Versions.{IsOfVersion};
-ghost use Rattle.sql_migration.specs.FirstVersion.{first_version, KeepsFirst};
+ghost use Rattle.sql_setup.specs.Refusals.{IsRefused, TellsNoDesk};
+ghost use Rattle.sql_setup.specs.Setup.{MayLeave};
+ghost use Rattle.sql_migration.specs.FirstVersion.{first_version, WasFirst, KeepsBooksOf};
 ghost use Rattle.sql_migration.specs.Migration.{migration_layout, migration_edit, HasMigrated};
 
 use crate::check::check_first;
@@ -57,16 +52,12 @@ impl TransactionBody for Migration {
 /// as they were.
 pub fn migrate<S: Alter>(alloc: Global, conn: &mut Connection<S>) -> Result<(), OpenFault>
     ensures migrated { SucceedsIn S.Store conn.old conn.new result HasMigrated }
-    ensures absent { conn.old.in_transaction ≡ false → ¬ HasDesk (state S.Store conn.old).now.schema
-        → result ≡ Err OpenFault.NotADesk }
-    ensures first { SucceedsIn S.Store conn.old conn.new result
-        (λ before after. (n : ℕ) → IsOfVersion before.now n → n ≡ first_version) }
+    ensures absent { TellsNoDesk S.Store conn.old result }
+    ensures first { SucceedsIn S.Store conn.old conn.new result WasFirst }
     ensures refused { IfErr result (IsRefused S.Store first_version conn.old conn.new) }
     ensures otherwise { IfErr result (λ fault. fault ≢ OpenFault.Exists) }
     ensures unmigrated { FailsUnchanged S.Store conn.old conn.new result }
-    ensures survives { Survives (state S.Store conn.old) (state S.Store conn.new)
-        (λ trees. (b : Book) → KeepsFirst (state S.Store conn.old).committed.trees b
-        → Keeps trees b) }
+    ensures survives { MayLeave S.Store conn.old conn.new (KeepsBooksOf S.Store conn.old) }
     ensures ended { conn.old.in_transaction ≡ false → conn.new.in_transaction ≡ false }
 {
     if !conn.is_autocommit() {

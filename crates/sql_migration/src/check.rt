@@ -1,12 +1,11 @@
 //! A connection is told to have a desk's tables of version 1.
-ghost use Rattle.std.specs.Prelude.{◌≡◌, ◌≢◌, ℕ, false, Err, IfErr, OnOk};
+ghost use Rattle.std.specs.Prelude.{◌≡◌, ◌≢◌, false, Err, IfErr, OnOk};
 ghost use Rattle.sqlite.specs.Held.{state};
 ghost use Rattle.sql_statements.specs.Promises.{SucceedsIn, LeavesNothingNew, SeesStill};
 ghost use Rattle.sql_tables.specs.Schema.{desk_schema};
 ghost use Rattle.sql_setup.specs.Refusals.{IsRefused};
 ghost use Rattle.sql_setup.specs.Setup.{HasDesk};
-ghost use Rattle.sql_setup.specs.Versions.{IsOfVersion};
-ghost use Rattle.sql_migration.specs.FirstVersion.{first_version, first_schema};
+ghost use Rattle.sql_migration.specs.FirstVersion.{first_version, first_schema, WasFirst};
 
 use crate::first::is_first_schema;
 use crate::first_version::check_version;
@@ -20,8 +19,7 @@ use std::alloc::Global;
 fn check_tables<S: Alter>(conn: &mut Connection<S>, pattern: &Schema) -> Result<(), OpenFault>
     requires { pattern.now ≡ desk_schema }
     ensures checked { OnOk result ((state S.Store conn.old).now.schema ≡ first_schema) }
-    ensures first { SucceedsIn S.Store conn.old conn.new result
-        (λ before after. (n : ℕ) → IsOfVersion before.now n → n ≡ first_version) }
+    ensures first { SucceedsIn S.Store conn.old conn.new result WasFirst }
     ensures refused { IfErr result (IsRefused S.Store first_version conn.old conn.new) }
     ensures otherwise { IfErr result (λ fault. fault ≢ OpenFault.Exists) }
     ensures stays { SeesStill S.Store conn.old conn.new }
@@ -44,8 +42,7 @@ pub(crate) fn check_first<S: Alter>(
     ensures checked { OnOk result ((state S.Store conn.old).now.schema ≡ first_schema) }
     ensures absent { ¬ HasDesk (state S.Store conn.old).now.schema
         → result ≡ Err OpenFault.NotADesk }
-    ensures first { SucceedsIn S.Store conn.old conn.new result
-        (λ before after. (n : ℕ) → IsOfVersion before.now n → n ≡ first_version) }
+    ensures first { SucceedsIn S.Store conn.old conn.new result WasFirst }
     ensures refused { IfErr result (IsRefused S.Store first_version conn.old conn.new) }
     ensures otherwise { IfErr result (λ fault. fault ≢ OpenFault.Exists) }
     ensures stays { SeesStill S.Store conn.old conn.new }

@@ -1,7 +1,5 @@
 //! Each sent entry's place becomes the number of the sequence that it has.
-ghost use Rattle.sql_statements.specs.Transactions.{Makes};
-ghost use Rattle.sql_statements.specs.Promises.{Runs};
-ghost use Rattle.sql_migration.specs.Migration.{put_number_edit, number_entries_edit, number_in, seen_layout, if_seen};
+ghost use Rattle.sql_migration.specs.Migration.{put_number_edit, number_entries_edit, number_in, seen_layout, if_seen, EditsIfSeen};
 
 use sql_statements::{RowBody, execute, number, query_inside, run_each};
 use sql_tables::{natural, read_only_column};
@@ -9,8 +7,7 @@ use sqlite::{Alter, Error, Row, Transaction};
 
 /// Writes a number for each entry that was sent: its sequence was used once, and is its place.
 pub(crate) fn number_entries<S: Alter>(tx: &mut Transaction<'_, S>) -> Result<(), Error>
-    ensures { Runs S.Store tx.old.conn tx.new.conn result
-        (Makes seen_layout (if_seen number_entries_edit)) }
+    ensures { EditsIfSeen S.Store tx.old tx.new result number_entries_edit }
 {
     let rows = query_inside(
         tx,
@@ -47,8 +44,7 @@ impl RowBody for NumberEntries {
 
 // Writes the place of the one entry that has a sequence, which is the sequence.
 fn put_number<S: Alter>(tx: &mut Transaction<'_, S>, place: u64) -> Result<(), Error>
-    ensures { Runs S.Store tx.old.conn tx.new.conn result
-        (Makes seen_layout (if_seen (put_number_edit place))) }
+    ensures { EditsIfSeen S.Store tx.old tx.new result (put_number_edit place) }
 {
     let sequence = natural(place)?;
     let at = natural(place)?;

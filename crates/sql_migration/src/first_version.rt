@@ -1,9 +1,8 @@
 //! The version of the tables is told.
-ghost use Rattle.std.specs.Prelude.{◌≡◌, ◌≢◌, ℕ, ℤ, false, Some, IfErr};
+ghost use Rattle.std.specs.Prelude.{◌≡◌, ◌≢◌, false, IfErr};
 ghost use Rattle.sql_statements.specs.Promises.{SucceedsIn, SucceedsWith, LeavesNothingNew, SeesStill};
-ghost use Rattle.sql_setup.specs.Refusals.{IsRefused, SaysVersion};
-ghost use Rattle.sql_setup.specs.Versions.{IsOfVersion};
-ghost use Rattle.sql_migration.specs.FirstVersion.{first_version};
+ghost use Rattle.sql_setup.specs.Refusals.{IsRefused};
+ghost use Rattle.sql_migration.specs.FirstVersion.{first_version, WasFirst, FindsVersion};
 
 use sql_setup::{OpenFault, unread_fault};
 use sql_writes::cell_inside;
@@ -15,8 +14,7 @@ const FIRST_VERSION: i64 = 1;
 // Gives the version that the row of the desk says, where there is a row. It is read in a transaction
 // of its own, so that none stays open where the read fails.
 fn found_version<S: Alter>(conn: &mut Connection<S>) -> Result<Option<i64>, Error>
-    ensures said { SucceedsWith S.Store conn.old conn.new result
-        (λ found _ _. (n : ℤ) → found ≡ Some n → SaysVersion S.Store conn.old n) }
+    ensures said { SucceedsWith S.Store conn.old conn.new result (FindsVersion S.Store conn.old) }
     ensures stays { SeesStill S.Store conn.old conn.new }
     ensures survives { LeavesNothingNew S.Store conn.old conn.new }
     ensures ended { conn.old.in_transaction ≡ false → conn.new.in_transaction ≡ false }
@@ -36,8 +34,7 @@ fn found_version<S: Alter>(conn: &mut Connection<S>) -> Result<Option<i64>, Erro
 
 /// Tells that the row of the desk has version 1, whatever the other columns and tables are.
 pub(crate) fn check_version<S: Alter>(conn: &mut Connection<S>) -> Result<(), OpenFault>
-    ensures first { SucceedsIn S.Store conn.old conn.new result
-        (λ before after. (n : ℕ) → IsOfVersion before.now n → n ≡ first_version) }
+    ensures first { SucceedsIn S.Store conn.old conn.new result WasFirst }
     ensures refused { IfErr result (IsRefused S.Store first_version conn.old conn.new) }
     ensures otherwise { IfErr result (λ fault. fault ≢ OpenFault.Exists) }
     ensures stays { SeesStill S.Store conn.old conn.new }

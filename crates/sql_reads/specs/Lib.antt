@@ -1,4 +1,5 @@
 pub mod ItemsFound
 pub mod Known
+pub mod RowsFound
 pub mod SettledPlaces
 pub mod TracedEntries

@@ -1,7 +1,7 @@
 //! The sums of an account.
 ghost use Rattle.std.specs.Prelude.{◌≡◌, map, IfOk};
 ghost use Rattle.sql_tables.specs.Composed.{day_sums_in};
-ghost use Rattle.sql_queries.specs.Asking.{Asks};
+ghost use Rattle.sql_queries.specs.Asking.{Asks, AreThe};
 
 use bank_days::Day;
 use desk_accounts::Account;
@@ -29,8 +29,7 @@ pub fn balances_of<S: Alter>(
     alloc: Global,
     account: Account,
 ) -> Result<Vec<(Day, i128)>, StoreFault>
-    ensures { Asks S.Store conn.old conn.new result
-        (λ found t. found.items ≡ day_sums_in account t) }
+    ensures { Asks S.Store conn.old conn.new result (AreThe (day_sums_in account)) }
 {
     let sums = or_unavailable(sums(conn, alloc, account))?;
     let pairs = pairs_of(alloc, &sums)?;

@@ -1,7 +1,7 @@
 //! Files that were cut.
 ghost use Rattle.std.specs.Prelude.{◌≡◌, length};
 ghost use Rattle.sql_tables.specs.TableReads.{modifiers_in, text_in};
-ghost use Rattle.sql_queries.specs.Asking.{Asks};
+ghost use Rattle.sql_queries.specs.Asking.{Asks, IsThe};
 
 use bank_days::Day;
 use desk_history::ListOf;
@@ -31,7 +31,7 @@ pub fn file<S: Alter>(
     day: Day,
     modifier: u8,
 ) -> Result<Option<ListOf<u8>>, StoreFault>
-    ensures { Asks S.Store conn.old conn.new result (λ found t. found ≡ text_in day modifier t) }
+    ensures { Asks S.Store conn.old conn.new result (IsThe (text_in day modifier)) }
 {
     match or_unavailable(file_text(conn, alloc, day, modifier))? {
         Some(text) => Ok(Some(ListOf::new(text))),

@@ -1,9 +1,9 @@
 //! Submissions that wait for a cut.
-ghost use Rattle.std.specs.Prelude.{◌≡◌, List};
+ghost use Rattle.std.specs.Prelude.{List};
 ghost use Rattle.desk_book.specs.declared.held_submission.HeldSubmission.{HeldSubmission};
 ghost use Rattle.sql_tables.specs.Composed.{original_in, held_in, waiting_of_in, waiting_in};
 ghost use Rattle.sql_tables.specs.TableReads.{whole_row};
-ghost use Rattle.sql_queries.specs.Asking.{Asks};
+ghost use Rattle.sql_queries.specs.Asking.{Asks, AreThe, IsThe};
 ghost use Rattle.sql_read_steps.specs.Answers.{LearnsOn};
 
 use crate::rows::row;
@@ -23,8 +23,7 @@ fn original_of<S: Alter>(
     company: Id,
     retry: Option<Retry>,
 ) -> Result<Option<RuleDay>, StoreFault>
-    ensures { LearnsOn S.Store conn.old conn.new result
-        (λ found t. found ≡ original_in company retry t) }
+    ensures { LearnsOn S.Store conn.old conn.new result (IsThe (original_in company retry)) }
 {
     match retry {
         None => Ok(None),
@@ -74,8 +73,7 @@ pub fn waiting_of<S: Alter>(
     alloc: Global,
     company: &Company,
 ) -> Result<Vec<HeldSubmission>, StoreFault>
-    ensures { Asks S.Store conn.old conn.new result
-        (λ found t. found.items ≡ waiting_of_in company.now t) }
+    ensures { Asks S.Store conn.old conn.new result (AreThe (waiting_of_in company.now)) }
 {
     let heads = or_unavailable(waiting_submissions(conn, alloc, company.id))?;
     let held = HeldSubmissions { company: *company };
@@ -113,7 +111,7 @@ pub fn waiting<S: Alter>(
     conn: &mut Connection<S>,
     alloc: Global,
 ) -> Result<Vec<HeldSubmission>, StoreFault>
-    ensures { Asks S.Store conn.old conn.new result (λ found t. found.items ≡ waiting_in t) }
+    ensures { Asks S.Store conn.old conn.new result (AreThe waiting_in) }
 {
     let companies = or_unavailable(companies(conn, alloc))?;
     let lists = read_each(conn, alloc, &HeldByCompany, companies)?;

@@ -1,11 +1,10 @@
 //! What came back of a company's entries.
-ghost use Rattle.std.specs.Prelude.{◌≡◌, Option, Some, map};
+ghost use Rattle.std.specs.Prelude.{Option, Some};
 ghost use Rattle.desk_history.specs.declared.reports.ChangeRow.{ChangeRow};
 ghost use Rattle.desk_history.specs.declared.reports.ReturnRow.{ReturnRow};
 ghost use Rattle.sql_tables.specs.Composed.{return_row_in, change_row_in};
-ghost use Rattle.sql_tables.specs.TableReads.{return_lines_in, change_lines_in};
 ghost use Rattle.sql_queries.specs.Asking.{Asks};
-ghost use Rattle.sql_reads.specs.ItemsFound.{AreItemsOf};
+ghost use Rattle.sql_reads.specs.ItemsFound.{AreChangeRowsOf, AreItemsOf, AreReturnRowsOf};
 
 use ach_fields::Id;
 use desk_book::ReturnsAndChanges;
@@ -97,8 +96,7 @@ fn returns_of<S: Alter>(
     company: Id,
 ) -> Result<Vec<ReturnRow>, StoreFault>
     ensures { Asks S.Store conn.old conn.new result
-        (λ found t. map Some found.items ≡ map (return_row_in company t)
-        (return_lines_in company t)) }
+        (λ found t. AreReturnRowsOf company found.items t) }
 {
     let lines = or_unavailable(return_lines(conn, alloc, company))?;
     read_each(conn, alloc, &ReturnRows { company }, lines)
@@ -111,8 +109,7 @@ fn changes_of<S: Alter>(
     company: Id,
 ) -> Result<Vec<ChangeRow>, StoreFault>
     ensures { Asks S.Store conn.old conn.new result
-        (λ found t. map Some found.items ≡ map (change_row_in company t)
-        (change_lines_in company t)) }
+        (λ found t. AreChangeRowsOf company found.items t) }
 {
     let lines = or_unavailable(change_lines(conn, alloc, company))?;
     read_each(conn, alloc, &ChangeRows { company }, lines)

@@ -1,7 +1,6 @@
 //! The digests of keys.
-ghost use Rattle.std.specs.Prelude.{◌≡◌};
 ghost use Rattle.sql_tables.specs.Composed.{key_in};
-ghost use Rattle.sql_queries.specs.Asking.{Asks};
+ghost use Rattle.sql_queries.specs.Asking.{Asks, IsThe};
 
 use desk_book::Caller;
 use desk_store::StoreFault;
@@ -14,7 +13,7 @@ pub fn key_of<S: Alter>(
     conn: &mut Connection<S>,
     caller: Caller,
 ) -> Result<Option<[u8; 32]>, StoreFault>
-    ensures { Asks S.Store conn.old conn.new result (λ found t. found ≡ key_in caller t) }
+    ensures { Asks S.Store conn.old conn.new result (IsThe (key_in caller)) }
 {
     match caller {
         Caller::Operator => {

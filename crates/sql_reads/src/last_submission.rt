@@ -1,10 +1,9 @@
 //! What a submission says of its entries, which is asked for once where entries of one submission follow one
 //! another.
-ghost use Rattle.std.specs.Prelude.{◌≡◌, Some, IfSome, true};
+ghost use Rattle.std.specs.Prelude.{◌≡◌, IfSome, true};
 ghost use Rattle.sql_tables.specs.TableReads.{facts_in};
 ghost use Rattle.sql_tables.specs.Tables.{Tables};
-ghost use Rattle.sql_read_steps.specs.Answers.{LearnsOn};
-ghost use Rattle.sql_reads.specs.Known.{IsKnown, Knowing};
+ghost use Rattle.sql_reads.specs.Known.{AreFactsOf, IsKnown, LearnsNext};
 
 use ach_fields::Id;
 use desk_store::StoreFault;
@@ -31,8 +30,7 @@ fn is_the(known: &LastSubmission, company: Id, order: u64) -> bool
 
 // What is known of the submission with a number in its company, if it was asked for last.
 fn known_of(last: &Option<LastSubmission>, company: Id, order: u64) -> Option<SubmissionFacts>
-    ensures { (t : Tables) → IsKnown last.now t → IfSome result
-        (λ facts. Some facts ≡ facts_in company order t) }
+    ensures { (t : Tables) → IsKnown last.now t → IfSome result (AreFactsOf company order t) }
 {
     match last {
         Some(known) if is_the(known, company, order) => Some(known.facts),
@@ -48,8 +46,8 @@ pub(crate) fn facts_of<S: Alter>(
     company: Id,
     order: u64,
 ) -> Result<Option<SubmissionFacts>, StoreFault>
-    ensures { LearnsOn S.Store conn.old conn.new result
-        (λ found. Knowing last.old last.new (λ t. found ≡ facts_in company order t)) }
+    ensures { LearnsNext S.Store conn.old conn.new last.old last.new result
+        (facts_in company order) }
 {
     let known = known_of(last, company, order);
     if known.is_some() {

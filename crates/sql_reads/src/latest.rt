@@ -1,20 +1,19 @@
 //! When sent entries settled. Entries that stand at places one after another are found by one query, with one
 //! more for each submission.
-ghost use Rattle.std.specs.Prelude.{◌≡◌, ◌+◌, ℕ, Option, Some, IfSome, filter_map, length, map, max, option_and_then, true};
+ghost use Rattle.std.specs.Prelude.{◌≡◌, ◌+◌, ℕ, Option, Some, IfSome, filter_map, length, map, max, true};
 ghost use Rattle.std.specs.List.{range_with_len, reduce};
 ghost use Rattle.sql_tables.specs.Composed.{settled_at, latest_in};
-ghost use Rattle.sql_tables.specs.TableReads.{facts_in};
-ghost use Rattle.sql_queries.specs.Asking.{Asks};
+ghost use Rattle.sql_queries.specs.Asking.{Asks, AreThe, IsThe};
 ghost use Rattle.sql_read_steps.specs.Answers.{LearnsOn};
-ghost use Rattle.sql_reads.specs.Known.{Knowing};
-ghost use Rattle.sql_reads.specs.SettledPlaces.{settled_with};
+ghost use Rattle.sql_reads.specs.Known.{LearnsNext};
+ghost use Rattle.sql_reads.specs.SettledPlaces.{SettleAs, settled_in, settlements_at, settlements_of};
 
 use crate::last_submission::{LastSubmission, facts_of};
 use ach_fields::Id;
 use bank_days::Day;
 use desk_rules::RuleDay;
 use desk_store::StoreFault;
-use sql_queries::{entry_places, facts, places, sent_entry};
+use sql_queries::{entry_places, places, sent_entry};
 use sql_read_steps::{ItemRead, or_unavailable, read_each};
 use sql_tables::EntryPlace;
 use sqlite::{Alter, Connection};
@@ -26,13 +25,11 @@ fn settlement_of<S: Alter>(
     company: Id,
     order: u64,
 ) -> Result<Option<Day>, StoreFault>
-    ensures { LearnsOn S.Store conn.old conn.new result
-        (λ found t. found ≡ option_and_then (λ f. f.settled) (facts_in company order t)) }
+    ensures { LearnsOn S.Store conn.old conn.new result (IsThe (settled_in company order)) }
 {
-    match or_unavailable(facts(conn, company, order))? {
-        Some(facts) => Ok(day_of(facts.settled)),
-        None => Ok(None),
-    }
+    let mut last = None;
+    let day = settled_with(conn, &mut last, company, order)?;
+    Ok(day)
 }
 
 fn day_of(settled: Option<RuleDay>) -> Option<Day>
@@ -106,9 +103,7 @@ fn sent_together<S: Alter>(
     alloc: Global,
     places: &[u64],
 ) -> Result<Option<Vec<EntryPlace>>, StoreFault>
-    ensures { LearnsOn S.Store conn.old conn.new result
-        (λ found t. IfSome found (λ sent. map (λ place. settled_at place t) places.now
-        ≡ map (settled_with t) sent.items)) }
+    ensures { LearnsOn S.Store conn.old conn.new result (SettleAs places.now) }
 {
     let Some(first) = places.first() else {
         return Ok(None);
@@ -124,16 +119,17 @@ fn sent_together<S: Alter>(
     }
 }
 
-// The day on which the submission of an entry settles.
+// That day, which is asked for unless the submission was asked for last.
 fn settled_with<S: Alter>(
     conn: &mut Connection<S>,
     last: &mut Option<LastSubmission>,
-    entry: &EntryPlace,
+    company: Id,
+    order: u64,
 ) -> Result<Option<Day>, StoreFault>
-    ensures { LearnsOn S.Store conn.old conn.new result
-        (λ found. Knowing last.old last.new (λ t. found ≡ settled_with t entry.now)) }
+    ensures { LearnsNext S.Store conn.old conn.new last.old last.new result
+        (settled_in company order) }
 {
-    match facts_of(conn, last, entry.company, entry.order)? {
+    match facts_of(conn, last, company, order)? {
         Some(facts) => Ok(day_of(facts.settled)),
         None => Ok(None),
     }
@@ -145,13 +141,12 @@ fn each_settled<S: Alter>(
     alloc: Global,
     sent: &[EntryPlace],
 ) -> Result<Vec<Option<Day>>, StoreFault>
-    ensures { LearnsOn S.Store conn.old conn.new result
-        (λ found t. found.items ≡ map (settled_with t) sent.now) }
+    ensures { LearnsOn S.Store conn.old conn.new result (AreThe (settlements_of sent.now)) }
 {
     let mut last = None;
     let mut all = Vec::new(alloc);
     for entry in sent {
-        all.push(settled_with(conn, &mut last, entry)?)?;
+        all.push(settled_with(conn, &mut last, entry.company, entry.order)?)?;
     }
     Ok(all)
 }
@@ -162,8 +157,7 @@ fn days_at<S: Alter>(
     alloc: Global,
     places: Vec<u64>,
 ) -> Result<Vec<Option<Day>>, StoreFault>
-    ensures { LearnsOn S.Store conn.old conn.new result
-        (λ found t. found.items ≡ map (λ place. settled_at place t) places.items) }
+    ensures { LearnsOn S.Store conn.old conn.new result (AreThe (settlements_at places.items)) }
 {
     match sent_together(conn, alloc, &places)? {
         Some(sent) => {
@@ -196,7 +190,7 @@ pub fn latest_settled<S: Alter>(
     from: u32,
     to: u32,
 ) -> Result<Option<Day>, StoreFault>
-    ensures { Asks S.Store conn.old conn.new result (λ found t. found ≡ latest_in from to t) }
+    ensures { Asks S.Store conn.old conn.new result (IsThe (latest_in from to)) }
 {
     let places = or_unavailable(places(conn, alloc, from, to))?;
     let days = days_at(conn, alloc, places)?;

@@ -1,8 +1,8 @@
 //! Rows of submissions that still count for a company's exposures.
-ghost use Rattle.std.specs.Prelude.{◌≡◌, filter};
+ghost use Rattle.std.specs.Prelude.{◌≡◌};
 ghost use Rattle.desk_book.specs.OpenRows.{is_open_row};
-ghost use Rattle.sql_tables.specs.TableReads.{rows_in, is_open_of};
-ghost use Rattle.sql_queries.specs.Asking.{Asks};
+ghost use Rattle.sql_queries.specs.Asking.{Asks, AreThe};
+ghost use Rattle.sql_reads.specs.RowsFound.{open_rows_in};
 
 use crate::rows::rows;
 use ach_fields::Id;
@@ -33,9 +33,7 @@ pub fn open_rows<S: Alter>(
     company: Id,
     since: Day,
 ) -> Result<Vec<Row>, StoreFault>
-    ensures { Asks S.Store conn.old conn.new result
-        (λ found t. found.items ≡ filter (is_open_row since)
-        (rows_in (is_open_of company since) t)) }
+    ensures { Asks S.Store conn.old conn.new result (AreThe (open_rows_in company since)) }
 {
     let heads = or_unavailable(open_submissions(conn, alloc, company, since))?;
     let mut found = rows(conn, alloc, heads)?;

@@ -1,8 +1,6 @@
 //! What came back of a submission, as far as the states of its entries say it.
-ghost use Rattle.std.specs.Prelude.{◌≡◌, ℕ};
-ghost use Rattle.sql_tables.specs.RowParts.{state_among};
-ghost use Rattle.sql_tables.specs.TableReads.{returns_in};
 ghost use Rattle.sql_read_steps.specs.Answers.{LearnsOn};
+ghost use Rattle.sql_reads.specs.RowsFound.{GiveStatesOf};
 
 use desk_store::StoreFault;
 use sql_read_steps::or_unavailable;
@@ -17,9 +15,7 @@ pub(crate) fn returns_for<S: Alter>(
     alloc: Global,
     head: &SubmissionHead,
 ) -> Result<Vec<EntryReturn>, StoreFault>
-    ensures { LearnsOn S.Store conn.old conn.new result
-        (λ found t. (index : ℕ) → state_among head.now found.items index
-        ≡ state_among head.now (returns_in head.now.company head.now.order t) index) }
+    ensures { LearnsOn S.Store conn.old conn.new result (GiveStatesOf head.now) }
 {
     match head.settled {
         None => Ok(Vec::new(alloc)),

@@ -1,10 +1,10 @@
 //! Rows of submissions, assembled of what several queries find.
-ghost use Rattle.std.specs.Prelude.{◌≡◌, map, option_map};
+ghost use Rattle.std.specs.Prelude.{◌≡◌};
 ghost use Rattle.desk_book.specs.declared.row.Row.{Row};
-ghost use Rattle.sql_tables.specs.RowParts.{retry_with};
-ghost use Rattle.sql_tables.specs.TableReads.{authorized_in, whole_row, row_under_in, rows_in, is_of, is_retry_of};
-ghost use Rattle.sql_queries.specs.Asking.{Asks};
+ghost use Rattle.sql_tables.specs.TableReads.{whole_row, row_under_in, rows_in, is_of, is_retry_of};
+ghost use Rattle.sql_queries.specs.Asking.{Asks, AreThe, IsThe};
 ghost use Rattle.sql_read_steps.specs.Answers.{LearnsOn};
+ghost use Rattle.sql_reads.specs.RowsFound.{GivesRetryOf, whole_rows};
 
 use crate::returned::returns_for;
 use ach_fields::{Id, Ref};
@@ -21,9 +21,7 @@ fn authorized_for<S: Alter>(
     conn: &mut Connection<S>,
     head: &SubmissionHead,
 ) -> Result<Option<Day>, StoreFault>
-    ensures { LearnsOn S.Store conn.old conn.new result
-        (λ found t. option_map (retry_with head.now found) head.now.retried ≡ option_map
-        (retry_with head.now (authorized_in head.now.company head.now.order t)) head.now.retried) }
+    ensures { LearnsOn S.Store conn.old conn.new result (GivesRetryOf head.now) }
 {
     match head.retried {
         None => Ok(None),
@@ -79,8 +77,7 @@ pub(crate) fn rows<S: Alter>(
     alloc: Global,
     heads: Vec<SubmissionHead>,
 ) -> Result<Vec<Row>, StoreFault>
-    ensures { LearnsOn S.Store conn.old conn.new result
-        (λ found t. found.items ≡ map (whole_row t) heads.items) }
+    ensures { LearnsOn S.Store conn.old conn.new result (AreThe (whole_rows heads.items)) }
 {
     let found = read_each(conn, alloc, &WholeRows, heads)?;
     Ok(found)
@@ -93,8 +90,7 @@ pub fn submission<S: Alter>(
     company: Id,
     reference: Ref,
 ) -> Result<Option<Row>, StoreFault>
-    ensures { Asks S.Store conn.old conn.new result
-        (λ found t. found ≡ row_under_in company reference t) }
+    ensures { Asks S.Store conn.old conn.new result (IsThe (row_under_in company reference)) }
 {
     match or_unavailable(sql_queries::submission(conn, company, reference))? {
         Some(head) => {
@@ -111,8 +107,7 @@ pub fn entries_of<S: Alter>(
     alloc: Global,
     company: Id,
 ) -> Result<Vec<Row>, StoreFault>
-    ensures { Asks S.Store conn.old conn.new result
-        (λ found t. found.items ≡ rows_in (is_of company) t) }
+    ensures { Asks S.Store conn.old conn.new result (AreThe (rows_in (is_of company))) }
 {
     let heads = or_unavailable(sql_queries::submissions_of(conn, alloc, company))?;
     rows(conn, alloc, heads)
@@ -128,7 +123,7 @@ pub fn retries_of<S: Alter>(
     index: u64,
 ) -> Result<Vec<Row>, StoreFault>
     ensures { Asks S.Store conn.old conn.new result
-        (λ found t. found.items ≡ rows_in (is_retry_of company of index) t) }
+        (AreThe (rows_in (is_retry_of company of index))) }
 {
     let heads = or_unavailable(sql_queries::retries(conn, alloc, company, of, index))?;
     rows(conn, alloc, heads)

@@ -1,13 +1,11 @@
 //! What traces name: entries that were sent, and whether they came back. Entries that come back one after
 //! another are often of one submission.
-ghost use Rattle.std.specs.Prelude.{◌≡◌, map, option_map};
-ghost use Rattle.sql_tables.specs.Composed.{sent_entry_of, sent_with, sent_at, sent_in, traced_in, with_return_in};
-ghost use Rattle.sql_tables.specs.TableReads.{facts_in};
-ghost use Rattle.sql_tables.specs.Tables.{Tables};
-ghost use Rattle.sql_queries.specs.Asking.{Asks};
+ghost use Rattle.std.specs.Prelude.{◌≡◌, option_map};
+ghost use Rattle.sql_tables.specs.Composed.{sent_entry_of, sent_at, sent_in, traced_in, with_return_in};
+ghost use Rattle.sql_queries.specs.Asking.{Asks, AreThe};
 ghost use Rattle.sql_read_steps.specs.Answers.{LearnsOn};
-ghost use Rattle.sql_reads.specs.Known.{Knowing};
-ghost use Rattle.sql_reads.specs.TracedEntries.{AreTraced};
+ghost use Rattle.sql_reads.specs.Known.{AsksNext, LearnsNext};
+ghost use Rattle.sql_reads.specs.TracedEntries.{AreTraced, each_traced_in, named_in, sent_of};
 
 use crate::last_submission::{LastSubmission, facts_of};
 use ach_fields::Trace;
@@ -49,9 +47,8 @@ fn sent_with<S: Alter>(
     sequence: u32,
     placed: &PlacedEntry,
 ) -> Result<Option<SentEntry>, StoreFault>
-    ensures { LearnsOn S.Store conn.old conn.new result
-        (λ found. Knowing last.old last.new (λ t. found ≡ sent_with sequence placed.now
-        (facts_in placed.now.company placed.now.order t))) }
+    ensures { LearnsNext S.Store conn.old conn.new last.old last.new result
+        (sent_of sequence placed.now) }
 {
     match facts_of(conn, last, placed.company, placed.order)? {
         Some(facts) => Ok(sent_entry_from(sequence, placed, &facts)),
@@ -66,8 +63,7 @@ fn sent_at<S: Alter>(
     sequence: u32,
     place: u64,
 ) -> Result<Option<SentEntry>, StoreFault>
-    ensures { Asks S.Store conn.old conn.new result
-        (λ found. Knowing last.old last.new (λ t. found ≡ sent_at sequence place t)) }
+    ensures { AsksNext S.Store conn.old conn.new last.old last.new result (sent_at sequence place) }
 {
     match or_unavailable(sent_entry(conn, place))? {
         Some(placed) => sent_with(conn, last, sequence, &placed),
@@ -81,8 +77,7 @@ fn sent_in<S: Alter>(
     last: &mut Option<LastSubmission>,
     sequence: u32,
 ) -> Result<Option<SentEntry>, StoreFault>
-    ensures { Asks S.Store conn.old conn.new result
-        (λ found. Knowing last.old last.new (λ t. found ≡ sent_in sequence t)) }
+    ensures { AsksNext S.Store conn.old conn.new last.old last.new result (sent_in sequence) }
 {
     match or_unavailable(place(conn, sequence))? {
         Some(place) => sent_at(conn, last, sequence, place),
@@ -108,9 +103,7 @@ fn named_in<S: Alter>(
     last: &mut Option<LastSubmission>,
     sequence: u32,
 ) -> Result<Option<NamedEntry>, StoreFault>
-    ensures { Asks S.Store conn.old conn.new result
-        (λ found. Knowing last.old last.new
-        (λ t. found ≡ option_map (with_return_in t) (sent_in sequence t))) }
+    ensures { AsksNext S.Store conn.old conn.new last.old last.new result (named_in sequence) }
 {
     match sent_in(conn, last, sequence)? {
         Some(entry) => {
@@ -128,8 +121,8 @@ fn traced_entry<S: Alter>(
     dfi: u32,
     trace: &Option<Trace>,
 ) -> Result<Option<NamedEntry>, StoreFault>
-    ensures { LearnsOn S.Store conn.old conn.new result
-        (λ found. Knowing last.old last.new (λ t. found ≡ traced_in dfi t trace.now)) }
+    ensures { LearnsNext S.Store conn.old conn.new last.old last.new result
+        (λ t. traced_in dfi t trace.now) }
 {
     let Some(trace) = trace else {
         return Ok(None);
@@ -148,8 +141,7 @@ fn each_traced<S: Alter>(
     dfi: u32,
     traces: &[Option<Trace>],
 ) -> Result<Vec<Option<NamedEntry>>, StoreFault>
-    ensures { LearnsOn S.Store conn.old conn.new result
-        (λ found t. found.items ≡ map (traced_in dfi t) traces.now) }
+    ensures { LearnsOn S.Store conn.old conn.new result (AreThe (each_traced_in dfi traces.now)) }
 {
     let mut last = None;
     let mut all = Vec::new(alloc);

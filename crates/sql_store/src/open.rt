@@ -4,6 +4,7 @@ ghost use Rattle.sqlite.specs.Held.{state};
 ghost use Rattle.sqlite.specs.State.{HasCleanDisk};
 ghost use Rattle.sqlite.specs.Steps.{over_memory};
 ghost use Rattle.desk_book.specs.Book.{book_of};
+ghost use Rattle.sql_statements.specs.Promises.{EndsIn};
 ghost use Rattle.sql_tables.specs.Layout.{Keeps, Sees};
 ghost use Rattle.sql_tables.specs.DeskTables.{version};
 ghost use Rattle.sql_setup.specs.Checked.{IsDesk};
@@ -39,10 +40,9 @@ impl<S: Alter + Drop> SqlStore<S> {
         operator_key: [u8; 32],
     ) -> Result<SqlStore<S>, OpenFault>
         ensures created { IfOk result
-            (λ s. HasCleanDisk (state S.Store s.conn) → HasNewDesk identity operator_key
-            (state S.Store conn) (state S.Store s.conn)) }
+            (λ s. EndsIn S.Store conn s.conn (HasNewDesk identity operator_key)) }
         ensures before { IfOk result
-            (λ s. HasCleanDisk (state S.Store s.conn) → HasCleanDisk (state S.Store conn)) }
+            (λ s. EndsIn S.Store conn s.conn (λ before _. HasCleanDisk before)) }
         ensures unmade { IfErr result
             (IsUnmade S.Store (λ trees. Keeps trees (book_of identity operator_key [])) conn) }
         ensures otherwise { IfErr result
@@ -61,10 +61,8 @@ impl<S: Alter + Drop> SqlStore<S> {
     /// changes nothing, and drops the connection.
     pub fn adopt(alloc: Global, conn: Connection<S>) -> Result<SqlStore<S>, OpenFault>
         ensures before { IfOk result
-            (λ s. HasCleanDisk (state S.Store s.conn) → HasCleanDisk (state S.Store conn)) }
-        ensures adopted { IfOk result
-            (λ s. HasCleanDisk (state S.Store s.conn) → IsDesk (state S.Store conn)
-            (state S.Store s.conn)) }
+            (λ s. EndsIn S.Store conn s.conn (λ before _. HasCleanDisk before)) }
+        ensures adopted { IfOk result (λ s. EndsIn S.Store conn s.conn IsDesk) }
         ensures refused { IfErr result (IsDropped S.Store version (λ _. ⊥) conn) }
         ensures otherwise { IfErr result (λ fault. fault ≢ OpenFault.Exists) }
     {

@@ -1,8 +1,8 @@
 -- How a value stands in a column.
-use Rattle.std.specs.Prelude.{ℕ, ℤ, pos, Bool, true, false, List, [], ◌∷◌, ◌++◌, codes, Option, Some, None, option_map}
+use Rattle.std.specs.Prelude.{ℕ, ◌+◌, ℤ, pos, Bool, true, false, List, [], ◌∷◌, ◌++◌, codes, Option, Some, None, option_map}
 use Rattle.std.specs.Fmt.{signed_decimal}
 use Rattle.sqlite.specs.Values.{or_null}
-use Rattle.sqlite_value.specs.Order.{Row}
+use Rattle.sqlite_value.specs.Order.{Row, column}
 use Rattle.sqlite_value.specs.declared.value.Value.{Value}
 use Rattle.sqlite_value.specs.declared.value.Value.TheVariants.{Null, Int, Text}
 use Rattle.desk_accounts.specs.declared.account.Account.{Account}
@@ -69,3 +69,9 @@ abbrev pub entry_columns : Entry → Row
 entry_columns e =
     Text e.routing ∷ Text e.account ∷ flag (is_savings e.kind) ∷ flag e.prenote ∷ number e.cents
     ∷ Text e.id ∷ Text e.name ∷ or_null Text e.info ∷ []
+
+-- the eight columns of a row that an entry stands in, of which the first has this index
+abbrev pub entry_columns_from : Row → (first : ℕ) → Row
+entry_columns_from row first =
+    column row first ∷ column row (first + 1) ∷ column row (first + 2) ∷ column row (first + 3)
+    ∷ column row (first + 4) ∷ column row (first + 5) ∷ column row (first + 6) ∷ column row (first + 7) ∷ []

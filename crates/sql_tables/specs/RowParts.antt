@@ -21,6 +21,10 @@ state_with (Some on) (Some r) = states.Returned on r.code r.day r.late
 abbrev pub state_among : SubmissionHead → List EntryReturn → (index : ℕ) → EntryState
 state_among head returns index = unless_lapsed head.lapsed (state_with head.settled (find (λ r. r.index == index) returns))
 
+-- the states of these entries, in order
+abbrev pub states_among : SubmissionHead → List EntryReturn → List NumberedEntry → List EntryState
+states_among head returns entries = map (λ e. state_among head returns e.index) entries
+
 abbrev pub content_of : SubmissionHead → List NumberedEntry → Submission
 content_of head entries = record {
   reference = head.reference;
@@ -42,5 +46,5 @@ row_of_parts head entries returns authorized = record {
   retry = option_map (retry_with head authorized) head.retried;
   settled = head.settled;
   lapsed = head.lapsed;
-  states = map (λ e. state_among head returns e.index) entries;
+  states = states_among head returns entries;
 }

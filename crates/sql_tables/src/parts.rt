@@ -2,7 +2,7 @@
 ghost use Rattle.std.specs.Prelude.{◌≡◌, ◌==◌, ◌∷◌, map, find, option_map, IfOk};
 ghost use Rattle.sql_tables.specs.Encodes.{unless_lapsed};
 ghost use Rattle.sql_tables.specs.Composed.{fact_among};
-ghost use Rattle.sql_tables.specs.RowParts.{state_with, state_among, content_of, retry_with, row_of_parts};
+ghost use Rattle.sql_tables.specs.RowParts.{state_with, state_among, states_among, content_of, retry_with, row_of_parts};
 
 use crate::row::entries::{EntryAmount, NumberedEntry};
 use crate::row::items::EntryReturn;
@@ -57,8 +57,7 @@ fn states_of(
     entries: &[NumberedEntry],
     returns: &[EntryReturn],
 ) -> Result<Vec<EntryState>, AllocError>
-    ensures { IfOk result
-        (λ states. states.items ≡ map (λ e. state_among head.now returns.now e.index) entries.now) }
+    ensures { IfOk result (λ states. states.items ≡ states_among head.now returns.now entries.now) }
 {
     let mut states = Vec::new(alloc);
     for entry in entries {

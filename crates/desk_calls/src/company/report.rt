@@ -1,8 +1,8 @@
 //! What a company is told of its submission.
-ghost use Rattle.std.specs.Prelude.{◌≡◌, map, zip, IfOk, option_map};
-ghost use Rattle.std.specs.List.{enumerate_from};
-ghost use Rattle.desk_history.specs.Reports.{retried_entry, reported_entry};
+ghost use Rattle.std.specs.Prelude.{◌≡◌, IfOk, option_map};
+ghost use Rattle.desk_history.specs.Reports.{retried_entry};
 ghost use Rattle.desk_book.specs.OnBook.{row_report};
+ghost use Rattle.desk_calls.specs.Telling.{reported_entries};
 
 use desk_book::Row;
 use desk_history::{ListOf, ReportedEntry, RetriedEntry, SubmissionReport};
@@ -27,8 +27,7 @@ fn reported_entries(
     entries: &[Entry],
     states: &[EntryState],
 ) -> Result<Vec<ReportedEntry>, AllocError>
-    ensures { IfOk result
-        (λ v. v.items ≡ map reported_entry (enumerate_from 1 (zip entries.now states.now))) }
+    ensures { IfOk result (λ v. v.items ≡ reported_entries entries.now states.now) }
 {
     let mut found = Vec::new(alloc);
     let mut index = 0;

@@ -1,7 +1,7 @@
 //! A company's statement lists the lines of its account.
 ghost use Rattle.std.specs.Prelude.{◌≡◌, map, IfOk, IfSome};
-ghost use Rattle.desk_accounts.specs.Balance.{days_balance};
 ghost use Rattle.desk_book.specs.OnBook.{line_of};
+ghost use Rattle.desk_calls.specs.Telling.{statement_of_sums};
 
 use bank_days::Day;
 use desk_accounts::{Posting, balance_of_days};
@@ -44,12 +44,7 @@ pub(crate) fn statement(
     sums: &[(Day, i128)],
     postings: Vec<Posting>,
 ) -> Result<Statement, StoreFault>
-    ensures { IfOk result (λ s. s ≡
-        record {
-          balance = days_balance day sums.now;
-          day = day;
-          lines = map line_of postings.items;
-        }) }
+    ensures { IfOk result (λ s. s ≡ statement_of_sums day sums.now postings.items) }
 {
     let Some(balance) = balance_of_days(sums, day) else {
         return Err(StoreFault::Unavailable);

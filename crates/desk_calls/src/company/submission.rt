@@ -1,10 +1,8 @@
 //! A company hands in a submission.
-ghost use Rattle.std.specs.Prelude.{◌≡◌, ◌+◌, length, None};
-ghost use Rattle.desk_rules.specs.Submission.{submission_of};
+ghost use Rattle.std.specs.Prelude.{◌≡◌};
 ghost use Rattle.desk_history.specs.Request as request;
-ghost use Rattle.desk_history.specs.Acceptance.{is_same_submission, new_content};
-ghost use Rattle.desk_book.specs.Standing.{facts_in};
-ghost use Rattle.desk_admission.specs.Verdicts.{limits_and_day, verdict_of_fields, fresh_verdict, submission_on};
+ghost use Rattle.desk_history.specs.Acceptance.{is_same_submission};
+ghost use Rattle.desk_admission.specs.Verdicts.{draft_verdict, fresh_submission, submission_on};
 ghost use Rattle.desk_admission.specs.OverStores.{Gives, RepliesAdding};
 
 use ach_fields::Id;
@@ -39,8 +37,7 @@ fn new_submission<S: Store>(
     content: Submission,
 ) -> Result<Verdict, StoreFault>
     ensures { Gives S.Store store.old store.new result
-        (λ b. fresh_verdict (length (b.rows company) + 1) None
-        (new_content (facts_in (b.rows company)) b.holidays limits.now today content)) }
+        (fresh_submission company limits.now today content) }
 {
     let content = match SizedSubmission::new(content) {
         Ok(content) => content,
@@ -76,9 +73,7 @@ fn submission_verdict<S: Store>(
     company: Id,
     draft: &Draft,
 ) -> Result<Verdict, StoreFault>
-    ensures { Gives S.Store store.old store.new result
-        (λ b. verdict_of_fields (limits_and_day b company) (submission_of draft.now)
-        (submission_on b company)) }
+    ensures { Gives S.Store store.old store.new result (draft_verdict company draft.now) }
 {
     let (limits, today) = match limits_and_day(store, alloc, company)? {
         Ok(asked) => asked,

@@ -1,15 +1,9 @@
 //! The operator cuts files.
-ghost use Rattle.std.specs.Prelude.{◌≡◌, true};
-ghost use Rattle.desk_history.specs.declared.answer.Answer.TheVariants as answers;
-ghost use Rattle.desk_history.specs.declared.answer.Outcome.TheVariants as done;
-ghost use Rattle.desk_book.specs.Steps.{commit_cut};
-ghost use Rattle.desk_book.specs.OnCut.{cut_answer_on, cut_after};
-ghost use Rattle.desk_cut.specs.Plan.{plan_write};
-ghost use Rattle.desk_store.specs.Written.{commit_cut_after};
+ghost use Rattle.std.specs.Prelude.{◌≡◌};
 ghost use Rattle.desk_history.specs.Message.{Cut};
-ghost use Rattle.desk_admission.specs.Answering.{HoldsFor};
-ghost use Rattle.desk_calls.specs.Cutting.{Plans, PlansOrTells, latest_of, read_in, read_on, refusal_of};
-ghost use Rattle.desk_admission.specs.OverStores.{AnswersMessage, AnswersWhere, GivesAs, GivesList, Tells};
+ghost use Rattle.desk_calls.specs.Cutting.{latest_of, read_in, read_on, refusal_of};
+ghost use Rattle.desk_admission.specs.OverStores.{GivesAs, GivesList};
+ghost use Rattle.desk_calls.specs.OverStores.{Obeys, TellsPlan, TellsPlanOrFault, WritesPlan};
 
 use bank_days::{Calendar, Day};
 use desk_admission::{refuse, rule_day};
@@ -80,8 +74,7 @@ fn planned<S: Store>(
     alloc: Global,
     reads: &CutReads,
 ) -> Result<Result<CutPlan, CutFault>, StoreFault>
-    ensures { Tells S.Store store.old store.new
-        (PlansOrTells (S.holds store.old) reads.now result (S.holds store.new)) }
+    ensures { TellsPlanOrFault S.Store store.old store.new reads.now result }
 {
     desk_book::entries_of_cuts();
     let (day, last) = (reads.day, reads.last.sequence);
@@ -99,8 +92,7 @@ fn plan<S: Store>(
     alloc: Global,
     reads: &CutReads,
 ) -> Result<Result<CutPlan, Refusal>, StoreFault>
-    ensures { Tells S.Store store.old store.new
-        (Plans (S.holds store.old) reads.now result (S.holds store.new)) }
+    ensures { TellsPlan S.Store store.old store.new reads.now result }
 {
     match planned(store, alloc, reads)? {
         Ok(plan) => Ok(Ok(plan)),
@@ -115,9 +107,7 @@ fn write<S: Store>(
     before: u64,
     plan: CutPlan,
 ) -> Result<Answer, StoreFault>
-    ensures { AnswersWhere S.Store store.old store.new
-        (HoldsFor (S.holds store.old) (commit_cut_after before (plan_write plan))) result
-        (λ b. true) (λ b. answers.Done (done.Cut plan.done)) (commit_cut (plan_write plan)).after }
+    ensures { WritesPlan S.Store store.old store.new before plan result }
 {
     let rows = CutRows {
         before,
@@ -133,7 +123,7 @@ fn write<S: Store>(
 
 /// Sends what is due on the desk day.
 pub(crate) fn cut<S: Store>(store: &mut S, alloc: Global) -> Result<Answer, StoreFault>
-    ensures { AnswersMessage S.Store store.old store.new result Cut cut_answer_on cut_after }
+    ensures { Obeys S.Store store.old store.new result Cut }
 {
     let day = match rule_day(store, alloc)? {
         Ok(day) => day,

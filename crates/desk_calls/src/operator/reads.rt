@@ -1,10 +1,10 @@
 //! What the operator reads: files, the settlement account and suspense.
 ghost use Rattle.std.specs.Prelude.{◌≡◌, map, IfOk};
-ghost use Rattle.desk_accounts.specs.Balance.{days_balance};
 ghost use Rattle.desk_history.specs.Postings.{day_sum};
 ghost use Rattle.desk_admission.specs.Answering.{Answers};
 ghost use Rattle.desk_book.specs.OnOperator.{file_answer, settlement_answer, suspense_answer};
 ghost use Rattle.desk_admission.specs.OverStores.{AnswersAsked};
+ghost use Rattle.desk_calls.specs.Telling.{settlement_of_sums};
 
 use bank_days::Day;
 use desk_accounts::Account;
@@ -42,8 +42,7 @@ pub(crate) fn settlement<S: Store>(store: &mut S, alloc: Global) -> Result<Answe
 
 // The settlement on a day, from the sums by value day.
 fn settlement_of(alloc: Global, rows: &[(Day, i128)], day: Day) -> Result<Settlement, StoreFault>
-    ensures { IfOk result (λ s. s ≡
-        record { balance = days_balance day rows.now; day = day; days = map day_sum rows.now }) }
+    ensures { IfOk result (λ s. s ≡ settlement_of_sums day rows.now) }
 {
     let Some(balance) = desk_accounts::balance_of_days(rows, day) else {
         return Err(StoreFault::Unavailable);

@@ -2,8 +2,8 @@
 ghost use Rattle.std.specs.Prelude.{◌≡◌};
 ghost use Rattle.bank_days.specs.HolidayList.{holidays_in};
 ghost use Rattle.desk_history.specs.Message.{SetDay, SetHolidays, PutCompany, PutLimits};
-ghost use Rattle.desk_book.specs.OnOperator.{new_day, day_answer, day_after, holidays_answer, holidays_after, company_answer, company_after, limits_answer, limits_after};
-ghost use Rattle.desk_admission.specs.OverStores.{AnswersMessage};
+ghost use Rattle.desk_book.specs.OnOperator.{new_day};
+ghost use Rattle.desk_calls.specs.OverStores.{Obeys};
 
 use bank_days::{Calendar, CalendarFault};
 use desk_admission::{company_limits, refuse};
@@ -18,8 +18,7 @@ pub(crate) fn set_day<S: Store>(
     alloc: Global,
     text: &Option<DraftText>,
 ) -> Result<Answer, StoreFault>
-    ensures { AnswersMessage S.Store store.old store.new result (SetDay text.now)
-        (day_answer text.now) (day_after text.now) }
+    ensures { Obeys S.Store store.old store.new result (SetDay text.now) }
 {
     let day = store.day(alloc)?;
     let holidays = store.calendar(alloc)?;
@@ -58,8 +57,7 @@ pub(crate) fn set_holidays<S: Store>(
     alloc: Global,
     text: &[u8],
 ) -> Result<Answer, StoreFault>
-    ensures { AnswersMessage S.Store store.old store.new result (SetHolidays (holidays_in text.now))
-        (holidays_answer (holidays_in text.now)) (holidays_after (holidays_in text.now)) }
+    ensures { Obeys S.Store store.old store.new result (SetHolidays (holidays_in text.now)) }
 {
     match Calendar::read(alloc, text) {
         Ok(holidays) => {
@@ -78,8 +76,7 @@ pub(crate) fn put_company<S: Store>(
     alloc: Global,
     draft: &CompanyDraft,
 ) -> Result<Answer, StoreFault>
-    ensures { AnswersMessage S.Store store.old store.new result (PutCompany draft.now)
-        (company_answer draft.now) (company_after draft.now) }
+    ensures { Obeys S.Store store.old store.new result (PutCompany draft.now) }
 {
     let company = match desk_rules::check_company_fields(draft) {
         Ok(company) => company,
@@ -98,8 +95,7 @@ pub(crate) fn put_limits<S: Store>(
     alloc: Global,
     draft: &LimitsDraft,
 ) -> Result<Answer, StoreFault>
-    ensures { AnswersMessage S.Store store.old store.new result (PutLimits draft.now)
-        (limits_answer draft.now) (limits_after draft.now) }
+    ensures { Obeys S.Store store.old store.new result (PutLimits draft.now) }
 {
     let (id, limits) = match desk_rules::check_limits_fields(draft) {
         Ok(found) => found,

@@ -2,9 +2,8 @@
 ghost use Rattle.std.specs.Prelude.{◌≡◌, take, IfOk};
 ghost use Rattle.desk_plan.specs.Modifiers.{modifiers};
 ghost use Rattle.desk_history.specs.Status.{modifiers_on};
-ghost use Rattle.desk_book.specs.OnStatus.{company_status, status_answer};
-ghost use Rattle.desk_book.specs.Reads.{waiting_of};
-ghost use Rattle.desk_calls.specs.Status.{statuses};
+ghost use Rattle.desk_book.specs.OnStatus.{status_answer};
+ghost use Rattle.desk_calls.specs.Status.{status_on, statuses};
 ghost use Rattle.desk_admission.specs.OverStores.{AnswersAsked, Gives, GivesList};
 
 use bank_days::{Calendar, Day};
@@ -24,7 +23,7 @@ fn status_of<S: Store>(
     company: &Company,
 ) -> Result<CompanyStatus, StoreFault>
     ensures { Gives S.Store store.old store.new result
-        (λ b. company_status day.now holidays.now company.now (waiting_of company.now b)) }
+        (status_on day.now holidays.now company.now) }
 {
     let waiting = store.waiting_of(alloc, *company)?;
     match company_status(alloc, *day, holidays, company, &waiting) {

@@ -1,11 +1,11 @@
 //! A retry is judged by these plain values: the entry that it names, and its attempts.
-ghost use Rattle.std.specs.Prelude.{◌≡◌, ◌-◌, ◌++◌, [], ◌∷◌, IfOk, OnOk, map, filter_map, slice_get};
+ghost use Rattle.std.specs.Prelude.{◌≡◌, ◌-◌, ◌++◌, [], ◌∷◌, IfOk, OnOk, filter_map, slice_get};
 ghost use Rattle.desk_rules.specs.Attempts.{attempt_of};
-ghost use Rattle.desk_rules.specs.RetryRule.{retry_verdict};
 ghost use Rattle.desk_history.specs.Accepted.{content_of};
 ghost use Rattle.desk_history.specs.Retries.{live_debit};
 ghost use Rattle.desk_book.specs.Standing.{state_at};
 ghost use Rattle.desk_admission.specs.Verdicts.{attempts_of};
+ghost use Rattle.desk_calls.specs.Retrying.{may_try_again, retry_attempts};
 
 use ach_fields::ShortText;
 use bank_days::{Calendar, Day};
@@ -60,8 +60,7 @@ fn push_attempt(tried: &mut Vec<Attempt>, state: EntryState) -> Result<(), Alloc
 }
 
 fn push_retries(tried: &mut Vec<Attempt>, retries: &[Row]) -> Result<(), AllocError>
-    ensures { OnOk result (tried.new.items ≡ tried.old.items ++ filter_map attempt_of
-        (map (λ retry. state_at retry 1) retries.now)) }
+    ensures { OnOk result (tried.new.items ≡ tried.old.items ++ retry_attempts retries.now) }
 {
     for retry in retries {
         push_attempt(tried, state_at(retry, 1))?;
@@ -115,9 +114,8 @@ pub(crate) fn first_of_attempts(
     today: Day,
     calendar: &Calendar,
 ) -> Result<Result<(), Refusal>, StoreFault>
-    ensures { IfOk result (λ verdict. verdict ≡ retry_verdict
-        (attempts_of retries.now row.now retry.now.index) retry.now.day retry.now.authorized today
-        calendar.now) }
+    ensures { IfOk result
+        (λ v. v ≡ may_try_again retries.now row.now retry.now today calendar.now) }
 {
     let tried = attempts_of(alloc, retries, row, retry.index)?;
     if tried.is_empty() {

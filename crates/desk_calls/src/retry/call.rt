@@ -1,9 +1,6 @@
 //! A company asks for a retry.
-ghost use Rattle.std.specs.Prelude.{◌+◌, length, Some};
-ghost use Rattle.desk_rules.specs.Retry.{retry_of};
 ghost use Rattle.desk_history.specs.Request as request;
-ghost use Rattle.desk_admission.specs.Verdicts.{limits_and_day, verdict_of_fields, fresh_verdict, retry_on};
-ghost use Rattle.desk_book.specs.Standing.{retry_content_among};
+ghost use Rattle.desk_admission.specs.Verdicts.{fresh_retry, retry_draft_verdict, retry_on};
 ghost use Rattle.desk_admission.specs.OverStores.{Gives, RepliesAdding};
 
 use crate::retry::content::{is_same_retry, retry_content};
@@ -27,8 +24,7 @@ fn new_retry<S: Store>(
     retry: &Retry,
 ) -> Result<Verdict, StoreFault>
     ensures { Gives S.Store store.old store.new result
-        (λ b. fresh_verdict (length (b.rows company) + 1) (Some retry.now)
-        (retry_content_among (b.rows company) b.holidays limits.now today retry.now)) }
+        (fresh_retry company limits.now today retry.now) }
 {
     let content = retry_content(store, alloc, company, limits, today, retry)?;
     let order = next_order(store, alloc, company)?;
@@ -60,9 +56,7 @@ fn retry_verdict<S: Store>(
     company: Id,
     draft: &RetryDraft,
 ) -> Result<Verdict, StoreFault>
-    ensures { Gives S.Store store.old store.new result
-        (λ b. verdict_of_fields (limits_and_day b company) (retry_of draft.now)
-        (retry_on b company)) }
+    ensures { Gives S.Store store.old store.new result (retry_draft_verdict company draft.now) }
 {
     let (limits, today) = match limits_and_day(store, alloc, company)? {
         Ok(asked) => asked,

@@ -1,8 +1,9 @@
 //! A retry gets its content from the entry that it names.
 ghost use Rattle.std.specs.Prelude.{◌≡◌};
-ghost use Rattle.desk_history.specs.Acceptance.{is_same_retry, retry_content};
-ghost use Rattle.desk_book.specs.Standing.{facts_in, attempts_at, retry_content_among};
+ghost use Rattle.desk_history.specs.Acceptance.{is_same_retry};
 ghost use Rattle.desk_admission.specs.OverStores.{Gives};
+ghost use Rattle.desk_admission.specs.Verdicts.{retry_content_on};
+ghost use Rattle.desk_calls.specs.Retrying.{retried};
 
 use crate::retry::attempts::{content_of, entry_named, first_of_attempts};
 use ach_fields::Id;
@@ -25,8 +26,7 @@ fn retry_content_of<S: Store>(
     entry: Entry,
 ) -> Result<Result<SizedSubmission, Refusal>, StoreFault>
     ensures { Gives S.Store store.old store.new result
-        (λ b. retry_content (facts_in (b.rows company)) b.holidays limits.now today retry.now
-        row.now.content entry (attempts_at (b.rows company) row.now retry.now.index)) }
+        (retried company limits.now today retry.now row.now entry) }
 {
     let original = row.content.submission();
     let retries = store.retries_of(alloc, company, original.reference, retry.index)?;
@@ -58,7 +58,7 @@ pub(crate) fn retry_content<S: Store>(
     retry: &Retry,
 ) -> Result<Result<SizedSubmission, Refusal>, StoreFault>
     ensures { Gives S.Store store.old store.new result
-        (λ b. retry_content_among (b.rows company) b.holidays limits.now today retry.now) }
+        (retry_content_on company limits.now today retry.now) }
 {
     let Some(row) = store.submission(alloc, company, retry.of)? else {
         return Ok(Err(Refusal::NoEntry));

@@ -1,11 +1,7 @@
 //! The calls that the JSON objects of bodies make.
 ghost use Rattle.std.specs.Prelude.{◌≡◌, IfOk};
-ghost use Rattle.http_json.specs.Drafts.{text_at, limits_draft_of};
-ghost use Rattle.http_json.specs.Read.{object_of};
-ghost use Rattle.desk_rules.specs.declared.refusals.refusal.Field.TheVariants as field;
 ghost use Rattle.serde_json.specs.View.{view};
-ghost use Rattle.desk_history.specs.declared.call.Call.TheVariants as calls;
-ghost use Rattle.http_history.specs.Verdict.{with_object, submission_in, retry_in, company_verdict, company_with_digest};
+ghost use Rattle.http_history.specs.Verdict.{submission_in, retry_in, company_verdict, company_with_digest, day_in, company_in, limits_in};
 
 use ach_fields::Id;
 use desk_history::Call;
@@ -45,8 +41,7 @@ pub(crate) fn retry_call(
 }
 
 pub(crate) fn day_call(alloc: Global, body: &[u8]) -> Result<Result<Call, MessageFault>, AllocError>
-    ensures { IfOk result
-        (λ v. v ≡ with_object (object_of body.now) (λ d. calls.SetDay (text_at field.Day d))) }
+    ensures { IfOk result (λ v. v ≡ day_in body.now) }
 {
     match read_object(alloc, body)? {
         Some(object) => Ok(Ok(Call::SetDay(day_draft(alloc, &object)?))),
@@ -58,9 +53,7 @@ pub(crate) fn company_call(
     alloc: Global,
     body: &[u8],
 ) -> Result<Result<Call, MessageFault>, AllocError>
-    ensures { IfOk result
-        (λ v. v ≡ with_object (object_of body.now)
-        (λ d. calls.PutCompany (company_with_digest d))) }
+    ensures { IfOk result (λ v. v ≡ company_in body.now) }
 {
     match read_object(alloc, body)? {
         Some(object) => Ok(Ok(Call::PutCompany(draft_with_digest(alloc, &object)?))),
@@ -83,8 +76,7 @@ pub(crate) fn limits_call(
     alloc: Global,
     body: &[u8],
 ) -> Result<Result<Call, MessageFault>, AllocError>
-    ensures { IfOk result
-        (λ v. v ≡ with_object (object_of body.now) (λ d. calls.PutLimits (limits_draft_of d))) }
+    ensures { IfOk result (λ v. v ≡ limits_in body.now) }
 {
     match read_object(alloc, body)? {
         Some(object) => Ok(Ok(Call::PutLimits(limits_draft(alloc, &object)?))),

@@ -3,10 +3,9 @@ ghost use Rattle.std.specs.Prelude.{◌≡◌, IfOk};
 ghost use Rattle.bank_days.specs.Day.{day_of};
 ghost use Rattle.http_routes.specs.Finding.{piece_of};
 ghost use Rattle.http_message.specs.Message.{request_value};
-ghost use Rattle.desk_book.specs.declared.caller.Caller.TheVariants as callers;
-ghost use Rattle.desk_book.specs.Reads.{key_of};
 ghost use Rattle.desk_admission.specs.OverStores.{Gives};
-ghost use Rattle.http_history.specs.Verdict.{operator_verdict, operator_call, file_text};
+ghost use Rattle.http_history.specs.Verdict.{operator_call, file_text};
+ghost use Rattle.desk_http.specs.Addressing.{operator_route_verdict};
 
 use super::object::{company_call, day_call, limits_call};
 use bank_days::Day;
@@ -28,7 +27,7 @@ pub(crate) fn operator_verdict<S: Store>(
     request: Request<'_>,
 ) -> Result<Result<Call, MessageFault>, StoreFault>
     ensures { Gives S.Store desk.old desk.new result
-        (λ b. operator_verdict (key_of callers.Operator b) route (request_value request.entry)) }
+        (operator_route_verdict route (request_value request.entry)) }
 {
     let Some(key) = value_of(request.fields, b"X-Desk-Key") else {
         return Ok(Err(MessageFault::Denied));

@@ -1,9 +1,8 @@
 //! Rows of entries.
-ghost use Rattle.std.specs.Prelude.{◌≡◌, ◌≤◌, ◌+◌, ◌↔◌, [], ◌∷◌, Some, IsTrue};
-ghost use Rattle.sqlite_value.specs.Order.{column};
+ghost use Rattle.std.specs.Prelude.{◌≡◌, ◌≤◌, ◌↔◌, Some, IsTrue};
 ghost use Rattle.desk_rules.specs.Fields.{entry_cents_of};
 ghost use Rattle.sql_tables.specs.QueryRows.{entry_amount_row, entry_place_row, numbered_entry_row, placed_entry_row};
-ghost use Rattle.sql_tables.specs.Columns.{entry_columns};
+ghost use Rattle.sql_tables.specs.Columns.{entry_columns, entry_columns_from};
 ghost use Rattle.sql_tables.specs.Reading.{Reads};
 ghost use Rattle.sql_tables.specs.RowRanges.{EntryAmountFits, EntryFits, EntryPlaceFits, NumberedEntryFits, PlacedEntryFits};
 
@@ -131,10 +130,7 @@ impl FromRow for EntryPlace {
 // The entry in eight columns, of which the first has this index.
 fn read_entry(row: &Row, first: usize) -> Option<Entry>
     requires { first ≤ 3 }
-    ensures { Reads entry_columns EntryFits (column row.now first ∷ column row.now (first + 1) ∷
-        column row.now (first + 2) ∷ column row.now (first + 3) ∷ column row.now (first + 4) ∷
-        column row.now (first + 5) ∷ column row.now (first + 6) ∷ column row.now (first + 7) ∷ [])
-        result }
+    ensures { Reads entry_columns EntryFits (entry_columns_from row.now first) result }
 {
     let routing = read_column(row, first)?;
     let account = read_column(row, first + 1)?;
