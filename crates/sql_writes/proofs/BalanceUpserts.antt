@@ -10,7 +10,6 @@ use Rattle.std.proofs.lemmas.Map.Text.{is_eq-slice_cmp}
 use Rattle.sqlite_tied.specs.Compute.{everything}
 use Rattle.sqlite.specs.Listing.{understood}
 use Rattle.sqlite.specs.State.{State, Executes}
-use Rattle.sqlite.specs.declared.types.Value.TheVariants.{Null, Int}
 use Rattle.sqlite_keyed.specs.Lists.{insert_sorted, update_where}
 use Rattle.sqlite_rules.specs.Keys.{conflicts}
 use Rattle.sqlite_value.specs.Keys.{first_key}

@@ -65,5 +65,5 @@ pub limits_put : (id : List ℕ) (limits : Limits) (old new : State) (count : �
 limits_put id limits old new count ran t h =
     let set : Company → Company = λ k. record k { limits = limits } in
     let kept : (k : Company) → (cond (has_id id k) (set k) k).id ≡ k.id = λ k. elim (has_id id k) as (λ b. (cond b (set k) k).id ≡ k.id) [ true ↦ refl | false ↦ refl ] in
-    let made = rows_updated named.companies update_limits (Text id ∷ number limits.entry ∷ number limits.credit ∷ number limits.debit ∷ []) (has_id id) (λ i k. and_true _ ∙ text_is k.id id) old new count ran t h update_limits_is refl set (λ i k. refl) in
+    let made = rows_updated named.companies update_limits (Text id ∷ number limits.entry ∷ number limits.credit ∷ number limits.debit ∷ []) (has_id id) (λ i k. and_true _ ∙ text_is k.id id) old new count ran t h update_limits_is refl set (λ i k _. refl) in
     holds_with named.companies _ h made.0 (record { stored = made.0.stored; rise = rises_updated (key_cmp the.companies) (has_id id) set (λ a b. λ i. text_cmp (kept a i) (kept b i)) t.companies (h.1.stands named.companies).rise })

@@ -30,7 +30,7 @@ update_day_is = record { is = record { updates = refl; body = refl; alone = refl
 pub day_set : (day : ℕ) (old new : State) (count : ℕ) → Executes update_day.text (number day ∷ []) old new (Ok count) → (t : Tables) → Holds desk_layout old.now t
     → Holds desk_layout new.now (record t { desk = record t.desk { day = Some day } })
 day_set day old new count ran t h =
-    let made = rows_updated named.desk update_day (number day ∷ []) (λ _. true) (λ i d. and_true _ ∙ int_is (pos 1) (pos 1)) old new count ran t h update_day_is refl (λ d. record d { day = Some day }) (λ i d. refl) in
+    let made = rows_updated named.desk update_day (number day ∷ []) (λ _. true) (λ i d. and_true _ ∙ int_is (pos 1) (pos 1)) old new count ran t h update_day_is refl (λ d. record d { day = Some day }) (λ i d _. refl) in
     holds_with named.desk (_ ∷ []) h made.0 (record { stored = made.0.stored; rise = (tt, tt) })
 
 -- ---- the calendar

@@ -3,8 +3,8 @@
 --   many rows at once         ArrayLoops, ManyEdits, ManyFree, ManyKeys, Puts
 --   days, companies, limits   Companies, Days, Holidays
 --   lines and balances        BalanceLists, BalanceUpserts, JoinedLines, LineSums, PendingSums, PostingInserts
---   cuts                      EntryRuns, EntryUpdates, FileInserts, KeyTests, NumberRanges, PlacedEntries,
---                             RangePuts, RunUpdates, SubmissionUpdates
+--   cuts                      EntryRuns, FileInserts, KeyTests, NumberRanges, PlacedEntries, RangePuts, RunUpdates,
+--                             RunsMade, SubmissionUpdates, Sums
 --   incoming files            ChangeInserts, ReturnInserts, SuspenseInserts, TakenInserts
 -- of these stand.
 mod ArrayLoops
@@ -16,7 +16,6 @@ pub mod Conditions
 mod Days
 mod EntryInserts
 mod EntryRuns
-mod EntryUpdates
 mod FileInserts
 mod Holidays
 mod JoinedLines
@@ -38,7 +37,9 @@ mod RangePuts
 mod ReturnInserts
 mod RunLists
 mod RunUpdates
+mod RunsMade
 mod SubmissionRows
 mod SubmissionUpdates
+mod Sums
 mod SuspenseInserts
 mod TakenInserts

@@ -1,9 +1,8 @@
 -- A cut takes out the numbers of a range of sequences and puts in the new ones: that is each given its place.
-use Rattle.std.proofs.Common.{◌≡◌, ◌≤◌, ◌+◌, ◌==◌, ℕ, suc, ℤ, pos, Bool, true, false, not, ◌&&◌, cond, List, [], ◌∷◌, ◌++◌, map, length, slice_get, Some, Ok, refl, sym, ap, ◌∙◌, subst, arith, is_ge, is_le, int_cmp, nat_le}
+use Rattle.std.proofs.Common.{◌≡◌, ◌≤◌, ◌+◌, ◌==◌, ℕ, suc, ℤ, pos, Bool, true, false, not, ◌&&◌, cond, List, [], ◌∷◌, map, length, slice_get, Some, Ok, refl, sym, ap, ◌∙◌, subst, arith, is_ge, is_le, int_cmp, nat_le}
 use Rattle.std.specs.List.{enumerate_from, flat_map, list_all}
 use Rattle.std.proofs.lemmas.Bool.{and_parts, and_from}
 use Rattle.std.proofs.lemmas.Int.{ints}
-use Rattle.std.proofs.lemmas.Cmp.{on_total, nat_cmp_total}
 use Rattle.std.proofs.lemmas.List.{length-map}
 use Rattle.ach_fields.specs.Trace.{most_sequence}
 use Rattle.sqlite_tied.specs.Compute.{everything}
@@ -11,7 +10,6 @@ use Rattle.sqlite.specs.Listing.{understood}
 use Rattle.sqlite.specs.State.{State, Executes}
 use Rattle.sqlite.specs.Values.{bound}
 use Rattle.sqlite_keyed.specs.Lists.{insert_sorted, delete_where}
-use Rattle.sqlite_schema.specs.Rules.{agree}
 use Rattle.sqlite_sql.specs.Term.{holds}
 use Rattle.sqlite_value.specs.declared.value.ValueRef.{ValueRef}
 use Rattle.sql_statements.specs.Edits.{each_edit, each_edit_from}
@@ -21,7 +19,6 @@ use Rattle.sql_statements.proofs.Conditions.{int_least, int_most, and_true}
 use Rattle.desk_history.specs.declared.sent_entry.SentEntry.{SentEntry}
 use Rattle.sql_tables.specs.ByName as named
 use Rattle.sql_tables.specs.Description.{as_row, form, key_cmp, table}
-use Rattle.sql_tables.specs.Schema.{desk_schema}
 use Rattle.sql_tables.specs.Columns.{number}
 use Rattle.sql_tables.specs.CutTables.{has_sequence, with_number}
 use Rattle.sql_tables.specs.KeyOrders.{IsInOrder}

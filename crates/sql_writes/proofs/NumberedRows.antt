@@ -1,5 +1,5 @@
 -- A row that is put in under its number stands where the number belongs.
-use Rattle.std.proofs.Common.{◌≡◌, ◌≤◌, ◌∙◌, ℕ, ℤ, pos, Bool, true, ◌==◌, List, ◌∷◌, ◌++◌, filter, length, ap₂, arith, int_eq}
+use Rattle.std.proofs.Common.{◌≡◌, ◌≤◌, ◌∙◌, ℕ, pos, Bool, true, ◌==◌, List, ◌∷◌, ◌++◌, filter, length, ap₂, arith, int_eq}
 use Rattle.std.specs.Cmp.{IsTotalOrder}
 use Rattle.std.specs.Ordering.{nat_cmp, on}
 use Rattle.std.proofs.lemmas.Cmp.{on_total, nat_cmp_total}

@@ -15,7 +15,6 @@ use Rattle.sql_statements.specs.Layouts.{Holds}
 use Rattle.desk_accounts.specs.declared.posting.Posting.{Posting}
 use Rattle.sql_tables.specs.ByName as named
 use Rattle.sql_tables.specs.Description.{table, as_row}
-use Rattle.sql_tables.specs.Schema.{desk_schema}
 use Rattle.sql_tables.specs.Layout.{desk_layout}
 use Rattle.sql_tables.specs.Tables.{Tables}
 use Rattle.sql_tables.specs.declared.records.PostingRecord.{PostingRecord}

@@ -149,7 +149,7 @@ module _ (n : Name) where
       (tested : (i : ℤ) (x : Of n) → list_all (holds (params ∷ row_of (form (described n)) (i, x) ∷ [])) change.tests ≡ p x) (old new : State) (count : ℕ) (ran : Executes change.text params old new (Ok count)) (t : Tables) (h : Holds desk_layout old.now t) where
     -- of a table whose key is no rowid
     pub rows_updated : IsUpdateOf change → form (described n) ≡ whole (as_row (described n))
-        → (f : Of n → Of n) → ((i : ℤ) (x : Of n) → eval_all change.sets (params ∷ row_of (whole (as_row (described n))) (i, x) ∷ []) ≡ as_row (described n) (f x))
+        → (f : Of n → Of n) → ((i : ℤ) (x : Of n) → p x ≡ true → eval_all change.sets (params ∷ row_of (whole (as_row (described n))) (i, x) ∷ []) ≡ as_row (described n) (f x))
         → HasRecords n (update_where p f (records n t)) old new × (count ≡ length (filter p (records n t)))
     rows_updated of is_whole f made =
         let d = described n in
@@ -159,7 +159,7 @@ module _ (n : Name) where
         subst (λ k. slice_get desk_schema.tables (place_of n) ≡ Some (table_at (is_keyed k) d.tree s.name s.columns s.primary s.uniques s.orders)) is_whole (listed n) in
         let tests : (i : ℤ) (x : Of n) → list_all (holds (params ∷ row_of (whole (as_row d)) (i, x) ∷ [])) change.tests ≡ p x =
         subst (λ k. (i : ℤ) (x : Of n) → list_all (holds (params ∷ row_of k (i, x) ∷ [])) change.tests ≡ p x) is_whole tested in
-        let done = updated_counted (as_row d) desk_schema (place_of n) d.tree s.name s.columns s.primary s.uniques s.orders change.text change.tests change.sets of.is there (quiet n) params p f tests (λ i x _. made i x) (row_stored d) old new count h.0 (records n t) stored ran in
+        let done = updated_counted (as_row d) desk_schema (place_of n) d.tree s.name s.columns s.primary s.uniques s.orders change.text change.tests change.sets of.is there (quiet n) params p f tests made (row_stored d) old new count h.0 (records n t) stored ran in
         let back = subst (λ k. Stores k (new.now.trees d.tree) (update_where p f (records n t))) (sym is_whole) done.1 in
         (record { schema_is = done.0.schema_is; others = done.0.others; stored = back }, done.2)
 

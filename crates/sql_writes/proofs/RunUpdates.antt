@@ -38,8 +38,8 @@ module _ {X : Type 0} where
       go true e more = (x, rw e refl, all.0, e)
       go false e more = let it = more (rw e at once) in (it.0, rw e it.1, it.2, it.3)
 
-  -- a key, the number of a row within it, and a row at a place, which keeps both
-  module _ (key : X → Bool) (index : X → ℕ) (at : ℕ → X → X) (keeps_key : (n : ℕ) (x : X) → key (at n x) ≡ key x) (keeps_index : (n : ℕ) (x : X) → index (at n x) ≡ index x) (before : ℕ) where
+  -- a key, the number of a row within it, and what becomes of the row of a number, which keeps both
+  module _ (key : X → Bool) (index : X → ℕ) (at : ℕ → X → X) (keeps_key : (n : ℕ) (x : X) → key (at n x) ≡ key x) (keeps_index : (n : ℕ) (x : X) → index (at n x) ≡ index x) where
     abbrev pub is_nth : ℕ → X → Bool
     is_nth i x = key x && (index x == i)
 
@@ -48,14 +48,14 @@ module _ {X : Type 0} where
     in_run i zero x = false
     in_run i (suc k) x = is_nth i x || in_run (i + 1) k x
 
-    -- a row stands so many places after those before
+    -- a row as that of its number
     abbrev pub set : X → X
-    set x = at (before + index x) x
+    set x = at (index x) x
 
     -- each row by a statement of its own
     abbrev pub marks : (from : ℕ) → (many : ℕ) → List X → List X
     marks i zero xs = xs
-    marks i (suc k) xs = marks (i + 1) k (update_where (is_nth i) (at (before + i)) xs)
+    marks i (suc k) xs = marks (i + 1) k (update_where (is_nth i) (at i) xs)
 
     is_number : (i : ℕ) (x : X) → is_nth i x ≡ true → index x ≡ i
     is_number i x h = eqb-true (index x) i (and_parts (key x) (index x == i) h).1
@@ -100,22 +100,22 @@ module _ {X : Type 0} where
         go true e more = rw (h, e) refl
         go false e more = rw (h, e) (more (differ (index x) i e low) (omega (arith, up)))
 
-    point : (k i : ℕ) (x : X) → cond (in_run i (suc k) x) (set x) x ≡ cond (in_run (i + 1) k (cond (is_nth i x) (at (before + i) x) x)) (set (cond (is_nth i x) (at (before + i) x) x)) (cond (is_nth i x) (at (before + i) x) x)
+    point : (k i : ℕ) (x : X) → cond (in_run i (suc k) x) (set x) x ≡ cond (in_run (i + 1) k (cond (is_nth i x) (at i x) x)) (set (cond (is_nth i x) (at i x) x)) (cond (is_nth i x) (at i x) x)
     point k i x = go (is_nth i x) refl
       where
-        go : (b : Bool) → is_nth i x ≡ b → cond (b || in_run (i + 1) k x) (set x) x ≡ cond (in_run (i + 1) k (cond b (at (before + i) x) x)) (set (cond b (at (before + i) x) x)) (cond b (at (before + i) x) x)
+        go : (b : Bool) → is_nth i x ≡ b → cond (b || in_run (i + 1) k x) (set x) x ≡ cond (in_run (i + 1) k (cond b (at i x) x)) (set (cond b (at i x) x)) (cond b (at i x) x)
         go true e =
-            ap (λ n. at (before + n) x) (is_number i x e)
-            ∙ sym (ap (λ b. cond b (set (at (before + i) x)) (at (before + i) x)) (run_kept k (i + 1) (before + i) x ∙ apart k i x e))
+            ap (λ n. at n x) (is_number i x e)
+            ∙ sym (ap (λ b. cond b (set (at i x)) (at i x)) (run_kept k (i + 1) i x ∙ apart k i x e))
         go false e = refl
 
-    step : (k i : ℕ) (xs : List X) → update_where (in_run i (suc k)) set xs ≡ update_where (in_run (i + 1) k) set (update_where (is_nth i) (at (before + i)) xs)
+    step : (k i : ℕ) (xs : List X) → update_where (in_run i (suc k)) set xs ≡ update_where (in_run (i + 1) k) set (update_where (is_nth i) (at i) xs)
     step k i [] = refl
     step k i (x ∷ xs) = λ j. point k i x j ∷ step k i xs j
 
     run_marks : (k i : ℕ) (xs : List X) → update_where (in_run i k) set xs ≡ marks i k xs
     run_marks zero i xs = none_changed set xs
-    run_marks (suc k) i xs = step k i xs ∙ run_marks k (i + 1) (update_where (is_nth i) (at (before + i)) xs)
+    run_marks (suc k) i xs = step k i xs ∙ run_marks k (i + 1) (update_where (is_nth i) (at i) xs)
 
     -- each row of the run is there, and passes
     abbrev pub AreThere : (p : X → Bool) → (from : ℕ) → (many : ℕ) → List X → Type 0

@@ -1,29 +1,28 @@
 -- The statements of a cut.
-use Rattle.std.specs.Prelude.{ℕ, List, [], ◌∷◌}
-use Rattle.sql_tables.specs.Change.{Change, Pick, Set, delete, is, is_null, is_number, number, parameter, set, sum_with, update, within}
+use Rattle.std.specs.Prelude.{ℕ, List, [], ◌∷◌, ◌++◌}
+use Rattle.sql_tables.specs.Change.{Change, Pick, delete, is, is_null, is_number, number, parameter, set, sum_with, update, within}
 use Rattle.sql_tables.specs.DeskTables as the
 use Rattle.sql_tables.specs.Description.{insert_sixteen_text, insert_text}
 
--- a submission that waits
-abbrev waiting : List Pick
-waiting = is "company" 0 ∷ is "ord" 1 ∷ is_null "settled" ∷ is_number "lapsed" 0 ∷ []
+-- submissions that wait
+abbrev waiting : List Pick → List Pick
+waiting orders = is "company" 0 ∷ (orders ++ (is_null "settled" ∷ is_number "lapsed" 0 ∷ []))
 
--- it gets these values
-abbrev pub update_waiting : List Set → Change
-update_waiting sets = update the.submissions sets waiting
+-- those of a run of orders get these values
+abbrev pub update_sent : Change
+update_sent = update the.submissions (set "settled" (parameter 3) ∷ set "file_day" (parameter 4) ∷ set "modifier" (parameter 5) ∷ set "batch" (sum_with 6 "ord") ∷ []) (waiting (within "ord" 1 2 ∷ []))
 
-abbrev pub sent_sets : List Set
-sent_sets = set "settled" (parameter 2) ∷ set "file_day" (parameter 3) ∷ set "modifier" (parameter 4) ∷ set "batch" (parameter 5) ∷ []
-
-abbrev pub lapsed_sets : List Set
-lapsed_sets = set "lapsed" (number 1) ∷ []
-
-abbrev pub update_entry : Change
-update_entry = update the.entries (set "seq" (parameter 3) ∷ []) (is "company" 0 ∷ is "ord" 1 ∷ is "idx" 2 ∷ is_null "seq" ∷ [])
+-- one of them lapses
+abbrev pub update_lapsed : Change
+update_lapsed = update the.submissions (set "lapsed" (number 1) ∷ []) (waiting (is "ord" 1 ∷ []))
 
 -- of entries that follow one another in one submission
-abbrev pub update_run : Change
-update_run = update the.entries (set "seq" (sum_with 2 "idx") ∷ []) (is "company" 0 ∷ is "ord" 1 ∷ within "idx" 3 4 ∷ is_null "seq" ∷ [])
+abbrev pub update_in_one : Change
+update_in_one = update the.entries (set "seq" (sum_with 2 "idx") ∷ []) (is "company" 0 ∷ is "ord" 1 ∷ within "idx" 3 4 ∷ is_null "seq" ∷ [])
+
+-- of entries that have one number in submissions that follow one another
+abbrev pub update_in_many : Change
+update_in_many = update the.entries (set "seq" (sum_with 2 "ord") ∷ []) (is "company" 0 ∷ within "ord" 3 4 ∷ is "idx" 1 ∷ is_null "seq" ∷ [])
 
 abbrev pub delete_numbers : Change
 delete_numbers = delete the.sequences (within "sequence" 0 1 ∷ [])

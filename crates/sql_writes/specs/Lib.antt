@@ -17,4 +17,5 @@ pub mod PlaceEdits
 pub mod Retries
 pub mod ReturnRows
 pub mod Runs
+pub mod SentRuns
 pub mod Texts

@@ -7,6 +7,7 @@ use crate::account_lines::put_lines;
 use crate::cut::entries::place_entries;
 use crate::cut::files::PutFiles;
 use crate::cut::submissions::{LapseSubmissions, SendSubmissions};
+use crate::runs::run_runs;
 use desk_store::CutRows;
 use sql_statements::{TransactionBody, run_each};
 use sqlite::{Alter, Error, Transaction};
@@ -26,7 +27,7 @@ impl<'a> TransactionBody for CommitCut<'a> {
     ghost edit = { λ b. commit_cut_edit b.first (cut_rows b.cut) };
 
     fn run<S: Alter>(&self, tx: &mut Transaction<'_, S>) -> Result<(), Error> {
-        run_each(tx, &SendSubmissions, 1, self.cut.sent)?;
+        run_runs(tx, &SendSubmissions, 1, self.cut.sent)?;
         run_each(tx, &LapseSubmissions, 1, self.cut.lapsed)?;
         place_entries(tx, self.first, self.cut.entries)?;
         put_lines(tx, self.cut.postings)?;

@@ -1,15 +1,14 @@
 //! A cut writes the places of entries: those of a run by one statement.
-ghost use Rattle.std.specs.Prelude.{◌≡◌, ◌<◌, ◌≤◌, ◌+◌, ◌^◌, Some, true, length, slice_get, IfOk};
+ghost use Rattle.std.specs.Prelude.{◌≡◌, ◌<◌, true, length};
 ghost use Rattle.sql_statements.specs.Edits.{each_edit_from};
 ghost use Rattle.sql_tables.specs.Layout.{desk_layout};
-ghost use Rattle.sql_writes.specs.EntryRuns.{stands_after};
+ghost use Rattle.sql_writes.specs.DeskEdits.{Edits};
+ghost use Rattle.sql_writes.specs.EntryRuns.{stands_after, comes_after, are_counted};
 ghost use Rattle.sql_writes.specs.PlaceEdits.{mark_entry_edit};
 ghost use Rattle.sql_writes.specs.Runs.{is_run};
-ghost use Rattle.sql_writes.specs.DeskEdits.{Edits};
 
-use crate::runs::RunBody;
+use crate::runs::{Follows, RunBody, execute_all, run_length, span_of};
 use desk_history::SentEntry;
-use sql_statements::{RowBody, execute, execute_one, run_each};
 use sql_tables::{characters, natural};
 use sqlite::{Alter, Error, Transaction};
 
@@ -18,37 +17,56 @@ use sqlite::{Alter, Error, Transaction};
 #[derive(Clone, Copy)]
 pub(crate) struct MarkEntries;
 
-impl RowBody for MarkEntries {
-    type Row = SentEntry;
-
-    ghost layout = { desk_layout };
-
-    ghost edit = { λ _ place e. mark_entry_edit place e };
-
-    fn run_row<S: Alter>(
-        &self,
-        tx: &mut Transaction<'_, S>,
-        place: u64,
-        entry: &SentEntry,
-    ) -> Result<(), Error> {
-        let order = natural(entry.order)?;
-        let index = natural(entry.index)?;
-        let at = natural(place)?;
-        execute_one(
-            tx,
-            "UPDATE entries SET seq = ?4 WHERE company = ?1 AND ord = ?2 AND idx = ?3 AND seq IS NULL",
-            &[characters(entry.company.bytes()), order, index, at],
-        )?;
-        Ok(())
-    }
+/// The entries of a run follow one another by their numbers in one submission, or each has the same
+/// number in one submission after another.
+#[derive(Clone, Copy)]
+pub(crate) enum EntryRun {
+    OfOne,
+    OfMany,
 }
 
 impl RunBody for MarkEntries {
     type Row = SentEntry;
 
+    type Way = EntryRun;
+
     ghost layout = { desk_layout };
 
     ghost edit = { λ _ place e. mark_entry_edit place e };
+
+    ghost are_run = { λ _ way es. are_counted way es };
+
+    fn first_run(&self, entries: &[SentEntry]) -> (EntryRun, usize) {
+        let of_one = run_length(&InOne, entries);
+        let of_many = run_length(&InMany, entries);
+        if of_one < of_many {
+            (EntryRun::OfMany, of_many)
+        } else {
+            (EntryRun::OfOne, of_one)
+        }
+    }
+
+    fn run_rows<S: Alter>(
+        &self,
+        tx: &mut Transaction<'_, S>,
+        place: u64,
+        way: EntryRun,
+        run: &[SentEntry],
+    ) -> Result<(), Error> {
+        match way {
+            EntryRun::OfOne => mark_in_one(tx, place, run)?,
+            EntryRun::OfMany => mark_in_many(tx, place, run)?,
+        }
+        Ok(())
+    }
+}
+
+// Entries of one submission follow one another by their numbers there.
+#[derive(Clone, Copy)]
+struct InOne;
+
+impl Follows for InOne {
+    type Row = SentEntry;
 
     ghost stands_after = { λ _ first after e. stands_after first after e };
 
@@ -62,66 +80,85 @@ impl RunBody for MarkEntries {
             }
         }
     }
+}
 
-    // One statement is for two entries or more. A place that is less than the entry's number is none
-    // that a desk gives: such entries are marked singly.
-    fn run_rows<S: Alter>(
-        &self,
-        tx: &mut Transaction<'_, S>,
-        place: u64,
-        run: &[SentEntry],
-    ) -> Result<(), Error> {
-        if run.len() > 1 && run[0].index <= place {
-            mark_run(tx, place, &run[0], run)?;
-        } else {
-            run_each(tx, self, place, run)?;
+// Entries that have one number in a company's submissions follow one another by the submissions' orders.
+#[derive(Clone, Copy)]
+struct InMany;
+
+impl Follows for InMany {
+    type Row = SentEntry;
+
+    ghost stands_after = { λ _ first after e. comes_after first after e };
+
+    fn follows(&self, first: &SentEntry, after: u64, entry: &SentEntry) -> bool {
+        match first.order.checked_add(after) {
+            None => false,
+            Some(order) => {
+                entry.company.bytes() == first.company.bytes()
+                    && entry.order == order
+                    && entry.index == first.index
+            }
         }
-        Ok(())
     }
 }
 
-// Writes the places of the entries of a run, which are as many as the statement says that it wrote.
-fn mark_run<S: Alter>(
+// Writes the places of entries that follow one another in one submission.
+fn mark_in_one<S: Alter>(
     tx: &mut Transaction<'_, S>,
     place: u64,
-    first: &SentEntry,
     run: &[SentEntry],
 ) -> Result<(), Error>
     requires some { 0 < length run.now }
-    requires first { slice_get run.now 0 ≡ Some first.now }
     requires run { is_run stands_after run.now ≡ true }
-    requires after { first.now.index ≤ place }
     ensures { Edits S.Store tx.old tx.new result (each_edit_from mark_entry_edit place run.now) }
 {
-    let before = place - first.index;
-    let last = last_index(before, first.index, run.len())?;
+    let first = &run[0];
+    let span = span_of(place, first.index, run.len())?;
     let order = natural(first.order)?;
-    let base = natural(before)?;
     let from = natural(first.index)?;
-    let to = natural(last)?;
-    let count = execute(
+    let to = natural(span.last)?;
+    execute_all(
         tx,
         "UPDATE entries SET seq = ?3 + idx WHERE company = ?1 AND ord = ?2 AND idx BETWEEN ?4 AND ?5 AND seq IS NULL",
-        &[characters(first.company.bytes()), order, base, from, to],
+        &[
+            characters(first.company.bytes()),
+            order,
+            span.added,
+            from,
+            to,
+        ],
+        run.len(),
     )?;
-    if count != run.len() {
-        return Err(Error::InvalidQuery);
-    }
     Ok(())
 }
 
-// The number of the last of so many entries. `Error::InvalidQuery` says that its place is past the last
-// that a column has: a sum past it would be no whole number.
-fn last_index(before: u64, from: u64, many: usize) -> Result<u64, Error>
-    requires { 0 < many }
-    ensures last { IfOk result (λ last. last + 1 ≡ from + many) }
-    ensures room { IfOk result (λ last. before + last < 2 ^ 63) }
+// Writes the places of entries that have one number in submissions that follow one another.
+fn mark_in_many<S: Alter>(
+    tx: &mut Transaction<'_, S>,
+    place: u64,
+    run: &[SentEntry],
+) -> Result<(), Error>
+    requires some { 0 < length run.now }
+    requires run { is_run comes_after run.now ≡ true }
+    ensures { Edits S.Store tx.old tx.new result (each_edit_from mark_entry_edit place run.now) }
 {
-    let Some(last) = from.checked_add(many as u64 - 1) else {
-        return Err(Error::InvalidQuery);
-    };
-    match before.checked_add(last) {
-        Some(place) if place <= i64::MAX as u64 => Ok(last),
-        _ => Err(Error::InvalidQuery),
-    }
+    let first = &run[0];
+    let span = span_of(place, first.order, run.len())?;
+    let index = natural(first.index)?;
+    let from = natural(first.order)?;
+    let to = natural(span.last)?;
+    execute_all(
+        tx,
+        "UPDATE entries SET seq = ?3 + ord WHERE company = ?1 AND ord BETWEEN ?4 AND ?5 AND idx = ?2 AND seq IS NULL",
+        &[
+            characters(first.company.bytes()),
+            index,
+            span.added,
+            from,
+            to,
+        ],
+        run.len(),
+    )?;
+    Ok(())
 }

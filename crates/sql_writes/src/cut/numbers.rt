@@ -8,10 +8,11 @@ ghost use Rattle.sql_tables.specs.Layout.{desk_layout};
 ghost use Rattle.sql_writes.specs.NumberRows.{held_number, stored_number};
 ghost use Rattle.sql_writes.specs.PlaceEdits.{put_number_edit, follows_in_sequence, clear_numbers_edit, insert_number_edit};
 ghost use Rattle.sql_writes.specs.DeskEdits.{Edits};
+ghost use Rattle.sql_writes.specs.Runs.{is_run};
 
 use crate::batches::{BatchBody, run_batches};
 use crate::held_rows::{HoldBody, hold_sixteen};
-use crate::runs::RunBody;
+use crate::runs::{Follows, RunBody, run_length};
 use ach_fields::MOST_SEQUENCE;
 use desk_history::SentEntry;
 use sql_statements::{RowBody, execute, number};
@@ -24,12 +25,8 @@ use sqlite::{Alter, Error, Transaction};
 #[derive(Clone, Copy)]
 pub(crate) struct PutNumbers;
 
-impl RunBody for PutNumbers {
+impl Follows for PutNumbers {
     type Row = SentEntry;
-
-    ghost layout = { desk_layout };
-
-    ghost edit = { λ _ place e. put_number_edit place e };
 
     ghost stands_after = { λ _ first after e. follows_in_sequence first after e };
 
@@ -39,11 +36,28 @@ impl RunBody for PutNumbers {
             Some(sequence) => u64::from(entry.sequence) == sequence,
         }
     }
+}
+
+impl RunBody for PutNumbers {
+    type Row = SentEntry;
+
+    type Way = ();
+
+    ghost layout = { desk_layout };
+
+    ghost edit = { λ _ place e. put_number_edit place e };
+
+    ghost are_run = { λ _ _ es. is_run follows_in_sequence es };
+
+    fn first_run(&self, entries: &[SentEntry]) -> ((), usize) {
+        ((), run_length(self, entries))
+    }
 
     fn run_rows<S: Alter>(
         &self,
         tx: &mut Transaction<'_, S>,
         place: u64,
+        _way: (),
         run: &[SentEntry],
     ) -> Result<(), Error> {
         let from = u64::from(run[0].sequence);

@@ -9,7 +9,7 @@ pub loop-at-init : goal.loop-at-init
 loop-at-init g c = record {
   some = search rules;
   within = search rules;
-  run = run_of_one (g.B.RunBody.stands_after c.args.body.now) c.args.rows.now;
+  run = run_of_one (g.F.Follows.stands_after c.args.body.now) c.args.rows.now;
 }
 
 pub loop-at-preserved : goal.loop-at-preserved
@@ -17,7 +17,7 @@ loop-at-preserved g c =
     let at = c.loop-at.at in
     let rows = c.args.rows.now in
     let row = c.index-rows-at.result in
-    let stands = g.B.RunBody.stands_after c.args.body.now in
+    let stands = g.F.Follows.stands_after c.args.body.now in
     let more : take (at + 1) rows ≡ take at rows ++ row ∷ [] = take_more rows at row (search rules) ∙ ap (λ x. take at rows ++ x ∷ []) (sym c.index-rows-at.is) in
     let first = c.index-rows-0.result in
     let head = first_taken at rows first c.loop-at.invariant.some (slice_get_read rows (length rows) 0 first refl c.requires c.index-rows-0.is) in

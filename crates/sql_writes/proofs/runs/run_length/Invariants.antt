@@ -7,5 +7,5 @@ abbrev pub invariant-loop-at : goal.invariant-loop-at
 invariant-loop-at g l = record {
   some : 0 < l.at;
   within : l.at ≤ length l.rows;
-  run : is_run (g.B.RunBody.stands_after l.body) (take l.at l.rows) ≡ true;
+  run : is_run (g.F.Follows.stands_after l.body) (take l.at l.rows) ≡ true;
 }
