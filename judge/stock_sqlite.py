@@ -96,6 +96,6 @@ with tempfile.TemporaryDirectory() as folder:
         shutil.copyfile(log, copy.with_name("desk.db-wal"))
     with sqlite3.connect(copy) as db:
         check(db)
-        print(f"ok: {len(TABLES)} tables and {len(INDEXES)} indexes, read by SQLite {sqlite3.sqlite_version}")
-        for table in TABLES:
-            print(f"{table} {db.execute(f'SELECT count(*) FROM {table}').fetchone()[0]}")
+        # One write, which a reader that stops after some lines, as `head`, does not break off.
+        counts = (f"{table} {db.execute(f'SELECT count(*) FROM {table}').fetchone()[0]}" for table in TABLES)
+        print(f"ok: {len(TABLES)} tables and {len(INDEXES)} indexes, read by SQLite {sqlite3.sqlite_version}", *counts, sep="\n")

@@ -71,6 +71,70 @@ fn files_of_two_days(rt: HostRuntime) {
     holds(&rt, TWO_DAYS);
 }
 
+// Of seven submissions of a company the fourth goes out a day later, and the fifth has two entries: so orders
+// follow one another with a gap, and the batches after it are one less than the orders. Each trace names the
+// entry that was given it.
+const IN_RUNS: Script = &[
+    MILL,
+    HOLIDAYS,
+    DAY,
+    (
+        "MILL01 submit S1 debit 2025-01-09 091000019 100",
+        "S1 order 1 entries 1 cents 100",
+    ),
+    (
+        "MILL01 submit S2 debit 2025-01-09 091000019 200",
+        "S2 order 2 entries 1 cents 200",
+    ),
+    (
+        "MILL01 submit S3 debit 2025-01-09 091000019 300",
+        "S3 order 3 entries 1 cents 300",
+    ),
+    (
+        "MILL01 submit S4 debit 2025-01-10 091000019 400",
+        "S4 order 4 entries 1 cents 400",
+    ),
+    (
+        "MILL01 submit S5 debit 2025-01-09 091000019 500 501",
+        "S5 order 5 entries 2 cents 1001",
+    ),
+    (
+        "MILL01 submit S6 debit 2025-01-09 091000019 600",
+        "S6 order 6 entries 1 cents 600",
+    ),
+    (
+        "MILL01 submit S7 debit 2025-01-09 091000019 700",
+        "S7 order 7 entries 1 cents 700",
+    ),
+    ("desk cut", "2025-01-08 sent 7 in [A], lapsed 0"),
+    ("desk cut", "2025-01-08 sent 0 in [], lapsed 0"),
+    (
+        "MILL01 look S3",
+        "S3 order 3 2025-01-09; 1 300 sent 2025-01-09",
+    ),
+    ("MILL01 look S4", "S4 order 4 2025-01-10; 1 400 held"),
+    (
+        "MILL01 look S5",
+        "S5 order 5 2025-01-09; 1 500 sent 2025-01-09; 2 501 sent 2025-01-09",
+    ),
+    NINTH,
+    CUT_9,
+    (
+        "MILL01 look S4",
+        "S4 order 4 2025-01-10; 1 400 sent 2025-01-10",
+    ),
+    (
+        "desk items A PPD R01/1/100/26 R01/2/200/26 R01/3/300/26 R01/4/500/26 R01/5/501/26 R01/6/600/26 \
+         R01/7/700/26 R01/8/400/26",
+        "2025-01-09 returns 8 late 0 changes 0 suspense 0",
+    ),
+];
+
+#[test]
+fn submissions_in_runs(rt: HostRuntime) {
+    holds(&rt, IN_RUNS);
+}
+
 // A file holds so many entries of the largest amount and one of 99 cents, and not one cent more.
 const NEXT_FILE: Script = &[
     MILL,
