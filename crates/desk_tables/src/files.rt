@@ -3,8 +3,8 @@ ghost use Rattle.std.specs.Prelude.{◌≡◌, ◌≢◌, codes, Err, IfOk, IfEr
 ghost use Rattle.sqlite_wal.specs.Files.{image_at};
 ghost use Rattle.sql_setup.specs.declared.fault.OpenFault.TheVariants.{NotADesk};
 ghost use Rattle.sql_files.specs.Connections.{RefusesNew};
-ghost use Rattle.sql_files.specs.Opened.{IsFoundIn, IsMadeIn, IsMigratedIn, RefusesDesk, RefusesFirst, UnmadeIn, leaves_new};
-ghost use Rattle.desk_tables.specs.Stores.{IfCleanStore, connection_in};
+ghost use Rattle.sql_files.specs.Opened.{IfCleanFiles, IsFoundIn, IsMadeIn, IsMigratedIn, RefusesDesk, RefusesFirst, UnmadeIn, leaves_new};
+ghost use Rattle.desk_tables.specs.Stores.{connection_in};
 
 use desk_history::Identity;
 use sql_files::{FileFrom, FileStore, Start};
@@ -26,7 +26,7 @@ pub fn create<S: Start>(
     operator_key: [u8; 32],
 ) -> Result<SqlStore<FileStore<FileFrom<S>>>, OpenFault>
     ensures created { IfOk result
-        (IfCleanStore (IsMadeIn (image_at S.Start) identity operator_key)) }
+        (λ s. IfCleanFiles (IsMadeIn (image_at S.Start) identity operator_key) s.conn) }
     ensures unmade { UnmadeIn (image_at S.Start) (leaves_new identity operator_key)
         (connection_in result) }
     ensures memory { path.now ≡ codes ":memory:" → result ≡ Err OpenFault.Unavailable }
@@ -50,7 +50,7 @@ pub fn open<S: Start>(
     path: &str,
     start: S,
 ) -> Result<SqlStore<FileStore<FileFrom<S>>>, OpenFault>
-    ensures found { IfOk result (IfCleanStore (IsFoundIn (image_at S.Start))) }
+    ensures found { IfOk result (λ s. IfCleanFiles (IsFoundIn (image_at S.Start)) s.conn) }
     ensures refused { result ≢ Err NotADesk →
         RefusesDesk (image_at S.Start) (connection_in result) }
     ensures otherwise { IfErr result (λ fault. fault ≢ OpenFault.Exists) }
@@ -74,7 +74,7 @@ pub fn migrate_file<S: Start>(
     path: &str,
     start: S,
 ) -> Result<SqlStore<FileStore<FileFrom<S>>>, OpenFault>
-    ensures migrated { IfOk result (IfCleanStore (IsMigratedIn (image_at S.Start))) }
+    ensures migrated { IfOk result (λ s. IfCleanFiles (IsMigratedIn (image_at S.Start)) s.conn) }
     ensures refused { result ≢ Err NotADesk →
         RefusesFirst (image_at S.Start) (connection_in result) }
     ensures otherwise { IfErr result (λ fault. fault ≢ OpenFault.Exists) }
