@@ -5,7 +5,8 @@ ghost use Rattle.bank_days.specs.Day.{first_day, last_read_day, last_day, is_wor
 ghost use Rattle.ach_fields.specs.Ymd.{date_text as short_text};
 
 use ach_fields::{Ymd, take_number};
-use jiff_core::civil::{Date as PlainDate, Weekday};
+use jiff::civil::{Date as PlainDate, Weekday};
+use jiff_core::civil::Date as NumberedDate;
 
 /// A `Date` is a year, a month and a day of the month. The calendar need not have the day.
 #[derive(Clone, Copy)]
@@ -46,9 +47,9 @@ impl Date {
     {
         let date = plain_date(number);
         Date {
-            year: date.year as u16,
-            month: date.month,
-            day: date.day,
+            year: date.year() as u16,
+            month: date.month() as u8,
+            day: date.day() as u8,
         }
     }
 
@@ -63,7 +64,7 @@ impl Date {
             return None;
         }
         let date = PlainDate::new(self.year as i16, self.month as i8, self.day as i8).ok()?;
-        Some(date.to_unix_epoch_day() as u32)
+        Some(date.to_plain().to_unix_epoch_day() as u32)
     }
 
     /// Gives the text `YYYY-MM-DD`.
@@ -115,10 +116,10 @@ pub(crate) fn is_workday(number: u32) -> bool
     )
 }
 
-// The library's date of a day.
+// The library's date of a day. Dates by number are those of the crate below `jiff`.
 fn plain_date(number: u32) -> PlainDate
     requires { number ≤ last_day }
     ensures { epoch_day result ≡ pos number }
 {
-    PlainDate::from_unix_epoch_day(i64::from(number)).unwrap()
+    PlainDate::from_plain(NumberedDate::from_unix_epoch_day(i64::from(number)).unwrap())
 }

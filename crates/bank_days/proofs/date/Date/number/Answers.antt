@@ -1,6 +1,7 @@
-use Rattle.std.proofs.Common.{◌≡◌, false, sym, ◌∙◌, arith}
+use Rattle.std.proofs.Common.{◌≡◌, false, sym, ap, ◌∙◌, arith}
 use Rattle.std.proofs.lemmas.Int.{ints}
 use Rattle.std.proofs.lemmas.Bool.Decides.{nat_tests}
+use Rattle.jiff_core.specs.Date.{epoch_day}
 use Rattle.bank_days.specs.Day.{is_date_of_century}
 use Rattle.bank_days.proofs.DayTexts.{no_day}
 use Rattle.bank_days.proofs.PlainDates.{IsNumberOf, refused, taken}
@@ -19,7 +20,7 @@ returns-in_err-date-clause-value c =
 the_number : (c : goal.After-to_unix_epoch_day) → IsNumberOf c.args.self c.to_unix_epoch_day.result
 the_number c =
     taken c.new.result c.args.self _ _ _ _ c.to_unix_epoch_day.result c.new.ensures.succeeds c.new.ensures.value
-    c.in_ok-date.ensures.value c.to_unix_epoch_day.ensures.value (omega (arith, ints)) (omega (arith, ints)) (omega (arith, ints)) (omega arith) (omega arith)
+    c.in_ok-date.ensures.value (c.to_unix_epoch_day.ensures.value ∙ ap epoch_day c.to_plain.ensures) (omega (arith, ints)) (omega (arith, ints)) (omega (arith, ints)) (omega arith) (omega arith)
 
 pub overflow_cast-result : goal.overflow_cast-result
 overflow_cast-result c = let t = the_number c in rw t.kept (tt, omega (arith, t.bounds))
