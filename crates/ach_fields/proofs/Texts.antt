@@ -59,7 +59,7 @@ with_blanks_after-cons : (width c : ℕ) (s : List ℕ) → with_blanks_after (s
 unfolding with_blanks_after
 with_blanks_after-cons width c s = let e : suc width - suc (length s) ≡ width - length s = omega arith in ap (λ n. c ∷ (s ++ replicate n 32)) e
 
--- the blanks that were taken off stand there again
+-- padding a text again restores the blanks that were removed
 pub with_blanks_after-without_blanks_after : (s : List ℕ) → with_blanks_after (length s) (without_blanks_after s) ≡ s
 unfolding without_blanks_after
 with_blanks_after-without_blanks_after [] = with_blanks_after-nil 0

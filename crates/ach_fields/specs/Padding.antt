@@ -11,7 +11,7 @@ is_used c = not (c == 0)
 abbrev pub used : List ℕ → List ℕ
 used bytes = take_while is_used bytes
 
--- so many bytes, of which the last are zeros
+-- bytes filled up with zeros at the end
 abbrev pub with_zeros : ℕ → List ℕ → List ℕ
 with_zeros n s = s ++ replicate (n - length s) 0
 

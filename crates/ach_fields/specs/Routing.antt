@@ -29,7 +29,7 @@ IsCheckDigit eight x = (x < 10) × ((weighted_sum_of_eight eight + x) % 10 ≡ 0
 abbrev pub weighted_sum : List ℕ → ℕ
 weighted_sum s = weighted_sum_of_eight s + digit_at s 8
 
--- nine digits, of which the last is the check digit of the others
+-- nine digits; the last one is the check digit of the others
 abbrev pub is_routing : List ℕ → Bool
 is_routing s = (length s == 9) && (list_all is_digit s && (weighted_sum s % 10 == 0))
 

@@ -26,7 +26,7 @@ text_in s = if list_all is_printable s then Ok (without_blanks_after s) else Err
 abbrev pub GivesText : Result (List ℕ) FieldFault → Result (Bor (List ℕ)) FieldFault → Type 0
 GivesText wanted result = MatchResult result (λ text. wanted ≡ Ok text.now) (λ f. wanted ≡ Err f)
 
--- the field of so many bytes that has this text
+-- the field of this width that has this text
 abbrev pub text_field : ℕ → List ℕ → Result (List ℕ) FieldFault
 text_field width s =
     if nat_lt width (length s) then Err TooLong

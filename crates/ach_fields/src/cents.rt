@@ -27,7 +27,7 @@ impl Model for Cents {
 }
 
 impl Cents {
-    /// Gives the amount of so many cents, or `None` above 999,999,999,999.
+    /// Returns an amount in cents, or `None` above 999,999,999,999.
     pub fn new(cents: u64) -> Option<Cents>
         ensures { result ≡ cents_of cents }
     {

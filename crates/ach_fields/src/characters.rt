@@ -1,4 +1,4 @@
-//! These tests say which characters fields may have.
+//! Tests of the characters that fields may have.
 ghost use Rattle.std.specs.Prelude.{◌≡◌};
 ghost use Rattle.std.specs.List.{list_all};
 ghost use Rattle.ach_fields.specs.Characters.{is_printable, is_reference_character, is_id_character, is_digit};

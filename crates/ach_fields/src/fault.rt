@@ -3,9 +3,9 @@ ghost use Rattle.std.specs.Prelude.{◌≡◌};
 /// A `FieldFault` says why a field is refused.
 #[derive(Clone, Copy, Debug, PartialEq, Eq, Drop)]
 pub enum FieldFault {
-    /// Something else stands where a digit is wanted, or digits are missing.
+    /// A digit is wanted and another character was found, or digits are missing.
     NotDigit = 1,
-    /// A character stands there that the field may not have, or the text is shorter than it may be.
+    /// The field may not have one of its characters, or the text is too short.
     NotText = 2,
     /// There are more characters than the field has room for.
     TooLong = 3,

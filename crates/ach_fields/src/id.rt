@@ -6,7 +6,7 @@ use crate::characters::are_id_characters;
 use crate::packed::Packed;
 use std::marker::Model;
 
-/// The longest identification has so many characters.
+/// The most characters of an identification.
 const MOST_CHARACTERS: usize = 10;
 
 /// An `Id` is the identification of a company: 1 to 10 of `A-Z 0-9`.

@@ -1,4 +1,4 @@
-//! A number stands at the right of its field, with zeros before it.
+//! Number fields: the digits are at the right, with zeros before them.
 ghost use Rattle.std.specs.Prelude.{◌≡◌, ◌≤◌, ◌<◌, ◌^◌, length, true, IfOk, nat_lt};
 ghost use Rattle.std.specs.List.{list_all};
 ghost use Rattle.ach_fields.specs.Characters.{is_digit};
@@ -9,7 +9,7 @@ ghost use Rattle.ach_fields.specs.Puts.{Puts};
 use crate::FieldFault;
 use crate::characters::are_digits;
 
-/// A number field has at most so many digits.
+/// The most digits of a number field.
 const MOST_DIGITS: usize = 18;
 
 /// Gives the number in a field of 1 to 18 digits.
@@ -55,7 +55,7 @@ pub fn put_number(number: u64, field: &mut [u8]) -> Result<(), FieldFault>
     Ok(())
 }
 
-// Has the number at most so many digits?
+// Reports whether the number fits into this many digits.
 fn has_room(number: u64, width: usize) -> bool
     requires { width ≤ 18 }
     ensures { result ≡ nat_lt number (10 ^ width) }

@@ -7,7 +7,8 @@ use std::marker::Model;
 /// A `Packed` holds at most `N` bytes, none of them zero, in the value itself, so that it is `Copy`.
 #[derive(Clone, Copy, Debug, PartialEq, Eq)]
 pub struct Packed<const N: usize> {
-    // Zeros stand after those in use: a length beside them would take more room than it saves time.
+    // The bytes after the text are zeros: a separate length would take more room than it saves
+    // time.
     bytes: [u8; N],
 }
 

@@ -6,10 +6,10 @@ use crate::characters::are_reference_characters;
 use crate::packed::Packed;
 use std::marker::Model;
 
-/// The longest reference has so many characters.
+/// The most characters of a reference.
 const MOST_CHARACTERS: usize = 20;
 
-/// A `Ref` is the reference by which a company names a submission: 1 to 20 of `A-Z a-z 0-9 - _ .`
+/// A company's reference of a submission: 1 to 20 of `A-Z a-z 0-9 - _ .`
 #[derive(Clone, Copy, Debug, PartialEq, Eq)]
 pub struct Ref {
     packed: Packed<MOST_CHARACTERS>,

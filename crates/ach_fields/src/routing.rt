@@ -7,7 +7,7 @@ use crate::characters::are_digits;
 use crate::number::number;
 use std::marker::Model;
 
-/// A routing number has so many digits.
+/// The digits of a routing number.
 const WIDTH: usize = 9;
 
 /// The number of a bank has eight digits.
@@ -103,7 +103,7 @@ pub fn check_digit(dfi: u32) -> u8
     ((10 - sum % 10) % 10) as u8
 }
 
-// The digits by the weights 3 7 1, of which the check digit has 1.
+// Returns the sum of the digits by the weights 3 7 1; the check digit has weight 1.
 fn weighted_sum(digits: &[u8; WIDTH]) -> u32
     ensures { result ≡ weighted_sum digits.now }
 {

@@ -27,10 +27,12 @@ impl<const N: usize> Model for ShortText<N> {
 }
 
 impl<const N: usize> ShortText<N> {
-    /// Gives the text of these characters.
+    /// Returns the text of these characters.
     ///
-    /// More than `N` are `TooLong`; a character that is no blank to `~`, or a blank at an end, is
-    /// `NotText`.
+    /// # Errors
+    ///
+    /// `TooLong` for more than `N` characters. `NotText` for a character outside blank to `~`, or a
+    /// blank at either end.
     #[tactic(auto, using(crate::proofs::Packing::printable_used))]
     pub fn new(bytes: &[u8]) -> Result<ShortText<N>, FieldFault>
         ensures { result ≡ short_text_of N bytes.now }

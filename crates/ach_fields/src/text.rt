@@ -1,4 +1,4 @@
-//! A text stands at the left of its field, with blanks after it.
+//! Text fields: the text is at the left, with blanks after it.
 ghost use Rattle.std.specs.Prelude.{◌≡◌, length};
 ghost use Rattle.ach_fields.specs.Text.{text_in, text_field, without_blanks_after, GivesText};
 ghost use Rattle.ach_fields.specs.Puts.{Puts};
@@ -6,9 +6,11 @@ ghost use Rattle.ach_fields.specs.Puts.{Puts};
 use crate::FieldFault;
 use crate::characters::are_printable;
 
-/// Gives the text in a field, without the blanks at its end.
+/// Returns the text of a field, without the blanks at its end.
 ///
-/// Fails with `NotText` where a character is no blank to `~`.
+/// # Errors
+///
+/// `NotText` for a character outside blank to `~`.
 pub fn take_text(field: &[u8]) -> Result<&[u8], FieldFault>
     ensures { GivesText (text_in field.now) result }
 {

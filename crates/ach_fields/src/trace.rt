@@ -8,10 +8,10 @@ use crate::number::{number, put_digits};
 use crate::routing::MOST_DFI;
 use std::marker::Model;
 
-/// A trace has so many digits.
+/// The digits of a trace number.
 const WIDTH: usize = 15;
 
-/// So many of them name the bank.
+/// The digits that name the bank.
 const DFI_WIDTH: usize = 8;
 
 /// A sequence has seven digits.

@@ -7,7 +7,7 @@ use crate::characters::are_digits;
 use crate::number::{number, put_digits};
 use std::marker::Model;
 
-/// A date has so many digits.
+/// The digits of a date.
 const WIDTH: usize = 6;
 
 /// A `Ymd` is a date as files write it, YYMMDD: a year of two digits, a month from 1 to 12 and a day
@@ -44,9 +44,11 @@ impl Ymd {
         })
     }
 
-    /// Gives the date that six digits spell.
+    /// Returns the date that six digits spell.
     ///
-    /// Another character is `NotDigit`; then it is `BadDate` where there is no such month or day.
+    /// # Errors
+    ///
+    /// `NotDigit` for another character, else `BadDate` if the month or the day does not exist.
     pub fn parse(text: &[u8; WIDTH]) -> Result<Ymd, FieldFault>
         ensures { result ≡ date_in text.now }
     {

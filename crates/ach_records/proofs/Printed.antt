@@ -1,4 +1,4 @@
--- What is printed is viewed as its kind, with its fields.
+-- A printed record is viewed as its kind, with its fields.
 use Rattle.std.proofs.Common.{◌≡◌, ℕ, ◌+◌, ◌==◌, Bool, true, false, ◌&&◌, List, [], ◌∷◌, ◌++◌, map, length, slice_index, refl, subst, sym, ap, ◌∙◌}
 use Rattle.std.specs.List.{list_all, flat_map, sum_by}
 use Rattle.std.proofs.lemmas.Bool.{and_parts, and_from}
@@ -48,7 +48,7 @@ abbrev needs_number : Class → Value → Bool
 needs_number Digits v = is_number v
 needs_number _ v = true
 
--- a number stands in each column of digits
+-- each column of digits has a number
 abbrev numbers_fit : List Column → List Value → Bool
 numbers_fit [] vs = true
 numbers_fit (c ∷ cs) [] = true
@@ -118,7 +118,7 @@ and_false : (b : Bool) → (b && false) ≡ false
 and_false true = refl
 and_false false = refl
 
--- a row that ends in blanks is no filler
+-- a row that ends in blanks is not a filler
 ends_blank : (vs : List Value) → list_all nine (row_text (vs ++ Words 39 [] ∷ [])) ≡ false
 unfolding row_text with_blanks_after
 ends_blank vs =

@@ -36,7 +36,7 @@ nothing : (s : List ℕ) → number (take 0 s) < 10 ^ 0
 unfolding number
 nothing s = omega arith
 
--- so many digits are below a power of ten
+-- a number of k digits is below the k-th power of ten
 pub number_below : (k : ℕ) (s : List ℕ) → k ≤ length s → AreDigits s → number (take k s) < 10 ^ k
 number_below zero s le h = nothing s
 number_below (suc k) s le h =

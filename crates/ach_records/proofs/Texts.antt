@@ -50,7 +50,7 @@ fits_append : (a b : List Value) → row_fits (a ++ b) ≡ true → (row_fits a 
 unfolding row_fits
 fits_append a b h = and_parts _ _ (sym (list_all-append value_fits a b) ∙ h)
 
--- part of a row: the fields that stand there
+-- the fields in one part of a row
 pub part_at : (before mid after : List Value) (from width : ℕ) → row_fits (before ++ (mid ++ after)) ≡ true → sum_by width_of before ≡ from → sum_by width_of mid ≡ width →
     part from width (row_text (before ++ (mid ++ after))) ≡ row_text mid
 part_at before mid after from width h e f =

@@ -119,7 +119,7 @@ layout _ = []
 
 -- ---- reading by position
 
--- so many bytes from an offset
+-- this many bytes from an offset
 unfoldable pub part : ℕ → ℕ → List ℕ → List ℕ
 part from width text = take width (drop from text)
 
@@ -143,7 +143,7 @@ fields_from from (c ∷ cs) text = part from c.width text ∷ fields_from (from 
 abbrev pub fields_of : Kind → List ℕ → List (List ℕ)
 fields_of kind text = fields_from 0 (layout kind) text
 
--- an offset and a width before the others, where the field is one of digits
+-- an offset and a width in front of the others, if the field is one of digits
 abbrev pub with_digits : Class → ℕ → ℕ → List (ℕ × ℕ) → List (ℕ × ℕ)
 with_digits Digits from width rest = (from, width) ∷ rest
 with_digits _ from width rest = rest

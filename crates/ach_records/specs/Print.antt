@@ -22,7 +22,7 @@ use Rattle.ach_records.specs.declared.print.FileControlText.{FileControlText}
 
 -- ---- values and their texts
 
--- the value of a field: a text as it stands, a number in so many digits, or words with blanks after them
+-- the value of a field: a constant, a number in a fixed number of digits, or words with blanks after them
 pub data Value : Type 0 where
   Constant : (text : List ℕ) → Value
   Number : (width n : ℕ) → Value
@@ -84,7 +84,7 @@ figure n width = Number width n
 abbrev pub words : List ℕ → ℕ → Value
 words text width = Words width text
 
--- a number of so many digits, or blanks
+-- a number in this many digits, or blanks
 abbrev pub number_or_blanks : ℕ → Option ℕ → Value
 number_or_blanks width (Some n) = Number width n
 number_or_blanks width None = Words width []

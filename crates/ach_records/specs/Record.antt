@@ -1,4 +1,4 @@
--- Which texts are records, and of which kind.
+-- The texts that are records, and their kinds.
 use Rattle.std.specs.Prelude.{◌≡◌, ℕ, Bool, true, false, ◌&&◌, List, length, slice_index, if◌then◌else◌, ◌==◌}
 use Rattle.std.specs.List.{list_all}
 use Rattle.ach_fields.specs.Characters.{is_digit, is_printable}

@@ -1,4 +1,4 @@
--- What the code that prints a row keeps.
+-- The state of the code that prints a row.
 use Rattle.std.specs.Prelude.{◌≡◌, ℕ, Bool, true, ◌&&◌, List, length, Some, None, Result, Ok, Err, nat_le}
 use Rattle.ach_fields.specs.declared.fault.FieldFault.{FieldFault}
 use Rattle.ach_records.specs.declared.row.Field.{Field}
@@ -29,7 +29,7 @@ is_narrow (fields.Number width n) = nat_le 1 width && nat_le width 18
 is_narrow (fields.Optional width n) = nat_le 1 width && nat_le width 18
 is_narrow _ = true
 
--- the bytes of the value stand there now, or it has none
+-- the value's bytes are written, or it has none
 abbrev pub PutsValue : Result (Unit {0}) FieldFault → List ℕ → Value → Type 0
 PutsValue (Ok _) new v = (value_fault v ≡ None) × (new ≡ value_bytes v)
 PutsValue (Err f) new v = value_fault v ≡ Some f

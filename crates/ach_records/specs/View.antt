@@ -1,4 +1,4 @@
--- What is wrong with a text as a record: a byte that is not printable first, then the kind, then the digits.
+-- The fault of a text as a record: a byte that is not printable first, then the kind, then the digits.
 use Rattle.std.specs.Prelude.{ℕ, ◌+◌, not, List, [], ◌∷◌, Option, Some, None, option_map}
 use Rattle.std.specs.Option.{option_or}
 use Rattle.std.specs.List.{position}
@@ -10,7 +10,7 @@ use Rattle.ach_records.specs.declared.Kind.TheVariants as kinds
 use Rattle.ach_records.specs.declared.fault.RecordFault.{RecordFault}
 use Rattle.ach_records.specs.declared.fault.RecordFault.TheVariants as faults
 
--- the first position, counted from 1, at which something else than a digit stands in a field
+-- the first position, from 1, of a character other than a digit in a digit field
 abbrev pub bad_digit : ℕ → ℕ → List ℕ → Option ℕ
 bad_digit from width text = option_map (λ i. from + i + 1) (position (λ b. not (is_digit b)) (part from width text))
 

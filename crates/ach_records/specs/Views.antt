@@ -1,4 +1,4 @@
--- What a view lends.
+-- The fields that a view lends.
 use Rattle.std.specs.Prelude.{◌≡◌, ℕ, List, Some, None, Result, MatchResult}
 use Rattle.ach_records.specs.Record.{IsRecord, kind_of}
 use Rattle.ach_records.specs.View.{view_fault}
@@ -35,7 +35,7 @@ viewed_text (records.Filler v) = v.text.now
 abbrev pub Views : Record → Kind → List ℕ → Type 0
 Views r kind text = (viewed_kind r ≡ kind) × (viewed_text r ≡ text)
 
--- the text is a record of its kind and this is its view, or its fault is told
+-- the text is a record of its kind and this is its view, or this is its fault
 abbrev pub GivesView : List ℕ → Result Record RecordFault → Type 0
 GivesView text result =
     MatchResult result

@@ -1,17 +1,17 @@
 ghost use Rattle.std.specs.Prelude.{◌≡◌};
 
-/// A `RecordFault` says why 94 bytes are no record. Positions are counted from 1.
+/// The reason why 94 bytes are not a record. Positions are counted from 1.
 ///
-/// A byte is judged first, then the type, then the digits; each fault is at the first position.
+/// Bytes are checked first, then the type, then the digits; each fault is at the first position.
 #[derive(Clone, Copy, Debug, PartialEq, Eq)]
 pub enum RecordFault {
-    /// The first character is none of 1, 5, 6, 7, 8 and 9.
+    /// The first character is not 1, 5, 6, 7, 8 or 9.
     BadType,
-    /// The type of a 7 is none of 05, 98 and 99.
+    /// The type of a 7 is not 05, 98 or 99.
     BadAddendaType,
-    /// Something else than a digit stands at this position of a digit field.
+    /// A digit field has another character at this position.
     BadNumber(u8),
-    /// No blank to `~` stands at this position.
+    /// The byte at this position is outside blank to `~`.
     BadByte(u8),
 }
 

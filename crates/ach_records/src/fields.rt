@@ -5,7 +5,7 @@ ghost use Rattle.ach_records.specs.Layout.{part};
 
 use ach_fields::take_number;
 
-/// Gives so many bytes from an offset.
+/// Returns this many bytes from an offset.
 #[tactic(auto, unfolding(crate::specs::Layout::part))]
 pub(crate) fn bytes_at<const N: usize>(text: &[u8; 94], from: usize) -> [u8; N]
     requires { from + N ≤ 94 }
@@ -16,7 +16,7 @@ pub(crate) fn bytes_at<const N: usize>(text: &[u8; 94], from: usize) -> [u8; N]
     out
 }
 
-/// Gives the field at an offset, as it stands.
+/// Returns the field at an offset, with its blanks.
 #[tactic(auto, unfolding(crate::specs::Layout::part))]
 pub(crate) fn text_at(text: &[u8; 94], from: usize, width: usize) -> &[u8]
     requires { from + width ≤ 94 }

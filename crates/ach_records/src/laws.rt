@@ -6,13 +6,13 @@ pub fn records_are_fields()
     ensures { RecordsAreFields }
 {}
 
-/// What is printed is a record of its kind, and its fields say what was given.
+/// A printed record is a record of its kind, and its fields are the given ones.
 pub fn printed_is_viewed()
     ensures { PrintedIsViewed }
 {}
 
-/// Where the fields of a record say what is given, constants and blanks included, the same bytes are
-/// printed.
+/// A record whose fields are the given ones, constants and blanks included, has exactly the printed
+/// bytes.
 pub fn viewed_is_printed()
     ensures { ViewedIsPrinted }
 {}

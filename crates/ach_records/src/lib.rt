@@ -54,7 +54,7 @@ pub enum Kind {
     Change98,
     /// A `799` is a return.
     Return99,
-    /// A `7` of another type is no record.
+    /// A `7` of another type, which is not a record.
     OtherAddenda,
     /// An `8` says count, hash and totals of a batch.
     BatchControl,

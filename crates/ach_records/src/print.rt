@@ -16,7 +16,7 @@ pub struct FileHeaderText<'a> {
     pub date: Ymd,
     /// The time of creation as a number HHMM, or blank.
     pub time: Option<u16>,
-    /// One character that tells the files of a day apart.
+    /// One character that distinguishes the files of a day.
     pub modifier: &'a [u8],
     /// The name of the immediate destination, at most 23 characters.
     pub destination_name: &'a [u8],
@@ -116,7 +116,7 @@ pub struct Return99Text<'a> {
 pub struct BatchControlText<'a> {
     /// The service class code of the batch's header.
     pub service_class: u16,
-    /// It says how many records 6 and 7 the batch has, of at most six digits.
+    /// The number of records 6 and 7 in the batch, of at most six digits.
     pub count: u64,
     /// The low ten digits of the sum of the receiving DFIs.
     pub hash: u64,
@@ -135,11 +135,11 @@ pub struct BatchControlText<'a> {
 /// A `FileControlText` is what a file control says.
 #[derive(Clone, Copy)]
 pub struct FileControlText {
-    /// It says how many batches the file has, of at most six digits.
+    /// The number of batches in the file, of at most six digits.
     pub batches: u64,
-    /// It says how many blocks of ten records, of at most six digits.
+    /// The number of blocks of ten records, of at most six digits.
     pub blocks: u64,
-    /// It says how many records 6 and 7, of at most eight digits.
+    /// The number of records 6 and 7, of at most eight digits.
     pub count: u64,
     /// The low ten digits of the sum of the hashes of the batches.
     pub hash: u64,

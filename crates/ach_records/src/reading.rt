@@ -117,11 +117,11 @@ fn record_of(kind: Kind, text: &[u8; 94]) -> Record<'_>
     }
 }
 
-/// Views the 94 bytes as a record, or tells their first fault.
+/// Views 94 bytes as a record, or returns their first fault.
 ///
-/// A byte that is no blank to `~` is `BadByte`. Then the first character decides, `BadType`, and for
-/// a 7 the two after it, `BadAddendaType`; 94 nines are a filler. Then something else than a digit in
-/// a digit field is `BadNumber`. No other field is judged.
+/// A byte outside blank to `~` is `BadByte`. Then the first character decides, `BadType`, and for a
+/// 7 the two after it, `BadAddendaType`; 94 nines are a filler. Then another character than a digit
+/// in a digit field is `BadNumber`. No other field is checked.
 #[tactic(auto, using(crate::proofs::Records::is_record, crate::proofs::Records::no_fault))]
 pub fn view(text: &[u8; 94]) -> Result<Record<'_>, RecordFault>
     ensures exact { GivesView text.now result }

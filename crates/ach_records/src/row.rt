@@ -9,13 +9,13 @@ use ach_fields::{FieldFault, Routing, Trace, Ymd, put_number, put_text};
 /// A `Field` is to be printed.
 #[derive(Clone, Copy)]
 pub enum Field<'a> {
-    /// A text as it stands.
+    /// A text, written without change.
     Constant(&'a [u8]),
-    /// A number in so many digits, with zeros before it.
+    /// A number in a fixed number of digits, with zeros before it.
     Number(usize, u64),
     /// Such a number, or blanks.
     Optional(usize, Option<u16>),
-    /// A text of so many bytes, with blanks after it.
+    /// A text in a fixed number of bytes, with blanks after it.
     Words(usize, &'a [u8]),
     /// A routing number, with a blank before it.
     Routing(Routing),

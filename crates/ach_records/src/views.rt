@@ -1,6 +1,6 @@
-//! Each kind of record has a view: it borrows the 94 bytes, and has a reader for each field.
+//! A view of each kind of record: it borrows the 94 bytes and has a reader for each field.
 //!
-//! Digit fields are read as numbers, all others as they stand, with the blanks at their end.
+//! Digit fields are read as numbers, all others with the blanks at their end.
 
 mod addenda05;
 mod batch_control;

@@ -57,7 +57,7 @@ some_fits false z w h = cc
 abbrev pub row_share : ℕ → ℕ × ℤ → ℤ
 row_share day row = if nat_le row.0 day then row.1 else pos 0
 
--- the sum of the rows with one more, where it fits or leaves
+-- the sum of the rows with one more, if it fits, or the point at which it leaves the range
 pub row_leaves : (day : ℕ) (rows : List (ℕ × ℤ)) (i : ℕ) (d : ℕ × ℤ) (sum : ℤ) → i < length rows → sum ≡ days_balance day (take i rows)
     → (if fits_i128 (sum +ℤ row_share day (get_or rows i d)) then Some (sum +ℤ row_share day (get_or rows i d)) else None) ≡ None → SumLeaves day rows
 row_leaves day rows i d sum h so_far r =

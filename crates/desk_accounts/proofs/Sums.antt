@@ -58,7 +58,7 @@ front_none : (b : Bool) (amount sum : ℤ) (n : ℕ) → cond b 1 0 + n ≡ 0 �
 front_none true amount sum n h more = absurd (omega arith)
 front_none false amount sum n h more = let e = more (omega arith) in omega (arith, ints)
 
--- an amount for each that passes, where none does
+-- an amount for each that passes, if none passes
 counted_none : {K : Type 0} (p : K → Bool) (amount : ℤ) (ks : List K) → count_by p ks ≡ 0 → sum_of (λ k. cond (p k) amount (pos 0)) ks ≡ pos 0
 counted_none p amount [] h = refl
 counted_none p amount (k ∷ ks) h =
@@ -69,7 +69,7 @@ front_once : (b : Bool) (amount sum : ℤ) (n : ℕ) → cond b 1 0 + n ≡ 1 �
 front_once true amount sum n h none once = let e = none (omega arith) in omega (arith, ints)
 front_once false amount sum n h none once = let e = once (omega arith) in omega (arith, ints)
 
--- an amount for each that passes, where one does
+-- an amount for each that passes, if one passes
 pub counted_once : {K : Type 0} (p : K → Bool) (amount : ℤ) (ks : List K) → count_by p ks ≡ 1 → sum_of (λ k. cond (p k) amount (pos 0)) ks ≡ amount
 counted_once p amount [] h = absurd (omega arith)
 counted_once p amount (k ∷ ks) h =

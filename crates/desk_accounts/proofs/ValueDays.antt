@@ -28,7 +28,7 @@ with_lower day d days h = grind (arith, nat_tests)
 with_higher : (day d : ℕ) (days : List ℕ) → d < day → with_day day (d ∷ days) ≡ d ∷ with_day day days
 with_higher day d days h = grind (arith, nat_tests)
 
--- nothing at or below stands among numbers above
+-- a number at or below all others is not among them
 count_above : (x low : ℕ) (days : List ℕ) → x ≤ low → Above low days → count_by (λ e. x == e) days ≡ 0
 count_above x low [] p h = refl
 count_above x low (d ∷ days) p h =
@@ -37,7 +37,7 @@ count_above x low (d ∷ days) p h =
     let front = sum_by-cons (λ e. cond (x == e) 1 0) d days in
     grind (arith, nat_tests)
 
--- how often a number stands among days with one more
+-- how often a number occurs among days with one more
 count_at : (x day d : ℕ) (days : List ℕ) → Above d days → (count_by (λ e. x == e) (with_day day days) ≡ cond (x == day) 1 (count_by (λ e. x == e) days))
     → (day ≡ d) ⊎ ((day < d) ⊎ (d < day)) → (x ≡ day) ⊎ (x ≡ day → ⊥)
     → count_by (λ e. x == e) (with_day day (d ∷ days)) ≡ cond (x == day) 1 (count_by (λ e. x == e) (d ∷ days))

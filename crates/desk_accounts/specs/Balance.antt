@@ -39,7 +39,7 @@ abbrev pub fits_i128 : ℤ → Bool
 fits_i128 (pos n) = nat_lt n (2 ^ 127)
 fits_i128 (negsuc n) = nat_lt n (2 ^ 127)
 
--- a sum with what one row more adds to it on a day, where an `i128` holds that
+-- a sum and what one more row adds to it on a day, if an `i128` holds the result
 abbrev pub with_row : (day : ℕ) → (sum : ℤ) → (row : ℕ × ℤ) → Option ℤ
 with_row day sum row =
     let more : ℤ = sum +ℤ (if nat_le row.0 day then row.1 else pos 0) in
@@ -50,7 +50,7 @@ pub record IsDaysBalance (day : ℕ) (rows : List (ℕ × ℤ)) (sum : ℤ) : Ty
   pub value : sum ≡ days_balance day rows
   pub fits : (first : ℕ) → first ≤ length rows → fits_i128 (days_balance day (take first rows)) ≡ true
 
--- no `i128` holds the sum of so many first rows
+-- the sum of some first rows does not fit into an `i128`
 pub record SumLeaves (day : ℕ) (rows : List (ℕ × ℤ)) : Type 0 where
   pub first : ℕ
   pub within : first ≤ length rows

@@ -5,10 +5,10 @@ ghost use Rattle.desk_accounts.specs.Balance.{balance, share, with_row, IsDaysBa
 use crate::{Account, Posting};
 use bank_days::Day;
 
-/// Gives the balance of an account on a day: the sum of its lines valued on or before the day, in
-/// cents.
+/// Returns the balance of an account on a day, in cents: the sum of its lines valued on or before
+/// the day.
 ///
-/// No slice has so many lines that the sum would not fit.
+/// A slice never has enough lines to overflow.
 pub fn balance(postings: &[Posting], account: Account, day: Day) -> i128
     ensures { result ≡ balance account day postings.now }
 {
@@ -19,7 +19,7 @@ pub fn balance(postings: &[Posting], account: Account, day: Day) -> i128
     sum
 }
 
-// What a line adds to the balance of an account on a day.
+// Returns what a line adds to the balance of an account on a day.
 fn share(posting: &Posting, account: &Account, day: Day) -> i64
     ensures { result ≡ share account.now day posting.now }
 {
@@ -44,7 +44,7 @@ pub fn balance_of_days(rows: &[(Day, i128)], day: Day) -> Option<i128>
     Some(sum)
 }
 
-// A sum with what a row adds to it on a day, where it fits.
+// Returns a sum and what a row adds to it on a day, if that fits.
 fn with_row(sum: i128, row: &(Day, i128), day: Day) -> Option<i128>
     ensures { result ≡ with_row day sum row.now }
 {

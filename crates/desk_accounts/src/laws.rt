@@ -1,7 +1,7 @@
 //! The laws of postings and of balances.
 ghost use Rattle.desk_accounts.specs.Laws.{PairsCancel, BalancesByDay};
 
-/// What is posted in pairs sums to zero on each day: all lines together, and the balances of all
+/// Postings made in pairs sum to zero on each day: all lines together, and the balances of all
 /// accounts.
 pub fn pairs_cancel()
     ensures { PairsCancel }

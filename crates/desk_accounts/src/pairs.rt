@@ -32,11 +32,11 @@ pub fn post_cut(
     posting_pair(line)
 }
 
-/// Gives the two lines of an entry that was returned, or `None` for zero cents: the company's, then
-/// the operator's.
+/// Returns the two lines of a returned entry, the company's and then the operator's, or `None` for
+/// zero cents.
 ///
-/// A credit's cents come back to the company, a debit's go back to the operator. The value day is
-/// the desk day on which the return was taken.
+/// The cents of a credit go to the company, those of a debit to the operator. The value day is the
+/// desk day on which the return was taken.
 pub fn post_return(
     company: Id,
     debit: bool,
@@ -77,7 +77,7 @@ pub fn post_suspense(debit: bool, cents: Cents, value_day: Day) -> Option<[Posti
     posting_pair(line)
 }
 
-// What the cut adds to the account of the company.
+// Returns what the cut adds to the company's account.
 fn cut_cents(debit: bool, cents: Cents) -> i64
     ensures value { result ≡ cut_cents debit cents }
     ensures within { unsigned_abs result ≤ 999_999_999_999 }

@@ -1,4 +1,4 @@
--- Lists and chains of checks, which several laws stand on.
+-- Lists and chains of checks that several laws use.
 pub mod Chains
 pub mod Checks
 pub mod Elements

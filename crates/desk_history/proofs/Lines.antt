@@ -1,5 +1,5 @@
--- The laws `company_lines`, `digest_of_part` and `company_of_part`: the postings of a company are the
--- lines of its statement, and its own row stands in its part.
+-- The laws `company_lines`, `digest_of_part` and `company_of_part`: the postings of a company are the lines of its
+-- statement, and its registration is in its part.
 pub mod PartLimits
 pub mod CutLines
 pub mod ItemLines

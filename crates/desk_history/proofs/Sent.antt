@@ -1,4 +1,4 @@
--- The laws `sent_are_accepted` and `possible_parts`: what was sent, and what came back of it.
+-- The laws `sent_are_accepted` and `possible_parts`: sent entries, and their returns.
 pub mod SentEntries
 pub mod Resolving
 pub mod Given

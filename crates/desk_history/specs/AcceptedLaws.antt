@@ -1,4 +1,4 @@
--- What holds of the accepted submissions and retries of a part.
+-- Facts about the accepted submissions and retries of a part.
 use Rattle.std.specs.Prelude.{◌≡◌, ◌≢◌, ◌<◌, ◌≤◌, ℕ, List, length, map, All, AllPairs, Option, Some, None}
 use Rattle.std.specs.List.{range_with_len}
 use Rattle.ach_fields.specs.Cents.{most_cents}
@@ -11,7 +11,7 @@ use Rattle.desk_history.specs.Accepted.{AcceptedSubmission, content_of}
 use Rattle.desk_history.specs.Retries.{Original, original_of}
 use Rattle.desk_history.specs.Acceptance.{submissions}
 
--- its place is what a cut reads of it, and it came before the newest of so many events
+-- its place is the one that cuts read, and it is older than the newest of these events
 pub record IsPlaced (events : ℕ) (a : AcceptedSubmission) : Type 0 where
   pub before : a.place.before < events
   pub debit : a.place.debit ≡ is_debit a.content.direction
@@ -23,7 +23,7 @@ pub record IsSized (a : AcceptedSubmission) : Type 0 where
   pub few : length a.content.entries ≤ 1000
   pub total : total_of a.content.entries ≤ most_cents
 
--- a retry of a live debit of an earlier submission that is no retry, and that a cut has decided
+-- a retry of a live debit of an earlier submission that is not a retry and that a cut has decided
 pub record IsRetryOf (P : List Event) (a : AcceptedSubmission) (r : Retry) : Type 0 where
   pub original : Original
   pub named : original_of (submissions P) r ≡ Some original

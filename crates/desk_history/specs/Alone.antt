@@ -75,7 +75,7 @@ with_message identity c m [] G = G
 with_message identity c (TakeFile file) es G = with_files identity c es G
 with_message identity c m (e ∷ es) G = next_pair identity G m ∷ G
 
--- A new desk is told the messages that gave the company's events, in their order, and nothing else.
+-- A new desk is given the messages that gave the company's events, in their order, and nothing else.
 abbrev pub alone : Identity → List ℕ → List Pair → List Pair
 alone identity c [] = []
 alone identity c (x ∷ H) =

@@ -47,7 +47,7 @@ authorization_of retry = option_and_then (λ r. r.authorized) retry
 abbrev pub IsUnauthorized : AcceptedSubmission → Type 0
 IsUnauthorized a = authorization_of a.retry ≡ None
 
--- No retry has the key afterwards, and nothing else changes. Where none has it, none is accepted as authorized.
+-- After this no retry has the key, and nothing else changes. If no retry had it, none is accepted as authorized.
 pub record AuthorizationsLeftOut : Type 0 where
   pub none : (H : List Pair) → HaveNoAuthorizations (without_authorizations H)
   pub same : (H : List Pair) → HaveNoAuthorizations H → without_authorizations H ≡ H

@@ -1,4 +1,4 @@
--- What a cut answers, and when it is refused.
+-- The answer to a cut, and its refusals.
 use Rattle.std.specs.Prelude.{ℕ, ◌+◌, nat_le, List, length, map, count_by, sum_by, Result, Ok}
 use Rattle.desk_plan.specs.Modifiers.{most_files}
 use Rattle.desk_plan.specs.Reuse.{may_send}
@@ -27,8 +27,8 @@ cut_summary odfi H d = record {
   lapsed = lapse_count odfi H;
 }
 
--- May a cut of the day be made? Each batch takes only sequences that may be used when the batches before
--- it are sent, and the day has modifiers for so many files.
+-- Whether a cut of the day may be made: each batch takes only sequences that are free once the batches before it are
+-- sent, and the day has enough modifiers for its files.
 abbrev pub cut_verdict : (day : ℕ) → List SentEntry → List Sending → (count : ℕ) → Result (Unit {0}) Refusal
 cut_verdict d sent sendings count = do
   _ ← holds_or TracesSpent (may_send d (map sent_sequence sent) (map plan_of sendings))

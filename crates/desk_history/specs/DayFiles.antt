@@ -11,6 +11,6 @@ use Rattle.desk_history.specs.Status.{status}
 abbrev pub modifiers_among : (day : ℕ) → List File → List ℕ
 modifiers_among d fs = map (λ f. f.modifier) (filter (λ f. f.day == d) fs)
 
--- the status tells the modifiers of the desk day's files, and no others
+-- the status lists the modifiers of the desk day's files, and no others
 abbrev pub FilesOfStatus : Type 0
 FilesOfStatus = (identity : Identity) (H : List Pair) → IsHistory identity H → (d : ℕ) → day H ≡ Some d → (status identity.odfi H).files ≡ modifiers_among d (files identity.odfi H)

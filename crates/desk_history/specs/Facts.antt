@@ -1,4 +1,4 @@
--- What the rules read of a company's entries.
+-- The facts about a company's entries that rules read.
 use Rattle.std.specs.Prelude.{ℕ, Bool, List, map}
 use Rattle.std.specs.List.{flat_map, enumerate_from}
 use Rattle.desk_rules.specs.declared.rules.entry_fact.EntryFact.{EntryFact}

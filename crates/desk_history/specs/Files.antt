@@ -43,7 +43,7 @@ runs_of bs = in_runs (map length (division (map (λ b. plan_of b.sending) bs))) 
 abbrev pub file_count : ℕ → List File → ℕ
 file_count d files = count_by (λ f. f.day == d) files
 
--- the files of a cut on a day that has so many already: A to Z, then 0 to 9
+-- the files of a cut, on a day that already has this many: A to Z, then 0 to 9
 abbrev pub files_from : (day : ℕ) → (made : ℕ) → List (List NumberedBatch) → List File
 files_from day made runs = map (λ x. record { day = day; modifier = modifier_at x.0; batches = x.1 }) (enumerate_from made runs)
 

@@ -1,5 +1,4 @@
--- What the desk took from incoming files: which file is new, the counts of its answer, and what stands
--- in suspense.
+-- What the desk took from incoming files: which file is new, the counts of its answer, and the items in suspense.
 use Rattle.std.specs.Prelude.{ℕ, Bool, true, false, not, ◌&&◌, if◌then◌else◌, List, [], ◌∷◌, ◌++◌, count_by, filter_map, find, zip, Option, Some, None, unwrap_or, Result, Ok, Err, bytes_eq}
 use Rattle.std.specs.List.{enumerate_from}
 use Rattle.ach_files.specs.declared.facts.ItemFacts.{ItemFacts}
@@ -122,7 +121,7 @@ suspense_of odfi H None = []
 suspense_of odfi H (Some f) =
     filter_map (λ x. suspense_row f.key (unwrap_or (day H) 0) x.0 x.1.0 x.1.1) (enumerate_from 1 (zip f.items (resolutions_of odfi H f.items)))
 
--- what stands in suspense, in order
+-- the items in suspense, in order
 abbrev pub suspense : List ℕ → List Pair → List SuspenseRow
 suspense odfi [] = []
 suspense odfi (x ∷ H) = suspense odfi H ++ suspense_of odfi H (new_file H x)

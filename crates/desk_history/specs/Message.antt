@@ -1,5 +1,4 @@
--- What a desk was told, and what it answered. A file and a holiday list stand here as what was read
--- from them.
+-- A message to the desk, and its answer. A file and a holiday list are represented by what was read from them.
 use Rattle.std.specs.Prelude.{ℕ, Bool, true, false, List, Option, Result}
 use Rattle.ach_files.specs.declared.fault.Fault.{Fault}
 use Rattle.ach_files.specs.Facts.{FileFacts}

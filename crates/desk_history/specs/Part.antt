@@ -1,5 +1,5 @@
--- What the history holds of one company: its part. The newest event stands first, so that what was
--- before an event is the rest of the list.
+-- A company's part of the history. The newest event comes first, so that everything before an event is the rest of the
+-- list.
 use Rattle.std.specs.Prelude.{ℕ, Bool, List, [], ◌∷◌, Option, Some, None, is_some, unwrap_or}
 use Rattle.desk_rules.specs.declared.bodies.company.Limits.{Limits}
 use Rattle.desk_history.specs.Request.{Request}
@@ -14,11 +14,11 @@ pub data Event : Type 0 where
   Registered : (name digest : List ℕ) (limits : Limits) → Event
   -- its limits were set
   Limited : (limits : Limits) → Event
-  -- it handed in a submission or a retry, whether or not that was accepted
+  -- the company submitted something or asked for a retry, accepted or not
   Asked : Request → Event
   -- the operator cut files
   CutMade : Event
-  -- an entry of the company came back, named by the reference of its submission and its number there
+  -- an entry of the company is returned; it is named by its submission's reference and its number there
   Returned : (reference : List ℕ) (index code : ℕ) (information : List ℕ) → Event
   -- a change was notified for an entry of the company
   Changed : (reference : List ℕ) (index : ℕ) (code text : List ℕ) → Event

@@ -8,7 +8,7 @@ use Rattle.desk_history.specs.Message.{Pair}
 use Rattle.desk_history.specs.Operator.{has_id, IsHistory}
 use Rattle.desk_history.specs.Part.{Event, Registered, limits}
 
--- what a company is registered with, beside its limits
+-- a company's registration, without its limits
 pub record Registration : Type 0 where
   pub name : List ℕ
   pub digest : List ℕ

@@ -35,6 +35,6 @@ abbrev pub IsPossible : List Event → Type 0
 IsPossible [] = ⊤
 IsPossible (e ∷ P) = IsPossibleNext P e × IsPossible P
 
--- each company's part of a history is such a list
+-- each company's part of a history is a possible part
 abbrev pub PossibleParts : Type 0
 PossibleParts = (odfi : List ℕ) (H : List Pair) (c : List ℕ) → IsPossible (part odfi H c)

@@ -31,7 +31,7 @@ sending_line s =
     let total = total_of (entries_in s) in
     if_any total (cut_line s.company.id (is_debit_sending s) total s.settled s.content.reference)
 
--- an entry that came back, valued on the desk day
+-- a returned entry, valued on the desk day
 abbrev pub event_line : ℕ → SentEntry → Event → List Posting
 event_line d e (Returned reference index code information) = if_any e.entry.cents (return_line e.company e.debit e.entry.cents d e.reference e.index)
 event_line d e _ = []

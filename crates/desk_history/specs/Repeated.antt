@@ -1,4 +1,4 @@
--- What is accepted once: a submission, a retry or an incoming file that is sent again has its first answer.
+-- Each submission, retry and incoming file is accepted once: one that is sent again has its first answer.
 use Rattle.std.specs.Prelude.{◌≡◌, Bool, true, false, List, ◌∷◌, ◌++◌}
 use Rattle.desk_history.specs.declared.identity.Identity.{Identity}
 use Rattle.desk_history.specs.Message.{Message, Of, TakeFile, Pair, is_accepted}

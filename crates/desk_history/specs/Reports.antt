@@ -1,4 +1,4 @@
--- What a company may read: a submission, its returns and changes, its statement, rates and exposure.
+-- The reads of a company: a submission, its returns and changes, its statement, rates and exposure.
 use Rattle.std.specs.Prelude.{ℕ, ◌-◌, ◌&&◌, nat_lt, nat_le, if◌then◌else◌, List, [], ◌∷◌, ◌++◌, map, filter, find, length, ℤ, Option, Some, None, option_map, option_and_then, slice_get, unwrap_or}
 use Rattle.std.specs.List.{enumerate_from}
 use Rattle.desk_accounts.specs.declared.posting.Cause.TheVariants as causes

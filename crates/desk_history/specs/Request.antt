@@ -1,4 +1,4 @@
--- What a company asks.
+-- The requests of a company.
 use Rattle.std.specs.Prelude.{ℕ, List}
 use Rattle.desk_rules.specs.declared.bodies.draft.Draft.{Draft}
 use Rattle.desk_rules.specs.declared.bodies.draft.RetryDraft.{RetryDraft}

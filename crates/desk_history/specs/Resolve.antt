@@ -27,7 +27,7 @@ Err why >>= f = Err why
 abbrev pub has_trace : (odfi : List ℕ) → (trace : List ℕ) → SentEntry → Bool
 has_trace odfi trace e = bytes_eq (trace_text (dfi_of odfi) e.sequence) trace
 
--- the youngest entry that has the item's original trace: sent entries stand with the newest first
+-- the youngest entry that has the item's original trace; sent entries are listed with the newest first
 abbrev pub named_entry : List ℕ → List SentEntry → ItemFacts → Option SentEntry
 named_entry odfi sent item = find (has_trace odfi item.original_trace) sent
 
@@ -41,7 +41,7 @@ abbrev pub is_savings : AccountKind → Bool
 is_savings Checking = false
 is_savings Savings = true
 
--- the transaction code of what comes back: 21 or 26 for checking, 31 or 36 for savings
+-- the transaction code of a return or change: 21 or 26 for checking, 31 or 36 for savings
 abbrev pub returned_transaction : SentEntry → ℕ
 returned_transaction e = (if is_savings e.entry.kind then 31 else 21) + (if e.debit then 5 else 0)
 
@@ -63,7 +63,7 @@ is_change_code (c ∷ tens ∷ ones ∷ []) =
     c == 67 && is_digit tens && is_digit ones && nat_le 1 (10 * (tens - 48) + (ones - 48)) && nat_le (10 * (tens - 48) + (ones - 48)) 14
 is_change_code _ = false
 
--- what the entry's company is told, where the code is one of R01 to R29, or of C01 to C14
+-- the event for the entry's company, if the code is one of R01 to R29, or of C01 to C14
 abbrev pub event_of : SentEntry → ItemFacts → Option Event
 event_of e item = event_from item.return_or_change where
   event_from : ReturnOrChange → Option Event

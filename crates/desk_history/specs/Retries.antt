@@ -9,7 +9,7 @@ use Rattle.desk_rules.specs.LimitChecks.{is_debit}
 use Rattle.desk_history.specs.Part.{Event}
 use Rattle.desk_history.specs.Accepted.{AcceptedSubmission, is_called, state_of}
 
--- the live debit with this number of what has this content, if that is no retry
+-- the live debit with this number in a submission, unless the submission is a retry
 abbrev pub live_debit : (content : Submission) → (retry : Option Retry) → (index : ℕ) → Option Entry
 live_debit s None index = option_and_then (λ e. if is_debit s.direction && not e.prenote then Some e else None) (slice_get s.entries (index - 1))
 live_debit s (Some r) index = None

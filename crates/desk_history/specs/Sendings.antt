@@ -1,4 +1,4 @@
--- What a cut sends: submissions, each of which becomes a batch whose entries take consecutive sequences.
+-- The submissions that a cut sends. Each becomes a batch whose entries take consecutive sequences.
 use Rattle.std.specs.Prelude.{ℕ, ◌+◌, Bool, if◌then◌else◌, List, ◌++◌, map, zip, length, reverse, sum_by, Option, Some, None, ◌-◌}
 use Rattle.std.specs.List.{enumerate_from, flat_map}
 use Rattle.desk_plan.specs.declared.batch.Batch as plan
@@ -68,7 +68,7 @@ sent_sequence e = record { sequence = e.sequence; settled = e.settled }
 abbrev pub batch_of : (ℕ × ℕ) × Sending → NumberedBatch
 batch_of x = record { sending = x.1; first = x.0.0 }
 
--- the batches of what a cut sends after these entries, the newest of which stands first
+-- the batches that a cut sends after these entries, which are listed with the newest first
 abbrev pub batches : List SentEntry → List Sending → List NumberedBatch
 batches sent sendings = map batch_of (zip (ranges_of (map sent_sequence sent) (map plan_of sendings)) sendings)
 

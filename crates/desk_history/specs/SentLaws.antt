@@ -36,7 +36,7 @@ pub record IsEntryOf (P : List Event) (e : SentEntry) : Type 0 where
 abbrev pub SentAreAccepted : Type 0
 SentAreAccepted = (odfi : List ℕ) (H : List Pair) → All (λ e. IsEntryOf (part odfi H e.company) e) (sent_entries odfi H)
 
--- it stands in the list, and none of the younger ones, which stand before it, has its trace
+-- it is in the list, and no younger entry, which comes before it, has its trace
 pub record IsYoungest (odfi trace : List ℕ) (sent_entries : List SentEntry) (e : SentEntry) : Type 0 where
   pub younger : List SentEntry
   pub older : List SentEntry

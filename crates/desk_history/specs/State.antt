@@ -1,4 +1,4 @@
--- When a submission is sent, and where its entries stand.
+-- When a submission is sent, and the states of its entries.
 use Rattle.std.specs.Prelude.{ℕ, max, Bool, true, false, ◌&&◌, ◌==◌, nat_lt, nat_le, if◌then◌else◌, List, [], ◌∷◌, length, Option, Some, None, is_some, is_none, unwrap_or, bytes_eq}
 use Rattle.bank_days.specs.Calendar.{next_banking, nth_after, roll}
 use Rattle.desk_rules.specs.declared.rules.entry_fact.EntryState.{EntryState}
@@ -8,7 +8,7 @@ use Rattle.desk_rules.specs.RetryRule as rule
 use Rattle.desk_history.specs.Words.{or_else}
 use Rattle.desk_history.specs.Part.{Event, CutMade, Returned, holidays, today}
 
--- where a submission stands in its part: how many events came before it; and what a cut reads of it
+-- the place of a submission in its part: the number of events before it, and what a cut reads of it
 pub record Place : Type 0 where
   pub before : ℕ
   pub debit : Bool
@@ -26,8 +26,8 @@ is_due holidays today debit asked = nat_le (roll holidays asked) (horizon holida
 abbrev pub next_settlement : (holidays : List ℕ) → (today : ℕ) → (asked : ℕ) → ℕ
 next_settlement holidays today asked = max (roll holidays asked) (next_banking holidays today)
 
--- A submission is decided at the first cut after it at which it is due: this is the day on which it
--- would settle then. It is none while no such cut was made.
+-- The day on which a submission settles by its decision: the first cut after it at which it is due. `None` until such a
+-- cut is made.
 abbrev pub decision : List Event → Place → Option ℕ
 decision [] p = None
 decision (CutMade ∷ P) p =

@@ -1,4 +1,4 @@
--- How the desk stands: what each company has waiting, and what a cut of the desk day would send.
+-- The desk's status: what each company has waiting, and what a cut of the desk day would send.
 use Rattle.std.specs.Prelude.{ℕ, Bool, not, ◌&&◌, ◌==◌, if◌then◌else◌, List, [], ◌∷◌, length, take, map, filter, sum_by, count_by, Option, Some, None, is_some, is_none}
 use Rattle.desk_accounts.specs.Balance.{with_day}
 use Rattle.desk_plan.specs.Modifiers.{modifiers}

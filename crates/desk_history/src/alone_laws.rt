@@ -1,11 +1,11 @@
 //! The law of a desk that serves one company alone.
 ghost use Rattle.desk_history.specs.Alone.{ServedAlone};
 
-/// Each company is served as by a desk that serves no one else. Told the messages that gave the
-/// company's events, and a file of one item for each of its returns and changes, such a desk accepts
-/// each command and each file; it has the same part of the company, and answers it alike. So it is
-/// where the whole desk sent at most 9,999,999 entries and the company had fewer than 10^21 returns
-/// and changes.
+/// Each company is served as by a desk that serves no one else. Given the messages that gave the
+/// company's events, and a file of one item for each of its returns and changes, such a desk
+/// accepts each command and each file, has the same part of the company, and gives it the same
+/// answers. This holds if the whole desk sent at most 9,999,999 entries and the company had fewer
+/// than 10^21 returns and changes.
 pub fn served_alone()
     ensures { ServedAlone }
 {

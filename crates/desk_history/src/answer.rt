@@ -28,7 +28,7 @@ pub enum Outcome {
     Company(Id),
     Cut(CutSummary),
     Taken(Intake),
-    /// The text of a file; none where there is no such file.
+    /// The text of a file, or `None` if there is no such file.
     File(Option<ListOf<u8>>),
     Settlement(Settlement),
     /// The items in suspense, in the order in which they came.

@@ -23,9 +23,9 @@ pub enum Call {
     FileText(Day, u8),
     /// Reads the operator's account.
     Settlement,
-    /// Reads the items that stand in suspense.
+    /// Reads the items in suspense.
     SuspenseItems,
-    /// Reads how the desk stands.
+    /// Reads the desk's status.
     Status,
     /// Hands in a submission.
     Submit(Id, Draft),

@@ -8,7 +8,7 @@ pub fn accepted_cuts()
     ensures { AcceptedCuts }
 {}
 
-/// The trace of an item that came back names the youngest entry that was sent with it, and no other.
+/// The trace of an incoming item names the youngest entry that was sent with it, and no other.
 pub fn traces_name()
     ensures { TracesName }
 {}
@@ -23,8 +23,8 @@ pub fn traces_of_cuts()
     desk_plan::by_ranges();
 }
 
-/// The modifiers that the status tells are those of the desk day's files, in the order in which they
-/// were made.
+/// The status lists exactly the modifiers of the desk day's files, in the order in which they were
+/// made.
 pub fn files_of_status()
     ensures { FilesOfStatus }
 {}

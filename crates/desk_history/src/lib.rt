@@ -1,9 +1,9 @@
-//! This crate says what the desk means: the answer to each call as a function of what happened
-//! before it, the history of the desk.
+//! The meaning of the desk: the answer to each call as a function of its history, which is all that
+//! happened before the call.
 //!
-//! `Call` and `Answer` are what the desk is asked and what it says. The definitions of this crate
-//! say which answer each call has after a history: for a company from its own part of the history
-//! alone. The laws are proved of all histories.
+//! `Call` and `Answer` are the calls of the desk and their answers. The definitions of this crate
+//! give the answer to each call after a history; for a company, from its own part of the history
+//! alone. The laws are proved for all histories.
 #![tactic(auto)]
 
 mod accepted_laws;

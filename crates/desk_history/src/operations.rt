@@ -1,9 +1,9 @@
-//! The operator is told these.
+//! Answers to the operator's commands.
 use crate::ListOf;
 use ach_fields::Cents;
 use bank_days::Day;
 
-/// A `CutSummary` says what a cut did.
+/// The result of a cut.
 #[derive(Drop)]
 pub struct CutSummary {
     pub day: Day,
@@ -25,7 +25,7 @@ pub struct Intake {
     pub late: u64,
     /// The number of entries that were returned.
     pub returns: u64,
-    /// The number of items that stand in suspense.
+    /// The number of items in suspense.
     pub suspense: u64,
 }
 
@@ -47,7 +47,7 @@ pub struct Settlement {
     pub days: ListOf<DaySum>,
 }
 
-/// A `SuspenseReason` says why an item of an incoming file stands in suspense.
+/// The reason why an item of an incoming file is in suspense.
 #[derive(Clone, Copy, Debug, PartialEq, Eq, Drop)]
 pub enum SuspenseReason {
     /// No sent entry has its original trace.
@@ -61,7 +61,7 @@ pub enum SuspenseReason {
     AlreadyReturned,
 }
 
-/// A `SuspenseRow` is an item that stands in suspense.
+/// An item in suspense.
 #[derive(Clone, Copy, Debug, PartialEq, Eq, Drop)]
 pub struct SuspenseRow {
     /// The amount of a return in cents, zero for a change.

@@ -26,10 +26,12 @@ impl Model for PartyName {
 }
 
 impl PartyName {
-    /// Gives the name of these characters.
+    /// Returns the name of these characters.
     ///
-    /// More than 23 are `TooLong`; none, a character that is no blank to `~`, or a blank at an end, is
-    /// `NotText`.
+    /// # Errors
+    ///
+    /// `TooLong` for more than 23. `NotText` for none, for a character outside blank to `~`, or for
+    /// a blank at either end.
     pub fn new(bytes: &[u8]) -> Result<PartyName, FieldFault>
         ensures { result ≡ party_name_of bytes.now }
     {

@@ -1,4 +1,4 @@
-//! A company is told these.
+//! Answers to a company's reads.
 use crate::ListOf;
 use ach_fields::{Cents, Ref};
 use bank_days::Day;
@@ -77,7 +77,7 @@ pub struct ChangeRow {
     /// The entry's number in its submission, from 1.
     pub index: u64,
     pub reference: Ref,
-    /// The corrected data, as it stands in the file.
+    /// The corrected data of the notification, as the file has it.
     pub text: [u8; 29],
 }
 
@@ -111,8 +111,7 @@ pub struct DayRates {
     pub rates: Rates,
 }
 
-/// An `Exposure` says how many cents a company's entries may still cost the bank on the desk day,
-/// and has its limits.
+/// The cents that a company's entries may still cost the bank on the desk day, and its limits.
 #[derive(Clone, Copy, Debug, PartialEq, Eq, Drop)]
 pub struct Exposure {
     /// The credit exposure in cents.

@@ -7,7 +7,7 @@ pub fn sent_are_accepted()
     ensures { SentAreAccepted }
 {}
 
-/// Only entries that were sent come back or are changed, and each comes back once.
+/// Only sent entries are returned or changed, and each is returned at most once.
 pub fn possible_parts()
     ensures { PossibleParts }
 {}

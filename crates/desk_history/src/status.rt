@@ -1,9 +1,9 @@
-//! The operator is told how the desk stands.
+//! The answer to the operator's request for the desk's status.
 use crate::ListOf;
 use ach_fields::{Id, ShortText};
 use bank_days::Day;
 
-/// A `Tally` says how many submissions there are, and what they come to.
+/// A number of submissions and their total in cents.
 #[derive(Clone, Copy, Debug, PartialEq, Eq, Drop)]
 pub struct Tally {
     /// The sum of their entries in cents.
@@ -25,12 +25,12 @@ pub struct DueDay {
     pub sums: Tallies,
 }
 
-/// A `CompanyStatus` says what a company has waiting. It has no account and no name of a receiver.
+/// What a company has waiting, without accounts and names of receivers.
 #[derive(Drop)]
 pub struct CompanyStatus {
-    /// What a cut of the desk day would send, by the day on which it would settle, ascending.
+    /// What a cut of the desk day would send, by settlement day, ascending.
     pub due: ListOf<DueDay>,
-    /// What no cut has decided.
+    /// The submissions that no cut has decided.
     pub held: Tallies,
     pub id: Id,
     /// The number of retries that a cut of the desk day would let lapse.
@@ -38,7 +38,7 @@ pub struct CompanyStatus {
     pub name: ShortText<16>,
 }
 
-/// A `DeskStatus` says how the desk stands.
+/// The status of the desk.
 #[derive(Drop)]
 pub struct DeskStatus {
     /// All registered companies, in the byte order of their identifications.
@@ -51,6 +51,6 @@ pub struct DeskStatus {
     pub holidays: u64,
     /// The number of entries that were ever sent.
     pub sent: u64,
-    /// The number of items that stand in suspense.
+    /// The number of items in suspense.
     pub suspense: u64,
 }

@@ -7,7 +7,7 @@ use Rattle.desk_rules.specs.declared.refusals.refusal.Refusal.{Refusal}
 use Rattle.desk_rules.specs.Chain.{◌>>=◌}
 use Rattle.desk_rules.specs.Submission.{entry_of, entries_of}
 
--- entries that stand, and those that follow
+-- an accepted entry in front of the accepted rest
 abbrev pub after : List Entry → Result (List Entry) Refusal → Result (List Entry) Refusal
 after es r = r >>= (λ more. Ok (es ++ more))
 

@@ -5,20 +5,20 @@ use Rattle.desk_rules.specs.declared.rules.attempt.Attempt.TheVariants as attemp
 use Rattle.desk_rules.specs.declared.rules.entry_fact.EntryState.{EntryState}
 use Rattle.desk_rules.specs.declared.rules.entry_fact.EntryState.TheVariants as states
 
--- an entry that lapsed is no attempt
+-- a lapsed entry does not count as an attempt
 abbrev pub attempt_of : EntryState → Option Attempt
 attempt_of states.Held = Some attempts.Held
 attempt_of (states.Sent settled) = Some (attempts.Sent settled)
 attempt_of (states.Returned settled code taken late) = Some (attempts.Returned settled code taken)
 attempt_of states.Lapsed = None
 
--- an attempt that came back: when it settled, the code of its return, and when the return was taken
+-- a returned attempt: its settlement day, its return code, and the day on which the return was taken
 pub record Return : Type 0 where
   pub settled : ℕ
   pub code : ℕ
   pub taken : ℕ
 
--- the return of an attempt, if it came back
+-- the return of an attempt, if it is returned
 abbrev pub return_of : Attempt → Option Return
 return_of attempts.Held = None
 return_of (attempts.Sent settled) = None

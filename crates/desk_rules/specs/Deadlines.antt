@@ -9,7 +9,7 @@ use Rattle.desk_rules.specs.TimeClasses.{time_class_of}
 abbrev pub last_rule_day : ℕ
 last_rule_day = 47_512
 
--- the day, where a rule may be given it
+-- the day, if rules accept it
 abbrev pub rule_day_of : (day : ℕ) → Option ℕ
 rule_day_of day = if nat_le day last_rule_day then Some day else None
 

@@ -5,7 +5,7 @@ use Rattle.desk_rules.specs.declared.rules.entry_fact.EntryFact.{EntryFact}
 use Rattle.desk_rules.specs.declared.rules.entry_fact.EntryState.{EntryState}
 use Rattle.desk_rules.specs.declared.rules.entry_fact.EntryState.TheVariants.{Held, Sent, Returned, Lapsed}
 
--- held, or settles on the day or after it, also where it came back
+-- held, or settles on the day or later; returned credits count too
 abbrev pub is_open_credit : EntryState → ℕ → Bool
 is_open_credit Held day = true
 is_open_credit (Sent settled) day = nat_le day settled

@@ -34,7 +34,7 @@ kind_of s = if bytes_eq s (codes "checking") then Some Checking else (if bytes_e
 abbrev pub text_of : ℕ → List ℕ → Option (List ℕ)
 text_of n s = if nat_lt 0 (length s) then result_ok (short_text_of n s) else None
 
--- a text of 1 to 10 characters that is no description of the desk's own
+-- a text of 1 to 10 characters that is not one of the desk's own descriptions
 abbrev pub description_of : List ℕ → Option (List ℕ)
 description_of s =
     if bytes_eq s (codes "RETRY PYMT") then None

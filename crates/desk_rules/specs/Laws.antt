@@ -23,7 +23,7 @@ pub record CountedDeadlines : Type 0 where
 abbrev pub NoneHolds : List (Bool × Refusal) → Type 0
 NoneHolds rows = All (λ row. row.0 ≡ false) rows
 
--- the row of a refusal whose condition holds, after rows of which none does
+-- the first row whose condition holds, with its refusal
 pub record IsFirst (rows : List (Bool × Refusal)) (refusal : Refusal) : Type 0 where
   pub front : List (Bool × Refusal)
   pub rest : List (Bool × Refusal)

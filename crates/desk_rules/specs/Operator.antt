@@ -1,4 +1,4 @@
--- What the operator's bodies say, or their first bad field.
+-- The values of the operator's bodies, or their first invalid field.
 use Rattle.std.specs.Prelude.{ℕ, List, Option, option_and_then, Result, Ok}
 use Rattle.std.specs.Result.{result_ok}
 use Rattle.ach_fields.specs.Names.{id_of}

@@ -5,7 +5,7 @@ use Rattle.desk_rules.specs.declared.refusals.refusal.Refusal.TheVariants as ref
 use Rattle.desk_rules.specs.declared.refusals.names.RefusalName.{RefusalName}
 use Rattle.desk_rules.specs.declared.refusals.names.RefusalName.TheVariants as names
 
--- the number by which companies know the refusal
+-- the refusal's number in answers to companies
 abbrev pub number_of : RefusalName → ℕ
 number_of names.NoDay = 1
 number_of names.BadField = 2

@@ -20,7 +20,8 @@ is_retryable code taken authorized day = code == 1 || code == 9 || (code == 8 &&
 abbrev pub is_too_late : (original : ℕ) → (settles : ℕ) → Bool
 is_too_late original settles = nat_lt (original + 180) settles
 
--- the refusals of a retry in their order, each with its condition: of so many attempts, by the returns of the original and the newest
+-- the refusals of a retry in their order, each with its condition: by the number of attempts and by the returns of the
+-- original and the newest attempt
 abbrev pub retry_rows : (count : ℕ) → Option Return → Option Return → (asked : ℕ) → (authorized : Option ℕ) → (day : ℕ) → (holidays : List ℕ) → List (Bool × Refusal)
 retry_rows count (Some original) (Some newest) asked authorized day holidays =
     (not (is_retryable newest.code newest.taken authorized day), NotRetryable newest.code)

@@ -15,7 +15,7 @@ use Rattle.desk_rules.specs.declared.refusals.refusal.Refusal.{Refusal}
 use Rattle.desk_rules.specs.declared.refusals.refusal.Refusal.TheVariants.{BadField}
 use Rattle.desk_rules.specs.declared.refusals.refusal.Field.TheVariants as field
 
--- the entry of a draft, of which this is the number
+-- the entry that a draft describes; the number is its place, from 1
 abbrev pub entry_of : ℕ → Option EntryDraft → Result Entry Refusal
 entry_of i None = Err (BadField field.Entries i)
 entry_of i (Some d) = do
@@ -29,7 +29,7 @@ entry_of i (Some d) = do
   info ← good field.Info i (optional_of (text_of 80) d.info)
   Ok (record { routing = routing; account = account; kind = kind; prenote = prenote; cents = cents; id = id; name = name; info = info })
 
--- the entries of drafts, of which the first has this number
+-- the entries that drafts describe; the first one has this number
 abbrev pub entries_of : ℕ → List (Option EntryDraft) → Result (List Entry) Refusal
 entries_of i [] = Ok []
 entries_of i (d ∷ ds) = do

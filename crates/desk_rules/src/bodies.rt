@@ -1,5 +1,5 @@
-//! Drafts say what bodies have, and checks say which of them are submissions, retries, days,
-//! companies and limits.
+//! The bodies of requests: drafts as they were read, and the checks that turn them into
+//! submissions, retries, days, companies and limits.
 pub(crate) mod company;
 pub(crate) mod draft;
 pub(crate) mod entry_cents;

@@ -1,4 +1,4 @@
-//! The laws of the rules say what their definitions mean.
+//! Laws of the rules: statements about their definitions.
 ghost use Rattle.desk_rules.specs.Laws.{CountedDeadlines, FirstRefusals, SameContents};
 ghost use Rattle.desk_rules.specs.RatedFacts.{RatedFactsSuffice};
 

@@ -1,11 +1,11 @@
-//! This crate has the rules of the desk, each a plain function over facts. They say which bodies
-//! are submissions, retries, days, companies and limits, and why one is refused; how many cents a
-//! company's entries may still cost the bank (exposures); until when a return is in time (Nacha's
-//! return deadlines), which returned debits may be tried again (Nacha's reinitiation), and how many
-//! came back (Nacha's return rates).
+//! The rules of the desk, each a plain function over facts: which bodies are submissions, retries,
+//! days, companies and limits, and why one is refused; a company's exposures, the cents that its
+//! entries may still cost the bank; until when a return is in time (Nacha's return deadlines);
+//! which returned debits may be retried (Nacha's reinitiation); and the share of returned debits
+//! (Nacha's return rates).
 //!
-//! Only what reads a draft takes memory. A day that a rule is given is at most 2100-01-31, so that
-//! what is counted from it is a day too.
+//! Only calls that read a draft take memory. Rules accept days up to 2100-01-31, so that every day
+//! they count to exists.
 #![tactic(auto)]
 
 mod bodies;

@@ -30,7 +30,7 @@ and_false : (t : Bool) → (t && false) ≡ false
 and_false true = refl
 and_false false = refl
 
--- an entry that comes back is open as before
+-- a return does not change whether an entry is open
 same_open : (x : ReturnedRow) (since : ℕ) (named : Bool) (s : EntryState) → is_open_credit (if named then returned_state_by x s else s) since ≡ is_open_credit s since
 same_open x since false s = refl
 same_open x since true states.Held = refl

@@ -1,4 +1,4 @@
--- What one more line makes of the sums of an account's lines by value day.
+-- The effect of one more line on an account's sums by value day.
 use Rattle.std.proofs.Common.{◌≡◌, ℕ, suc, ◌+◌, ◌<◌, ◌≤◌, inl, inr, Bool, true, false, List, [], ◌∷◌, map, ℤ, pos, ◌+ℤ◌, slice_index, refl, ap, ◌∙◌, arith, sym, subst}
 use Rattle.std.specs.Prelude.{if◌then◌else◌, cond, Option, Some, None, unwrap_or}
 use Rattle.std.specs.BTreeMap.{insert_entry, is_at}
@@ -106,7 +106,7 @@ module _ (f g : ℕ → ℤ) (day : ℕ) (cents : ℤ) (others : (d : ℕ) → (
 
 -- ---- one sum in a map by days
 
--- a day that is none of the keys has no value
+-- a day without a key has no value
 no_sum : (day : ℕ) (rows : List (ℕ × ℤ)) → Apart day (map (λ row. row.0) rows) → lookup (is_at (nat_cmp day)) rows ≡ None
 no_sum day [] h = refl
 no_sum day (row ∷ rows) h = ap (λ (b : Bool). cond b (Some row.1) (lookup (is_at (nat_cmp day)) rows)) (unsigned_tied day row.0 ∙ ne_eqb day row.0 h.0) ∙ no_sum day rows h.1
@@ -144,7 +144,7 @@ summed (row ∷ rows) day cents h =
 total_front : (line : Posting) (lines : List Posting) → total lines +ℤ line.cents ≡ total (line ∷ lines)
 total_front line lines = let front = sum_front (λ (x : Posting). x.cents) line lines in omega (arith, ints)
 
--- a day that is no value day has no line
+-- a day that is not a value day has no line
 no_line : (x : ℕ) (lines : List Posting) → Apart x (value_days lines) → lines_on x lines ≡ []
 no_line x [] h = refl
 no_line x (line ∷ lines) h =

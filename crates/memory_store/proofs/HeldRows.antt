@@ -33,7 +33,7 @@ find_open since rows index references held originals = record {
 pub find_any : (rows : List CompanyRow) (index references : PlaceIndex) → FindsAll kinds.Company rows index → FindsAll kinds.Reference rows references → FindWaiting rows index references
 find_any rows index references held originals = record { kind = kinds.Company; has = λ x none. refl; held = held; originals = originals }
 
--- a company's held submissions stand at the places that an index has for it
+-- an index has the places of a company's held submissions
 pub waiting_all : (k : Company) (kept : List KeptSubmission) (index references : PlaceIndex) (asked : RowKey) (places : List ℕ) → FindWaiting (map row_in kept) index references → asked ≡ whole k.id → places ≡ listed_under asked index
     → map (held_submission k (rows_for kept k.id)) (filter is_held (rows_for (picked kept places) k.id)) ≡ waiting_for k (rows_for kept k.id)
 waiting_all k kept index references asked places find is are =

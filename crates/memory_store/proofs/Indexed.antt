@@ -1,4 +1,4 @@
--- What the indexes of traces and of settlements find, as entries are added and as they cover them.
+-- What the indexes of traces and of settlements find, as entries are added and covered.
 use Rattle.std.proofs.Common.{◌≡◌, ℕ, ◌+◌, ◌<◌, ◌%◌, ◌==◌, Bool, List, [], ◌∷◌, ◌++◌, take, length, get_or, Option, Some, ap, sym, subst, ◌∙◌, arith}
 use Rattle.std.specs.Prelude.{find, if◌then◌else◌}
 use Rattle.std.specs.BTreeMap.{get, Updates}

@@ -22,7 +22,7 @@ numbered_past f n first (x ∷ xs) past =
     let apart : (first == n) ≡ false = ne_eqb first n (λ e. omega (arith, e)) in
     (λ i. (if apart i then f x else x) ∷ numbered_past f n (first + 1) xs (omega arith) i)
 
--- the element of a number between stands at its place
+-- an element with a number in range is at its place
 pub numbered_at : {X : Type 0} (f : X → X) (n first : ℕ) (xs : List X) (at : ℕ) (d : X) → n ≡ first + at → at < length xs
     → map (changed_of f n) (enumerate_from first xs) ≡ set xs at (f (get_or xs at d))
 numbered_at f n first [] at d is within = absurd (omega arith)

@@ -1,4 +1,4 @@
--- What the indexes of rows find, as rows are added and as they cover them.
+-- What the indexes of rows find, as rows are added and covered.
 use Rattle.std.proofs.Common.{◌≡◌, ◌∙◌, ℕ, suc, ◌+◌, ◌<◌, ◌≤◌, ◌==◌, Bool, true, false, cond, List, [], ◌∷◌, ◌++◌, map, take, length, get_or, Option, None, Some, refl, ap, sym, subst, nat_eq, true≢false, arith}
 use Rattle.std.specs.Prelude.{◌&&◌, if◌then◌else◌, bytes_eq, filter, filter_map, find, slice_get, option_map, unwrap_or}
 use Rattle.std.specs.List.{enumerate_from, cons_option}
@@ -42,7 +42,7 @@ both_true : (s t : Bool) → (s && t) ≡ true → (s ≡ true) × (t ≡ true)
 both_true true t is = (refl, is)
 both_true false t is = absurd (true≢false (sym is))
 
--- the order tells keys apart that are not one
+-- keys that the order does not distinguish are equal
 key_ties : (k l : RowKey) → is_eq (key_cmp k l) ≡ is_same_key k l
 key_ties k l = sym (key_cmp_ties k l)
 
@@ -64,7 +64,7 @@ same_keys k l is =
 
 -- ---- one more place
 
--- a key that has one more place, beside all others
+-- one key has one more place, and all others have what they had
 pub one_more_under : {X : Type 0} (items : X → List ℕ) (f g : RowKey → Option X) (key : RowKey) (w : X) (place : ℕ)
     → ((k : RowKey) → g k ≡ cond (is_eq (key_cmp key k)) (Some w) (f k)) → items w ≡ unwrap_or (option_map items (f key)) [] ++ place ∷ []
     → (k : RowKey) → unwrap_or (option_map items (g k)) [] ≡ unwrap_or (option_map items (f k)) [] ++ place_under k (Some key) place
@@ -215,7 +215,7 @@ narrowed P c Q (x ∷ kept) all = of_Q (Q x) refl (narrowed P c Q kept all) wher
   of_Q true is rest = same_company (bytes_eq x.company c) rest
   of_Q false is rest = left_out is (bytes_eq x.company c) refl rest
 
--- what passes a test among the rows that a key names, where all that pass it have the key
+-- the rows that pass a test, if all that pass it have the key
 pub passing_all : (P : Row → Bool) (c : List ℕ) (kind : KeyKind) (k : RowKey) (kept : List KeptSubmission) (places : List ℕ) → places ≡ places_of k (map (key_in kind) (map row_in kept))
     → ((x : KeptSubmission) → bytes_eq x.company c ≡ true → P (row_in x).row ≡ true → is_key k (key_in kind (row_in x)) ≡ true) → filter P (rows_for (picked kept places) c) ≡ filter P (rows_for kept c)
 passing_all P c kind k kept places are all =
@@ -296,7 +296,7 @@ passing_more kept place places c f = of_place (slice_get kept place) where
   of_place None = refl
   of_place (Some x) = of_row x (bytes_eq x.company c)
 
--- what stands at a place within the list, and past it
+-- the element at a place, within the list and past it
 pub picked_here : (kept : List KeptSubmission) (place : ℕ) (x : KeptSubmission) → place < length kept → x ≡ get_or kept place x → picked kept (place ∷ []) ≡ x ∷ []
 picked_here kept place x within is = ap (λ (o : Option KeptSubmission). cons_option o []) (slice_get-get_or kept place x within ∙ ap Some (sym is))
 
@@ -334,7 +334,7 @@ under_more kept place places c reference = of_place (slice_get kept place) where
   of_place None = refl
   of_place (Some x) = of_row x (bytes_eq x.company c)
 
--- it stands at the place
+-- it is at the place
 pub under_here : (kept : List KeptSubmission) (place : ℕ) (places : List ℕ) (c reference : List ℕ) (row : Row) → row_under (rows_for (picked kept (place ∷ [])) c) reference ≡ Some row → row_under (rows_for (picked kept (place ∷ places)) c) reference ≡ Some row
 under_here kept place places c reference row here = under_more kept place places c reference ∙ ap (λ (o : Option Row). option_or o (row_under (rows_for (picked kept places) c) reference)) here
 
@@ -394,7 +394,7 @@ placed_after_intake w r rows old new are left held =
       kept : (kind : KeyKind) → IsOfContent (key_in kind) → map (key_in kind) rows ≡ map (key_in kind) r.submissions
       kept kind steady = ap (map (key_in kind)) are ∙ turns_same (key_in kind) return_in (returned_same (key_in kind) steady) w.returned r.submissions
 
--- the indexes, where one more row stands behind
+-- the indexes, with one more row at the end
 pub placed_before : (rows found : List CompanyRow) (more : List CompanyRow) (places : RowPlaces) → found ≡ rows ++ more → ArePlaced rows places → ArePlaced found places
 placed_before rows found more places are held =
     subst (λ (all : List CompanyRow). ArePlaced all places) (sym are) (record {

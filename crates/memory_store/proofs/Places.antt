@@ -13,7 +13,7 @@ use Rattle.desk_history.specs.Words.{is_before}
 pub same_before : {C : ℕ → ℕ → Option Ordering} {s t a b : List ℕ} → Agrees C nat_cmp → s ≡ a → t ≡ b → is_before s t ≡ is_some_and is_lt (slice_partial_cmp C a b)
 same_before {C} {s} {t} {a} {b} agrees first second = (λ i. is_before (first i) (second i)) ∙ sym (ap (is_some_and is_lt) (lists_agrees agrees a b))
 
--- the first company that comes after the new one, which stands before it
+-- the new company comes before the first one that is greater
 pub here_placed : (k x : Company) (ks : List Company) (i : ℕ) → i < length ks → x ≡ get_or ks i x → is_before k.id x.id ≡ true →
     take i ks ++ k ∷ drop i ks ≡ take i ks ++ with_company k (drop i ks)
 here_placed k x ks i within is behind =
@@ -23,7 +23,7 @@ here_placed k x ks i within is behind =
     ∙ ap (λ (t : Bool). take i ks ++ (if t then k ∷ x ∷ rest else x ∷ with_company k rest)) (sym behind)
     ∙ ap (λ (l : List Company). take i ks ++ with_company k l) (sym here)
 
--- a company that does not come after the new one, which stands somewhere after it
+-- a company that is not greater than the new one, which comes somewhere after it
 pub later_placed : (k x : Company) (ks : List Company) (i : ℕ) → i < length ks → x ≡ get_or ks i x → is_before k.id x.id ≡ false →
     take (i + 1) ks ++ with_company k (drop (i + 1) ks) ≡ take i ks ++ with_company k (drop i ks)
 later_placed k x ks i within is ahead =

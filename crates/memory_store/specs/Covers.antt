@@ -1,4 +1,4 @@
--- What indexes find among the submissions that are kept.
+-- What indexes find among the kept submissions.
 use Rattle.std.specs.Prelude.{List, map}
 use Rattle.memory_store.specs.Finds.{FindWaiting, held_index}
 use Rattle.memory_store.specs.Kept.{row_in}
@@ -33,7 +33,7 @@ AllStayPlaced kept old new = ArePlaced (map row_in kept) old → ArePlaced (map 
 abbrev pub CoversBy : KeyKind → List KeptSubmission → RowPlaces → PlaceIndex → Type 0
 CoversBy kind kept old index = ArePlaced (map row_in kept) old → FindsKept kind kept index
 
--- and now they find those of which no cut has decided
+-- and now they find those that no cut has decided
 abbrev pub CoversWaiting : List KeptSubmission → (old new : RowPlaces) → Type 0
 CoversWaiting kept old new =
     ArePlaced (map row_in kept) old → FindWaiting (map row_in kept) (held_index new) new.references

@@ -1,4 +1,4 @@
--- What the reads of the lists in memory find.
+-- What reads of the lists in memory find.
 use Rattle.std.specs.Prelude.{◌≡◌, ℕ, Bool, ◌&&◌, ◌==◌, nat_lt, if◌then◌else◌, List, [], ◌∷◌, ◌++◌, map, filter, find, insert, bytes_eq, max, Option, Some, None, is_none, option_map, ℤ, ◌+ℤ◌, Vec}
 use Rattle.std.specs.Borrow.{Bor}
 use Rattle.std.specs.List.Sorted.{IsStrictlyIncreasing}
@@ -37,7 +37,7 @@ Adds more old new = new.items ≡ old.items ++ more
 abbrev pub rows_for : List KeptSubmission → List ℕ → List Row
 rows_for kept c = map (λ x. x.row) (filter (λ x. bytes_eq x.company c) (map row_in kept))
 
--- those that stand at these places
+-- the rows at these places
 abbrev pub rows_among : List KeptSubmission → (places : List ℕ) → (company : List ℕ) → List Row
 rows_among kept places c = rows_for (picked kept places) c
 
@@ -55,11 +55,11 @@ passes (filters.OpenSince since) row = is_found_open since row
 passes (filters.RetriesOf of index) row = is_same_entry of index row.retry
 passes filters.Held row = is_held row
 
--- a company's rows that pass, of what stands at these places
+-- a company's rows that pass, among those at these places
 abbrev pub passing_among : List KeptSubmission → (places : List ℕ) → (company : List ℕ) → RowFilter → List Row
 passing_among kept places c f = filter (passes f) (rows_among kept places c)
 
--- what stands at a place, where it is a company's and passes
+-- the row at a place, if it is the company's and passes
 abbrev pub passing_at : List KeptSubmission → (place : ℕ) → (company : List ℕ) → RowFilter → List Row
 passing_at kept place c f = passing_among kept (place ∷ []) c f
 
@@ -67,8 +67,8 @@ passing_at kept place c f = passing_among kept (place ∷ []) c f
 abbrev pub waiting_for : Company → List Row → List HeldSubmission
 waiting_for k rows = map (held_submission k rows) (filter is_held rows)
 
--- the rows are found of which no cut has decided: an index has each row that did not settle under the key of
--- its company, whatever else it has, and another has the submission with each reference
+-- the rows that no cut has decided are found: one index has each undecided row under the key of its company, and
+-- possibly others; another has the submission with each reference
 pub record FindWaiting (rows : List CompanyRow) (index references : PlaceIndex) : Type 0 where
   pub kind : KeyKind
   pub has : (x : CompanyRow) → x.row.settled ≡ None → key_in kind x ≡ Some (whole x.company)
@@ -95,7 +95,7 @@ text_among files day modifier = option_map (λ f. f.text) (find (is_file day mod
 abbrev pub IsPlaceOf : (id : List ℕ) → List Company → (place : ℕ) → Type 0
 IsPlaceOf id ks place = (k : Company) → k.id ≡ id → insert ks place k ≡ with_company k ks
 
--- the later of two days, where there are any
+-- the later of two days, if there are any
 abbrev pub later_of : Option ℕ → (day : Option ℕ) → Option ℕ
 later_of None d = d
 later_of (Some d) None = Some d
@@ -112,6 +112,6 @@ with_sum day cents (row ∷ rows) =
     if day == row.0 then (row.0, row.1 +ℤ cents) ∷ rows
     else (if nat_lt day row.0 then (day, cents) ∷ row ∷ rows else row ∷ with_sum day cents rows)
 
--- an amount is added to the sum of its day, where the sums stand by ascending days
+-- an amount is added to the sum of its day; the sums are listed by ascending day
 abbrev pub AddsToDay : (day : ℕ) → (cents : ℤ) → (old new : List (ℕ × ℤ)) → Type 0
 AddsToDay day cents old new = IsStrictlyIncreasing (map (λ row. row.0) old) → new ≡ with_sum day cents old

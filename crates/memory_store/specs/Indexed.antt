@@ -12,7 +12,7 @@ use Rattle.memory_store.specs.declared.trace_index.TraceIndex.{TraceIndex}
 abbrev pub ends_in : ℕ → SentEntry → Bool
 ends_in digits e = e.sequence % 10_000_000 == digits
 
--- the youngest entry whose sequence does; the oldest stands first
+-- the youngest entry with such a sequence; the oldest entry comes first
 abbrev pub youngest_ending : List SentEntry → ℕ → Option SentEntry
 youngest_ending sent digits = find (ends_in digits) (reverse sent)
 
@@ -21,7 +21,7 @@ pub record IsIndexed (sent : List SentEntry) (index : TraceIndex) : Type 0 where
   pub within : index.indexed ≤ length sent
   pub youngest : (digits : ℕ) → get nat_cmp index.youngest digits ≡ youngest_ending (take index.indexed sent) digits
 
--- when the youngest entry with a sequence settled; the oldest stands first
+-- the settlement day of the youngest entry with a sequence; the oldest entry comes first
 abbrev pub settlement_of : List SentEntry → ℕ → Option ℕ
 settlement_of sent sequence = youngest_settlement (map sent_sequence (reverse sent)) sequence
 
@@ -36,7 +36,7 @@ latest_settlement sent r = latest_settled (map sent_sequence (reverse sent)) r
 
 -- ---- where an index covers all sent entries
 
--- this holds of them, where that of traces does
+-- a fact about the entries that the index of traces covers
 abbrev pub OfIndexed : TraceIndex → (List SentEntry → Type 0) → Type 0
 OfIndexed index Holds = (sent : List SentEntry) → IsIndexed sent index → index.indexed ≡ length sent → Holds sent
 

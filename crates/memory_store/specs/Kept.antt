@@ -36,8 +36,7 @@ rows_in s = record {
 abbrev pub IsBookOf : ListStore → Book → Type 0
 IsBookOf s b = b ≡ flat_book (rows_in s)
 
--- it holds that book, finds by its indexes what the book has, and tells by the settlement of a submission
--- that none of its entries is open
+-- it holds this book, its indexes find what the book has, and a submission without a settlement day has no open entry
 pub record IsHeld (s : ListStore) (b : Book) : Type 0 where
   pub book : IsBookOf s b
   pub indexed : IsIndexed s.sent.items s.traces

@@ -45,12 +45,12 @@ lapsed_same key steady l x = of_tests (bytes_eq x.company l.company) (x.row.orde
   of_tests true false = refl
   of_tests false o = refl
 
--- the states of a submission's entries, of which one comes back
+-- the states of a submission's entries after a return of one
 abbrev pub returned_states : ReturnedRow → List EntryState → List EntryState
 returned_states r states =
     map (λ y. if y.0 == r.row.index then returned_state_by r y.1 else y.1) (enumerate_from 1 states)
 
--- what comes back leaves the settlement too
+-- a return does not change the settlement
 pub returned_same : (key : CompanyRow → Option RowKey) → IsOfContent key → (r : ReturnedRow) (x : CompanyRow) → key (return_in r x) ≡ key x
 returned_same key steady r x = of_tests (bytes_eq x.company r.company) (bytes_eq x.row.content.reference r.row.reference) where
   changed : List EntryState
@@ -90,7 +90,7 @@ lapsed_keyed l = record {
   same = lapsed_same (key_in kinds.Order) (λ x settled lapsed held. refl) l;
 }
 
--- what comes back is found by its reference
+-- a return is found by its reference
 pub returned_keyed : (r : ReturnedRow) → IsKeyed kinds.Reference (under r.company r.row.reference) (return_in r)
 returned_keyed r = record {
   others = λ x. other_reference x (record x.row { states = returned_states r x.row.states }) (bytes_eq x.company r.company) (bytes_eq x.row.content.reference r.row.reference);

@@ -1,4 +1,4 @@
--- What calls of a store of lists promise: it is always clean, and a crash leaves the book that it holds.
+-- The promises of calls of a store of lists: it is always clean, and a crash leaves the book that it holds.
 use Rattle.std.specs.Prelude.{◌≡◌, ⊤, List, Result, Vec}
 use Rattle.std.specs.declared.alloc.Global.{Global}
 use Rattle.desk_book.specs.Book.{Book}

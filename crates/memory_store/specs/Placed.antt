@@ -1,4 +1,4 @@
--- Where the rows stand that a key names, as an index finds them.
+-- The places of the rows that a key names, as an index finds them.
 use Rattle.std.specs.Prelude.{◌≡◌, ◌≤◌, ◌==◌, ℕ, Bool, false, if◌then◌else◌, List, [], ◌∷◌, ◌++◌, map, filter, filter_map, slice_get, take, length, option_map, unwrap_or, Option, Some, None}
 use Rattle.std.specs.List.{enumerate_from}
 use Rattle.std.specs.BTreeMap.{get}
@@ -43,11 +43,11 @@ is_key k (Some l) = is_same_key l k
 abbrev pub places_of : RowKey → List (Option RowKey) → List ℕ
 places_of k keys = map (λ y. y.0) (filter (λ y. is_key k y.1) (enumerate_from 0 keys))
 
--- the elements that stand at these places
+-- the elements at these places
 abbrev pub picked : {X : Type 0} → List X → (places : List ℕ) → List X
 picked xs places = filter_map (λ p. slice_get xs p) places
 
--- the elements, with a change of the one that stands at a place
+-- the elements, with a change of the one at a place
 abbrev pub changed_at : {X : Type 0} → (place : ℕ) → (X → X) → List X → List X
 changed_at place change xs = map (λ y. if y.0 == place then change y.1 else y.1) (enumerate_from 0 xs)
 
@@ -57,7 +57,7 @@ changed_at place change xs = map (λ y. if y.0 == place then change y.1 else y.1
 abbrev pub listed_under : RowKey → PlaceIndex → List ℕ
 listed_under k index = unwrap_or (option_map (λ v. v.items) (get key_cmp index.places k)) []
 
--- the place, where what stands there has the key
+-- the place, if its row has the key
 abbrev pub place_under : RowKey → Option RowKey → ℕ → List ℕ
 place_under k key place = if is_key k key then place ∷ [] else []
 
@@ -65,7 +65,7 @@ place_under k key place = if is_key k key then place ∷ [] else []
 abbrev pub ListsSame : (old new : PlaceIndex) → Type 0
 ListsSame old new = (k : RowKey) → listed_under k new ≡ listed_under k old
 
--- and one more, where what stands there has the key
+-- and one more, if its row has the key
 abbrev pub ListsMore : Option RowKey → (place : ℕ) → (old new : PlaceIndex) → Type 0
 ListsMore key place old new = (k : RowKey) → listed_under k new ≡ listed_under k old ++ place_under k key place
 

@@ -1,4 +1,4 @@
--- What traces name, among the lists in memory.
+-- The entries that traces name, among the lists in memory.
 use Rattle.std.specs.Prelude.{◌≡◌, ℕ, Bool, List, map, find, reverse, Option, option_map, option_and_then, Vec}
 use Rattle.std.specs.declared.alloc.Global.{Global}
 use Rattle.desk_book.specs.OnIntake.{is_returned_in}
@@ -12,14 +12,14 @@ use Rattle.memory_store.specs.Indexed.{OfIndexed}
 use Rattle.memory_store.specs.declared.list_store.KeptSubmission.{KeptSubmission}
 use Rattle.memory_store.specs.declared.traced.Traced.{Traced}
 
--- has the entry come back?
+-- whether the entry is returned
 abbrev pub is_returned_among : List KeptSubmission → SentEntry → Bool
 is_returned_among kept e = is_returned_in (row_under (rows_for kept e.company) e.reference) e.index
 
 abbrev pub with_return_among : List KeptSubmission → SentEntry → NamedEntry
 with_return_among kept e = record { entry = e; returned = is_returned_among kept e }
 
--- the youngest sent entry that has a trace, if it is one, and whether it came back; the oldest stands first
+-- the youngest sent entry that has a trace, and whether it is returned; the oldest entry comes first
 abbrev pub traced_among : (odfi : List ℕ) → (sent : List SentEntry) → List KeptSubmission → Option (List ℕ) → Option NamedEntry
 traced_among odfi sent kept trace = option_map (with_return_among kept) (option_and_then (λ t. find (has_trace odfi t) (reverse sent)) trace)
 

@@ -1,4 +1,4 @@
--- What the reads of what waits for a cut find, among the submissions that are kept.
+-- What reads of undecided submissions find, among the kept ones.
 use Rattle.std.specs.Prelude.{◌≡◌, ℕ, List, map, filter, Option, Vec}
 use Rattle.std.specs.List.{flat_map}
 use Rattle.std.specs.declared.alloc.Global.{Global}
@@ -40,14 +40,14 @@ abbrev pub IsHeldOf : List KeptSubmission → (references : PlaceIndex) → Comp
 IsHeldOf kept references k one held =
     HasReferences kept references → held ≡ held_submission k (rows_for kept k.id) (row_in one).row
 
--- what stands at a place is added, where it is a company's and held
+-- the submission at a place is added, if it is the company's and held
 abbrev pub AddsHeldAt : List KeptSubmission → (references : PlaceIndex) → (place : ℕ) → Company
     → (old new : Vec HeldSubmission Global) → Type 0
 AddsHeldAt kept references place k old new =
     HasReferences kept references
     → Adds (map (held_submission k (rows_for kept k.id)) (passing_at kept place k.id filters.Held)) old new
 
--- a company's held submissions are added, of what stands at these places
+-- a company's held submissions among those at these places are added
 abbrev pub AddsHeld : List KeptSubmission → (references : PlaceIndex) → (places : List ℕ) → Company
     → (old new : Vec HeldSubmission Global) → Type 0
 AddsHeld kept references places k old new =

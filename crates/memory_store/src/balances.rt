@@ -9,7 +9,8 @@ use desk_store::StoreFault;
 use std::alloc::{AllocError, Global};
 use std::collections::BTreeMap;
 
-// A day's sum with an amount more, where it fits: that of as many lines as memory has does.
+// Returns a day's sum with one more amount, if that fits: the sum of as many lines as memory holds
+// does.
 fn with_cents(sum: Option<i128>, cents: i128) -> Option<i128>
     ensures { IfSome result (λ made. made ≡ unwrap_or sum (pos 0) +ℤ cents) }
 {

@@ -1,7 +1,7 @@
-//! A store that keeps lists in memory answers these calls.
+//! The calls of the store that keeps lists in memory.
 //!
-//! A call that takes no memory always answers. What a read copies takes some, unless there is nothing to
-//! copy; what finds a row by an index may have the index grow.
+//! A call that takes no memory always succeeds. A read takes memory for what it copies, and none if
+//! there is nothing to copy; a call that finds a row by an index may grow the index.
 ghost use Rattle.std.specs.Prelude.{◌≢◌, [], None, IsOk, OnErr, find, length};
 ghost use Rattle.desk_book.specs.Reads.{key_of, company};
 ghost use Rattle.desk_store.specs.LastNumber.{last_number};

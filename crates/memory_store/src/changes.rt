@@ -14,12 +14,12 @@ use crate::place_index::PlaceIndex;
 use crate::row_key::RowKey;
 use desk_rules::EntryState;
 
-/// A `Change` says what a row of a write changes in the submissions.
+/// The change that a row of a write makes to the submissions.
 pub(crate) trait Change {
     /// Says what it makes of one.
     ghost makes: { Self → CompanyRow → CompanyRow };
 
-    /// Says by which keys the submissions are found that it changes.
+    /// The keys by which the changed submissions are found.
     ghost kind: { KeyKind };
 
     /// Says which key those have.
@@ -35,7 +35,7 @@ pub(crate) trait Change {
     ghost keyed: { (c : Self) → IsKeyed kind (key c) (makes c) };
 }
 
-/// Makes a change of what stands at a place.
+/// Changes the submission at a place.
 fn change_at<C: Change>(kept: &mut [KeptSubmission], place: usize, change: &C)
     ensures { map row_in kept.new ≡ changed_at place (C.makes change.now) (map row_in kept.old) }
 {
@@ -64,7 +64,8 @@ fn change_in_turn<C: Change>(kept: &mut [KeptSubmission], index: &PlaceIndex, ch
     }
 }
 
-/// Makes each change in its turn, where an index finds all submissions. It finds them afterwards too.
+/// Makes each change in turn, given an index that finds all submissions. It finds them afterwards
+/// too.
 pub(crate) fn change_all<C: Change>(
     kept: &mut Vec<KeptSubmission>,
     index: &PlaceIndex,

@@ -1,4 +1,4 @@
-//! What a cut writes into the lists.
+//! Writing a cut into the lists.
 ghost use Rattle.std.specs.Prelude.{◌≡◌, ◌+◌, ◌≤◌, ◌++◌, vec_len, vec_capacity, IfOk, OnOk, OnErr};
 ghost use Rattle.desk_store.specs.Changes.{send_in, lapse_in};
 ghost use Rattle.memory_store.specs.Keyed.{sent_keyed, lapsed_keyed};
@@ -122,8 +122,11 @@ fn decide(kept: &mut Vec<KeptSubmission>, orders: &PlaceIndex, cut: &CutRows<'_>
     change_all(kept, orders, cut.lapsed);
 }
 
-/// Writes a cut, where the index of order numbers covers all submissions. Where this is out of memory
-/// the lists stay as they were.
+/// Writes a cut, given an index of order numbers that covers all submissions.
+///
+/// # Errors
+///
+/// Without memory the lists are unchanged.
 pub(crate) fn write_cut(
     store: &mut ListStore,
     alloc: Global,

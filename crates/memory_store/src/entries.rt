@@ -1,4 +1,4 @@
-//! The rows of one company in memory are looked at, where they stand, for a few of them.
+//! Reads of one company's rows in memory, in place, for the few that are wanted.
 ghost use Rattle.std.specs.Prelude.{◌≡◌, ◌&&◌, ◌∷◌, [], bytes_eq, option_map, IfOk, OnOk};
 ghost use Rattle.std.specs.List.{list_any};
 ghost use Rattle.desk_rules.specs.Exposure.{is_open_credit};
@@ -16,7 +16,7 @@ use desk_book::{Row, state_numbered};
 use desk_rules::{EntryState, Retry, RuleDay, is_open_credit};
 use std::alloc::{AllocError, Global};
 
-/// A `RowFilter` says which rows of a company a read is after.
+/// The rows of a company that a read wants.
 #[derive(Clone, Copy)]
 pub(crate) enum RowFilter {
     /// Those with an entry that is held or settled since a day.
@@ -79,7 +79,7 @@ pub(crate) fn passes_of(kept: &KeptSubmission, company: Id, which: &RowFilter) -
     kept.company.bytes() == company.bytes() && passes(kept, which)
 }
 
-/// Adds what stands at a place, where it is a company's and passes.
+/// Appends the row at a place, if it is the company's and passes.
 fn push_passing(
     alloc: Global,
     rows: &mut Vec<Row>,
@@ -99,7 +99,7 @@ fn push_passing(
     Ok(())
 }
 
-/// Gives those rows of a company that pass, of what stands at these places.
+/// Returns a company's rows that pass, among those at these places.
 pub(crate) fn rows_passing(
     alloc: Global,
     kept: &[KeptSubmission],
@@ -117,7 +117,7 @@ pub(crate) fn rows_passing(
     Ok(rows)
 }
 
-/// Gives the row at a place, where it is the company's submission with a reference.
+/// Returns the row at a place, if it is the company's submission with this reference.
 fn submission_at<'a>(
     kept: &'a [KeptSubmission],
     place: usize,
@@ -135,7 +135,7 @@ fn submission_at<'a>(
     None
 }
 
-/// Gives a company's submission with a reference, of what stands at these places.
+/// Returns a company's submission with a reference, among those at these places.
 pub(crate) fn submission_among<'a>(
     kept: &'a [KeptSubmission],
     places: &[usize],

@@ -1,4 +1,4 @@
-//! What an incoming file writes into the lists.
+//! Writing an incoming file into the lists.
 ghost use Rattle.std.specs.Prelude.{◌≡◌, OnOk, OnErr};
 ghost use Rattle.desk_store.specs.Changes.{return_in};
 ghost use Rattle.memory_store.specs.Keyed.{returned_keyed, returned_states};
@@ -71,8 +71,11 @@ impl Change for ReturnedRow {
     }
 }
 
-/// Writes an incoming file, where the index of references covers all submissions. Where this is out
-/// of memory the lists stay as they were.
+/// Writes an incoming file, given an index of references that covers all submissions.
+///
+/// # Errors
+///
+/// Without memory the lists are unchanged.
 pub(crate) fn write_intake(store: &mut ListStore, intake: &IntakeRows<'_>) -> Result<(), AllocError>
     ensures ok { OnOk result (WritesIntake (intake_rows intake.now) store.old store.new) }
     ensures err { OnErr result (rows_in store.new ≡ rows_in store.old) }

@@ -77,7 +77,7 @@ pub(crate) fn count_on(files: &[FileRow], day: Day) -> u64
     count
 }
 
-/// Copies the text of a file. Where there is no such file it takes no memory.
+/// Copies the text of a file. Takes no memory if there is no such file.
 pub(crate) fn text_at(
     alloc: Global,
     files: &[FileRow],

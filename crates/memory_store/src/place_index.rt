@@ -15,7 +15,7 @@ use desk_store::StoreFault;
 use std::alloc::Global;
 use std::collections::BTreeMap;
 
-/// A `KeyKind` says which key an index has for a row.
+/// The key that an index has for a row.
 #[derive(Clone, Copy)]
 pub(crate) enum KeyKind {
     /// Its company.
@@ -118,7 +118,7 @@ impl PlaceIndex {
         self.indexed = 0;
     }
 
-    /// Adds a place to those of a key, where there is one.
+    /// Adds a place to those of a key, if there is a key.
     fn add(&mut self, alloc: Global, key: Option<RowKey>, place: usize) -> Result<(), StoreFault>
         ensures ok { OnOk result (ListsMore key place self.old self.new) }
         ensures err { OnErr result (ListsSame self.old self.new) }

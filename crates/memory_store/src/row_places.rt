@@ -79,7 +79,7 @@ impl RowPlaces {
         }
     }
 
-    /// Begins the index of open rows again, where it is for another day.
+    /// Empties the index of open rows if it is for another day.
     fn begin(&mut self, since: Day)
         ensures right { (rows : List CompanyRow) → ArePlaced rows self.old →
             ArePlaced rows self.new }
@@ -119,7 +119,7 @@ impl RowPlaces {
         self.references.cover(alloc, kept, &KeyKind::Reference)?;
         match self.since {
             None => self.companies.cover(alloc, kept, &KeyKind::Company)?,
-            // What no cut has decided may be open since any day.
+            // An undecided submission may be open since any day.
             Some(since) => self.recent.cover(alloc, kept, &KeyKind::OpenSince(since))?,
         }
         Ok(())

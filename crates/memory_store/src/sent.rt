@@ -5,7 +5,7 @@ ghost use Rattle.desk_history.specs.Sendings.{sent_sequence};
 
 use desk_history::SentEntry;
 
-/// Gives the sequence of the last entry, 0 where there is none.
+/// Returns the sequence of the last entry, 0 if there is none.
 pub(crate) fn last_of(sent: &[SentEntry]) -> u32
     ensures { result ≡ last_sequence (map sent_sequence (reverse sent.now)) }
 {

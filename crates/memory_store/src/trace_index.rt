@@ -9,7 +9,7 @@ use desk_store::StoreFault;
 use std::alloc::Global;
 use std::collections::BTreeMap;
 
-/// The seven digits of a trace tell so many sequences apart.
+/// The number of sequences that the seven digits of a trace distinguish.
 const SEQUENCES: u32 = 10_000_000;
 
 /// A `TraceIndex` has the youngest entry for each seven digits in which a sequence ends, among the
@@ -52,7 +52,7 @@ impl TraceIndex {
         Ok(())
     }
 
-    /// Gives the youngest entry that has a trace, where all entries are covered.
+    /// Returns the youngest entry that has a trace, given an index that covers all entries.
     pub(crate) fn entry_of(&self, odfi: Routing, trace: Trace) -> Option<SentEntry>
         ensures { OfIndexed self.now (λ sent. result ≡ find (has_trace odfi trace) (reverse sent)) }
     {

@@ -1,4 +1,4 @@
-//! What traces name, among what is kept.
+//! The entries that traces name, among those in memory.
 ghost use Rattle.std.specs.Prelude.{◌≡◌, IfOk};
 ghost use Rattle.desk_book.specs.OnIntake.{is_returned_state};
 ghost use Rattle.memory_store.specs.Covers.{HasReferences};
@@ -24,7 +24,7 @@ fn is_returned_state(state: EntryState) -> bool
     }
 }
 
-// Has the entry come back? The index finds each reference.
+// Reports whether the entry is returned, given an index that finds each reference.
 fn is_returned(kept: &[KeptSubmission], references: &PlaceIndex, entry: &SentEntry) -> bool
     ensures { HasReferences kept.now references.now → result ≡ is_returned_among kept.now entry.now }
 {

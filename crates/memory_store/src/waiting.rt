@@ -62,7 +62,7 @@ fn waiting_like(
     })
 }
 
-/// Adds what stands at a place, where it is a company's and no cut has decided it.
+/// Appends the submission at a place, if it is the company's and undecided.
 fn push_waiting_at(
     alloc: Global,
     found: &mut Vec<HeldSubmission>,
@@ -83,7 +83,7 @@ fn push_waiting_at(
     Ok(())
 }
 
-/// Adds the held submissions of a company, of what stands at these places.
+/// Appends a company's held submissions among those at these places.
 fn push_waiting(
     alloc: Global,
     found: &mut Vec<HeldSubmission>,

@@ -5,7 +5,7 @@ ghost use Rattle.ach_records.specs.declared.Kind.TheVariants as kinds;
 
 use crate::fields::text_at;
 
-/// A `FileHeader` views a record 1: where a file comes from, where it goes and when it was made.
+/// A view of a record 1: where a file comes from, where it goes and when it was made.
 #[derive(Clone, Copy)]
 pub struct FileHeader<'a> {
     /// These are its 94 bytes.
@@ -64,7 +64,7 @@ impl<'a> FileHeader<'a> {
         text_at(self.text, 29, 4)
     }
 
-    /// Gives position 34: what tells the files of a day apart.
+    /// Returns position 34, which distinguishes the files of a day.
     pub fn modifier(&self) -> &'a [u8]
         ensures { result.now ≡ field kinds.FileHeader "modifier" self.now.text.now }
     {

@@ -1,4 +1,4 @@
--- What one more event does to the accepted submissions and retries, and to what was decided.
+-- The effect of one more event on the accepted submissions and retries, and on decisions.
 use Rattle.std.proofs.Common.{◌≡◌, ℕ, ◌⊎◌, List, [], ◌∷◌, ◌++◌, Bool, true, false, ◌||◌, refl, sym, subst, ap, ◌∙◌, inl, inr, if◌then◌else◌}
 use Rattle.std.specs.Prelude.{All, Option, Some, None, option_and_then, is_some, Result, Ok, Err, find}
 use Rattle.std.specs.List.{list_any}
@@ -202,7 +202,7 @@ retried_is P A d a h =
           })
     ]
 
--- one stands after the others, under a reference that is new
+-- one is appended, under a new reference
 pub record Grows (P : List Event) (A : List AcceptedSubmission) (r : Request) : Type 0 where
   pub added : AcceptedSubmission
   pub new : find (is_called added.content.reference) A ≡ None
@@ -233,7 +233,7 @@ grown_by A (Ok a) New apart answers = elim (answers a refl) [
   | inr fresh ↦ inr (record { added = a; new = apart a fresh; is = grown_new A a (apart a fresh); from = fresh })
 ]
 
--- A request leaves what was accepted, or one more stands after it.
+-- A request leaves the accepted list unchanged, or appends one.
 pub grows_or_stays : (P : List Event) (A : List AcceptedSubmission) (r : Request) → (submissions_after P A r ≡ A) ⊎ Grows P A r
 grows_or_stays P A (request.Submit d) =
     elim (grown_by A (accepted_submission P A d) (IsNewSubmission P A d) (λ a new. ap (λ (x : AcceptedSubmission). find (is_called x.content.reference) A) new.is ∙ new.new)
@@ -256,7 +256,7 @@ grows_or_stays P A request.Exposure = inl refl
 
 -- ---- what stays under a further event
 
--- what is found stays so when one more stands at the end
+-- appending an element does not change a search that succeeds
 pub found_stays : {X : Type 0} (p : X → Bool) (xs : List X) (x a : X) → find p xs ≡ Some a → find p (xs ++ x ∷ []) ≡ Some a
 found_stays p xs x a h = find-append p xs (x ∷ []) ∙ rw h refl
 

@@ -1,4 +1,4 @@
--- A retry stands for an entry of an earlier submission that settled.
+-- A retry names an entry of an earlier submission that settled.
 use Rattle.std.proofs.Common.{◌≡◌, ◌≤◌, ℕ, List, [], ◌∷◌, length, map, Bool, false, refl, sym, subst, ap, ◌∙◌, arith}
 use Rattle.std.specs.Prelude.{All, Option, Some, None, option_and_then, filter_map, Result, Ok}
 use Rattle.std.proofs.lemmas.List.Elements.{All-nil, All-push, All-weaker}
@@ -23,7 +23,7 @@ use Rattle.desk_history.proofs.Acceptance.Ordered.{by_growing, orders, orders_wi
 
 -- ---- a retry's original settled
 
--- a retry that may be asked is of a debit that came back
+-- a retry that may be asked names a returned debit
 came_back : (tried : List Attempt) (asked : ℕ) (authorized : Option ℕ) (day : ℕ) (holidays : List ℕ) → retry_verdict tried asked authorized day holidays ≡ Ok tt → (back : Return) × (original_return tried ≡ Some back)
 came_back tried asked authorized day holidays h = at (original_return tried) (newest_return tried) h where
   judged : Option Return → Option Return → Result (Unit {0}) Refusal
@@ -33,12 +33,12 @@ came_back tried asked authorized day holidays h = at (original_return tried) (ne
   at (Some back) newest h = (back, refl)
   at None newest h = absurd (cc)
 
--- what came back had settled
+-- a returned entry had settled
 back_settled : (on : Option ℕ) (t : Option TakenReturn) (others : List EntryState) (back : Return) → original_return (filter_map attempt_of (state_from false on t ∷ others)) ≡ Some back → (day : ℕ) × (on ≡ Some day)
 back_settled None t others back h = absurd (cc)
 back_settled (Some day) t others back h = (day, refl)
 
--- what is no retry does not lapse
+-- a submission that is not a retry does not lapse
 pub plain_stands : (P : List Event) (a : AcceptedSubmission) → a.retry ≡ None → IsLinked P a → has_lapsed P a ≡ false
 plain_stands P a plain linked = rw no_original (never (decision P a.place)) where
   unlinked : (retry : Option Retry) → retry ≡ None → IsLinkedTo P a retry → a.original ≡ None

@@ -1,4 +1,4 @@
--- The entry that a retry names, and what a draft tells.
+-- The entry that a retry names, and the contents of a draft.
 use Rattle.std.proofs.Common.{◌≡◌, ◌≤◌, ℕ, ◌-◌, List, [], ◌∷◌, length, Bool, true, false, not, ◌&&◌, refl, subst, ap, ◌∙◌, if◌then◌else◌, arith}
 use Rattle.std.specs.Prelude.{Option, Some, None, option_map, option_and_then, Result, Ok, Err, find, slice_get, nat_le, nat_lt}
 use Rattle.std.specs.Result.{result_ok}
@@ -28,7 +28,7 @@ use Rattle.desk_history.proofs.Basics.Chains.{steps}
 
 -- ---- the original of a retry
 
--- a live debit of an accepted submission that is no retry
+-- a live debit of an accepted submission that is not a retry
 pub record IsNamed (A : List AcceptedSubmission) (r : Retry) (o : Original) : Type 0 where
   pub found : find (is_called r.of) A ≡ Some o.accepted
   pub plain : o.accepted.retry ≡ None

@@ -1,4 +1,4 @@
--- What holds of all that is accepted: the order, the references, the places and the sizes.
+-- Facts about everything accepted: order, references, places and sizes.
 use Rattle.std.proofs.Common.{◌≡◌, ◌≢◌, ◌≤◌, ℕ, ◌+◌, ◌-◌, List, [], ◌∷◌, ◌++◌, length, map, Bool, true, false, refl, sym, subst, ap, ◌∙◌, inl, inr, if◌then◌else◌, arith}
 use Rattle.std.specs.Prelude.{All, AllPairs, Option, Some, None, find, slice_get}
 use Rattle.std.specs.List.{range_with_len}
@@ -26,7 +26,7 @@ use Rattle.desk_history.specs.AcceptedLaws.{IsPlaced, IsSized}
 use Rattle.desk_history.proofs.Acceptance.Growing.{Grows, IsNew, grows_or_stays, found_holds, accepted_stays}
 use Rattle.desk_history.proofs.Acceptance.Named.{named_parts, submission_some, size_parts}
 
--- What holds of none, stays where nothing is accepted, and stays when one more is, holds after all events.
+-- A fact of the empty part that survives events which accept nothing, and one more acceptance, holds after all events.
 pub by_growing : (Q : List Event → Type 0) → Q []
     → ((e : Event) (P : List Event) → submissions (e ∷ P) ≡ submissions P → Q P → Q (e ∷ P))
     → ((P : List Event) (r : Request) → Grows P (submissions P) r → Q P → Q (Asked r ∷ P))
@@ -44,7 +44,7 @@ by_growing Q none stays grows (CutMade ∷ P) = stays CutMade P refl (by_growing
 by_growing Q none stays grows (Returned r i code information ∷ P) = stays (Returned r i code information) P refl (by_growing Q none stays grows P)
 by_growing Q none stays grows (Changed r i code text ∷ P) = stays (Changed r i code text) P refl (by_growing Q none stays grows P)
 
--- the one that is new stands next
+-- the new one comes next
 pub record IsNext (P : List Event) (A : List AcceptedSubmission) (a : AcceptedSubmission) : Type 0 where
   pub content : Submission
   pub retry : Option Retry

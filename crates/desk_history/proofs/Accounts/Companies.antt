@@ -100,7 +100,7 @@ apart_with_limits id limits (k ∷ ks) apart = (
 
 -- ---- a message
 
--- what a new company answers, where these are registered
+-- the answer to a new company, given the registered ones
 abbrev pub registering : List Company → Company → Result Outcome rules.Refusal
 registering ks k = holds_or CompanyExists (is_none (find (has_id k.id) ks)) >>= (λ _. Ok (done.Company k.id))
 

@@ -48,7 +48,7 @@ sent_registered odfi (x ∷ H) =
 
 -- ---- what comes back is of an entry that was sent
 
--- a fact on the entry of an item, where it has one
+-- a fact about an item's entry, if it has one
 abbrev OfEntry : (SentEntry → Type 0) → Result ResolvedItem SuspenseReason → Type 0
 OfEntry P (Ok x) = P x.entry
 OfEntry P (Err why) = Unit {0}

@@ -1,4 +1,4 @@
--- What a desk that serves one company alone has of it, beside the desk that serves all.
+-- A company on a desk that serves it alone, compared with the desk that serves all.
 use Rattle.std.proofs.Common.{◌≡◌, ℕ, ◌+◌, ◌<◌, ◌^◌, List, ◌∷◌, map, Bool, true, false, cond, ◌&&◌, refl, ap, ◌∙◌, subst, sym, arith}
 use Rattle.std.specs.Prelude.{Some, None, bytes_eq, count_by, filter, find}
 use Rattle.std.specs.List.{AllByRecursion}
@@ -65,7 +65,7 @@ pub no_file : (b : Bool) → (b && false) ≡ false
 no_file true = refl
 no_file false = refl
 
--- a message that is no file takes no key
+-- a message without a file takes no key
 pub no_key : (key : List ℕ) (x : Pair) (G : List Pair) → has_file_key key x.message ≡ false → find (takes_key key) G ≡ None → find (takes_key key) (x ∷ G) ≡ None
 no_key key x G none before =
     ap (λ (b : Bool). cond (is_accepted x.answer && b) (Some x) (find (takes_key key) G)) none
@@ -77,7 +77,7 @@ count-answers e P b is = sum_by-cons (λ (e : Event). cond (is_answer e) 1 0) e 
 
 -- ---- one more message
 
--- a message that is no cut and no file gives the company an event, and leaves the rest as it was
+-- a message that is neither a cut nor a file gives the company an event, and changes nothing else
 pub record GivesOne (identity : Identity) (c : List ℕ) (ks : List Company) (P : List Event) (G : List Pair) (m : Message) (e : Event) : Type 0 where
   pub may : IsAcceptedOrOf c (next_pair identity G m)
   pub no_answer : is_answer e ≡ false

@@ -114,7 +114,7 @@ other_limited c id limits (k ∷ ks) other =
 abbrev pub is_sending_of : List ℕ → Sending → Bool
 is_sending_of c s = has_id c s.company
 
--- What the lone desk sends is what the whole desk sends of the company.
+-- The lone desk sends exactly the company's entries that the whole desk sends.
 pub own_sends : (c : List ℕ) (parts lone : List ℕ → List Event) → parts c ≡ lone c → (ks : List Company)
     → filter (is_sending_of c) (sendings parts ks) ≡ sendings lone (filter (has_id c) ks)
 own_sends c parts lone same [] = refl

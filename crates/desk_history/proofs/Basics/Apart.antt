@@ -19,7 +19,7 @@ both_weaker : {X : Type 0} (P : X → Type 0) (R Q : X → Type 0) → ((y : X) 
 both_weaker P R Q f [] p r = tt
 both_weaker P R Q f (y ∷ ys) p r = (f y p.0 r.0, both_weaker P R Q f ys p.1 r.1)
 
--- a weaker difference, where a fact holds of each
+-- a weaker difference, given a fact about each element
 pub apart-weaker : {X : Type 0} (P : X → Type 0) (R Q : X → X → Type 0) → ((x y : X) → P x → P y → R x y → Q x y)
     → (xs : List X) → AllByRecursion P xs → AreApart R xs → AreApart Q xs
 apart-weaker P R Q f [] p h = tt
@@ -32,8 +32,8 @@ none_found {X} p (x ∷ xs) h = ap (λ (b : Bool). cond b (Some x) (find p xs)) 
 one_more : {X : Type 0} (x : X) (xs S : List X) → reverse (x ∷ xs) ++ S ≡ reverse xs ++ x ∷ S
 one_more {X} x xs S = ap (λ (l : List X). l ++ S) (reverse-append (x ∷ []) xs) ∙ append_assoc (reverse xs) (x ∷ []) S
 
--- Where each element of a list has a test that it passes itself and that those after it do not, then
--- with the last of them first its test finds it.
+-- If each element of a list passes its own test and no later element passes it, then in the reversed list each
+-- element's test finds that element.
 pub each_found : {X : Type 0} (p : X → X → Bool) → ((x : X) → p x x ≡ true) → (xs S : List X)
     → AreApart (λ x y. p x y ≡ false) xs → AllByRecursion (λ x. find (p x) (reverse xs ++ S) ≡ Some x) xs
 each_found p itself [] S h = tt

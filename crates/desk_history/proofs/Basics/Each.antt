@@ -1,4 +1,4 @@
--- What holds of each element of a list, by recursion on the list.
+-- Facts about each element of a list, by recursion on the list.
 use Rattle.std.proofs.Common.{◌≡◌, Bool, true, List, [], ◌∷◌, ◌++◌, map, reverse}
 use Rattle.std.specs.Prelude.{filter, zip}
 use Rattle.std.specs.List.{flat_map, AllByRecursion}

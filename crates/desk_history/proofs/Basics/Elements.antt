@@ -1,4 +1,4 @@
--- What is true of each element of a list that is made of others.
+-- Facts about each element of a list that is made of other lists.
 use Rattle.std.proofs.Common.{◌≡◌, ℕ, suc, ◌+◌, ◌-◌, ◌≤◌, List, [], ◌∷◌, ◌++◌, true, ◌==◌, refl, sym, ap, ◌∙◌, arith}
 use Rattle.std.specs.Prelude.{Some, reverse, slice_get, bytes_eq, All}
 use Rattle.std.specs.List.{flat_map, enumerate_from, zip}
@@ -31,7 +31,7 @@ all_zip P [] ys all = All-nil _
 all_zip P (x ∷ xs) [] all = All-nil _
 all_zip P (x ∷ xs) (y ∷ ys) all = All-cons (λ z. P z.1) (x, y) (zip xs ys) (All-head P y ys all) (all_zip P xs ys (All-tail P y ys all))
 
--- a numbered element stands at its number
+-- a numbered element is at its number
 abbrev pub StandsIn : {X : Type 0} → ℕ → List X → ℕ × X → Type 0
 StandsIn n xs x = (n ≤ x.0) × (slice_get xs (x.0 - n) ≡ Some x.1)
 

@@ -1,4 +1,4 @@
--- What a cut posts to a company's account.
+-- The postings of a cut to a company's account.
 use Rattle.std.proofs.Common.{◌≡◌, ℕ, List, [], ◌∷◌, ◌++◌, map, Bool, true, false, cond, ◌&&◌, refl, sym, ap, ◌∙◌, subst, inl, inr}
 use Rattle.std.specs.Prelude.{if◌then◌else◌, nat_lt, Option, Some, None, option_map, is_some, unwrap_or, find, filter, bytes_eq}
 use Rattle.std.specs.List.{flat_map}
@@ -95,7 +95,7 @@ all_sent parts (k ∷ ks) =
     flat_map-append sending_line (sendings_of parts k) (flat_map (sendings_of parts) ks)
     ∙ (λ i. lines_sent k (parts k.id) (submissions (parts k.id)) i ++ all_sent parts ks i)
 
--- of the lines of all companies those of one are its own, where it is among them
+-- of the lines of all companies, those of one company are its own, if it is among them
 own_of_all : (L : List ℕ → List StatementLine) (c : List ℕ) (ks : List Company) → Apart ks
     → lines_of (accounts.Company c) (flat_map (λ k. map (posting_of k.id) (L k.id)) ks) ≡ (if is_some (find (has_id c) ks) then map (posting_of c) (L c) else [])
 own_of_all L c [] apart = refl

@@ -1,4 +1,4 @@
--- What the items of a file post to a company's account.
+-- The postings of a file's items to a company's account.
 use Rattle.std.proofs.Common.{◌≡◌, ℕ, List, [], ◌∷◌, ◌++◌, map, Bool, true, false, not, cond, ◌&&◌, refl, sym, ap, ◌∙◌, append_assoc, inl, inr}
 use Rattle.std.specs.Prelude.{if◌then◌else◌, nat_lt, Option, Some, bytes_eq, zip, Result, Ok, Err}
 use Rattle.std.specs.List.{flat_map}
@@ -33,7 +33,7 @@ use Rattle.desk_history.proofs.Sent.PartsPossible.{AreEntriesOf, entries_kept, n
 abbrev own : List ℕ → List Posting → List Posting
 own c ls = lines_of (accounts.Company c) ls
 
--- what stands in suspense is of no company
+-- an item in suspense belongs to no company
 none_suspended : (c : List ℕ) (d : ℕ) (item : ItemFacts) → own c (suspense_lines d item) ≡ []
 none_suspended c d item =
     elim (is_return item) as (λ b. own c (if b then if_any item.cents (posting.suspense_line (is_debit_code item.transaction_code) item.cents d) else []) ≡ []) [
@@ -52,7 +52,7 @@ none_of_others c d e item event gives differ =
     by true = ap (λ (b : Bool). cond b (posting.return_line e.company e.debit e.entry.cents d e.reference e.index ∷ []) []) differ
     by false = refl
 
--- the line of an entry that came back is that of the statement
+-- the line of a returned entry is that of the statement
 returned_line : (c : List ℕ) (P : List Event) (d : ℕ) (e : SentEntry) → bytes_eq e.company c ≡ true → today P ≡ d → IsEntryOf P e
     → own c (if_any e.entry.cents (posting.return_line e.company e.debit e.entry.cents d e.reference e.index))
     ≡ map (posting_of c) (submission_line P e.index (submission_under P e.reference))

@@ -78,7 +78,7 @@ registration_given identity H (TakeFile file) false by odfi es false c P same = 
 registration_given identity H m true by odfi es new c P same = same
 registration_given identity H m false by odfi es new c P same = same
 
--- a company's registration stands in its part
+-- a company's registration is in its part
 same_registrations : (identity : Identity) (H : List Pair) (c : List ℕ) → IsHistory identity H → registration_in (companies H) c ≡ registration (part identity.odfi H c)
 same_registrations identity [] c is = refl
 same_registrations identity (x ∷ H) c is =

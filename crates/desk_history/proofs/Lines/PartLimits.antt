@@ -61,7 +61,7 @@ day_given odfi es false c false (TakeFile file) P = refl
 day_given odfi es new c true m P = refl
 day_given odfi es new c false m P = refl
 
--- the desk day stands in each part
+-- the desk day is in each part
 pub same_day : (odfi : List ℕ) (H : List Pair) (c : List ℕ) → part_of.day (part odfi H c) ≡ day H
 same_day odfi [] c = refl
 same_day odfi (x ∷ H) c =
@@ -99,7 +99,7 @@ holidays_given odfi es false c false (TakeFile file) P = refl
 holidays_given odfi es new c true m P = refl
 holidays_given odfi es new c false m P = refl
 
--- the holidays stand in each part
+-- the holidays are in each part
 pub same_holidays : (odfi : List ℕ) (H : List Pair) (c : List ℕ) → part_of.holidays (part odfi H c) ≡ holidays H
 same_holidays odfi [] c = refl
 same_holidays odfi (x ∷ H) c =
@@ -120,7 +120,7 @@ registered ks c P (Ok k) h same =
     ap (option_map (λ k. k.limits)) (find_with_company k ks c (none_before ks k h))
     ∙ elim (bytes_eq k.id c) as (λ b. option_map (λ k. k.limits) (cond b (Some k) (find (has_id c) ks)) ≡ limits ((if b then Registered k.name k.digest k.limits ∷ [] else []) ++ P)) [ true ↦ refl | false ↦ same ]
 
--- what new limits answer, where these companies are registered
+-- the answer to new limits, given the registered companies
 abbrev pub limiting : List Company → List ℕ × Limits → Result Outcome rules.Refusal
 limiting ks x = some_or NoCompany (find (has_id x.0) ks) >>= (λ _. Ok (done.Company x.0))
 
@@ -182,7 +182,7 @@ limits_given identity H (TakeFile file) false by odfi es false c P same = same
 limits_given identity H m true by odfi es new c P same = same
 limits_given identity H m false by odfi es new c P same = same
 
--- a company's limits stand in its part
+-- a company's limits are in its part
 pub same_limits : (identity : Identity) (H : List Pair) (c : List ℕ) → IsHistory identity H → limits_in (companies H) c ≡ limits (part identity.odfi H c)
 same_limits identity [] c is = refl
 same_limits identity (x ∷ H) c is =

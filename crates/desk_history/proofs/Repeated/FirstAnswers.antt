@@ -1,4 +1,4 @@
--- What was accepted once is known ever after, and is answered as it was first.
+-- Something accepted once is known from then on, and is answered as it was the first time.
 use Rattle.std.proofs.Common.{◌≡◌, ℕ, List, [], ◌∷◌, ◌++◌, true, ◌&&◌, refl, sym, ap, ◌∙◌, subst, append_assoc}
 use Rattle.std.specs.Prelude.{Option, Some, None, Result, Ok, Err}
 use Rattle.ach_files.specs.declared.fault.Fault.{Fault}
@@ -70,7 +70,7 @@ IsKnownMessage odfi H answer (Of c (request.Retry d)) = (a : AcceptedSubmission)
 IsKnownMessage odfi H answer (TakeFile (Ok f)) = (counts : Intake) × IsKnownFile odfi f counts H × (answer ≡ intake_answer (Ok counts))
 IsKnownMessage odfi H answer m = ⊥
 
--- no file is taken where there is none
+-- a message with a faulty file takes no file
 no_file : (odfi : List ℕ) (H : List Pair) (fault : Fault) (on : Option ℕ) → is_accepted (intake_answer (intake_on_day odfi H on (Err fault))) ≡ true → ⊥
 no_file odfi H fault None accepted = cc
 no_file odfi H fault (Some d) accepted = cc

@@ -57,7 +57,7 @@ known_counts odfi f counts H known = by (day H) known.on where
 
 -- ---- what is taken is known
 
--- the first file of its key stands after the others
+-- the first file with its key is appended
 taken_new : (odfi : List ℕ) (x : Pair) (H : List Pair) (f : FileFacts) → x.message ≡ TakeFile (Ok f) → is_accepted x.answer ≡ true → find (has_key f.key) (taken_files odfi H) ≡ None
     → new_file H x ≡ Some f
 taken_new odfi x H f message accepted none =

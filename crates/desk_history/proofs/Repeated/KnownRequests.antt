@@ -62,7 +62,7 @@ known_outcome {X} fields reference is_same a P new known = by (limits P) (day P)
 
 -- ---- what is accepted is known
 
--- what is new stands under its reference
+-- a new one is found under its reference
 found_new : (A : List AcceptedSubmission) (reference : List ℕ) (a : AcceptedSubmission) (outcome : Result AcceptedSubmission Refusal) → outcome ≡ Ok a → a.content.reference ≡ reference
     → find (is_called reference) A ≡ None → find (is_called reference) (with_accepted A outcome) ≡ Some a
 found_new A reference a outcome accepted named none =

@@ -1,4 +1,4 @@
--- What messages other than cuts and files give to a company.
+-- The events that messages other than cuts and files give a company.
 use Rattle.std.proofs.Common.{ℕ, List, [], ◌∷◌, Bool, true, false, ◌&&◌}
 use Rattle.std.specs.Prelude.{if◌then◌else◌, ⊤, Option, Some, None, option_map, option_to_list, bytes_eq}
 use Rattle.std.specs.Result.{result_ok}
@@ -12,7 +12,7 @@ use Rattle.desk_history.specs.Part.{Event, DaySet, HolidaysSet, Registered, Limi
 use Rattle.desk_history.specs.Message.{Message, Of, SetDay, SetHolidays, PutCompany, PutLimits, Cut, TakeFile}
 use Rattle.desk_history.specs.History.{message_day, company_event, limits_event, request_event, events_for}
 
--- no cut, and nothing that came back
+-- neither a cut nor a return or change
 abbrev pub IsQuiet : Event → Type 0
 IsQuiet CutMade = ⊥
 IsQuiet (Returned reference index code information) = ⊥
@@ -54,7 +54,7 @@ asked_gives M none one true (request.Retry d) = one (request.Retry d)
 asked_gives M none one true r = none
 asked_gives M none one false r = none
 
--- of what the operator's messages give that are no cuts and no files
+-- a fact about the events that the operator's other messages give
 pub settings_give : (M : List Event → Type 0) → M [] → ((e : Event) → IsSetting e → M (e ∷ []))
     → (odfi : List ℕ) (es : List SentEntry) (new : Bool) (c : List ℕ) (ok : Bool) (m : Message) (P : List Event) → MaySet ok m → M (events_for odfi es new c ok m P)
 settings_give M none one odfi es new c ok (Of k r) P may = absurd may

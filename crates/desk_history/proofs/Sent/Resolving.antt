@@ -1,4 +1,4 @@
--- What an item of a file tells where it gives an event.
+-- The facts about a file's item that gives an event.
 use Rattle.std.proofs.Common.{◌≡◌, ℕ, ◌+◌, ◌-◌, ◌*◌, ◌==◌, nat_le, List, [], ◌∷◌, ◌++◌, Bool, true, false, not, ◌&&◌, refl, sym, ap, ◌∙◌, subst, append_assoc, inl, inr}
 use Rattle.std.specs.Prelude.{if◌then◌else◌, Option, Some, None, option_map, Result, Ok, Err, bytes_eq}
 use Rattle.std.proofs.lemmas.Bool.{cases_Bool, and_parts, not-true, leb-true}
@@ -87,7 +87,7 @@ event_holds P e item event h on_return on_change = by_kind item.return_or_change
 
 -- ---- what an item gives to a company
 
--- the entry that an item names, where it gives an event to the company
+-- the entry that an item names, if it gives the company an event
 pub record Gives (c : List ℕ) (P : List Event) (odfi : List ℕ) (sent : List SentEntry) (item : ItemFacts) (x : ResolvedItem) : Type 0 where
   pub meeting : Meets odfi sent item x
   pub own : bytes_eq x.entry.company c ≡ true

@@ -1,4 +1,4 @@
--- What was so at an accepted cut.
+-- Facts at an accepted cut.
 use Rattle.std.proofs.Common.{◌≡◌, true, List, Result, Ok, Err, refl, sym, ap, ◌∙◌}
 use Rattle.std.proofs.lemmas.Bool.{leb-true}
 use Rattle.desk_rules.specs.declared.refusals.refusal.Refusal as rules

@@ -1,4 +1,4 @@
--- What a cut sends are batches: each fits a file of its own.
+-- A cut sends batches: each fits into a file of its own.
 use Rattle.std.proofs.Common.{ℕ, ◌*◌, ◌≤◌, List, [], ◌∷◌, length, Bool, true, false, Some, None, Option, arith}
 use Rattle.std.specs.Prelude.{sum_by, if◌then◌else◌}
 use Rattle.std.specs.List.{AllByRecursion}

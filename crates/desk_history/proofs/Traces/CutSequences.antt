@@ -35,7 +35,7 @@ IsIn r e = (r.0 ≤ e.sequence) × (e.sequence ≤ r.1)
 
 -- ---- the entries of one batch
 
--- a number from a first one on, of so many
+-- a number in a range of this length
 abbrev IsAmong : ℕ → ℕ → ℕ × Entry → Type 0
 IsAmong first count x = (first ≤ x.0) × (x.0 < first + count)
 

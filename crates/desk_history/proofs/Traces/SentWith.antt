@@ -1,4 +1,4 @@
--- What a cut adds to the sent entries.
+-- The entries that a cut adds to the sent ones.
 use Rattle.std.proofs.Common.{◌≡◌, ℕ, List, [], ◌∷◌, map, reverse, Bool, true, false, refl}
 use Rattle.std.specs.Prelude.{filter, zip, unwrap_or}
 use Rattle.std.specs.List.{flat_map, enumerate_from, AllByRecursion}
@@ -13,7 +13,7 @@ use Rattle.desk_history.specs.Sendings.{Sending, NumberedBatch, entries_in, plan
 use Rattle.desk_history.specs.History.{sendings_of, sendings, sent_entries_after}
 use Rattle.desk_history.proofs.Basics.Each.{each-all, each-append, each-map, each-filter, each-flat_map, each-reverse, each-zip}
 
--- what the next cut sends of a company, where it sends this submission
+-- what the next cut sends of a company, given one of its submissions
 abbrev pub sent_of : (List ℕ → List Event) → Company → AcceptedSubmission → Sending
 sent_of parts k a = record { company = k; order = a.order; content = a.content; settled = unwrap_or (settlement_day (CutMade ∷ parts k.id) a) 0 }
 

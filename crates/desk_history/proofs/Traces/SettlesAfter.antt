@@ -1,4 +1,4 @@
--- What a cut sends settles after its day.
+-- Entries sent by a cut settle after its day.
 use Rattle.std.proofs.Common.{◌≡◌, ℕ, zero, suc, ◌+◌, ◌-◌, ◌==◌, ◌<◌, ◌≤◌, List, ◌∷◌, length, Bool, true, false, Option, Some, None, ap, ◌∙◌, refl, arith}
 use Rattle.std.specs.Prelude.{if◌then◌else◌, is_none, is_some, unwrap_or, nat_lt, ◌&&◌}
 use Rattle.std.specs.List.{AllByRecursion}

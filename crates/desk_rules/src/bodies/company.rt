@@ -1,7 +1,7 @@
 use ach_fields::{Id, ShortText};
 
-/// `Limits` say how much a company may hand in and have outstanding. All are in cents, and all are
-/// the desk's own.
+/// The most that a company may submit in one entry and have outstanding in credits and in debits,
+/// in cents. These limits are the desk's own rule.
 #[derive(Clone, Copy, Debug, PartialEq, Eq, Drop)]
 pub struct Limits {
     /// The most cents of one entry.

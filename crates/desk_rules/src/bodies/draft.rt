@@ -1,5 +1,5 @@
-//! A draft says what a body has, before its fields are checked: each field is `None` where it is
-//! missing or of another kind.
+//! A body before its fields are checked: each field is `None` if it is missing or has another JSON
+//! type.
 ghost use Rattle.std.specs.Prelude.{◌≡◌, IfOk};
 
 use std::alloc::{AllocError, Global};
@@ -69,7 +69,7 @@ pub struct EntryDraft {
     pub info: Optional<DraftText>,
 }
 
-/// `EntryDrafts` are the entries of a submission, each `None` where it is no object.
+/// The entries of a submission's draft, each `None` if it is not an object.
 #[derive(Drop)]
 pub struct EntryDrafts {
     items: Vec<Option<EntryDraft>>,
@@ -101,8 +101,8 @@ impl EntryDrafts {
     }
 }
 
-/// A `Draft` is a submission: credits or debits that a company hands in under a reference of its
-/// own.
+/// A submission before its fields are checked: credits or debits that a company submits under a
+/// reference of its own.
 #[derive(Drop)]
 pub struct Draft {
     pub reference: Option<DraftText>,

@@ -28,7 +28,7 @@ impl Model for EntryCents {
 }
 
 impl EntryCents {
-    /// Gives the amount of so many cents, or `None` above 9,999,999,999.
+    /// Returns an amount in cents, or `None` above 9,999,999,999.
     pub fn new(cents: u64) -> Option<EntryCents>
         ensures { result ≡ cents_within cents }
     {

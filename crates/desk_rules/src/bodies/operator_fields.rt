@@ -9,7 +9,7 @@ use crate::bodies::fields::good;
 use crate::{Company, CompanyDraft, DraftText, Field, Limits, LimitsDraft, Refusal, RuleDay};
 use ach_fields::Id;
 
-/// The limit of an exposure has at most so many cents.
+/// The highest limit of an exposure, in cents.
 const MOST_EXPOSURE_LIMIT: u64 = 999_999_999_999_999;
 
 /// The last desk day is 2096-12-31.

@@ -7,8 +7,8 @@ use ach_fields::{Cents, Ref, ShortText};
 use std::alloc::{AllocError, Global};
 use std::marker::Model;
 
-/// A `SizedSubmission` is a submission of 1 to 1,000 entries, with a total of at most twelve digits
-/// of cents. What was accepted is one.
+/// A submission of 1 to 1,000 entries with a total of at most 999,999,999,999 cents. Every accepted
+/// submission is one.
 #[derive(Drop)]
 pub struct SizedSubmission {
     submission: Submission,

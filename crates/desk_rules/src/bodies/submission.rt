@@ -29,7 +29,7 @@ impl SecCode {
     }
 }
 
-/// A `Direction` says which way the money goes, as the receiver sees it.
+/// The direction of the money, as the receiver sees it.
 #[derive(Clone, Copy, Debug, PartialEq, Eq, Drop)]
 pub enum Direction {
     Credit,
@@ -97,7 +97,11 @@ impl Entries {
         })
     }
 
-    /// Adds an entry at the end. Where this is out of memory the list stays as it was.
+    /// Appends an entry.
+    ///
+    /// # Errors
+    ///
+    /// Without memory the list is unchanged.
     pub fn push(&mut self, entry: Entry) -> Result<(), AllocError>
         ensures ok { OnOk result (self.new ≡ self.old ++ entry ∷ []) }
         ensures err { OnErr result (self.new ≡ self.old) }

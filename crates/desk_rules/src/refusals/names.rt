@@ -27,16 +27,16 @@ pub enum RefusalName {
     TracesSpent,
     ModifiersSpent,
     FileKeyReused,
-    /// The bytes are no file of returns and changes.
+    /// The bytes are not a file of returns and changes.
     BadFile,
-    /// The text is no holiday list.
+    /// The text is not a holiday list.
     BadCalendar,
 }
 
 impl RefusalName {
     ghost use Rattle.desk_rules.specs.RefusalNames.{number_of, status_of, text_of};
 
-    /// Gives the number by which companies know the refusal.
+    /// Returns the refusal's number in answers to companies.
     pub fn number(self) -> u64
         ensures { result ≡ number_of self }
     {
@@ -67,8 +67,8 @@ impl RefusalName {
         }
     }
 
-    /// Gives the HTTP status of the answer: 422 where the body itself is wrong, 409 where it does
-    /// not fit what stands.
+    /// Returns the HTTP status of the answer: 422 if the body itself is invalid, 409 if it
+    /// conflicts with what the desk has.
     pub fn status(self) -> u16
         ensures { result ≡ status_of self }
     {

@@ -30,8 +30,8 @@ pub enum Field {
     DebitLimit,
 }
 
-/// A `Refusal` says why a command is refused. What a refused file or holiday list has at fault is
-/// told by the crates that read them.
+/// The reason why a command is refused. The faults of a file or holiday list are defined by the
+/// crates that read them.
 #[derive(Clone, Copy, Debug, PartialEq, Eq, Drop)]
 pub enum Refusal {
     /// No desk day was set.
@@ -53,9 +53,9 @@ pub enum Refusal {
     CreditLimit,
     /// The debit exposure would be above the company's limit.
     DebitLimit,
-    /// There is no such entry, or it belongs to a retry, or it is no live debit.
+    /// The entry does not exist, belongs to a retry, or is not a live debit.
     NoEntry,
-    /// The original or the newest attempt has not come back.
+    /// The original or the newest attempt is not returned.
     NotReturned,
     /// The code of the newest return does not allow another attempt.
     NotRetryable(ReturnCode),
@@ -65,7 +65,7 @@ pub enum Refusal {
     RetryTooLate,
     /// The day is not after the desk day.
     DayNotLater,
-    /// The day is no banking day.
+    /// The day is not a banking day.
     NotBankingDay,
     /// A company has the identification.
     CompanyExists,

@@ -14,7 +14,7 @@ pub enum Attempt {
     Sent {
         settled: RuleDay,
     },
-    /// It came back.
+    /// It is returned.
     Returned {
         /// The day on which it settled.
         settled: RuleDay,

@@ -5,9 +5,10 @@ ghost use Rattle.desk_rules.specs.Deadlines.{deadline, is_late};
 use crate::{ReturnCode, RuleDay, TimeClass};
 use bank_days::{Calendar, Day};
 
-/// Gives the return deadline: the last day on which a return with this code is in time, for an
-/// entry that settled on this day. It is the second banking day after that, or the first banking
-/// day after its sixtieth day (an extended return). It is `None` where the code has no limit.
+/// Returns the return deadline: the last day on which a return with this code is in time, for an
+/// entry that settled on this day. It is the second banking day after that day, or the first
+/// banking day after its sixtieth day (an extended return). Returns `None` if the code has no
+/// limit.
 pub fn deadline(code: ReturnCode, settled: RuleDay, calendar: &Calendar) -> Option<Day>
     ensures { result ≡ deadline code settled calendar.now }
 {

@@ -3,7 +3,7 @@ use crate::{ReturnCode, RuleDay};
 use ach_fields::Cents;
 use bank_days::Day;
 
-/// An `EntryState` says where an entry stands.
+/// The state of an entry.
 #[derive(Clone, Copy, Debug, PartialEq, Eq, Drop)]
 pub enum EntryState {
     /// It waits for a cut.
@@ -12,7 +12,7 @@ pub enum EntryState {
     Sent {
         settled: RuleDay,
     },
-    /// It came back.
+    /// It is returned.
     Returned {
         /// The day on which it settled.
         settled: RuleDay,

@@ -1,5 +1,5 @@
-//! An exposure says how many cents a company's entries may still cost the bank: the desk's own
-//! rule.
+//! Exposures: the cents that a company's entries may still cost the bank. The rule is the desk's
+//! own.
 ghost use Rattle.std.specs.Prelude.{◌≡◌, ◌≤◌, ◌*◌, length};
 ghost use Rattle.ach_fields.specs.Cents.{most_cents};
 ghost use Rattle.desk_rules.specs.Exposure.{credit_exposure, debit_exposure, is_open_credit, is_open_debit};
@@ -23,7 +23,7 @@ pub fn credit_exposure(facts: &[EntryFact], day: Day, _calendar: &Calendar) -> u
     exposed
 }
 
-/// Is a credit held, or does it settle on the day or after it, also where it came back?
+/// Reports whether a credit is held or settles on the day or later. Returned credits count too.
 pub fn is_open_credit(state: EntryState, day: Day) -> bool
     ensures { result ≡ is_open_credit state day }
 {
@@ -51,7 +51,7 @@ pub fn debit_exposure(facts: &[EntryFact], day: Day, calendar: &Calendar) -> u12
     exposed
 }
 
-/// Is a debit held, or can it still come back in the two banking days?
+/// Reports whether a debit is held or can still be returned within two banking days.
 pub fn is_open_debit(state: EntryState, day: Day, calendar: &Calendar) -> bool
     ensures { result ≡ is_open_debit state day calendar.now }
 {

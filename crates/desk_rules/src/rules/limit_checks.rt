@@ -10,7 +10,7 @@ use crate::{
 };
 use bank_days::{Calendar, Day};
 
-/// A submission may ask to settle so many days after the desk day.
+/// The most days after the desk day on which a submission may ask to settle.
 const MOST_DAYS: i64 = 60;
 
 /// Refuses a submission, in this order:

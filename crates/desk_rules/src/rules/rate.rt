@@ -12,7 +12,7 @@ pub enum Level {
     Overall,
 }
 
-/// A `Rate` says how many debits came back, of how many.
+/// The number of returned debits, and of all debits.
 #[derive(Clone, Copy, Debug, PartialEq, Eq, Drop)]
 pub struct Rate {
     /// The number of returns that count.

@@ -5,15 +5,15 @@ ghost use Rattle.desk_rules.specs.RetryRule.{is_authorized, is_retryable, is_too
 use crate::{Attempt, Refusal, ReturnCode, RuleDay};
 use bank_days::{Calendar, Day};
 
-/// There are at most so many attempts: the original and two retries.
+/// The most attempts of an entry: the original and two retries.
 const MOST_ATTEMPTS: usize = 3;
 
-/// A retry may settle so many days after the original's settlement.
+/// The most days between the settlement of the original and that of a retry.
 const MOST_DAYS: i64 = 180;
 
-/// Refuses a retry of a debit, a reinitiation in Nacha's words, in this order:
+/// Checks a retry of a debit (Nacha's reinitiation), and returns the first refusal in this order:
 ///
-/// - `NotReturned`: the original or the newest attempt has not come back;
+/// - `NotReturned`: the original or the newest attempt is not returned;
 /// - `NotRetryable`: the newest return is neither for lack of funds (R01, R09), nor a stopped
 ///   payment (R08) that the receiver authorized again, on or after the day on which that return was
 ///   taken and not after the desk day;

@@ -25,7 +25,7 @@ impl Model for ReturnCode {
 }
 
 impl ReturnCode {
-    /// Reads the code of three characters. It is `None` outside R01 to R29.
+    /// Reads a code of three characters. Returns `None` outside R01 to R29.
     pub fn parse(text: &[u8; 3]) -> Option<ReturnCode>
         ensures { result ≡ code_of text.now }
     {

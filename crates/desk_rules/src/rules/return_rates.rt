@@ -1,11 +1,11 @@
-//! Return rates say how many of a company's debits came back, by Nacha's rules.
+//! Return rates: the share of a company's debits that is returned, by Nacha's rules.
 ghost use Rattle.std.specs.Prelude.{◌≡◌};
 ghost use Rattle.desk_rules.specs.ReturnRates.{exceeds, has_settled, is_in_window, is_of_level, rate_of, rates, returned_count, settled_count, was_returned};
 
 use crate::{EntryFact, EntryState, Level, Rate, Rates, ReturnCode};
 use bank_days::Day;
 
-/// The window of the rates begins so many days before the desk day.
+/// The days by which the window of the rates begins before the desk day.
 const DAYS_BEFORE: i64 = 59;
 
 /// Gives the company's return rates over the 60 days that end on the desk day: for each level how

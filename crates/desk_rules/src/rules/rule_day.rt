@@ -15,7 +15,7 @@ pub struct RuleDay {
     day: Day,
 }
 
-// Clauses see the number of the day, where 1970-01-01 is 0.
+// Contracts see the number of the day; 1970-01-01 is 0.
 impl Model for RuleDay {
     ghost use Rattle.std.specs.Prelude.{ℕ, ◌≤◌};
     ghost use Rattle.desk_rules.specs.Deadlines.{last_rule_day};
@@ -30,7 +30,7 @@ impl Model for RuleDay {
 }
 
 impl RuleDay {
-    /// Gives the day, where a rule may be given it.
+    /// Returns the day if rules accept it.
     pub fn new(day: Day) -> Option<RuleDay>
         ensures { result ≡ rule_day_of day }
     {

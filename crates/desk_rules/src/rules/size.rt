@@ -4,7 +4,7 @@ ghost use Rattle.desk_rules.specs.Size.{size_of, total_of};
 use crate::{Entry, Refusal, Submission};
 use ach_fields::MOST_CENTS;
 
-/// A submission has at most so many entries.
+/// The most entries of a submission.
 pub const MOST_ENTRIES: usize = 1_000;
 
 /// Refuses a submission with too many entries or too large a total, in this order.
@@ -21,7 +21,8 @@ pub fn check_size(submission: &Submission) -> Result<(), Refusal>
     Ok(())
 }
 
-/// Gives the sum of entries in cents. There are no more of them than a submission may have.
+/// Returns the sum of the entries in cents. The list has no more entries than a submission may
+/// have.
 pub fn total(entries: &[Entry]) -> u64
     requires { length entries.now ≤ 1_000 }
     ensures { result ≡ total_of entries.now }

@@ -3,8 +3,8 @@ ghost use Rattle.desk_rules.specs.TimeClasses.{time_class_of};
 
 use crate::ReturnCode;
 
-/// A `TimeClass` says how long after settlement a receiving bank (the RDFI) may return an entry, by
-/// the code of its return.
+/// The time after settlement within which a receiving bank (the RDFI) may return an entry, by the
+/// code of its return.
 #[derive(Clone, Copy, Debug, PartialEq, Eq, Drop)]
 pub enum TimeClass {
     /// It may until the second banking day.
@@ -16,10 +16,10 @@ pub enum TimeClass {
 }
 
 impl ReturnCode {
-    /// Gives the time class of the code. Codes of an unauthorized or revoked debit have sixty days
-    /// (R05, R07, R10, R11); codes that tell of a faulty file, of a refused credit or of a
-    /// permitted return have no limit (R06, R13, R18, R19, R23, R25 to R28); all others have two
-    /// banking days.
+    /// Returns the time class of the code. Codes of an unauthorized or revoked debit have sixty
+    /// days (R05, R07, R10, R11); codes that report a faulty file, a refused credit or a permitted
+    /// return have no limit (R06, R13, R18, R19, R23, R25 to R28); all others have two banking
+    /// days.
     pub fn time_class(self) -> TimeClass
         ensures { result ≡ time_class_of self }
     {

@@ -10,7 +10,7 @@ use Rattle.memory_store.specs.declared.place_index.KeyKind.TheVariants as kinds
 use Rattle.memory_store.proofs.Placed.{standing, under_all}
 use Rattle.memory_store.proofs.traced.is_returned.Goals as goal
 
--- the state of a row's entry tells whether it came back
+-- the state of a row's entry decides whether it is returned
 by_state : (index : ℕ) (row : Option Row) (s : EntryState) → option_map (λ r. state_at r index) row ≡ Some s → is_returned_in row index ≡ is_returned_state s
 by_state index None s is = cc
 by_state index (Some row) s is = ap is_returned_state (let e = is in cc)
