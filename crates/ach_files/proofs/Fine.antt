@@ -1,4 +1,4 @@
--- What a record without a fault is.
+-- Facts about a record without a fault.
 use Rattle.ach_records.specs.Record.{is_record_kind}
 use Rattle.std.proofs.Common.{◌≡◌, ℕ, Bool, true, false, cond, not, ◌||◌, List, [], ◌∷◌, Option, Some, None, length, replicate, refl, ap, ◌∙◌, inl, inr}
 use Rattle.std.specs.Prelude.{◌==◌}
@@ -17,7 +17,7 @@ use Rattle.ach_files.specs.Structure.{nines}
 use Rattle.ach_files.specs.declared.stage.BatchesSoFar.{BatchesSoFar}
 use Rattle.ach_files.specs.RecordFault.{may_follow, is_misplaced, has_amount, is_forward, sums_differ, block_fault, control_fault, fault_after_stage}
 
--- a test that told nothing
+-- a test that found nothing
 pub guard : (b : Bool) (f : FileFault) (o : Option FileFault) → cond b (Some f) o ≡ None → (b ≡ false) × (o ≡ None)
 guard true f o e = absurd cc
 guard false f o e = (refl, e)

@@ -47,7 +47,7 @@ pub tells_first : (f : Fault) (o p : Option Fault) → Tells f o → Tells f (or
 tells_first f o p (inl memory) = inl memory
 tells_first f o p (inr here) = inr (rw here refl)
 
--- a fault that is told in a prefix of the piece
+-- a fault in a prefix of the piece
 pub tells_prefix : (seen piece : List ℕ) (n : ℕ) (f : Fault) → Tells f (early_fault (seen ++ take n piece)) → Tells f (early_fault (seen ++ piece))
 tells_prefix seen piece n f told =
     let e : seen ++ piece ≡ (seen ++ take n piece) ++ drop n piece = ap (λ p. seen ++ p) (sym (take-append-drop n piece)) ∙ sym (append_assoc seen (take n piece) (drop n piece)) in
@@ -70,7 +70,7 @@ taken_on (suc n) k (x ∷ xs) = let s : suc n + k ≡ suc (n + k) = omega arith 
 rest_is : (piece : List ℕ) (n : ℕ) → take (length piece - n) (drop n piece) ≡ drop n piece
 rest_is piece n = take_all (length piece - n) (drop n piece) (omega (arith, length-drop n piece))
 
--- so many bytes more of the piece
+-- k more bytes of the piece
 pub more_taken : (bytes piece : List ℕ) (n k : ℕ) → (bytes ++ take n piece) ++ take k (take (length piece - n) (drop n piece)) ≡ bytes ++ take (n + k) piece
 more_taken bytes piece n k =
     ap (λ r. (bytes ++ take n piece) ++ take k r) (rest_is piece n) ∙ append_assoc bytes (take n piece) (take k (drop n piece)) ∙ sym (ap (λ t. bytes ++ t) (taken_on n k piece))

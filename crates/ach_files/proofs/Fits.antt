@@ -1,4 +1,4 @@
--- Where no fault is told, each row has a text, the controls too.
+-- If there is no fault, each row has a text, the controls too.
 use Rattle.std.proofs.Common.{◌≡◌, ℕ, ◌+◌, ◌*◌, ◌^◌, ◌<◌, ◌≤◌, Bool, true, false, ◌&&◌, ◌||◌, List, [], ◌∷◌, length, refl, sym, ◌∙◌, arith, inl, inr, Some}
 use Rattle.std.specs.Prelude.{nat_lt, nat_le, min}
 use Rattle.std.specs.List.{list_all, list_any, flat_map}

@@ -63,7 +63,7 @@ other_byte n rs done b len p lt =
     let h = one_passes n (record { records = rs; place = InRecord done }) b (Put done) refl lt f in
     record { none = h.none; comes = h.comes ∙ rw (ne_eqb (length done) 93 (λ (e : length done ≡ 93). omega arith)) refl }
 
--- the last byte of a record tells what is wrong with the record
+-- the fault of a record is found at its last byte
 last_tells : (n : ℕ) (rs : List (List ℕ)) (done : List ℕ) (b : ℕ) → length done ≡ 93 → IsPrintable b → n < 4194304
     → place_fault n (record { records = rs; place = InRecord done }) b ≡ map_fault (length rs + 1) (record_fault rs (done ++ b ∷ []))
 unfolding move_at

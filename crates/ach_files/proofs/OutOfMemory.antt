@@ -1,4 +1,4 @@
--- Where a reader runs out of memory.
+-- The points at which a reader runs out of memory.
 use Rattle.std.proofs.Common.{◌≡◌, ℕ, ◌+◌, ◌-◌, ◌<◌, ◌≤◌, Bool, true, false, List, [], ◌∷◌, ◌++◌, length, take, drop, Option, Some, None, subst, ap, arith, length-append, length-drop, length-take}
 use Rattle.std.specs.Prelude.{if◌then◌else◌, ◌==◌, IsSome, IfErr, Result, Ok, Err}
 use Rattle.std.specs.Option.{option_to_list}
@@ -81,7 +81,7 @@ pub if_err_map : {A E : Type 0} (r : Result A E) (P Q : E → Type 0) → ((e : 
 if_err_map (Ok x) P Q f h = h
 if_err_map (Err e) P Q f h = f e h
 
--- so many bytes of the piece came already
+-- n bytes of the piece were already taken
 pub runs_out_on : (room room2 : ℕ) (bytes piece : List ℕ) (n : ℕ) → n ≤ length piece → room ≤ room2
     → RunsOut room2 (bytes ++ take n piece) (take (length piece - n) (drop n piece)) → RunsOut room bytes piece
 runs_out_on room room2 bytes piece n within le h =

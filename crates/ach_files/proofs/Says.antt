@@ -1,4 +1,4 @@
--- What is read from a printed file of returns and changes.
+-- The facts that are read from a printed file of returns and changes.
 use Rattle.std.proofs.Common.{◌≡◌, ℕ, true, List, [], ◌∷◌, ◌++◌, map, None, refl, ap, ◌∙◌}
 use Rattle.std.specs.List.{list_all, sum_by, All, flat_map}
 use Rattle.std.proofs.lemmas.Bool.{and_parts}

@@ -1,4 +1,4 @@
--- What is taken from a file.
+-- The facts that are taken from a file.
 use Rattle.std.specs.Prelude.{ℕ, List, map}
 use Rattle.std.specs.List.{flat_map}
 use Rattle.ach_records.specs.Layout.{field}
@@ -16,7 +16,7 @@ abbrev pub return_or_change_of : Kind → List ℕ → ReturnOrChange
 return_or_change_of kinds.Change98 addenda = returns_or_changes.Change (field kinds.Change98 "corrected data" addenda)
 return_or_change_of _ addenda = returns_or_changes.Return (field kinds.Return99 "information" addenda)
 
--- the code, the trace and the DFI stand in a 98 where they stand in a 99
+-- the code, the trace and the DFI have the same positions in a 98 and in a 99
 unfoldable pub facts_from : List ℕ → ℕ → ℕ → Kind → List ℕ → ItemFacts
 facts_from sec transaction cents kind addenda = record {
   sec_code = sec;

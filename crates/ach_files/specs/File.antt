@@ -1,4 +1,4 @@
--- Which bytes are a file, and of which records.
+-- The bytes that are a file, and its records.
 use Rattle.std.specs.Prelude.{◌≡◌, ℕ, ◌≤◌, ◌⊎◌, List, [], ◌∷◌, ◌++◌, map, length}
 use Rattle.std.specs.List.{flat_map, All}
 use Rattle.ach_records.specs.Record.{IsRecord, entry_cents, entry_direction}
@@ -8,7 +8,7 @@ use Rattle.ach_files.specs.Limits.{most_bytes}
 use Rattle.ach_files.specs.Facts.{FileFacts, Content, facts_in}
 use Rattle.ach_files.specs.Totals.{sums_of_items, sums_of_batches, batch_control_sums, file_control_sums, control_batches, control_blocks, blocks, Agrees}
 
--- a return or a change: the second digit of the code is 1 or 6, and one 99 follows, or, where the amount is zero, one 98
+-- a return or a change: the second digit of the code is 1 or 6, followed by one 99 or, if the amount is zero, one 98
 pub record IsItem (i : Item) : Type 0 where
   pub entry : IsRecord kinds.Entry i.entry
   pub direction : (entry_direction i.entry ≡ 49) ⊎ (entry_direction i.entry ≡ 54)
@@ -60,7 +60,7 @@ pub record IsFile (bytes : List ℕ) (f : File) : Type 0 where
 abbrev pub IsReadAs : List ℕ → FileFacts → Type 0
 IsReadAs bytes facts = (f : File) × IsFile bytes f × (facts ≡ facts_in f)
 
--- these bytes were read, and are such a file
+-- these bytes were read, and are this file
 abbrev pub IsContentOf : List ℕ → Content → Type 0
 IsContentOf bytes content = (content.bytes ≡ bytes) × IsReadAs bytes content.facts
 

@@ -9,7 +9,7 @@ use Rattle.ach_files.specs.RecordFault.{record_fault}
 use Rattle.ach_files.specs.Limits.{most_bytes}
 use Rattle.ach_files.specs.Layout.{Place, InRecord, Move, Put, Go, Stray, is_end, move_at, Layout, layout}
 
--- the record in which the byte stands
+-- the record that has the byte
 abbrev pub record_of : List (List ℕ) → Move → ℕ
 record_of records (Put _) = length records + 1
 record_of records (Go _) = length records
@@ -37,7 +37,7 @@ abbrev pub map_fault : ℕ → Option FileFault → Option Fault
 map_fault n None = None
 map_fault n (Some f) = Some (fault_at n f)
 
--- what is wrong at the byte b, where n bytes come before it and are laid out so
+-- the fault at the byte b, after n bytes with this layout
 unfoldable pub place_fault : ℕ → Layout → ℕ → Option Fault
 place_fault n l b =
     map_fault (record_of l.records (move_at l.place b))
@@ -93,7 +93,7 @@ Tells f fault = IsNoMemory f ⊎ (fault ≡ Some f)
 abbrev pub TellsKind : FileFault → Option FileFault → Type 0
 TellsKind f fault = (f ≡ faults.NoMemory) ⊎ (fault ≡ Some f)
 
--- nothing is wrong and this holds, or the fault is told
+-- there is no fault and this holds, or the fault is returned
 abbrev pub HoldsOrTells : Result (Unit {0}) Fault → Option Fault → Type 0 → Type 0
 HoldsOrTells result fault P = MatchResult result (λ _. (fault ≡ None) × P) (λ f. Tells f fault)
 

@@ -1,4 +1,4 @@
--- What a reader has read.
+-- The bytes that a reader has read.
 use Rattle.std.specs.Prelude.{◌≡◌, ℕ, List, length, Option, Some, None, vec_capacity}
 use Rattle.sha2.specs.Hashers.{Holds256}
 use Rattle.ach_files.specs.declared.recogniser.Recogniser.{Recogniser}
@@ -31,13 +31,13 @@ pub record HasBytes (r : Recogniser) (bytes : List ℕ) : Type 0 where
   pub has : Has r (layout bytes) (length bytes)
   pub fine : early_fault bytes ≡ None
 
--- the reader has taken these bytes, and told no fault
+-- the reader has taken these bytes and returned no fault
 pub record HasRead (r : Reader) (bytes : List ℕ) : Type 0 where
   pub recogniser : Recogniser
   pub state : r.state ≡ Some recogniser
   pub has : HasBytes recogniser bytes
 
--- it has told a fault, or has finished: each call answers Failed
+-- it has returned a fault, or has finished: each call returns Failed
 abbrev pub HasFailed : Reader → Type 0
 HasFailed r = r.state ≡ None
 

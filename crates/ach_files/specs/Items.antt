@@ -1,4 +1,4 @@
--- What an item says.
+-- The facts of an item.
 use Rattle.ach_files.specs.declared.facts.ItemFacts.{ItemFacts}
 use Rattle.ach_files.specs.declared.incoming.Item.{Item}
 

@@ -1,9 +1,9 @@
--- How bytes are laid out: the whole records, and where the next byte stands.
+-- The layout of bytes: the whole records, and the place of the next byte.
 use Rattle.std.specs.Prelude.{◌≡◌, ℕ, Bool, true, false, ◌||◌, List, [], ◌∷◌, ◌++◌, length, if◌then◌else◌, ◌==◌}
 use Rattle.std.specs.List.{fold}
 
--- where the next byte stands: in a record, of which these bytes came; right after one; after a CR that
--- follows one; after its line end; in the tail
+-- the place of the next byte: in a record, after these of its bytes; right after a record; after a CR that follows one;
+-- after its line end; in the tail
 pub data Place : Type 0 where
   InRecord : (bytes : List ℕ) → Place
   AfterRecord : Place
@@ -19,7 +19,8 @@ may_begin AfterReturn = false
 may_begin AfterLine = true
 may_begin InTail = false
 
--- what a byte does: it is one of a record, of which these came before it; it leads to another place; or it may not stand there
+-- the effect of a byte: it belongs to a record, after these of its bytes; it leads to another place; or it is not
+-- allowed there
 pub data Move : Type 0 where
   Put : (bytes : List ℕ) → Move
   Go : (place : Place) → Move
@@ -28,7 +29,7 @@ pub data Move : Type 0 where
 abbrev pub is_end : ℕ → Bool
 is_end b = (b == 10) || (b == 13)
 
--- After a record one LF or one CR LF is skipped; a CR or LF after that begins the tail, in which only they may stand.
+-- After a record one LF or one CR LF is skipped; a CR or LF after that begins the tail, which has only CR and LF.
 unfoldable pub move_at : Place → ℕ → Move
 move_at (InRecord bytes) b = Put bytes
 move_at AfterRecord b = if b == 10 then Go AfterLine else if b == 13 then Go AfterReturn else Put []

@@ -1,4 +1,4 @@
--- What a file and the fields of its controls hold at most.
+-- The limits of a file and of the fields of its controls.
 use Rattle.std.specs.Prelude.{ℕ}
 
 -- 4 MiB

@@ -1,4 +1,4 @@
--- Where a reader may run out of memory.
+-- The points at which a reader may run out of memory.
 use Rattle.std.specs.Prelude.{◌≡◌, ℕ, ◌<◌, ◌≤◌, List, ◌++◌, length, take, Option, None, Result, IfErr}
 use Rattle.ach_files.specs.declared.fault.Fault.{Fault}
 use Rattle.ach_files.specs.declared.fault.FileFault.{FileFault}

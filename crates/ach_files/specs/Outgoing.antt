@@ -26,7 +26,7 @@ abbrev pub has_addenda : Addenda → Bool
 has_addenda addendas.Absent = false
 has_addenda _ = true
 
--- a record 6 tells by its indicator whether an addenda follows
+-- the addenda indicator of a record 6 says whether an addenda follows
 abbrev pub entry_of : OutgoingEntry → EntryText
 entry_of e = record {
   transaction = e.transaction;
@@ -55,7 +55,7 @@ entry_rows e = entry_row (entry_of e) ∷ addenda_rows_of e
 
 -- ---- sums
 
--- so many records 6 and 7
+-- the number of records 6 and 7
 abbrev pub entry_count : OutgoingEntry → ℕ
 entry_count e = length (entry_rows e)
 
@@ -165,7 +165,7 @@ is_large s = nat_lt most_cents s.debits || nat_lt most_cents s.credits
 abbrev pub is_long_batch : OutgoingBatch → Bool
 is_long_batch b = nat_lt six_digits (sums_in b).count
 
--- what is wrong with a batch, whatever file it stands in
+-- the fault of a batch, in whatever file it is
 unfoldable pub batch_fault : OutgoingBatch → Option PrintFault
 batch_fault b =
     if not (batch_fits b) then Some faults.BadField
@@ -217,11 +217,11 @@ abbrev pub IsText : Option (List ℕ) → List Value → Type 0
 IsText (Some text) values = (row_fits values ≡ true) × (text ≡ row_text values)
 IsText None values = row_fits values ≡ false
 
--- the records stand after the old bytes now
+-- the records are appended to the old bytes
 abbrev pub Puts : List ℕ → List ℕ → List (List Value) → Type 0
 Puts old new rows = new ≡ old ++ page (map row_text rows)
 
--- the record of a row stands after the old bytes now, with an LF
+-- the record of a row is appended to the old bytes, with an LF
 abbrev pub PutsRow : List ℕ → List ℕ → List Value → Type 0
 PutsRow old new row = new ≡ old ++ (row_text row ++ 10 ∷ [])
 

@@ -53,8 +53,8 @@ measures_fault m =
 abbrev pub AddsUp : (a b sum : Sums) → Type 0
 AddsUp a b sum = (x y : Sums) → a ≡ capped_sums x → b ≡ capped_sums y → sum ≡ capped_sums (joint_sums x y)
 
--- this holds of each file with so many batches, or a million where it has more, a long one among them or not,
--- and these sums
+-- a fact about each file with this many batches (or a million, if it has more), with or without a long one, and these
+-- sums
 abbrev pub ForMeasured : (batches : ℕ) → (is_any_long : Bool) → Sums → (Outgoing → Type 0) → Type 0
 ForMeasured batches is_any_long sums P =
     (o : Outgoing) → batches ≡ min (length o.batches.now) (six_digits + 1) →

@@ -1,4 +1,4 @@
--- What the reader keeps, and how a record changes it.
+-- The state of the reader, and how a record changes it.
 use Rattle.std.specs.Prelude.{◌≡◌, ◌≤◌, ℕ, ◌+◌, ◌*◌, ◌^◌, Bool, List, [], ◌++◌, length, take, Option, Some, None, if◌then◌else◌}
 use Rattle.ach_records.specs.Record.{batch_sec, header_key}
 use Rattle.ach_records.specs.declared.Kind.{Kind}
@@ -82,7 +82,7 @@ move_of part (steps.Put n) = Put (take n part)
 move_of part (steps.Go position) = Go (place_of part position)
 move_of part steps.Stray = Stray
 
--- it numbers the record in which a byte stands that does the step after so many records
+-- the number of the record that has the byte of this step, after this many records
 abbrev pub IsRecordNumber : Step → (records number : ℕ) → Type 0
 IsRecordNumber step records number =
     (before : List (List ℕ)) (part : List ℕ) → records ≡ length before →

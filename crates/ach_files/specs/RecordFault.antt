@@ -1,4 +1,4 @@
--- What is wrong with a record, judged against sums over the lists of the records before it.
+-- The fault of a record, judged against sums over the records before it.
 use Rattle.std.specs.Prelude.{ℕ, ◌+◌, Bool, true, false, not, ◌&&◌, ◌||◌, List, length, Option, Some, None, if◌then◌else◌, ◌==◌}
 use Rattle.ach_records.specs.Record.{kind_of, has_digits, entry_transaction_code, entry_direction, entry_dfi, entry_cents, batch_sec, header_key}
 use Rattle.ach_records.specs.declared.Kind.{Kind}
@@ -80,7 +80,7 @@ abbrev pub block_fault : ℕ → List ℕ → Option FileFault → Option FileFa
 block_fault n text None = if control_blocks text == blocks n then None else Some faults.BadBlock
 block_fault n text (Some f) = Some f
 
--- an 8 or 9 against what stands before it
+-- an 8 or 9 against the records before it
 unfoldable pub control_fault : Stage → ℕ → Kind → List ℕ → Option FileFault
 control_fault (stages.InBatch _ o) n kinds.BatchControl text = sums_differ (batch_control_sums text) o.sums
 control_fault (stages.BetweenBatches d) n kinds.FileControl text =
@@ -92,7 +92,7 @@ control_fault _ n _ text = None
 abbrev pub file_control_fault : BatchesSoFar → ℕ → List ℕ → Option FileFault
 file_control_fault d n text = control_fault (stages.BetweenBatches d) n kinds.FileControl text
 
--- what is wrong with the n-th record, where the records before it led to the stage
+-- the fault of the n-th record, if the records before it led to the stage
 unfoldable pub fault_after_stage : Stage → ℕ → Kind → List ℕ → Option FileFault
 fault_after_stage stage n kind text =
     if not (may_follow stage kind || is_misplaced stage kind) then Some faults.BadOrder

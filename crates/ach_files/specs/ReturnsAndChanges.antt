@@ -59,7 +59,7 @@ file_of o = record {
 
 -- ---- what is read again
 
--- what is printed is that file, where it isn't too long
+-- the printed text is that file, if it is not too long
 abbrev pub IsReadAgain : Outgoing → Type 0
 IsReadAgain o = length (outgoing_text o) ≤ most_bytes → IsFile (outgoing_text o) (file_of o)
 
@@ -103,7 +103,7 @@ outgoing_facts sec e = record {
   return_or_change = outgoing_return_or_change e.addenda;
 }
 
--- the items of the file say what was given
+-- the items of the file have the given facts
 abbrev pub KeepsFacts : Outgoing → Type 0
 KeepsFacts o =
     file_facts (file_of o) ≡ flat_map (λ b. map (outgoing_facts b.header.sec.now) b.entries.now) o.batches.now

@@ -8,7 +8,8 @@ use Rattle.ach_files.specs.declared.facts.ItemFacts.{ItemFacts}
 use Rattle.ach_files.specs.Structure.{Item, Batch, File, item_records, batch_records, main_records}
 use Rattle.ach_files.specs.Facts.{batch_facts, file_facts}
 
--- what stands of a file: nothing; a header and whole batches; these and an open batch; these and an entry whose addenda is awaited; all
+-- the file so far: nothing; a header and whole batches; these and an open batch; these and an entry that waits for its
+-- addenda; all
 pub data FileSoFar : Type 0 where
   BeforeHeader : FileSoFar
   BetweenBatches : (header : List ℕ) (batches : List Batch) → FileSoFar
@@ -16,7 +17,7 @@ pub data FileSoFar : Type 0 where
   AwaitingAddenda : (header : List ℕ) (batches : List Batch) (batch : List ℕ) (items : List Item) (entry : List ℕ) → FileSoFar
   Closed : (file : File) → FileSoFar
 
--- one record of the kind more, where it may stand there
+-- one more record of this kind, if it may come here
 abbrev pub with_record_of : FileSoFar → Kind → List ℕ → FileSoFar
 with_record_of BeforeHeader kinds.FileHeader text = BetweenBatches text []
 with_record_of (BetweenBatches h bs) kinds.BatchHeader text = InBatch h bs text []

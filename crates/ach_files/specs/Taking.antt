@@ -1,5 +1,5 @@
--- What a recogniser and a reader promise of what they take: a record, a byte, a piece, and the end.
--- Where a fault is told, out of memory may be told instead, but at the end.
+-- The promises of a recogniser and a reader about what they take: a record, a byte, a piece, and the end. In place of a
+-- fault, except at the end, lack of memory may be returned.
 use Rattle.std.specs.Prelude.{◌≡◌, ℕ, ◌+◌, List, [], ◌∷◌, ◌++◌, take, Some, None, Result, MatchResult}
 use Rattle.ach_files.specs.declared.fault.Fault.{Fault}
 use Rattle.ach_files.specs.declared.fault.FileFault.{FileFault}
@@ -16,13 +16,13 @@ use Rattle.ach_files.specs.FirstFault.{byte_fault, place_fault, early_fault, end
 use Rattle.ach_files.specs.Has.{HasRecords, HasLayout, Has, HasBytes, HasRead, HasFailed, item_room}
 use Rattle.ach_files.specs.Memory.{GivesUpAfter, GivesUpKindAfter}
 
--- the record in part stands after those that it had, or its fault is told
+-- the partial record comes after the earlier ones, or its fault is returned
 abbrev pub TakesRecord : (old new : Recogniser) → Result (Unit {0}) FileFault → Type 0
 TakesRecord old new result =
     (records : List (List ℕ)) → HasRecords old records →
     HoldsOrTellsKind result (record_fault records old.part) (HasRecords new (records ++ old.part ∷ []))
 
--- it stands right after that record, and counts the bytes that it counted
+-- it is right after that record, and has counted the bytes that it counted
 abbrev pub EndsRecord : (old new : Recogniser) → Type 0
 EndsRecord old new = (new.position ≡ positions.AfterRecord) × (new.taken ≡ old.taken)
 
@@ -32,7 +32,7 @@ RecordNeedsRoom old result =
     (records : List (List ℕ)) → HasRecords old records →
     GivesUpKindAfter result (record_fault records old.part) (item_room old) (records ++ old.part ∷ [])
 
--- the byte stands in a record, of which so many came before it, or its fault is told
+-- the byte is in a record, after this many of its bytes, or its fault is returned
 abbrev pub TakesInRecord : (old new : Recogniser) → (count byte : ℕ) → Result (Unit {0}) FileFault → Type 0
 TakesInRecord old new count byte result =
     (l : Layout) → HasRecords old l.records →
@@ -46,7 +46,7 @@ InRecordNeedsRoom old count byte result =
     GivesUpKindAfter result (byte_fault l.records (take count old.part) byte) (item_room old)
     (layout_after_move l byte (Put (take count old.part))).records
 
--- the byte stands at its place, or its fault is told
+-- the byte is at its place, or its fault is returned
 abbrev pub TakesByte : (old new : Recogniser) → (byte : ℕ) → Result (Unit {0}) Fault → Type 0
 TakesByte old new byte result =
     (l : Layout) (n : ℕ) → Has old l n →
@@ -58,23 +58,23 @@ ByteNeedsRoom old byte result =
     (l : Layout) (n : ℕ) → Has old l n →
     GivesUpAfter result (place_fault n l byte) (item_room old) (next_layout l byte).records
 
--- the piece is taken after those bytes, or the fault among them all is told
+-- the piece is taken after those bytes, or the fault among them all is returned
 abbrev pub TakesAfter : Recogniser → (seen piece : List ℕ) → Result (Unit {0}) Fault → Type 0
 TakesAfter new seen piece result =
     MatchResult result (λ _. HasBytes new (seen ++ piece)) (λ f. Tells f (early_fault (seen ++ piece)))
 
--- the piece is taken after all bytes that it had, or the fault among them all is told
+-- the piece is taken after all earlier bytes, or the fault among them all is returned
 abbrev pub TakesPiece : (old new : Recogniser) → (piece : List ℕ) → Result (Unit {0}) Fault → Type 0
 TakesPiece old new piece result = (seen : List ℕ) → HasBytes old seen → TakesAfter new seen piece result
 
--- as many of the bytes are taken as it answers, after all that it had, or the fault among them all is told
+-- the returned number of bytes is taken, after all earlier ones, or the fault among them all is returned
 abbrev pub TakesSome : (old new : Recogniser) → (bytes : List ℕ) → Result ℕ Fault → Type 0
 TakesSome old new bytes result =
     (seen : List ℕ) → HasBytes old seen →
     MatchResult result (λ count. HasBytes new (seen ++ take count bytes))
     (λ f. Tells f (early_fault (seen ++ bytes)))
 
--- the text is taken, where a record may begin after all that it had, or the fault among them all is told
+-- the text is taken, if a record may begin after all earlier bytes, or the fault among them all is returned
 abbrev pub TakesWhole : (old new : Recogniser) → (text : List ℕ) → Result (Unit {0}) Fault → Type 0
 TakesWhole old new text result =
     (seen : List ℕ) → MayBeginAfter seen → HasBytes old seen → TakesAfter new seen text result
@@ -85,7 +85,7 @@ WholeNeedsRoom old text result =
     (seen : List ℕ) → MayBeginAfter seen → HasBytes old seen →
     GivesUpAfter result (early_fault (seen ++ text)) (item_room old) (layout (seen ++ text)).records
 
--- the records are those of a file and this is taken from it, or the fault at the end is told
+-- the records are those of a file and these are its facts, or the fault at the end is returned
 abbrev pub EndsAs : Layout → Result FileFacts Fault → Type 0
 EndsAs l result =
     MatchResult result
@@ -94,12 +94,12 @@ EndsAs l result =
 
 -- ---- a reader
 
--- the piece is read after those bytes and nothing is wrong, or the fault is told and the reader has failed
+-- the piece is read after those bytes without a fault, or the fault is returned and the reader has failed
 abbrev pub ReadsPiece : Reader → (seen piece : List ℕ) → Result (Unit {0}) Fault → Type 0
 ReadsPiece new seen piece result =
     MatchResult result (λ _. (early_fault (seen ++ piece) ≡ None) × HasRead new (seen ++ piece))
     (λ f. Tells f (early_fault (seen ++ piece)) × HasFailed new)
 
--- the bytes are a file and this is taken from it, or their fault is told
+-- the bytes are a file and these are its facts, or their fault is returned
 abbrev pub GivesFacts : (bytes : List ℕ) → Result FileFacts Fault → Type 0
 GivesFacts bytes result = MatchResult result (λ facts. IsReadAs bytes facts) (λ f. fault bytes ≡ Some f)

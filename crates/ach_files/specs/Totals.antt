@@ -66,7 +66,7 @@ control_batches text = number (field kinds.FileControl "batch count" text)
 unfoldable pub control_blocks : List ℕ → ℕ
 control_blocks text = number (field kinds.FileControl "block count" text)
 
--- blocks of ten records: so many records, divided by ten and rounded up
+-- blocks of ten records: the number of records, divided by ten and rounded up
 abbrev pub blocks : ℕ → ℕ
 blocks n = (n + 9) / 10
 

@@ -1,9 +1,8 @@
 //! `ItemFacts` are what is taken from an item.
 use ach_fields::Cents;
 
-/// A `ReturnOrChange` is the addenda of an item: a return with its information, or a notification of
-/// change with the corrected data. The texts are as they stand in the record, with the blanks at their
-/// end.
+/// The addenda of an item: a return with its information, or a notification of change with the
+/// corrected data. The texts are those of the record, with the blanks at their end.
 #[derive(Clone, Copy, Debug, PartialEq, Eq)]
 pub enum ReturnOrChange {
     /// An addenda 99, with its information.

@@ -1,19 +1,19 @@
-//! A `Fault` says what is wrong with a file.
+//! The faults of a file.
 ghost use Rattle.std.specs.Prelude.{◌≡◌};
 
-/// A `FileFault` says what is wrong at a place of a file. Several at one place are told in this order.
+/// The kind of a file's fault. Of several at one place the first in this order is returned.
 #[derive(Clone, Copy, Debug, PartialEq, Eq, Drop)]
 pub enum FileFault {
-    /// A byte stands after the first 4,194,304.
+    /// There is a byte after the first 4,194,304.
     TooLarge = 1,
     /// A record ends early, by a CR, an LF or the end of the input, or something else than CR and LF
     /// follows the last one.
     BadLength = 2,
-    /// A character stands there that records may not have.
+    /// Records may not have this character.
     BadByte = 3,
     /// The record may not follow those before it, or the input ends before the file control.
     BadOrder = 4,
-    /// Something else than digits stands in a field that holds a number.
+    /// A field that holds a number has other characters than digits.
     BadNumber = 5,
     /// The entry is neither a return nor a change.
     ForwardEntry = 6,
@@ -27,14 +27,13 @@ pub enum FileFault {
     BadTotal = 10,
     /// The file control says another number of blocks.
     BadBlock = 11,
-    /// Memory ran out. It stands in no record.
+    /// Memory ran out. Its record number is 0.
     NoMemory = 12,
-    /// The reader has told a fault or the file before. It stands in no record.
+    /// The reader has already returned a fault or the file. Its record number is 0.
     Failed = 13,
 }
 
-/// A `Fault` is what is wrong, and the number of the record in which it stands, from 1; 0 where it stands
-/// in none.
+/// A fault, and the number of its record, from 1; 0 if it belongs to no record.
 #[derive(Clone, Copy, Debug, PartialEq, Eq, Drop)]
 pub struct Fault {
     pub kind: FileFault,

@@ -139,7 +139,7 @@ fn control_fault(stage: &Stage, number: u32, kind: Kind, text: &[u8; 94]) -> Opt
     }
 }
 
-/// Says what is wrong with the record of that number, where the records before it led to the stage.
+/// Returns the fault of the record with that number, if the records before it led to the stage.
 #[tactic(auto, unfolding(crate::specs::RecordFault::fault_after_stage))]
 pub fn judge(stage: &Stage, number: u32, kind: Kind, text: &[u8; 94]) -> Option<FileFault>
     requires { number ≤ most_bytes }

@@ -17,23 +17,23 @@ pub fn file_or_fault()
     ensures fault { (bytes : List ℕ) → fault bytes ≡ None → (f : File) × IsFile bytes f }
 {}
 
-/// No bytes stand for two files.
+/// No bytes are two different files.
 pub fn one_file()
     ensures { (bytes : List ℕ) (f g : File) → IsFile bytes f → IsFile bytes g → f ≡ g }
 {}
 
-/// The text of a file of good records is that file, where it isn't too long.
+/// The text of a file of valid records is that file, if it is not too long.
 pub fn printed_is_file()
     ensures { (f : File) → AreRecords f → length (file_text f) ≤ most_bytes →
         IsFile (file_text f) f }
 {}
 
-/// A printed file of returns and changes is that file, where it isn't too long.
+/// A printed file of returns and changes is that file, if it is not too long.
 pub fn returns_and_changes_are_read()
     ensures { (o : Outgoing) → print_fault o ≡ None → AreReturnsAndChanges o → IsReadAgain o }
 {}
 
-/// Where no fault is told, each row has a text, those of the controls too.
+/// If printing has no fault, each row has a text, those of the controls too.
 pub fn rows_have_texts()
     ensures { (o : Outgoing) → print_fault o ≡ None → AllFit (outgoing_rows o) }
 {}

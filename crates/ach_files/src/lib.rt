@@ -1,14 +1,14 @@
-//! Files of returns and notifications of change are read here, and ACH files of any entries printed.
+//! Reads files of returns and notifications of change, and prints ACH files of any entries.
 //!
-//! A file that is read has at most 4,194,304 bytes: a file header, batches of entries each with one
-//! addenda, a file control, and fillers, each record of 94 characters followed by nothing, LF or CR LF. `read_file`
-//! reads one that is whole in memory, `Reader` one that comes in pieces; both tell the first fault, by
-//! the first byte at which something is wrong. `print_file` prints one, with the counts, hashes and
-//! totals of its controls; `Printer` prints one batch by batch.
+//! A file to read has at most 4,194,304 bytes: a file header, batches of entries each with one
+//! addenda, a file control, and fillers, each record of 94 characters followed by nothing, LF or CR
+//! LF. `read_file` reads a file that is whole in memory, `Reader` one that arrives in pieces; both
+//! return the first fault, by the first byte at which something is wrong. `print_file` prints a
+//! file, with the counts, hashes and totals of its controls; `Printer` prints one batch by batch.
 //!
-//! `Item`s and their `ItemFacts` are read, and an `Outgoing` is printed. The structs of an `Outgoing` hold
-//! references beside typed values, which `Vec::push` cannot take today: a list of them grows by
-//! `extend_from_slice(&[entry])`.
+//! `Item`s and their `ItemFacts` are read, and an `Outgoing` is printed. The structs of an
+//! `Outgoing` hold references next to typed values, which `Vec::push` cannot take today: a list of
+//! them grows by `extend_from_slice(&[entry])`.
 #![tactic(auto)]
 
 mod advance;

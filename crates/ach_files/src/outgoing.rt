@@ -6,10 +6,10 @@ use ach_fields::{Cents, Trace};
 use ach_records::{BatchHeaderText, Change98Text, FileHeaderText, Return99Text};
 use std::alloc::AllocError;
 
-/// An `Addenda` is what stands after an entry.
+/// The addenda of an entry.
 #[derive(Clone, Copy)]
 pub enum Addenda<'a> {
-    /// Nothing stands there.
+    /// The entry has no addenda.
     Absent,
     /// The payment information of an addenda 05, whose digits are those of the entry's trace.
     Payment(&'a [u8]),
@@ -55,7 +55,7 @@ pub struct Outgoing<'a> {
     pub batches: &'a [OutgoingBatch<'a>],
 }
 
-/// A `PrintFault` says why a file is not printed. Of several the first is told.
+/// The reason why a file is not printed. Of several the first is returned.
 #[derive(Clone, Copy, Debug, PartialEq, Eq, Drop)]
 pub enum PrintFault {
     /// A field does not fit its width, or has a character that records may not have.

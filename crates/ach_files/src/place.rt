@@ -1,4 +1,4 @@
-//! A `Position` says where the next byte stands.
+//! The place of the next byte in a file.
 
 ghost use Rattle.std.specs.Prelude.{◌≡◌, ◌≤◌, ℕ, List};
 ghost use Rattle.ach_files.specs.Layout.{move_at, is_end, may_begin};
@@ -6,29 +6,29 @@ ghost use Rattle.ach_files.specs.FirstFault.{is_inside};
 ghost use Rattle.ach_files.specs.Limits.{most_bytes};
 ghost use Rattle.ach_files.specs.ReaderState.{place_of, move_of, part_length, step_part_length, IsRecordNumber, AnswersAt};
 
-/// A `Position` says where the next byte stands.
+/// The place of the next byte.
 #[derive(Clone, Copy)]
 pub enum Position {
-    /// It stands in a record, of which so many bytes came.
+    /// In a record, after this many of its bytes.
     InRecord(usize),
-    /// It stands right after a record.
+    /// Right after a record.
     AfterRecord,
-    /// It stands after a CR that follows a record.
+    /// After a CR that follows a record.
     AfterReturn,
-    /// It stands after the LF or CR LF that follows a record.
+    /// After the LF or CR LF that follows a record.
     AfterLine,
-    /// It stands in the run of CR and LF that ends a file.
+    /// In the run of CR and LF that ends a file.
     InTail,
 }
 
 /// A `Step` is what a byte does.
 #[derive(Clone, Copy)]
 pub enum Step {
-    /// The byte belongs to a record, of which so many bytes came before it.
+    /// The byte belongs to a record, after this many of its bytes.
     Put(usize),
     /// The byte leads to this place.
     Go(Position),
-    /// The byte may not stand at its place.
+    /// The byte is not allowed at its place.
     Stray,
 }
 
@@ -39,8 +39,8 @@ pub fn is_line_end(byte: u8) -> bool
     byte == b'\n' || byte == b'\r'
 }
 
-/// Says what the next byte does. After a record one LF or one CR LF is skipped; a CR or LF after that
-/// begins the tail, in which only they may stand.
+/// Returns the effect of the next byte. After a record one LF or one CR LF is skipped; a CR or LF
+/// after that begins the tail, which has only CR and LF.
 #[tactic(auto, unfolding(crate::specs::Layout::move_at))]
 pub fn step_of(position: Position, byte: u8) -> Step
     ensures place { (part : List ℕ) → move_of part result ≡ move_at (place_of part position) byte }
@@ -65,7 +65,7 @@ pub fn step_of(position: Position, byte: u8) -> Step
     }
 }
 
-/// Numbers the record in which a byte stands that does this step after so many records.
+/// Returns the number of the record that has the byte of this step, after this many records.
 pub fn record_of(step: Step, records: u32) -> u32
     requires { records ≤ most_bytes }
     ensures { IsRecordNumber step records result }

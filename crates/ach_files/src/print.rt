@@ -19,8 +19,12 @@ use page::put_file;
 pub use printer::Printer;
 use std::alloc::Global;
 
-/// Prints a file: its records with an LF after each, then the fewest records of nines that make their
-/// number a multiple of ten. Nothing is printed where a fault is told.
+/// Prints a file: its records with an LF after each, then the fewest records of nines that make
+/// their number a multiple of ten.
+///
+/// # Errors
+///
+/// Returns the first fault, and prints nothing then.
 pub fn print_file(alloc: Global, outgoing: &Outgoing) -> Result<Vec<u8>, PrintFault>
     ensures { MatchResult result (IsPrintOf outgoing.now) (IsPrintFaultOf outgoing.now) }
 {

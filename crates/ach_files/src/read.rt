@@ -9,12 +9,14 @@ use crate::fault::Fault;
 use crate::incoming::Incoming;
 use std::alloc::Global;
 
-/// Reads a file of returns and notifications of change, or tells its first fault.
+/// Reads a file of returns and notifications of change.
+///
+/// # Errors
 ///
 /// The bytes are taken in order, and the first byte at which something is wrong decides; a fault
-/// names the record in which that byte stands. Out of memory is `NoMemory`, in record 0.
+/// names the record of that byte. Lack of memory is `NoMemory`, in record 0.
 pub fn read_file(alloc: Global, bytes: &[u8]) -> Result<Incoming<'_>, Fault>
-    // What is read is a file, and these are its items, key and digest.
+    // The result is a file, with its items, key and digest.
     ensures found { IfOk result (IsContentOf bytes.now) }
     // A file is read, unless memory runs out.
     ensures only { (f : File) → IsFile bytes.now f → MatchResult result (HasFactsOf f) IsNoMemory }

@@ -11,12 +11,12 @@ const FAILED: Fault = Fault {
     at: 0,
 };
 
-/// A `Reader` reads a file that comes in pieces: it tells what `read_file` tells of all the
-/// pieces together.
+/// Reads a file that arrives in pieces, with the result that `read_file` has for all pieces
+/// together.
 ///
-/// It keeps one record in part, running sums, the state of the digest, and what the items say. A fault
-/// is told by the `feed` whose piece holds its byte, one at the end of the input by `finish`. After a
-/// fault, and after `finish`, each call answers `Failed` in record 0.
+/// It keeps one partial record, running sums, the state of the digest, and the facts of the items.
+/// The `feed` whose piece holds the byte of a fault returns it; `finish` returns a fault at the end
+/// of the input. After a fault, and after `finish`, each call returns `Failed` in record 0.
 #[derive(Drop)]
 pub struct Reader {
     state: Option<Recogniser>,
@@ -28,7 +28,7 @@ impl Reader {
     ghost use Rattle.ach_files.specs.FirstFault.{AnswersFailed};
     ghost use Rattle.ach_files.specs.Taking.{ReadsPiece, GivesFacts};
 
-    /// Begins a file of which nothing came yet. It takes no memory until the first item.
+    /// Begins an empty file. It takes no memory until the first item.
     pub fn new(alloc: Global) -> Reader
         ensures { HasRead result [] }
     {

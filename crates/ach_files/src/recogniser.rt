@@ -64,7 +64,7 @@ fn digest_record(hasher: &mut Sha256, kind: Kind, text: &[u8; 94])
     }
 }
 
-// The fault of that kind in that record; out of memory stands in none.
+// Returns the fault of that kind in that record; lack of memory belongs to no record.
 fn fault_in_record(kind: FileFault, number: u32) -> Fault
     ensures value { (o : Option FileFault) → TellsKind kind o → Tells result (map_fault number o) }
     ensures memory { IsNoMemory result → kind ≡ faults.NoMemory }
@@ -95,7 +95,7 @@ impl Recogniser {
         }
     }
 
-    // Takes the record that stands whole in `part`.
+    // Takes the whole record in `part`.
     fn take_record(&mut self, number: u32) -> Result<(), FileFault>
         requires number { number ≡ self.old.records + 1 }
         requires room { self.old.records < self.old.taken }
@@ -117,7 +117,7 @@ impl Recogniser {
         Ok(())
     }
 
-    // Takes a byte of a record, of which `count` bytes came before it.
+    // Takes a byte of a record, after `count` of its bytes.
     fn put(&mut self, count: usize, byte: u8) -> Result<(), FileFault>
         requires count { count < 94 }
         requires room { self.old.records < self.old.taken }
@@ -172,7 +172,7 @@ impl Recogniser {
         }
     }
 
-    // Takes a whole record, where one may begin.
+    // Takes a whole record, if one may begin here.
     fn take_whole(&mut self, text: &[u8]) -> Result<(), Fault>
         requires whole { length text.now ≡ 94 }
         requires printable { list_all is_printable text.now ≡ true }
@@ -190,7 +190,7 @@ impl Recogniser {
         }
     }
 
-    // Does a whole record begin here, of which each byte may stand in one?
+    // Reports whether a whole record begins here, all of whose bytes are allowed in a record.
     fn is_at_record(&self, bytes: &[u8]) -> bool
         ensures whole { result ≡ true → 94 ≤ length bytes.now }
         ensures printable { result ≡ true → list_all is_printable (take 94 bytes.now) ≡ true }
@@ -204,7 +204,7 @@ impl Recogniser {
         are_printable(&bytes[..94])
     }
 
-    // Takes the next bytes: a record where one begins, else one byte. It says how many.
+    // Takes the next bytes: a record if one begins, else one byte. Returns their number.
     fn take_some(&mut self, bytes: &[u8]) -> Result<usize, Fault>
         requires { 0 < length bytes.now }
         ensures within { IfOk result (λ count. (0 < count) × (count ≤ length bytes.now)) }

@@ -7,7 +7,7 @@ use ach_fields::Cents;
 pub struct BatchesSoFar {
     /// These are origin, date, time and modifier.
     pub key: [u8; 21],
-    /// The header is followed by so many whole batches.
+    /// The number of whole batches after the header.
     pub batches: u64,
     pub sums: Sums,
 }
@@ -29,7 +29,7 @@ pub struct PendingEntry {
     pub is_debit: bool,
 }
 
-/// A `Stage` says where a file stands after a record.
+/// The stage of a file after a record.
 #[derive(Clone, Copy)]
 pub enum Stage {
     BeforeHeader,

@@ -11,7 +11,7 @@ use ach_fields::Cents;
 /// hashes, each of ten digits.
 #[derive(Clone, Copy)]
 pub struct Sums {
-    /// There are so many records 6 and 7.
+    /// The number of records 6 and 7.
     pub count: u64,
     /// The sum of the receiving DFIs.
     pub hash: u64,
@@ -62,7 +62,7 @@ pub fn low_digits(hash: u64) -> u64
     hash % 10_000_000_000
 }
 
-/// Gives so many cents, which are few enough.
+/// Returns this many cents, which are few enough.
 pub fn cents_of(cents: u64) -> Cents
     requires { cents ≤ most_cents }
     ensures { result ≡ cents }

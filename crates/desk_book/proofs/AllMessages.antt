@@ -1,4 +1,4 @@
--- The book tells all messages, since it tells each kind.
+-- The book determines the answer to each message, because it does so for each kind.
 use Rattle.std.proofs.Common.{◌≡◌, ℕ, List, ◌∷◌}
 use Rattle.desk_history.specs.declared.identity.Identity.{Identity}
 use Rattle.desk_book.specs.Book.{book_of}

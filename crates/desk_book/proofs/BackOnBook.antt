@@ -1,4 +1,4 @@
--- Whether an entry came back can be told from the book.
+-- The book determines whether an entry is returned.
 use Rattle.std.proofs.Common.{◌≡◌, ◌<◌, ℕ, ◌-◌, List, length, Bool, false, refl, sym, ap, ◌∙◌}
 use Rattle.std.specs.Prelude.{Option, Some, None, option_map, is_some}
 use Rattle.std.proofs.lemmas.Option.{slice_get_within}
@@ -17,7 +17,7 @@ use Rattle.desk_book.proofs.RetriesOnRows.{state_same}
 use Rattle.desk_book.proofs.Unreturned.{returned_whenever}
 use Rattle.desk_book.specs.OnIntake.{is_returned_state, is_returned_in}
 
--- the state of a sent entry tells whether it has a return
+-- the state of a sent entry says whether it has a return
 back_by_state : (late : Bool) (settles : Option ℕ) (on : ℕ) (t : Option TakenReturn) → late ≡ false → settles ≡ Some on
     → is_returned_state (state_from late settles t) ≡ is_some t
 back_by_state late settles on t stands sent = rw (stands, sent) (by t) where

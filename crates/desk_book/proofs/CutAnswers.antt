@@ -1,4 +1,4 @@
--- The answer to a cut is the one that the book tells.
+-- The answer to a cut follows from the book.
 use Rattle.std.proofs.Common.{◌≡◌, ℕ, ◌+◌, List, length, map, refl, sym, ap, ◌∙◌}
 use Rattle.std.specs.Prelude.{sum_by, Option, Some, None, Result, Ok, Err}
 use Rattle.desk_rules.specs.declared.refusals.refusal.Refusal.{Refusal}
@@ -40,13 +40,13 @@ facts_of_cut b x made = at b.day refl made where
 
 -- ---- the answer
 
--- the outcome of a cut of the book that sends these, and lets so many lapse
+-- the outcome of a cut of the book that sends these submissions and lets this many lapse
 abbrev verdict_by : Book → ℕ → List Sending → ℕ → Result CutSummary Refusal
 verdict_by b d ss lapsed =
     may_cut b d ss >>= (λ _.
     Ok (record { day = d; entries = sum_by (λ s. length (entries_in s)) ss; files = map (λ f. f.modifier) (files_by b d ss); lapsed = lapsed }))
 
--- what was done stands after the same check
+-- the result comes after the same check
 done_behind : {A : Type 0} (may : Result A Refusal) (x : CutFacts) → summary_of (may >>= (λ _. Ok x)) ≡ (may >>= (λ _. Ok (cut_summary x)))
 done_behind (Ok _) x = refl
 done_behind (Err why) x = refl

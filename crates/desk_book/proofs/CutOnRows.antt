@@ -116,7 +116,7 @@ module _ (holidays : List ℕ) (today : ℕ) (P : List Event) (cut : IsCutOf hol
   abbrev IsCutRow : AcceptedSubmission → Type 0
   IsCutRow a = row_of (CutMade ∷ P) a ≡ cut_row holidays today (rows P) (row_of P a)
 
-  -- each has such a row
+  -- each submission has such a row
   cut_rows : AllByRecursion IsCutRow (submissions P)
   cut_rows = cut_each holidays today (rows P) P (submissions P) cut
 
@@ -139,7 +139,7 @@ module _ (holidays : List ℕ) (today : ℕ) (P : List Event) (cut : IsCutOf hol
       sym (settles_as row (is_held row && is_due_row holidays today row) (is_late_row holidays today (rows P) row) (settlement_of holidays today row) (same_sent a is ∙ next))
       ∙ ap (λ (row : Row). unwrap_or row.settled 0) (sym is)
 
-  -- what the cut sends of the company is told by its rows
+  -- what the cut sends of the company follows from its rows
   pub sent_on_rows : (k : Company)
       → map (sent_by_row holidays today k) (filter (is_sent_row holidays today (rows P)) (rows P)) ≡ map (sent_by_part k) (filter (is_sent_next P) (submissions P))
   sent_on_rows k =

@@ -1,4 +1,4 @@
--- What a cut makes of a company's rows.
+-- The effect of a cut on a company's rows.
 use Rattle.std.proofs.Common.{◌≡◌, ℕ, List, [], ◌∷◌, length, map, Bool, true, false, not, ◌&&◌, refl, sym, ap, ◌∙◌, if◌then◌else◌}
 use Rattle.std.specs.Prelude.{All, Option, Some, None, option_and_then, is_none}
 use Rattle.std.specs.List.{range_with_len}

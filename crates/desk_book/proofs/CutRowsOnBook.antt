@@ -92,7 +92,8 @@ module _ (b : Book) (d : ℕ) where
       (map-map lapsed_turn (lapsing k) (chosen k)
       ∙ sym (map-map (λ (t : Turn). (k.id, t)) (λ (row : Row). record { order = row.order; change = lapsed_row }) (chosen k))) i) b.companies)
 
-  -- Where companies are apart, orders too, and who is no company has no submissions: each company's rows are cut.
+  -- If companies are distinct, and orders too, and an unregistered company has no submissions, then each company's rows
+  -- are cut.
   pub rows_turned : Apart b.companies → (c : List ℕ) → AreApart (b.rows c) → (find (has_id c) b.companies ≡ None → b.rows c ≡ [])
       → fold (turned_at c) (fold (turned_at c) (b.rows c) (map sending_turn (cut_sendings (cut_facts b d)))) (map lapsed_turn (lapsed_rows (cut_facts b d)))
       ≡ map (cut_row b.holidays d (b.rows c)) (b.rows c)

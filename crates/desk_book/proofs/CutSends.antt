@@ -1,4 +1,4 @@
--- What waits and is due in the book is what a cut sends, and what it lets lapse.
+-- The held and due submissions of the book are those that a cut sends or lets lapse.
 use Rattle.std.proofs.Common.{◌≡◌, ℕ, List, [], map, length, Bool, not, ◌&&◌, ap, ◌∙◌}
 use Rattle.std.specs.Prelude.{filter, sum_by, Some, Option, unwrap_or}
 use Rattle.std.specs.List.{flat_map}

@@ -139,7 +139,7 @@ module _ (steps : RowSteps) (possible : PossibleParts) (order : AcceptedInOrder)
 
   -- ---- the law
 
-  -- the cut is accepted where the book tells so
+  -- the cut is accepted if the book says so
   accepted_as : (identity : Identity) (key : List ℕ) (H : List Pair) → IsHistory identity H → (r : Result CutFacts Refusal) → cut_on (book_of identity key H) ≡ r
       → is_accepted (answer_to identity H Cut) ≡ is_accepted (cut_answer (summary_of r))
   accepted_as identity key H is r told = ap is_accepted (same_answer steps possible identity key H is ∙ ap (λ r. cut_answer (summary_of r)) told)

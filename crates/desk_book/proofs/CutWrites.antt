@@ -1,4 +1,4 @@
--- What the write of a cut makes of a book, look-up by look-up.
+-- The effect of a cut's write on a book, look-up by look-up.
 use Rattle.std.proofs.Common.{◌≡◌, ◌+◌, List, [], ◌∷◌, ◌++◌, map, ◌&&◌, refl, ap, ◌∙◌}
 use Rattle.std.specs.Prelude.{◌==◌, if◌then◌else◌, fold, reverse, Some, is_none}
 use Rattle.desk_book.specs.Book.{Book}

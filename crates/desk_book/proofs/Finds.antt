@@ -1,4 +1,4 @@
--- What is found in a list with one more at its end.
+-- Searches in a list with one more element at its end.
 use Rattle.std.proofs.Common.{◌≡◌, List, [], ◌∷◌, ◌++◌, Bool, true, false, cond, refl, ap, ◌∙◌}
 use Rattle.std.specs.Prelude.{◌&&◌, if◌then◌else◌, find, Some, None, is_none, option_map}
 use Rattle.std.specs.Option.{option_or}

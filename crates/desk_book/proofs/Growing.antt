@@ -1,4 +1,4 @@
--- What a new held submission adds to the exposures of its company, and that it changes no rates.
+-- A new held submission adds its cents to the exposures of its company, and changes no rates.
 use Rattle.std.proofs.Common.{◌≡◌, ◌∙◌, refl, ap, sym, ℕ, ◌+◌, Bool, true, false, List, [], ◌∷◌, ◌++◌, map, zip, length, replicate, Option, arith, cond}
 use Rattle.std.specs.Prelude.{filter, sum_by, not, ◌&&◌, if◌then◌else◌, bytes_eq, count_by}
 use Rattle.std.proofs.lemmas.List.{append-nil}

@@ -1,4 +1,4 @@
--- What an incoming file is answered.
+-- The answer to an incoming file.
 use Rattle.std.proofs.Common.{◌≡◌, ℕ, List, [], map, Bool, true, false, ◌||◌, refl, sym, ap, ◌∙◌}
 use Rattle.std.specs.Prelude.{if◌then◌else◌, Option, Some, None, option_map, find, Result, Ok, Err, bytes_eq}
 use Rattle.ach_files.specs.declared.facts.ItemFacts.{ItemFacts}
@@ -24,7 +24,7 @@ use Rattle.desk_book.proofs.BackOnBook.{back_on_rows}
 use Rattle.desk_book.proofs.IntakeOutcomes.{came_back, named_by, outcomes_same}
 
 module _ (verdicts : VerdictsOnRows) (entries : SentAreAccepted) where
-  -- what an item names, and whether that came back, stands in the book
+  -- the entry that an item names, and whether it is returned, follow from the book
   named_same : (identity : Identity) (key : List ℕ) (H : List Pair) (item : ItemFacts)
       → named_by (came_back (part identity.odfi H)) (named_entry identity.odfi (sent_entries identity.odfi H) item) ≡ named_entry_on (book_of identity key H) item
   named_same identity key H item = by (named_entry identity.odfi (sent_entries identity.odfi H) item) refl where

@@ -1,4 +1,4 @@
--- What comes back by a file of the book, or is changed by it, was sent.
+-- Entries that a file returns or changes were sent.
 use Rattle.std.proofs.Common.{◌≡◌, ℕ, Bool, true, false, cond, List, [], ◌∷◌, ◌++◌, map, refl, sym, subst}
 use Rattle.std.specs.Prelude.{⊤, All, Contains, filter_map, Option, Some, None, Result, Ok, Err}
 use Rattle.std.specs.List.{cons_option}
@@ -22,7 +22,7 @@ abbrev IfAny : {Y : Type 0} → (Y → Type 0) → Option Y → Type 0
 IfAny Q None = ⊤
 IfAny Q (Some y) = Q y
 
--- what each gives has Q, where each has P
+-- if each element has P, each result has Q
 all_given : {X Y : Type 0} (P : X → Type 0) (Q : Y → Type 0) (f : X → Option Y) → ((x : X) → P x → IfAny Q (f x)) → (xs : List X) → All P xs → All Q (filter_map f xs)
 all_given P Q f gives [] all = All-nil Q
 all_given {Y = Y} P Q f gives (x ∷ xs) all = go (f x) (gives x (All-head P x xs all)) (all_given P Q f gives xs (All-tail P x xs all))

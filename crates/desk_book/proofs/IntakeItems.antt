@@ -1,4 +1,4 @@
--- What the items of a file make of a company, one after another.
+-- The effect of a file's items on a company, one after another.
 use Rattle.std.proofs.Common.{◌≡◌, ℕ, List, [], ◌∷◌, ◌++◌, Bool, true, false, not, ◌&&◌, refl, sym, ap, ◌∙◌, subst, append_assoc, inl, inr}
 use Rattle.std.specs.Prelude.{if◌then◌else◌, fold, filter_map, Option, Some, None, Result, Ok, Err, bytes_eq}
 use Rattle.std.specs.List.{cons_option}
@@ -17,7 +17,7 @@ use Rattle.desk_history.proofs.Sent.Resolving.{meets, items_keep}
 
 -- ---- one item after another
 
--- a step, where an item has a row for it
+-- a step, if an item has a row for it
 abbrev pub step_by : {A R : Type 0} → (A → R → A) → A → Option R → A
 step_by step a None = a
 step_by step a (Some row) = step a row

@@ -1,4 +1,4 @@
--- The resolutions of the items of a file, told from what they name and which entries came back.
+-- The resolutions of a file's items, by the entries that they name and the entries that are returned.
 use Rattle.std.proofs.Common.{◌≡◌, ℕ, List, [], ◌∷◌, ◌++◌, map, Bool, true, false, not, ◌&&◌, ◌||◌, ◌==◌, refl, sym, ap, ◌∙◌, inl, inr}
 use Rattle.std.specs.Prelude.{if◌then◌else◌, Option, Some, None, option_map, is_some, Result, Ok, Err, bytes_eq}
 use Rattle.std.specs.List.{list_any}
@@ -18,15 +18,15 @@ use Rattle.desk_history.proofs.Sent.Resolving.{meets, event_holds}
 use Rattle.desk_book.specs.declared.named_entry.NamedEntry.{NamedEntry}
 use Rattle.desk_book.specs.OnIntake.{is_same_entry, is_repeated_return, unless_repeated, was_returned, entries_returned_by, resolution_after, resolutions_after}
 
--- has the entry come back, by the parts of the companies?
+-- whether the entry is returned, by the parts of the companies
 abbrev pub came_back : (List ℕ → List Event) → SentEntry → Bool
 came_back parts e = is_returned (parts e.company) e.reference e.index
 
--- an entry that an item names, where this tells what came back
+-- the entry that an item names, with whether it is returned
 abbrev pub named_by : (SentEntry → Bool) → Option SentEntry → Option NamedEntry
 named_by back found = option_map (λ e. record { entry = e; returned = back e }) found
 
--- by these parts what came back are the entries before the file, and these of it
+-- by these parts, the returned entries are those from before the file and these of it
 abbrev pub IsBackAfter : (SentEntry → Bool) → List SentEntry → (List ℕ → List Event) → Type 0
 IsBackAfter before earlier parts = (e : SentEntry) → came_back parts e ≡ (before e || list_any (is_same_entry e) earlier)
 

@@ -1,4 +1,4 @@
--- What returned and changed rows make of a company's rows, returns and changes.
+-- The effect of returned and changed rows on a company's rows, returns and changes.
 use Rattle.std.proofs.Common.{◌≡◌, ℕ, ◌+◌, List, [], ◌∷◌, ◌++◌, length, map, Bool, true, false, ◌==◌, refl, sym, ap, ◌∙◌}
 use Rattle.std.specs.Prelude.{Ok, if◌then◌else◌, Option, Some, None, option_and_then, unwrap_or, bytes_eq}
 use Rattle.std.specs.List.{enumerate_from, range_with_len}
@@ -60,7 +60,7 @@ states_alike : (f g : ℕ → EntryState → EntryState) (h : ℕ → EntryState
 states_alike f g h same from [] = refl
 states_alike f g h same from (k ∷ ks) = (λ i. same from k i ∷ states_alike f g h same (from + 1) ks i)
 
--- an entry that settled comes back late by the day on which it settled
+-- whether the return of an entry is late follows from its settlement day
 state_alike : (days : List ℕ) (d : ℕ) (e : SentEntry) (code : ℕ) (information : List ℕ) (late : Bool) (settles : Option ℕ) (t : Option TakenReturn) → late ≡ false → settles ≡ Some e.settled
     → returned_state days d code (state_from late settles t) ≡ returned_state_by (back_of days d e code information) (state_from late settles t)
 state_alike days d e code information late settles t stands sent = rw (stands, sent) (by t) where

@@ -1,4 +1,4 @@
--- What an incoming file makes of the book.
+-- The effect of an incoming file on the book.
 use Rattle.std.proofs.Common.{◌≡◌, ℕ, List, [], ◌∷◌, ◌++◌, map, Bool, true, false, ◌&&◌, refl, sym, ap, ◌∙◌, subst}
 use Rattle.std.specs.Prelude.{if◌then◌else◌, fold, filter_map, zip, Option, Some, None, is_none, unwrap_or, find, Result, Ok, Err, bytes_eq}
 use Rattle.std.specs.List.{enumerate_from, flat_map}
@@ -117,7 +117,7 @@ module _ (verdicts : VerdictsOnRows) (steps : RowSteps) (entries : SentAreAccept
       (subst (λ (t : Bool). IsPossible (events_for odfi (sent_entries odfi H) t c true (TakeFile (Ok f)) (part odfi H c) ++ part odfi H c)) new with_file)
       ∙ ap (λ (os : List (Result ResolvedItem SuspenseReason)). fold step (g (part odfi H c)) (filter_map row os)) (outcomes_on_book verdicts entries identity key H f.items)
 
-  -- a new file is written as the book tells
+  -- a new file is written as the book says
   new_writes : (identity : Identity) (key : List ℕ) (H : List Pair) (f : FileFacts) (d : ℕ) → day H ≡ Some d → is_new_file H f.key ≡ true
       → behind_file identity key H f true ≡ (commit_intake (intake_write (intake_facts (book_of identity key H) d f))).after (book_of identity key H)
   new_writes identity key H f d on new =
@@ -152,7 +152,7 @@ module _ (verdicts : VerdictsOnRows) (steps : RowSteps) (entries : SentAreAccept
   refused identity key H file taking is not =
       told.refused identity key H (TakeFile file) (ap is_accepted (file_answered verdicts entries identity key H file ∙ is) ∙ not) (λ c r same. cc)
 
-  -- after an accepted answer stands the book by whether a file of the key was taken
+  -- the book after an accepted answer depends on whether a file with this key was taken
   accepted : (identity : Identity) (key : List ℕ) (H : List Pair) (f : FileFacts) (value : Outcome) → file_answer_on (Ok f) (book_of identity key H) ≡ answers.Done value
       → book_of identity key (next_pair identity H (TakeFile (Ok f)) ∷ H) ≡ behind_file identity key H f (is_none ((book_of identity key H).taken f.key))
   accepted identity key H f value is =

@@ -1,4 +1,4 @@
--- What a message that is no cut and no file leaves of the book.
+-- The effect on the book of a message that is neither a cut nor a file.
 use Rattle.std.proofs.Common.{◌≡◌, ℕ, List, [], ◌∷◌, ◌++◌, Bool, true, false, refl, ap}
 use Rattle.std.specs.Prelude.{if◌then◌else◌, Option, None, find, option_map}
 use Rattle.std.specs.List.{flat_map}

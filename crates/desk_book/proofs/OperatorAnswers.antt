@@ -1,4 +1,4 @@
--- The operator's answers are those that the book tells.
+-- The operator's answers follow from the book.
 use Rattle.std.proofs.Common.{◌≡◌, ℕ, Bool, refl}
 use Rattle.std.specs.Prelude.{Result, Ok, Err}
 use Rattle.desk_rules.specs.declared.refusals.refusal.Refusal as rules

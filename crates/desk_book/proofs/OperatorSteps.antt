@@ -1,4 +1,4 @@
--- What the operator's commands make of the book.
+-- The effect of the operator's commands on the book.
 use Rattle.std.proofs.Common.{◌≡◌, ℕ, List, ◌∷◌, Bool, refl, ap, ◌∙◌}
 use Rattle.std.specs.Prelude.{Option, Some, None, Result, Ok, Err}
 use Rattle.bank_days.specs.Calendar.{is_banking}

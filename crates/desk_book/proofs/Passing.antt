@@ -1,4 +1,4 @@
--- What passes several tests in turn, of one list and of several.
+-- The elements that pass several tests in turn, of one list and of several.
 use Rattle.std.proofs.Common.{◌≡◌, List, [], ◌∷◌, ◌++◌, map, length, Bool, true, false, ◌&&◌, refl, ap, ◌∙◌}
 use Rattle.std.specs.Prelude.{if◌then◌else◌, filter, sum_by, count_by}
 use Rattle.std.specs.List.{flat_map, AllByRecursion}
@@ -33,7 +33,7 @@ passing {X} held g due test (x ∷ xs) =
       | false ↦ same
     ]
 
--- what is made of those that pass, where one list is made of another
+-- the results for the elements that pass, if one list is mapped from another
 pub same_chosen : {X Y Z : Type 0} (f : X → Z) (g : Y → Z) (r : X → Y) (p : X → Bool) (q : Y → Bool) (xs : List X)
     → AllByRecursion (λ x. (q (r x) ≡ p x) × (p x ≡ true → g (r x) ≡ f x)) xs → map g (filter q (map r xs)) ≡ map f (filter p xs)
 same_chosen f g r p q [] same = refl

@@ -1,4 +1,4 @@
--- What writes nothing leaves the book as it was.
+-- A message that writes nothing leaves the book unchanged.
 use Rattle.std.proofs.Common.{◌≡◌, ℕ, List, true, false, refl}
 use Rattle.std.specs.Prelude.{is_some, Option, Some, None, Result, Ok, Err}
 use Rattle.bank_days.specs.declared.calendar_fault.CalendarFault.{CalendarFault}
@@ -72,7 +72,7 @@ reads b Suspense is = refl
 reads b Status is = refl
 reads b m is = cc
 
--- no row is added where the answer tells no receipt
+-- no row is added if the answer has no receipt
 no_receipt : (rs : List Row) (r : Result Row rules.Refusal) → is_quiet (answer_of (receipt_of r)) ≡ true → is_some (row_if_new rs r) ≡ false
 no_receipt rs (Ok row) silent = cc
 no_receipt rs (Err why) silent = refl
@@ -106,7 +106,7 @@ quiet b Settlement silent = refl
 quiet b Suspense silent = refl
 quiet b Status silent = refl
 
--- a refusal tells it
+-- a refusal is such an answer
 refused_quiet : (a : Answer) → is_accepted a ≡ false → is_quiet a ≡ true
 refused_quiet (answers.Done value) refused = cc
 refused_quiet (answers.Refused why) refused = refl

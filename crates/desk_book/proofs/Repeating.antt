@@ -1,4 +1,4 @@
--- What was accepted once writes nothing when it is sent again.
+-- A request that was accepted once writes nothing when it is sent again.
 use Rattle.std.proofs.Common.{◌≡◌, ℕ, List, ◌∷◌, ◌++◌, Bool, true, false, refl, sym, ap, ◌∙◌}
 use Rattle.std.specs.Prelude.{if◌then◌else◌, Option, Some, None, option_map, is_some, Result, Ok, Err, bytes_eq}
 use Rattle.std.specs.List.{list_any}
@@ -39,7 +39,7 @@ use Rattle.desk_book.specs.Writes.{is_new_taking, writes_on, ReadsLeave}
 none_added : (rs : List Row) (row : Row) (x : Result Row Refusal) → x ≡ Ok row → list_any (is_row_under row.content.reference) rs ≡ true → is_some (row_if_new rs x) ≡ false
 none_added rs row x is among = ap (λ x. is_some (row_if_new rs x)) is ∙ ap (λ (t : Bool). is_some (if t then None else Some row)) among
 
--- a file whose key was taken is no new one
+-- a file whose key was taken is not a new one
 no_new_file : (b : Book) (f : FileFacts) (t : TakenFile) → b.taken f.key ≡ Some t → (on : Option ℕ) → is_new_taking (taking_on b on (Ok f)) ≡ false
 no_new_file b f t found None = refl
 no_new_file b f t found (Some d) = ap (λ (o : Option TakenFile). is_new_taking (taking_file b d f o)) found ∙ by (bytes_eq t.digest f.digest) where

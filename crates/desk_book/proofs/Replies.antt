@@ -1,4 +1,4 @@
--- A company's answers are those that the book tells.
+-- A company's answers follow from the book.
 use Rattle.std.proofs.Common.{◌≡◌, ℕ, ◌+◌, List, [], ◌∷◌, length, map, Bool, true, false, refl, sym, ap, ◌∙◌}
 use Rattle.std.specs.Prelude.{if◌then◌else◌, nat_le, ℤ, ◌+ℤ◌, pos, zip, Option, Some, None, option_map, Result, Ok, Err}
 use Rattle.std.specs.List.{fold, filter, range_with_len, enumerate_from}

@@ -1,4 +1,4 @@
--- What a return makes of a company's rows.
+-- The effect of a return on a company's rows.
 use Rattle.std.proofs.Common.{◌≡◌, ℕ, zero, suc, ◌+◌, List, ◌∷◌, length, map, Bool, true, false, ◌&&◌, ◌==◌, refl, sym, ap, ◌∙◌, inl, inr, if◌then◌else◌}
 use Rattle.std.specs.Prelude.{Option, Some, None, bytes_eq}
 use Rattle.std.specs.List.{range_with_len, enumerate_from}

@@ -1,4 +1,4 @@
--- What a request, a cut and a return make of a company's rows.
+-- The effect of a request, a cut and a return on a company's rows.
 use Rattle.std.proofs.Common.{◌≡◌, ℕ, List, [], ◌∷◌, ◌++◌, map, Bool, true, false, ◌||◌, refl, sym, ap, ◌∙◌, if◌then◌else◌}
 use Rattle.std.specs.Prelude.{Result, Ok, Err}
 use Rattle.std.specs.List.{list_any}
@@ -24,7 +24,7 @@ any_map : {X Y : Type 0} (f : X → Y) (p : Y → Bool) (xs : List X) → list_a
 any_map f p [] = refl
 any_map f p (x ∷ xs) = ap (λ (t : Bool). p (f x) || t) (any_map f p xs)
 
--- the row of what is new stands after the others
+-- the new row comes after the others
 rows_grown : (P : List Event) (A : List AcceptedSubmission) (x : Result AcceptedSubmission Refusal) → map (row_of P) (with_accepted A x) ≡ with_row (map (row_of P) A) (row_of_result P x)
 rows_grown P A (Err why) = refl
 rows_grown P A (Ok a) = at (list_any (is_called a.content.reference) A) ∙ ap (λ (t : Bool). if t then map (row_of P) A else map (row_of P) A ++ row_of P a ∷ []) (sym (any_map (row_of P) (is_row_under a.content.reference) A)) where

@@ -1,4 +1,4 @@
--- A company's standing: what its part says of it and what the book has are the same.
+-- A company's standing: its part and the book give the same.
 use Rattle.std.specs.Prelude.{◌≡◌, ℕ, List}
 use Rattle.std.proofs.Common.{sym}
 use Rattle.desk_history.specs.declared.identity.Identity.{Identity}

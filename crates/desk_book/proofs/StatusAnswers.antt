@@ -1,4 +1,4 @@
--- How the desk stands is what the book tells.
+-- The desk's status follows from the book.
 use Rattle.std.proofs.Common.{◌≡◌, ℕ, List, [], ◌∷◌, map, length, true, not, refl, sym, ap, ◌∙◌}
 use Rattle.std.specs.Prelude.{filter, count_by, Option, Some, None}
 use Rattle.std.specs.List.{AllByRecursion}

@@ -1,4 +1,4 @@
--- What each message makes of the book.
+-- The effect of each message on the book.
 use Rattle.std.proofs.Common.{◌≡◌, ℕ, List, [], ◌∷◌, ◌++◌, Bool, true, false, ◌&&◌, refl, sym, ap, ◌∙◌, inl, inr}
 use Rattle.std.specs.Prelude.{if◌then◌else◌, Option, Some, None, option_map, option_to_list, Result, Ok, Err, bytes_eq}
 use Rattle.std.specs.Result.{result_ok}

@@ -116,7 +116,7 @@ turned_by_own change keeps p first same (row ∷ rs) apart =
 
 -- ---- the turns of companies
 
--- a turn of a company's row is none of another's
+-- a turn of one company's row does not change another's
 abbrev pub turned_at : List ℕ → List Row → List ℕ × Turn → List Row
 turned_at c rs x = if bytes_eq x.0 c then turned_all rs x.1 else rs
 
@@ -137,7 +137,7 @@ other_turns c k other (t ∷ ts) rs =
     ap (λ (b : Bool). fold (turned_at c) (if b then turned_all rs t else rs) (turns_of k ts)) other
     ∙ other_turns c k other ts rs
 
--- of the turns of all companies those of one are its own, where it is among them
+-- of the turns of all companies, those of one company are its own, if it is among them
 pub turned_in : (c : List ℕ) (ts : List ℕ → List Turn) (ks : List Company) → Apart ks → (rs : List Row)
     → fold (turned_at c) rs (flat_map (λ k. turns_of k.id (ts k.id)) ks) ≡ (if is_some (find (has_id c) ks) then fold turned_all rs (ts c) else rs)
 turned_in c ts [] apart rs = refl

@@ -1,4 +1,4 @@
--- Entries that did not come back.
+-- Entries that are not returned.
 use Rattle.std.proofs.Common.{◌≡◌, ℕ, List, [], ◌∷◌, Bool, true, false, ◌&&◌, ◌==◌, refl, ap, ◌∙◌, inl, inr, if◌then◌else◌}
 use Rattle.std.specs.Prelude.{Option, Some, None, option_and_then, is_some, bytes_eq}
 use Rattle.std.proofs.lemmas.Bool.{cases_Bool}
@@ -19,7 +19,7 @@ none_before e P reference none = at (settlement_under P reference) refl where
   at None is = refl
   at (Some on) is = let stays : settlement_under (e ∷ P) reference ≡ Some on = settled_under_stays e P reference on (originals P) is in cc
 
--- an entry that came back is of another reference
+-- a returned entry has another reference
 returned_other : (P : List Event) (reference r : List ℕ) (i : ℕ) → settlement_under P reference ≡ None → IsSentEntry P r i → bytes_eq r reference ≡ false
 returned_other P reference r i none sent = elim (cases_Bool (bytes_eq r reference)) [
   | inl own ↦

@@ -1,4 +1,4 @@
--- What a desk holds, as look-ups.
+-- The contents of a desk, as look-ups.
 use Rattle.std.specs.Prelude.{ℕ, List, map, find, length, Option, option_map}
 use Rattle.std.specs.List.{range_with_len}
 use Rattle.desk_accounts.specs.declared.posting.Posting.{Posting}
@@ -37,15 +37,13 @@ row_of P a = record {
 abbrev pub rows : List Event → List Row
 rows P = map (row_of P) (submissions P)
 
--- What stands of a company is found by its identification. Sequences, files and batches stand apart
--- from a company's rows.
+-- A company's rows are found by its identification. Sequences, files and batches are kept apart from a company's rows.
 --
--- All postings are one list, in the order in which they came: each line of a company or of suspense has
--- its opposite on the operator's account next after it. The lines of an account are those of the list
--- that are its, and its balances are their sums.
+-- All postings are one list, in their order: each line of a company or of suspense is followed by its opposite on the
+-- operator's account. The lines of an account are those in the list that name it, and its balances are their sums.
 --
--- Where a file prints a submission, by its day, its modifier and the batch, no answer shows. It is kept
--- so that the operator's file can be traced to the submissions in it, and a submission to its file.
+-- No answer shows the day, the modifier and the batch under which a file prints a submission. They are kept so that the
+-- operator's file can be traced to the submissions in it, and a submission to its file.
 pub record Book : Type 0 where
   pub identity : Identity
   pub operator_key : List ℕ

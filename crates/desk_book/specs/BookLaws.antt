@@ -1,4 +1,4 @@
--- The book tells all that a company is answered, and what each message makes of it is one step.
+-- The book determines all answers to a company, and each message changes it by one step.
 use Rattle.std.specs.Prelude.{◌≡◌, ℕ, true, false, List, ◌∷◌, Option, Some, Ok}
 use Rattle.desk_rules.specs.declared.bodies.company.Company.{Company}
 use Rattle.desk_rules.specs.declared.bodies.company.Limits.{Limits}
@@ -17,14 +17,14 @@ use Rattle.desk_book.specs.Steps.{set_day, set_holidays, put_company, put_limits
 use Rattle.desk_book.specs.OnBook.{standing_in, reply_on}
 use Rattle.desk_book.specs.Requests.{added_row, with_added_row}
 
--- a company's standing and its answers are those that the book tells
+-- a company's standing and its answers follow from the book
 pub record TellsReplies : Type 0 where
   pub standings : (identity : Identity) (key : List ℕ) (H : List Pair) (c : List ℕ) → IsHistory identity H
       → standing (part identity.odfi H c) ≡ standing_in (book_of identity key H) c
   pub replies : (identity : Identity) (key : List ℕ) (H : List Pair) (c : List ℕ) (r : Request) → IsHistory identity H
       → reply (part identity.odfi H c) r ≡ reply_on (book_of identity key H) c r
 
--- what a message makes of the book of a history, where it is no cut and no file
+-- the effect on the book of a message that is neither a cut nor a file
 pub record StepsOfMessages : Type 0 where
   pub asked : (identity : Identity) (key : List ℕ) (H : List Pair) (c : List ℕ) (r : Request) → IsHistory identity H
       → book_of identity key (next_pair identity H (Of c r) ∷ H) ≡ with_added_row c (added_row (book_of identity key H) c r) (book_of identity key H)

@@ -1,4 +1,4 @@
--- What a cut answers, and what it writes, from the book.
+-- The answer to a cut, and its write, from the book.
 use Rattle.std.specs.Prelude.{ℕ, ◌+◌, Bool, not, List, map, filter, zip, length, sum_by, Some, Result, Ok, Err}
 use Rattle.std.specs.List.{enumerate_from, flat_map}
 use Rattle.desk_accounts.specs.Laws.{pairs}

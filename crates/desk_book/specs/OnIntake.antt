@@ -41,11 +41,11 @@ abbrev pub is_returned_in : Option Row → ℕ → Bool
 is_returned_in None index = false
 is_returned_in (Some row) index = is_returned_state (state_at row index)
 
--- has the entry come back?
+-- whether the entry is returned
 abbrev pub is_returned_on : Book → SentEntry → Bool
 is_returned_on b e = is_returned_in (row_under (b.rows e.company) e.reference) e.index
 
--- an entry, and whether it came back
+-- an entry, with whether it is returned
 abbrev pub with_return : Book → SentEntry → NamedEntry
 with_return b e = record { entry = e; returned = is_returned_on b e }
 
@@ -65,7 +65,7 @@ traced_entries traces b = map (λ t. traced_entry t b) traces
 abbrev pub is_same_entry : SentEntry → SentEntry → Bool
 is_same_entry e other = bytes_eq e.company other.company && bytes_eq e.reference other.reference && e.index == other.index
 
--- is it a return of an entry that came back before the file, or by an earlier item of it?
+-- whether this is a return of an entry that was returned before the file, or by an earlier item of it
 abbrev pub is_repeated_return : List SentEntry → Bool → ResolvedItem → Bool
 is_repeated_return earlier before x = is_returned_event x.event && (before || list_any (is_same_entry x.entry) earlier)
 
@@ -77,11 +77,11 @@ abbrev pub was_returned : Option NamedEntry → Bool
 was_returned None = false
 was_returned (Some n) = n.returned
 
--- the resolution of an item after others, of which these entries came back
+-- the resolution of an item, after others that returned these entries
 abbrev pub resolution_after : List SentEntry → ItemFacts → Option NamedEntry → Result ResolvedItem SuspenseReason
 resolution_after earlier item found = unless_repeated earlier (was_returned found) (resolve_entry (option_map (λ n. n.entry) found) item)
 
--- the entry that comes back by an item
+-- the entry that an item returns
 abbrev pub entries_returned_by : Result ResolvedItem SuspenseReason → List SentEntry
 entries_returned_by (Err why) = []
 entries_returned_by (Ok x) = if is_returned_event x.event then x.entry ∷ [] else []

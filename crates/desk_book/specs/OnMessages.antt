@@ -38,7 +38,7 @@ after_on b Settlement = b
 after_on b Suspense = b
 after_on b Status = b
 
--- the book tells each answer, and the book after each message
+-- the book determines each answer, and the book after each message
 pub record BookTells : Type 0 where
   pub answers : (identity : Identity) (key : List ℕ) (H : List Pair) (m : Message) → IsHistory identity H
       → answer_to identity H m ≡ answer_on (book_of identity key H) m

@@ -1,4 +1,4 @@
--- How the desk stands, from what the book has.
+-- The desk's status, from the book.
 use Rattle.std.specs.Prelude.{ℕ, List, [], length, map, Option, Some, None}
 use Rattle.desk_rules.specs.declared.bodies.company.Company.{Company}
 use Rattle.desk_history.specs.declared.answer.Answer.{Answer}
@@ -23,7 +23,7 @@ abbrev pub lapsed_on : (day : Option ℕ) → (holidays : List ℕ) → List Hel
 lapsed_on None holidays ws = []
 lapsed_on (Some d) holidays ws = lapses_among holidays d ws
 
--- a company of which this waits
+-- a company with these held submissions
 abbrev pub company_status : (day : Option ℕ) → (holidays : List ℕ) → Company → List HeldSubmission → CompanyStatus
 company_status day holidays k ws = record {
   due = due_days (sent_on day holidays ws);

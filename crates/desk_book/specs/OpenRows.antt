@@ -6,7 +6,7 @@ use Rattle.desk_rules.specs.Exposure.{is_open_credit}
 use Rattle.desk_book.specs.declared.row.Row.{Row}
 use Rattle.desk_book.specs.Sums.{exposures_on}
 
--- an entry of it is held, or settled on the day or after it, also where it came back
+-- one of its entries is held, or settled on the day or later; returned entries count too
 abbrev pub is_open_row : (since : ℕ) → Row → Bool
 is_open_row since row = list_any (λ state. is_open_credit state since) row.states
 

@@ -1,4 +1,4 @@
--- The book tells what the operator is answered, but to a cut and to a file, and what commands make of the book.
+-- The book determines the operator's answers, except to a cut and to a file, and the effect of commands on the book.
 use Rattle.std.specs.Prelude.{◌≡◌, ℕ, List, ◌∷◌, Option, Result}
 use Rattle.bank_days.specs.declared.calendar_fault.CalendarFault.{CalendarFault}
 use Rattle.desk_rules.specs.declared.bodies.draft.CompanyDraft.{CompanyDraft}
@@ -9,7 +9,7 @@ use Rattle.desk_history.specs.Message.{SetDay, SetHolidays, PutCompany, PutLimit
 use Rattle.desk_history.specs.Operator.{answer_to, next_pair, IsHistory}
 use Rattle.desk_book.specs.OnOperator.{day_answer, day_after, holidays_answer, holidays_after, company_answer, company_after, limits_answer, limits_after, file_answer, settlement_answer, suspense_answer}
 
--- the answers are those that the book tells
+-- the answers follow from the book
 pub record TellsOperator : Type 0 where
   pub day : (identity : Identity) (key : List ℕ) (H : List Pair) (text : Option (List ℕ))
       → answer_to identity H (SetDay text) ≡ day_answer text (book_of identity key H)

@@ -1,4 +1,4 @@
--- What reads of a store find in its book.
+-- The results of a store's reads, from its book.
 use Rattle.std.specs.Prelude.{ℕ, List, map, filter, find, length, Option, Some, option_map}
 use Rattle.std.specs.List.{flat_map}
 use Rattle.desk_plan.specs.Reuse as plan

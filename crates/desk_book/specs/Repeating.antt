@@ -1,4 +1,4 @@
--- What is accepted once: a submission, a retry or an incoming file that is sent again changes nothing.
+-- Each submission, retry and incoming file is accepted once: one that is sent again changes nothing.
 use Rattle.std.specs.Prelude.{◌≡◌, ℕ, true, List, ◌∷◌, ◌++◌}
 use Rattle.desk_history.specs.declared.identity.Identity.{Identity}
 use Rattle.desk_history.specs.Message.{Pair, is_accepted}

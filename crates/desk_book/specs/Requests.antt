@@ -1,4 +1,4 @@
--- What a company's request makes of the book: it adds one row, or none.
+-- The effect of a company's request on the book: it adds one row, or none.
 use Rattle.std.specs.Prelude.{ℕ, if◌then◌else◌, List, Option, Some, None, Result, Ok, Err}
 use Rattle.std.specs.List.{list_any}
 use Rattle.desk_rules.specs.declared.refusals.refusal.Refusal as rules

@@ -67,6 +67,6 @@ pub record RowsOfPart : Type 0 where
       → part here.odfi H c ≡ part there.odfi G c → SameRows here there key other_key H G c
   pub account : (here there : Identity) (key other_key : List ℕ) (H G : List Pair) (c : List ℕ) → IsHistory here H → IsHistory there G
       → part here.odfi H c ≡ part there.odfi G c → SameAccount here there key other_key H G c
-  -- whether a key is the company's can be told from the part alone
+  -- whether a key is the company's follows from the part alone
   pub key : (identity : Identity) (key : List ℕ) (H : List Pair) (c : List ℕ) → IsHistory identity H
       → key_of (callers.Company c) (book_of identity key H) ≡ digest (part identity.odfi H c)

@@ -1,5 +1,5 @@
--- What a company's requests are judged by: its limits, the desk day, the holidays and its rows. The
--- definitions over events give the same as these over rows.
+-- The facts by which a company's requests are judged: its limits, the desk day, the holidays and its rows. The
+-- definitions over events agree with these over rows.
 use Rattle.std.specs.Prelude.{ℕ, ◌+◌, ◌-◌, Bool, true, false, not, ◌&&◌, ◌==◌, if◌then◌else◌, List, [], ◌∷◌, ◌++◌, map, filter, filter_map, find, length, zip, replicate, Option, Some, None, is_none, unwrap_or, option_map, option_and_then, slice_get, Result, Ok, Err, bytes_eq}
 use Rattle.std.specs.List.{flat_map, list_any, enumerate_from}
 use Rattle.desk_rules.specs.declared.rules.attempt.Attempt.{Attempt}
@@ -131,7 +131,7 @@ abbrev pub with_row : List Row → Result Row Refusal → List Row
 with_row rs (Err why) = rs
 with_row rs (Ok row) = if list_any (is_row_under row.content.reference) rs then rs else rs ++ row ∷ []
 
--- a request adds the row that it is answered by, where that is new
+-- a request adds the row that answers it, if that row is new
 abbrev pub rows_after_request : Standing → Request → List Row
 rows_after_request st (request.Submit d) = with_row st.rows (submission_row st d)
 rows_after_request st (request.Retry d) = with_row st.rows (retry_row st d)
@@ -172,7 +172,7 @@ cut_row holidays today rs row =
 abbrev pub rows_after_cut : Standing → List Row
 rows_after_cut st = map (cut_row st.holidays (unwrap_or st.day 0) st.rows) st.rows
 
--- a sent entry comes back
+-- a sent entry is returned
 abbrev pub returned_state : (holidays : List ℕ) → (today : ℕ) → (code : ℕ) → EntryState → EntryState
 returned_state holidays today code (states.Sent on) = states.Returned on code today (is_late code on today holidays)
 returned_state holidays today code s = s

@@ -1,4 +1,4 @@
--- How the desk stands after a history is how its book stands.
+-- The desk's status after a history is the status of its book.
 use Rattle.std.specs.Prelude.{◌≡◌, ℕ, List}
 use Rattle.desk_history.specs.declared.identity.Identity.{Identity}
 use Rattle.desk_history.specs.Message.{Status, Pair}

@@ -1,4 +1,4 @@
--- What each write makes of a book, and when it may be made.
+-- The effect of each write on a book, and when it may be made.
 use Rattle.std.specs.Prelude.{◌≡◌, ⊤, ℕ, Bool, ◌+◌, ◌&&◌, ◌==◌, if◌then◌else◌, List, [], ◌∷◌, ◌++◌, map, find, fold, length, reverse, All, Contains, Option, Some, None, is_none, bytes_eq}
 use Rattle.std.specs.List.{enumerate_from}
 use Rattle.desk_accounts.specs.declared.posting.Posting.{Posting}
@@ -96,7 +96,7 @@ put_file b f = record b {
 abbrev pub put_entries : List SentEntry → Book → Book
 put_entries es b = record b { sent = reverse es ++ b.sent }
 
--- an entry of a submission of the book that is among the sent ones, as it stands there
+-- an entry of a submission that is sent, as the book has that submission
 pub record IsEntryOf (b : Book) (sent : List SentRow) (e : SentEntry) : Type 0 where
   pub row : Row
   pub stands : Contains (b.rows e.company) row
@@ -122,7 +122,7 @@ pub record IntakeWrite : Type 0 where
   pub postings : List Posting
   pub file : TakenFile
 
--- a sent entry comes back
+-- a sent entry is returned
 abbrev pub returned_state_by : ReturnedRow → EntryState → EntryState
 returned_state_by x (states.Sent on) = states.Returned on x.row.code x.row.day x.row.late
 returned_state_by x s = s
@@ -153,7 +153,7 @@ pub record WasSent (sent : List SentEntry) (company : List ℕ) (order : ℕ) (r
   pub among : Contains sent entry
   pub names : (entry.company ≡ company) × (entry.order ≡ order) × (entry.reference ≡ reference)
 
--- what comes back, and what is changed, was sent
+-- returned and changed entries were sent
 pub record NamesSent (sent : List SentEntry) (x : IntakeWrite) : Type 0 where
   pub returned : All (λ r. WasSent sent r.company r.order r.row.reference) x.returned
   pub changed : All (λ c. WasSent sent c.company c.order c.row.reference) x.changed

@@ -1,4 +1,4 @@
--- What a new submission or retry makes of the exposures and the return rates of companies.
+-- The effect of a new submission or retry on the exposures and the return rates of companies.
 use Rattle.std.specs.Prelude.{◌≡◌, ℕ, ◌+◌, Bool, true, false, if◌then◌else◌, List, Option, bytes_eq}
 use Rattle.desk_rules.specs.declared.bodies.submission.Retry.{Retry}
 use Rattle.desk_rules.specs.declared.bodies.submission.Submission.{Submission}

@@ -1,4 +1,4 @@
--- What a company's rows come to on a day: its two exposures, and its return rates.
+-- A company's sums on a day, over its rows: its two exposures, and its return rates.
 use Rattle.std.specs.Prelude.{ℕ, List}
 use Rattle.desk_rules.specs.declared.rules.rate.Rates.{Rates}
 use Rattle.desk_rules.specs.Exposure.{credit_exposure, debit_exposure}

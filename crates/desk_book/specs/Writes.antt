@@ -1,4 +1,4 @@
--- Which messages write, and which answers tell that nothing was written.
+-- The messages that write, and the answers after which nothing was written.
 use Rattle.std.specs.Prelude.{◌≡◌, Bool, true, false, is_some}
 use Rattle.desk_history.specs.declared.answer.Answer.{Answer}
 use Rattle.desk_history.specs.declared.answer.Answer.TheVariants as answers
@@ -50,8 +50,8 @@ is_quiet (answers.Done (done.Cut summary)) = false
 is_quiet (answers.Done (done.Taken counts)) = false
 is_quiet (answers.Done found) = true
 
--- What writes nothing leaves the book as it was. Reads write nothing, nor does what is refused; and the
--- answer alone can tell it.
+-- A message that writes nothing leaves the book unchanged. Reads and refused messages write nothing, and the answer
+-- alone shows it.
 pub record ReadsLeave : Type 0 where
   pub book : (b : Book) (m : Message) → writes_on b m ≡ false → after_on b m ≡ b
   pub reads : (b : Book) (m : Message) → is_read m ≡ true → writes_on b m ≡ false

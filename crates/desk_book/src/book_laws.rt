@@ -5,8 +5,8 @@ ghost use Rattle.desk_book.specs.Unauthorized.{UnauthorizedBooks};
 
 use crate::row_laws::{row_steps, verdicts_on_rows};
 
-/// What a company is answered, and what its requests are judged by, can be told from the book of the
-/// desk alone.
+/// A company's answers, and the facts by which its requests are judged, follow from the desk's book
+/// alone.
 pub fn tells_replies()
     ensures { TellsReplies }
 {
@@ -14,17 +14,18 @@ pub fn tells_replies()
     desk_history::company_lines();
 }
 
-/// Each message that is no cut and no incoming file makes one write in the book, or none: a request adds
-/// its company at most one submission or retry, held; a desk day, a holiday list, a company or new limits
-/// are put down. Reads, and what is refused to the operator, leave the book as it was.
+/// Each message that is neither a cut nor an incoming file makes at most one write in the book: a
+/// request adds at most one submission or retry to its company, held; a desk day, a holiday list, a
+/// company or new limits are stored. Reads, and commands of the operator that are refused, leave
+/// the book unchanged.
 pub fn steps_of_messages()
     ensures { StepsOfMessages }
 {
     row_steps();
 }
 
-/// What the operator is answered can be told from the book of the desk alone; of a cut and of an
-/// incoming file other laws say so.
+/// The operator's answers follow from the desk's book alone; other laws say so of a cut and of an
+/// incoming file.
 pub fn tells_operator()
     ensures { TellsOperator }
 {}

@@ -1,7 +1,7 @@
 //! A caller is the operator or a company.
 use ach_fields::Id;
 
-/// A `Caller` says who calls.
+/// The caller of the desk.
 #[derive(Clone, Copy, Debug, PartialEq, Eq, Drop)]
 pub enum Caller {
     Operator,

@@ -4,10 +4,9 @@ ghost use Rattle.desk_book.specs.CutLaws.{TellsCut, EntriesOfCuts};
 use crate::book_laws::steps_of_messages;
 use crate::row_laws::row_steps;
 
-/// A cut after any history is answered as the book of the desk alone tells: which submissions wait
-/// and are due, which of them lapse, which files they make, and the first refusal. The book after
-/// it is what the one write of the cut makes of the book, and a refused cut leaves the book as it
-/// was.
+/// The answer to a cut after any history follows from the desk's book alone: which submissions are
+/// held and due, which of them lapse, which files they make, and the first refusal. The book after
+/// it is the result of the cut's one write, and a refused cut leaves the book unchanged.
 pub fn tells_cut()
     ensures { TellsCut }
 {

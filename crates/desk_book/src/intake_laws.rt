@@ -4,10 +4,10 @@ ghost use Rattle.desk_book.specs.IntakeLaws.{EntriesOfIntakes, TellsIntake};
 use crate::row_laws::{row_steps, verdicts_on_rows};
 use crate::steps_of_messages;
 
-/// An incoming file is answered, after any history, as the book of the desk tells. Where it is
-/// taken as a new one, the book after it has what one write puts down: its returns and changes,
-/// what of it stands in suspense, its postings, and the file itself with its answer. A file that
-/// was taken before, or is refused, leaves the book as it was.
+/// The answer to an incoming file after any history follows from the desk's book. If the file is
+/// taken as a new one, the book after it is the result of one write: its returns and changes, its
+/// items in suspense, its postings, and the file itself with its answer. A file that was taken
+/// before, or is refused, leaves the book unchanged.
 pub fn tells_intake()
     ensures { TellsIntake }
 {

@@ -1,5 +1,5 @@
-//! This crate has the book of a desk: its rows, its reads and its steps. The book tells every
-//! answer, and what each message makes of the book.
+//! The book of a desk: its rows, its reads and its steps. The book determines every answer, and the
+//! effect of each message on the book.
 //!
 //! The answers of a desk are defined over its history. A desk keeps a book and no history, so each
 //! definition is given here once more, over the book, and the laws say that both give the same.

@@ -3,8 +3,8 @@ ghost use Rattle.desk_book.specs.OnMessages.{BookTells};
 ghost use Rattle.desk_book.specs.Repeating.{TwiceActsOnce};
 ghost use Rattle.desk_book.specs.Writes.{ReadsLeave};
 
-/// The answer to every message, and the book after it, can be told from the book of the desk alone:
-/// for each history, what the book gives is what the history gives.
+/// The answer to every message, and the book after it, follow from the desk's book alone: for each
+/// history, the book gives what the history gives.
 pub fn book_tells()
     ensures { BookTells }
 {
@@ -17,8 +17,8 @@ pub fn book_tells()
     crate::status_laws::tells_status();
 }
 
-/// What writes nothing leaves the book as it was. Reads write nothing, nor does what is refused or
-/// was accepted before; and the answer alone can tell that nothing was written.
+/// A message that writes nothing leaves the book unchanged. Reads write nothing, nor do messages
+/// that are refused or were accepted before; and the answer alone shows that nothing was written.
 pub fn reads_leave()
     ensures { ReadsLeave }
 {}

@@ -1,4 +1,4 @@
-//! The exposures of a company are told from its open rows.
+//! The exposures of a company follow from its open rows.
 ghost use Rattle.std.specs.Prelude.{◌≤◌, ◌<◌, IsTrue, IfSome};
 ghost use Rattle.bank_days.specs.Calendar.{nth_after};
 ghost use Rattle.desk_rules.specs.Deadlines.{last_rule_day};
@@ -7,7 +7,7 @@ ghost use Rattle.desk_book.specs.OpenRows.{IsPast, OpenRowsSuffice};
 use bank_days::{Calendar, Day};
 use desk_rules::RuleDay;
 
-/// The exposures of a company's open rows are those of all its rows, where what settled before the
+/// The exposures of a company's open rows are those of all its rows, if every settlement before the
 /// first day that counts has its second banking day before the desk day.
 pub fn open_rows_suffice()
     ensures { OpenRowsSuffice }
@@ -24,9 +24,9 @@ fn is_past(calendar: &Calendar, day: Day, today: Day) -> bool
     }
 }
 
-/// Gives the first day whose settlements still count for an exposure on a desk day: what settled
-/// before it has its second banking day before the desk day. There is none where the desk day is one
-/// of the first of the year 2000, before which no day is known.
+/// Returns the first day whose settlements still count for an exposure on a desk day: every earlier
+/// settlement has its second banking day before the desk day. Returns `None` if the desk day is one
+/// of the first of the year 2000, before which no day exists.
 pub fn first_open_day(calendar: &Calendar, today: Day) -> Option<Day>
     ensures { IfSome result (λ since. IsPast since today calendar.now) }
 {

@@ -1,4 +1,4 @@
-//! A company's entries come back, or are changed.
+//! The returns and changes of a company's entries.
 use desk_history::{ChangeRow, ListOf, ReturnRow};
 
 /// `ReturnsAndChanges` are the returns and changes of a company's entries, in the order in which

@@ -7,16 +7,17 @@ pub fn verdicts_on_rows()
     ensures { VerdictsOnRows }
 {}
 
-/// What a request, a cut and a return make of a company's rows can be told from the rows as they stand:
-/// a request adds at most one, a cut sends what is due or lets it lapse, and a return marks its entry.
-/// Of cuts and returns this is said where only sent entries came back, each of them once.
+/// The effect of a request, a cut and a return on a company's rows follows from the rows
+/// themselves: a request adds at most one, a cut sends what is due or lets it lapse, and a return
+/// marks its entry. For cuts and returns this holds if only sent entries are returned, each of them
+/// once.
 pub fn row_steps()
     ensures { RowSteps }
 {}
 
-/// All that a desk holds of a company is a function of its part: its submissions, returns and changes,
-/// its name, its limits and the lines of its account. The digest of its key is that of its part, so
-/// the part alone tells whether a caller's key is the company's.
+/// All that a desk holds of a company is a function of its part: its submissions, returns and
+/// changes, its name, its limits and the lines of its account. The digest of its key is that of its
+/// part, so the part alone decides whether a caller's key is the company's.
 pub fn rows_of_part()
     ensures { RowsOfPart }
 {

@@ -3,8 +3,8 @@ ghost use Rattle.desk_book.specs.StatusLaws.{TellsStatus};
 
 use crate::row_laws::row_steps;
 
-/// How the desk stands after any history can be told from the book of the desk alone: what each
-/// company has waiting, and what a cut of the desk day would send of it and let lapse.
+/// The desk's status after any history follows from the desk's book alone: what each company has
+/// waiting, and what a cut of the desk day would send of it and let lapse.
 pub fn tells_status()
     ensures { TellsStatus }
 {

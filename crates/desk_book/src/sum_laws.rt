@@ -1,4 +1,4 @@
-//! The laws of a company's exposures and return rates stand here.
+//! The laws of a company's exposures and return rates.
 ghost use Rattle.desk_book.specs.SumLaws.{ExposuresGrow, RatesStay};
 
 /// A new submission or retry adds its cents to its company's exposure in its direction, and to no

@@ -1,4 +1,4 @@
-//! What a company's rows come to on a day is computed here.
+//! Computes a company's exposures and return rates on a day.
 ghost use Rattle.std.specs.Prelude.{◌≡◌, ◌++◌, IfOk, OnOk};
 ghost use Rattle.desk_rules.specs.ReturnRates.{rates};
 ghost use Rattle.desk_book.specs.Standing.{row_facts, facts_in};

@@ -13,8 +13,8 @@ use crate::sums::{Sums, cents_of, low_digits};
 use ach_records::{FileControlText, print_file_control};
 use std::alloc::AllocError;
 
-/// Gives the control of a file with so many batches, or a million where they are more, and these sums,
-/// or the fault of its numbers.
+/// Returns the control of a file with this many batches, or a million if there are more, and these
+/// sums, or the fault of its numbers.
 pub fn control_of(
     batches: u64,
     is_any_long: bool,

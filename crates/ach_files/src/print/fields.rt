@@ -42,7 +42,7 @@ pub fn fits_batch(batch: &OutgoingBatch) -> bool
     has_text(batch_header_record(&batch.header)) && fit_entries(batch.entries)
 }
 
-/// Has each field of the file a text, where it is known whether those of the batches have?
+/// Reports whether each field of the file has a text, given whether those of the batches have.
 #[tactic(auto, unfolding(crate::specs::Outgoing::fields_fit))]
 pub fn fits(outgoing: &Outgoing, batches_fit: bool) -> bool
     requires { batches_fit ≡ list_all batch_fits outgoing.now.batches.now }

@@ -21,12 +21,12 @@ use std::alloc::Global;
 #[derive(Drop)]
 pub struct Printer {
     text: Vec<u8>,
-    /// There are so many batches, or a million where they are more.
+    /// The number of batches, or a million if there are more.
     batches: u64,
     sums: Sums,
 }
 
-// What a batch is refused for.
+// Returns the reason why a batch is refused.
 fn fault_of(measures: &Measures) -> Option<PrintFault>
     ensures { result ≡ measures_fault measures.now }
 {

@@ -1,4 +1,4 @@
-//! A record of a file that is to be printed is made here, where its fields have texts.
+//! Makes the records of a file to print, if their fields have texts.
 ghost use Rattle.std.specs.Prelude.{◌≡◌, ◌<◌, ◌∷◌, [], ℕ, List, Some, None, true, Option, Result, Ok, Err};
 ghost use Rattle.ach_records.specs.Print.{Value, Prints, row_fits, entry_row, file_header_row, batch_header_row, batch_control_row};
 ghost use Rattle.ach_files.specs.Outgoing.{entry_of, addenda_rows_of, batch_control, IsText};

@@ -28,7 +28,7 @@ pub fn add_sums(a: Sums, b: Sums) -> Sums
     }
 }
 
-// So many records.
+// Returns the number of records.
 fn count_of(addenda: &Addenda) -> u64
     ensures { (trace : List ℕ) → result ≡ 1 + length (addenda_rows trace addenda.now) }
 {
