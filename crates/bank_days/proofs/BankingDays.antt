@@ -162,7 +162,7 @@ seeks_end hs d b at s banking =
     let counts : is_banking hs (d + suc (at - 1 - d)) ≡ true = rw here banking in
     record { after = s.later; banking = banking; count = rw last (days_banking hs d (at - 1 - d) counts ∙ omega (arith, s.none)) }
 
--- the nth day after d, where it is, and how far
+-- the n-th banking day after d, and its distance
 pub record Found (hs : List ℕ) (d n b : ℕ) : Type 0 where
   pub day : ℕ
   pub nth : IsNthAfter hs d n day
@@ -214,7 +214,7 @@ nth_rises hs d e n x y le h k =
           absurd (omega (arith, sum, h.count, count_rises hs d y x h.banking h.after lt))
     ]
 
--- the next banking day is the first from the day after, and so from a day that is none
+-- the next banking day is the first from the day after, and so from a day that is not a banking day
 pub first_next : (hs : List ℕ) (d e : ℕ) → IsNthAfter hs d 1 e → is_banking hs d ≡ false → IsFirstFrom hs d e
 first_next hs d e h other = record {
   from = omega (arith, h.after);

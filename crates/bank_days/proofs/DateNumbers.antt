@@ -89,7 +89,7 @@ unfolding date_of_number
 names zero = first
 names (suc n) = next_by n (date_of_number n) (names n) _ _ refl refl
 
--- so many days on within a month
+-- k days later within a month
 walk_days : (a y m k : ℕ) → date_of_number a ≡ record { year = y; month = m; day = 1 } → k < days_in_month y m
     → date_of_number (a + k) ≡ record { year = y; month = m; day = k + 1 }
 unfolding date_of_number

@@ -45,7 +45,7 @@ has_day d n is =
       | inr other ↦ let e = no_day d other in absurd cc
     ]
 
--- what stands where in the text of a date
+-- the fields in the text of a date
 pub record HasFields (s : List ℕ) (d : Date) : Type 0 where
   pub long : length s ≡ 10
   pub year : take 4 s ≡ digits 4 d.year

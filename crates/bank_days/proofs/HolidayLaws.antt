@@ -39,7 +39,7 @@ behind_last days d some later =
     let test : nat_lt (get_or days (length days - 1) 0) d ≡ true = rw last at later in
     grind (arith, nat_tests)
 
--- what a row has that may stand after days
+-- the facts about a row that may follow these days
 record MayFollow (days : List ℕ) (row : Option ℕ) : Type 0 where
   day : ℕ
   is : row ≡ Some day

@@ -66,7 +66,7 @@ all_taken rows days t =
     answered rows None (ap (first_fault 1 None) (sym (append-nil rows)) ∙ t.behind [] ∙ nothing (length days + 1) (last_of days))
     ∙ ap (λ (r : List (Option ℕ)). Ok (filter_map (λ row. row) r)) t.are ∙ ap (λ (days : List ℕ). Ok days) (days-of-rows days)
 
--- the same of days that were handed in
+-- the same for days that were given
 pub days_more : (days held : List ℕ) (i d : ℕ) → Taken (map (λ n. Some n) (take i days)) held → i < length days → d ≡ get_or days i d → row_fault (length held + 1) (last_of held) (Some d) ≡ None
     → Taken (map (λ n. Some n) (take (i + 1) days)) (held ++ d ∷ [])
 days_more days held i d t lt is fits =

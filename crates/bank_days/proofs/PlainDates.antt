@@ -71,7 +71,7 @@ allowed d within h =
 real : (d : Date) → IsDate (pos d.year) (pos d.month) (pos d.day) → is_date d ≡ true
 real d h = grind (arith, nat_tests, signed_arith)
 
--- where the library refuses a date, there is no such day
+-- if the library refuses a date, the day does not exist
 pub refused : {E : Type 0} (r : Result PlainDate E) (d : Date) (y m k : ℤ) → (IsOk r ↔ IsDate y m k) → false ≡ is_ok r → y ≡ pos d.year → m ≡ pos d.month → k ≡ pos d.day → d.year ≤ 2099 → day_at d ≡ None
 refused (Ok plain) d y m k h no-date year month day within = absurd (false≢true no-date)
 refused (Err e) d y m k h no-date year month day within =

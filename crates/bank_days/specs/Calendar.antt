@@ -29,7 +29,7 @@ pub record IsNthAfter (holidays : List ℕ) (d n e : ℕ) : Type 0 where
   pub banking : is_banking holidays e ≡ true
   pub count : banking_days holidays d (e - d) ≡ n
 
--- the first number that passes a test, of so many from a number on, or the one after them
+-- the first number that passes a test, among `count` numbers from `at` on, or the number after them
 unfoldable pub first_from : (ℕ → Bool) → (count : ℕ) → (at : ℕ) → ℕ
 first_from p zero at = at
 first_from p (suc more) at = if p at then at else first_from p more (at + 1)

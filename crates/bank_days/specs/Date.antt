@@ -35,12 +35,12 @@ unfoldable pub date_of_number : ℕ → Date
 date_of_number zero = record { year = 1970; month = 1; day = 1 }
 date_of_number (suc n) = day_after (date_of_number n)
 
--- the days of so many years, from 1970 on
+-- the days of this many years, from 1970 on
 unfoldable pub days_of_years : ℕ → ℕ
 days_of_years zero = 0
 days_of_years (suc n) = days_of_years n + days_in_year (1970 + n)
 
--- the days of so many months of a year, from January on
+-- the days of this many months of a year, from January on
 unfoldable pub days_of_months : (year : ℕ) → (count : ℕ) → ℕ
 days_of_months y zero = 0
 days_of_months y (suc m) = days_of_months y m + days_in_month y (suc m)
@@ -53,7 +53,7 @@ number_of_date d = days_of_years (d.year - 1970) + days_of_months d.year (d.mont
 unfoldable pub date_text : Date → List ℕ
 date_text d = digits 4 d.year ++ 45 ∷ (digits 2 d.month ++ 45 ∷ digits 2 d.day)
 
--- a character of such a text: a digit or a dash
+-- a character of a date's text: a digit or a dash
 abbrev pub is_date_character : ℕ → Bool
 is_date_character c = is_digit c || (c == 45)
 
@@ -63,7 +63,7 @@ is_date_text s =
     (length s == 10) && (slice_index s 4 == 45) && (slice_index s 7 == 45)
     && list_all is_digit (take 4 s) && list_all is_digit (take 2 (drop 5 s)) && list_all is_digit (drop 8 s)
 
--- the year, month and day that such a text spells, whether or not the calendar has the day
+-- the year, month and day that a date's text spells, whether or not the calendar has the day
 unfoldable pub date_in : List ℕ → Option Date
 date_in s =
     if is_date_text s then Some (record { year = number (take 4 s); month = number (take 2 (drop 5 s)); day = number (drop 8 s) })

@@ -1,4 +1,4 @@
--- Days by their numbers, where 1970-01-01 is 0.
+-- Days by their numbers; 1970-01-01 is 0.
 use Rattle.std.specs.Prelude.{ℕ, ◌+◌, ◌%◌, Bool, ◌&&◌, ℤ, pos, negsuc, List, nat_lt, nat_le, if◌then◌else◌, Option, Some, None, option_and_then}
 use Rattle.ach_fields.specs.Ymd.{date_text as short_text}
 use Rattle.bank_days.specs.declared.date.Date.{Date}

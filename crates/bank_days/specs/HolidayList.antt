@@ -27,21 +27,21 @@ abbrev pub is_after : Option ℕ → (day : ℕ) → Bool
 is_after None d = true
 is_after (Some before) d = nat_lt before d
 
--- why row n may not stand in a list, after the row before it
+-- the fault of row n, after the row before it
 abbrev pub row_fault : ℕ → (before : Option ℕ) → Option ℕ → Option CalendarFault
 row_fault n before None = Some (BadRow n)
 row_fault n before (Some d) =
     if is_after before d then (if nat_lt most_holidays n then Some TooMany else None) else Some (NotAscending n)
 
--- why a row may not stand after these days
+-- the fault of a row after these days
 abbrev pub next_row_fault : (days : List ℕ) → Option ℕ → Option CalendarFault
 next_row_fault days row = row_fault (length days + 1) (last_of days) row
 
--- memory is refused for the row, or this is why it may not stand there
+-- memory is refused for the row, or this is its fault
 abbrev pub IsRowFault : (days : List ℕ) → Option ℕ → CalendarFault → Type 0
 IsRowFault days row fault = (fault ≡ NoMemory) ⊎ (next_row_fault days row ≡ Some fault)
 
--- memory is refused only for a row that may stand there, where the days fill their room
+-- memory is refused only for a valid row, and only if the list is full
 abbrev pub IsRefusedOnlyFull : Vec ℕ Global → Option ℕ → CalendarFault → Type 0
 IsRefusedOnlyFull days row fault =
     fault ≡ NoMemory → (next_row_fault days.items row ≡ None) × (vec_capacity days ≤ vec_len days)
@@ -51,7 +51,7 @@ unfoldable pub first_fault : ℕ → (before : Option ℕ) → List (Option ℕ)
 first_fault n before [] = None
 first_fault n before (row ∷ rows) = option_or (row_fault n before row) (first_fault (n + 1) row rows)
 
--- a fault, or these days where there is none
+-- a fault, or these days if there is none
 abbrev pub unless : Option CalendarFault → List ℕ → Result (List ℕ) CalendarFault
 unless None days = Ok days
 unless (Some fault) days = Err fault

@@ -1,4 +1,4 @@
--- What an answer unfolds to compute the definitions at known texts and numbers.
+-- The definitions that an answer unfolds to compute values at literal texts and numbers.
 use Rattle.std.specs.Prelude.{⊤}
 use Rattle.csv.proofs.OnLiterals.{csv_on_literals}
 use Rattle.ach_fields.specs.Digits.{number}

@@ -57,13 +57,16 @@ impl Calendar {
         Ok(Calendar { days: holidays })
     }
 
-    /// Reads the list that a text of CSV spells, without a header: a day `YYYY-MM-DD` in each row.
+    /// Reads a list of holidays from CSV text without a header: one day `YYYY-MM-DD` in each row.
     ///
-    /// Rows are what `csv` makes of the text: blank lines are none, a field may be quoted, and a
-    /// byte order mark at the start is dropped. The first row at fault decides: it is `BadRow`
-    /// where it is no day of the years 2000 to 2099, else `NotAscending` where its day is not after
-    /// that of the row before, else `TooMany` where it is the 401st. Memory runs out only on a row:
-    /// an empty text takes none.
+    /// Rows are as `csv` reads them: blank lines are skipped, a field may be quoted, and a byte
+    /// order mark at the start is dropped.
+    ///
+    /// # Errors
+    ///
+    /// The first invalid row decides: `BadRow` if it is not a day of the years 2000 to 2099, else
+    /// `NotAscending` if its day is not after that of the row before, else `TooMany` if it is the
+    /// 401st. `NoMemory` can occur only at a row: an empty text takes no memory.
     pub fn read(alloc: Global, text: &[u8]) -> Result<Calendar, CalendarFault>
         ensures value { Gives (holidays_in text.now) result }
         ensures memory { OnErr result (text.now ≢ []) }
@@ -166,7 +169,7 @@ impl Calendar {
     }
 }
 
-// Adds the day of one more row, or says why it may not stand after the others.
+// Appends the day of one more row, or returns the row's fault.
 fn push_row(days: &mut Vec<Day>, row: Option<Day>) -> Result<(), CalendarFault>
     requires days { AreHolidays days.old.items }
     requires row { ForSome row (λ d. d ≤ last_argument_day) }
@@ -174,7 +177,7 @@ fn push_row(days: &mut Vec<Day>, row: Option<Day>) -> Result<(), CalendarFault>
     ensures ok { OnOk result (IfSome row (λ d. days.new.items ≡ days.old.items ++ d ∷ [])) }
     ensures fits { OnOk result (next_row_fault days.old.items row ≡ None) }
     ensures err { IfErr result (IsRowFault days.old.items row) }
-    // Memory runs out only for a row that fits, where the days fill their room.
+    // Memory runs out only for a valid row, and only if the list is full.
     ensures memory { IfErr result (IsRefusedOnlyFull days.old row) }
 {
     let day = match day_behind(days, row) {

@@ -17,7 +17,7 @@ pub struct Day {
     number: u32,
 }
 
-// Clauses see the number of the day, where 1970-01-01 is 0.
+// Contracts see the number of the day; 1970-01-01 is 0.
 impl Model for Day {
     ghost use Rattle.std.specs.Prelude.{ℕ, IsTrue};
     ghost use Rattle.bank_days.specs.Day.{is_day};
@@ -43,7 +43,7 @@ impl Day {
         Some(Day { number })
     }
 
-    /// Gives the day with this number, where 1970-01-01 is 0.
+    /// Returns the day with this number; 1970-01-01 is 0.
     pub fn from_number(number: i64) -> Option<Day>
         ensures { result ≡ day_from_number number }
     {
@@ -55,7 +55,7 @@ impl Day {
         })
     }
 
-    /// Gives its number, where 1970-01-01 is 0.
+    /// Returns the day's number; 1970-01-01 is 0.
     pub fn number(self) -> i64
         ensures value { result ≡ pos self }
         ensures valid { IsTrue (is_day self) }
@@ -79,7 +79,7 @@ impl Day {
         Date::of_number(self.number).ymd()
     }
 
-    /// Gives the day so many days later.
+    /// Returns the day that is this many days later.
     pub fn plus(self, days: u32) -> Day
         requires day { self ≤ last_argument_day }
         requires days { days ≤ 366 }

@@ -14,8 +14,8 @@ pub fn days_and_texts()
     ach_fields::numbers_and_digits();
 }
 
-/// Of the banking days after a day exactly one is the nth. It is not far, and that of a later day is
-/// not earlier.
+/// Exactly one day is the n-th banking day after a given day. It is near, and that of a later day
+/// is not earlier.
 pub fn nth_banking_days()
     ensures { NthBankingDays }
 {}

@@ -1,8 +1,8 @@
-//! This crate has days by number, the holiday list of a bank, and the banking days that it leaves.
+//! Days by number, a bank's holiday list, and the banking days that it leaves.
 //!
-//! A [`Day`] is seen by contracts as its number, where 1970-01-01 is 0, and a [`Calendar`] as the
-//! list of its holidays. Only the calls that read or copy a list take memory. A day that a call is
-//! given is at most 2100-06-30, so that what is counted from it is a [`Day`] too.
+//! Contracts see a [`Day`] as its number (1970-01-01 is 0) and a [`Calendar`] as the list of its
+//! holidays. Only the calls that read or copy a list take memory. Calls accept days up to
+//! 2100-06-30, so that every day they count to is a [`Day`] too.
 #![tactic(auto)]
 
 mod calendar;

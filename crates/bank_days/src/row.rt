@@ -8,7 +8,7 @@ ghost use Rattle.bank_days.specs.HolidayList.{last_of, row_day, row_fault};
 use crate::{CalendarFault, Day};
 use csv::ByteRecord;
 
-/// A list has at most so many rows.
+/// The most rows of a list.
 const MOST_ROWS: usize = 400;
 
 /// Gives the day of a row that has one field, the text of a day.
@@ -22,7 +22,7 @@ pub(crate) fn day_of_row(row: &ByteRecord) -> Option<Day>
     Day::read(row.get(0)?)
 }
 
-/// Gives the day of a row that may stand after these days, or says why it may not.
+/// Returns the day of a row that may follow these days, or the row's fault.
 pub(crate) fn day_behind(days: &[Day], row: Option<Day>) -> Result<Day, CalendarFault>
     requires { length days.now ≤ most_holidays }
     ensures ok { IfOk result (λ d. row ≡ Some d) }

@@ -1,6 +1,6 @@
--- What a function over a store promises, by a word for each kind: that the store was clean as it began, what it tells
--- of the book and makes of it, and what a crash may leave then. `g` says which books a store holds and what a crash
--- leaves of it.
+-- The promises of a function over a store, by a word for each kind: that the store was clean when it began, what it
+-- says of the book and does to it, and what a crash may leave then. `g` gives the books that a store holds and what a
+-- crash leaves of it.
 use Rattle.std.specs.Prelude.{ℕ, Bool, List, Result, Vec}
 use Rattle.std.specs.declared.alloc.Global.{Global}
 use Rattle.desk_history.specs.declared.answer.Answer.{Answer}
@@ -27,7 +27,7 @@ module _ {S : Type 0} (g : Ghosts S) where
   abbrev pub LeavesNoMore : (old new : S) → Type 0
   LeavesNoMore old new = g.is_clean new → LeavesRead (g.may_leave old) (g.may_leave new)
 
-  -- The function tells this, and a crash leaves nothing that it could not leave before.
+  -- The function says this, and a crash leaves nothing that it could not leave before.
   abbrev pub Tells : (old new : S) → (Told : Type 0) → Type 0
   Tells = CallTells g.is_clean g.may_leave
 
@@ -39,12 +39,12 @@ module _ {S : Type 0} (g : Ghosts S) where
   abbrev pub GivesList : {A : Type 0} → (old new : S) → Result (Vec A Global) StoreFault → (Book → List A) → Type 0
   GivesList = CallGivesList g.is_clean g.holds g.may_leave
 
-  -- the same, where contracts see the result as another value
+  -- the same, if contracts see the result as another value
   abbrev pub GivesAs : {A B : Type 0} → (old new : S) → (A → B) → Result A StoreFault → (Book → B) → Type 0
   GivesAs old new view result value = Tells old new (ReadsAs view (g.holds old) result value (g.holds new))
 
-  -- Where the store is clean as the call ends: yes exactly where the caller has a key of this digest, or the store
-  -- could not act; it holds the same book.
+  -- If the store is clean when the call ends: true exactly if the caller has a key with this digest, or the store
+  -- failed; it holds the same book.
   abbrev pub AllowsKey : (old new : S) → Result Bool StoreFault → Caller → (digest : List ℕ) → Type 0
   AllowsKey old new result caller digest = g.is_clean new → Allows (g.holds old) result caller digest (g.holds new)
 
@@ -65,9 +65,9 @@ module _ {S : Type 0} (g : Ghosts S) where
   abbrev pub RepliesAsked : (old new : S) → Result Answer StoreFault → (company : List ℕ) → Request → Type 0
   RepliesAsked old new result company r = AnswersAsked old new result (λ b. reply_on b company r)
 
-  -- The answer is this one of a book of which `Holds` is so, and the store then holds that book; or the store could not
-  -- act, and holds the same one. Where the call wrote, a crash leaves what keeps the book that it made, and where it
-  -- wrote nothing, nothing new; where the store could not act, either.
+  -- The answer is this one of a book for which `Holds` is true, and the store then holds that book; or the store
+  -- failed, and holds the same one. If the call wrote, a crash leaves a form of the book that it made; if it wrote
+  -- nothing, nothing new; and if the store failed, either.
   abbrev pub AnswersWhere : (old new : S) → (Holds : Book → Type 0) → Result Answer StoreFault → (writes : Book → Bool) → (Book → Answer) → (after : Book → Book) → Type 0
   AnswersWhere old new Holds result writes answer after =
       Acts old new (Answers Holds result answer after (g.holds new)) (LeavesCall g.keeps Holds (g.may_leave old) result writes after (g.may_leave new))
@@ -85,9 +85,9 @@ module _ {S : Type 0} (g : Ghosts S) where
   RepliesAdding old new result company r =
       AnswersMessage old new result (Of company r) (λ b. reply_on b company r) (λ b. with_added_row company (added_row b company r) b)
 
-  -- The answer is that of the verdict, and the store then has its new row, if it has one; or the store could not act,
-  -- and holds the same book. Where a row was added, a crash leaves what keeps the book with it, and where none was,
-  -- nothing new; where the store could not act, either.
+  -- The answer is that of the verdict, and the store then has its new row, if there is one; or the store failed, and
+  -- holds the same book. If a row was added, a crash leaves a form of the book with it; if none was, nothing new; and
+  -- if the store failed, either.
   abbrev pub AnswersVerdict : (old new : S) → Result Answer StoreFault → (company : List ℕ) → Verdict → Type 0
   AnswersVerdict old new result company v =
       Acts old new (Adds (g.holds old) result company v (g.holds new))

@@ -1,4 +1,4 @@
-//! What is asked before all else: whether the company is registered, and whether a day was set.
+//! The first checks of a call: that the company is registered, and that a day is set.
 ghost use Rattle.desk_rules.specs.declared.refusals.refusal.Refusal.TheVariants.{NoDay};
 ghost use Rattle.desk_history.specs.Words.{some_or};
 ghost use Rattle.desk_admission.specs.OverStores.{Gives};

@@ -1,8 +1,8 @@
-//! This crate says whether a caller is let in, and what becomes of a submission or a retry: its verdict,
+//! Decides whether a caller is let in, and what becomes of a submission or a retry: its verdict,
 //! and the one write of that.
 //!
-//! Its definitions also have the words for what a call over any store promises: what it answers, what the
-//! store holds then, and what a crash may leave. The calls themselves stand in `desk_calls`.
+//! Its definitions also have the words for the promises of a call over any store: its answer, the
+//! store's book after it, and what a crash may leave. The calls themselves are in `desk_calls`.
 #![tactic(auto)]
 
 mod guards;

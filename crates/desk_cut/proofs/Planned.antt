@@ -1,4 +1,4 @@
--- What is written of the numbered submissions of a cut is what the cut writes.
+-- The rows written for the numbered submissions of a cut are those that the cut writes.
 use Rattle.std.proofs.Common.{◌≡◌, ◌∙◌, ℕ, ◌+◌, suc, Bool, true, false, List, [], ◌∷◌, ◌++◌, map, zip, length, drop, refl, sym, ap, length-append}
 use Rattle.std.specs.Prelude.{sum, sum_by, nat_le, if◌then◌else◌, Option, Some, None, Err}
 use Rattle.std.specs.List.{flat_map, list_all, enumerate_from}
@@ -105,7 +105,7 @@ modifiers_are x n sizes h is = ap (λ k. nat_le (x.made + k) most_files) (files_
 
 -- ---- the postings
 
--- what a submission takes tells its total
+-- the total of a submission follows from what it takes
 total_told : (is_debit : Bool) (total : ℕ) → (if is_debit then (if is_debit then total else 0) else (if is_debit then 0 else total)) ≡ total
 total_told true total = refl
 total_told false total = refl

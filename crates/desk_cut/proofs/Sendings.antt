@@ -1,4 +1,4 @@
--- What a cut sends may be sent: its batches have sequences of seven digits, and its files hold them.
+-- A cut may send its submissions: the batches have sequences of seven digits, and the files hold them.
 use Rattle.std.proofs.Common.{◌≡◌, ◌≤◌, ◌+◌, ◌∙◌, ℕ, Bool, true, false, All, List, [], ◌∷◌, map, zip, length, take, drop, refl, ap, sym, subst, arith}
 use Rattle.std.specs.Prelude.{nat_le, if◌then◌else◌}
 use Rattle.std.proofs.lemmas.Bool.{leb-true}

@@ -42,7 +42,7 @@ entries_summed f g odfi b same n (e ∷ es) =
     ∙ (λ i. same n e i + entries_summed f g odfi b same (n + 1) es i)
     ∙ sym (sum_by-cons g e es)
 
--- the last digit of a transaction code tells its direction
+-- the last digit of a transaction code gives its direction
 told : (savings debit prenote : Bool) → nat_le 5 (((if savings then 32 else 22) + (if debit then 5 else 0) + (if prenote then 1 else 0)) % 10) ≡ debit
 told true true true = refl
 told true true false = refl

@@ -32,8 +32,8 @@ loads_among holidays day waiting = map plan_of (sendings holidays day waiting)
 abbrev pub ranges_among : (holidays : List ℕ) → (day last : ℕ) → List HeldSubmission → List (ℕ × ℕ)
 ranges_among holidays day last waiting = ranges_after last (sendings holidays day waiting)
 
--- What is sent with its sequences, and what lapses. The cut may take them where those of each range may
--- be used.
+-- The sent submissions with their sequences, and the lapsed ones. The cut may take the sequences if those of each range
+-- are free.
 pub record IsNumbered (holidays : List ℕ) (day last : ℕ) (waiting : List HeldSubmission) (n : CutNumbers) : Type 0 where
   pub sent : map due_in n.sent.items ≡ sendings holidays day waiting
   pub lapsed : n.lapsed.items ≡ lapses_among holidays day waiting
@@ -66,7 +66,7 @@ batches_in n = batches_of n.ranges.items (sendings_in n)
 abbrev pub entries_of : List NumberedBatch → List SentEntry
 entries_of bs = flat_map batch_entries bs
 
--- the line of a submission, its total told by what it takes of a file
+-- the line of a submission; its total is what it takes of a file
 abbrev pub line_by : Sending × plan.Batch → List Posting
 line_by x =
     let cents = if is_debit_sending x.0 then x.1.debits else x.1.credits in
@@ -102,7 +102,7 @@ summary_of day files n = record {
   lapsed = length n.lapsed.items;
 }
 
--- its files, on a day that has so many already, where these are their sizes
+-- its files, on a day that already has this many, if these are their sizes
 abbrev pub files_in : (day : ℕ) → (made : ℕ) → (sizes : List ℕ) → CutNumbers → List File
 files_in day made sizes n = files_from day made (in_runs sizes (batches_in n))
 
@@ -110,6 +110,6 @@ files_in day made sizes n = files_from day made (in_runs sizes (batches_in n))
 abbrev pub write_in : Identity → (day : ℕ) → (made : ℕ) → (sizes : List ℕ) → CutNumbers → CutWrite
 write_in identity day made sizes n = write_of identity (files_in day made sizes n) n
 
--- what the operator is told of them
+-- the operator's summary of them
 abbrev pub summary_in : (day : ℕ) → (made : ℕ) → (sizes : List ℕ) → CutNumbers → CutSummary
 summary_in day made sizes n = summary_of day (files_in day made sizes n) n

@@ -1,5 +1,5 @@
--- What is to be printed, each slice of it lent from no place: the printed text depends only on what the
--- slices hold.
+-- The value to print, with each slice borrowed from nowhere: the printed text depends only on the contents of the
+-- slices.
 use Rattle.std.specs.Prelude.{map}
 use Rattle.ach_records.specs.declared.print.BatchHeaderText.{BatchHeaderText}
 use Rattle.ach_records.specs.declared.print.FileHeaderText.{FileHeaderText}

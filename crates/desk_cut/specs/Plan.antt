@@ -18,13 +18,12 @@ use Rattle.desk_cut.specs.Faults.{settles_beyond}
 abbrev pub cut_of : Identity → (day : ℕ) → (holidays : List ℕ) → (last : ℕ) → (made : ℕ) → List HeldSubmission → CutFacts
 cut_of identity day holidays last made waiting = record { identity = identity; day = day; holidays = holidays; last = last; made = made; waiting = waiting }
 
--- the cut that is numbered, on a day that has so many files
+-- the numbered cut, on a day that has this many files
 abbrev pub cut_in : Identity → NumberedCut → (made : ℕ) → CutFacts
 cut_in identity n made = cut_of identity n.day n.holidays.now n.last made n.waiting.now
 
--- The entries that were sent before are as the plan was told: they end with the last sequence, and for
--- each range that a batch takes this is the latest day on which a youngest entry with one of its
--- sequences settled.
+-- The plan's inputs agree with the entries sent before: they end with the last sequence, and for each range that a
+-- batch takes this is the latest settlement day of a youngest entry with one of its sequences.
 pub record IsTold (x : CutFacts) (latest : List (Option ℕ)) (sent : List SentSequence) : Type 0 where
   pub last : last_sequence sent ≡ x.last
   pub settled : latest ≡ map (latest_settled sent) (ranges_of sent (map plan_of (cut_sendings x)))
@@ -42,7 +41,7 @@ pub record IsPlan (x : CutFacts) (p : CutPlan) : Type 0 where
   pub write : plan_write p ≡ cut_write x
   pub done : p.done ≡ cut_summary x
 
--- the cut may take its sequences, whatever was sent before that is as told; or it may not
+-- the cut may take its sequences, for all sent entries that agree with the inputs; or it may not
 abbrev pub MayTake : CutFacts → List (Option ℕ) → Bool → Type 0
 MayTake x latest may = (sent : List SentSequence) → IsTold x latest sent → may_send x.day sent (map plan_of (cut_sendings x)) ≡ may
 

@@ -1,4 +1,4 @@
--- What is promised of the printing of a file.
+-- The promises of printing a file.
 use Rattle.std.specs.Prelude.{◌≡◌, ◌≤◌, ℕ, List, [], ◌∷◌, ◌++◌, map, Result, OnOk}
 use Rattle.std.specs.List.{enumerate_from}
 use Rattle.ach_fields.specs.Trace.{sequence_in, most_sequence}
@@ -31,13 +31,13 @@ outgoing_header odfi number b = (outgoing_batch odfi (number, b)).header
 abbrev pub outgoing_batches : (odfi : List ℕ) → List NumberedBatch → List OutgoingBatch
 outgoing_batches odfi bs = map (outgoing_batch odfi) (enumerate_from 1 bs)
 
--- Where it went well, the batch is printed after whatever was printed before.
+-- On success the batch is printed after everything printed before.
 abbrev pub Prints : {A E : Type 0} → (old new : Printer) → Result A E → OutgoingBatch → Type 0
 Prints old new result b =
     (header : FileHeaderText) (before : List OutgoingBatch) → HasPrinted old header before
     → OnOk result (HasPrinted new header (before ++ b ∷ []))
 
--- Where it went well, and no batch was printed before, these are.
+-- On success, and if no batch was printed before, these are printed.
 abbrev pub PrintsAll : {A E : Type 0} → (old new : Printer) → Result A E → List OutgoingBatch → Type 0
 PrintsAll old new result bs =
     (header : FileHeaderText) → HasPrinted old header [] → OnOk result (HasPrinted new header bs)

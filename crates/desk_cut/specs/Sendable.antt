@@ -1,4 +1,4 @@
--- What the batches and the files of a cut have, so that each field and each total of a file prints.
+-- The facts about the batches and files of a cut by which each field and each total of a file prints.
 use Rattle.std.specs.Prelude.{◌≡◌, ◌≤◌, ◌+◌, true, List, length, map, All}
 use Rattle.ach_fields.specs.Trace.{most_sequence}
 use Rattle.ach_fields.specs.Characters.{is_printable}

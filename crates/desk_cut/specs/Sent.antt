@@ -1,4 +1,4 @@
--- What the code keeps of what a cut sends, as the definitions have it.
+-- The code's view of what a cut sends, in the words of the definitions.
 use Rattle.std.specs.Prelude.{ℕ, List, map, None}
 use Rattle.ach_records.specs.declared.print.FileHeaderText.{FileHeaderText}
 use Rattle.ach_files.specs.declared.outgoing.OutgoingEntry.{OutgoingEntry}
@@ -40,7 +40,7 @@ file_of day modifier bs = record { day = day; modifier = modifier; batches = map
 abbrev pub file_in : File → files.File
 file_in f = file_of f.day f.modifier f.batches.now
 
--- the batches in files of these sizes, on a day that has so many files already
+-- the batches in files of these sizes, on a day that already has this many files
 abbrev pub files_of : (day : ℕ) → (made : ℕ) → (sizes : List ℕ) → List NumberedBatch → List files.File
 files_of day made sizes bs = files.files_from day made (in_runs sizes (map batch_in bs))
 

@@ -1,4 +1,4 @@
-//! The batches of a cut stand here, and their entries with their sequences.
+//! The batches of a cut, and their entries with their sequences.
 ghost use Rattle.std.specs.Prelude.{◌≡◌, ◌≤◌, ◌+◌, ◌++◌, All, IfOk, OnOk, map};
 ghost use Rattle.desk_history.specs.Sendings.{batch_entries};
 ghost use Rattle.ach_fields.specs.Trace.{most_sequence};
@@ -41,7 +41,7 @@ pub(crate) fn batches_of<'a>(
     Ok(batches)
 }
 
-/// Gives the sequence of a batch's entry, by how many entries stand before it.
+/// Returns the sequence of a batch's entry, by the number of entries before it.
 pub(crate) fn sequence_of(batch: &NumberedBatch<'_>, before: u64) -> u32
     requires { batch.now.first + before ≤ most_sequence }
     ensures { result ≡ batch.now.first + before }

@@ -26,7 +26,7 @@ pub(crate) struct Sending<'a> {
     pub(crate) settled: RuleDay,
 }
 
-/// A `Decision` says what a cut sends, and what lapses.
+/// The submissions that a cut sends, and those that lapse.
 #[derive(Drop)]
 pub(crate) struct Decision<'a> {
     pub(crate) sent: Vec<DueSubmission<'a>>,

@@ -1,4 +1,4 @@
-//! The files of a cut stand here: which batches each has, their rows and their texts.
+//! The files of a cut: their batches, their rows and their texts.
 ghost use Rattle.std.specs.Prelude.{◌≡◌, ◌≤◌, ◌+◌, ◌++◌, All, IfOk, OnOk, length, map, sum};
 ghost use Rattle.std.specs.List.{flat_map};
 ghost use Rattle.desk_plan.specs.Modifiers.{most_files};
@@ -23,7 +23,7 @@ pub(crate) struct File<'a> {
     pub(crate) batches: &'a [NumberedBatch<'a>],
 }
 
-/// Gives the files with these sizes, on a day that has so many already.
+/// Returns the files with these sizes, on a day that already has this many.
 pub(crate) fn files_of<'a>(
     alloc: Global,
     day: Day,

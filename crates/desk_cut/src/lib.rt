@@ -1,10 +1,10 @@
-//! This crate plans a cut: what is sent and what lapses of the submissions that wait, the batches
-//! and files with their sequences and texts, and all that is written of them.
+//! Plans a cut: which held submissions are sent and which lapse, the batches and files with their
+//! sequences and texts, and all rows to write.
 //!
-//! `company_status` says what a company has waiting, and what a cut would send of it.
+//! `company_status` returns what a company has waiting, and what a cut would send of it.
 //!
-//! Nothing here reads or writes a store. `number_cut` gives the batches their sequences,
-//! so that the caller can look up when these were used last, and `plan_cut` plans the cut or refuses it.
+//! Nothing here reads or writes a store. `number_cut` gives the batches their sequences, so that
+//! the caller can look up their last use, and `plan_cut` plans the cut or refuses it.
 #![tactic(auto)]
 
 mod batches;

@@ -17,7 +17,7 @@ use desk_plan::{Batch, NumberFault, is_past, plan_numbers};
 use desk_rules::RuleDay;
 use std::alloc::{AllocError, Global};
 
-// What a cut decides, and what each submission that it sends takes.
+// The decisions of a cut, and what each submission that it sends takes.
 #[derive(Drop)]
 struct LoadedCut<'a> {
     sent: Vec<DueSubmission<'a>>,
@@ -55,7 +55,7 @@ fn load<'a>(
     })
 }
 
-// What a cut sends with its sequences, and what lapses.
+// Returns the sent submissions with their sequences, and the lapsed ones.
 fn number<'a>(
     alloc: Global,
     day: RuleDay,
@@ -90,7 +90,7 @@ fn number<'a>(
 pub struct NumberedCut<'a> {
     /// The day on which it is made.
     pub day: RuleDay,
-    /// The holidays by which it is due.
+    /// The holidays that decide what is due.
     pub holidays: &'a Calendar,
     /// The sequence of the entry that was sent last before it.
     pub last: u32,

@@ -33,7 +33,7 @@ pub struct CutPlan {
     pub postings: Vec<Posting>,
     /// The files, with their texts.
     pub files: Vec<FileRow>,
-    /// The summary that the operator is told.
+    /// The summary for the operator.
     pub done: CutSummary,
 }
 

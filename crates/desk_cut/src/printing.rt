@@ -48,7 +48,7 @@ fn payment(information: &Option<ShortText<80>>) -> Addenda<'_>
     }
 }
 
-// The trace of a batch's entry, with so many before it.
+// Returns the trace of a batch's entry that has this many entries before it.
 fn trace_of(odfi: Routing, batch: &NumberedBatch<'_>, before: u64) -> Trace
     requires { batch.now.first + before ≤ most_sequence }
     ensures value { result ≡ trace_text (dfi_of odfi) (batch.now.first + before) }

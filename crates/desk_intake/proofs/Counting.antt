@@ -1,4 +1,4 @@
--- What the rows of a file count.
+-- The counts of a file's rows.
 use Rattle.std.proofs.Common.{◌≡◌, ◌∙◌, sym, refl, ℕ, ◌+◌, List, [], ◌∷◌, length, map, Bool, false, cond, arith}
 use Rattle.std.specs.Prelude.{◌&&◌, not, count_by, filter_map, is_some, Option, Some, None, Result, Ok, Err}
 use Rattle.std.specs.List.{cons_option, enumerate_from}

@@ -1,4 +1,4 @@
--- What is read of the bytes of a file.
+-- The result of reading the bytes of a file.
 use Rattle.std.proofs.Common.{◌≡◌, ◌∙◌, sym, ap, ℕ, List, [], ◌++◌, inl, inr}
 use Rattle.std.specs.Prelude.{MatchResult, Some, Result, Ok, Err}
 use Rattle.std.proofs.lemmas.List.{append-nil}
@@ -21,7 +21,7 @@ read_once one bytes (Err f) file read is =
     let same : TakeFile (Err f) ≡ TakeFile file = one.only (calls.TakeFile bytes) (TakeFile (Err f)) (TakeFile file) read is in
     cc
 
--- a fault that is told early, and does not say that memory ran out, is that of the bytes
+-- an early fault that is not lack of memory is the fault of the bytes
 pub told_early : ((bytes rest : List ℕ) (f : Fault) → early_fault bytes ≡ Some f → fault (bytes ++ rest) ≡ Some f)
     → (bytes : List ℕ) (f : Fault) → (f.kind ≡ faults.NoMemory → ⊥) → Tells f (early_fault bytes) → fault bytes ≡ Some f
 told_early stands bytes f remembered (inl forgot) = absurd (remembered (ap (λ (x : Fault). x.kind) forgot))

@@ -1,4 +1,4 @@
--- What is no trace is the trace of no entry.
+-- A text that is not a trace is the trace of no entry.
 use Rattle.std.proofs.Common.{◌≡◌, ◌∙◌, sym, ap, refl, ℕ, List, [], ◌∷◌, length, Bool, true, inl, inr, subst}
 use Rattle.std.specs.Prelude.{if◌then◌else◌, nat_lt, find, Some, None, Ok, Err}
 use Rattle.std.specs.List.{list_all}

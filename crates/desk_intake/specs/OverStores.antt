@@ -1,5 +1,5 @@
--- What a function over a store promises of an incoming file. `g` says which books a store holds and what a crash leaves
--- of it.
+-- The promises of a function over a store about an incoming file. `g` gives the books that a store holds and what a
+-- crash leaves of it.
 use Rattle.std.specs.Prelude.{ℕ, true, List, Result, Ok}
 use Rattle.ach_files.specs.declared.fault.Fault.{Fault}
 use Rattle.ach_files.specs.Facts.{FileFacts}
@@ -35,14 +35,13 @@ module _ {S : Type 0} (g : Ghosts S) where
       AnswersWhere g old new (HoldsFor (g.holds old) (commit_intake (plan_write p))) result
       (λ b. true) (λ b. intake_answer (Ok p.file.answer)) (commit_intake (plan_write p)).after
 
-  -- Where the store is clean as the call ends, the answer is that to the file that the bytes are.
+  -- If the store is clean when the call ends, the answer is the one to the file that the bytes spell.
   abbrev pub AnswersFile : (old new : S) → Result Answer StoreFault → (bytes : List ℕ) → Type 0
   AnswersFile old new result bytes =
       g.is_clean new → OfFile bytes (λ file.
       Answers (g.holds old) result (file_answer_on file) (file_after file) (g.holds new))
 
-  -- Where the store is clean as the call ends, a crash leaves what that file makes of the book, or what it could leave
-  -- before.
+  -- If the store is clean when the call ends, a crash leaves the book after that file, or what it could leave before.
   abbrev pub LeavesFile : (old new : S) → Result Answer StoreFault → (bytes : List ℕ) → Type 0
   LeavesFile old new result bytes =
       g.is_clean new → OfFile bytes (λ file.

@@ -1,4 +1,4 @@
--- What a file writes, by the resolutions of its items.
+-- The rows that a file writes, by the resolutions of its items.
 use Rattle.std.specs.Prelude.{◌≡◌, ℕ, List, map, filter_map, count_by, length}
 use Rattle.std.specs.List.{enumerate_from, flat_map}
 use Rattle.ach_files.specs.Facts.{FileFacts}
@@ -43,15 +43,15 @@ file_write day file = λ b. intake_write (intake_facts b day file)
 
 -- ---- the write of judged items
 
--- the entries that come back
+-- the returned entries
 abbrev pub returned_rows : (holidays : List ℕ) → (day : ℕ) → List JudgedItem → List ReturnedRow
 returned_rows holidays day js = filter_map (returned_row holidays day) (map resolution_of js)
 
--- the entries of which a change is told
+-- the entries with a notification of change
 abbrev pub changed_rows : (day : ℕ) → List JudgedItem → List ChangedRow
 changed_rows day js = filter_map (changed_row day) (map resolution_of js)
 
--- what stands in suspense, with the numbers of its items in the file, from 1
+-- the items in suspense, with their numbers in the file, from 1
 abbrev pub suspense_rows : (key : List ℕ) → (day : ℕ) → List JudgedItem → List SuspenseRow
 suspense_rows key day js = filter_map (λ y. suspense_row key day y.0 y.1.0 y.1.1) (enumerate_from 1 (map judged_as js))
 

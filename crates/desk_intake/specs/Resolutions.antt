@@ -49,7 +49,7 @@ resolution_as (Err why) = Err why
 abbrev pub resolution_of : JudgedItem → Result ResolvedItem SuspenseReason
 resolution_of x = resolution_as x.outcome
 
--- the resolution of an item with what its trace names, after others of which these entries came back
+-- the resolution of an item with the entry that its trace names, after others that returned these entries
 abbrev pub found_resolution : List SentEntry → FoundItem → Result ResolvedItem SuspenseReason
 found_resolution earlier x = resolution_after earlier x.item x.named
 
@@ -61,7 +61,7 @@ judged_item item outcome = record { item = item; outcome = outcome }
 abbrev pub judged_as : JudgedItem → ItemFacts × Result ResolvedItem SuspenseReason
 judged_as x = (x.item, resolution_of x)
 
--- each item with its resolution, after others of which these entries came back
+-- each item with its resolution, after others that returned these entries
 abbrev pub judged_after : List SentEntry → List (ItemFacts × Option NamedEntry) → List (ItemFacts × Result ResolvedItem SuspenseReason)
 judged_after earlier [] = []
 judged_after earlier (x ∷ more) =

@@ -8,7 +8,7 @@ use desk_history::one_message;
 use desk_store::StoreFault;
 use std::alloc::Global;
 
-// A fault of the bytes: being out of memory is none.
+// Returns a fault of the bytes; lack of memory is not one.
 fn fault_of_bytes(fault: Fault) -> Result<Fault, StoreFault>
     ensures same { IfOk result (λ told. told ≡ fault) }
     ensures told { IfOk result (λ told. told.kind ≢ NoMemory) }

@@ -1,4 +1,4 @@
-//! The operator hands in an incoming file.
+//! The operator's call that takes an incoming file.
 ghost use Rattle.std.specs.Prelude.{◌≡◌, Some, Ok};
 ghost use Rattle.desk_book.specs.OnIntake.{New, intake_facts, taking_answer, taking_known, taking_on};
 ghost use Rattle.desk_admission.specs.OverStores.{GivesAs};

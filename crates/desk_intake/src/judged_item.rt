@@ -1,4 +1,4 @@
-//! Each item of a file is judged here: it meets its entry, or stands in suspense.
+//! Judges each item of a file: it matches a sent entry, or goes to suspense.
 ghost use Rattle.std.specs.Prelude.{◌≡◌, [], ◌∷◌, ◌++◌, map, IfOk, OnOk};
 ghost use Rattle.desk_book.specs.OnIntake.{entries_returned_by};
 ghost use Rattle.desk_intake.specs.ReturnedEntries.{HasMore};
@@ -20,7 +20,7 @@ pub(crate) struct JudgedItem {
     pub outcome: Result<MatchedItem, SuspenseReason>,
 }
 
-// An entry that comes back is known to the items after it.
+// Notes a returned entry for the items after it.
 fn note(
     earlier: &mut ReturnedEntries,
     outcome: &Result<MatchedItem, SuspenseReason>,

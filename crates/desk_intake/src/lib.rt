@@ -1,9 +1,10 @@
-//! This crate takes an incoming file: the resolution of each item, and what the file writes.
+//! Takes an incoming file: the resolution of each item, and the rows that the file writes.
 //!
-//! `take_file` reads the bytes, asks the store once what the traces of all items name, and makes the
-//! one write of the plan. The plan is made of what the traces name alone: `plan_intake` reads and writes
-//! nothing. An item returns its entry, tells of a change, or stands in suspense with its money. What it
-//! means stands in `desk_book`; the contract of `plan_intake` is that the plan is that.
+//! `take_file` reads the bytes, asks the store once for the entries that the traces of all items
+//! name, and makes the one write of the plan. The plan depends on those entries alone:
+//! `plan_intake` reads and writes nothing. An item returns its entry, reports a change, or goes to
+//! suspense with its money. `desk_book` defines what an item means; the contract of `plan_intake`
+//! is that the plan agrees.
 #![tactic(auto)]
 
 mod agreement;

@@ -2,7 +2,7 @@
 use desk_history::SentEntry;
 use desk_rules::ReturnCode;
 
-/// A `Reaction` says what an item does to its entry.
+/// The effect of an item on its entry.
 #[derive(Clone, Copy, Debug, PartialEq, Eq, Drop)]
 pub(crate) enum Reaction {
     Return {

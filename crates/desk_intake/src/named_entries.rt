@@ -12,7 +12,7 @@ use desk_book::NamedEntry;
 use desk_store::{Store, StoreFault};
 use std::alloc::{AllocError, Global};
 
-// An item's original trace. What is no trace is that of no entry.
+// Returns an item's original trace. A text that is not a trace is that of no entry.
 #[tactic(auto, using(crate::proofs::Traceless::traceless))]
 fn trace_of(item: &ItemFacts) -> Option<Trace>
     ensures { (b : Book) → traced_entry result b ≡ named_entry_on b item.now }
@@ -33,7 +33,7 @@ fn traces_of(alloc: Global, items: &[ItemFacts]) -> Result<Vec<Option<Trace>>, A
     Ok(traces)
 }
 
-// Each item with what stands beside it.
+// Returns each item with the entry found for it.
 fn found_beside(
     alloc: Global,
     items: &[ItemFacts],

@@ -16,9 +16,9 @@ use std::alloc::{AllocError, Global};
 /// An `IntakePlan` is all that an incoming file writes.
 #[derive(Drop)]
 pub struct IntakePlan {
-    /// The entries that come back.
+    /// The returned entries.
     pub returned: Vec<ReturnedRow>,
-    /// The entries of which a change is told.
+    /// The entries with a notification of change.
     pub changed: Vec<ChangedRow>,
     /// The items that give no event.
     pub suspense: Vec<SuspenseRow>,

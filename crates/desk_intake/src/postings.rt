@@ -13,7 +13,7 @@ use bank_days::Day;
 use desk_accounts::{Posting, post_return, post_suspense};
 use std::alloc::{AllocError, Global};
 
-// The money of an entry that comes back.
+// Returns the postings of a returned entry.
 fn returned_pair(met: &MatchedItem, day: Day) -> Option<[Posting; 2]>
     ensures { unwrap_or result [] ≡ event_lines day met.now }
 {

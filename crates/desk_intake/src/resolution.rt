@@ -16,7 +16,7 @@ use desk_book::NamedEntry;
 use desk_history::{SentEntry, SuspenseReason};
 use desk_rules::ReturnCode;
 
-/// Gives what the item does, where its code is one of R01 to R29, or of C01 to C14.
+/// Returns the effect of an item whose code is one of R01 to R29, or of C01 to C14.
 fn reaction_of(item: &ItemFacts) -> Option<Reaction>
     ensures { (e : SentEntry) → option_map (event_as e) result ≡ event_of e item.now }
 {
@@ -71,7 +71,7 @@ fn was_returned(named: &Option<NamedEntry>) -> bool
     }
 }
 
-/// Does its entry come back?
+/// Reports whether its entry is returned.
 pub(crate) fn is_return(met: &MatchedItem) -> bool
     ensures { result ≡ is_returned_event (matched_item_as met.now).event }
 {
@@ -81,7 +81,8 @@ pub(crate) fn is_return(met: &MatchedItem) -> bool
     }
 }
 
-// Is it a return of an entry that came back before the file, or by an earlier item of it?
+// Reports whether it is a return of an entry that was returned before the file, or by an earlier
+// item of it.
 fn is_repeated_return(earlier: &ReturnedEntries, before: bool, met: &MatchedItem) -> bool
     ensures { OfEntries earlier.now
         (λ es. result ≡ is_repeated_return es before (matched_item_as met.now)) }
@@ -89,7 +90,7 @@ fn is_repeated_return(earlier: &ReturnedEntries, before: bool, met: &MatchedItem
     is_return(met) && (before || earlier.has(&met.entry))
 }
 
-/// Gives the resolution of an item after others, of which these entries came back.
+/// Returns the resolution of an item, after others that returned these entries.
 pub(crate) fn resolution_after(
     earlier: &ReturnedEntries,
     found: &FoundItem,

@@ -1,4 +1,4 @@
-//! The entries that came back by the items of a file so far.
+//! The entries that the items of a file returned so far.
 ghost use Rattle.std.specs.Prelude.{◌≡◌, ◌≤◌, ◌-◌, ◌∷◌, [], ◌++◌, OnOk, length, replicate};
 ghost use Rattle.std.specs.List.{list_any};
 ghost use Rattle.desk_book.specs.OnIntake.{is_same_entry};
@@ -44,7 +44,7 @@ impl EntryKey {
     }
 }
 
-/// `ReturnedEntries` are entries that came back.
+/// Returned entries.
 #[derive(Drop)]
 pub(crate) struct ReturnedEntries {
     keys: BTreeSet<EntryKey>,
@@ -60,14 +60,14 @@ impl ReturnedEntries {
         }
     }
 
-    /// Did the entry come back?
+    /// Reports whether the entry is returned.
     pub(crate) fn has(&self, entry: &SentEntry) -> bool
         ensures { OfEntries self.now (λ es. result ≡ list_any (is_same_entry entry.now) es) }
     {
         self.keys.contains(&EntryKey::of(entry))
     }
 
-    /// Adds one more that came back.
+    /// Adds a returned entry.
     pub(crate) fn add(&mut self, entry: &SentEntry) -> Result<(), AllocError>
         ensures { OnOk result (HasMore self.old self.new (entry.now ∷ [])) }
     {

@@ -40,7 +40,7 @@ fn returned_row(judged: &JudgedItem, day: Day, holidays: &Calendar) -> Option<Re
     })
 }
 
-/// Gives the entries that come back.
+/// Returns the rows of returned entries.
 pub(crate) fn returned_rows(
     alloc: Global,
     judged: &[JudgedItem],
@@ -81,7 +81,7 @@ fn changed_row(judged: &JudgedItem, day: Day) -> Option<ChangedRow>
     })
 }
 
-/// Gives the entries of which a change is told.
+/// Returns the rows of entries with a notification of change.
 pub(crate) fn changed_rows(
     alloc: Global,
     judged: &[JudgedItem],
@@ -126,7 +126,7 @@ fn suspense_row(judged: &JudgedItem, key: [u8; 21], day: Day, number: u64) -> Op
     })
 }
 
-/// Gives what stands in suspense, with the numbers of its items in the file, from 1.
+/// Returns the rows of items in suspense, with their numbers in the file, from 1.
 pub(crate) fn suspense_rows(
     alloc: Global,
     judged: &[JudgedItem],

@@ -1,4 +1,4 @@
--- What is not refused of all is not refused of some.
+-- If a cut of all batches is not refused, a cut of some is not refused either.
 use Rattle.std.proofs.Common.{◌+◌, ◌≤◌, length, map, arith}
 use Rattle.std.specs.Prelude.{nat_le, filter}
 use Rattle.std.proofs.lemmas.Bool.{leb-true, le-leb, and_parts, and_from}

@@ -1,4 +1,4 @@
--- What a cut adds to the sent entries.
+-- The entries that a cut adds to the sent ones.
 use Rattle.std.proofs.Common.{◌≡◌, ℕ, ◌+◌, List, [], ◌∷◌, ◌++◌, length, map, reverse, refl, sym, ap, ◌∙◌, arith, append_assoc, length-append}
 use Rattle.std.specs.Prelude.{All, sum_by, flat_map, zip}
 use Rattle.std.specs.List.{AllByRecursion}

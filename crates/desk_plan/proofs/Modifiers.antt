@@ -1,4 +1,4 @@
--- Each modifier of a day's files stands at its own place.
+-- Each modifier of a day's files has its own place.
 use Rattle.std.proofs.Common.{◌≡◌, ℕ, ◌<◌, get_or, Bool, true, ◌==◌, Some, refl, sym, ap, ◌∙◌}
 use Rattle.std.specs.List.{position_or_len}
 use Rattle.std.proofs.lemmas.Bool.{agree_below, agree_below_at, eqb-true}
@@ -6,7 +6,7 @@ use Rattle.std.proofs.lemmas.Option.{slice_get_within, get_or_from_slice_get, sl
 use Rattle.ach_fields.specs.Characters.{is_id_character}
 use Rattle.desk_plan.specs.Modifiers.{modifiers, modifier_of}
 
--- Each modifier stands first at its own place, and is a capital letter or a digit.
+-- Each modifier occurs first at its own place, and is a capital letter or a digit.
 abbrev is_own : ℕ → Bool
 is_own n = position_or_len (λ c. c == get_or modifiers n 0) modifiers == n
 

@@ -49,7 +49,7 @@ module _ {X : Type 0} where
   none_any p [] = refl
   none_any p (x ∷ xs) = ap (λ t. not (p x) && t) (none_any p xs) ∙ sym (neither (p x) (list_any p xs))
 
--- where the range of a batch stands
+-- the range of a batch
 pub cases_range : (last n : ℕ) → ((range_after last n ≡ (last + 1, last + 1 + n - 1)) × (last + n ≤ most_sequence)) ⊎ ((range_after last n ≡ (1, 1 + n - 1)) × (most_sequence < last + n))
 cases_range last n =
     elim (cases_Bool (nat_le (last + n) most_sequence)) [

@@ -17,7 +17,7 @@ stays_apart start restarted last (n ∷ counts) =
     else (if (restarted || nat_le (range_after last n).0 last) && nat_le start (range_after last n).1 then false
     else stays_apart start (restarted || nat_le (range_after last n).0 last) (range_after last n).1 counts)
 
--- What the ranges so far tell of the next one, before they began again: they go from the start to the last sequence.
+-- Before the numbers begin again, the ranges so far go from the start to the last sequence.
 record Onward (start last : ℕ) (taken : List (ℕ × ℕ)) : Type 0 where
   some : 1 ≤ start
   up : start ≤ last
@@ -147,7 +147,7 @@ first_stays last n counts all =
     let within = IsRange-range_after last n all.0 in
     sym (clear_is_apart (ranges last (n ∷ counts))) ∙ sym (stays_onward r.0 r.1 (r ∷ []) (begun r.0 r.1 within.some within.up) counts all.1)
 
--- The loop that plans the ranges: what its ends tell.
+-- The loop that plans the ranges: the facts at its ends.
 module _ (last : ℕ) (entries : List ℕ) (n : ℕ) (rest : List ℕ) (first : ℕ × ℕ) (split : entries ≡ n ∷ rest) (is : first ≡ range_after last n) where
   pub apart_as : All IsEntryCount entries → are_apart (ranges last entries) ≡ stays_apart first.0 false first.1 rest
   apart_as all =

@@ -1,4 +1,4 @@
--- The latest settlement of a range, among rows that tell the youngest entry of each sequence.
+-- The latest settlement of a range, among rows that name the youngest entry of each sequence.
 use Rattle.std.proofs.Common.{◌≡◌, ◌≢◌, ℕ, zero, suc, ◌+◌, ◌-◌, ◌<◌, List, [], ◌∷◌, length, get_or, map, Bool, true, false, ◌&&◌, ◌||◌, ◌==◌, Option, Some, None, refl, sym, ap, ◌∙◌, arith, inl, inr}
 use Rattle.std.specs.Prelude.{AllPairs, nat_le, filter, filter_map, fold, max, option_map, if◌then◌else◌}
 use Rattle.std.specs.List.{range_with_len, list_any, reduce, cons_option}

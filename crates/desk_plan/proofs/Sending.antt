@@ -1,4 +1,4 @@
--- What a batch changes in the sent entries, and which sequences may be used then.
+-- The effect of a batch on the sent entries, and the sequences that are free after it.
 use Rattle.std.proofs.Common.{◌≡◌, ℕ, zero, suc, ◌+◌, ◌-◌, ◌<◌, ◌≤◌, List, [], ◌∷◌, ◌++◌, map, reverse, Bool, true, false, not, ◌&&◌, ◌||◌, ◌==◌, Option, Some, None, refl, sym, ap, ◌∙◌, arith, append_assoc, inl, inr}
 use Rattle.std.specs.Prelude.{nat_le, filter_map, max, option_map, if◌then◌else◌, fold}
 use Rattle.std.specs.List.{range_with_len, list_any, list_all, reduce, cons_option, AllByRecursion}

@@ -7,8 +7,8 @@ use Rattle.desk_plan.specs.declared.batch.Batch.{Batch}
 abbrev pub IsEntryCount : ℕ → Type 0
 IsEntryCount n = (1 ≤ n) × (n ≤ 1000)
 
--- What the batch of an accepted submission has: 1 to 1,000 entries, each with at most one addenda,
--- and no more cents than the total fields of a file hold.
+-- The batch of an accepted submission: 1 to 1,000 entries, each with at most one addenda, and no more cents than the
+-- total fields of a file hold.
 pub record IsBatch (b : Batch) : Type 0 where
   pub entries : IsEntryCount b.entries
   pub debits : b.debits ≤ most_cents

@@ -10,6 +10,6 @@ use Rattle.desk_plan.specs.Sequences.{SentSequence}
 abbrev pub files_of : List (List Batch) → ℕ
 files_of cuts = sum_by (λ batches. length (division batches)) cuts
 
--- whether a cut may send batches on a day, after so many files of that day and after the sent entries
+-- whether a cut may send batches on a day, after this many files of that day and after the sent entries
 abbrev pub may_cut : (day : ℕ) → (before : ℕ) → List SentSequence → List Batch → Bool
 may_cut day before sent batches = may_send day sent batches && nat_le (before + length (division batches)) most_files

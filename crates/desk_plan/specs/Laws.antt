@@ -46,7 +46,7 @@ pub record NeverTwice : Type 0 where
   pub numbered : (sent : List SentSequence) (batches : List Batch) → IsNumbered sent → length sent + sum_by (λ b. b.entries) batches ≤ most_sequence → IsNumbered (after_cut sent batches)
   pub named : (sent : List SentSequence) → IsNumbered sent → All (λ e. youngest sent e.sequence ≡ Some e) sent
 
--- the latest settlement of a range is found among the rows that tell the youngest entry of each sequence
+-- the latest settlement of a range is found among the rows that name the youngest entry of each sequence
 abbrev pub LatestInRows : Type 0
 LatestInRows = (rows sent : List SentSequence) (r : ℕ × ℕ) → TellYoungest rows sent → latest_settled sent r ≡ latest_in rows r
 
@@ -61,8 +61,8 @@ pub record DayModifiers : Type 0 where
   pub apart : (m n c : ℕ) → modifier_of m ≡ Some c → modifier_of n ≡ Some c → m ≡ n
   pub character : (n c : ℕ) → modifier_of n ≡ Some c → is_id_character c ≡ true
 
--- Where a cut of the whole desk is not refused, nor is the cut of some of its batches in a desk that
--- has sent only those, and no more entries than there are sequences. `cuts` are the day's before it.
+-- If a cut of the whole desk is not refused, neither is the cut of some of its batches on a desk that has sent only
+-- those, and no more entries than there are sequences. `cuts` are the day's earlier cuts.
 abbrev pub AcceptedAlone : Type 0
 AcceptedAlone = (test : Batch → Bool) (day : ℕ) (cuts : List (List Batch)) (batches : List Batch) (sent alone : List SentSequence)
     → All (All IsBatch) cuts → All IsBatch batches → IsNumbered alone

@@ -1,4 +1,4 @@
--- What the batches of a file take together.
+-- The load of a file: the sums over its batches.
 use Rattle.std.specs.Prelude.{◌+◌, Bool, ◌&&◌, nat_le, if◌then◌else◌, List, length, sum_by, Option, Some, None}
 use Rattle.ach_fields.specs.Cents.{most_cents}
 use Rattle.desk_plan.specs.declared.batch.Batch.{Batch}
@@ -21,6 +21,6 @@ plus l b = record { debits = l.debits + b.debits; credits = l.credits + b.credit
 abbrev pub is_within : Load → Bool
 is_within l = nat_le l.debits most_cents && nat_le l.credits most_cents && nat_le l.batches most_batches && nat_le l.records most_records
 
--- so much, where a file may hold it
+-- this load, if a file may hold it
 abbrev pub if_within : Load → Option Load
 if_within l = if is_within l then Some l else None

@@ -9,7 +9,7 @@ modifiers = codes "ABCDEFGHIJKLMNOPQRSTUVWXYZ0123456789"
 abbrev pub most_files : ℕ
 most_files = 36
 
--- the modifier of the file that has so many files of its day before it
+-- the modifier of the file that has this many files of its day before it
 abbrev pub modifier_of : ℕ → Option ℕ
 modifier_of before = slice_get modifiers before
 

@@ -4,7 +4,7 @@ use Rattle.std.specs.List.{reduce}
 use Rattle.desk_plan.specs.Sequences.{SentSequence}
 use Rattle.desk_plan.specs.Reuse.{youngest}
 
--- the rows tell of each sequence what the sent entries tell
+-- the rows name the same youngest entry of each sequence as the sent entries
 pub record TellYoungest (rows sent : List SentSequence) : Type 0 where
   pub apart : AllPairs (λ a b. a.sequence ≢ b.sequence) rows
   pub same : (s : ℕ) → youngest rows s ≡ youngest sent s

@@ -4,7 +4,7 @@ use Rattle.std.specs.List.{range_with_len, list_all, reduce}
 use Rattle.desk_plan.specs.declared.batch.Batch.{Batch}
 use Rattle.desk_plan.specs.Sequences.{SentSequence, sequences_from, first_of, after_batch}
 
--- whether a settlement was at least 366 days before the day, or there was none
+-- whether a settlement was at least 366 days before the day, or did not happen
 abbrev pub is_past : (day : ℕ) → Option ℕ → Bool
 is_past day None = true
 is_past day (Some settled) = nat_le (settled + 366) day
@@ -12,7 +12,7 @@ is_past day (Some settled) = nat_le (settled + 366) day
 abbrev pub has_sequence : ℕ → SentSequence → Bool
 has_sequence s e = e.sequence == s
 
--- the youngest entry that has a sequence: it is the first found, since the newest stand first
+-- the youngest entry that has a sequence: the first one found, because the newest come first
 abbrev pub youngest : List SentSequence → ℕ → Option SentSequence
 youngest sent s = find (has_sequence s) sent
 

@@ -9,7 +9,7 @@ pub record SentSequence : Type 0 where
   pub sequence : ℕ
   pub settled : ℕ
 
--- the last sent entry's sequence, 0 where there is none; sent entries stand with the newest first
+-- the last sent entry's sequence, 0 if there is none; sent entries are listed with the newest first
 abbrev pub last_sequence : List SentSequence → ℕ
 last_sequence [] = 0
 last_sequence (e ∷ sent) = e.sequence

@@ -1,8 +1,7 @@
 use ach_fields::{Cents, Id};
 use bank_days::Day;
 
-/// A `Batch` is one that a cut is to send: it says what a submission takes of a file and of the
-/// sequences.
+/// A batch that a cut is to send: what a submission takes of a file and of the sequences.
 ///
 /// It knows neither its file nor its sequences, so that the batches of a desk that serves one
 /// company alone are those of the company among the batches of all.

@@ -28,7 +28,7 @@ pub fn never_twice()
     ensures { NeverTwice }
 {}
 
-/// A store finds the latest settlement of a range among rows that tell the youngest entry of each
+/// A store finds the latest settlement of a range among rows that name the youngest entry of each
 /// sequence.
 pub fn latest_in_rows()
     ensures { LatestInRows }
@@ -45,8 +45,8 @@ pub fn modifiers_of_a_day()
     ensures { DayModifiers }
 {}
 
-/// Where a cut of the whole desk is not refused, nor is one of some of its batches in a desk that has
-/// them alone.
+/// If a cut of the whole desk is not refused, neither is a cut of some of its batches on a desk
+/// that has them alone.
 pub fn accepted_alone()
     ensures { AcceptedAlone }
 {}

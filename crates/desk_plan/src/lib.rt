@@ -1,12 +1,12 @@
-//! This crate plans a cut: how its batches go into files, which sequences their entries take, and
-//! which modifiers the files have.
+//! Plans a cut: the division of its batches into files, the sequences of their entries, and the
+//! modifiers of the files.
 //!
 //! A file holds at most twelve digits of cents each way, 1,000 batches and 100,000 records 6 and 7;
-//! `divide` begins a new one only where the next batch does not fit. Sequences have seven digits and
-//! are used again: `plan_numbers` gives each batch its range, and `is_past` says when a sequence
-//! that was used is free. A day has 36 modifiers over all its cuts; `modifier` gives them in order,
-//! and `made_before` says whether so many are left.
-//! Whether a cut is refused is for the caller to say, from these.
+//! `divide` begins a new one only if the next batch does not fit. Sequences have seven digits and
+//! are used again: `plan_numbers` gives each batch its range, and `is_past` says when a used
+//! sequence is free. A day has 36 modifiers over all its cuts; `modifier` gives them in order, and
+//! `made_before` checks whether enough are left. The caller decides from these whether a cut is
+//! refused.
 #![tactic(auto)]
 
 mod batch;

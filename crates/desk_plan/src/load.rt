@@ -4,13 +4,13 @@ ghost use Rattle.desk_plan.specs.Load.{load, plus, if_within};
 use crate::batch::Batch;
 use ach_fields::Cents;
 
-/// A file has at most so many batches.
+/// The most batches of a file.
 const MOST_BATCHES: usize = 1_000;
 
-/// A file has at most so many records 6 and 7.
+/// The most records 6 and 7 of a file.
 const MOST_RECORDS: u32 = 100_000;
 
-// What the batches of a file take together.
+// The sums over the batches of a file.
 #[derive(Clone, Copy)]
 pub(crate) struct Load {
     pub(crate) debits: Cents,
@@ -32,7 +32,7 @@ impl Load {
         }
     }
 
-    // With one batch more, where a file may hold so much.
+    // Returns the load with one more batch, if a file may hold it.
     pub(crate) fn with(&self, batch: &Batch) -> Option<Load>
         ensures { result ≡ if_within (plus self.now batch.now) }
     {

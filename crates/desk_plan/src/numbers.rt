@@ -25,13 +25,16 @@ impl<T: Drop> From<AllocFailed<T>> for NumberFault {
     }
 }
 
-/// Gives the first and the last sequence of each batch of a cut, by their numbers of entries and by
-/// the sequence of the last entry that was sent before, which is 0 where there is none.
+/// Returns the first and the last sequence of each batch of a cut, by their numbers of entries and
+/// by the sequence of the last entry sent before, 0 if there is none.
 ///
-/// A batch takes the next sequences in a row after the last one that was taken. One that would pass
-/// 9,999,999 begins at 1, and the sequences that are left over stay unused in this round. It is
-/// `TracesSpent` where two batches would have a sequence in common. Whether the entries of earlier
-/// cuts leave a range free is for `is_past` to say.
+/// A batch takes the next sequences in a row after the last one taken. A batch that would pass
+/// 9,999,999 begins at 1, and the sequences left over stay unused in this round.
+///
+/// # Errors
+///
+/// `TracesSpent` if two batches would have a sequence in common. Whether the entries of earlier
+/// cuts leave a range free is decided by `is_past`.
 pub fn plan_numbers(
     alloc: Global,
     last_sequence: u32,
@@ -67,7 +70,7 @@ pub fn plan_numbers(
     Ok(ranges)
 }
 
-// The first and the last sequence of a batch with so many entries, after a last sequence.
+// Returns the first and the last sequence of a batch with this many entries, after a last sequence.
 fn range_after(last: u32, entries: u32) -> (u32, u32)
     requires { IsEntryCount entries }
     ensures value { result ≡ range_after last entries }

@@ -3,7 +3,7 @@ ghost use Rattle.desk_plan.specs.Reuse.{is_past};
 
 use bank_days::Day;
 
-/// A sequence may be used again after so many days.
+/// The days after which a sequence may be used again.
 const DAYS: i64 = 366;
 
 /// May sequences be used on a day, by the latest day on which the youngest entries that have them

@@ -4,7 +4,7 @@ use Rattle.desk_intake.specs.ReturnedEntries.{HasEntries}
 use Rattle.desk_intake.specs.Resolutions.{found_item_as, judged_after, judged_as}
 use Rattle.desk_intake.proofs.judged_item.judge.Given as goal
 
--- these entries came back so far, and the resolutions of the items so far and of the rest are all
+-- these entries are returned so far, and the resolutions of the items so far and of the rest are all
 abbrev pub invariant-loop-found_item : goal.invariant-loop-found_item
 invariant-loop-found_item l = record {
   came : List SentEntry;

@@ -14,7 +14,7 @@ kept w z k is lt =
     let small : unsigned_abs z < 2 ^ hbits w = rw is lt in
     back_small w z small ∙ is
 
--- the year, the month and the day of a day from 1970 on, as they stand in fewer bits
+-- the year, the month and the day of a day from 1970 on, in fewer bits
 kept_year : (plain : PlainDate) (n : ℕ) (z : ℤ) → n ≤ 48211 → epoch_day plain ≡ pos n → z ≡ plain.year → to_z w16 (of_z w16 z) ≡ pos (date_of_number n).year
 kept_year plain n z le is part =
     kept w16 z _ (part ∙ (same_date plain n le is).year) (omega (arith, year_bound n le))
