@@ -11,7 +11,7 @@ use Rattle.cli_submit.specs.declared.fault.InputFault.{InputFault}
 use Rattle.cli_submit.specs.declared.fault.InputFault.TheVariants.{Row}
 use Rattle.cli_submit.specs.declared.fault.RowFault.{RowFault}
 
--- so many of the rows are these entries, and these rows are left
+-- the first n of the rows are these entries, and these rows are left
 pub record Taken (rows left : List (List (List ℕ))) (n : ℕ) (entries : List EntryTexts) : Type 0 where
   pub faults : faults_from 1 rows ≡ faults_from (n + 1) left
   pub all : entries_in rows ≡ entries ++ entries_in left
@@ -35,7 +35,7 @@ taken_more rows left row n entries e t is = record {
   all = t.all ∙ ap (λ (es : List EntryTexts). entries ++ es) (entry_next row left (Ok e) is) ∙ sym (append_assoc entries (e ∷ []) (entries_in left));
 }
 
--- a row that is none
+-- a row that is not an entry
 pub row_at_fault : (rows left : List (List (List ℕ))) (row : List (List ℕ)) (n : ℕ) (entries : List EntryTexts) (f : RowFault)
     → Taken rows (row ∷ left) n entries → row_entry row ≡ Err f → entries_of_rows rows ≡ Err (Row (n + 1) f)
 unfolding entries_of_rows

@@ -18,6 +18,6 @@ all_rows text rows s rest reached end = sym (records_end (strip_bom text) rows s
 pub left_is : (rows : List Row) (i : ℕ) (row : Row) → i < length rows → row ≡ get_or rows i row → map fields_of (drop i rows) ≡ fields_of row ∷ map fields_of (drop (i + 1) rows)
 left_is rows i row lt is = ap (map fields_of) (drop_more rows i row lt ∙ ap (λ r. r ∷ drop (i + 1) rows) (sym is))
 
--- and there are none at the end
+-- and at the end there is none
 pub none_left : (rows : List Row) (i : ℕ) → length rows ≤ i → map fields_of (drop i rows) ≡ []
 none_left rows i end = ap (map fields_of) (drop_all i rows end)

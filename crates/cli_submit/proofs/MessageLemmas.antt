@@ -23,7 +23,7 @@ id_or : (is : Bool) (s : List ℕ) (b : Bool) → b ≡ is_err (cond is (Ok s) (
 id_or true s b e = sym (ap not e)
 id_or false s b e = sym (ap not e)
 
--- an identification is refused exactly where the text is none
+-- an identification is refused exactly if the text is not one
 pub refused_id : (s : List ℕ) (b : Bool) → b ≡ is_err (id_of s) → is_id s ≡ not b
 refused_id s b is = elim (cases_Bool (nat_lt 10 (length s))) [
   | inl long ↦
@@ -52,7 +52,7 @@ pub list_fault : (o : OptionTexts) (list : List ℕ) (f : InputFault) → None �
 unfolding message_of
 list_fault o list f is e = ap (message_or_fault o) (judged o list is ∙ e)
 
--- what a list's refusal is told as
+-- the fault that a list's refusal is reported as
 pub fault_given : (o : OptionTexts) (list : List ℕ) (f : SubmitFault) → None ≡ input_fault o (length list)
     → IsUnlessNoMemory {A = Vec Value Global} (λ values entries. items_view values.items ≡ entry_items entries) (entries_of_list list) (Err f) → Gives (message_of o list) (Err f)
 fault_given o list (Input f) is given = list_fault o list f is given

@@ -1,4 +1,4 @@
--- The submission that a message's body is, in JSON. Keys stand in byte order.
+-- The submission in a message's body, as JSON with its keys in byte order.
 use Rattle.std.specs.Prelude.{◌≡◌, ℕ, Bool, true, false, List, [], ◌∷◌, ◌++◌, Option, Some, None, codes, map, String, Vec}
 use Rattle.std.specs.declared.alloc.Global.{Global}
 use Rattle.serde_json.specs.Data.{Data, Items, Members, array, boolean, member, no_members, number, object, put, string, unsigned}
@@ -13,7 +13,7 @@ abbrev pub with_info : Option (List ℕ) → Members → Members
 with_info None ms = ms
 with_info (Some info) ms = member (codes "info") (string info) ms
 
--- the mark of a prenote, where it is one
+-- the mark of a prenote, if it is one
 abbrev pub with_prenote : Bool → Members → Members
 with_prenote false ms = ms
 with_prenote true ms = member (codes "prenote") (boolean true) ms

@@ -1,4 +1,4 @@
--- The lines that say why there is no message.
+-- The lines that are printed in place of a message.
 use Rattle.std.specs.Prelude.{ℕ, List, ◌++◌, codes, decimal}
 use Rattle.cli_submit.specs.declared.fault.InputFault.{InputFault}
 use Rattle.cli_submit.specs.declared.fault.InputFault.TheVariants.{BadCompany, BadKey, TooLarge, BadHeader, Row}

@@ -1,4 +1,4 @@
--- What the desk reads of a message's body.
+-- How the desk reads a message's body.
 use Rattle.std.specs.Prelude.{◌≡◌, Bool, true, false, List, map, Option, Some, None}
 use Rattle.http_json.specs.Drafts.{submission_draft_of}
 use Rattle.desk_rules.specs.declared.bodies.draft.Draft.{Draft}

@@ -34,7 +34,7 @@ unless_fault (f ∷ fs) entries = Err f
 unfoldable pub entries_of_rows : (rows : List (List (List ℕ))) → Result (List EntryTexts) InputFault
 entries_of_rows rows = unless_fault (faults_from 1 rows) (entries_in rows)
 
--- the entries of a list of which these are all rows
+-- the entries of a list with exactly these rows
 abbrev pub entries_under_header : (rows : List (List (List ℕ))) → Result (List EntryTexts) InputFault
 entries_under_header [] = Err BadHeader
 entries_under_header (header ∷ rows) = if is_header header then entries_of_rows rows else Err BadHeader
@@ -43,7 +43,7 @@ entries_under_header (header ∷ rows) = if is_header header then entries_of_row
 abbrev pub entries_of_list : (list : List ℕ) → Result (List EntryTexts) InputFault
 entries_of_list list = entries_under_header (rows_in list)
 
--- a call gave what is wanted, told by `Is`, or its fault, or it ran out of memory
+-- a call gave the wanted value, in the sense of `Is`, or its fault, or it ran out of memory
 abbrev pub IsUnlessNoMemory : {A B : Type 0} → (Is : A → B → Type 0) → (wanted : Result B InputFault) → Result A SubmitFault → Type 0
 IsUnlessNoMemory {A} {B} Is wanted (Ok x) = (y : B) × (wanted ≡ Ok y) × Is x y
 IsUnlessNoMemory Is wanted (Err (Input f)) = wanted ≡ Err f

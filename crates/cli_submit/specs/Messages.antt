@@ -1,4 +1,4 @@
--- The message that hands in a list of entries, or why there is none.
+-- The message that submits a list of entries, or its fault.
 use Rattle.std.specs.Prelude.{◌≡◌, ℕ, true, not, List, ◌++◌, length, nat_lt, if◌then◌else◌, codes, decimal, Option, Some, None, Result, Ok, Err, Vec}
 use Rattle.std.specs.Str.{is_utf8}
 use Rattle.std.specs.declared.alloc.Global.{Global}
@@ -34,7 +34,7 @@ body_text o entries = compact_text (body_data o entries)
 abbrev pub text_of : OptionTexts → List EntryTexts → List ℕ
 text_of o entries = head_text o (length (body_text o entries)) ++ body_text o entries
 
--- the fault of the options, or of a list of so many bytes, if there is one
+-- the fault of the options, or of a list of this many bytes, if there is one
 abbrev pub input_fault : OptionTexts → (size : ℕ) → Option InputFault
 input_fault o size =
     if not (is_id o.company) then Some BadCompany
@@ -50,7 +50,7 @@ entries_unless None list = entries_of_list list
 unfoldable pub entries_or_fault : OptionTexts → (list : List ℕ) → Result (List EntryTexts) InputFault
 entries_or_fault o list = entries_unless (input_fault o (length list)) list
 
--- the message of the entries, where there is no fault
+-- the message of the entries, if there is no fault
 abbrev pub message_or_fault : OptionTexts → Result (List EntryTexts) InputFault → Result (List ℕ) InputFault
 message_or_fault o (Ok entries) = Ok (text_of o entries)
 message_or_fault o (Err f) = Err f

@@ -1,4 +1,4 @@
--- What the options of a message say.
+-- The options of a message.
 use Rattle.std.specs.Prelude.{ℕ, List}
 use Rattle.cli_submit.specs.declared.options.SubmitOptions.{SubmitOptions}
 

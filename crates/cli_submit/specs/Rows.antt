@@ -1,4 +1,4 @@
--- The entry that a row is, or why it is none.
+-- The entry in a row, or the row's fault.
 use Rattle.std.specs.Prelude.{◌≡◌, ◌&&◌, ℕ, Bool, true, false, List, [], ◌∷◌, Option, Some, None, option_map, option_and_then, if◌then◌else◌, codes, Result, Ok, Err, MatchResult}
 use Rattle.std.specs.List.{list_all}
 use Rattle.std.specs.Result.{result_ok}
@@ -10,7 +10,7 @@ use Rattle.cli_submit.specs.declared.fault.RowFault.TheVariants.{BadRow, BadCent
 use Rattle.cli_submit.specs.declared.row.Columns.{Columns}
 use Rattle.cli_submit.specs.declared.row.RowEntry.{RowEntry}
 
--- the fields of a row by the columns in which they stand
+-- the fields of a row by their columns
 pub record ColumnTexts : Type 0 where
   pub routing : List ℕ
   pub account : List ℕ

@@ -4,7 +4,7 @@ ghost use Rattle.cli_submit.specs.FaultLines.{fault_line, row_fault_line, name_o
 
 use std::alloc::{AllocError, Global};
 
-/// A row fault says why a row is no entry.
+/// The reason why a row is not an entry.
 #[derive(Clone, Copy, Debug, PartialEq, Eq)]
 pub enum RowFault {
     /// The row has not eight fields, or is not UTF-8.
@@ -31,21 +31,21 @@ impl RowFault {
 /// An input fault says why the options and the list of entries make no message.
 #[derive(Clone, Copy, Debug, PartialEq, Eq)]
 pub enum InputFault {
-    /// The company is no identification.
+    /// The company is not an identification.
     BadCompany,
-    /// The key is none that a company may have.
+    /// A company may not have this key.
     BadKey,
     /// The list has more than 4,194,304 bytes.
     TooLarge,
     /// The first row does not name the eight columns.
     BadHeader,
-    /// The row with this number, counted from 1 after the header, is no entry.
+    /// The row with this number, counted from 1 after the header, is not an entry.
     Row(u64, RowFault),
 }
 
 impl InputFault {
-    /// Gives the line that says so, without its end: `bad company`, `bad key`, `too large`,
-    /// `bad header`, or for a row as `row 3: bad cents`.
+    /// Returns the printed line, without its end: `bad company`, `bad key`, `too large`, `bad
+    /// header`, or for a row as `row 3: bad cents`.
     pub fn line(self, alloc: Global) -> Result<String, AllocError>
         ensures { IfOk result (λ line. string_bytes line ≡ fault_line self) }
     {

@@ -1,4 +1,4 @@
-//! What holds of the bodies of messages.
+//! Laws of the bodies of messages.
 ghost use Rattle.cli_submit.specs.Laws.{BodiesAreDrafts};
 
 /// The draft that the desk reads from a message's body has the options' texts and the rows' entries.

@@ -1,4 +1,4 @@
-//! The message that hands in a list of entries.
+//! The message that submits a list of entries.
 ghost use Rattle.std.specs.Prelude.{◌≡◌, IfOk, string_bytes};
 ghost use Rattle.cli_submit.specs.Messages.{head_text, input_fault, message_of, Gives, IsMessage, OfEntries, ReadsAs, ReadsBack};
 ghost use Rattle.cli_submit.specs.Options.{texts_of};
@@ -12,21 +12,23 @@ use desk_rules::is_key;
 use serde_json::Value;
 use std::alloc::{AllocError, Global};
 
-/// A list of entries has at most so many bytes.
+/// The most bytes of a list of entries.
 const MOST_BYTES: usize = 4_194_304;
 
-/// Gives the message that hands a list of entries in CSV to the desk, a POST request of HTTP/1.1 whose
-/// body is the submission in JSON. Nothing follows the body.
+/// Returns the message that submits a list of entries in CSV to the desk: an HTTP/1.1 POST request
+/// whose body is the submission in JSON. Nothing follows the body.
 ///
 /// The list's first row is `routing,account,kind,prenote,cents,id,name,info`; each other row is an
-/// entry. Rows are what `csv` makes of the text: blank lines are none, a field may be quoted, and a
-/// byte order mark at the start is dropped. A prenote is `yes` or empty; an empty prenote and an empty
-/// info are left out of the body. Of the other fields nothing is checked: the desk does that.
+/// entry. Rows are as `csv` reads them: blank lines are skipped, a field may be quoted, and a byte
+/// order mark at the start is dropped. A prenote is `yes` or empty; an empty prenote and an empty
+/// info are left out of the body. The other fields are not checked: the desk does that.
 ///
-/// No message is made, and the first of these faults is told, where the company is no identification,
-/// the key is none that a company may have, the list has more than 4,194,304 bytes, its header is
-/// another, or a row is at fault: the first of those, and of its faults the first of `BadRow`,
-/// `BadCents` and `BadPrenote`.
+/// # Errors
+///
+/// The first of these faults: the company is not an identification, a company may not have the key,
+/// the list has more than 4,194,304 bytes, its header is another, or a row is invalid. Of the rows
+/// the first invalid one counts, and of its faults the first of `BadRow`, `BadCents` and
+/// `BadPrenote`.
 pub fn submit_message(
     alloc: Global,
     options: &SubmitOptions<'_>,
@@ -43,7 +45,7 @@ pub fn submit_message(
     Ok(message_text(alloc, options, entries)?)
 }
 
-// The fault of the options, or of a list of so many bytes.
+// Returns the fault of the options, or of a list of this many bytes.
 fn input_fault(options: &SubmitOptions<'_>, size: usize) -> Option<InputFault>
     ensures { result ≡ input_fault (texts_of options.now) size }
 {

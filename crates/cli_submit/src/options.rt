@@ -1,6 +1,6 @@
-//! What is said of a submission beside its entries.
+//! The options of a submission, next to its entries.
 
-/// The options name a company and its key, and say what all entries of its submission share.
+/// A company and its key, and what all entries of its submission share.
 #[derive(Clone, Copy, Debug, PartialEq, Eq)]
 pub struct SubmitOptions<'a> {
     /// The company's identification: 1 to 10 of `A` to `Z` and `0` to `9`.
@@ -13,7 +13,7 @@ pub struct SubmitOptions<'a> {
     pub sec: &'a str,
     /// `credit` or `debit`.
     pub direction: &'a str,
-    /// What the receivers are told that the entries are for.
+    /// The description of the entries for their receivers.
     pub description: &'a str,
     /// The day on which the entries are to settle, as `2025-01-10`.
     pub day: &'a str,

@@ -20,7 +20,7 @@ pub struct Columns<'a> {
     pub info: &'a str,
 }
 
-/// A list has so many columns.
+/// The columns of a list.
 const COLUMNS: usize = 8;
 
 /// An entry as a row has it.
@@ -46,7 +46,7 @@ pub fn is_header(row: &ByteRecord) -> bool
     }
 }
 
-/// Gives the entry that a row is, or says why it is none.
+/// Returns the entry in a row, or the row's fault.
 pub fn row_entry(row: &ByteRecord) -> Result<RowEntry<'_>, RowFault>
     ensures { GivesEntry (row_entry (fields_of row.now)) result }
 {

@@ -1,4 +1,4 @@
--- What a parse by `clap`'s rules says of the command that words name.
+-- The command that words name, by a parse with `clap`'s rules.
 use Rattle.std.proofs.Common.{ℕ, ◌≤◌, ◌≡◌, ◌≢◌, Bool, true, false, Bor, map, List, Result, Ok, Err, IfOk, OnErr, refl, sym, ap, ◌∙◌, subst, inl, inr, [], ◌∷◌, Some, None, Option, codes, unwrap_or, slice_get}
 use Rattle.std.specs.Str.{bytes_eq}
 use Rattle.std.specs.Prelude.{if◌then◌else◌}
@@ -119,7 +119,7 @@ among kinds e (Usage text) (inr one) is = (
 )
 among kinds e NoMemory has is = tt
 
--- and where there is no error
+-- and if there is no error
 pub among_none : (kinds : Kinds) → kinds ≡ [] → (kinds ≢ kind.DisplayHelp ∷ []) × (kinds ≢ kind.DisplayVersion ∷ [])
 among_none kinds none = (λ only. let no : ⊥ = cc in no, λ only. let no : ⊥ = cc in no)
 

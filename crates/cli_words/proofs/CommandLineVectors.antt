@@ -112,7 +112,7 @@ help_of_no_command : kinds_at (spelled_out (codes "help" ∷ codes "bogus" ∷ [
 unfolding clap_on_literals kinds_at
 help_of_no_command = refl
 
--- other words are read as they stand
+-- other words are read without change
 help_of_help : spelled_out (codes "help" ∷ codes "help" ∷ []) ≡ codes "help" ∷ codes "help" ∷ []
 help_of_help = refl
 

@@ -1,4 +1,4 @@
--- What a parse by `clap`'s rules says of an argument that takes a number: it has one, and that lies in the argument's range.
+-- An argument that takes a number, parsed by `clap`'s rules: it has one, within the argument's range.
 use Rattle.std.proofs.Common.{codes, ◌≡◌, ◌∙◌, ◌<◌, ◌≤◌, ◌^◌, ap, cond, drop, map, ℕ, Bool, true, false, true≢false, zero, suc, List, [], ◌∷◌, length, is_some, Option, Some, None, Result, Ok, Err, refl, sym, subst, inl, inr, arith}
 use Rattle.std.specs.List.{All, find, list_all, slice_index_or}
 use Rattle.std.specs.Str.{bytes_eq}
@@ -113,7 +113,7 @@ module _ (c : Command) (m : ArgMatches) (p : IsParsedFrom c m) (plain : IsPlain 
             omega arith
       ]
 
-  -- an argument that takes a value has one, where it has an entry
+  -- an argument that takes a value has one, if it has an entry
   has_value : (slice_index_or (args_of c) k d).action ≡ Some Set → (slice_index_or (args_of c) k d).val_delim ≡ None
       → 1 ≤ least_values (slice_index_or (args_of c) k d) → (x : MatchedArg) → matched_of (found_of m) (slice_index_or (args_of c) k d).id.now ≡ Some x
       → is_some (option_map (λ s. s.now) (slice_get x.vals.items 0)) ≡ true

@@ -1,4 +1,4 @@
--- What a parse of `serve` gives: a port, a number of connections and a number of seconds, each in its range.
+-- The result of parsing `serve`: a port, a number of connections and a number of seconds, each in its range.
 use Rattle.std.proofs.Common.{◌≡◌, ◌<◌, ◌≤◌, ◌^◌, ◌∙◌, ℕ, true, false, refl, sym, arith, length, map, codes, [], Some, None, Result, Ok, Err, IfOk}
 use Rattle.std.specs.List.{range_with_len, slice_index_or}
 use Rattle.std.specs.Prelude.{◌==◌}

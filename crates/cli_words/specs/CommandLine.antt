@@ -94,7 +94,7 @@ session_with None = AnswerMessages
 abbrev pub is_between : (low high n : ℕ) → Bool
 is_between low high n = nat_le low n && nat_le n high
 
--- a server, where its port is 1 to 65,535, its connections are 1 to 1,000,000, and its patience is 1 to 3,600
+-- a server, if its port is 1 to 65,535, its connections are 1 to 1,000,000, and its patience is 1 to 3,600
 abbrev pub server : (path : Text) (port connections patience : ℕ) → Option NamedCommand
 server path port connections patience =
     if is_between 1 65535 port && is_between 1 1000000 connections && is_between 1 3600 patience
@@ -137,7 +137,7 @@ forms = check ∷ submit ∷ stdio ∷ init ∷ serve ∷ migrate ∷ []
 abbrev pub program : Form
 program = record { word = codes "achdesk"; app = program_app; names = λ rows. None }
 
--- the form of words of which this is the first
+-- the form of words that begin with this one
 abbrev pub form_of : (word : Text) → Form
 form_of word = unwrap_or (find (λ form. bytes_eq word form.word) forms) program
 
@@ -179,8 +179,8 @@ IsFaultOf k Version = k ≡ kind.DisplayVersion
 IsFaultOf k (Usage text) = (k ≢ kind.DisplayHelp) × (k ≢ kind.DisplayVersion) × (k ≢ kind.OutOfMemory)
 IsFaultOf k NoMemory = Unit {0}
 
--- The fault is help, or the version, only where `clap` may give that, and usage only where it may give another error.
--- So where words have one kind, the fault is help, or the version, exactly where that kind is.
+-- The fault is help, or the version, only if `clap` may report that, and usage only if it may report another error. So
+-- if words have one kind of error, the fault is help, or the version, exactly if the kind is.
 abbrev pub IsFaultAmong : Kinds → LineFault → Type 0
 IsFaultAmong kinds (Help text) = IsAmong kind.DisplayHelp kinds
 IsFaultAmong kinds Version = IsAmong kind.DisplayVersion kinds
@@ -196,7 +196,7 @@ Gives wanted kinds (Err fault) = ((fault ≡ NoMemory) ⊎ (wanted ≡ None)) ×
 abbrev pub GivesIn : Form → (words : List Text) → Result Command LineFault → Type 0
 GivesIn form words given = Gives (named_by form words) (fault_of form.app words) given
 
--- what the words give; where there are none, a command
+-- the result for the words; without words, a command
 abbrev pub GivesBy : (words : List Text) → Result Command LineFault → Type 0
 GivesBy words given = Gives (named_command words) (kinds_at words) given × OnErr given (words ≢ [])
 

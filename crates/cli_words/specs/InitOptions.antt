@@ -1,4 +1,4 @@
--- What the options of a new desk say.
+-- The options of a new desk.
 use Rattle.std.specs.Prelude.{ℕ, List}
 use Rattle.cli_words.specs.declared.init_options.InitOptions.{InitOptions}
 

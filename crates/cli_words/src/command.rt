@@ -17,15 +17,14 @@ use clap::{ArgMatches, Error};
 use cli_submit::SubmitOptions;
 use std::alloc::Global;
 
-/// A command says what the program is asked to do.
+/// A command of the program.
 #[derive(Clone, Copy, Debug, PartialEq, Eq, Drop)]
 pub enum Command<'a> {
     /// The program answers one submission body.
     AnswerSubmission,
     /// The program checks the incoming file at this path.
     Check(&'a str),
-    /// The program makes the message that hands in the list of entries at this path, with these
-    /// options.
+    /// Prints the message that submits the list of entries at this path, with these options.
     Submit(&'a str, SubmitOptions<'a>),
     /// The program answers the messages of one session, by a new desk of the sample bank.
     AnswerMessages,
@@ -47,7 +46,7 @@ pub enum LineFault {
     Help(String),
     /// The words ask for the version.
     Version,
-    /// The words are no command's, as this text says.
+    /// The words do not name a command; the text says why.
     Usage(String),
     /// The program is out of memory.
     NoMemory,
@@ -67,7 +66,7 @@ pub fn command_of<'a>(alloc: Global, words: &'a [&'a str]) -> Result<Command<'a>
     }
 }
 
-// What is told of words that name no command.
+// Returns the fault of words that do not name a command.
 fn help_fault(alloc: Global, words: &[&str]) -> LineFault
     requires { NamesNone (map (λ w. w.now) words.now) }
     ensures { GivesBy (map (λ w. w.now) words.now) (Err result) }
@@ -78,7 +77,7 @@ fn help_fault(alloc: Global, words: &[&str]) -> LineFault
     }
 }
 
-// Reads words as they stand.
+// Reads words without change.
 fn command_by_name<'a>(alloc: Global, words: &'a [&'a str]) -> Result<Command<'a>, LineFault>
     ensures { GivesBy (map (λ w. w.now) words.now) result }
 {

@@ -1,4 +1,4 @@
-//! What the arguments of a command were given.
+//! The values that a command's arguments were given.
 ghost use Rattle.std.specs.Prelude.{◌≡◌, codes};
 ghost use Rattle.clap.specs.Words.{found_of, rows_of};
 ghost use Rattle.cli_words.specs.CommandLine.{HasConnections, HasPatience, HasPort, number_in, text_in};

@@ -2,7 +2,7 @@
 ghost use Rattle.std.specs.Prelude.{◌≡◌, map, option_map};
 ghost use Rattle.cli_words.specs.CommandLine.{help_topic};
 
-/// Gives the command of which `help COMMAND` asks for the help. `help help` asks for that of none.
+/// Returns the command whose help `help COMMAND` asks for. `help help` asks for the help of none.
 pub fn help_topic<'a>(words: &[&'a str]) -> Option<&'a str>
     ensures { option_map (λ t. t.now) result ≡ help_topic (map (λ w. w.now) words.now) }
 {

@@ -1,4 +1,4 @@
-//! What is said of a new desk.
+//! The options of a new desk.
 
 /// The options say whose desk a new one is.
 #[derive(Clone, Copy, Debug, PartialEq, Eq)]

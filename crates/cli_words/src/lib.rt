@@ -1,7 +1,8 @@
-//! This crate reads the words of the command line: the command that they name, with its options,
-//! or why they name none.
+//! Reads the words of the command line: the command that they name, with its options, or the reason
+//! why they name none.
 //!
-//! A file `.._arguments` says what the program or a command takes, and `.._options` what it was given.
+//! A file `.._arguments` defines the arguments of the program or of a command, and `.._options` the
+//! values that it was given.
 #![tactic(auto)]
 
 mod command;

@@ -105,7 +105,7 @@ fn submit_command<'a>(alloc: Global) -> Result<ClapCommand<'a>, AllocError>
     add_options(alloc, command.after_help(HELP_REQUIRED), &SUBMIT_OPTIONS)
 }
 
-/// Gives a command with its name and what the help says of it. It has no arguments yet.
+/// Returns a command with its name and its line in the help. It has no arguments yet.
 pub fn new_command<'a>(
     alloc: Global,
     name: &'a str,

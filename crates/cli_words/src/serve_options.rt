@@ -1,4 +1,4 @@
-//! What is said of a server.
+//! The options of a server.
 
 /// The options say where a server listens, how long, and how long it waits for a client.
 #[derive(Clone, Copy, Debug, PartialEq, Eq)]

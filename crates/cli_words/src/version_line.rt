@@ -1,4 +1,4 @@
 //! The program's version.
 
-/// `--version` prints this line. The version stands here alone.
+/// The line that `--version` prints. The version is written here alone.
 pub const VERSION_LINE: &str = "achdesk 1.0.0\n";

@@ -15,8 +15,8 @@ use Rattle.desk_book.specs.OnBook.{reply_on}
 use Rattle.desk_book.specs.Writes.{writes_on}
 use Rattle.desk_admission.specs.Verdicts.{row_to_add, verdict_on, with_added, IsNextOf, Adds, LeavesAdded}
 
--- What is added is the company's next row, and makes of the book what the request does; it is none where the
--- request writes nothing.
+-- The added row is the company's next one, and changes the book as the request does; there is none if the request
+-- writes nothing.
 abbrev IsAdded : List ℕ → Book → Option NewRow → Option Row → Type 0
 IsAdded c b new row = IsNextOf c new b × (with_added c new b ≡ with_added_row c row b) × (is_some new ≡ is_some row)
 

@@ -65,7 +65,7 @@ checked rs retry (Err why) second s none = refl
 checked rs retry (Ok _) (Err why) s none = refl
 checked rs retry (Ok _) (Ok _) s none = ap (row_verdict rs (next_row rs s retry)) (none_among (is_row_under s.reference) rs none)
 
--- the row that has the reference answers, else what is judged anew
+-- the row that has the reference answers, else the request is judged as a new one
 unless_known_told : (rs : List Row) (same : Row → Bool) (reference : List ℕ) (x : Result Row Refusal) (fresh : Verdict) → (row_under rs reference ≡ None → verdict_of rs x ≡ fresh)
     → verdict_of rs (unless_known same (row_under rs reference) x) ≡ reference_verdict same (row_under rs reference) fresh
 unless_known_told rs same reference x fresh is = by (row_under rs reference) refl where

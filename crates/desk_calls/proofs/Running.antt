@@ -1,4 +1,4 @@
--- What a desk holds after calls, and what a crash may leave then.
+-- The book of a desk after calls, and what a crash may leave then.
 use Rattle.std.proofs.Common.{◌≡◌, ◌∙◌, refl, sym, ap, subst, ℕ, suc, List, [], ◌∷◌, Bool, true, false, inl, inr, arith}
 use Rattle.std.specs.Prelude.{◌⊎◌, if◌then◌else◌, Any, Result, Ok, Err}
 use Rattle.desk_history.specs.declared.answer.Answer.{Answer}

@@ -1,4 +1,4 @@
--- What a submission that is not too large is made of.
+-- The parts of a submission that is not too large.
 use Rattle.std.proofs.Common.{◌≡◌, Result, Ok, Err, refl}
 use Rattle.desk_rules.specs.Chain.{◌>>=◌}
 use Rattle.desk_rules.specs.Size.{size_of, sized_of}

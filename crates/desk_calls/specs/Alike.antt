@@ -18,21 +18,21 @@ pub record IsCalled {S : Type 0} (holds : S → Book → Type 0) (call : Call) (
   pub asked : IsAsked (holds before) call identity key H m
   pub goes : Goes (holds before) call result (holds after)
 
--- the answers are the same, where both stores could act
+-- the answers are the same, if neither store failed
 abbrev pub AreAlike : Result Answer StoreFault → Result Answer StoreFault → Type 0
 AreAlike (Ok a) (Ok b) = a ≡ b
 AreAlike _ _ = Unit {0}
 
--- Two desks over any two kinds of stores answer a company's request alike where their histories have the
--- same part of it, whatever others did, and whoever runs the desk.
+-- Two desks over any two kinds of stores give a company's request the same answer if their histories have the same part
+-- of it, whatever others did and whoever runs the desk.
 abbrev pub TwoDesks : {S T : Type 0} → (S → Book → Type 0) → (T → Book → Type 0) → Type 0
 TwoDesks here there =
     (call other : Call) (identity second : Identity) (key second_key : List ℕ) (H G : List Pair) (c : List ℕ) (r : Request) (a b : Result Answer StoreFault)
     → IsCalled here call identity key H (Of c r) a → IsCalled there other second second_key G (Of c r) b
     → part identity.odfi H c ≡ part second.odfi G c → AreAlike a b
 
--- A desk answers a company's request like a desk that serves no one else, where it sent at most 9,999,999
--- entries and the company had fewer than 10^21 returns and changes.
+-- A desk answers a company's request like a desk that serves no one else, if it sent at most 9,999,999 entries and the
+-- company had fewer than 10^21 returns and changes.
 abbrev pub DeskAlone : {S T : Type 0} → (S → Book → Type 0) → (T → Book → Type 0) → Type 0
 DeskAlone here there =
     (call other : Call) (identity : Identity) (key second_key : List ℕ) (H : List Pair) (c : List ℕ) (r : Request) (a b : Result Answer StoreFault)

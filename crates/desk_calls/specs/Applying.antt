@@ -59,8 +59,8 @@ abbrev pub GoesOn : Identity → List ℕ → List Pair → Message → Result A
 GoesOn identity key H m (Ok a) new = (a ≡ answer_to identity H m) × new (book_after identity key H m)
 GoesOn identity key H m (Err fault) new = new (book_of identity key H)
 
--- For every history that the store's book stands for: the answer is that of the definitions, and the
--- book then stands for the history with this pair; or the store could not act, and its book is as it was.
+-- For every history that the store's book stands for: the answer is that of the definitions, and the book then stands
+-- for the history with this pair; or the store failed, and its book is unchanged.
 abbrev pub Goes : (Book → Type 0) → Call → Result Answer StoreFault → (Book → Type 0) → Type 0
 Goes old call result new = (identity : Identity) (key : List ℕ) (H : List Pair) (m : Message) → IsAsked old call identity key H m → GoesOn identity key H m result new
 
@@ -76,8 +76,8 @@ abbrev pub LeavesOn : {Kept : Type 0} → (keeps : Kept → Book → Type 0) →
 LeavesOn keeps old identity key H m (Ok a) k = IsLeft (writes_on (book_of identity key H) m) (keeps k (book_after identity key H m)) (old k)
 LeavesOn keeps old identity key H m (Err fault) k = old k ⊎ keeps k (book_after identity key H m)
 
--- A crash after the call leaves what keeps the book of the history with this pair, where the call wrote, and
--- what it could leave before, where it wrote nothing; where the store could not act, either.
+-- If the call wrote, a crash after it leaves a form of the book of the history with this pair; if it wrote nothing,
+-- what a crash could leave before; and if the store failed, either.
 abbrev pub LeavesBook : {Kept : Type 0} → (keeps : Kept → Book → Type 0) → (holds : Book → Type 0) → (old : Kept → Type 0) → Call → Result Answer StoreFault → (new : Kept → Type 0) → Type 0
 LeavesBook {Kept} keeps holds old call result new =
     (identity : Identity) (key : List ℕ) (H : List Pair) (m : Message) (k : Kept) → IsAsked holds call identity key H m → new k → LeavesOn keeps old identity key H m result k

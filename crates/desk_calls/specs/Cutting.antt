@@ -1,4 +1,4 @@
--- What the desk reads for a cut, and its outcome.
+-- The desk's reads for a cut, and its outcome.
 use Rattle.std.specs.Prelude.{◌≡◌, ℕ, List, map, Option, Result, Ok, Err}
 use Rattle.desk_rules.specs.declared.refusals.refusal.Refusal.{Refusal}
 use Rattle.desk_rules.specs.declared.refusals.refusal.Refusal.TheVariants.{TracesSpent, ModifiersSpent}
@@ -39,8 +39,7 @@ abbrev pub HoldsPlanned : (holds : Book → Type 0) → (before : ℕ) → Resul
 HoldsPlanned holds before (Ok p) b = HoldsFor holds (commit_cut_after before (plan_write p)) b
 HoldsPlanned holds before (Err why) b = holds b
 
--- What was planned by these reads is the cut of each book that has them, and may be written; or the store
--- could not act.
+-- The plan made from these reads is the cut of each book that has them, and may be written; or the store failed.
 abbrev pub Plans : (Book → Type 0) → CutReads → Result (Result CutPlan Refusal) StoreFault → (Book → Type 0) → Type 0
 Plans old x (Ok planned) new = (b : Book) → old b → read_in x ≡ read_on x.day b → IsPlanned planned (cut_on_day b x.day) × HoldsPlanned new x.last.place planned b
 Plans old x (Err fault) new = (b : Book) → old b → new b
@@ -53,8 +52,8 @@ refusal_of faults.ModifiersSpent = Ok ModifiersSpent
 refusal_of faults.DaysSpent = Err Unavailable
 refusal_of faults.NoMemory = Err Unavailable
 
--- Where the fault refuses a cut, the cut of the book is refused so. Where it is that one would settle too far
--- ahead, the cut of the book is not refused. So a cut that is refused has that fault, but for memory.
+-- If the fault refuses a cut, the cut of the book is refused with it. If the fault is that a submission would settle
+-- too late, the cut of the book is not refused. So a refused cut has that fault, except for lack of memory.
 abbrev pub RefusesOn : Book → CutFacts → CutFault → Type 0
 RefusesOn b x fault =
     ((why : Refusal) → refusal_of fault ≡ Ok why → IsPlanned (Err why) (cut_on_day b x.day))

@@ -1,4 +1,5 @@
--- What a call of the desk promises over its store. `g` says which books a store holds and what a crash leaves of it.
+-- The promises of the desk's calls over its store. `g` gives the books that a store holds and what a crash leaves of
+-- it.
 use Rattle.std.specs.Prelude.{ℕ, true, Result}
 use Rattle.desk_rules.specs.declared.refusals.refusal.Refusal.{Refusal}
 use Rattle.desk_history.specs.declared.answer.Answer.{Answer}
@@ -29,8 +30,8 @@ module _ {S : Type 0} (g : Ghosts S) where
   abbrev pub AnswersByBook : (old new : S) → Result Answer StoreFault → Call → Type 0
   AnswersByBook old new result call = g.is_clean new → AnswersCall (g.holds old) call result (g.holds new)
 
-  -- Where the call wrote, a crash leaves what keeps the book after its message, and where it wrote nothing, nothing
-  -- new; where the store could not act, either.
+  -- If the call wrote, a crash leaves a form of the book after its message; if it wrote nothing, nothing new; and if
+  -- the store failed, either.
   abbrev pub LeavesByBook : (old new : S) → Result Answer StoreFault → Call → Type 0
   LeavesByBook old new result call =
       g.is_clean new → LeavesMessage g.keeps (g.holds old) (g.may_leave old) call result (g.may_leave new)
@@ -46,13 +47,14 @@ module _ {S : Type 0} (g : Ghosts S) where
 
   -- ---- a command of the operator
 
-  -- It is done as the book has it: the answer is that to this message, and the store then holds the book after it.
+  -- The command is carried out as the book says: the answer is that to this message, and the store then holds the book
+  -- after it.
   abbrev pub Obeys : (old new : S) → Result Answer StoreFault → Message → Type 0
   Obeys old new result m = AnswersMessage g old new result m (λ b. answer_on b m) (λ b. after_on b m)
 
   -- ---- a cut
 
-  -- What was planned by these reads is the cut of the book that has them, or its refusal; it holds the same book.
+  -- The plan made from these reads is the cut of the book that has them, or its refusal; the store holds the same book.
   abbrev pub TellsPlan : (old new : S) → CutReads → Result (Result CutPlan Refusal) StoreFault → Type 0
   TellsPlan old new reads result = Tells g old new (Plans (g.holds old) reads result (g.holds new))
 
@@ -60,7 +62,7 @@ module _ {S : Type 0} (g : Ghosts S) where
   abbrev pub TellsPlanOrFault : (old new : S) → CutReads → Result (Result CutPlan CutFault) StoreFault → Type 0
   TellsPlanOrFault old new reads result = Tells g old new (PlansOrTells (g.holds old) reads result (g.holds new))
 
-  -- The plan of a cut is written, where so many entries were sent before, and answered by what it did.
+  -- The plan of a cut is written, given the number of entries sent before, and answered with its summary.
   abbrev pub WritesPlan : (old new : S) → (before : ℕ) → CutPlan → Result Answer StoreFault → Type 0
   WritesPlan old new before plan result =
       AnswersWhere g old new (HoldsFor (g.holds old) (commit_cut_after before (plan_write plan))) result

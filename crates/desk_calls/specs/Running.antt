@@ -25,7 +25,7 @@ pub record Takes {S Kept : Type 0} (holds : S → Book → Type 0) (keeps : Kept
   pub left : LeavesBook keeps (holds before) (may_leave before) x.call x.result (may_leave after)
   pub read : IsReadCall x.call → LeavesRead (may_leave before) (may_leave after)
 
--- and calls do so one after another, of which the newest stands first
+-- and so on for calls one after another; the newest comes first
 abbrev pub TakeOn : {S Kept : Type 0} → (holds : S → Book → Type 0) → (keeps : Kept → Book → Type 0) → (may_leave : S → Kept → Type 0) → (start : S) → List MadeCall → (end : S) → Type 0
 TakeOn holds keeps may_leave start [] end = start ≡ end
 TakeOn {S} holds keeps may_leave start (x ∷ xs) end = (before : S) × TakeOn holds keeps may_leave start xs before × Takes holds keeps may_leave before x end

@@ -1,4 +1,4 @@
--- What the desk reads of companies.
+-- The desk's reads about companies.
 use Rattle.std.specs.Prelude.{ℕ, List, map, Option}
 use Rattle.desk_rules.specs.declared.bodies.company.Company.{Company}
 use Rattle.desk_history.specs.declared.status.CompanyStatus.{CompanyStatus}

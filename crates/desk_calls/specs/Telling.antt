@@ -1,4 +1,4 @@
--- What a company is told of its submission and its account, and the operator of his, as the desk makes them.
+-- The reports to a company about its submission and its account, and to the operator about the operator's account.
 use Rattle.std.specs.Prelude.{ℕ, ℤ, List, map, zip}
 use Rattle.std.specs.List.{enumerate_from}
 use Rattle.desk_accounts.specs.declared.posting.Posting.{Posting}

@@ -1,4 +1,4 @@
-//! A company hands in its submissions here, and reads what it may.
+//! A company's calls: its submissions and its reads.
 pub(crate) mod reads;
 pub(crate) mod report;
 pub(crate) mod statement;

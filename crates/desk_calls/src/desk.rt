@@ -42,16 +42,18 @@ impl<S> Desk<S> {
 }
 
 impl<S: Store> Desk<S> {
-    /// Answers a call, with the one write that it makes. A refusal by a rule is an answer too, and
-    /// writes nothing; nor does what was accepted before and is sent again.
+    /// Answers a call, with at most one write. A refusal by a rule is an answer too, and writes
+    /// nothing; nor does a request that was accepted before and is sent again. The answer is
+    /// complete before the write, so that everything written is answered.
     ///
-    /// The error `Unavailable` says that the desk is out of memory or the store could not act: the store
-    /// holds the book that it held, and the call may be made again. The answer is made before the
-    /// write, so that what was written is answered.
+    /// By the clauses `answers`, `leaves` and `book` this holds for whatever book the store holds,
+    /// and by the others for the history that the book stands for. By `read` a call that only
+    /// reads, answered or not, changes nothing that a crash may leave.
     ///
-    /// By the clauses `answers`, `leaves` and `book` it is so of whatever book the store holds, and by
-    /// the others of the history that the book stands for. By `read` a call that only asks, answered or
-    /// not, changes nothing that a crash may leave.
+    /// # Errors
+    ///
+    /// `Unavailable` if the desk is out of memory or the store failed: the store holds the book
+    /// that it held, and the call can be repeated.
     pub fn apply(&mut self, alloc: Global, call: Call) -> Result<Answer, StoreFault>
         ensures before { S.is_clean self.new → S.is_clean self.old }
         ensures answers { AnswersByBook S.Store self.old self.new result call }
@@ -69,8 +71,12 @@ impl<S: Store> Desk<S> {
         respond(&mut self.store, alloc, call)
     }
 
-    /// Is this the digest of the caller's key? The operator has one, and each registered company.
-    /// The error is `Unavailable`, where the store could not act.
+    /// Reports whether this is the digest of the caller's key. The operator has one, and each
+    /// registered company.
+    ///
+    /// # Errors
+    ///
+    /// `Unavailable` if the store failed.
     pub fn allow(
         &mut self,
         alloc: Global,

@@ -12,19 +12,19 @@ pub fn two_desks<S: Store, T: Store>()
     desk_history::two_worlds();
 }
 
-/// A desk and one that serves the company alone give its call the same answer where both stores
-/// could act: the latter after the history of `served_alone`, of the messages that gave the company
-/// its events. So it is where the whole desk sent at most 9,999,999 entries and the company had
-/// fewer than 10^21 returns and changes.
+/// A desk and one that serves the company alone give its call the same answer, if neither store
+/// failed: the latter after the history of `served_alone`, made of the messages that gave the
+/// company its events. This holds if the whole desk sent at most 9,999,999 entries and the company
+/// had fewer than 10^21 returns and changes.
 pub fn desk_alone<S: Store, T: Store>()
     ensures { DeskAlone S.holds T.holds }
 {
     desk_history::served_alone();
 }
 
-/// After calls that were made one after another, some of them answered and some not, the store holds
-/// the book of the history with those that were answered. A crash then leaves that book, or the book
-/// with one call more: one that is no read and was not answered, and after which no call that wrote was.
+/// After calls made one after another, some answered and some not, the store holds the book of the
+/// history with those that were answered. A crash then leaves that book, or the book with one call
+/// more: one that is not a read, was not answered, and was not followed by a call that wrote.
 pub fn crashes_leave<S: Store>()
     ensures { CrashesLeave S.holds S.keeps S.may_leave }
 {

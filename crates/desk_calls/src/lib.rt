@@ -1,7 +1,7 @@
-//! This crate is the desk: its calls and their answers, over any store.
+//! The desk: its calls and their answers, over any store.
 //!
-//! What the desk means stands in `desk_history`, what it keeps in `desk_store`, and what its book
-//! tells in `desk_book`.
+//! The meaning of the desk is defined in `desk_history`, its store in `desk_store`, and the book of
+//! a store in `desk_book`.
 #![tactic(auto)]
 
 mod company;

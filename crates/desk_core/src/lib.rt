@@ -1,8 +1,8 @@
-//! This crate has the names under which a desk is built on: its calls and their answers, over any store,
-//! and the two stores in memory, of which the one refuses a call, for tests.
+//! The names to build a desk on: its calls and their answers, over any store, and the two stores in
+//! memory, one of which refuses a call, for tests.
 //!
-//! What the desk means stands in `desk_history`, what it keeps in `desk_store`, what its book tells in
-//! `desk_book`, and how it answers in `desk_calls`. No crate of the desk stands on this one, so that none
+//! The meaning of the desk is defined in `desk_history`, its store in `desk_store`, its book in
+//! `desk_book`, and its answers in `desk_calls`. No crate of the desk uses this one, so that none
 //! waits for what it does not use.
 #![tactic(auto)]
 

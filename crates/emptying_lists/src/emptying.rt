@@ -4,12 +4,12 @@ ghost use Rattle.emptying_lists.specs.Emptying.{TakesFirst};
 
 use std::marker::Model;
 
-/// Memory is let go after so many items.
+/// The number of taken items after which memory is freed.
 const PIECE: usize = 4_096;
 
-/// An `EmptyingList` is a list whose items are taken one after another, from the first. It has memory for
-/// the items that are left and at most 4,096 more, so what is made of them may take their place. Contracts
-/// see the items that are left.
+/// A list whose items are taken one after another, from the first. It has memory for the items that
+/// are left and at most 4,096 more, so the results made of them may take their place. Contracts see
+/// the items that are left.
 #[derive(Drop)]
 pub struct EmptyingList<T> {
     // The last one first.
@@ -34,7 +34,7 @@ impl<T> EmptyingList<T> {
         EmptyingList { backwards }
     }
 
-    /// Takes the first item, and gives `None` where there is none.
+    /// Takes the first item. Returns `None` if there is none.
     pub fn take_first(&mut self) -> Option<T>
         ensures { TakesFirst self.old self.new result }
     {

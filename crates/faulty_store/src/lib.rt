@@ -1,5 +1,4 @@
-//! This crate has a store in memory that refuses one call, to try what a desk makes of it. No program
-//! stands on it.
+//! A store in memory that refuses one call, to test how a desk reacts. No program uses it.
 #![tactic(auto)]
 
 mod store;

@@ -56,7 +56,7 @@ abbrev pub is_command : Answer → Bool
 is_command (answers.Done outcome) = is_of_command outcome
 is_command (answers.Refused why) = false
 
--- its body is short: of a cut at most 36 files are told, which is the most that a day has
+-- its body is short: a cut lists at most 36 files, the most that a day has
 abbrev pub IsShort : Outcome → Type 0
 IsShort (outcomes.Cut cut) = length cut.files ≤ 36
 IsShort outcome = ⊤

@@ -1,4 +1,4 @@
--- The bodies of what a company is told, each with its keys in byte order.
+-- The bodies of answers to a company, each with its keys in byte order.
 use Rattle.std.specs.Prelude.{ℕ, Bool, List, [], ◌∷◌, ◌++◌, codes, decimal, Option, Some, None}
 use Rattle.std.specs.Fmt.{signed_decimal}
 use Rattle.serde_json.specs.Data.{Data, number, unsigned, string, boolean}
@@ -48,7 +48,7 @@ sent_members cents index settled =
     ∷ (codes "settled", string (day_text settled))
     ∷ (codes "state", string (codes "sent")) ∷ []
 
--- and one that came back, also with its return
+-- and a returned one, also with its return
 abbrev pub returned_members : (cents index settled code returned : ℕ) → (late : Bool) → List (List ℕ × Data)
 returned_members cents index settled code returned late =
     (codes "cents", number (unsigned cents))

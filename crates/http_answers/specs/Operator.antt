@@ -1,4 +1,4 @@
--- The bodies of what the operator is told, each with its keys in byte order.
+-- The bodies of answers to the operator, each with its keys in byte order.
 use Rattle.std.specs.Prelude.{ℕ, List, [], ◌∷◌, codes}
 use Rattle.std.specs.Fmt.{signed_decimal}
 use Rattle.serde_json.specs.Data.{Data, number, unsigned, string}

@@ -12,7 +12,7 @@ use Rattle.http_json.specs.Members.{object_of}
 use Rattle.desk_history.specs.declared.answer.CallRefusal.{CallRefusal}
 use Rattle.desk_history.specs.declared.answer.CallRefusal.TheVariants as refusals
 
--- what is wrong with a holiday list, and in which row of it; 0 where it stands in none
+-- the fault of a holiday list, and its row; 0 if it belongs to none
 abbrev pub calendar_fault_name : CalendarFault → List ℕ
 calendar_fault_name (BadRow row) = codes "BadRow"
 calendar_fault_name (NotAscending row) = codes "NotAscending"
@@ -25,7 +25,7 @@ calendar_fault_row (NotAscending row) = row
 calendar_fault_row TooMany = 0
 calendar_fault_row NoMemory = 0
 
--- the fault of a file, and the record in which it stands
+-- the fault of a file, and its record
 abbrev pub bad_file_members : Fault → List (List ℕ × Data)
 bad_file_members fault =
     (codes "error", string (text_of names.BadFile))
@@ -36,7 +36,7 @@ bad_file_members fault =
 abbrev pub bad_file_body : Fault → Data
 bad_file_body fault = object_of (bad_file_members fault)
 
--- the fault of a holiday list, and the row in which it stands
+-- the fault of a holiday list, and its row
 abbrev pub bad_calendar_members : CalendarFault → List (List ℕ × Data)
 bad_calendar_members fault =
     (codes "error", string (text_of names.BadCalendar))

@@ -1,4 +1,4 @@
--- The body of how the desk stands, with its keys in byte order.
+-- The body of the desk's status, with its keys in byte order.
 use Rattle.std.specs.Prelude.{ℕ, List, [], ◌∷◌, codes, Option, Some, None}
 use Rattle.std.specs.Fmt.{decimal}
 use Rattle.serde_json.specs.Data.{Data, null, number, unsigned, string}
@@ -50,7 +50,7 @@ abbrev pub day_or_null : Option ℕ → Data
 day_or_null None = null
 day_or_null (Some day) = string (day_text day)
 
--- how each company stands
+-- the status of each company
 abbrev pub companies_body : List CompanyStatus → Data
 companies_body companies = list_of company_status_body companies
 

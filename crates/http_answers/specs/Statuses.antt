@@ -15,7 +15,7 @@ use Rattle.http_answers.specs.declared.statuses.CallKind.{CallKind}
 use Rattle.http_answers.specs.declared.statuses.CallKind.TheVariants as kinds
 use Rattle.http_answers.specs.Refusals.{refusal_status}
 
--- how the status of what a message did is told
+-- how the HTTP status of a message's answer is decided
 abbrev pub kind_of : Message → CallKind
 kind_of (Of company (request.Submit draft)) = kinds.Creates
 kind_of (Of company (request.Retry draft)) = kinds.Creates

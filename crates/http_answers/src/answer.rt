@@ -20,11 +20,11 @@ use std::alloc::{AllocError, Global};
 /// The room that the body of what a command did needs.
 pub const BODY_ROOM: usize = 640;
 
-/// Appends the body of an answer. The caller has taken room for 640 more bytes, which is enough for what
-/// a command did: only the answer to a read, or a refusal, takes memory.
+/// Appends the body of an answer. The caller has reserved 640 more bytes, which is enough for the
+/// result of a command: only the answer to a read, or a refusal, takes memory.
 ///
-/// The rows of an answer are let go as they are written. Of a cut at most 36 files are told. No cut makes
-/// more on a day.
+/// The rows of an answer are dropped as they are written. A cut lists at most 36 files, the most
+/// that a day has.
 pub fn write_answer(alloc: Global, text: &mut Vec<u8>, answer: Answer) -> Result<(), AllocError>
     requires { vec_len text.old + BODY_ROOM ≤ vec_capacity text.old }
     ensures body { OnOk result (GainsAnswer text.old text.new answer) }
@@ -75,7 +75,7 @@ fn write_outcome(alloc: Global, text: &mut Vec<u8>, outcome: Outcome) -> Result<
     }
 }
 
-// What a command did, into the room.
+// Writes the result of a command, into the reserved room.
 fn put_outcome(text: &mut Vec<u8>, outcome: &Outcome)
     requires { vec_len text.old + BODY_ROOM ≤ vec_capacity text.old }
     ensures body { is_of_command outcome.now ≡ true → GainsShort text.old text.new outcome.now }
@@ -106,7 +106,7 @@ fn put_receipt(text: &mut Vec<u8>, receipt: &Receipt)
     );
 }
 
-// What was looked up, with growth.
+// Writes the result of a read, with growth.
 fn add_outcome(alloc: Global, text: &mut Vec<u8>, outcome: Outcome) -> Result<(), AllocError>
     ensures { OnOk result (is_of_command outcome ≡ false → GainsOutcome text.old text.new outcome) }
 {

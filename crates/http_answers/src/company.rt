@@ -1,4 +1,4 @@
-//! The bodies of what a company is told.
+//! The bodies of answers to a company.
 
 mod changes;
 mod exposure;

@@ -6,12 +6,12 @@ use http::StatusCode;
 use http_json::fault_text;
 use std::alloc::{AllocError, Global};
 
-/// A `MessageFault` says why a message is no call of the desk, or what it looked for and did not find.
+/// The reason why a message is not a call of the desk, or the thing that a read did not find.
 #[derive(Clone, Copy, Debug, PartialEq, Eq, Drop)]
 pub enum MessageFault {
-    /// The head is no head of HTTP/1.1, or is too large.
+    /// The head is not a head of HTTP/1.1, or is too large.
     BadHead,
-    /// The head does not say how many bytes the body has.
+    /// The head does not give the number of bytes of the body.
     LengthRequired,
     /// The body has more than 4,194,304 bytes.
     TooLarge,
@@ -19,9 +19,9 @@ pub enum MessageFault {
     NotFound,
     /// The path's route takes another method.
     BadMethod,
-    /// The caller is not known, or the key is not its own. Which of the two is not told.
+    /// The caller is unknown, or the key is not its own. The answer does not say which.
     Denied,
-    /// The body is no JSON, or no object.
+    /// The body is not JSON, or not an object.
     BadJson,
     /// The company has no submission and no retry with this reference.
     NoReference,

@@ -1,8 +1,8 @@
-//! This crate writes the bodies of the desk's answers, and tells their HTTP statuses.
+//! Writes the bodies of the desk's answers, and gives their HTTP statuses.
 //!
-//! A body is compact JSON with its keys in byte order, but that of a file is the file's text. What a
-//! command did is written into room that was taken before the command, so that nothing can fail once
-//! the desk has committed to it. What was looked up is written with growth.
+//! A body is compact JSON with its keys in byte order, except that of a file, which is the file's
+//! text. The result of a command is written into room that was reserved before the command, so that
+//! nothing can fail once the desk has committed to it. The result of a read is written with growth.
 #![tactic(auto)]
 
 mod answer;

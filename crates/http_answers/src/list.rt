@@ -11,7 +11,7 @@ use std::alloc::AllocError;
 /// The room that is taken for an object of a list, or for the members around a list.
 pub(crate) const ROW_ROOM: usize = 1_024;
 
-/// About so many bytes a long list has for each object.
+/// The approximate bytes of each object in a long list.
 const ROW_LENGTH: usize = 128;
 
 /// A `Row` is an object in a list of a body.
@@ -20,7 +20,7 @@ pub(crate) trait Row {
     ghost use Rattle.serde_json.specs.Data.{Data};
     ghost use Rattle.http_json.specs.Gains.{GainsValue};
 
-    /// What it is in JSON.
+    /// The row in JSON.
     ghost body: { Self → Data };
 
     /// Appends it.

@@ -1,4 +1,4 @@
-//! The bodies of what the operator is told.
+//! The bodies of answers to the operator.
 
 mod cut;
 mod intake;

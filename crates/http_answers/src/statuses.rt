@@ -7,7 +7,7 @@ use desk_history::{Answer, Call, Outcome};
 use http::StatusCode;
 use http_response::Content;
 
-/// A `CallKind` says how the HTTP status of a call that was not refused is told.
+/// The rule for the HTTP status of a call that was not refused.
 #[derive(Clone, Copy, Debug, PartialEq, Eq, Drop)]
 pub enum CallKind {
     /// The call creates something, or created it before: 201.
@@ -34,8 +34,8 @@ pub fn one_kind()
     ensures { OneKind }
 {}
 
-/// Gives the HTTP status of the answer to a call of this kind: 200, 201 or 404 where it was done, and
-/// that of the refusal, 409 or 422, where it was refused.
+/// Returns the HTTP status of the answer to a call of this kind: 200, 201 or 404 if it was done,
+/// and that of the refusal, 409 or 422, if it was refused.
 pub fn status_of(kind: CallKind, answer: &Answer) -> StatusCode
     ensures { result ≡ status_of kind answer.now }
 {

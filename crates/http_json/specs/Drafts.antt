@@ -101,7 +101,7 @@ company_draft_of digest d = record {
 abbrev pub limits_draft_of : Data → LimitsDraft
 limits_draft_of d = record { id = text_at field.Id d; limits = limit_drafts_of d }
 
--- An object has a text under one of these keys. It is copied, so that only then memory can run out.
+-- An object has a text under one of these keys. It is copied, so only then can memory run out.
 abbrev pub HasText : List Field → Data → Type 0
 HasText fields d = Any (λ f. IsSome (text_at f d)) fields
 

@@ -1,4 +1,4 @@
--- What a text that is written gains at its end.
+-- What a write appends to a text.
 use Rattle.std.specs.Prelude.{◌≡◌, ℕ, Bool, List, ◌++◌, Vec}
 use Rattle.std.specs.declared.alloc.Global.{Global}
 use Rattle.serde_json.specs.Data.{Data}

@@ -13,11 +13,11 @@ members_of (m ∷ ms) = member m.0 m.1 (members_of ms)
 abbrev pub object_of : List (List ℕ × Data) → Data
 object_of ms = object (members_of ms)
 
--- the text of a member: a comma where one stands before it, its key, a colon and its value
+-- the text of a member: a comma if another one comes before it, its key, a colon and its value
 unfoldable pub member_text : (later : Bool) → (key : List ℕ) → Data → List ℕ
 member_text later key value = comma_if later ++ (quoted key ++ 58 ∷ compact_text value)
 
--- the text of members that stand behind another
+-- the text of members that follow another
 abbrev pub more_members_text : List (List ℕ × Data) → List ℕ
 more_members_text [] = []
 more_members_text (m ∷ ms) = member_text true m.0 m.1 ++ more_members_text ms

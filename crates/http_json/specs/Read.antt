@@ -1,4 +1,4 @@
--- What a body is in JSON.
+-- The JSON of a body.
 use Rattle.std.specs.Prelude.{ℕ, List, Option, None, option_map, option_and_then, if◌then◌else◌}
 use Rattle.std.specs.Str.{is_utf8}
 use Rattle.serde_json.specs.Data.{Data}

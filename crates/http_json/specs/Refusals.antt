@@ -26,7 +26,7 @@ bad_field_body key index = object
     (member (codes "index") (number (unsigned index))
     (member (codes "number") (number (unsigned 2)) no_members))))
 
--- the body of a refused retry of an entry that came back with this code
+-- the body of a refused retry of an entry that was returned with this code
 abbrev pub not_retryable_text_body : (code : List ℕ) → Data
 not_retryable_text_body code = object
     (member (codes "code") (string code)

@@ -1,5 +1,5 @@
 //! The body of an accepted submission or retry. It is written without growth, so that an answer is
-//! whole before the desk commits to it.
+//! complete before the desk commits to it.
 ghost use Rattle.std.specs.Prelude.{◌≤◌, ◌+◌, vec_len, vec_capacity};
 ghost use Rattle.http_json.specs.Acceptance.{acceptance_body};
 ghost use Rattle.http_json.specs.Gains.{GainsValue};

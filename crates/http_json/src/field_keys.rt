@@ -1,4 +1,4 @@
-//! The keys of bodies: each stands here once.
+//! The keys of bodies, each written once.
 ghost use Rattle.std.specs.Prelude.{◌≡◌};
 ghost use Rattle.http_json.specs.FieldKeys.{key_of};
 

@@ -62,7 +62,7 @@ fn put_byte(text: &mut Vec<u8>, byte: u8)
     }
 }
 
-// Does each byte stand for itself?
+// Reports whether no byte needs an escape.
 fn is_plain(value: &[u8]) -> bool
     ensures { result ≡ true → escape value.now ≡ value.now }
 {

@@ -6,10 +6,12 @@ ghost use Rattle.http_json.specs.Read.{json_of, object_in, object_of};
 use serde_json::{Category, Value};
 use std::alloc::{AllocError, Global};
 
-/// Gives the JSON object that a body is, or `None` where it is no JSON or no object. It fails only
-/// where it is out of memory.
+/// Returns the JSON object of a body, or `None` if the body is not JSON or not an object. A body is
+/// read to a depth of 127; if an object has a key twice, the last value counts.
 ///
-/// A body is read to a depth of 127, and of a key that an object has twice the last value counts.
+/// # Errors
+///
+/// Lack of memory only.
 pub fn read_object(alloc: Global, body: &[u8]) -> Result<Option<Value>, AllocError>
     ensures { IfOk result (λ v. option_map view v ≡ object_of body.now) }
 {

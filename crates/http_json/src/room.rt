@@ -13,7 +13,7 @@ pub fn put(text: &mut Vec<u8>, bytes: &[u8])
     text.extend_from_slice(bytes).unwrap();
 }
 
-/// Appends a comma where something stands before.
+/// Appends a comma if something comes before.
 pub fn put_comma(text: &mut Vec<u8>, later: bool)
     requires { vec_len text.old + 1 ≤ vec_capacity text.old }
     ensures items { Gains text.old text.new (comma_if later) }

@@ -1,4 +1,4 @@
--- What holds of responses.
+-- Facts about responses.
 use Rattle.std.specs.Prelude.{◌≡◌, true, codes}
 use Rattle.http_response.specs.Response.{response_text, unavailable_text}
 use Rattle.http_response.specs.declared.response.Content.TheVariants.{Json}

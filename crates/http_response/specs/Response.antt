@@ -22,7 +22,7 @@ connection closes = if closes then codes "close" else codes "keep-alive"
 unfoldable pub line : List ℕ → List ℕ → List ℕ
 line name value = name ++ value ++ crlf
 
--- the size of what is written with such a line behind it
+-- the size of a text with such a line after it
 abbrev pub size_with_line : (written name value : List ℕ) → ℕ
 size_with_line written name value = length written + length name + length value + 2
 
@@ -42,7 +42,7 @@ header_lines content closes size =
 abbrev pub response_text : ℕ → Content → Bool → List ℕ → List ℕ
 response_text status content closes body = status_line status ++ header_lines content closes (length body) ++ body
 
--- all of a response but its body, of which this is the size
+-- all of a response except its body, which has this size
 abbrev pub head_text : ℕ → Content → Bool → ℕ → List ℕ
 head_text status content closes size = status_line status ++ header_lines content closes size
 

@@ -7,7 +7,8 @@ use crate::response::Content;
 use http::StatusCode;
 use std::alloc::{AllocError, Global};
 
-/// Moves so many bytes of a room to its end, and puts others before them that fill the rest of it.
+/// Moves this many bytes of a room to its end, and puts others before them that fill the rest of
+/// it.
 fn move_behind(room: &mut [u8], first: &[u8], size: usize)
     requires { length room.old ≡ length first.now + size }
     ensures { room.new ≡ first.now ++ take size room.old }

@@ -1,4 +1,4 @@
--- What is known stays right.
+-- Remembered sums stay correct.
 use Rattle.std.proofs.Common.{◌≡◌, ◌∙◌, refl, ap, sym, subst, ℕ, Bool, true, false, List, Option, Some, None, cond}
 use Rattle.std.specs.Prelude.{if◌then◌else◌, IfSome, bytes_eq, option_and_then, Result, Ok, Err}
 use Rattle.std.specs.BTreeMap.{BTreeMap, get, is_at}

@@ -1,4 +1,4 @@
--- What is remembered of a book, and when it is right.
+-- The sums that are remembered of a book, and when they are correct.
 use Rattle.std.specs.Prelude.{◌≡◌, ℕ, Bool, false, ◌&&◌, nat_le, if◌then◌else◌, List, Option, Some, None, IfSome, bytes_eq}
 use Rattle.std.specs.BTreeMap.{get}
 use Rattle.desk_book.specs.Book.{Book}
@@ -21,7 +21,7 @@ KnowsRight m b = (k : CompanyKey) → IfSome (get company_cmp m.companies k) (Is
 abbrev pub KnowsNothing : Known → Type 0
 KnowsNothing m = (b : Book) → KnowsRight m b
 
--- a value is what each book gives of which all that is known is right
+-- a value that every book has for which all remembered sums are correct
 abbrev pub IsKnown : {A : Type 0} → Known → (Book → A) → A → Type 0
 IsKnown m of x = (b : Book) → KnowsRight m b → x ≡ of b
 
@@ -29,7 +29,7 @@ IsKnown m of x = (b : Book) → KnowsRight m b → x ≡ of b
 abbrev pub StaysRight : (Book → Type 0) → (old new : Known) → Type 0
 StaysRight such old new = (b : Book) → such b → KnowsRight old b → KnowsRight new b
 
--- a store's book, where what is known of it is right
+-- a store's book, for which the remembered sums are correct
 abbrev pub HoldsKnown : (Book → Type 0) → Known → Book → Type 0
 HoldsKnown holds m b = holds b × KnowsRight m b
 
@@ -50,11 +50,11 @@ pub record Grows (company : List ℕ) (debit : Bool) (cents : ℕ) (before after
 abbrev pub OthersHaveSame : (before after : Book) → (company : List ℕ) → Type 0
 OthersHaveSame before after company = (of : List ℕ) → bytes_eq company of ≡ false → HasSame before after of
 
--- what is known of a book is right of the next one, where the step from one to the other is such
+-- sums that are correct for a book are correct for the next one, if the step from one to the other has this property
 abbrev pub StaysRightOver : (Book → Book → Type 0) → (old new : Known) → Type 0
 StaysRightOver such old new = (before after : Book) → such before after → KnowsRight old before → KnowsRight new after
 
--- it is, where the company has these sums then, and all others have the same
+-- they are, if the company then has these sums and all others have the same
 abbrev pub StaysRightWith : (company : List ℕ) → CompanySums → (old new : Known) → Type 0
 StaysRightWith company sums old new = (before after : Book) → IsRight after company sums
     → OthersHaveSame before after company → KnowsRight old before → KnowsRight new after

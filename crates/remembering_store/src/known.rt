@@ -1,4 +1,4 @@
-//! What is remembered of companies stands in a map.
+//! The remembered sums of companies, in a map.
 ghost use Rattle.std.specs.Prelude.{◌≡◌, IfSome, option_and_then};
 ghost use Rattle.desk_book.specs.Book.{Book};
 ghost use Rattle.desk_book.specs.Sums.{exposures_of, rates_of};
@@ -29,7 +29,7 @@ pub(crate) struct Known {
     companies: BTreeMap<CompanyKey, CompanySums>,
 }
 
-// Gives exposures with more cents in a direction, where they are kept.
+// Returns exposures with more cents in a direction, if they are small enough to keep.
 fn with_cents(sums: (u128, u128), debit: bool, cents: u128) -> Option<(u128, u128)>
     ensures { result ≡ kept_with debit cents sums }
 {
@@ -43,7 +43,7 @@ fn with_cents(sums: (u128, u128), debit: bool, cents: u128) -> Option<(u128, u12
     }
 }
 
-// The same, where exposures are known.
+// The same, if exposures are known.
 fn grown(exposures: Option<(u128, u128)>, debit: bool, cents: u128) -> Option<(u128, u128)>
     ensures { result ≡ option_and_then (kept_with debit cents) exposures }
 {
@@ -70,7 +70,7 @@ impl Known {
         self.companies.clear();
     }
 
-    // Puts what is known of a company now; where there is no room, all is forgotten.
+    // Stores a company's sums. Without memory for them, all are forgotten.
     fn put(&mut self, company: Id, sums: CompanySums)
         ensures { StaysRightWith company sums self.old self.new }
     {
@@ -94,14 +94,14 @@ impl Known {
         }
     }
 
-    /// Gives a company's exposures on a day, where they are known.
+    /// Returns a company's exposures on a day, if they are known.
     pub(crate) fn exposures(&self, company: Id, day: Day) -> Option<(u128, u128)>
         ensures { IfSome result (IsKnown self.now (exposures_of company day)) }
     {
         self.on(company, day).exposures
     }
 
-    /// Gives a company's return rates on a day, where they are known.
+    /// Returns a company's return rates on a day, if they are known.
     pub(crate) fn rates(&self, company: Id, day: Day) -> Option<Rates>
         ensures { IfSome result (IsKnown self.now (rates_of company day)) }
     {
@@ -136,7 +136,7 @@ impl Known {
         );
     }
 
-    /// Adds cents to a company's exposure of a direction, where it is known.
+    /// Adds cents to a company's exposure in a direction, if it is known.
     pub(crate) fn grow(&mut self, company: Id, debit: bool, cents: u128)
         ensures { StaysRightOver (Grows company debit cents) self.old self.new }
     {

@@ -1,4 +1,4 @@
-//! What a company reads: its returns, changes, submissions, statement, rates and exposure.
+//! A company's reads: its returns, changes, submissions, statement, rates and exposure.
 ghost use Rattle.desk_history.specs.Request as request;
 ghost use Rattle.desk_admission.specs.Answering.{Answers};
 ghost use Rattle.desk_admission.specs.OverStores.{RepliesAsked};

@@ -1,4 +1,4 @@
-//! What a company is told of its submission.
+//! The report of a company's submission.
 ghost use Rattle.std.specs.Prelude.{◌≡◌, IfOk, option_map};
 ghost use Rattle.desk_history.specs.Reports.{retried_entry};
 ghost use Rattle.desk_book.specs.OnBook.{row_report};

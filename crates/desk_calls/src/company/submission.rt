@@ -1,4 +1,4 @@
-//! A company hands in a submission.
+//! A company's submission.
 ghost use Rattle.std.specs.Prelude.{◌≡◌};
 ghost use Rattle.desk_history.specs.Request as request;
 ghost use Rattle.desk_history.specs.Acceptance.{is_same_submission};
@@ -86,8 +86,8 @@ fn submission_verdict<S: Store>(
     }
 }
 
-/// Adds a company's submission, or refuses it. What was accepted before under its reference is
-/// answered as it was the first time, and nothing is added.
+/// Adds a company's submission, or refuses it. A submission that was accepted before under its
+/// reference gets its first answer, and nothing is added.
 pub(crate) fn submit<S: Store>(
     store: &mut S,
     alloc: Global,

@@ -100,7 +100,7 @@ fn plan<S: Store>(
     }
 }
 
-// Writes a plan, after so many entries that were sent before, and answers.
+// Writes a plan, given the number of entries sent before, and answers.
 fn write<S: Store>(
     store: &mut S,
     alloc: Global,

@@ -1,4 +1,4 @@
-//! What the operator reads: files, the settlement account and suspense.
+//! The operator's reads: files, the settlement account and suspense.
 ghost use Rattle.std.specs.Prelude.{◌≡◌, map, IfOk};
 ghost use Rattle.desk_history.specs.Postings.{day_sum};
 ghost use Rattle.desk_admission.specs.Answering.{Answers};
@@ -64,7 +64,7 @@ fn sums_of(alloc: Global, rows: &[(Day, i128)]) -> Result<Vec<DaySum>, AllocErro
     Ok(sums)
 }
 
-/// Answers with what stands in suspense.
+/// Answers with the items in suspense.
 pub(crate) fn suspense_items<S: Store>(store: &mut S, alloc: Global) -> Result<Answer, StoreFault>
     ensures { AnswersAsked S.Store store.old store.new result suspense_answer }
 {

@@ -1,4 +1,4 @@
-//! What the operator sets: days, holidays, companies and limits.
+//! The operator's settings: days, holidays, companies and limits.
 ghost use Rattle.std.specs.Prelude.{◌≡◌};
 ghost use Rattle.bank_days.specs.HolidayList.{holidays_in};
 ghost use Rattle.desk_history.specs.Message.{SetDay, SetHolidays, PutCompany, PutLimits};

@@ -1,4 +1,4 @@
-//! The operator reads how the desk stands.
+//! The operator's read of the desk's status.
 ghost use Rattle.std.specs.Prelude.{◌≡◌, take, IfOk};
 ghost use Rattle.desk_plan.specs.Modifiers.{modifiers};
 ghost use Rattle.desk_history.specs.Status.{modifiers_on};
@@ -32,7 +32,7 @@ fn status_of<S: Store>(
     }
 }
 
-// What each of these companies has waiting.
+// Returns what each of these companies has waiting.
 fn statuses_of<S: Store>(
     store: &mut S,
     alloc: Global,
@@ -94,7 +94,7 @@ fn day_of(day: &Option<RuleDay>) -> Option<Day>
     }
 }
 
-/// Answers with how the desk stands.
+/// Answers with the desk's status.
 pub(crate) fn status<S: Store>(store: &mut S, alloc: Global) -> Result<Answer, StoreFault>
     ensures { AnswersAsked S.Store store.old store.new result status_answer }
 {

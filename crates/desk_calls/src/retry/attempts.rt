@@ -27,7 +27,7 @@ fn entry_numbered(entries: &[Entry], index: u64) -> Option<Entry>
     }
 }
 
-/// Gives the live debit with this number in a submission that is no retry.
+/// Returns the live debit with this number in a submission that is not a retry.
 pub(crate) fn entry_named(row: &Row, index: u64) -> Option<Entry>
     ensures { result ≡ live_debit row.now.content row.now.retry index }
 {

@@ -1,4 +1,4 @@
-//! The body of how the desk stands.
+//! The body of the desk's status.
 ghost use Rattle.std.specs.Prelude.{◌≤◌, ◌+◌, ◌*◌, codes, false, length, true, OnOk, vec_len, vec_capacity};
 ghost use Rattle.http_json.specs.Gains.{GainsMember, GainsValue};
 ghost use Rattle.http_answers.specs.Lists.{GainsRow, GainsRows};
@@ -12,7 +12,7 @@ use emptying_lists::EmptyingList;
 use http_json::{put, put_comma, put_decimal, put_key, put_number, put_quoted, put_text};
 use std::alloc::AllocError;
 
-/// Appends the body of how the desk stands.
+/// Appends the body of the desk's status.
 pub(crate) fn add_status(text: &mut Vec<u8>, status: DeskStatus) -> Result<(), AllocError>
     ensures { OnOk result (GainsValue text.old text.new (status_body status)) }
 {
