@@ -78,7 +78,7 @@ fn entry(rt: &impl Abort) -> Entry {
     }
 }
 
-// So many of them.
+// Returns this many of them.
 fn entries(rt: &(impl Abort + Alloc<A = Global>), count: u32) -> Result<Entries, Fail> {
     let mut entries = Entries::new(rt.alloc(), entry(rt))?;
     for _ in 1..count {
@@ -229,7 +229,7 @@ fn posts_both_totals(rt: &impl Abort, plan: &CutPlan) {
     assert!(rt; bakery.account == Account::Company(id));
 }
 
-// The plan says so much of what it has done, and its first file is this.
+// Checks the plan's counts and its first file.
 fn ends_in(rt: &impl Abort, plan: &CutPlan, entries: u64, lapsed: u64, text: &[u8]) {
     assert!(rt; plan.done.entries == entries);
     assert!(rt; plan.done.lapsed == lapsed);
@@ -275,7 +275,7 @@ fn a_day_has_36_files(rt: HostRuntime) -> Result<(), Fail> {
     Ok(())
 }
 
-// What is sent, printed and lapses of a retry whose original settled on this day.
+// Returns the sent, printed and lapsed counts for a retry whose original settled on this day.
 fn counts_of_retry(
     rt: &(impl Abort + Alloc<A = Global>),
     original: &[u8],

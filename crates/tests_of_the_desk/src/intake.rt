@@ -89,7 +89,7 @@ fn plan_on(
     plan_intake(rt.alloc(), KEY, DIGEST, found, day(rt, text), &holidays)
 }
 
-// What the file answers: so many returns, late ones, changes and items in suspense.
+// The answer to the file: its returns, late ones, changes and items in suspense.
 fn file(
     rt: &impl Abort,
     text: &[u8],
@@ -171,7 +171,7 @@ fn returned_pair(rt: &impl Abort, text: &[u8]) -> [Posting; 2] {
     ]
 }
 
-// So many cents stand in suspense.
+// The postings of these cents in suspense.
 fn suspended_pair(rt: &impl Abort, amount: Cents) -> [Posting; 2] {
     let text = b"2025-01-14";
     let amount = amount.get() as i64;
@@ -255,7 +255,7 @@ fn the_second_return_of_a_file_is_suspended(rt: HostRuntime) {
     expect_plan(&rt, text, &[coming_back(&rt), coming_back(&rt)], &wanted);
 }
 
-// The only item of a file stands in suspense with its money.
+// Checks that the only item of a file is in suspense with its money.
 fn expect_suspended(
     rt: &(impl Abort + Alloc<A = Global>),
     item: ItemFacts,

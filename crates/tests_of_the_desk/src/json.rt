@@ -110,7 +110,7 @@ fn companies_and_their_limits_are_read(rt: HostRuntime) {
 const SUBMISSION: &[u8] =
     b"{\"ref\":5,\"ref\":\"P\",\"sec\":\"PPD\",\"direction\":\"credit\",\"description\":\"DUES\",\"day\":\"2025-01-10\",\"entries\":[7]}";
 
-// The last member of a key counts, and an entry that is no object is refused later.
+// The last member of a key counts, and an entry that is not an object is refused later.
 #[test]
 fn submissions_are_read(rt: HostRuntime) {
     let draft = submission_in(&rt, SUBMISSION);

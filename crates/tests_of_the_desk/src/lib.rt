@@ -1,18 +1,19 @@
-//! The tests of all that needs no file: of a desk, of what it is made of, and of the messages that ask it.
+//! The tests of everything that needs no file: of a desk, of its parts, and of its messages.
 //!
-//! What it is made of: fields, records and files of the ACH format (`formats`); days (`days`), the numbers
-//! of a cut (`numbers`), postings (`accounts`), the rules (`rules`), plans of cuts (`cut`) and of incoming
-//! files (`intake`), and the stores in memory (`lists`).
+//! Its parts: fields, records and files of the ACH format (`formats`); days (`days`), the numbers
+//! of a cut (`numbers`), postings (`accounts`), the rules (`rules`), plans of cuts (`cut`) and of
+//! incoming files (`intake`), and the stores in memory (`lists`).
 //!
-//! Calls: days of calls with the answers that each must have, over each store (`calls`).
+//! Calls: days of calls with their expected answers, over each store (`calls`).
 //!
-//! Messages: JSON bodies that are read and written (`json`, `members`); known bodies of answers, byte by
-//! byte, with their statuses (`bodies`); lists of entries as companies write them, each with the message or
-//! the fault that it must make (`submit`); bytes of readers with the bytes that a session must write for
-//! them (`sessions`); and the same with a desk that answers (`desks`).
+//! Messages: JSON bodies that are read and written (`json`, `members`); known bodies of answers,
+//! byte by byte, with their statuses (`bodies`); lists of entries as companies write them, each
+//! with the expected message or fault (`submit`); bytes of readers with the bytes that a session
+//! must write for them (`sessions`); and the same with a desk that answers (`desks`).
 //!
-//! They have a crate of their own so that none of these is proved once more beside them, and one crate, since
-//! such a program takes long to load and to build, whatever it tests. It has nothing but tests.
+//! The tests have a crate of their own so that none of the tested crates is proved a second time
+//! with them, and one crate, because such a program takes long to load and to build, whatever it
+//! tests.
 #![tactic(auto)]
 
 #[cfg(test)]

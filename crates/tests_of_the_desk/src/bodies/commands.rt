@@ -1,4 +1,4 @@
-//! What commands did.
+//! The bodies of commands' answers.
 use super::{cents, day, list, reference, says};
 use ach_fields::Id;
 use desk_history::{CutSummary, Intake, Outcome, Receipt};

@@ -1,4 +1,4 @@
-//! What a company is told.
+//! The bodies of answers to a company.
 use super::{cents, day, list, reference, says};
 use desk_accounts::Cause;
 use desk_history::{
@@ -146,7 +146,7 @@ fn line(rt: &impl Abort, cause: Cause, cents: i64, date: &[u8], of: (u64, &[u8])
     }
 }
 
-// With a credit of 1500.00, and a debit of 25.00 that came back.
+// A credit of 1500.00, and a returned debit of 25.00.
 #[test]
 fn a_statement(rt: HostRuntime) {
     let lines = [

@@ -12,7 +12,7 @@ use http_answers::{BODY_ROOM, write_answer};
 use std::alloc::Global;
 use std::process::Abort;
 
-/// The body of an answer, after a byte that stands before it.
+/// Returns the body of an answer, after one byte that was already there.
 fn body_of(rt: &(impl Abort + Alloc<A = Global>), answer: Answer) -> Vec<u8> {
     let mut text = Vec::with_capacity(rt.alloc(), 1 + BODY_ROOM).expect(rt, "memory");
     text.push(b'>').expect(rt, "memory");
@@ -21,7 +21,7 @@ fn body_of(rt: &(impl Abort + Alloc<A = Global>), answer: Answer) -> Vec<u8> {
     text
 }
 
-/// What was done or found has this body.
+/// Checks the body of an outcome.
 fn says(rt: &(impl Abort + Alloc<A = Global>), outcome: Outcome, body: &[u8]) {
     let text = body_of(rt, Answer::Done(outcome));
     assert!(rt; text.as_slice() == body);

@@ -1,4 +1,4 @@
-//! What the operator is told.
+//! The bodies of answers to the operator.
 use super::{cents, day, list, says};
 use ach_fields::{Id, ShortText};
 use desk_history::{
@@ -28,7 +28,7 @@ fn a_settlement(rt: HostRuntime) {
     says(&rt, Outcome::Settlement(settlement), body);
 }
 
-/// An item in suspense of a file that was taken on the 14th, and why it stands there.
+/// An item in suspense of a file that was taken on the 14th, with its reason.
 fn item(
     rt: &impl Abort,
     item: u64,

@@ -23,7 +23,7 @@ fn put_bytes(rt: &impl Abort, out: &mut String, bytes: &[u8]) {
     );
 }
 
-// A number and what stands before it. No other function has to format one: each `write!` is dear to
+// Writes a number after a text. No other function formats numbers: each `write!` is expensive to
 // prove.
 fn put_number(rt: &impl Abort, out: &mut String, before: &str, number: &impl Display) {
     put(rt, out, before);
@@ -39,7 +39,7 @@ fn put_day(rt: &impl Abort, out: &mut String, day: Day) {
     put_bytes(rt, out, &day.text());
 }
 
-// Which entry of which submission.
+// Writes the submission and number of an entry.
 fn put_place(rt: &impl Abort, out: &mut String, index: u64, reference: Ref) {
     put_number(rt, out, " ", &index);
     put(rt, out, " ");

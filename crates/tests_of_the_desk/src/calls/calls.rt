@@ -18,7 +18,7 @@ fn word(line: &str, number: usize) -> &str {
     line.split(' ').nth(number).unwrap_or("")
 }
 
-// What stands after the first two words.
+// Returns the text after the first two words.
 fn after_two_words(line: &str) -> &str {
     line.splitn(3, ' ').nth(2).unwrap_or("")
 }
@@ -66,7 +66,7 @@ fn fields<'a>(line: &'a str, item: &'a str) -> [&'a str; 4] {
     }
 }
 
-// How many entries an item stands for.
+// Returns the number of entries that an item represents.
 fn count(rt: &impl Abort, item: &str) -> u64 {
     if item.contains('/') {
         1
@@ -75,7 +75,7 @@ fn count(rt: &impl Abort, item: &str) -> u64 {
     }
 }
 
-// A prenote where there are no cents.
+// Returns an entry; without cents it is a prenote.
 fn entry(rt: &(impl Abort + Alloc<A = Global>), fields: [&str; 4]) -> EntryDraft {
     let [routing, kind, cents, info] = fields;
     let cents = number(rt, cents);
@@ -103,7 +103,7 @@ fn add_entries(
     }
 }
 
-// Behind six words stand the items.
+// Reads the items after the first six words.
 fn entries(rt: &(impl Abort + Alloc<A = Global>), line: &str) -> EntryDrafts {
     let mut entries = Vec::new(rt.alloc());
     for item in line.split(' ').skip(6) {

@@ -87,7 +87,7 @@ fn two_companies_use_one_reference(rt: HostRuntime) {
     holds(&rt, ONE_REFERENCE);
 }
 
-// What is held counts against the limit; a refused reference stays free.
+// Held entries count against the limit; a refused reference stays free.
 const LIMIT_REACHED: Script = &[
     MILL,
     DAY,
@@ -138,7 +138,8 @@ fn days_that_may_be_asked_for(rt: HostRuntime) {
     holds(&rt, DAYS_ASKED_FOR);
 }
 
-// Before any day nothing is taken, whatever it says; an unknown company is told that first.
+// Before the first day nothing is taken, whatever the content; an unknown company is refused before
+// that.
 const BEFORE_A_DAY: Script = &[
     (
         "MILL01 submit PAY-1 credit 2025-01-10 091000019 150000",
@@ -176,7 +177,7 @@ fn no_day_was_set(rt: HostRuntime) {
 /// This is done before anybody calls.
 const FIRST: Script = &[MILL];
 
-// Who calls, by which key, and whether it may.
+// Callers with a key, and whether they are let in.
 const CALLERS: &[(&str, [u8; 32], bool)] = &[
     ("desk", OPERATOR_DIGEST, true),
     ("desk", COMPANY_DIGEST, false),

@@ -135,7 +135,7 @@ fn submissions_in_runs(rt: HostRuntime) {
     holds(&rt, IN_RUNS);
 }
 
-// A file holds so many entries of the largest amount and one of 99 cents, and not one cent more.
+// A file holds 100 entries of the largest amount and one of 99 cents, and not one cent more.
 const NEXT_FILE: Script = &[
     MILL,
     DAY,
@@ -157,7 +157,7 @@ fn the_next_file(rt: HostRuntime) {
 
 const DAY_BEGINS: Script = &[MILL, DAY];
 
-// The 36 files of the day, and no more; the next day begins anew.
+// The 36 files of a day, and no more; the next day begins again.
 const DAY_ENDS: Script = &[
     (
         "desk cut",

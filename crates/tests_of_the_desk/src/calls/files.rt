@@ -27,7 +27,7 @@ const OTHER_FILE: &str = concat!(
 
 const RETURNED: (&str, &str) = (FILE, ONE_RETURN);
 
-// What a company is told where it is served alone.
+// The answers to a company that is served alone.
 const LOOKED_UP: (&str, &str) = (
     "MILL01 look PAY-2",
     "PAY-2 order 1 2025-01-10; 1 2500 R01 2025-01-14",
@@ -76,7 +76,7 @@ fn a_file_is_taken_twice(rt: HostRuntime) {
     holds(&rt, TAKEN_TWICE);
 }
 
-// What meets no entry stands in suspense, with its money.
+// Items that match no entry are in suspense, with their money.
 const IN_SUSPENSE: Script = &[
     MILL,
     HOLIDAYS,
@@ -113,7 +113,7 @@ fn four_returns_in_suspense(rt: HostRuntime) {
     holds(&rt, IN_SUSPENSE);
 }
 
-// One entry twice in a file: the second stands in suspense.
+// One entry twice in a file: the second item is in suspense.
 const RETURNED_TWICE: Script = &[
     MILL,
     HOLIDAYS,
@@ -305,7 +305,7 @@ fn a_company_is_served_alone(rt: HostRuntime) {
     holds(&rt, ALONE);
 }
 
-// Forty entries of another company take the traces before it: it is told the same.
+// Forty entries of another company take the traces before it: its answers are the same.
 const BESIDE_ANOTHER: Script = &[
     MILL,
     BAKE,

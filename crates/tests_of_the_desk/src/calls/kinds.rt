@@ -56,7 +56,7 @@ fn a_file_of_each_kind(rt: HostRuntime) {
     holds(&rt, SENT);
 }
 
-// A prenote that comes back moves no money, and counts in no rate.
+// A returned prenote moves no money, and counts in no rate.
 const RETURNED: Script = &[
     MILL,
     DAY,

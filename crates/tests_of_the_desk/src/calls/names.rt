@@ -1,4 +1,4 @@
-//! What stands as a name in a desk's row, and is none.
+//! Texts in a desk's row that are not valid names.
 use super::script::new_tables;
 use desk_core::{Store, StoreFault};
 use sql_store::SqlStore;

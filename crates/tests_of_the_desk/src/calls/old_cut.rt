@@ -41,7 +41,7 @@ fn entry(rt: &impl Abort) -> Entry {
     }
 }
 
-// A company with a submission of so many entries.
+// Adds a company with a submission of this many entries.
 fn put_submission<S: Store>(rt: &(impl Abort + Alloc<A = Global>), store: &mut S, count: usize) {
     let registered = Company {
         id: company(rt),

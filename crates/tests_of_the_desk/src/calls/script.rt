@@ -89,8 +89,8 @@ pub(super) fn new_tables(rt: &(impl Abort + Alloc<A = Global>)) -> SqlStore<MemS
         .expect(rt, "tables")
 }
 
-// What the call of a line is answered, in words. What the store could not act on is asked once more:
-// was that so?
+// Returns the answer to a line's call, in words, and whether the store failed first: then the call
+// is made again.
 fn words_for<S: Store>(
     rt: &(impl Abort + Alloc<A = Global>),
     desk: &mut Desk<S>,
@@ -105,8 +105,8 @@ fn words_for<S: Store>(
     (words_of(rt, &answer), asked_again)
 }
 
-/// Each call of a script is answered as beside it. Was one asked once more, since the store could not
-/// act on it?
+/// Checks the answer to each call of a script. Reports whether a call was made again because the
+/// store failed.
 pub(super) fn follow<S: Store>(
     rt: &(impl Abort + Alloc<A = Global>),
     desk: &mut Desk<S>,
@@ -121,7 +121,7 @@ pub(super) fn follow<S: Store>(
     asked_again
 }
 
-// The store, which has sent entries with these sequences; as it is where there are none.
+// Returns the store after it sent entries with these sequences; unchanged if there are none.
 fn after<S: Store>(rt: &(impl Abort + Alloc<A = Global>), store: S, sequences: &[u32]) -> S {
     let mut store = store;
     if !sequences.is_empty() {
@@ -169,8 +169,8 @@ pub(super) fn holds_after(
     assert!(rt; false, "the script makes more calls of the store");
 }
 
-/// Runs a script over a store that remembers, with each call of the one that it stands around refused
-/// in turn, until none is.
+/// Runs a script over a store that remembers, with each call of the inner store refused in turn,
+/// until none is.
 pub(super) fn holds_remembering(rt: &(impl Abort + Alloc<A = Global>), script: Script) {
     for call in 1..MOST_CALLS {
         let store = remembering(rt, FaultyStore::new(new_lists(rt), call));

@@ -68,8 +68,8 @@ fn the_last_sequence_is_used(rt: HostRuntime) {
     holds_after(&rt, &OLD, LAST_USED);
 }
 
-// Two entries of MILL01 are sent first, then two of BAKE01 and one of MILL01: so those of the second and
-// the third sequence stand in another order in the table.
+// Two entries of MILL01 are sent first, then two of BAKE01 and one of MILL01: so the entries of the
+// second and third sequence have another order in the table.
 const IN_TURN: Script = &[
     MILL,
     BAKE,

@@ -1,10 +1,10 @@
-//! This script tries how the desk stands, through days of two companies. Of each company stand the
-//! number and the cents of its held credits and of its held debits, the retries that would lapse, and
-//! by day what would be sent, credits before debits.
+//! A script for the desk's status, through days of two companies. For each company it lists the
+//! number and the cents of its held credits and of its held debits, the retries that would lapse,
+//! and by day what would be sent, credits before debits.
 use super::script::{BAKE, HOLIDAYS, MILL, Script, holds};
 
-// The 20th is a holiday. What is asked for the 18th, a Saturday, settles on the 21st. What came back
-// settled on January 17, and the 180th day after it is July 16.
+// The 20th is a holiday. A submission for the 18th, a Saturday, settles on the 21st. The returned
+// entry settled on January 17, and the 180th day after that is July 16.
 const DAYS: Script = &[
     (
         "desk status",

@@ -1,4 +1,4 @@
-//! What companies ask and are told.
+//! Requests of companies, and their answers.
 use super::exchanges::all_hold;
 use super::samples::{
     BAKE, CUT_9, DAY_8, DAY_9, DAY_14, HOLIDAYS, MILL, PAY_1, PAY_1_ACCEPTED, RETURN_1_TAKEN,

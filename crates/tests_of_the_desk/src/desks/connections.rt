@@ -11,7 +11,7 @@ use std::net::{Net, OpenListener, OpenStream, Shutdown, SocketAddr, TcpListener,
 use std::process::Abort;
 use std::time::Duration;
 
-// So long a client is waited for.
+// The time that a client is waited for.
 fn patience() -> Duration {
     Duration::from_millis(100)
 }
@@ -68,7 +68,7 @@ fn client_sent(
     client
 }
 
-// What a client gets until its connection ends.
+// Returns the bytes that a client receives until its connection ends.
 fn answer_of(rt: &(impl Abort + Alloc<A = Global>), client: TcpStream) -> Vec<u8> {
     let mut client = client;
     let mut out = Vec::new(rt.alloc());

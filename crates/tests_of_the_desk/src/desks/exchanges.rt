@@ -95,7 +95,7 @@ pub(super) fn run<S: Store>(
     out
 }
 
-/// Sends the messages in one session, and looks whether each is answered as beside it.
+/// Sends the messages in one session, and checks each answer.
 pub(super) fn follow<S: Store>(
     rt: &(impl Abort + Alloc<A = Global>),
     desk: &mut HttpDesk<S>,

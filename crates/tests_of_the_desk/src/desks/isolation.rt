@@ -23,7 +23,7 @@ const RETURN_41: &str = concat!(
     "9999999999999999999999999999999999999999999999999999999999999999999999999999999999999999999999\n",
 );
 
-/// What the company asks after its debit came back, with the answers.
+/// The company's requests after its debit was returned, with the answers.
 const AFTER: &[Exchange] = &[
     (
         "MILL01 GET /c/MILL01/returns",
@@ -101,10 +101,10 @@ const ALONE: &[Exchange] = &[
     RETURN_1_TAKEN,
 ];
 
-/// Another company is registered beside it.
+/// Another company is registered as well.
 const BESIDE: &[Exchange] = &[HOLIDAYS, MILL, BAKE, DAY_8, SUBMIT_2];
 
-/// What the other company sent goes out before.
+/// The other company's entries are sent before.
 const BEHIND: &[Exchange] = &[
     DAY_9,
     (

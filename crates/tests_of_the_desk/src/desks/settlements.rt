@@ -1,4 +1,4 @@
-//! A bank's days: what was cut, what came back, and the accounts.
+//! A bank's days: cuts, returns, and the accounts.
 use super::exchanges::holds;
 use super::samples::{
     CUT_9, DAY_8, DAY_9, DAY_14, Exchange, HOLIDAYS, MILL, PAY_2, SUBMIT_1, TAKEN,
@@ -32,7 +32,7 @@ const FILE_A: &str = concat!(
     "9999999999999999999999999999999999999999999999999999999999999999999999999999999999999999999999\n",
 );
 
-/// A credit and a debit are sent, and the debit comes back.
+/// A credit and a debit are sent, and the debit is returned.
 pub(super) const DAYS: &[Exchange] = &[
     HOLIDAYS,
     MILL,

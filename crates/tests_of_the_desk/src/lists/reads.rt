@@ -23,7 +23,7 @@ pub(super) enum State {
     Returned,
 }
 
-/// What is read, and what has to be found.
+/// A read, and its expected result.
 #[derive(Clone, Copy)]
 pub(super) enum Read {
     /// The sample bank.
@@ -38,13 +38,13 @@ pub(super) enum Read {
     State(Text, State),
     /// A company's submission with a reference: the sample entry alone, if it is there.
     Submission(Text, Text, bool),
-    /// So many submissions are held; the company of the first.
+    /// The number of held submissions; the company of the first.
     Held(usize, Option<Text>),
     LastSequence(u32),
     SentCount(u64),
     /// From one sequence to another, the latest day.
     Settled(u32, u32, Option<Text>),
-    /// A trace names the entry with this sequence, to settle on this day. Did it come back?
+    /// A trace names the entry with this sequence and settlement day, and whether it is returned.
     Sent(Text, Option<(u32, Text, bool)>),
     FilesOn(Text, u64),
     File(Text, u8, Option<Text>),
@@ -113,7 +113,7 @@ fn holidays<S: Store>(rt: &(impl Abort + Alloc<A = Global>), store: &mut S) -> V
         .expect(rt, "memory")
 }
 
-// The state of a company's first entry, where the company has one submission.
+// Returns the state of a company's first entry, if the company has one submission.
 fn only_state<S: Store>(
     rt: &(impl Abort + Alloc<A = Global>),
     store: &mut S,
@@ -160,7 +160,7 @@ fn held_submissions<S: Store>(
     (rows.len(), first)
 }
 
-// What a trace names, where one that is no trace stands before it.
+// Returns the entry that a trace names, after a text that is not a trace.
 fn traced_entry<S: Store>(
     rt: &(impl Abort + Alloc<A = Global>),
     store: &mut S,

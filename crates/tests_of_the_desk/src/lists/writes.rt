@@ -1,4 +1,4 @@
-//! Writes to a store, each told in few words.
+//! Writes to a store, each in few words.
 use super::samples::{company, return_row, sent_entry, submission, suspense_row, taken_file};
 use crate::samples::{cents, day, id, reference, rule_day};
 use bank_days::Calendar;
@@ -10,7 +10,7 @@ use desk_store::{CutRows, IntakeRows, Store, StoreFault};
 use std::alloc::Global;
 use std::process::Abort;
 
-/// What is written to a store. Companies and days are told by their texts.
+/// A write to a store. Companies and days are given as texts.
 #[derive(Clone, Copy)]
 pub(super) enum Write {
     Day(&'static [u8]),
@@ -25,7 +25,7 @@ pub(super) enum Write {
     Entries(&'static [(u32, &'static [u8])]),
     /// A cut posts a company's amount alone, on a day.
     Amount(&'static [u8], u64, &'static [u8]),
-    /// The entry of `MILL01` comes back, beside an item that nobody sent.
+    /// The entry of `MILL01` is returned, next to an item that nobody sent.
     Intake,
 }
 

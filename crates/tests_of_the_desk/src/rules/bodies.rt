@@ -38,7 +38,7 @@ fn entry(
     }
 }
 
-// Entries with these cents, prenotes where there are none.
+// Returns entries with these cents, prenotes if there are none.
 fn entries(rt: &(impl Abort + Alloc<A = Global>), amounts: &[u64]) -> Vec<Option<EntryDraft>> {
     let mut entries = Vec::new(rt.alloc());
     for amount in amounts {
@@ -49,7 +49,7 @@ fn entries(rt: &(impl Abort + Alloc<A = Global>), amounts: &[u64]) -> Vec<Option
     entries
 }
 
-// What a body is read as that has these fields, and else right ones.
+// Reads a body that has these fields, and otherwise valid ones.
 fn read(
     rt: &(impl Abort + Alloc<A = Global>),
     reference: Option<DraftText>,
@@ -95,7 +95,7 @@ fn a_submission_is_read(rt: HostRuntime) {
     assert!(rt; entries[0].info.is_some() && !entries[0].prenote && entries[1].prenote);
 }
 
-// What a body with these fields, and else right ones, is refused for.
+// Returns the refusal of a body with these fields, and otherwise valid ones.
 fn refusal_of_body(
     rt: &(impl Abort + Alloc<A = Global>),
     reference: Option<DraftText>,

@@ -6,7 +6,7 @@ const STAYS: &[&[u8]] = &[EMPTY, EMPTY];
 
 const CLOSES: &[&[u8]] = &[EMPTY_CLOSE];
 
-/// What is written for a GET with these fields, and then another.
+/// The answers to a GET with these fields, and then another.
 const CASES: &[(&[u8], &[&[u8]])] = &[
     (b"HTTP/1.1\r\n", STAYS),
     (b"HTTP/1.0\r\n", CLOSES),

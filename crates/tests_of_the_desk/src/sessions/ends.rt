@@ -1,4 +1,4 @@
-//! Where sessions end.
+//! The ends of sessions.
 use crate::sessions::readers::Pieces;
 use crate::sessions::texts::{
     ABC, BAD_HEAD, EMPTY, EMPTY_CLOSE, GET, POST_ABC, UNAVAILABLE, ends, ends_over_pieces, front,
@@ -41,14 +41,15 @@ fn ends_as_the_input_does(rt: HostRuntime) {
     }
 }
 
-/// A session over so many messages ends so, and writes 999 answers and this one.
+/// Checks that a session over this many messages ends like this, and writes 999 answers and this
+/// one.
 fn ends_after(rt: &(impl Abort + Alloc<A = Global>), count: usize, end: Ended, last: &[u8]) {
     let bytes = many(rt, GET, count);
     let answers = many(rt, EMPTY, 999);
     ends_over_pieces(rt, &[&bytes], usize::MAX, end, &[&answers, last]);
 }
 
-/// A session takes 1,000 messages, and says so with the last; the next is not looked at.
+/// A session takes 1,000 messages, and announces the end with the last; the next one is not read.
 #[test]
 fn is_full_with_the_thousandth(rt: HostRuntime) {
     ends_after(&rt, 999, Ended::Closed, b"");

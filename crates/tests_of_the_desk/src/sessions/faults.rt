@@ -12,7 +12,7 @@ const SECOND: usize = GET.len() + POST_ABC.len();
 
 const THIRD: usize = 2 * GET.len() + POST_ABC.len();
 
-/// The answers that are written where so many of their bytes are read.
+/// The answers that are written if this many of their bytes are read.
 fn answers_to(read: usize) -> &'static [&'static [u8]] {
     if read < FIRST {
         &[]
@@ -43,7 +43,8 @@ fn tells_a_read_that_fails(rt: HostRuntime) {
     }
 }
 
-/// A writer that takes at most so many bytes a write fails after so many: just these were written.
+/// Checks a writer that takes at most this many bytes a write and fails after a total: exactly
+/// these were written.
 fn tells_a_full_writer(rt: &(impl Abort + Alloc<A = Global>), room: usize, most: usize) {
     let bytes = join_texts(rt, &[POST_ABC, GET, GET]);
     let answers = join_texts(rt, &[ABC, EMPTY, EMPTY]);

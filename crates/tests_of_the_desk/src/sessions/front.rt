@@ -1,4 +1,4 @@
-//! An answerer that tells how a message was read.
+//! An answerer that reports how a message was read.
 ghost use Rattle.std.specs.Prelude.{⊤};
 
 use http::StatusCode;

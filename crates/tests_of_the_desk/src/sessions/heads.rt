@@ -4,7 +4,7 @@ use http_session::Ended;
 use std::alloc::Global;
 use std::process::Abort;
 
-/// A GET with this beginning whose head has so many bytes.
+/// Returns a GET with this beginning whose head has this many bytes.
 fn head_of(rt: &(impl Abort + Alloc<A = Global>), start: &[u8], size: usize) -> Vec<u8> {
     let mut head = join_texts(rt, &[start, b"GET /ops/settlement HTTP/1.1\r\nA: "]);
     for _ in head.len() + 4..size {
@@ -14,7 +14,7 @@ fn head_of(rt: &(impl Abort + Alloc<A = Global>), start: &[u8], size: usize) -> 
     head
 }
 
-/// It is so where a read gives a byte, many or all.
+/// Checks the end if a read gives one byte, many or all.
 fn ends_by_reads(
     rt: &(impl Abort + Alloc<A = Global>),
     texts: &[&[u8]],
@@ -76,7 +76,7 @@ const NOT_ASCII: &[(&[u8], &[u8])] = &[
     (b"GET /c/\xff/rates HTTP/1.1\r\n\r\n", BAD_HEAD),
 ];
 
-/// Bytes over 127 may stand in values and bodies, and in a target where it is UTF-8.
+/// Values and bodies may have bytes over 127, and a target may if it is UTF-8.
 #[test]
 fn takes_bytes_that_are_not_ascii(rt: HostRuntime) {
     for &(bytes, answer) in NOT_ASCII {

@@ -1,10 +1,10 @@
-//! What heads say of their bodies.
+//! Lengths of bodies in heads.
 use crate::sessions::texts::{
     ABC, BAD_HEAD, EMPTY, GET, LENGTH_REQUIRED, TOO_LARGE, ends, ends_over_pieces, many,
 };
 use http_session::Ended;
 
-/// What is written for a POST with these fields, then the bytes `abc`, then a GET.
+/// The answers to a POST with these fields, then the bytes `abc`, then a GET.
 const LENGTHS: &[(&[u8], &[&[u8]])] = &[
     (b"Content-Length: 3\r\n", &[ABC, EMPTY]),
     (b"content-LENGTH:   3  \r\n", &[ABC, EMPTY]),
@@ -46,7 +46,7 @@ fn reads_bodies_by_their_lengths(rt: HostRuntime) {
     }
 }
 
-/// What is written for these messages, and then a GET.
+/// The answers to these messages, and then a GET.
 const GETS: &[(&[u8], &[&[u8]])] = &[
     (b"GET /ops/settlement HTTP/1.1\r\n\r\n", &[EMPTY, EMPTY]),
     (

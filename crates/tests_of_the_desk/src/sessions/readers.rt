@@ -2,7 +2,7 @@
 use std::io;
 use std::io::{ErrorKind, Read};
 
-/// Gives at most so many bytes a read.
+/// Gives at most this many bytes a read.
 #[derive(Drop)]
 pub struct Pieces<'a> {
     pub bytes: &'a [u8],

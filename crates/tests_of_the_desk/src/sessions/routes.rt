@@ -136,7 +136,7 @@ fn finds_no_other_path(rt: HostRuntime) {
     }
 }
 
-/// What stands after so many slashes.
+/// The text after this many slashes.
 const PIECES: &[(usize, &[u8])] = &[
     (0, b""),
     (1, b"c"),
@@ -147,7 +147,7 @@ const PIECES: &[(usize, &[u8])] = &[
     (6, b""),
 ];
 
-/// The pieces of a path are what stands between its slashes.
+/// The pieces of a path are the texts between its slashes.
 #[test]
 fn cuts_paths_at_slashes(rt: HostRuntime) {
     for &(slashes, wanted) in PIECES {
@@ -173,7 +173,7 @@ const FIRST_FAULTS: &[(&[u8], &[u8])] = &[
     (b"POST /nowhere HTTP/1.1\r\n\r\n", LENGTH_REQUIRED),
 ];
 
-/// An unknown path is told before a wrong method, and a missing length before both.
+/// An unknown path is reported before a wrong method, and a missing length before both.
 #[test]
 fn tells_the_first_fault(rt: HostRuntime) {
     for &(bytes, answer) in FIRST_FAULTS {

@@ -57,7 +57,7 @@ pub fn join_texts(rt: &(impl Abort + Alloc<A = Global>), texts: &[&[u8]]) -> Vec
     out
 }
 
-/// The text, so many times.
+/// Returns the text, repeated this many times.
 pub fn many(rt: &(impl Abort + Alloc<A = Global>), text: &[u8], count: usize) -> Vec<u8> {
     let mut out = Vec::new(rt.alloc());
     for _ in 0..count {
@@ -104,8 +104,8 @@ pub fn runs(
     );
 }
 
-/// A session over the texts, joined, ends so and writes these answers, where a read gives at most so
-/// many bytes.
+/// Checks that a session over the joined texts ends like this and writes these answers, if a read
+/// gives at most this many bytes.
 pub fn ends_over_pieces(
     rt: &(impl Abort + Alloc<A = Global>),
     texts: &[&[u8]],
@@ -119,7 +119,7 @@ pub fn ends_over_pieces(
     runs(rt, front(rt), reader, sink(rt), Ok(end), &written);
 }
 
-/// So it is in one read and in many.
+/// Checks it in one read and in many.
 pub fn ends(rt: &(impl Abort + Alloc<A = Global>), texts: &[&[u8]], end: Ended, answers: &[&[u8]]) {
     for most in [1, 2, 7, usize::MAX] {
         ends_over_pieces(rt, texts, most, end, answers);

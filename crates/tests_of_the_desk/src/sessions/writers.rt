@@ -2,7 +2,7 @@
 use std::io;
 use std::io::{ErrorKind, Write};
 
-/// Takes at most so many bytes a write.
+/// Takes at most this many bytes a write.
 #[derive(Drop)]
 pub struct Sink {
     pub taken: Vec<u8>,

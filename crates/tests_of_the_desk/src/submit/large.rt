@@ -9,10 +9,10 @@ const ROW: &[u8] = b"1,2,3,,4,5,6,\n";
 const ENTRY: &[u8] =
     b"{\"account\":\"2\",\"cents\":4,\"id\":\"5\",\"kind\":\"3\",\"name\":\"6\",\"routing\":\"1\"}";
 
-/// A body without entries has so many bytes.
+/// The bytes of a body without entries.
 const EMPTY_BODY: usize = 104;
 
-/// So the body of a list of such rows ends.
+/// The end of the body of a list of such rows.
 const END: &[u8] =
     b"},{\"account\":\"2\",\"cents\":4,\"id\":\"5\",\"kind\":\"3\",\"name\":\"6\",\"routing\":\"1\"}],\"ref\":\"PAY-1\",\"sec\":\"PPD\"}";
 
@@ -35,10 +35,10 @@ fn a_thousand_rows_and_one_more(rt: HostRuntime) {
     }
 }
 
-/// A list has at most so many bytes.
+/// The most bytes of a list.
 const MOST: usize = 4_194_304;
 
-/// So many times stand sixteen blank lines under the header of a list of the most bytes.
+/// The number of times that sixteen blank lines follow the header in a list of the most bytes.
 const TIMES: usize = (MOST - HEADER.len()) / 16;
 
 const BLANKS: &[u8] = b"\n\n\n\n\n\n\n\n\n\n\n\n\n\n\n\n";

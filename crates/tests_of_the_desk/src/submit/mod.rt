@@ -23,7 +23,7 @@ const OPTIONS: SubmitOptions<'static> = SubmitOptions {
     day: "2025-01-10",
 };
 
-/// What stands before the entries of a message's body, and behind them.
+/// The text before the entries of a message's body, and after them.
 const BEFORE: &[u8] =
     b"\r\n\r\n{\"day\":\"2025-01-10\",\"description\":\"PAYROLL\",\"direction\":\"credit\",\"entries\":";
 

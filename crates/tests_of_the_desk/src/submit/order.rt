@@ -1,4 +1,4 @@
-//! Which fault comes first, and the line that says so.
+//! The order of faults, and their printed lines.
 use super::{OPTIONS, fails};
 use cli_submit::{InputFault, RowFault, SubmitOptions};
 

@@ -3,11 +3,11 @@ use super::{HEADER, Made, OPTIONS, fails, list_makes, make};
 use crate::sessions::texts::join_texts;
 use cli_submit::{InputFault, RowFault};
 
-/// What one entry of 4 cents has in a body.
+/// The members of one entry of 4 cents in a body.
 const ENTRY: &[u8] =
     b"[{\"account\":\"2\",\"cents\":4,\"id\":\"5\",\"kind\":\"3\",\"name\":\"6\",\"routing\":\"1\"}]";
 
-/// Rows, which of them is no entry, and why.
+/// Rows, the number of the first that is not an entry, and its fault.
 const NO_ENTRIES: &[(&[u8], u64, RowFault)] = &[
     (b"1,2,3,,4,5,6\n", 1, RowFault::BadRow),
     (b"1,2,3,,4,5,6,7,8\n", 1, RowFault::BadRow),

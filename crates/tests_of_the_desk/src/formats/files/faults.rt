@@ -5,8 +5,8 @@ use ach_files::{Fault, FileFault};
 use std::alloc::AllocError;
 use std::test::Fail;
 
-/// Bytes that stand in the file of the return, each in a record from 1 at an offset from 0, and
-/// what is wrong in that record.
+/// Bytes put into the file of the return, each in a record from 1 at an offset from 0, and the
+/// fault in that record.
 const CHANGES: &[(u32, usize, u8, FileFault)] = &[
     // Debits and credits of the batch, then of the file.
     (5, 31, b'1', FileFault::BadTotal),
@@ -22,7 +22,7 @@ const CHANGES: &[(u32, usize, u8, FileFault)] = &[
     (6, 12, b'2', FileFault::BadBlock),
     (3, 2, b'2', FileFault::ForwardEntry),
     (3, 2, b'7', FileFault::ForwardEntry),
-    // A transaction code, an amount, a count, and an entry that stands for an addenda.
+    // A transaction code, an amount, a count, and an entry in place of an addenda.
     (3, 1, b' ', FileFault::BadNumber),
     (3, 38, b'x', FileFault::BadNumber),
     (5, 4, b' ', FileFault::BadNumber),
@@ -67,8 +67,8 @@ fn changes_of_one_byte(rt: HostRuntime) {
     }
 }
 
-/// Texts that stand after so many bytes of the file of the return, of which the last record has the
-/// number 10: 950 bytes end with an LF, 949 with the last nine.
+/// Texts after this many bytes of the file of the return, whose last record has the number 10: 950
+/// bytes end with an LF, 949 with the last nine.
 const TAILS: &[(usize, &[u8], FileFault, u32)] = &[
     // They begin a record.
     (950, b" ", FileFault::BadLength, 11),
@@ -76,7 +76,7 @@ const TAILS: &[(usize, &[u8], FileFault, u32)] = &[
     (949, b"\r\n9", FileFault::BadLength, 11),
     (950, b"\x7f", FileFault::BadByte, 11),
     (949, b"\n\x1f", FileFault::BadByte, 11),
-    // They stand after lines that are empty.
+    // They come after empty lines.
     (950, b"\n ", FileFault::BadLength, 10),
     (950, b"\r9", FileFault::BadLength, 10),
     (950, b"\n\r\x7f", FileFault::BadLength, 10),

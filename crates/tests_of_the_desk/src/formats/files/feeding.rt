@@ -12,8 +12,8 @@ fn told(taken: Result<Taken, Fault>) -> Result<Told, Fault> {
     }
 }
 
-// What is told of two pieces with an empty one between them. Where a byte after the end is not
-// refused it is a fault that no test wants.
+// Returns the result for two pieces with an empty one between them. If a byte after the end is not
+// refused, that is a fault that no test expects.
 fn told_of_two(rt: &HostRuntime, first: &[u8], second: &[u8]) -> Result<Told, Fault> {
     let mut reader = Reader::new(rt.alloc());
     for piece in [first, b"", second] {

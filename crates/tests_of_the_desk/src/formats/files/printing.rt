@@ -13,11 +13,11 @@ use std::alloc::AllocError;
 use std::process::Abort;
 use std::test::Fail;
 
-/// A file as it is printed, or why there is none.
+/// A printed file, or its fault.
 type Printed = Result<Vec<u8>, PrintFault>;
 
-/// No test wants this fault. It stands for what goes wrong before a file is printed, and for two
-/// ways of printing one that differ.
+/// A fault that no test expects: something went wrong before a file was printed, or two ways of
+/// printing one differ.
 const UNWANTED: PrintFault = PrintFault::NoMemory;
 
 /// The largest amount of an entry has ten digits.
@@ -72,7 +72,7 @@ fn return_of(
     }
 }
 
-// These entries, so many times.
+// Returns these entries, repeated this many times.
 fn repeated<'a>(
     rt: &HostRuntime,
     entries: &[OutgoingEntry<'a>],
@@ -85,7 +85,7 @@ fn repeated<'a>(
     Ok(all)
 }
 
-// So many entries of the largest amount.
+// Returns this many entries of the largest amount.
 fn largest_entries<'a>(
     rt: &HostRuntime,
     name: &'a [u8],
@@ -158,7 +158,7 @@ fn print_returns(rt: &HostRuntime, entries: &[OutgoingEntry]) -> Printed {
     }
 }
 
-/// What stands in a record from 1, from an offset from 0.
+/// The bytes of a record from 1, from an offset from 0.
 type Part<'a> = (usize, usize, &'a [u8]);
 
 fn stands(text: &[u8], (record, offset, bytes): Part) -> bool {
@@ -292,7 +292,7 @@ fn change(rt: HostRuntime) -> Result<(), Fail> {
     Ok(())
 }
 
-// How long the text is, or why there is none.
+// Returns the length of the text, or its fault.
 fn length(text: &Printed) -> Result<usize, PrintFault> {
     match text {
         Ok(text) => Ok(text.len()),
@@ -304,7 +304,7 @@ fn length(text: &Printed) -> Result<usize, PrintFault> {
 const TOTALS: &[(u64, &[u8], Result<usize, PrintFault>)] = &[
     (99, b"ANN LEE", Ok(110 * 95)),
     (100, b"ANN LEE", Err(PrintFault::TotalTooLarge)),
-    // A bad field is told first, wherever it stands.
+    // An invalid field is reported first, wherever it is.
     (100, b"TAB\t", Err(PrintFault::BadField)),
     // This amount has eleven digits.
     (10_000_000_000, b"ANN LEE", Err(PrintFault::BadField)),
@@ -357,7 +357,7 @@ fn print_around_refused(
     }
 }
 
-// A file of one batch of one entry of the largest amount, beside refused ones.
+// Prints a file of one batch of one entry of the largest amount, between refused batches.
 fn print_beside_refused(rt: &HostRuntime) -> Printed {
     let (cents, trace) = cents_and_trace(LARGEST, 12_104_288, 1)?;
     let entries = [sent_entry(b"ANN LEE", cents, trace)];

@@ -51,7 +51,7 @@ fn no_batch(rt: HostRuntime) -> Result<(), Fail> {
     Ok(())
 }
 
-/// What ends each line, and how many fillers there are.
+/// The end of each line, and the number of fillers.
 const LINES: &[(&[u8], usize)] = &[
     (b"\n", 0),
     (b"\n", 4),
@@ -111,7 +111,7 @@ fn prefixes(rt: HostRuntime) {
     }
 }
 
-// A byte, so many times, after the text.
+// Appends a byte this many times.
 fn add(text: &mut Vec<u8>, byte: u8, count: u32) -> Result<(), AllocError> {
     for _ in 0..count {
         text.push(byte)?;

@@ -11,7 +11,7 @@ pub const RETURNED_DIGEST: [u8; 32] = [
     0xda, 0xcd, 0x4d, 0x1f, 0x98, 0xe3, 0x63, 0xa8, 0xc9, 0x2d, 0x8c, 0x48, 0x1c, 0x01, 0xed, 0xb7,
 ];
 
-/// Readers tell this of what comes after a fault or a file.
+/// The fault of every call after a fault or a file.
 pub const FAILED: Fault = Fault {
     kind: FileFault::Failed,
     at: 0,
@@ -73,7 +73,7 @@ pub fn read(rt: &HostRuntime, bytes: &[u8]) -> Result<usize, Fault> {
     }
 }
 
-/// Ends what a reader takes. It says how many items there are, or gives the fault.
+/// Ends the reader's input. Returns the number of items, or the fault.
 pub fn end(reader: &mut Reader) -> Result<usize, Fault> {
     match reader.finish() {
         Ok(taken) => Ok(taken.items().len()),

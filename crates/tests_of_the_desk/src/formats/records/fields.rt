@@ -56,7 +56,7 @@ fn amounts(rt: HostRuntime) {
     assert!(rt; Cents::new(1_000_000_000_000).is_none());
 }
 
-/// Fields, each with the number that stands in it.
+/// Fields, each with its number.
 const NUMBERS: &[(&[u8], Result<u64, FieldFault>)] = &[
     (b"0000150000", Ok(150_000)),
     (b"999999999999999999", Ok(999_999_999_999_999_999)),
@@ -87,7 +87,7 @@ fn numbers_that_are_put(rt: HostRuntime) {
     }
 }
 
-/// Fields, each with the text that stands in it.
+/// Fields, each with its text.
 const TEXTS: &[(&[u8], Result<&[u8], FieldFault>)] = &[
     (b"  MILL STREET     ", Ok(b"  MILL STREET")),
     (b"    ", Ok(b"")),
@@ -166,7 +166,7 @@ fn traces(rt: HostRuntime) {
     assert!(rt; trace_text(12_104_288, 10_000_000) == Err(FieldFault::TooLong));
 }
 
-/// Texts, each with the fault for which it is no reference.
+/// Texts, each with its fault as a reference.
 const REFERENCES: &[(&[u8], Option<FieldFault>)] = &[
     (b"PAY-1", None),
     (b"abcdefghij0123456789", None),
@@ -186,7 +186,7 @@ fn references(rt: HostRuntime) {
     }
 }
 
-/// Texts, each with the fault for which it is no identification.
+/// Texts, each with its fault as an identification.
 const IDENTIFICATIONS: &[(&[u8], Option<FieldFault>)] = &[
     (b"MILL01", None),
     (b"mill01", Some(FieldFault::NotText)),
@@ -204,7 +204,7 @@ fn identifications(rt: HostRuntime) {
     }
 }
 
-/// Texts, each with the fault for which it is no text of at most 16 characters.
+/// Texts, each with its fault as a text of at most 16 characters.
 const SHORT_TEXTS: &[(&[u8], Option<FieldFault>)] = &[
     (b"MILL STREET", None),
     (b"MILL STREET ", Some(FieldFault::NotText)),

@@ -6,7 +6,7 @@ use crate::formats::worked::{
 use ach_fields::{FieldFault, Ymd};
 use ach_records::{BatchHeaderText, RecordFault, print_batch_header, view};
 
-/// Records, the bytes that stand at offsets from 0 in place of theirs, and the first fault.
+/// Records, the bytes put at offsets from 0, and the first fault.
 const CHANGES: &[(&[u8; 94], &[(usize, u8)], Option<RecordFault>)] = &[
     (SENT_ENTRY, &[(0, b'2')], Some(RecordFault::BadType)),
     (SENT_ENTRY, &[(0, b'7')], Some(RecordFault::BadAddendaType)),
@@ -30,7 +30,7 @@ const CHANGES: &[(&[u8; 94], &[(usize, u8)], Option<RecordFault>)] = &[
         Some(RecordFault::BadNumber(55)),
     ),
     (SENT_CONTROL, &[(55, b'X')], None),
-    // Of several faults the first is told.
+    // Of several faults the first is reported.
     (
         SENT_ENTRY,
         &[(38, b'-'), (3, b'-')],
@@ -65,7 +65,7 @@ fn first_faults(rt: HostRuntime) {
     }
 }
 
-/// Names of a company that stand before a company identification with an LF, and the first fault.
+/// Names of a company before a company identification with an LF, and the first fault.
 const NAMES: &[(&[u8], FieldFault)] = &[
     (b"A NAME OF SEVENTEEN", FieldFault::TooLong),
     (b"MILL STREET", FieldFault::NotText),

@@ -1,4 +1,4 @@
-//! What is printed, against records from outside.
+//! Printed records, compared with records from outside.
 use super::{CHANGE, INFORMATION};
 use crate::formats::worked::{
     ADDENDA, BATCH, BATCH_CONTROL, CONTROL, ENTRY, HEADER, SENT_BATCH, SENT_BATCH_CONTROL,
@@ -13,7 +13,7 @@ use ach_records::{
     print_return99,
 };
 
-/// A record, or why there is none.
+/// A record, or its fault.
 type Printed = Result<[u8; 94], FieldFault>;
 
 fn cents_of(amount: u64) -> Result<Cents, FieldFault> {

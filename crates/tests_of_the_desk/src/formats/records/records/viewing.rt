@@ -1,4 +1,4 @@
-//! What views say of records from outside.
+//! The fields of views of records from outside.
 use super::{CHANGE, INFORMATION};
 use crate::formats::worked::{
     ADDENDA, BATCH, BATCH_CONTROL, HEADER, SENT_CONTROL, SENT_ENTRY, SENT_HEADER,
