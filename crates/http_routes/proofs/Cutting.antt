@@ -64,7 +64,7 @@ assoc : (a b c : Bool) → (a && (b && c)) ≡ ((a && b) && c)
 assoc true b c = refl
 assoc false b c = refl
 
--- a byte of a clean text is no slash and no parameter
+-- a byte of a clean text is neither a slash nor a parameter
 clean_byte : (c : ℕ) (t : List ℕ) (ps : List Piece) → is_clean (text (c ∷ t) ∷ ps) ≡ true
     → ((c == 47) ≡ false) × ((c == 256) ≡ false) × (is_clean (text t ∷ ps) ≡ true)
 clean_byte c t ps clean =

@@ -1,4 +1,4 @@
--- What a router of plain patterns finds: a row whose tokens take the path, where there is one.
+-- A router of plain patterns finds a row whose tokens take the path, if there is one.
 use Rattle.std.proofs.Common.{◌≡◌, ℕ, ◌-◌, ◌<◌, inl, inr, Bool, true, false, not, ◌&&◌, ◌||◌, cond, List, [], ◌∷◌, length, drop, zero, suc, Option, Some, None, refl, sym, ap, ◌∙◌, subst, arith}
 use Rattle.std.proofs.lemmas.Bool.{eqb-true}
 use Rattle.std.proofs.lemmas.Bool.Decides.{nat_tests}
@@ -55,7 +55,7 @@ segment_some (c ∷ p) e = by_test (c == 47)
     by_test true = omega arith
     by_test false = omega arith
 
--- what follows the first piece, where a slash does
+-- the text after the first piece, if a slash follows it
 run_with_slash : (p : List ℕ) → has_slash p ≡ true → drop (length (segment p) - 1) p ≡ after_run p
 run_with_slash [] e = absurd (cc)
 run_with_slash (c ∷ p) e = by_test (c == 47) e (λ f. run_with_slash p f) (λ f. segment_some p f)
@@ -108,7 +108,7 @@ takes_byte b t p low f =
     let same : (b == b) ≡ true = grind (arith, nat_tests) in
     ap (λ (c : Bool). cond c (not (b == 47) && takes t (after_run p)) ((b == b) && takes t p)) other ∙ and_true (b == b) _ same f
 
--- two patterns that take no path both, as far as it is told here
+-- two patterns that do not both take one path, as far as this test shows
 abbrev pub apart : List ℕ → List ℕ → Bool
 apart [] [] = false
 apart [] (y ∷ u) = true

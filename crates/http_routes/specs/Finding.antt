@@ -15,7 +15,7 @@ abbrev pub method_text : Method → List ℕ
 method_text Get = codes "GET"
 method_text Post = codes "POST"
 
--- the route that is served, or the first fault: there is none of this path, or it takes another method
+-- the served route, or the first fault: the path has none, or it takes another method
 abbrev pub route_verdict : List ℕ → Option Served → Result Route RouteFault
 route_verdict method None = Err NotFound
 route_verdict method (Some served) = if bytes_eq method (method_text served.method) then Ok served.route else Err BadMethod
@@ -28,7 +28,7 @@ value_of (Some found) = Some found.value
 abbrev pub route_at : List ℕ → List ℕ → Result Route RouteFault
 route_at method path = route_verdict method (value_of (first router_rows path))
 
--- the piece of a path after so many slashes
+-- the piece of a path after this many slashes
 abbrev pub piece_of : ℕ → List ℕ → List ℕ
 piece_of zero path = before_first (λ b. b == 47) path
 piece_of (suc n) path = piece_of n (after_first (λ b. b == 47) path)

@@ -7,7 +7,7 @@ use Rattle.http_routes.specs.Finding.{value_of}
 use Rattle.http_routes.specs.Table.{Piece, text, any, Row, table, router_rows}
 use Rattle.http_routes.specs.declared.route.Served.{Served}
 
--- the pieces of a path between its slashes, with what stands before the first
+-- the pieces of a path between its slashes, with the text before the first
 abbrev pub pieces_of : List ℕ → List (List ℕ)
 pieces_of path = slice_split (λ b. b == 47) path
 

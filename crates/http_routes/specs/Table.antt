@@ -71,7 +71,7 @@ pattern [] = []
 pattern (text t ∷ pieces) = codes "/" ++ t ++ pattern pieces
 pattern (any name ∷ pieces) = codes "/" ++ param_token ∷ pattern pieces
 
--- where the names stand in the text, of which so much came before
+-- the places of the names in the text, after this many bytes
 abbrev pub names_from : ℕ → List Piece → List (ℕ × ℕ)
 names_from n [] = []
 names_from n (text t ∷ pieces) = names_from (n + 1 + length t) pieces

@@ -3,7 +3,7 @@ ghost use Rattle.std.specs.Prelude.{◌≡◌, ◌==◌};
 ghost use Rattle.std.specs.List.{after_first, before_first};
 ghost use Rattle.http_routes.specs.Finding.{piece_of};
 
-/// The piece of a path after so many slashes, up to the next; empty where there are fewer.
+/// Returns the piece of a path after this many slashes, up to the next; empty if there are fewer.
 pub fn piece_of(path: &[u8], slashes: usize) -> &[u8]
     ensures { result.now ≡ piece_of slashes path.now }
 {

@@ -108,7 +108,7 @@ impl Routes {
         }
     }
 
-    /// The route of a path for this method. A path that is no UTF-8 has none.
+    /// Returns the route of a path for this method. A path that is not UTF-8 has none.
     pub fn find(&self, method: &[u8], path: &[u8]) -> Result<Route, RouteFault>
         ensures text { IsUtf8 path.now → result ≡ route_at method.now path.now }
         ensures other { ¬ (IsUtf8 path.now) → result ≡ Err RouteFault.NotFound }

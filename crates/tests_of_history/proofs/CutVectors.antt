@@ -10,7 +10,7 @@ use Rattle.desk_history.specs.Operator.{answer_to, history_after}
 use Rattle.tests_of_history.proofs.OnLiterals.{desk_on_literals}
 use Rattle.tests_of_history.proofs.Samples.{identity, mill, pay_1, pay_2, retry, refused, on, submits, retries, sample_return, new_desk, answer_after}
 
--- a cut on a day that sent so many entries in these files
+-- a cut on a day that sent this many entries in these files
 abbrev cut_on : ℕ → ℕ → List ℕ → ℕ → Answer
 cut_on day entries files lapsed = Done (done.Cut (record { day = day; entries = entries; files = files; lapsed = lapsed }))
 
@@ -36,7 +36,7 @@ the_debit_is_sent_on_the_next_day : answer_after both (Cut ∷ Cut ∷ on (codes
 unfolding desk_on_literals
 the_debit_is_sent_on_the_next_day = refl
 
--- sent entries stand with the newest first
+-- sent entries are listed with the newest first
 it_has_the_second_sequence : map (λ e. e.sequence) (sent_entries identity.odfi (history_after identity both (Cut ∷ Cut ∷ on (codes "2025-01-09") ∷ Cut ∷ [])))
     ≡ 2 ∷ 1 ∷ []
 unfolding desk_on_literals
@@ -48,7 +48,7 @@ both_in_one_file = refl
 
 -- ---- a retry that lapses
 
--- a debit came back, and on 2025-07-01 it is to be tried again on 07-09, the last of the 180 days
+-- a debit is returned, and on 2025-07-01 a retry asks for 07-09, the last of the 180 days
 abbrev until_july : List Message
 until_july =
     submits mill pay_2

@@ -1,5 +1,5 @@
--- Whole histories, computed: companies beside one another, a company's part, the settlement, and a desk
--- that serves one company alone.
+-- Whole histories, computed: several companies, a company's part, the settlement, and a desk that serves one company
+-- alone.
 use Rattle.std.specs.Prelude.{◌≡◌, ℕ, List, [], ◌∷◌, map, replicate, Some, None, false, pos, negsuc, codes, refl}
 use Rattle.std.proofs.Common.{sym, ◌∙◌}
 use Rattle.desk_accounts.specs.declared.posting.Cause.TheVariants as causes
@@ -116,8 +116,8 @@ the_company_reads_its_statement = refl
 abbrev forty_debits : Draft
 forty_debits = debits (codes "PAY-2") (codes "2025-01-10") (replicate 40 (Some (entry_with (codes "091000019") 100 (codes "E9") (codes "SUE ROE"))))
 
--- the debit came back: where the company was alone in the cut it was sent with sequence 1, and after the 40
--- debits of the other with sequence 41
+-- the debit is returned: if the company was alone in the cut it was sent with sequence 1, and after the other's 40
+-- debits with sequence 41
 abbrev quiet : List Pair
 quiet = history_after identity new_desk (submits mill pay_2 ∷ on (codes "2025-01-09") ∷ Cut ∷ on (codes "2025-01-14") ∷ sample_return 1 ∷ [])
 

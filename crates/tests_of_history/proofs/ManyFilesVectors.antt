@@ -26,7 +26,7 @@ more_files_than_modifiers : (odfi : List ℕ) (H : List Pair) (d : ℕ) → day 
     → cut odfi H ≡ Err rules.ModifiersSpent
 more_files_than_modifiers odfi H d today free many = rw (today, free, many) refl
 
--- a company that hands in 51 credits of ten nines: with those of another they are too many cents for one file
+-- a company that submits 51 credits of ten nines: with those of another they are too many cents for one file
 abbrev large : Draft
 large = credits (codes "A") (codes "2025-01-10") (replicate 51 (Some (credit_entry 9999999999)))
 

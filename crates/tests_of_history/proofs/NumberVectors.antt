@@ -14,7 +14,7 @@ use Rattle.desk_history.specs.Resolve.{named_entry, resolve}
 use Rattle.tests_of_history.proofs.OnLiterals.{desk_on_literals}
 use Rattle.tests_of_history.proofs.Samples.{identity, mill, entry_of, sending_of, returning}
 
--- so many debits of 25.00
+-- this many debits of 25.00
 abbrev sending : ℕ → Sending
 sending n = sending_of Debit (replicate n (entry_of 2500))
 

@@ -1,4 +1,4 @@
--- What an answer unfolds to compute the definitions at known messages.
+-- The definitions that an answer unfolds to compute answers to literal messages.
 use Rattle.std.specs.Prelude.{⊤}
 use Rattle.ach_fields.specs.Digits.{number, digits}
 use Rattle.ach_fields.specs.Trace.{trace_text}

@@ -21,7 +21,7 @@ use Rattle.tests_of_history.proofs.Samples.{pay_1, pay_2, debit, retry, retry_wi
 
 -- ---- a debit that came back
 
--- a debit of 25.00 settled on Friday 2025-01-10 and came back with this code on 01-14
+-- a debit of 25.00 settled on Friday 2025-01-10 and was returned with this code on 01-14
 abbrev returned_with : ℕ → List Event
 returned_with code =
     Returned (codes "PAY-2") 1 code no_information ∷ DaySet 20102 ∷ CutMade ∷ DaySet 20097 ∷ Asked (Submit pay_2) ∷ opened 20096
@@ -130,7 +130,8 @@ it_lapses_where_it_would_settle_later = refl
 
 -- ---- two retries
 
--- the first settled on 01-16 and came back as R09 on 01-17, the second settled on 01-22 and came back as R01 on 01-23
+-- the first settled on 01-16 and was returned as R09 on 01-17, the second settled on 01-22 and was returned as R01 on
+-- 01-23
 abbrev tried_once : List Event
 tried_once =
     Returned (codes "RT-1") 1 9 no_information ∷ DaySet 20105 ∷ CutMade ∷ DaySet 20103
@@ -164,7 +165,7 @@ a_third_retry_is_refused = refl
 abbrev authorized_by : Optional (List ℕ) → RetryDraft
 authorized_by authorized = retry_with (codes "RT-1") (codes "PAY-2") (codes "2025-01-22") authorized
 
--- what a retry for 2025-01-22 is answered on 01-15, where the debit came back on 01-14 with this code
+-- the answer on 01-15 to a retry for 2025-01-22, if the debit was returned on 01-14 with this code
 abbrev answer_to : ℕ → Optional (List ℕ) → Answer
 answer_to code authorized = reply (DaySet 20103 ∷ returned_with code) (Retry (authorized_by authorized))
 
@@ -213,7 +214,7 @@ none_of_none_is_not_over = refl
 one_of_none_is_over : exceeds Unauthorized 1 0 ≡ true
 one_of_none_is_over = refl
 
--- the one debit came back for lack of funds: that counts overall alone
+-- the one debit was returned for lack of funds: that counts overall alone
 rates_of_one_returned_debit : reply (returned_with 1) Rates ≡ Done (done.Rates (record {
   day = 20102;
   rates = record {

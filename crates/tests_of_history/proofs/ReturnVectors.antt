@@ -24,7 +24,7 @@ use Rattle.desk_history.specs.Request as request
 use Rattle.tests_of_history.proofs.OnLiterals.{desk_on_literals}
 use Rattle.tests_of_history.proofs.Samples.{identity, mill, pay_2, debit, no_information, refused, states_under, on, submits, returning, file_as, sample_return, new_desk, answer_after}
 
--- the answer of a file that was first taken on a day: so many changes, late returns, returns and items in suspense
+-- the answer to a file that was first taken on a day: its changes, late returns, returns and items in suspense
 abbrev taken_on : ℕ → ℕ → ℕ → ℕ → ℕ → Answer
 taken_on day changes late returns suspense =
     Done (done.Taken (record { changes = changes; day = day; late = late; returns = returns; suspense = suspense }))
@@ -76,7 +76,7 @@ it_stays_late_under_another_holiday_list = refl
 
 -- ---- suspense
 
--- two debits of 25.00 were sent, and the first came back
+-- two debits of 25.00 were sent, and the first is returned
 abbrev two_debits : List Pair
 two_debits = history_after identity new_desk (
     submits mill pay_2
@@ -87,7 +87,7 @@ two_debits = history_after identity new_desk (
     ∷ sample_return 1
     ∷ [])
 
--- an unknown trace, another amount, a code above R29, and the debit that came back
+-- an unknown trace, another amount, a code above R29, and the returned debit
 abbrev four_returns : Message
 four_returns = file_as (codes "B") 2 (
     returning (codes "R01") 9 2500

@@ -204,7 +204,7 @@ abbrev pub file_as : List ℕ → ℕ → List ItemFacts → Message
 file_as modifier n items =
     TakeFile (Ok (record { key = codes " 0610001462501140930" ++ modifier; digest = replicate 32 n; items = items }))
 
--- the file that returns the sample debit, where it has this sequence
+-- the file that returns the sample debit, which has this sequence
 abbrev pub sample_return : ℕ → Message
 sample_return sequence = file_as (codes "A") 1 (returning (codes "R01") sequence 2500 ∷ [])
 

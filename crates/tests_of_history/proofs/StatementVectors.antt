@@ -1,4 +1,4 @@
--- What cuts do to one company's submissions, and its statement, computed over its part of a history.
+-- The effect of cuts on one company's submissions, and its statement, computed over its part of a history.
 use Rattle.std.specs.Prelude.{◌≡◌, List, [], ◌∷◌, Some, pos, negsuc, codes, refl}
 use Rattle.desk_accounts.specs.declared.posting.Cause.TheVariants as causes
 use Rattle.desk_rules.specs.declared.rules.entry_fact.EntryState.TheVariants as states
@@ -39,7 +39,7 @@ it_is_sent_on_friday = refl
 abbrev both_sent : List Event
 both_sent = CutMade ∷ Asked (Submit pay_2) ∷ DaySet 20097 ∷ CutMade ∷ Asked (Submit pay_1) ∷ opened 20096
 
--- the debit came back on 01-14
+-- the debit is returned on 01-14
 abbrev debit_returned : List Event
 debit_returned = Returned (codes "PAY-2") 1 1 no_information ∷ DaySet 20102 ∷ both_sent
 

@@ -159,7 +159,7 @@ a_credit_is_not_exposed_behind_it : reply (DaySet 20101 ∷ both_sent) Exposure
 unfolding desk_on_literals
 a_credit_is_not_exposed_behind_it = refl
 
--- a credit limit of 2,000.00, of which 1,500.00 are held
+-- a credit limit of 2,000.00, with 1,500.00 held
 abbrev narrow : List Event
 narrow = Asked (Submit pay_1) ∷ Limited (record { entry = 9999999999; credit = 200000; debit = 0 }) ∷ opened 20096
 

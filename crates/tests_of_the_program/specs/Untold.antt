@@ -1,4 +1,4 @@
--- A layout of which no body has to say what it makes, so that the tests alone say it.
+-- A layout for which no body has to say what it makes, so that the tests alone show it.
 use Rattle.std.specs.Prelude.{[]}
 use Rattle.sql_statements.specs.Layouts.{Layout}
 

@@ -1,4 +1,4 @@
-//! A submission whose second entry came back, a retry, and a submission with no entry.
+//! A submission whose second entry is returned, a retry, and a submission without entries.
 use crate::samples::{reference, routing, short_text};
 use ach_fields::Id;
 use bank_days::Day;

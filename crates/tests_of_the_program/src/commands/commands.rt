@@ -108,7 +108,7 @@ Options:
   -V, --version  Print version
 ";
 
-/// All that is told of words that name no command.
+/// The whole text for words that do not name a command.
 const USAGE: &str = "error: unrecognized subcommand 'bogus'
 
 Usage: achdesk < SUBMISSION

@@ -1,4 +1,4 @@
-//! Desks in files: they are made once, and what an option or a file has wrong is told.
+//! Desks in files: they are made once, and faults of an option or a file are reported.
 use super::{NOBODY, prints};
 use desk_cli::{Command, InitOptions, Status, run_words};
 use std::fs;
@@ -14,10 +14,10 @@ pub const SAMPLE_BANK: InitOptions<'static> = InitOptions {
     key: "operator-key",
 };
 
-/// What a file has that is no database.
+/// The contents of a file that is not a database.
 pub const NOTE: &[u8] = b"This is a note, and no database of anything at all.\n";
 
-/// Options of which one after the other is mended, and the line that is printed.
+/// Options that are corrected one after another, and the line that is printed.
 const BAD_OPTIONS: &[(InitOptions<'static>, &str)] = &[
     (
         InitOptions {
@@ -95,7 +95,7 @@ const WORDS: &[&str] = &[
     "--key=operator-key",
 ];
 
-/// Removes a desk's file and its log, where they are there.
+/// Removes a desk's file and its log, if they exist.
 pub fn clear(rt: &HostRuntime, path: &str) -> Result<(), Fail> {
     let _ = fs::remove_file(rt, path);
     let log = format!(in rt.alloc(); "{path}-wal")?;
@@ -108,7 +108,7 @@ pub fn is_absent(rt: &HostRuntime, path: &str) -> bool {
     fs::metadata(rt, path).is_err()
 }
 
-/// Is a desk of the sample bank made at this path, where nothing is left of an earlier one?
+/// Makes a desk of the sample bank at this path, after removing an earlier one. Reports success.
 pub fn is_made(rt: &HostRuntime, path: &str) -> Result<bool, Fail> {
     clear(rt, path)?;
     Ok(says(rt, path, SAMPLE_BANK, Status::Done, "created\n"))

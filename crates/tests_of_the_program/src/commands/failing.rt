@@ -8,8 +8,8 @@ use std::io;
 use std::io::{ErrorKind, Read, Write};
 use std::test::Fail;
 
-/// A reader that is interrupted so many times first. When so many bytes are left it fails once, if it
-/// is to, and would go on after that.
+/// A reader that is first interrupted this many times. When this many bytes are left it can fail
+/// once, and would continue after that.
 #[derive(Drop)]
 pub struct FaultyReader<'a> {
     pub interruptions: u32,
@@ -61,8 +61,8 @@ impl Read for LongReader<'_> {
     }
 }
 
-/// A writer that is interrupted so many times first, and then takes one byte at a time. When it has
-/// taken so many it fails once, if it is to, or takes no more.
+/// A writer that is first interrupted this many times, and then takes one byte at a time. When it
+/// has taken this many it can fail once, or take no more.
 #[derive(Drop)]
 pub struct FaultyWriter {
     pub text: Vec<u8>,
@@ -100,7 +100,7 @@ impl Write for FaultyWriter {
     }
 }
 
-/// A writer with a buffer, which a flush empties; a flush fails so many times first, in this way.
+/// A writer with a buffer, which a flush empties; the first flushes fail in this way.
 #[derive(Drop)]
 struct BufferedWriter {
     text: Vec<u8>,
@@ -148,7 +148,7 @@ impl Run {
         }
     }
 
-    // What it prints of that.
+    // Returns the text that it prints.
     fn text(self) -> &'static str {
         match self {
             Run::Answer => PAY_1_LINE,
@@ -165,8 +165,8 @@ impl Run {
         }
     }
 
-    // Does a run with so many interruptions of its reader and of its writer give its text, or else
-    // fail with this one?
+    // Reports whether a run with this many interruptions of its reader and of its writer gives its
+    // text, or else fails with this one.
     fn shares_tries(self, rt: &HostRuntime, reads: u32, writes: u32, failed: Option<&str>) -> bool {
         let reader = FaultyReader {
             interruptions: reads,
@@ -188,7 +188,7 @@ impl Run {
         ended == status && writer.text.as_slice() == text.as_bytes()
     }
 
-    // Does a run fail whose reader does so once, with so many bytes left?
+    // Reports whether a run fails whose reader fails once, with this many bytes left.
     fn fails(self, rt: &HostRuntime, kind: ErrorKind, left: usize) -> bool {
         let reader = FaultyReader {
             interruptions: 3,
@@ -207,8 +207,8 @@ impl Run {
     }
 }
 
-/// Interruptions of the reader and of the writer, and what a run prints that fails then; where none
-/// is told, the run gives its answer.
+/// Interruptions of the reader and of the writer, and the text that a failing run prints; if there
+/// is none, the run gives its answer.
 const INTERRUPTIONS: &[(u32, u32, Option<&str>)] = &[
     (0, 0, None),
     (1_000, 0, None),
@@ -271,8 +271,8 @@ const ENDLESS: &[(Run, usize, &str)] = &[
     (Run::Submit, usize::MAX, "too large\n"),
 ];
 
-// Does a run end so whose writer is interrupted so many times, takes so many bytes, and fails then
-// in this way or takes no more?
+// Reports the end of a run whose writer is interrupted this many times, takes this many bytes, and
+// then fails in this way or takes no more.
 fn takes(
     alloc: Global,
     interruptions: u32,

@@ -1,4 +1,4 @@
-//! Incoming files: what is printed of them, where they are read from a reader and from a path.
+//! Incoming files: the printed lines for files that are read from a reader and from a path.
 use super::NOBODY;
 use desk_cli::{Command, Status, check_file, run};
 use std::alloc::{AllocError, Global};
@@ -20,8 +20,8 @@ const FILLER: &[u8] =
 /// This line is the answer to it.
 pub const LINE: &str = "ok 1 returns 0 changes\n";
 
-/// Where bytes stand in the file of one return, counted from 0, in place of what should, and the
-/// line that is printed. A record and its line feed have 95 bytes.
+/// Bytes put into the file of one return at offsets from 0, and the line that is printed. A record
+/// and its line feed have 95 bytes.
 const FAULTS: &[(usize, &[u8], &str)] = &[
     (95 * 2 + 50, b"\n", "BadLength at record 3\n"),
     (95 * 3 + 10, b"\x7f", "BadByte at record 4\n"),
@@ -81,7 +81,7 @@ fn with_line_feeds(alloc: Global, len: usize, last: &[u8]) -> Result<Vec<u8>, Al
     Ok(file)
 }
 
-// A file with a header and a control alone, which tells so many blocks.
+// Returns a file with only a header and a control, which states this number of blocks.
 fn no_batches(alloc: Global, blocks: &[u8]) -> Result<Vec<u8>, AllocError> {
     let mut file = Vec::from_slice(alloc, &RECORDS[..95])?;
     file.extend_from_slice(b"9000000")?;

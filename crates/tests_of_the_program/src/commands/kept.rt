@@ -7,8 +7,8 @@ use desk_cli::{Command, Status};
 use std::fs;
 use std::test::Fail;
 
-/// The messages of one session after another, and their answers. The third hands in again what the
-/// second did.
+/// The messages of one session after another, and their answers. The third session repeats the
+/// second's.
 const SESSIONS: &[(&[&str], &[&str])] = &[
     (&[REGISTER, SET_DAY], &[REGISTERED, DAY_SET]),
     (&[PAY_MESSAGE], &[PAY_TAKEN]),

@@ -13,7 +13,7 @@ const SMALL_ENTRY: &str =
 const LARGER_ENTRY: &str =
     "{\"routing\":\"091000019\",\"account\":\"1\",\"kind\":\"checking\",\"cents\":100,\"id\":\"\",\"name\":\"BOB\"}";
 
-// A submission with so many copies of an entry, and one more.
+// Returns a submission with this many copies of an entry, and one more.
 fn submission(alloc: Global, count: usize, entry: &str, last: &str) -> Result<Vec<u8>, AllocError> {
     let mut body = Vec::from_slice(alloc, PREFIX.as_bytes())?;
     for _ in 0..count {
@@ -25,7 +25,7 @@ fn submission(alloc: Global, count: usize, entry: &str, last: &str) -> Result<Ve
     Ok(body)
 }
 
-// A body that has an object with so many lists in one another under a key that nobody reads.
+// Returns a body with an object that has this many nested lists under a key that nobody reads.
 fn nested_lists(alloc: Global, depth: usize) -> Result<Vec<u8>, AllocError> {
     let prefix = b"{\"x\":";
     let middle = prefix.len().saturating_add(depth);
@@ -43,7 +43,7 @@ fn with_blanks(alloc: Global, len: usize) -> Result<Vec<u8>, AllocError> {
     Ok(body)
 }
 
-/// How many copies of which entry stand before which one, how a run over the submission ends, and
+/// The number of copies of an entry before another one, the end of a run over the submission, and
 /// the line that it prints.
 const SUBMISSIONS: &[(usize, &str, &str, Status, &str)] = &[
     (
@@ -90,7 +90,7 @@ const SUBMISSIONS: &[(usize, &str, &str, Status, &str)] = &[
     ),
 ];
 
-/// How many lists stand in one another, and the line that is printed of the body.
+/// The number of nested lists, and the line that is printed for the body.
 const DEPTHS: &[(usize, &str)] = &[
     (
         126,
@@ -106,8 +106,8 @@ const LENGTHS: &[(usize, Status, &str)] = &[
     (4_194_305, Status::Refused, "{\"error\":\"TooLarge\"}\n"),
 ];
 
-/// What stands before and after a text of 10,000 bytes, under each key that wants one, and under a
-/// key that nobody reads; and the line that is printed of the body.
+/// The text before and after a text of 10,000 bytes, under each key that takes one, and under a key
+/// that nobody reads; and the line that is printed for the body.
 const LONG_TEXTS: &[(&str, &str, &str)] = &[
     (
         "{\"ref\":\"",

@@ -1,5 +1,5 @@
-//! Lists of entries: the message or the line of the fault, where they are read from a reader and from a
-//! path.
+//! Lists of entries: the message, or the line of the fault, for lists that are read from a reader
+//! and from a path.
 use super::{NOBODY, prints};
 use cli_submit::SubmitOptions;
 use desk_cli::{Command, Status, run, submit_list};
@@ -10,7 +10,7 @@ use std::test::Fail;
 /// The first row of a list.
 const HEADER: &[u8] = b"routing,account,kind,prenote,cents,id,name,info\n";
 
-/// What the company of the list below says of it.
+/// The options of the list below.
 pub const OPTIONS: SubmitOptions<'static> = SubmitOptions {
     company: "MILL01",
     key: "mill-street-key",
@@ -70,7 +70,7 @@ const WHOLE_LISTS: &[(&[u8], Status, &str)] = &[
     ),
 ];
 
-/// A company and a key of which one is bad, and the line that is printed.
+/// A company and a key, one of them invalid, and the line that is printed.
 const BAD_OPTIONS: &[(&str, &str, &str)] = &[
     ("mill01", "mill-street-key", "bad company\n"),
     ("", "short", "bad company\n"),
@@ -79,7 +79,7 @@ const BAD_OPTIONS: &[(&str, &str, &str)] = &[
     ("MILL01", "mill street key", "bad key\n"),
 ];
 
-/// What stands after the header of a list, and the line that is printed.
+/// The text after the header of a list, and the line that is printed.
 const BAD_ROWS: &[(&[u8], &str)] = &[
     (
         b"091000019,123456789,checking,,1.5,E1,ANN LEE,\n",
@@ -106,7 +106,7 @@ const LONG_LISTS: &[(usize, &str)] = &[
     (1_001, "row 1002: bad row\n"),
 ];
 
-/// The end of the message of such a long list.
+/// The end of the message of a list of this length.
 const LAST_ENTRY: &[u8] = b"\"routing\":\"1\"}],\"ref\":\"PAY-1\",\"sec\":\"PPD\"}";
 
 /// The end of the message of a list without entries.
@@ -115,7 +115,8 @@ const NO_ENTRIES: &[u8] = b"\"entries\":[],\"ref\":\"PAY-1\",\"sec\":\"PPD\"}";
 /// The path of the lists that the tests write.
 const PATH: &str = "list.csv";
 
-// How a run ends over a list at a path, and what it prints, where a run over a reader does the same.
+// Returns the end of a run over a list at a path, and its output, if a run over a reader does the
+// same.
 fn outcome(
     rt: &HostRuntime,
     options: SubmitOptions<'_>,
@@ -151,7 +152,7 @@ fn has_message(rt: &HostRuntime, list: &[u8], end: &[u8]) -> Result<bool, Fail> 
     Ok(ended == Status::Done && printed.as_slice().ends_with(end))
 }
 
-// The header, and so many copies of a row.
+// Returns the header and this many copies of a row.
 fn rows(alloc: Global, row: &[u8], count: usize) -> Result<Vec<u8>, AllocError> {
     let mut list = Vec::from_slice(alloc, HEADER)?;
     for _ in 0..count {

@@ -74,7 +74,7 @@ pub fn join(alloc: Global, texts: &[&str]) -> Result<Vec<u8>, AllocError> {
     Ok(all)
 }
 
-// So many copies of a text, and another one after them.
+// Returns this many copies of a text, followed by another one.
 fn copies(alloc: Global, text: &str, count: usize, last: &str) -> Result<Vec<u8>, AllocError> {
     let mut all = Vec::new(alloc);
     for _ in 0..count {

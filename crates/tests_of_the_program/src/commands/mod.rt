@@ -19,7 +19,7 @@ use std::alloc::Global;
 const PAY_1: &[u8] =
     b"{\"ref\":\"PAY-1\",\"sec\":\"PPD\",\"direction\":\"credit\",\"description\":\"PAYROLL\",\"day\":\"2025-01-10\",\"entries\":[{\"routing\":\"091000019\",\"account\":\"123456789\",\"kind\":\"checking\",\"cents\":150000,\"id\":\"E1\",\"name\":\"ANN LEE\"}]}";
 
-/// What it is answered.
+/// Its answer.
 const PAY_1_LINE: &str = "{\"cents\":150000,\"entries\":1,\"order\":1,\"ref\":\"PAY-1\"}\n";
 
 /// A submission as far as its entries.

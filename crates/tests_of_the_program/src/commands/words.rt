@@ -1,11 +1,11 @@
-//! What the words of a command line ask for.
+//! The commands that words name.
 use super::desks::SAMPLE_BANK;
 use super::lists::OPTIONS;
 use cli_submit::SubmitOptions;
 use desk_cli::{Command, LineFault, ServeOptions, command_of};
 use std::alloc::Global;
 
-/// Options of which each says nothing.
+/// Options without values.
 const NOTHING: SubmitOptions<'static> = SubmitOptions {
     company: "",
     key: "",
@@ -155,7 +155,7 @@ const HELP: &[(&[&str], &str)] = &[
     (&["migrate", "--help"], "Usage: achdesk migrate <DB>"),
 ];
 
-/// Words that name no command, and a part of what is told of them.
+/// Words that do not name a command, and a part of the text that is printed.
 const USAGE: &[(&[&str], &str)] = &[
     (&["submit"], "--company <COMPANY>"),
     (&["submit", "a", "--key", "k"], "--day <DAY>"),
@@ -190,7 +190,7 @@ fn names(alloc: Global, words: &[&str], wanted: Command<'_>) -> bool {
     }
 }
 
-// Are the words told a text with this part, as help or else as wrong usage?
+// Reports whether the text for the words, help or a usage error, has this part.
 fn tells(alloc: Global, words: &[&str], is_help: bool, part: &str) -> bool {
     match command_of(alloc, words) {
         Err(LineFault::Help(text)) => is_help && text.as_str().contains(part),

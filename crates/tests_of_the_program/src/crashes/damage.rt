@@ -10,7 +10,7 @@ use std::process::Abort;
 /// A file has fewer places that are damaged.
 const MOST_PLACES: usize = 20_000;
 
-/// What is done to a file at a place.
+/// A change to a file at a place.
 #[derive(Clone, Copy)]
 enum Damage {
     /// The file ends at the place.
@@ -19,16 +19,16 @@ enum Damage {
     Change,
 }
 
-/// What is said of damaged files.
+/// The result of opening damaged files.
 #[derive(Clone, Copy, PartialEq, Eq)]
 enum Outcome {
     /// They are not opened as a desk.
     Refused,
-    /// They have the tables after so many of the messages.
+    /// They have the tables after this many of the messages.
     After(usize),
 }
 
-/// How often damaged files were told to be what.
+/// The counts of each result.
 #[derive(Clone, Copy)]
 struct Counts {
     refused: u64,
@@ -40,7 +40,7 @@ struct Counts {
 
 const PAGE: usize = 4_096;
 
-// What stands before the first page of a file, and a page with what stands before it.
+// Returns the size of the file's head, and that of a page with its head.
 fn layout_of(which: Which) -> (usize, usize) {
     match which {
         Which::Log => (32, 24 + PAGE),
@@ -159,7 +159,7 @@ fn the_database_file_of_a_closed_desk_is_damaged(rt: HostRuntime) {
     assert!(rt; is_refused(changed));
 }
 
-// What the log has too is right.
+// The content that the log has too is correct.
 #[test]
 fn the_database_file_of_a_desk_that_was_left_open_is_damaged(rt: HostRuntime) {
     let trial = days(&rt);
@@ -170,7 +170,8 @@ fn the_database_file_of_a_desk_that_was_left_open_is_damaged(rt: HostRuntime) {
     assert!(rt; changed.refused > 0 && changed.behind == 0);
 }
 
-// A damaged log is taken up to the last write before the damage: nobody can tell that there was more.
+// A damaged log is used up to the last write before the damage: nobody can know that there was
+// more.
 #[test]
 fn a_log_is_damaged(rt: HostRuntime) {
     let trial = days(&rt);
@@ -181,8 +182,8 @@ fn a_log_is_damaged(rt: HostRuntime) {
     assert!(rt; changed.behind > 0);
 }
 
-// A file lost all that was written since the desk was made: the database file, whose log was emptied for
-// it, or the log alone. Nobody can tell that there was more.
+// A file lost everything written since the desk was made: the database file, after its log was
+// emptied into it, or the log alone. Nobody can know that there was more.
 #[test]
 fn a_file_lost_a_sync(rt: HostRuntime) {
     let trial = days(&rt);

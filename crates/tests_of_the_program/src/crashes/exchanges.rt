@@ -4,7 +4,7 @@ use itoa::Buffer;
 use std::alloc::Global;
 use std::process::Abort;
 
-/// What a desk answers that could not act.
+/// The answer of a desk whose store failed.
 pub(super) const UNAVAILABLE: &[u8] =
     b"HTTP/1.1 503 Service Unavailable\r\nContent-Type: application/json\r\nContent-Length: 23\r\nConnection: close\r\n\r\n{\"error\":\"Unavailable\"}";
 
@@ -63,8 +63,8 @@ pub(super) fn add_second_answers(rt: &impl Abort, out: &mut Vec<u8>, messages: &
     }
 }
 
-/// How many of the messages were answered as they have to be? After those a session told nothing, or that
-/// the desk could not act.
+/// Returns the number of messages with the expected answers. After those the session wrote nothing,
+/// or that the store failed.
 pub(super) fn count_answers(
     rt: &(impl Abort + Alloc<A = Global>),
     messages: &[Exchange],

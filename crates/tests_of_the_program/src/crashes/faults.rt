@@ -1,4 +1,4 @@
-//! What is tried is cut off at each call of a file in turn.
+//! Trials that are cut off at each call of a file in turn.
 use super::exchanges::count_answers;
 use super::limits::{Harm, Which, limits_of};
 use super::tears::{garbage_of, half_of_write};
@@ -10,19 +10,19 @@ use std::process::Abort;
 /// Fewer calls of a file are made.
 const MOST_CALLS: u64 = 20_000;
 
-/// What was found.
+/// The findings.
 #[derive(Clone, Copy)]
 struct Findings {
-    /// In so many files that a process left more was done than answered, and in so many not. Files that are
-    /// those before count once.
+    /// The number of file pairs, left by a process, in which more was done than answered, and of
+    /// those in which it was not. Unchanged files count once.
     ahead: u64,
     behind: u64,
-    /// So many messages were found done and not answered, and this was the last.
+    /// The number of messages found done and not answered; the last one counts.
     unanswered: usize,
     last: Option<usize>,
-    /// So many writes were torn.
+    /// The number of torn writes.
     torn: usize,
-    /// It was cut off so many times.
+    /// The number of times that it was cut off.
     times: usize,
 }
 
@@ -49,7 +49,7 @@ impl Findings {
     }
 }
 
-// What there is before any call.
+// The state before any call.
 fn first_visit(rt: &(impl Abort + Alloc<A = Global>), trial: &Trial) -> Visited {
     Visited {
         told: Vec::new(rt.alloc()),
@@ -193,7 +193,7 @@ fn a_file_stops_while_a_desk_is_migrated(rt: HostRuntime) {
     stops(&rt, &trial, Which::Db);
 }
 
-// The file has no room for one write, or for none after it, at least so many times.
+// Checks a file that has no room for one write, or for none after it, at least this many times.
 fn has_no_room(rt: &(impl Abort + Alloc<A = Global>), trial: &Trial, which: Which, least: usize) {
     let once = bear(rt, trial, which, Harm::HasNoRoom(1));
     let ever = bear(rt, trial, which, Harm::HasNoRoom(u64::MAX));

@@ -7,7 +7,8 @@ ghost use Rattle.sqlite_disk.specs.Tally.{both_counts};
 use sqlite_disk::{Crash, Disk, Tally};
 use std::io::{self, ErrorKind};
 
-/// Which writes and changes of the length find no room: `refusals` of them, after so many writes.
+/// The writes and changes of the length that find no room: `refusals` of them, after a number of
+/// writes.
 #[derive(Clone, Copy)]
 pub(super) struct Room {
     pub writes: u64,
@@ -124,7 +125,7 @@ impl<D: Disk> Disk for Full<D> {
     }
 }
 
-/// It comes back with room.
+/// After a crash it has room.
 impl<D: Crash> Crash for Full<D> {
     fn crash(&mut self) {
         self.inner.crash();

@@ -11,7 +11,7 @@ pub(super) struct Image {
 }
 
 impl Image {
-    /// What is there before the first desk is made.
+    /// The files before the first desk is made.
     pub(super) fn empty(rt: &impl Alloc<A = Global>) -> Image {
         Image {
             log: Vec::new(rt.alloc()),
@@ -37,7 +37,7 @@ impl Image {
         }
     }
 
-    /// The same files, of which one has other bytes.
+    /// The same files, one of them with other bytes.
     pub(super) fn with(
         &self,
         rt: &(impl Abort + Alloc<A = Global>),

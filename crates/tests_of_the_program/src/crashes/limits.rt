@@ -38,16 +38,17 @@ pub(super) enum Which {
     Db,
 }
 
-/// What a file does not bear.
+/// The calls that fail.
 #[derive(Clone, Copy)]
 pub(super) enum Harm {
     /// Its machine stops after a number of calls.
     Stops,
-    /// After a number of writes there is no room for so many.
+    /// After a number of writes there is no room for this many.
     HasNoRoom(u64),
 }
 
-/// The limits of a file that bears so many calls, or so many writes, and then not. The other file has none.
+/// The limits of a file that passes this many calls, or writes, and then fails. The other file has
+/// none.
 pub(super) fn limits_of(which: Which, harm: Harm, number: u64) -> Both {
     let mut limits = NO_LIMITS;
     match harm {

@@ -19,9 +19,10 @@ pub(super) struct Exchange {
 #[derive(Clone, Copy)]
 pub(super) struct Script {
     pub messages: &'static [Exchange],
-    /// These of them hand in what was accepted, and are answered as the first time whenever they come again.
+    /// The messages that submit something that is accepted; they get their first answer whenever
+    /// they are repeated.
     pub accepted: &'static [Exchange],
-    /// So many of them change a table.
+    /// The number of messages that change a table.
     pub changes: usize,
 }
 
@@ -35,7 +36,7 @@ const PAY_1: &str =
 const PAY_2: &str =
     r#"{"ref":"PAY-2","sec":"PPD","direction":"debit","description":"DUES","day":"2025-01-10","entries":[{"routing":"091000019","account":"123456789","kind":"checking","cents":2500,"id":"E2","name":"BOB RAY"}]}"#;
 
-/// The debit that was sent second came back for lack of funds.
+/// The debit that was sent second is returned for lack of funds.
 const RETURN_2: &str = concat!(
     "101 121042882 0610001462501140930A094101OUR BANK               ACH OPERATOR                   \n",
     "5225MILL STREET                         MILL01    PPDDUES            2501140141091000010000001\n",
@@ -49,7 +50,7 @@ const RETURN_2: &str = concat!(
     "9999999999999999999999999999999999999999999999999999999999999999999999999999999999999999999999\n",
 );
 
-/// The debit that was sent first came back, since its payment was stopped.
+/// The debit that was sent first is returned because its payment was stopped.
 const STOPPED_1: &str = concat!(
     "101 121042882 0610001462501140930A094101OUR BANK               ACH OPERATOR                   \n",
     "5225MILL STREET                         MILL01    PPDDUES            2501140141091000010000001\n",
@@ -240,7 +241,7 @@ const RETRY_UNAUTHORIZED: Exchange = Exchange {
     again: ("409 Conflict", NOT_RETRYABLE),
 };
 
-/// It was authorized before the debit came back.
+/// It was authorized before the debit was returned.
 const RETRY_AUTHORIZED_BEFORE: Exchange = Exchange {
     key: MILL,
     asks: "POST /c/MILL01/retries",
@@ -281,7 +282,7 @@ const RETRY_REUSED: Exchange = Exchange {
     again: ("409 Conflict", r#"{"error":"RefReused","number":3}"#),
 };
 
-/// A credit and a debit are sent, the debit comes back, and the accounts are read.
+/// A credit and a debit are sent, the debit is returned, and the accounts are read.
 pub(super) const DAYS: Script = Script {
     messages: &[
         HOLIDAYS,
@@ -301,7 +302,7 @@ pub(super) const DAYS: Script = Script {
     changes: 10,
 };
 
-/// A debit comes back since its payment was stopped, and is tried again once that was authorized.
+/// A debit is returned because its payment was stopped, and is retried once that was authorized.
 pub(super) const RETRIES: Script = Script {
     messages: &[
         HOLIDAYS,

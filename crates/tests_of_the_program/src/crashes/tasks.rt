@@ -1,4 +1,4 @@
-//! What is done with a desk on a connection, whatever keeps the pages below.
+//! Tasks of a desk on a connection, for any storage of its pages.
 use super::exchanges::UNAVAILABLE;
 use crate::files::bank::identity;
 use crate::tables::add_tables;
@@ -13,7 +13,7 @@ use sqlite::{Alter, Connection};
 use std::alloc::Global;
 use std::process::Abort;
 
-/// What is done with a desk.
+/// A task of a desk.
 #[derive(Clone, Copy)]
 pub(super) enum Task<'a> {
     /// A new desk is made.
@@ -22,14 +22,14 @@ pub(super) enum Task<'a> {
     Migrate,
     /// The statements are run.
     Run(&'static str),
-    /// A check tells whether there is a desk.
+    /// Reports whether there is a desk.
     Check,
-    /// All tables of the desk are told.
+    /// Lists all tables of the desk.
     Read,
-    /// The messages of a session are read, and their answers are told. It is not done where the desk could
-    /// not act.
+    /// Reads the messages of a session, and lists their answers. It is not done if the desk's store
+    /// failed.
     Answer(&'a [u8]),
-    /// The files are left as they stand: it is never done.
+    /// Leaves the files unchanged: it is never done.
     Leave,
 }
 

@@ -1,4 +1,4 @@
-//! What a disk has of a write inside which its machine stopped.
+//! The bytes that a disk has of a write during which its machine stopped.
 use super::exchanges::add;
 use super::images::copy;
 use std::alloc::Global;

@@ -1,5 +1,5 @@
-//! What is tried: a session, a new desk and a migration, each from the files that it begins with; and what
-//! has to be found in files where it was cut off.
+//! The trials: a session, a new desk and a migration, each from the files that it begins with; and
+//! the expected contents of files after they were cut off.
 use super::exchanges::{add, add_answers, add_requests, add_second_answers};
 use super::images::Image;
 use super::limits::Both;
@@ -14,7 +14,7 @@ use std::process::Abort;
 const TO_FIRST_VERSION: &str =
     "DROP TABLE authorizations; DROP TABLE numbers; UPDATE desk SET version = 1 WHERE id = 1";
 
-/// What is tried.
+/// The kind of a trial.
 #[derive(Clone, Copy)]
 pub(super) enum Kind {
     /// A desk answers the messages.
@@ -25,7 +25,7 @@ pub(super) enum Kind {
     Migration,
 }
 
-/// What is tried, and on which files.
+/// A trial, and its files.
 #[derive(Drop)]
 pub(super) struct Trial {
     pub kind: Kind,
@@ -36,14 +36,14 @@ pub(super) struct Trial {
     pub tables: Vec<Vec<u8>>,
 }
 
-// What the tasks tell, all of which are done.
+// Returns the output of the tasks, all of which are done.
 fn output_of(rt: &(impl Abort + Alloc<A = Global>), image: &Image, tasks: &[Task<'_>]) -> Vec<u8> {
     let seen = free_visit(rt, image, tasks);
     assert!(rt; seen.fault.is_none());
     seen.told
 }
 
-// The files that the tasks leave, all of which are done.
+// Returns the files after the tasks, all of which are done.
 fn image_after(rt: &(impl Abort + Alloc<A = Global>), image: &Image, tasks: &[Task<'_>]) -> Image {
     let seen = free_visit(rt, image, tasks);
     assert!(rt; seen.is_closed);
@@ -96,12 +96,12 @@ pub(super) fn days(rt: &(impl Abort + Alloc<A = Global>)) -> Trial {
     session_of(rt, DAYS)
 }
 
-/// A new desk answers messages of which one tries a debit again.
+/// A new desk answers messages, one of which retries a debit.
 pub(super) fn retries(rt: &(impl Abort + Alloc<A = Global>)) -> Trial {
     session_of(rt, RETRIES)
 }
 
-/// A desk is made where there is none.
+/// A desk is made at an empty path.
 pub(super) fn new_desk(rt: &(impl Abort + Alloc<A = Global>)) -> Trial {
     let mut trial = session_of(
         rt,
@@ -138,7 +138,7 @@ pub(super) fn migration(rt: &(impl Abort + Alloc<A = Global>)) -> Trial {
     trial
 }
 
-/// What is tried is done on files of which some calls fail.
+/// Makes the trial on files some of whose calls fail.
 pub(super) fn attempt(
     rt: &(impl Abort + Alloc<A = Global>),
     trial: &Trial,
@@ -161,8 +161,9 @@ fn tables_at(trial: &Trial, count: usize) -> &[u8] {
     }
 }
 
-// What a desk has to tell that did so many of the messages, of which so many were answered: its tables, the
-// answers to the other messages and once more to all that was accepted, and the tables after that.
+// Returns the expected output of a desk that did the first messages, some of which were answered:
+// its tables, the answers to the other messages and again to all accepted ones, and the tables
+// after that.
 fn expected_output(
     rt: &(impl Abort + Alloc<A = Global>),
     trial: &Trial,
@@ -184,7 +185,8 @@ fn output_around(rt: &(impl Abort + Alloc<A = Global>), image: &Image, input: &[
     output_of(rt, image, &[Task::Read, Task::Answer(input), Task::Read])
 }
 
-// What a desk tells that gets the messages that were not answered, and then once more all that was accepted.
+// Returns the output of a desk that gets the messages that were not answered, and then again all
+// accepted ones.
 fn output_after(
     rt: &(impl Abort + Alloc<A = Global>),
     trial: &Trial,
@@ -222,8 +224,8 @@ fn is_new_desk(trial: &Trial, one: &Visited, other: &Visited, fault: OpenFault) 
     one.fault.is_none() && one.told.as_slice() == tables_at(trial, 0) && other.fault == Some(fault)
 }
 
-// Is there a desk in the files? It has the tables of a new one; and so has one that is made there where
-// there is none.
+// Reports whether the files have a desk. It has the tables of a new one; and so has one that is
+// made there if there is none.
 fn has_desk(rt: &(impl Abort + Alloc<A = Global>), trial: &Trial, image: &Image) -> bool {
     let found = free_visit(rt, image, &[Task::Check, Task::Read]);
     let made = free_visit(rt, image, &[Task::Make, Task::Read]);
@@ -243,8 +245,8 @@ fn is_second(rt: &(impl Abort + Alloc<A = Global>), trial: &Trial, image: &Image
     first.fault.is_some()
 }
 
-/// The files are as they have to be after so many messages were answered, or a call failed. Was more done
-/// than answered?
+/// Checks the files after this many messages were answered, or a call failed. Reports whether more
+/// was done than answered.
 pub(super) fn is_ahead(
     rt: &(impl Abort + Alloc<A = Global>),
     trial: &Trial,

@@ -10,13 +10,14 @@ use sqlite_disk::{Crash, Disk, Fuse, Memory};
 use std::alloc::Global;
 use std::process::Abort;
 
-/// A file in memory that has no room for some writes, passes so many calls on, and then fails each one.
+/// A file in memory that has no room for some writes, passes a number of calls on, and then fails
+/// each one.
 type Frail = Fuse<Full<Memory>>;
 
-/// What a visit of a database's files found, and what it left.
+/// The findings of a visit of a database's files, and the files after it.
 #[derive(Drop)]
 pub(super) struct Visited {
-    /// What its tasks told.
+    /// The output of its tasks.
     pub told: Vec<u8>,
     /// Why the files were not opened, or a task was not done.
     pub fault: Option<OpenFault>,
@@ -26,7 +27,7 @@ pub(super) struct Visited {
     pub written: Image,
     /// Nothing that was not synced: what a machine that stops may leave.
     pub synced: Image,
-    /// So many writes found no room.
+    /// The number of writes that found no room.
     pub refusals: u64,
 }
 
@@ -53,7 +54,7 @@ fn close<D: Disk + Drop>(conn: Connection<FileStore<D>>) -> (Files<D>, bool) {
     }
 }
 
-// Lets the files go as they stand where a task was not done, and else closes them.
+// Leaves the files unchanged if a task was not done, and otherwise closes them.
 fn end<D: Disk + Drop>(conn: Connection<FileStore<D>>, is_done: bool) -> (Files<D>, bool) {
     if is_done {
         close(conn)
@@ -87,8 +88,8 @@ fn image_of(rt: &(impl Abort + Alloc<A = Global>), files: &Files<Frail>) -> Imag
     }
 }
 
-/// Opens files with these bytes, carries out the tasks up to one that is not done, and closes the files
-/// where there is none.
+/// Opens files with these bytes, carries out the tasks up to one that is not done, and closes the
+/// files if there is none.
 pub(super) fn visit(
     rt: &(impl Abort + Alloc<A = Global>),
     image: &Image,

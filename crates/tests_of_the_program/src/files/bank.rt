@@ -1,4 +1,4 @@
-//! The sample bank, its company, what the company hands in, and what comes back.
+//! The sample bank, its company, the company's submissions, and their returns.
 use ach_fields::{Id, Routing};
 use desk_core::{Call, Identity, ListOf, PartyName};
 use desk_rules::{CompanyDraft, Draft, DraftText, EntryDraft, EntryDrafts, LimitDrafts, Optional};

@@ -1,13 +1,13 @@
-//! The commands of some days: a credit and a debit are sent, and the debit comes back.
+//! The commands of some days: a credit and a debit are sent, and the debit is returned.
 use super::bank::{company, credit, day, debit, file_of_returns, holidays};
 use desk_core::{Answer, Call, Desk, Store};
 use std::alloc::Global;
 use std::process::Abort;
 
-/// There are so many commands.
+/// The number of commands.
 pub(super) const COMMANDS: usize = 10;
 
-/// These hand in submissions and a file, which may come again.
+/// The submissions and the file among them, which may be repeated.
 pub(super) const ACCEPTED: [usize; 3] = [3, 5, 9];
 
 // The command with this number, from 0.

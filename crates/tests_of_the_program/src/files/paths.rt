@@ -137,7 +137,7 @@ fn log_of(rt: &HostRuntime, path: &str) -> Result<String, Fail> {
     Ok(format!(in rt.alloc(); "{path}-wal")?)
 }
 
-/// Removes the file and its log, where they are there.
+/// Removes the file and its log, if they exist.
 pub(super) fn clear(rt: &HostRuntime, path: &str) -> Result<(), Fail> {
     let _ = fs::remove_file(rt, path);
     let _ = fs::remove_file(rt, log_of(rt, path)?.as_str());

@@ -4,7 +4,7 @@ use sqlite::{Connection, Row};
 use std::alloc::{AllocError, Global};
 use std::test::Fail;
 
-// The query of these columns, of which one has another value.
+// The query of these columns, one of which has another value.
 fn query(
     alloc: Global,
     columns: &[&str],

@@ -1,4 +1,4 @@
-//! Accounts and their lines stand in two tables, and these bodies write both.
+//! Accounts and their lines in two tables, and bodies that write both.
 ghost use Rattle.std.specs.Prelude.{⊤};
 ghost use Rattle.sql_statements.specs.Edits.{no_edit};
 ghost use Rattle.sql_statements.specs.Promises.{Runs};

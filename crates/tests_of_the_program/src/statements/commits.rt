@@ -46,7 +46,7 @@ fn take(conn: &mut Connection<MemStore>, step: &Step<'_>) -> Result<(), Error> {
     }
 }
 
-/// Each step ends as beside it, and leaves so many lines, and so many cents in all accounts.
+/// Checks the end of each step, and the number of lines and the cents of all accounts after it.
 fn follow(
     rt: &(impl Abort + Alloc<A = Global>),
     steps: &[(Step<'_>, Result<(), Error>, (i64, i64))],
@@ -119,7 +119,7 @@ fn a_statement_that_fails_leaves_nothing(rt: HostRuntime) -> Result<(), Fail> {
     follow(&rt, &steps)
 }
 
-// What the transaction wrote is still there, and still not committed.
+// The transaction's writes are still there, and still not committed.
 #[test]
 fn a_transaction_that_is_open_goes_on(rt: HostRuntime) -> Result<(), Fail> {
     let steps = [

@@ -1,4 +1,4 @@
-//! The tests say what a commit makes of two tables, and what it leaves.
+//! Tests of the effect of a commit on two tables.
 mod bodies;
 mod commits;
 mod lists;
