@@ -81,6 +81,7 @@ impl Recogniser {
     ghost use Rattle.ach_files.specs.Memory.{NeedsRoom};
     ghost use Rattle.ach_files.specs.Taking.{TakesRecord, EndsRecord, RecordNeedsRoom, TakesInRecord, InRecordNeedsRoom, TakesByte, ByteNeedsRoom, TakesWhole, WholeNeedsRoom, TakesSome, TakesPiece, EndsAs};
 
+    /// Begins a file of which no bytes came yet.
     pub fn new(alloc: Global) -> Recogniser
         ensures { HasBytes result [] }
     {
@@ -220,7 +221,7 @@ impl Recogniser {
         Ok(1)
     }
 
-    // Takes the next bytes.
+    /// Takes the next bytes.
     pub fn take_all(&mut self, piece: &[u8]) -> Result<(), Fault>
         ensures read { TakesPiece self.old self.new piece.now result }
         ensures memory { NeedsRoom (HasBytes self.old) (item_room self.old) piece.now result }
@@ -232,7 +233,7 @@ impl Recogniser {
         Ok(())
     }
 
-    // The input is at its end.
+    /// Ends the input. Returns the facts of the file, or its fault at the end.
     #[tactic(auto, unfolding(crate::specs::FirstFault::end_fault))]
     pub fn end(self) -> Result<Taken, Fault>
         ensures { (l : Layout) → HasLayout self l → EndsAs l result }

@@ -21,6 +21,7 @@ pub struct Sums {
     pub credits: u64,
 }
 
+/// The sums of no entries.
 pub const NO_SUMS: Sums = Sums {
     count: 0,
     hash: 0,

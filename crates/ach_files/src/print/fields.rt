@@ -35,6 +35,7 @@ fn fit_entries(entries: &[OutgoingEntry]) -> bool
     entries.iter().all(|entry| fits_entry(entry))
 }
 
+/// Reports whether each field of the batch has a text.
 #[tactic(auto, unfolding(crate::specs::Outgoing::batch_fits))]
 pub fn fits_batch(batch: &OutgoingBatch) -> bool
     ensures { result ≡ batch_fits batch.now }

@@ -14,6 +14,7 @@ use crate::outgoing::{Addenda, Outgoing, OutgoingBatch, OutgoingEntry};
 use ach_records::FileControlText;
 use std::alloc::AllocError;
 
+/// Appends a record and an LF. On lack of memory the text begins with the old bytes.
 pub fn put(out: &mut Vec<u8>, text: &[u8; 94]) -> Result<(), AllocError>
     ensures ok { OnOk result (out.new.items ≡ out.old.items ++ (text.now ++ 10 ∷ [])) }
     ensures err { OnErr result (BeginsWith out.new.items out.old.items) }
@@ -23,7 +24,7 @@ pub fn put(out: &mut Vec<u8>, text: &[u8; 94]) -> Result<(), AllocError>
     Ok(())
 }
 
-// A record that has a text.
+/// Appends a record that has a text, and an LF.
 pub fn put_record(out: &mut Vec<u8>, text: Option<[u8; 94]>) -> Result<(), AllocError>
     requires { IsSome text }
     ensures ok { (row : List Value) → IsText text row →
@@ -68,6 +69,8 @@ fn put_entries(out: &mut Vec<u8>, entries: &[OutgoingEntry]) -> Result<(), Alloc
     Ok(())
 }
 
+/// Appends the records of a batch, whose fields have texts: header, entries with their addenda, and
+/// control.
 pub fn put_batch(out: &mut Vec<u8>, batch: &OutgoingBatch) -> Result<(), AllocError>
     requires { AllFit (batch_rows batch.now) }
     ensures ok { OnOk result (Puts out.old.items out.new.items (batch_rows batch.now)) }
@@ -104,6 +107,7 @@ fn put_rows(
     Ok(())
 }
 
+/// Appends this many records of nines.
 pub fn put_fillers(out: &mut Vec<u8>, count: u64) -> Result<(), AllocError>
     ensures { OnOk result (out.new.items ≡ out.old.items ++ page (replicate count nines)) }
 {

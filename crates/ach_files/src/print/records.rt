@@ -13,6 +13,7 @@ use ach_records::{
     print_return99,
 };
 
+/// Returns the printed text, or `None` if printing failed.
 pub fn record_of(outcome: Result<(), FieldFault>, text: [u8; 94]) -> Option<[u8; 94]>
     ensures { (old : List ℕ) (row : List Value) → Prints outcome old text row → IsText result row }
 {
@@ -22,6 +23,7 @@ pub fn record_of(outcome: Result<(), FieldFault>, text: [u8; 94]) -> Option<[u8;
     }
 }
 
+/// Returns the text of a file header, or `None` if a field has none.
 pub fn file_header_record(header: &FileHeaderText) -> Option<[u8; 94]>
     ensures { IsText result (file_header_row header.now) }
 {
@@ -30,6 +32,7 @@ pub fn file_header_record(header: &FileHeaderText) -> Option<[u8; 94]>
     record_of(outcome, record)
 }
 
+/// Returns the text of a batch header, or `None` if a field has none.
 pub fn batch_header_record(header: &BatchHeaderText) -> Option<[u8; 94]>
     ensures { IsText result (batch_header_row header.now) }
 {
@@ -44,6 +47,7 @@ fn has_addenda(addenda: &Addenda) -> bool
     !matches!(addenda, Addenda::Absent)
 }
 
+/// Returns the text of an entry's record 6, or `None` if a field has none.
 pub fn entry_record(entry: &OutgoingEntry) -> Option<[u8; 94]>
     ensures { IsText result (entry_row (entry_of entry.now)) }
 {
@@ -63,7 +67,8 @@ pub fn entry_record(entry: &OutgoingEntry) -> Option<[u8; 94]>
     record_of(outcome, record)
 }
 
-// The record after an entry's, and whether there is one.
+/// Returns the text of an entry's addenda, or `None` if the entry has no addenda or a field has no
+/// text.
 pub fn addenda_record(entry: &OutgoingEntry) -> Option<[u8; 94]>
     ensures { (row : List Value) → addenda_rows_of entry.now ≡ row ∷ [] → IsText result row }
 {
@@ -100,6 +105,7 @@ fn batch_control_text<'a>(batch: &OutgoingBatch<'a>) -> BatchControlText<'a>
     }
 }
 
+/// Returns the text of a batch control, or `None` if a field has none.
 pub fn batch_control_record(batch: &OutgoingBatch) -> Option<[u8; 94]>
     requires { row_fits (batch_control_row (batch_control batch.now)) ≡ true }
     ensures { IsText result (batch_control_row (batch_control batch.now)) }

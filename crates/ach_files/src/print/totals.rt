@@ -16,6 +16,7 @@ fn add_up(a: u64, b: u64) -> u64
     if a < CAP && b < CAP - a { a + b } else { CAP }
 }
 
+/// Returns the sums of both; a total stops growing once it is too large for a file.
 #[tactic(auto, using(crate::proofs::Outgoings::kept_added))]
 pub fn add_sums(a: Sums, b: Sums) -> Sums
     ensures { AddsUp a b result }
@@ -62,6 +63,7 @@ fn sums_of_entry(entry: &OutgoingEntry) -> Sums
     }
 }
 
+/// Returns the sums of these entries.
 pub fn sums_of_entries(entries: &[OutgoingEntry]) -> Sums
     ensures { result ≡ capped_sums (batch_sums entries.now) }
 {
@@ -72,6 +74,7 @@ pub fn sums_of_entries(entries: &[OutgoingEntry]) -> Sums
     sums
 }
 
+/// Reports whether a total is too large for a file.
 pub fn is_large(sums: &Sums) -> bool
     ensures { result ≡ is_large sums.now }
 {

@@ -17,13 +17,14 @@ use crate::{
 use ach_fields::{Id, Ref, Routing, ShortText};
 use bank_days::Day;
 
-// The value, or the refusal of its field.
+/// Returns the value, or the refusal of its field; the index is the number of its entry, or 0.
 pub fn good<T: Drop>(value: Option<T>, field: Field, index: u64) -> Result<T, Refusal>
     ensures { result ≡ good field index value }
 {
     value.ok_or(Refusal::BadField { field, index })
 }
 
+/// Returns the reference of a text of 1 to 20 characters `A-Z a-z 0-9 - _ .`
 pub fn reference(draft: &Option<DraftText>) -> Option<Ref>
     ensures { result ≡ option_and_then (λ s. result_ok (reference_of s)) draft.now }
 {
@@ -33,6 +34,7 @@ pub fn reference(draft: &Option<DraftText>) -> Option<Ref>
     }
 }
 
+/// Returns the identification of a text of 1 to 10 characters `A-Z 0-9`.
 pub fn id(draft: &Option<DraftText>) -> Option<Id>
     ensures { result ≡ option_and_then (λ s. result_ok (id_of s)) draft.now }
 {
@@ -42,6 +44,7 @@ pub fn id(draft: &Option<DraftText>) -> Option<Id>
     }
 }
 
+/// Returns the routing number of nine digits with their check digit.
 pub fn routing(draft: &Option<DraftText>) -> Option<Routing>
     ensures { result ≡ option_and_then (λ s. result_ok (routing_of s)) draft.now }
 {
@@ -51,6 +54,7 @@ pub fn routing(draft: &Option<DraftText>) -> Option<Routing>
     }
 }
 
+/// Returns the SEC code, `PPD` or `CCD`.
 pub fn sec(draft: &Option<DraftText>) -> Option<SecCode>
     ensures { result ≡ option_and_then sec_of draft.now }
 {
@@ -64,6 +68,7 @@ pub fn sec(draft: &Option<DraftText>) -> Option<SecCode>
     }
 }
 
+/// Returns the direction, `credit` or `debit`.
 pub fn direction(draft: &Option<DraftText>) -> Option<Direction>
     ensures { result ≡ option_and_then direction_of draft.now }
 {
@@ -81,6 +86,7 @@ pub fn direction(draft: &Option<DraftText>) -> Option<Direction>
     }
 }
 
+/// Returns the kind of account, `checking` or `savings`.
 pub fn kind(draft: &Option<DraftText>) -> Option<AccountKind>
     ensures { result ≡ option_and_then kind_of draft.now }
 {
@@ -98,7 +104,7 @@ pub fn kind(draft: &Option<DraftText>) -> Option<AccountKind>
     }
 }
 
-// A text of 1 to N characters.
+/// Returns a text of 1 to N characters.
 pub fn text<const N: usize>(draft: &Option<DraftText>) -> Option<ShortText<N>>
     ensures { result ≡ option_and_then (text_of N) draft.now }
 {
@@ -118,7 +124,7 @@ fn text_of<const N: usize>(text: &DraftText) -> Option<ShortText<N>>
     }
 }
 
-// A text of at most N characters.
+/// Returns a text of at most N characters, which may be empty.
 pub fn text_or_none<const N: usize>(draft: &Option<DraftText>) -> Option<ShortText<N>>
     ensures { result ≡ option_and_then (λ s. result_ok (short_text_of N s)) draft.now }
 {
@@ -128,6 +134,8 @@ pub fn text_or_none<const N: usize>(draft: &Option<DraftText>) -> Option<ShortTe
     }
 }
 
+/// Returns a description of 1 to 10 characters, other than those that Nacha reserves for retries and
+/// reversals.
 pub fn description(draft: &Option<DraftText>) -> Option<ShortText<10>>
     ensures { result ≡ option_and_then description_of draft.now }
 {
@@ -143,6 +151,7 @@ pub fn description(draft: &Option<DraftText>) -> Option<ShortText<10>>
     }
 }
 
+/// Returns the day of a text `YYYY-MM-DD`, if rules accept it.
 pub fn day(draft: &Option<DraftText>) -> Option<RuleDay>
     ensures { result ≡ option_and_then day_of draft.now }
 {
@@ -152,6 +161,7 @@ pub fn day(draft: &Option<DraftText>) -> Option<RuleDay>
     }
 }
 
+/// Returns the day of a text `YYYY-MM-DD`, if there is one.
 pub fn optional_day(draft: &Optional<DraftText>) -> Option<Option<Day>>
     ensures { result ≡ optional_of day_of draft.now }
 {
@@ -162,6 +172,7 @@ pub fn optional_day(draft: &Optional<DraftText>) -> Option<Option<Day>>
     }
 }
 
+/// Returns whether an entry is a prenote: false if the field is missing.
 pub fn prenote(draft: &Optional<bool>) -> Option<bool>
     ensures { result ≡ prenote_of draft.now }
 {
@@ -172,6 +183,7 @@ pub fn prenote(draft: &Optional<bool>) -> Option<bool>
     }
 }
 
+/// Returns an entry's amount in cents: 0 for a prenote, else 1 to 9,999,999,999.
 pub fn cents(draft: Option<u64>, prenote: bool) -> Option<EntryCents>
     ensures { result ≡ option_and_then (entry_cents_of prenote) draft }
 {
@@ -184,6 +196,7 @@ pub fn cents(draft: Option<u64>, prenote: bool) -> Option<EntryCents>
     if right { EntryCents::new(amount) } else { None }
 }
 
+/// Returns the text of an addenda, of 1 to 80 characters, if there is one.
 pub fn info(draft: &Optional<DraftText>) -> Option<Option<ShortText<80>>>
     ensures { result ≡ optional_of (text_of 80) draft.now }
 {
@@ -194,7 +207,7 @@ pub fn info(draft: &Optional<DraftText>) -> Option<Option<ShortText<80>>>
     }
 }
 
-// The number of an entry in its submission.
+/// Returns the number of an entry in its submission, 1 to 1,000.
 pub fn entry_number(draft: Option<u64>) -> Option<u64>
     ensures { result ≡ option_and_then entry_number_of draft }
 {
@@ -206,7 +219,7 @@ pub fn entry_number(draft: Option<u64>) -> Option<u64>
     }
 }
 
-// A key that may be: only its digest is kept.
+/// Checks a key; only its digest is kept.
 pub fn key(draft: &Option<DraftText>) -> Option<()>
     ensures { result ≡ option_and_then key_of draft.now }
 {
@@ -229,7 +242,7 @@ fn are_key_characters(bytes: &[u8]) -> bool
     bytes.iter().all(|byte| *byte >= b'!' && *byte <= b'~')
 }
 
-// A number up to a largest.
+/// Returns the number if it is at most `most`.
 pub fn up_to(most: u64, draft: Option<u64>) -> Option<u64>
     ensures { result ≡ option_and_then (up_to most) draft }
 {
