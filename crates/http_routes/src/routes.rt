@@ -77,20 +77,22 @@ fn build(alloc: Global) -> Result<Router<Served>, InsertError>
     Ok(router)
 }
 
-fn text_of(method: Method) -> &'static str
-    ensures { result.now ≡ method_text method }
+/// The method as `http` names it.
+fn name_of(method: Method) -> http::Method
+    ensures { result ≡ method_text method }
 {
     match method {
-        Method::Get => "GET",
-        Method::Post => "POST",
+        Method::Get => http::Method::GET,
+        Method::Post => http::Method::POST,
     }
 }
 
-/// The route that is served, if it takes this method.
+/// The route that is served, if it takes this method. A request's method is compared as a text,
+/// since to read it may take memory.
 fn judge(method: &[u8], served: &Served) -> Result<Route, RouteFault>
     ensures { result ≡ route_verdict method.now (Some served.now) }
 {
-    if method == text_of(served.method).as_bytes() {
+    if method == name_of(served.method).as_str().as_bytes() {
         Ok(served.route)
     } else {
         Err(RouteFault::BadMethod)
