@@ -2,7 +2,7 @@
 ghost use Rattle.std.specs.Prelude.{◌≡◌, length, Option};
 ghost use Rattle.desk_book.specs.Book.{Book};
 ghost use Rattle.desk_book.specs.OnIntake.{traced_entries};
-ghost use Rattle.desk_book.specs.Reads.{key_of, company, submission, submission_count, open_rows_of, retries_of, waiting_of, waiting, last_sequence, sent_count, latest_settled, items_of};
+ghost use Rattle.desk_book.specs.Reads.{key_of, company, submission, submission_count, open_rows_of, retries_of, waiting_of, waiting, last_sequence, sent_count, latest_settled, sent_as, items_of};
 ghost use Rattle.desk_book.specs.Steps.{set_day, set_holidays, put_company, put_limits};
 ghost use Rattle.desk_book.specs.Sums.{exposures_of, rates_of};
 ghost use Rattle.desk_store.specs.Accounts.{postings_of, balances_of};
@@ -254,6 +254,17 @@ pub trait Store {
     ) -> Result<Vec<Option<NamedEntry>>, StoreFault>
         ensures { CallGivesList is_clean holds may_leave self.old self.new result
             (traced_entries traces.now) };
+
+    /// Reads the youngest entry that was sent with a trace.
+    fn sent_as(&mut self, alloc: Global, trace: Trace) -> Result<Option<SentEntry>, StoreFault>
+        ensures { CallGives is_clean holds may_leave self.old self.new result (sent_as trace) }
+    {
+        let named = self.traced_entries(alloc, &[Some(trace)])?;
+        match named.first() {
+            Some(Some(named)) => Ok(Some(named.entry)),
+            _ => Ok(None),
+        }
+    }
 
     /// Reads the returns and changes of a company's entries.
     fn items_of(&mut self, alloc: Global, company: Id) -> Result<ReturnsAndChanges, StoreFault>
