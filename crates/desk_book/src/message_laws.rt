@@ -24,12 +24,12 @@ pub fn reads_leave()
 {}
 
 /// A submission, a retry or an incoming file that was accepted is answered as it was then whenever it
-/// is sent again, and the book stays as it is.
+/// is sent again, and the book stays as it is. So is another message of the company with the same
+/// content, whatever else its draft says, and another file with the same key and digest.
 pub fn twice_acts_once()
     ensures { TwiceActsOnce }
 {
     desk_rules::same_contents();
-    desk_history::first_answer_stands();
     crate::row_laws::verdicts_on_rows();
     crate::book_laws::tells_replies();
     book_tells();
