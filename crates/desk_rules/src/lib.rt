@@ -4,8 +4,9 @@
 //! which returned debits may be retried (Nacha's reinitiation); and the share of returned debits
 //! (Nacha's return rates).
 //!
-//! Only calls that read a draft take memory. Rules accept days up to 2100-01-31, so that every day
-//! they count to exists.
+//! `check_fields` takes memory, and the calls that make or copy a text of a draft, a list of entries or
+//! a submission; no rule does. Rules accept days up to 2100-01-31, so that every day they count to
+//! exists.
 #![tactic(auto)]
 
 mod bodies;

@@ -121,8 +121,12 @@ pub(super) fn follow<S: Store>(
     asked_again
 }
 
-// Returns the store after it sent entries with these sequences; unchanged if there are none.
-fn after<S: Store>(rt: &(impl Abort + Alloc<A = Global>), store: S, sequences: &[u32]) -> S {
+/// Returns the store after it sent entries with these sequences; unchanged if there are none.
+pub(super) fn after<S: Store>(
+    rt: &(impl Abort + Alloc<A = Global>),
+    store: S,
+    sequences: &[u32],
+) -> S {
     let mut store = store;
     if !sequences.is_empty() {
         put_old_cut(rt, &mut store, sequences);

@@ -1,8 +1,9 @@
 //! These scripts try sequences at their end, and used again.
 use super::script::{
-    BAKE, DAY, HOLIDAYS, MILL, NINTH, Script, follow, holds_after, new_lists, new_tables,
+    BAKE, DAY, HOLIDAYS, MILL, NINTH, Script, after, follow, holds_after, new_lists, new_tables,
 };
-use crate::samples::day;
+use crate::samples::{day, id, reference};
+use ach_fields::{Id, Ref, Trace};
 use desk_core::{Desk, Store};
 use std::alloc::Global;
 use std::process::Abort;
@@ -124,4 +125,83 @@ fn settle_in_turn<S: Store + Drop>(rt: &(impl Abort + Alloc<A = Global>), store:
 fn ranges_of_several_cuts_settle(rt: HostRuntime) {
     settle_in_turn(&rt, new_lists(&rt));
     settle_in_turn(&rt, new_tables(&rt));
+}
+
+// An entry: its company, the reference of its submission, and its number there.
+type Named = (&'static [u8], &'static [u8], u64);
+
+// The sequence of the last entry that was sent, and the entries that traces name.
+type Numbered = (u32, &'static [(&'static [u8], Option<Named>)]);
+
+const NUMBERED_IN_TURN: Numbered = (
+    5,
+    &[
+        (b"121042880000002", Some((b"MILL01", b"PAY-1", 2))),
+        (b"121042880000003", Some((b"BAKE01", b"PAY-1", 1))),
+        (b"121042880000005", Some((b"MILL01", b"PAY-2", 1))),
+        (b"121042880000006", None),
+        // Another bank's.
+        (b"061000140000005", None),
+    ],
+);
+
+// Sequence 2 is given a second time after the last one: its trace names the younger entry.
+const NUMBERED_AGAIN: Numbered = (
+    2,
+    &[
+        (b"121042880000002", Some((b"MILL01", b"T", 2))),
+        (b"121042889999998", Some((b"BAKE01", b"OLD", 3))),
+        (b"121042889999999", Some((b"MILL01", b"O", 1))),
+    ],
+);
+
+fn entry_named<S: Store>(
+    rt: &(impl Abort + Alloc<A = Global>),
+    store: &mut S,
+    trace: &[u8],
+) -> Option<(Id, Ref, u64)> {
+    let trace = Trace::parse(trace).ok().expect(rt, "a trace");
+    match store
+        .sent_as(rt.alloc(), trace)
+        .ok()
+        .expect(rt, "an answer")
+    {
+        Some(entry) => Some((entry.company, entry.reference, entry.index)),
+        None => None,
+    }
+}
+
+fn wanted_entry(rt: &impl Abort, named: Option<Named>) -> Option<(Id, Ref, u64)> {
+    match named {
+        Some((company, name, index)) => Some((id(rt, company), reference(rt, name), index)),
+        None => None,
+    }
+}
+
+// After a script, which the store follows once it has sent entries with these sequences.
+fn is_numbered<S: Store + Drop>(
+    rt: &(impl Abort + Alloc<A = Global>),
+    store: S,
+    sequences: &[u32],
+    script: Script,
+    (last, names): Numbered,
+) {
+    let mut desk = Desk::new(after(rt, store, sequences));
+    follow(rt, &mut desk, script);
+    let mut store = desk.into_store();
+    assert!(rt; store.last_sequence(rt.alloc()) == Ok(last));
+    for (trace, named) in names {
+        assert!(rt;
+            entry_named(rt, &mut store, trace) == wanted_entry(rt, *named),
+            "{trace:?}"
+        );
+    }
+}
+
+#[test]
+fn traces_name_the_youngest_entries(rt: HostRuntime) {
+    is_numbered(&rt, new_lists(&rt), &[], IN_TURN, NUMBERED_IN_TURN);
+    is_numbered(&rt, new_tables(&rt), &[], IN_TURN, NUMBERED_IN_TURN);
+    is_numbered(&rt, new_lists(&rt), &OLD, LAST_USED, NUMBERED_AGAIN);
+    is_numbered(&rt, new_tables(&rt), &OLD, LAST_USED, NUMBERED_AGAIN);
 }
