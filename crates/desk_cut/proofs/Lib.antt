@@ -4,3 +4,4 @@ pub mod Prints
 pub mod Sendings
 pub mod Sums
 pub mod Totals
+pub mod IsDue

@@ -123,7 +123,10 @@ lines_are x n h = (λ i. flat_map line_by (zip (h.sent i) (h.loads i))) ∙ line
 -- ---- the plan
 
 pub may_take : (x : CutFacts) (n : CutNumbers) (latest : List (Option ℕ)) (may : Bool) → IsOf x n → list_all (is_past x.day) latest ≡ may → MayTake x latest may
-may_take x n latest may h past = λ sent told. h.may sent told.last ∙ ap (list_all (is_past x.day)) (sym told.settled) ∙ past
+may_take x n latest may h past = record {
+  past = past;
+  take = λ sent told. h.may sent told.last ∙ ap (list_all (is_past x.day)) (sym told.settled) ∙ past;
+}
 
 pub is_plan : (x : CutFacts) (n : CutNumbers) (sizes : List ℕ) (p : CutPlan) → IsOf x n → sizes ≡ map length (division n.loads.items)
     → plan_write p ≡ write_of x.identity (files_from x.day x.made (in_runs sizes (batches_in n))) n
@@ -151,7 +154,7 @@ is_plan x n sizes p h is written done =
 pub days_spent : (x : CutFacts) (n : CutNumbers) (latest : List (Option ℕ)) (fault : CutFault) → IsOf x n → MayTake x latest true → has_modifiers x ≡ true
     → IsUnsettled (map due_in n.sent.items) fault → Plans x latest (Err fault)
 days_spent x n latest DaysSpent h may has beyond = (may, has, ap settles_beyond (sym h.sent) ∙ beyond)
-days_spent x n latest NoMemory h may has beyond = tt
+days_spent x n latest NoMemory h may has beyond = may
 days_spent x n latest TracesSpent h may has beyond = absurd beyond
 days_spent x n latest ModifiersSpent h may has beyond = absurd beyond
 

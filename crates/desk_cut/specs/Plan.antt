@@ -1,7 +1,8 @@
 -- The outcome of planning a cut.
-use Rattle.std.specs.Prelude.{◌≡◌, ⊤, ℕ, ◌+◌, Bool, true, false, nat_le, List, map, length, Option, Result, Ok, Err}
+use Rattle.std.specs.Prelude.{◌≡◌, ℕ, ◌+◌, Bool, true, false, nat_le, List, map, length, Option, Result, Ok, Err}
 use Rattle.desk_plan.specs.Modifiers.{most_files}
-use Rattle.desk_plan.specs.Reuse.{may_send, latest_settled}
+use Rattle.std.specs.List.{list_all}
+use Rattle.desk_plan.specs.Reuse.{is_past, may_send, latest_settled}
 use Rattle.desk_plan.specs.Sequences.{SentSequence, last_sequence, ranges_of}
 use Rattle.desk_history.specs.declared.identity.Identity.{Identity}
 use Rattle.desk_history.specs.Sendings.{plan_of}
@@ -41,15 +42,17 @@ pub record IsPlan (x : CutFacts) (p : CutPlan) : Type 0 where
   pub write : plan_write p ≡ cut_write x
   pub done : p.done ≡ cut_summary x
 
--- the cut may take its sequences, for all sent entries that agree with the inputs; or it may not
-abbrev pub MayTake : CutFacts → List (Option ℕ) → Bool → Type 0
-MayTake x latest may = (sent : List SentSequence) → IsTold x latest sent → may_send x.day sent (map plan_of (cut_sendings x)) ≡ may
+-- whether each of these latest settlements was long enough ago: then the cut may take its sequences, for all sent
+-- entries that agree with the inputs; else it may not
+pub record MayTake (x : CutFacts) (latest : List (Option ℕ)) (may : Bool) : Type 0 where
+  pub past : list_all (is_past x.day) latest ≡ may
+  pub take : (sent : List SentSequence) → IsTold x latest sent → may_send x.day sent (map plan_of (cut_sendings x)) ≡ may
 
 -- The plan of a cut that is not refused, or the first of TracesSpent, ModifiersSpent and DaysSpent; or
--- memory was refused.
+-- memory was refused, which does not hide TracesSpent.
 abbrev pub Plans : CutFacts → List (Option ℕ) → Result CutPlan CutFault → Type 0
 Plans x latest (Ok p) = MayTake x latest true × (has_modifiers x ≡ true) × IsPlan x p
 Plans x latest (Err TracesSpent) = MayTake x latest false
 Plans x latest (Err ModifiersSpent) = MayTake x latest true × (has_modifiers x ≡ false)
 Plans x latest (Err DaysSpent) = MayTake x latest true × (has_modifiers x ≡ true) × (settles_beyond (cut_sendings x) ≡ true)
-Plans x latest (Err NoMemory) = ⊤
+Plans x latest (Err NoMemory) = MayTake x latest true

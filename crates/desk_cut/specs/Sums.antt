@@ -1,5 +1,6 @@
 -- Sums of submissions: with one more, of a day, and of what a cut would send.
-use Rattle.std.specs.Prelude.{ℕ, ◌+◌, ◌==◌, if◌then◌else◌, List, map, filter, length}
+use Rattle.std.specs.Prelude.{ℕ, ◌+◌, ◌*◌, ◌^◌, ◌≤◌, ◌==◌, if◌then◌else◌, List, map, filter, length}
+use Rattle.ach_fields.specs.Cents.{most_cents}
 use Rattle.desk_rules.specs.declared.bodies.submission.Submission.{Submission}
 use Rattle.desk_rules.specs.LimitChecks.{is_debit}
 use Rattle.desk_rules.specs.Size.{total_of}
@@ -18,6 +19,19 @@ with_one s t = record { cents = t.cents + total_of s.entries; submissions = t.su
 -- in its direction
 abbrev pub with_submission : Submission → Tallies → Tallies
 with_submission s t = if is_debit s.direction then record t { debits = with_one s t.debits } else record t { credits = with_one s t.credits }
+
+-- more submissions than memory has
+abbrev pub most_held : ℕ
+most_held = 2 ^ 63
+
+-- so many submissions may come to this
+pub record IsWithin (count : ℕ) (t : Tally) : Type 0 where
+  pub cents : t.cents ≤ count * most_cents
+  pub submissions : t.submissions ≤ count
+
+pub record AreWithin (count : ℕ) (t : Tallies) : Type 0 where
+  pub credits : IsWithin count t.credits
+  pub debits : IsWithin count t.debits
 
 -- the sums of what settles on a day
 abbrev pub sums_on : ℕ → List Sending → Tallies

@@ -1,9 +1,9 @@
 //! A cut decides what is due on a day: some of it is sent, and some lapses.
-ghost use Rattle.std.specs.Prelude.{◌≡◌, ◌<◌, IfOk, IfErr, map, Some, All, if◌then◌else◌};
+ghost use Rattle.std.specs.Prelude.{◌≡◌, ◌<◌, IfOk, IfErr, OnErr, length, map, Some, All, true, if◌then◌else◌};
 ghost use Rattle.desk_rules.specs.LimitChecks.{is_debit};
 ghost use Rattle.desk_history.specs.State.{is_too_late};
 ghost use Rattle.desk_book.specs.OnCut.{is_due, settles, sendings, lapses_among};
-ghost use Rattle.desk_cut.specs.Faults.{IsUnsettled};
+ghost use Rattle.desk_cut.specs.Faults.{IsUnsettled, is_any_due, settles_beyond};
 ghost use Rattle.desk_cut.specs.Sent.{due_in, sent_in};
 
 use crate::fault::CutFault;
@@ -70,7 +70,23 @@ fn is_too_late(settles: Day, original: Option<RuleDay>) -> bool
     }
 }
 
-/// Gives what is sent and what lapses, in the order in which it waits.
+/// Would a submission that a cut sends settle after the last day from which rules count?
+pub(crate) fn settles_beyond(day: RuleDay, holidays: &Calendar, waiting: &[HeldSubmission]) -> bool
+    ensures { result ≡ settles_beyond (sendings holidays.now day waiting.now) }
+{
+    for one in waiting {
+        if is_due(one, day, holidays) {
+            let settled = settles(one, day, holidays);
+            if !is_too_late(settled, one.original_settled) && RuleDay::new(settled).is_none() {
+                return true;
+            }
+        }
+    }
+    false
+}
+
+/// Gives what is sent and what lapses, in the order in which it waits. Where nothing is due it takes
+/// no memory.
 pub(crate) fn decide<'a>(
     alloc: Global,
     day: RuleDay,
@@ -80,6 +96,7 @@ pub(crate) fn decide<'a>(
     ensures sent { IfOk result (λ d. map due_in d.sent.items ≡ sendings holidays.now day waiting.now) }
     ensures later { IfOk result (λ d. All (λ s. day < s.settled) d.sent.items) }
     ensures lapsed { IfOk result (λ d. d.lapsed.items ≡ lapses_among holidays.now day waiting.now) }
+    ensures memory { OnErr result (is_any_due holidays.now day waiting.now ≡ true) }
 {
     let mut sent = Vec::new(alloc);
     let mut lapsed = Vec::new(alloc);
@@ -109,6 +126,7 @@ pub(crate) fn settle<'a>(
 ) -> Result<Vec<Sending<'a>>, CutFault>
     ensures ok { IfOk result (λ sent. sent_in sent.items ≡ map due_in due.now) }
     ensures err { IfErr result (λ fault. IsUnsettled (map due_in due.now) fault) }
+    ensures some { OnErr result (0 < length due.now) }
 {
     let mut sent = Vec::new(alloc);
     for one in due {

@@ -1,6 +1,7 @@
 use Rattle.std.proofs.Common.{◌≡◌, ◌∙◌, ◌+◌, ℕ, All, List, length, sym, ap, map, subst, rules}
 use Rattle.std.specs.Prelude.{nat_le, sum}
 use Rattle.std.specs.List.{list_all}
+use Rattle.std.proofs.lemmas.Result.{err_from_is_err_and}
 use Rattle.desk_plan.specs.declared.batch.Batch.{Batch}
 use Rattle.desk_plan.specs.Modifiers.{most_files}
 use Rattle.desk_plan.specs.Files.{division}
@@ -92,3 +93,21 @@ returns-in-Err c =
     (may_take x n c.args.latest.now _ h (ap (λ (d : ℕ). list_all (is_past d) c.args.latest.now) (sym c.day-today.ensures.value) ∙ sym c.are_past.ensures ∙ c.if-not-are_past.false))
     (modifiers_are x n c.in_ok-sizes.sizes.items h sizes ∙ ap (λ k. nat_le (c.args.made + k) most_files) count ∙ room.0)
     (subst (λ (due : List DueSubmission). IsUnsettled (map due_in due) c.in-Err.fault) c.deref-2.ensures.value c.in-Err.ensures.err)
+
+pub returns-in_err-sizes : goal.returns-in_err-sizes
+returns-in_err-sizes c =
+    let x = cut_in c.args.identity.now c.args.numbered c.args.made in
+    let p = err_from_is_err_and c.from_residual.result c.from_residual.ensures.1 in
+    let may =
+    may_take x c.args.numbered.numbers c.args.latest.now _ c.args.numbered.is_numbered
+    (ap (λ (d : ℕ). list_all (is_past d) c.args.latest.now) (sym c.day-today.ensures.value) ∙ sym c.are_past.ensures ∙ c.if-not-are_past.false) in
+    rw (p.1, p.2) may
+
+pub returns-in_err-write : goal.returns-in_err-write
+returns-in_err-write c =
+    let x = cut_in c.args.identity.now c.args.numbered c.args.made in
+    let p = err_from_is_err_and c.from_residual-in_err-write.result c.from_residual-in_err-write.ensures.1 in
+    let may =
+    may_take x c.args.numbered.numbers c.args.latest.now _ c.args.numbered.is_numbered
+    (ap (λ (d : ℕ). list_all (is_past d) c.args.latest.now) (sym c.day-today.ensures.value) ∙ sym c.are_past.ensures ∙ c.if-not-are_past.false) in
+    rw (p.1, p.2) may
