@@ -1,15 +1,17 @@
 #!/usr/bin/env python3
-"""Refuses each call that takes memory, one in each run, while a desk answers a bank's days over HTTP: a desk over lists,
-and one over tables in memory.
+"""Refuses each call that takes memory, one in each run, while a desk answers a bank's days over HTTP, and then one message of
+each route that these do not ask: a desk over lists, and one over tables in memory.
 
-`python3 judge/growths.py` proves and builds judge/growths/main.rt.txt beside a copy of the crates, which
-takes long where they were not proved before; `python3 judge/growths.py PROGRAM` takes it as it is built.
+`python3 judge/growths.py` proves and builds judge/growths/main.rt.txt beside a copy of the crates, which takes long if they
+were not proved before; `python3 judge/growths.py PROGRAM` takes a program that was built so. With --short the desk is over
+lists alone, which takes seconds once the program is built.
 
-Every answer must be the one that stands in judge/helpers/answered_days.py, or the constant text with status 503; that at most once in a
-run, and then the same message again must be answered as it stands there, and so must all others: what was
-refused memory changed nothing.
+Every answer must be the one in judge/helpers/answered_days.py, or the constant text with status 503. That comes at most once
+in a run; the same message sent again must then be answered as it stands there, and so must all others: what was refused
+memory changed nothing.
 """
 
+import argparse
 import concurrent.futures
 import os
 import subprocess
@@ -17,7 +19,7 @@ import sys
 import tempfile
 from pathlib import Path
 
-from helpers.answered_days import DAYS, KEYS
+from helpers.answered_days import DAYS, KEYS, OTHER_ROUTES
 from helpers.running import TOP, built
 
 HERE = TOP / "judge" / "growths"
@@ -37,7 +39,7 @@ def exchange(caller, asks, body, status, answer):
 
 def judge(program, work, over, given):
     """Refuses each call in turn over one kind of store, and prints what came of it."""
-    days = "".join(exchange(*it) for it in DAYS).encode()
+    days = "".join(exchange(*it) for it in DAYS + OTHER_ROUTES).encode()
 
     def run(number):
         words = {**os.environ, "LD_PRELOAD": str(work / "refuse.so"), "REFUSED": str(number), "COUNTED": str(work / f"counted_{number}")}
@@ -56,12 +58,17 @@ def judge(program, work, over, given):
 
 
 def main():
+    words = argparse.ArgumentParser(description=__doc__, formatter_class=argparse.RawDescriptionHelpFormatter)
+    words.add_argument("program", nargs="?", type=Path, help="a build of judge/growths/main.rt.txt")
+    words.add_argument("--short", action="store_true", help="over lists alone")
+    given = words.parse_args()
     with tempfile.TemporaryDirectory() as folder:
         work = Path(folder)
-        program = Path(sys.argv[1]).resolve() if len(sys.argv) > 1 else built(work, "growths", HERE / "main.rt.txt", USES)
+        program = given.program.resolve() if given.program else built(work, "growths", HERE / "main.rt.txt", USES)
         subprocess.run(["gcc", "-O2", "-shared", "-fPIC", "-o", work / "refuse.so", HERE / "refuse.c", "-ldl"], check=True)
         judge(program, work, "lists", [])
-        judge(program, work, "tables in memory", ["tables"])
+        if not given.short:
+            judge(program, work, "tables in memory", ["tables"])
 
 
 main()

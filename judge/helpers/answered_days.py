@@ -52,3 +52,26 @@ DAYS = [
     ("MILL01", "GET /c/MILL01/statement", "", "200 OK", STATEMENT),
     ("desk", "GET /ops/settlement", "", "200 OK", SETTLEMENT),
 ]
+
+LIMITS = '{"id":"MILL01","entry_limit":9999999999,"credit_limit":999999999999999,"debit_limit":999999999999999}'
+NOTHING_HELD = '{"credits":{"cents":"0","submissions":0},"debits":{"cents":"0","submissions":0}}'
+
+# the routes that these days do not ask, after them
+OTHER_ROUTES = [
+    ("MILL01", "GET /c/MILL01/submissions/PAY-2", "", "200 OK",
+     '{"cents":2500,"day":"2025-01-10","direction":"debit","entries":[{"cents":2500,"code":"R01","index":1,"late":false,"returned":"2025-01-14",'
+     '"settled":"2025-01-10","state":"returned"}],"order":2,"ref":"PAY-2","sec":"PPD"}'),
+    ("MILL01", "GET /c/MILL01/returns", "", "200 OK", '{"returns":[{"code":"R01","day":"2025-01-14","index":1,"info":"","late":false,"ref":"PAY-2"}]}'),
+    ("MILL01", "GET /c/MILL01/changes", "", "200 OK", '{"changes":[]}'),
+    ("MILL01", "GET /c/MILL01/rates", "", "200 OK",
+     '{"administrative":{"d":1,"n":0,"over":false},"day":"2025-01-14","overall":{"d":1,"n":1,"over":true},"unauthorized":{"d":1,"n":0,"over":false}}'),
+    ("MILL01", "GET /c/MILL01/exposure", "", "200 OK",
+     '{"credit":"0","credit_limit":999999999999999,"day":"2025-01-14","debit":"0","debit_limit":999999999999999,"entry_limit":9999999999}'),
+    ("desk", "GET /ops/suspense", "", "200 OK", '{"items":[]}'),
+    ("desk", "GET /ops/status", "", "200 OK",
+     '{"companies":[{"due":[],"held":' + NOTHING_HELD + ',"id":"MILL01","lapsing":0,"name":"MILL STREET"}],"day":"2025-01-14","files":[],"holidays":1,'
+     '"sent":2,"suspense":0}'),
+    ("desk", "POST /ops/limits", LIMITS, "200 OK", '{"id":"MILL01"}'),
+    ("MILL01", "POST /c/MILL01/retries", '{"ref":"RT-1","of":"PAY-2","index":1,"day":"2025-01-16"}', "201 Created",
+     '{"cents":2500,"entries":1,"order":3,"ref":"RT-1"}'),
+]
