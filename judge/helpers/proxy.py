@@ -33,9 +33,10 @@ def replaced(text, old, new):
     return text.replace(old, new)
 
 
-def site(folder, port, desk_port, console=TOP):
-    """The text of deploy/nginx.conf for a folder and two ports; `console` is the folder that has console/."""
-    text = SITE.read_text()
+def site(folder, port, desk_port, console=TOP, seconds=60):
+    """The text of deploy/nginx.conf for a folder and two ports; `console` is the folder that has console/, and the desk
+    is waited for so many seconds."""
+    text = replaced(SITE.read_text(), "_timeout      60s", f"_timeout      {seconds}s")
     for old, new in (("listen 443 ssl", f"listen {HOST}:{port} ssl"), ("127.0.0.1:880", f"{HOST}:{desk_port}"), ("/etc/achdesk", str(folder)),
                      ("/var/log/achdesk", str(folder)), ("/usr/share/achdesk", str(console))):
         text = replaced(text, old, new)
@@ -52,7 +53,7 @@ class Proxy:
     `people` and `companies` have for each key that is shown its `ROLE:NAME`; `desk` has for `operator` and for each
     company the key that the desk knows."""
 
-    def __init__(self, folder, desk_port, people, companies, desk, port=None, connections=768, console=TOP):
+    def __init__(self, folder, desk_port, people, companies, desk, port=None, connections=768, console=TOP, seconds=60):
         self.folder, self.port = Path(folder), port or free_port()
         self.folder.chmod(0o755)
         (self.folder / "keys").mkdir(mode=0o700)
@@ -62,7 +63,7 @@ class Proxy:
         self.make_certificate()
         self.write_keys(people, companies, desk)
         shutil.copy(TOP / "deploy" / "operators.conf", self.folder)
-        (self.folder / "site.conf").write_text(site(self.folder, self.port, desk_port, console))
+        (self.folder / "site.conf").write_text(site(self.folder, self.port, desk_port, console, seconds))
         temporary = "".join(f"{it}_temp_path {self.folder}/{it};" for it in TEMPORARY)
         self.main = self.folder / "nginx.conf"
         self.main.write_text(MAIN.format(folder=self.folder, connections=connections, temporary=temporary))
@@ -78,7 +79,7 @@ class Proxy:
         subprocess.run(words, check=True, stdout=subprocess.DEVNULL, stderr=subprocess.DEVNULL)
 
     def write_keys(self, people, companies, desk):
-        named = {"people": people, "companies": companies, "desk": {role: key for role, key in desk.items()}}
+        named = {"people": people, "companies": companies, "desk": desk}
         for name, keys in named.items():
             path = self.folder / "keys" / f"{name}.map"
             with open(os.open(path, os.O_WRONLY | os.O_CREAT | os.O_TRUNC, 0o600), "w") as out:
