@@ -1,12 +1,15 @@
 #!/usr/bin/env python3
-"""Proves the crates that the desk's program stands on, builds it, and says on standard error how far it is.
+"""Proves the crates that the desk's program uses, builds it, and reports its progress on standard error.
 
-Crates that do not stand on each other are proved side by side, each on one core, since a proof that is divided
+Crates that do not use each other are proved at the same time, each on one core, since a proof that is divided
 among cores takes half as much again of a processor. The longer the chain of crates above one, the sooner it
-begins; where cores are left over it uses them too, and the others give way to it. The library that is made of a
+begins; if cores are left over it uses them too, and the others give way to it. The library that is made of a
 proved crate holds its statements alone, which the crates above read in less time than its proofs. What is proved
-stays in out/ of the program's crate, also where a run is broken off: the next run proves what is left, what
-changed and what stands on that.
+stays in out/ of the program's crate, also if a run is interrupted: the next run proves what is left, what
+changed and what uses that.
+
+Progress is the share of the expected work that is done, and the time for the rest at the pace of this machine:
+one line that is drawn again on a terminal, and a line for each crate in a pipe.
 """
 
 import hashlib
@@ -18,6 +21,8 @@ import time
 from concurrent.futures import FIRST_COMPLETED, ThreadPoolExecutor, wait
 from pathlib import Path
 
+from progress import Progress, Screen, time_text
+
 TOP = Path(__file__).resolve().parent.parent
 CRATES = TOP / "crates"
 PROGRAM = "achdesk"
@@ -27,8 +32,8 @@ LIBRARIES = OUT / "libraries"
 KIT = Path(shutil.which("rattle") or "no toolchain/bin/rattle").resolve().parent.parent
 
 
-def say(line):
-    print(f"{PROGRAM}: {line}", file=sys.stderr, flush=True)
+SCREEN = Screen(PROGRAM)
+say = SCREEN.say
 
 
 def uses_of_crates():
@@ -38,7 +43,7 @@ def uses_of_crates():
 
 
 def crates_below(uses, *tops):
-    """Returns the crates of this repository that these stand on, themselves last, each with those below it."""
+    """Returns the crates of this repository that these use, themselves last, each with those below it."""
     found = {}
 
     def visit(name):
@@ -108,17 +113,26 @@ def made_of(crate):
     return OUT / PROGRAM if crate == PROGRAM else LIBRARIES / f"{crate}.rlib"
 
 
+def proof_of(crate):
+    """Returns the file that says of which text a crate was proved."""
+    return LIBRARIES / f"{crate}.sum"
+
+
+def is_kept(crate, below, uses):
+    """Returns whether an earlier run has proved and built the crate as it is now."""
+    proof = proof_of(crate)
+    return made_of(crate).exists() and proof.is_file() and proof.read_text() == sum_of(crate, below, uses)
+
+
 def make(crate, below, uses, jobs, rank):
-    """Returns whether a crate is proved and built, and how many seconds that took. It gives way to those of lower rank."""
-    start, total = time.monotonic(), sum_of(crate, below, uses)
-    proved = LIBRARIES / f"{crate}.sum"
-    if not (made_of(crate).exists() and proved.is_file() and proved.read_text() == total):
-        proved.unlink(missing_ok=True)
-        is_made = all(run(["nice", "-n", 5 * rank, *it], crate) for it in commands_of(crate, uses, jobs))
-        # What changed while it was proved is proved again by the next run.
-        if is_made and total == sum_of(crate, below, uses):
-            proved.write_text(total)
-    return proved.is_file(), time.monotonic() - start
+    """Proves and builds a crate, and returns whether it is done. It gives way to those of lower rank."""
+    total = sum_of(crate, below, uses)
+    proof_of(crate).unlink(missing_ok=True)
+    is_made = all(run(["nice", "-n", 5 * rank, *it], crate) for it in commands_of(crate, uses, jobs))
+    # What changed while it was proved is proved again by the next run.
+    if is_made and total == sum_of(crate, below, uses):
+        proof_of(crate).write_text(total)
+    return proof_of(crate).is_file()
 
 
 def log_of(crate):
@@ -132,35 +146,47 @@ def run(words, crate):
         return subprocess.run([str(it) for it in words], **how).returncode == 0
 
 
-def told(crate, is_done, seconds, count, total):
-    """Says how a crate ended, and returns whether it is done."""
-    if is_done:
-        say(f"{count} of {total} done: {crate}, in {seconds:.0f} seconds")
-    else:
-        say(f"{crate} is not done: {log_of(crate)} says why")
+def progress_of(below, uses, cores):
+    """Returns the progress of a run that has proved nothing yet, with what earlier runs have proved."""
+    kept = {it for it in below if is_kept(it, below[it], uses)}
+    work = {it: work_of(it, below[it], uses) for it in below}
+    return Progress(work, below, chains_above(below, uses), cores, kept)
+
+
+def told(progress, crate, is_done, seconds):
+    """Reports how a crate ended, and returns whether it is done."""
+    if not is_done:
+        say(f"{crate} is not done: see {log_of(crate)}")
+    elif not SCREEN.is_terminal:
+        say(f"{progress.count()} of {len(progress.work)} crates, {progress.text(time.monotonic())}: {crate} took {seconds:.0f} seconds")
     return is_done
 
 
-def prove_all(below, uses, cores):
-    """Proves the libraries, each once those below it are, and returns whether all are proved."""
-    total, proved, running, is_fine, chains = len(below), set(), {}, True, chains_above(below, uses)
-    waiting = sorted((it for it in below if it != PROGRAM), key=chains.get, reverse=True)
+def draw(progress):
+    names = ", ".join(sorted(progress.running))
+    SCREEN.draw(f"{progress.text(time.monotonic())}; {progress.count()} of {len(progress.work)} crates; now {names}")
+
+
+def prove_all(below, uses, cores, progress=None):
+    """Proves and builds crates, each once those below it are, and returns whether all are done."""
+    progress, running, is_fine = progress or progress_of(below, uses, cores), {}, True
     with ThreadPoolExecutor(cores) as pool:
-        while running or (waiting and is_fine):
-            ready = [it for it in waiting if below[it] <= proved][: cores - len(running)] if is_fine else []
-            for crate in ready:
-                say(f"{crate} begins")
-                waiting.remove(crate)
-                beside = {*ready, *running.values()}
-                rank = sum(chains[crate] < chains[it] for it in beside)
-                jobs = 1 + cores - len(beside) if rank == 0 else 1
+        while running or (progress.left and is_fine):
+            for crate, jobs, rank in progress.beginning(progress.left.keys(), progress.running) if is_fine else ():
+                progress.begin(crate, jobs, time.monotonic())
                 running[pool.submit(make, crate, below[crate], uses, jobs, rank)] = crate
-            for ended in wait(running, return_when=FIRST_COMPLETED).done:
-                crate = running.pop(ended)
-                is_done, seconds = ended.result()
-                proved |= {crate} if is_done else set()
-                is_fine = told(crate, is_done, seconds, len(proved), total) and is_fine
+            draw(progress)
+            for ended in wait(running, timeout=1, return_when=FIRST_COMPLETED).done:
+                is_fine = end(progress, running.pop(ended), ended.result()) and is_fine
     return is_fine
+
+
+def end(progress, crate, is_done):
+    """Counts a crate that has ended, reports it, and returns whether it is done."""
+    now = time.monotonic()
+    seconds = now - progress.running[crate][0]
+    progress.end(crate, is_done, now)
+    return told(progress, crate, is_done, seconds)
 
 
 def main():
@@ -170,22 +196,24 @@ def main():
         say("it is proved and built first, and that needs the Rattle toolchain: its command rattle is not on the PATH")
         return 1
     LIBRARIES.mkdir(parents=True, exist_ok=True)
-    say(f"{len(below)} crates are proved and the program is built first, on {cores} cores; on four this takes half an hour")
-    say("./try answers in three minutes, with nothing proved, where no desk's file is needed")
-    if not prove_all(below, uses, cores):
-        return 1
-    say(f"{PROGRAM} begins")
-    if not told(PROGRAM, *make(PROGRAM, below[PROGRAM], uses, cores, 0), len(below), len(below)):
-        return 1
-    # It is newer now than each source, also where no crate of its own had changed.
+    progress = progress_of(below, uses, cores)
+    say(f"{len(below)} crates are proved and the program is built first, on {cores} cores; {time_text(progress.seconds_left(start))} if this machine "
+        "is as fast as the one where that was measured")
+    say("./try answers in three minutes, with nothing proved, any command that needs no desk file")
+    if progress.count():
+        say(progress.kept())
+    try:
+        if not prove_all(below, uses, cores, progress):
+            say(progress.kept())
+            return 1
+    except KeyboardInterrupt:
+        say(f"interrupted; {progress.kept()}: the next run proves the rest")
+        return 130
+    # It is newer now than each source, also if no crate of its own had changed.
     os.utime(made_of(PROGRAM))
     say(f"done in {time.monotonic() - start:.0f} seconds")
     return 0
 
 
 if __name__ == "__main__":
-    try:
-        sys.exit(main())
-    except KeyboardInterrupt:
-        say("broken off; the next run goes on from here")
-        sys.exit(130)
+    sys.exit(main())
