@@ -1,5 +1,5 @@
 #!/usr/bin/env python3
-"""Reads a desk's file by the views of docs/audit.sql: `python3 judge/audit.py [PROGRAM]`, ./achdesk if it is left out.
+"""Reads a desk's file by the views of docs/audit.sql: `python3 judge/audit.py [PROGRAM]`, the built program if it is left out.
 
 A desk in a file works through some days of a bank: two companies, credits and debits, prenotes, a holiday, returns, a
 change, items in suspense, a retry that is sent and one that lapses. After each day stock SQLite opens a copy of the file

@@ -1,7 +1,7 @@
 #!/usr/bin/env python3
 """A busy day of a bank, and the days around it: `python3 judge/big_day.py [PROGRAM] [LISTED] [PART]`.
 
-PROGRAM is ./achdesk where it is left out, and LISTED the program of judge/listed/main.rt.txt, a desk over lists. Where that
+PROGRAM is the built program if it is left out, and LISTED the program of judge/listed/main.rt.txt, a desk over lists. Where that
 is left out, or `-`, it is proved and built beside a copy of the crates, which takes long where they were not proved before.
 With a PART of 2 to 100 the numbers below are divided by it, for a first try.
 

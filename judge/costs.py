@@ -1,7 +1,7 @@
 #!/usr/bin/env python3
-"""What calls cost where much is open, or much is old: `python3 judge/costs.py [PROGRAM] [ROUNDS] [PART]`.
+"""What calls cost if much is open, or much is old: `python3 judge/costs.py [PROGRAM] [ROUNDS] [PART]`.
 
-PROGRAM is ./achdesk and ROUNDS 5 where they are left out; with a PART above 1 the sizes are divided by it, for a first try.
+PROGRAM is the built program and ROUNDS 5 if they are left out; with a PART above 1 the sizes are divided by it, for a first try.
 
 `achdesk serve` over a file is asked over HTTP, and each figure is the time that a processor worked for it (the first number
 of /proc/PID/schedstat), the best of the rounds. In each round a new desk gets 100 submissions of 1,000 entries. The last of
@@ -13,12 +13,17 @@ nothing open. At the end all of it is cut, and the first submission after that i
 each round asks for the rates of both on a new day. On a third desk it is asked how the desk stands, where 1,000 entries
 were sent, where 100,000 more were, and where then 20,000 items that name no entry stand in suspense.
 
+No bound is in seconds, so that they hold on a slow machine too. A figure is bounded by another of the same run: by the same
+call without what is open or old, or by the measure, which is what Python and stock SQLite take to read 1,000 entries as JSON
+and to store them; the best of the rounds, measured between those of the desk.
+
 It prints a table with a line for each figure: what it is without and with what is open or old, and whether that is within
-its bound. The status is 1 where one is not. Three rounds took a little over a minute.
+its bound. The status is 1 if one is not. Three rounds took a little over a minute.
 """
 
 import datetime
 import json
+import sqlite3
 import sys
 import tempfile
 import time
@@ -34,7 +39,8 @@ WEEKS, WEEKLY, RECENT, BACK = 50, 20, 10, 20_000  # weeks, submissions of 1,000 
 STRAYS, NEVER_SENT = 20_000, 5_000_001  # items that name no entry, and the first sequence that they name
 ENTRY = '{"routing":"091000019","account":"123456789","kind":"checking","cents":100,"id":"E1","name":"ANN LEE"}'
 LIMITS = {"entry_limit": 9_999_999_999, "credit_limit": 999_999_999_999_999, "debit_limit": 999_999_999_999_999}
-CALLS = 20  # of a kind that is measured together, where one is short
+CALLS = 20  # of a kind that is measured together, if one is short
+MEASURED = 50  # submissions of 1,000 entries that the measure reads and stores
 FIRST_DAY, ASKED, LAST_DAY = datetime.date(2025, 1, 8), datetime.date(2025, 3, 3), datetime.date(2025, 2, 28)
 
 
@@ -119,11 +125,34 @@ class Desk:
         return [submission(company, f"R{self.references - at}", entries, debit, asked) for at in range(count)]
 
 
+def measure(folder):
+    """The seconds that a processor works for it when Python reads a submission of 1,000 entries and stock SQLite stores them."""
+    body = f'{{"entries":[{",".join([ENTRY] * SIZE)}]}}'
+    with tempfile.TemporaryDirectory(dir=folder) as place:
+        store = sqlite3.connect(f"{place}/measure.db", isolation_level=None)
+        store.execute("PRAGMA journal_mode = WAL")
+        store.execute("PRAGMA synchronous = OFF")
+        store.execute("CREATE TABLE entries (submission INT, number INT, routing TEXT, account TEXT, kind TEXT, cents INT, id TEXT, name TEXT, "
+                      "PRIMARY KEY (submission, number))")
+        begun = time.process_time()
+        for submission in range(MEASURED):
+            rows = [(submission, number, *entry.values()) for number, entry in enumerate(json.loads(body)["entries"])]
+            store.execute("BEGIN")
+            store.executemany("INSERT INTO entries VALUES (?, ?, ?, ?, ?, ?, ?, ?)", rows)
+            store.execute("COMMIT")
+        seconds = time.process_time() - begun
+        store.close()
+    return seconds / MEASURED
+
+
 class Figures:
     """The best of each figure, and the bounds of those that have one."""
 
-    def __init__(self):
-        self.best, self.lines, self.failed = {}, [], 0
+    def __init__(self, folder):
+        self.folder, self.best, self.lines, self.failed = folder, {}, [], 0
+
+    def measure(self):
+        self.keep("measure", measure(self.folder))
 
     def keep(self, what, seconds):
         self.best[what] = min(seconds, self.best.get(what, seconds))
@@ -137,10 +166,12 @@ class Figures:
         ratio = self.best[found] / self.best[without]
         self.tell(what, self.best[without], self.best[found], f"{ratio:.2f} times, at most {most}", ratio <= most)
 
-    def each(self, what, without, found, count, most):
-        """Tells by how many microseconds one figure passes the other for each of a number of things."""
-        micros = (self.best[found] - self.best[without]) / count * 1e6
-        self.tell(what, self.best[without], self.best[found], f"{micros:.2f} µs each, at most {most}", micros <= most)
+    def of_measure(self, what, without, found, entries, most):
+        """Tells how many times the measure of as many entries a figure is, or the part of it that passes another figure."""
+        seconds = self.best[found] - self.best.get(without, 0)
+        ratio = seconds / entries * SIZE / self.best["measure"]
+        told = f"{ratio:.3f} of the measure, at most {most}, {seconds / entries * 1e6:.2f} µs each"
+        self.tell(what, self.best.get(without), self.best[found], told, ratio <= most)
 
 
 def shown(seconds):
@@ -163,6 +194,7 @@ def filled(program, folder, figures, rounds, part):
         desk = Desk(program, folder / f"open{number}.db")
         desk.set_day(FIRST_DAY)
         desk.company("PAY")
+        figures.measure()
         figures.keep("100 submissions", desk.cost(*desk.submissions(OPEN // part, "PAY", SIZE, False)) * (OPEN // part))
         if number + 1 < rounds:
             desk.end()
@@ -209,6 +241,7 @@ def measure_open(program, folder, figures, rounds, part):
     desk = filled(program, folder, figures, rounds, part)
     for number in range(rounds):
         desk.set_day(next_day(desk.day))
+        figures.measure()
         look(desk, figures)
         desk.cut()
         hand_in(desk, figures)
@@ -290,15 +323,15 @@ def ask_status(desk, figures, what, rounds, suspense):
 
 def tell(figures, part):
     large, each = OPEN // part * SIZE, EACH // part // 100 * 100
-    seconds = figures.best["100 submissions"]
-    figures.tell(f"{OPEN // part} submissions of 1,000 on a new desk", None, seconds, f"at most {1.3 / part:.2g} s", seconds <= 1.3 / part)
+    figures.tell("the measure: 1,000 entries read by Python and stored by stock SQLite", None, figures.best["measure"], "")
+    figures.of_measure(f"{OPEN // part} submissions of 1,000 on a new desk", None, "100 submissions", large, 2.2)
     for company, kind in [("PAY", "credits"), ("DUES", "debits")]:
         figures.times(f"a submission of 1,000 {kind}, {large:,} open", f"1,000 beside {company}", f"1,000 of {company}", 1.2)
     figures.times(f"a submission of one debit, {each:,} open", "1 beside", "1", 1.2)
     for kind, count in [("credits", large), ("debits", large), ("single debits", each)]:
         figures.times(f"exposure, {count:,} open {kind}", "exposure of nothing", f"exposure of {kind}", 1.2)
-    for kind, count, most in [("credits", large, 0.7), ("debits", large, 0.7), ("single debits", each, 7)]:
-        figures.each(f"exposure with nothing remembered, {count:,} open {kind}", "first exposure of nothing", f"first exposure of {kind}", count, most)
+    for kind, count, most in [("credits", large, 0.13), ("debits", large, 0.13), ("single debits", each, 1.2)]:
+        figures.of_measure(f"exposure with nothing remembered, {count:,} open {kind}", "first exposure of nothing", f"first exposure of {kind}", count, most)
     for what, first, without in [("of 1,000 credits", "1,000 of PAY", "1,000 beside PAY"), ("of 1,000 debits", "1,000 of DUES", "1,000 beside DUES"), ("of one debit", "1", "1 beside")]:
         figures.tell(f"the first submission {what} after a cut that sent none of its company", figures.best[without], figures.best[f"first of {first}"], "said")
         figures.tell(f"the first submission {what} after a cut that sent all", figures.best[without], figures.best[f"first of {first}, all sent"], "said")
@@ -313,10 +346,11 @@ def tell(figures, part):
 
 
 def main():
-    program, figures = program_of(sys.argv[1:]), Figures()
+    program = program_of(sys.argv[1:])
     rounds = int(sys.argv[2]) if len(sys.argv) > 2 else 5
     part = int(sys.argv[3]) if len(sys.argv) > 3 else 1
     with tempfile.TemporaryDirectory() as name:
+        figures = Figures(name)
         measure_open(program, Path(name), figures, rounds, part)
         measure_old(program, Path(name), figures, rounds, part)
         measure_status(program, Path(name), figures, rounds, part)

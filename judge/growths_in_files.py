@@ -1,6 +1,6 @@
 #!/usr/bin/env python3
 """Refuses calls that take memory, one in each run, to `achdesk stdio` over a desk in a file:
-`python3 judge/growths_in_files.py [PROGRAM] [STEP]`. PROGRAM is ./achdesk and STEP 1 where they are left out: each call
+`python3 judge/growths_in_files.py [PROGRAM] [STEP]`. PROGRAM is the built program and STEP 1 if they are left out: each call
 is refused in turn; with a STEP of 20 each twentieth.
 
 Each run begins with the same new desk and gets the messages of judge/helpers/answered_days.py. It must answer them as they stand there up

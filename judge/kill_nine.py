@@ -1,7 +1,7 @@
 #!/usr/bin/env python3
 """Kills `achdesk serve` under load, as `kill -9` does: `python3 judge/kill_nine.py [PROGRAM] [TIMES] [SEED]`.
 
-PROGRAM is ./achdesk, TIMES 200 and SEED a number of the clock where they are left out; the seed is printed. Several
+PROGRAM is the built program, TIMES 200 and SEED a number of the clock where they are left out; the seed is printed. Several
 clients hand in numbered submissions while an operator sets days, cuts, and hands in files of returns. At a random
 moment the desk is killed, also while it opens its file. Then a copy of the file and of its log is read by stock SQLite,
 which must find it whole: each message that was answered stands there, each other one stands there whole or not at all,

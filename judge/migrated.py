@@ -1,5 +1,5 @@
 #!/usr/bin/env python3
-"""Migrates a desk's file of version 1: `python3 judge/migrated.py [PROGRAM]`, ./achdesk if it is left out.
+"""Migrates a desk's file of version 1: `python3 judge/migrated.py [PROGRAM]`, the built program if it is left out.
 
 A desk in a file answers the messages of examples/bank_day. Stock SQLite writes its rows into a new file as version 1 had
 them: the same tables and indexes, but for those of numbers and of authorizations. `serve` and `stdio` must refuse that

@@ -1,7 +1,7 @@
 #!/usr/bin/env python3
 """Sends every example of docs/openapi.yaml to the desk: `python3 judge/openapi.py [PROGRAM..]`.
 
-`PROGRAM stdio`, which is ./achdesk where none is given, answers each script of the page with a new desk, and each
+`PROGRAM stdio`, which is the built program if none is given, answers each script of the page with a new desk, and each
 answer has to be that of the page, to the byte. Its paths have to be those of the routes in crates/http_routes,
 and its refusals and faults those of docs/BODIES.md, each with an example that is sent or with the reason why none
 can be. Then the schemas are judged: a body is a bad field to the desk exactly where it does not fit its schema.
@@ -18,6 +18,7 @@ from helpers import openapi_faults
 from helpers.desk_messages import LARGEST_SESSION, Exchange, compact, differences, keyed, request, response
 from helpers.openapi_bounds import bounds
 from helpers.openapi_page import Page
+from helpers.running import built_program
 
 try:
     import openapi_spec_validator
@@ -327,7 +328,7 @@ def judge_messages(page, program, report):
 
 
 def main():
-    program = sys.argv[1:] or [str(TOP / "achdesk")]
+    program = sys.argv[1:] or [built_program()]
     page, report = Page(TOP / "docs/openapi.yaml"), Report()
     judge_page(page, report)
     judge_names(page, report)

@@ -1,7 +1,7 @@
 #!/usr/bin/env python3
 """How a desk's file grows, and how long it takes to open: `python3 judge/opening.py [PROGRAM] [DAYS] [ENTRIES]`.
 
-PROGRAM is ./achdesk, DAYS 10 and ENTRIES 10000 where they are left out. On each banking day ten companies hand in so
+PROGRAM is the built program, DAYS 10 and ENTRIES 10000 where they are left out. On each banking day ten companies hand in so
 many entries together, in submissions of 100, the bank cuts, and two in a hundred of the entries of the cut before come
 back. After each day the desk is stopped and started again: the line tells how many entries there are, the bytes of the
 file and of its log, the seconds until it listens by the clock and of a processor, its resident memory then, and its

@@ -1,4 +1,4 @@
-"""Runs the commands of the pages as they are printed: `python3 judge/pages.py [PROGRAM]`, ./achdesk where it is left out.
+"""Runs the commands of the pages as they are printed: `python3 judge/pages.py [PROGRAM]`, the built program if it is left out.
 
 In README.md and docs/ each `console` block is run line by line, and what it prints is compared with what the page shows,
 where the page shows something; of each `sh` block it is asked that it ends well. `serve` goes on beside what follows. A

@@ -1,7 +1,7 @@
 #!/usr/bin/env python3
 """Keeps `achdesk serve` waiting, as clients do: `python3 judge/patience.py [PROGRAM] [CLIENTS] [REQUESTS]`.
 
-PROGRAM is ./achdesk, CLIENTS 50 and REQUESTS 3 where they are left out.
+PROGRAM is the built program, CLIENTS 50 and REQUESTS 3 where they are left out.
 
 A desk has a patience of one second. A client says nothing, stops inside its head or its body, keeps its connection
 and asks no more, is told that the connection ends and does not close it, or takes none of its answers. Meanwhile a

@@ -1,6 +1,6 @@
 """What a large GET takes of memory: `python3 judge/peaks.py [PROGRAM] [MEGABYTES]`.
 
-PROGRAM is ./achdesk and MEGABYTES 50 where they are left out. Linux alone tells it.
+PROGRAM is the built program and MEGABYTES 50 if they are left out. Linux alone tells it.
 
 A desk in a file gets a company and a submission, which is cut. Then stock SQLite writes a file of the same rows, and as many
 more into one table as make a body of so many megabytes: lines of the company's account, returns, changes, items in suspense,

@@ -1,5 +1,5 @@
 #!/usr/bin/env python3
-"""Looks who may read a desk's files: `python3 judge/private_files.py [PROGRAM]`, ./achdesk if left out.
+"""Looks who may read a desk's files: `python3 judge/private_files.py [PROGRAM]`, the built program if it is left out.
 
 `achdesk init` makes a desk under umasks that take off much, little and nothing. Both files have to be their owner's
 alone, mode 0600, and still after they were served, answered messages and were opened again under another umask. A

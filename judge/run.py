@@ -1,12 +1,16 @@
 """Runs the judges against a program: `python3 judge/run.py [--program PROGRAM] [--list] [WORD ..]`.
 
-PROGRAM is ./achdesk where it is left out. Without words all judges run that need nothing but the program and Python;
-with words those run whose names have one of the words, whatever they need. One line tells how each judge ended and how
-long it took; what a judge prints that failed follows its line. The last line counts. The status is 0 where all passed,
-1 where one failed, and 2 where no judge has one of the words. judge/README.md says what each judge tries.
+PROGRAM is the built program if it is left out: ./achdesk proves and builds it first. Without words all judges run that need
+nothing but Python and the program; with words those run whose names have one of the words. One line reports how each judge
+ended and how long it took; what a judge prints that failed follows its line. The last line counts. The status is 0 if all
+passed, 1 if one failed, and 2 if no judge has one of the words or one lacks something that it needs, which is named: a judge
+that did not run has not passed. judge/README.md says what each judge tries.
 """
 
 import argparse
+import importlib.util
+import os
+import shutil
 import subprocess
 import sys
 import tempfile
@@ -14,52 +18,69 @@ import time
 from dataclasses import dataclass
 from pathlib import Path
 
+from helpers.running import program_of
+
 HERE = Path(__file__).resolve().parent
-TOP = HERE.parent
+PATHS = f"{os.environ.get('PATH', '')}:/usr/sbin:/sbin"
+# What judges need, and what has it: Debian's packages, but for the toolchain. A module of Python is named with a dot.
+NEEDS = {"chromedriver": "chromium-driver", "chromium": "chromium", "curl": "curl", "gcc": "gcc", "logrotate": "logrotate", "make": "make", "man": "man-db",
+         "nginx": "nginx", "openssl": "openssl", "rt": "the Rattle toolchain", "sftp": "openssh-client", "sqlite3": "sqlite3", "ss": "iproute2", "sshd": "openssh-server",
+         "strace": "strace", ".yaml": "python3-yaml"}
 
 
 @dataclass(frozen=True)
 class Judge:
-    """A judge: its name, the words after the program's path, and whether it runs where nobody asks for it by name."""
+    """A judge: its name, the words after the program's path, what it needs, and whether it runs if nobody asks for it by name."""
 
     name: str
     words: tuple = ()
-    is_asked: bool = False
+    needs: tuple = ()
+    is_long: bool = False
     takes_program: bool = True
+
+    def is_asked(self):
+        return self.is_long or bool(self.needs)
+
+    def missing(self):
+        """What it needs and this machine does not have."""
+        return [NEEDS[it] for it in self.needs if not (importlib.util.find_spec(it[1:]) if it.startswith(".") else shutil.which(it, path=PATHS))]
 
 
 JUDGES = (
     Judge("samples", takes_program=False),
     Judge("judge", ("15000",)),
     Judge("exhaustive"),
-    Judge("clients"),
     Judge("migrated"),
     Judge("kill_nine", ("200",)),
     Judge("soak"),
-    Judge("growths_in_files", ("20",)),
     Judge("audit"),
     Judge("patience"),
-    Judge("sent_first"),
     Judge("private_files"),
-    Judge("pages"),
-    Judge("benches", takes_program=False),
     Judge("statuses"),
     Judge("texts", takes_program=False),
-    Judge("big_day", (), is_asked=True),
-    Judge("costs", (), is_asked=True),
-    Judge("peaks", (), is_asked=True),
-    Judge("opening", (), is_asked=True),
-    Judge("console", (), is_asked=True),
-    Judge("openapi", (), is_asked=True),
-    Judge("growths", (), is_asked=True, takes_program=False),
-    Judge("refused", (), is_asked=True, takes_program=False),
+    Judge("first_use", takes_program=False),
+    Judge("clients", (), ("curl",)),
+    Judge("sent_first", (), ("curl",)),
+    Judge("pages", (), ("curl", "ss", "sqlite3")),
+    Judge("growths_in_files", ("20",), ("gcc",)),
+    Judge("deploy", (), ("nginx", "openssl", "logrotate", "man", "make", "strace")),
+    Judge("day", (), ("nginx", "openssl", "sshd", "sftp", "curl")),
+    Judge("console", (), ("chromium", "chromedriver", "nginx")),
+    Judge("openapi", (), (".yaml",)),
+    Judge("benches", (), ("rt",), takes_program=False),
+    Judge("growths", (), ("rt", "gcc"), takes_program=False),
+    Judge("refused", (), ("rt",), takes_program=False),
+    Judge("big_day", (), ("rt",)),
+    Judge("costs", is_long=True),
+    Judge("peaks", is_long=True),
+    Judge("opening", is_long=True),
 )
 
 
 def chosen(words):
     """The judges whose names have one of the words; without words those that need nothing else."""
     if not words:
-        return [it for it in JUDGES if not it.is_asked]
+        return [it for it in JUDGES if not it.is_asked()]
     return [it for it in JUDGES if any(word in it.name for word in words)]
 
 
@@ -72,30 +93,38 @@ def ended(judge, program, folder):
     return done.returncode, done.stdout, time.monotonic() - start
 
 
+def run(judge, program):
+    """Runs a judge, reports how it ended, and returns its status."""
+    if judge.missing():
+        print(f"{judge.name}: NOT RUN, it needs {', '.join(judge.missing())}", flush=True)
+        return 2
+    with tempfile.TemporaryDirectory(prefix="judge-") as folder:
+        status, printed, seconds = ended(judge, program, folder)
+    last = (printed.strip().splitlines() or [""])[-1]
+    print(f"{judge.name}: {'passed' if status == 0 else f'FAILED, status {status}'}, {seconds:.0f} s: {last}", flush=True)
+    if status:
+        print(printed, end="" if printed.endswith("\n") else "\n", flush=True)
+    return 1 if status else 0
+
+
 def main():
     parser = argparse.ArgumentParser(description=__doc__, formatter_class=argparse.RawDescriptionHelpFormatter)
-    parser.add_argument("--program", default=str(TOP / "achdesk"))
+    parser.add_argument("--program")
     parser.add_argument("--list", action="store_true", help="prints the names of the judges that would run")
     parser.add_argument("words", nargs="*", metavar="WORD")
     given = parser.parse_args()
-    judges, failed = chosen(given.words), 0
+    judges = chosen(given.words)
     if not judges:
-        print("no judge has one of these words; --list tells their names")
+        print("no judge has one of these words; judge/README.md lists them")
         return 2
-    for judge in judges:
-        if given.list:
-            print(judge.name)
-            continue
-        with tempfile.TemporaryDirectory(prefix="judge-") as folder:
-            status, printed, seconds = ended(judge, str(Path(given.program).resolve()), folder)
-        failed += status != 0
-        last = (printed.strip().splitlines() or [""])[-1]
-        print(f"{judge.name}: {'passed' if status == 0 else f'FAILED, status {status}'}, {seconds:.0f} s: {last}", flush=True)
-        if status:
-            print(printed, end="" if printed.endswith("\n") else "\n", flush=True)
-    if not given.list:
-        print(f"{len(judges)} judges, {failed} failed")
-    return 1 if failed else 0
+    if given.list:
+        print("\n".join(it.name for it in judges))
+        return 0
+    program = program_of([given.program] if given.program else []) if any(it.takes_program for it in judges) else None
+    statuses = [run(it, program) for it in judges]
+    others = "" if given.words else f"; these run if they are named: {' '.join(it.name for it in JUDGES if it.is_asked())}"
+    print(f"{len(judges)} judges, {statuses.count(1)} failed, {statuses.count(2)} not run{others}")
+    return 1 if 1 in statuses else max(statuses)
 
 
 if __name__ == "__main__":

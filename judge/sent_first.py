@@ -1,7 +1,7 @@
 #!/usr/bin/env python3
 """Sends all that it has before it reads, as many clients do: `python3 judge/sent_first.py [PROGRAM] [TIMES]`.
 
-PROGRAM is ./achdesk and TIMES 10 where they are left out. urllib, http.client, curl and a plain socket send a body of
+PROGRAM is the built program and TIMES 10 if they are left out. urllib, http.client, curl and a plain socket send a body of
 5 MiB to `achdesk serve`, which takes 4 MiB at most, and one whose length they do not say. Each time each has to read
 its whole answer: 413 for the one, 411 for the other. On plain sockets so much also comes after a bad head, after a
 message that says `Connection: close` or is HTTP/1.0, and after the 1,000th. A client that sends up to 16 MiB has its

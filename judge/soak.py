@@ -1,7 +1,7 @@
 #!/usr/bin/env python3
 """One `achdesk serve` answers many messages: `python3 judge/soak.py [PROGRAM] [MESSAGES] [SEED]`.
 
-PROGRAM is ./achdesk, MESSAGES 100000 and SEED 1 where they are left out. The messages come over connections of 1 to 40
+PROGRAM is the built program, MESSAGES 100000 and SEED 1 where they are left out. The messages come over connections of 1 to 40
 messages each. The first tenth builds a bank's days: companies, submissions, cuts, files of returns. The rest leaves as
 many rows as it finds, though some of it writes: submissions and files that are sent again, limits and a holiday list that
 are set again, GETs of all kinds, refusals, wrong keys, unknown paths, bodies that are no JSON. So resident memory has

@@ -1,5 +1,5 @@
 #!/usr/bin/env python3
-"""Looks how the process ends: `python3 judge/statuses.py [PROGRAM]`, ./achdesk if left out.
+"""Looks how the process ends: `python3 judge/statuses.py [PROGRAM]`, the built program if it is left out.
 
 The program runs as a process with each of its exit statuses, 0, 1, 2 and 3, and what it prints then stands on standard
 output alone. The last line counts the checks; the status is 1 where one failed.

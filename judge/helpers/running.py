@@ -28,9 +28,20 @@ PHRASES = {200: "OK", 201: "Created", 400: "Bad Request", 403: "Forbidden", 404:
 
 
 def program_of(words):
-    """The program that is judged: the first word, else ./achdesk at the top."""
-    named = words[0] if words else str(TOP / "achdesk")
-    return os.path.abspath(named)
+    """The program that is judged: the first word, else the built one.
+
+    The script ./achdesk stands for the built program too: judges copy the program out of its tree, or refuse it memory, neither
+    of which may happen to a shell."""
+    if not words or Path(words[0]).resolve() == TOP / "achdesk":
+        return built_program()
+    return os.path.abspath(words[0])
+
+
+def built_program():
+    """The program of ./achdesk, which is proved and built first if it is not there or older than a source."""
+    if subprocess.run([TOP / "achdesk", "--version"], stdout=subprocess.DEVNULL).returncode:
+        sys.exit("there is no program to judge: ./achdesk did not build it; --program or a first word names another one")
+    return str(TOP / "crates" / "achdesk" / "out" / "achdesk")
 
 
 def run(program, *words, given=b"", seconds=SECONDS):
