@@ -606,6 +606,7 @@ def second(checks, program, folder):
 def log(checks, program, folder):
     with Bank(program, folder / "log") as bank:
         text = (DEPLOY / "logrotate").read_text().replace("/var/log/achdesk", str(bank.proxy.folder)).replace("/run/nginx.pid", str(bank.proxy.folder / "nginx.pid"))
+        text = text.replace("www-data achdesk", "www-data adm")
         checks.that("it signals nginx", text.count(str(bank.proxy.folder / "nginx.pid")), 2)
         rotation, state = folder / "rotation", folder / "state"
         rotation.write_text(text)
@@ -623,7 +624,7 @@ def log(checks, program, folder):
         old = [it for it in bank.proxy.folder.iterdir() if it.name.startswith("proxy.log-")]
         checks.that("the old log has the requests before it", [len(it.read_text().splitlines()) for it in old], [1])
         checks.that("the new one those after it", [LOGGED.fullmatch(it)["holder"] for it in bank.proxy.logged()], ["MILL01:payroll"])
-        checks.that("for root, adm and nginx alone", mode_of(bank.proxy.log), "0o640")
+        checks.that("for nginx and a group alone", mode_of(bank.proxy.log), "0o640")
     checks.that("Debian's rotation of nginx has other logs", "/var/log/achdesk" in Path("/etc/logrotate.d/nginx").read_text(), False)
 
 
@@ -695,8 +696,8 @@ class Root:
         for name in ("status", "available"):
             (folder / "var/lib/dpkg" / name).touch()
         (folder / "etc").mkdir()
-        (folder / "etc/passwd").write_text("root:x:0:0:root:/root:/bin/bash\n")
-        (folder / "etc/group").write_text("root:x:0:\nadm:x:4:\n")
+        (folder / "etc/passwd").write_text("root:x:0:0:root:/root:/bin/bash\nwww-data:x:33:33:www-data:/var/www:/usr/sbin/nologin\n")
+        (folder / "etc/group").write_text("root:x:0:\nwww-data:x:33:\n")
 
     def dpkg(self, *words):
         return said("dpkg", f"--root={self.folder}", "--force-script-chrootless", "--force-depends", f"--log={self.folder}/dpkg.log", *words,
@@ -724,10 +725,12 @@ def package(checks, program, folder):
     at = root.folder
     printed, status = root.dpkg("--install", debs[0])
     checks.that("it is installed", (status == 0 or printed, root.status()), (True, "install ok installed"))
-    user = re.search(r"^achdesk:[^:]*:(\d+):", (at / "etc/passwd").read_text(), re.M)
+    user = re.search(r"^achdesk:[^:]*:(\d+):(\d+):", (at / "etc/passwd").read_text(), re.M)
     checks.that("the service's user is made", user is not None)
     checks.that("the folders are for those who need them", [(mode_of(at / it), os.stat(at / it).st_uid) for it in KEPT],
-                [("0o700", int(user[1])), ("0o700", int(user[1])), ("0o755", 0), ("0o700", 0), ("0o700", 0)])
+                [("0o700", int(user[1])), ("0o700", int(user[1])), ("0o755", 0), ("0o710", 0), ("0o700", 0)])
+    log = os.stat(at / "var/log/achdesk/proxy.log")
+    checks.that("the log is for nginx and achdesk-day", (oct(log.st_mode & 0o777), log.st_uid, log.st_gid), ("0o640", 33, int(user[2])))
     checks.that("the lists of keys are for root alone", [(mode_of(it), os.stat(it).st_uid) for it in sorted((at / "etc/achdesk/keys").iterdir())], [("0o600", 0)] * 3)
     make_desk(str(at / "usr/bin/achdesk"), at / "var/lib/achdesk/bank.db")
     for name in ("var/lib/achdesk-day/2025-01-08-A.ach", "var/log/achdesk/proxy.log", "etc/achdesk/tls/key.pem"):
