@@ -9,6 +9,7 @@ PROGRAM = crates/achdesk/out/achdesk
 PACKAGES = crates/achdesk/out
 VERSION = $(shell $(PROGRAM) --version | cut -d' ' -f2)+$(shell git rev-list --count HEAD 2>/dev/null || echo 0)
 ARCHITECTURE = $(shell dpkg --print-architecture)
+DPKG_DEB = dpkg-deb --root-owner-group
 LIBC = $(shell dpkg-query --show --showformat='$${Version}' libc6 | cut -d- -f1)
 
 BIN = $(DESTDIR)/usr/bin
@@ -62,4 +63,4 @@ deb: program
 	    deploy/package/control > "$$folder/DEBIAN/control"; \
 	install -m 644 deploy/package/conffiles "$$folder/DEBIAN"; \
 	install -m 755 deploy/package/postinst deploy/package/prerm deploy/package/postrm "$$folder/DEBIAN"; \
-	dpkg-deb --root-owner-group --build "$$folder" '$(PACKAGES)/achdesk_$(VERSION)_$(ARCHITECTURE).deb'
+	$(DPKG_DEB) --build "$$folder" '$(PACKAGES)/achdesk_$(VERSION)_$(ARCHITECTURE).deb'

@@ -200,9 +200,8 @@ def start(checks, program, folder):
     bind = f"import socket; s = socket.socket(); s.setsockopt(1, 2, 1); s.bind(('{HOST}', {port}))"
     printed, status = said("setpriv", f"--reuid={OTHER}", "--clear-groups", "--inh-caps=-all", "--ambient-caps=-all", "--bounding-set=-all", sys.executable, "-c", bind)
     checks.that("while it is down, another user cannot have its port", (status, "PermissionError" in printed), (1, True))
-    used = int(Path(f"/proc/{os.getpid()}/statm").read_text().split()[0])
     with Started(command_of(program, path, port, limit=300 << 20), port) as desk:
-        checks.that(f"with 300 MiB the largest body is 503 ({used} pages here)", desk.ask(message("POST /ops/day", large_body())).split(b"\r\n")[0],
+        checks.that("with 300 MiB the largest body is 503", desk.ask(message("POST /ops/day", large_body())).split(b"\r\n")[0],
                     b"HTTP/1.1 503 Service Unavailable")
         checks.that("and the next request is answered", desk.ask(message("GET /ops/status")).split(b"\r\n")[0], b"HTTP/1.1 200 OK")
     calls(checks, program, folder, path)
@@ -218,16 +217,16 @@ def calls(checks, program, folder, path):
         return {it for member in groups[name] for it in (members(member) if member.startswith("@") else {member})}
 
     allowed = members(unit("achdesk.service")["SystemCallFilter"][0])
-    port, counts = low_port(), folder / "calls"
+    port, counted = low_port(), path.parent / "calls"
     words = command_of(program, path, port)
-    at = words.index("env")
-    with Started([*words[:at + 1], *words[at + 1:at + 3], "strace", "-f", "-c", "-S", "name", "-U", "name", "-o", "/dev/stderr", *words[at + 3:]], port) as desk:
+    at = words.index(program)
+    with Started([*words[:at], "strace", "-f", "-c", "-S", "name", "-U", "name", "-o", counted, *words[at:]], port) as desk:
         for sent in (message("POST /ops/companies", MILL), message("POST /ops/day", '{"day":"2025-01-08"}'), message("POST /ops/cut", ""), message("GET /ops/status")):
             desk.ask(sent)
         child = Path(f"/proc/{desk.process.pid}/task/{desk.process.pid}/children").read_text().split()
         os.kill(int(child[0]), signal.SIGTERM)
-        printed = desk.process.stdout.read().decode()
-    used = {line.strip() for line in printed.split("\n") if re.fullmatch(r"[a-z_0-9]+", line.strip())} - {"total", "syscall", "execve"}
+        desk.process.wait(30)
+    used = {line.strip() for line in counted.read_text().split("\n") if re.fullmatch(r"[a-z_0-9]+", line.strip())} - {"total", "syscall", "execve"}
     checks.that(f"each of its {len(used)} system calls is allowed", (len(used) > 10, sorted(used - allowed)), (True, []))
 
 
@@ -715,7 +714,8 @@ def package(checks, program, folder):
     installed(checks, program, folder)
     debs = []
     for number in (1, 2):
-        printed, status = said("make", "--no-print-directory", "-C", TOP, "deb", f"PROGRAM={program}", f"VERSION=1.0.0+{number}", f"PACKAGES={folder}")
+        printed, status = said("make", "--no-print-directory", "-C", TOP, "deb", f"PROGRAM={program}", f"VERSION=1.0.0+{number}", f"PACKAGES={folder}",
+                               "DPKG_DEB=dpkg-deb --root-owner-group -Zgzip -z1")
         debs += sorted(set(folder.glob("achdesk_*.deb")) - set(debs))
         checks.that(f"make deb {number}", (status == 0 or printed, len(debs)), (True, number))
     names = said("dpkg-deb", "--contents", debs[0])[0]
