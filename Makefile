@@ -42,6 +42,7 @@ install: program
 	install -D -m 644 deploy/tmpfiles.conf $(DESTDIR)/usr/lib/tmpfiles.d/achdesk.conf
 	install -m 644 console/* $(SHARE)/achdesk/console
 	install -m 644 $(lists:%=deploy/keys/%.map) $(SHARE)/achdesk/keys
+	install -m 644 deploy/nftables.conf $(SHARE)/achdesk
 	install -m 644 deploy/README.md docs/*.md docs/*.sql docs/*.yaml docs/*.png $(SHARE)/doc/achdesk
 	for name in $(configurations); do test -e $(ETC)/achdesk/$$name || install -m 644 deploy/$$name $(ETC)/achdesk || exit 1; done
 	for name in $(lists); do test -e $(ETC)/achdesk/keys/$$name.map || install -m 600 deploy/keys/$$name.map $(ETC)/achdesk/keys || exit 1; done

@@ -9,11 +9,12 @@ PROGRAM is the built program if it is left out. The parts, all if none is named:
     keys     keys in files of mode 0600, rotated and shut by a reload, compared with case
     limits   guesses, a company, an address, half requests; 300 hostile clients next to a polite one: figures
     second   the README's commands for a second desk, and the site in Debian's own nginx.conf
+    firewall the rules of nftables, in a network of their own: connections of one address
     log      logrotate's debug run, and a rotation while nginx serves
     manual   the manual pages, by man without a warning
     package  `make install`, `make uninstall`, `make deb`; the package installed, upgraded, removed and purged by `dpkg --root`
 
-It needs Debian's packages nginx, openssl, logrotate, man-db, make, strace and systemd, and root. If one is missing it names it,
+It needs Debian's packages nginx, openssl, logrotate, nftables, iproute2, man-db, make, strace and systemd, and root. If one is missing it names it,
 with status 2. The last line counts the checks; the status is 1 where one failed.
 """
 
@@ -39,7 +40,7 @@ from helpers.running import HOST, MILL, MILL_KEY, OPERATOR_KEY, TOP, Checks, Ser
 
 DEPLOY = TOP / "deploy"
 PACKAGES = {"nginx": "nginx", "openssl": "openssl", "logrotate": "logrotate", "man": "man-db", "make": "make", "strace": "strace",
-            "systemd-analyze": "systemd", "setpriv": "util-linux", "dpkg-deb": "dpkg"}
+            "nft": "nftables", "ip": "iproute2", "unshare": "util-linux", "systemd-analyze": "systemd", "setpriv": "util-linux", "dpkg-deb": "dpkg"}
 PATHS = f"{os.environ.get('PATH', '')}:/usr/sbin:/sbin"
 USER, OTHER = 64_801, 64_802  # two users of the machine that have nothing
 NET_BIND_SERVICE = 1 << 10
@@ -600,6 +601,33 @@ def second(checks, program, folder):
     checks.that("they share no zone and no log", [it for it in first & other if "achdesk" in str(it)], [])
 
 
+# ---- the firewall
+
+# In a network of its own: a server on port 443, and how many of 70 connections it takes of each of two addresses.
+CONNECTING = """
+import socket, subprocess, sys
+subprocess.run(["ip", "link", "set", "lo", "up"], check=True)
+subprocess.run(["nft", "-f", sys.argv[1]], check=True)
+server, taken = socket.create_server(("127.0.0.1", 443), backlog=200), []
+def opened(source):
+    try:
+        taken.append(socket.create_connection(("127.0.0.1", 443), timeout=5, source_address=(source, 0)))
+        return True
+    except OSError:
+        return False
+print([sum(opened(source) for _ in range(70)) for source in ("127.0.0.2", "127.0.0.3")])
+for it in taken[:10]:
+    it.close(); server.accept()[0].close()
+import time; time.sleep(0.5)
+print(opened("127.0.0.2"))
+"""
+
+
+def firewall(checks, program, folder):
+    printed, status = said("unshare", "--net", sys.executable, "-c", CONNECTING, DEPLOY / "nftables.conf", env=os.environ | {"PATH": PATHS})
+    checks.that("an address has 60 connections, and a new one when old ones end", (printed, status), ("[60, 60]\nTrue\n", 0))
+
+
 # ---- the log
 
 def log(checks, program, folder):
@@ -756,7 +784,7 @@ def package(checks, program, folder):
         checks.that(f"sh takes {name}", said("sh", "-n", DEPLOY / "package" / name), ("", 0))
 
 
-PARTS = {it.__name__: it for it in (units, start, proxy, keys, limits, second, log, manual, package)}
+PARTS = {it.__name__: it for it in (units, start, proxy, keys, limits, second, firewall, log, manual, package)}
 
 
 def main():

@@ -23,8 +23,8 @@ from helpers.running import program_of
 HERE = Path(__file__).resolve().parent
 PATHS = f"{os.environ.get('PATH', '')}:/usr/sbin:/sbin"
 # What judges need, and what has it: Debian's packages, but for the toolchain. A module of Python is named with a dot.
-NEEDS = {"chromedriver": "chromium-driver", "chromium": "chromium", "curl": "curl", "gcc": "gcc", "logrotate": "logrotate", "make": "make", "man": "man-db",
-         "nginx": "nginx", "openssl": "openssl", "rt": "the Rattle toolchain", "sftp": "openssh-client", "sqlite3": "sqlite3", "ss": "iproute2", "sshd": "openssh-server",
+NEEDS = {"chromedriver": "chromium-driver", "chromium": "chromium", "curl": "curl", "gcc": "gcc", "ip": "iproute2", "logrotate": "logrotate", "make": "make", "man": "man-db",
+         "nft": "nftables", "nginx": "nginx", "openssl": "openssl", "rt": "the Rattle toolchain", "sftp": "openssh-client", "sqlite3": "sqlite3", "ss": "iproute2", "sshd": "openssh-server",
          "strace": "strace", ".yaml": "python3-yaml"}
 
 
@@ -63,7 +63,7 @@ JUDGES = (
     Judge("sent_first", (), ("curl",)),
     Judge("pages", (), ("curl", "ss", "sqlite3")),
     Judge("growths_in_files", ("20",), ("gcc",)),
-    Judge("deploy", (), ("nginx", "openssl", "logrotate", "man", "make", "strace")),
+    Judge("deploy", (), ("nginx", "openssl", "logrotate", "nft", "ip", "man", "make", "strace")),
     Judge("day", (), ("nginx", "openssl", "sshd", "sftp", "curl")),
     Judge("console", (), ("chromium", "chromedriver", "nginx")),
     Judge("openapi", (), (".yaml",)),
