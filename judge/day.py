@@ -1,0 +1,465 @@
+#!/usr/bin/env python3
+"""Runs a bank's week by deploy/achdesk-day, against the real parts on loopback: `python3 judge/day.py [PROGRAM] [EVERY]`.
+
+PROGRAM is ./achdesk if it is left out. EVERY is 1 if it is left out: with 5 only each fifth step of a command is tried,
+which is quicker with a program that was built without proofs and takes seconds to open a file. The parts are `achdesk serve`, nginx with deploy/nginx.conf and TLS, an
+OpenSSH server for SFTP that is not root, and two companies that use curl. The week has returns and changes, refused
+files, a company's and the bank's key rotated on Thursday, a holiday, and a restore of the desk on Friday. On Wednesday
+each command is killed at each of its steps, and so is the desk, from the same state each time; the command is run again
+as a person would, and everything has to be as if nothing had been killed. At the end the archive has each file once,
+byte for byte as the desk has it, the ACH operator has each once, and the reports have the figures that are worked out by
+hand below.
+
+The status is 1 if a check failed, and 2 if Debian packages are missing, which are named; that is not a pass.
+"""
+
+import csv
+import io
+import json
+import re
+import shutil
+import subprocess
+import sys
+import tempfile
+import threading
+import time
+from pathlib import Path
+
+from helpers.bank import DESK_KEYS, Bank, bytes_of, digest, end_if_missing
+from helpers.returned import file_of_returns
+from helpers.running import Checks, program_of
+
+MON, TUE, WED, THU, FRI, HOLIDAY, NEXT = (f"2025-01-{day}" for day in (13, 14, 15, 16, 17, 20, 21))
+DFI = "09100001"
+
+# What is worked out by hand, for each day: its files (batches, records, debits, credits), returns and changes by code
+# (count, debits, credits), late returns, items in suspense, the settlement by value day, and the balance of the day.
+# Traces are numbered in the order of cuts, and in a cut by company and order: Monday BAKE01 1, MILL01 PAY-1 2 to 4,
+# DUES-1 5 to 7, then DUES-2 8; Tuesday 9 and 10; Wednesday 11 and 12; Thursday 13; Friday 14.
+FIGURES = {
+    MON: dict(files={"A": (3, 7, 2500 + 4900 + 3100, 99999 + 150000 + 120000 + 80050), "B": (1, 1, 7700, 0)}, codes={}, late=0, suspense=[],
+              settlement={TUE: 99999 - 10500 - 7700, WED: 350050}, balance=0),
+    TUE: dict(files={"A": (1, 2, 40000 + 21000, 0)}, codes={"R01": (1, 2500, 0), "C01": (1, 0, 0)}, late=0, suspense=[],
+              settlement={TUE: 81799 + 2500, WED: 350050 - 61000}, balance=84299),
+    WED: dict(files={"A": (1, 1, 0, 200000), "B": (1, 1, 0, 33300)}, codes={"R03": (1, 21000, 0)}, late=0, suspense=[("R01", 500, 0)],
+              settlement={WED: 289050 + 21000 + 500, THU: 33300, FRI: 200000}, balance=84299 + 310550),
+    THU: dict(files={"A": (1, 1, 2500, 0)}, codes={}, late=0, suspense=[], settlement={THU: 33300, FRI: 200000 - 2500}, balance=394849 + 33300),
+    FRI: dict(files={"A": (1, 1, 5000, 0)}, codes={"R01": (1, 4900, 0), "R10": (1, 3100, 0)}, late=1, suspense=[],
+              settlement={FRI: 197500 + 4900 + 3100, NEXT: -5000}, balance=428149 + 205500),
+    NEXT: dict(files={}, codes={}, late=0, suspense=[], settlement={NEXT: -5000}, balance=633649 - 5000),
+}
+
+
+# ---- what companies submit, and what comes back ----
+
+def entry(cents, ident, name, account="123456789"):
+    return {"routing": "091000019", "account": account, "kind": "checking", "cents": cents, "id": ident, "name": name}
+
+
+def submission(ref, direction, day, *entries):
+    return {"ref": ref, "sec": "PPD", "direction": direction, "description": "PAYROLL" if direction == "credit" else "DUES", "day": day,
+            "entries": [entry(cents, f"E{at}", f"RECEIVER {at}") for at, cents in enumerate(entries, 1)]}
+
+
+def returned(code, sequence, index, cents, debit=True, **more):
+    return {"code": code, "trace": f"12104288{sequence:07}", "cents": cents, "debit": debit, "savings": False, "account": "123456789",
+            "ident": f"E{index}", "name": f"RECEIVER {index}", "dfi": DFI, **more}
+
+
+def with_change(text, number, item):
+    """A file of returns with a second batch, in which a change is."""
+    changes = file_of_returns(number, "COR", [item]).splitlines()
+    records = [it for it in text.splitlines() if it != "9" * 94]
+    body = [*records[1:-1], *changes[1:5]]
+    counted = [it for it in body if it[0] == "8"]
+    sums = [sum(int(it[at:end]) for it in counted) for at, end in ((4, 10), (10, 20), (20, 32), (32, 44))]
+    blocks = -(-(len(body) + 2) // 10)
+    whole = [records[0], *body, f"9{len(counted):06}{blocks:06}{sums[0]:08}{sums[1] % 10 ** 10:010}{sums[2]:012}{sums[3]:012}{' ' * 39}"]
+    return "".join(f"{it}\n" for it in whole + ["9" * 94] * (-len(whole) % 10))
+
+
+class Operator:
+    """The ACH operator: takes each file out of the SFTP folder as soon as it has its name, if it is quick."""
+
+    def __init__(self, bank):
+        self.inbox, self.taken, self.is_quick, self.lock = bank.sftp.inbox, bank.folder / "operator" / "taken", False, threading.Lock()
+        self.taken.mkdir()
+        threading.Thread(target=self.work, daemon=True).start()
+
+    def work(self):
+        while True:
+            with self.lock:
+                for path in self.inbox.glob("*.ach") if self.is_quick else ():
+                    path.rename(self.taken / f"{len(list(self.taken.iterdir())):04}-{path.name}")
+            time.sleep(0.002)
+
+    def received(self):
+        """The files that were received, by name: the bytes of each time."""
+        files = {}
+        for path in [*sorted(self.taken.iterdir()), *sorted(self.inbox.glob("*.ach"))]:
+            files.setdefault(path.name[-16:], []).append(path.read_bytes())
+        return files
+
+
+class Week:
+    """The bank, its checks, and what is done with both."""
+
+    def __init__(self, bank, checks, every):
+        self.bank, self.checks, self.operator, self.every = bank, checks, Operator(bank), every
+        self.kills = self.asked_again = 0
+
+    def at(self, day, hour="09:00"):
+        self.bank.now = f"{day}T{hour}:00-05:00"
+
+    def run(self, *words, status=0, says="", **more):
+        """Runs achdesk-day, and checks how it ended and what it said."""
+        ended, printed, errors = self.bank.day(*words, **more)
+        if ended != status or says not in printed + errors:
+            self.checks.that(f"achdesk-day {' '.join(map(str, words))}", (ended, printed + errors), (status, says))
+        else:
+            self.checks.that(f"{self.bank.now[:10]} achdesk-day {' '.join(map(str, words))}: {says or status}", True)
+        return printed
+
+    def submit(self, company, body, path="submissions"):
+        told = self.bank.curl(company, f"/c/{company}/{path}", body)
+        self.checks.that(f"{self.bank.now[:10]} {company} submits {body['ref']}", told.get("ref"), body["ref"])
+
+    def arrive(self, name, text):
+        (self.bank.state / "inbox" / name).write_text(text)
+
+    def ack_of(self, names):
+        """An acknowledgement of these files, by the figures worked out by hand."""
+        path = self.bank.folder / "ack.csv"
+        rows = [f"{name},{','.join(map(str, FIGURES[name[:10]]['files'][name[11]]))}" for name in names]
+        path.write_text("".join(f"{it}\n" for it in ["file,batches,entries,debits,credits", *rows]))
+        return path
+
+    # -- the state that kills must not change --
+
+    def state(self):
+        """What the desk answers, what is in the folders, and what the ACH operator has."""
+        ask = lambda path: self.bank.curl("day", path)
+        status = ask("/ops/status")
+        folders = {name: {str(path.relative_to(self.bank.state)): digest(path.read_bytes()) for path in sorted((self.bank.state / name).rglob("*"))
+                          if path.is_file()} for name in ("outgoing", "sending", "incoming", "quarantine", "inbox")}
+        files = {it: digest(ask(f"/ops/files/{status['day']}/{it}").encode()) for it in status["files"]}
+        return {"status": status, "settlement": ask("/ops/settlement"), "suspense": ask("/ops/suspense"), "files": files, **folders,
+                "received": {name: [digest(it) for it in texts] for name, texts in self.operator.received().items()},
+                "parts": sorted(path.name for path in self.bank.sftp.inbox.glob("*.part"))}
+
+    def desk_says(self):
+        return [self.bank.curl("day", f"/ops/{it}") for it in ("status", "settlement", "suspense")]
+
+    def keep(self, name):
+        """Keeps the present state under a name."""
+        self.bank.desk.stop()
+        copied(self.bank.folder, self.bank.folder / name)
+        self.bank.desk.start()
+        self.kept = self.desk_says()
+
+    def bring_back(self, name):
+        """Brings a state back. The desk is not started again if it is as it was."""
+        is_same_desk = self.desk_says() == self.kept
+        with self.operator.lock:
+            if not is_same_desk:
+                self.bank.desk.stop()
+            copied(self.bank.folder / name, self.bank.folder, but="desk" if is_same_desk else "")
+            if not is_same_desk:
+                self.bank.desk.start()
+
+    def finish(self, *words):
+        """Runs a command until it is done, as a person does who follows what it says."""
+        for _ in range(20):
+            status, printed, errors = self.bank.day(*words)
+            if status == 3:
+                time.sleep(0.2)
+            elif status == 1 and "cut --again" in errors:
+                self.asked_again += 1
+                status = self.bank.day("cut", "--again")[0]
+                if status == 0:
+                    return ""
+            elif status == 1 and (unclear := re.search(r"send --again (\S+)", errors)):
+                self.asked_again += 1
+                name = unclear[1]
+                if f"{name}.ach" in self.operator.received():
+                    self.bank.day("ack", self.ack_of([name]))
+                else:
+                    self.bank.day("send", "--again", name)
+            else:
+                return errors
+        return "it did not come to an end"
+
+    def killed_at_each_step(self, *words, victim="achdesk-day"):
+        """Kills the command, or the desk, at each step of the command; each time from the same state."""
+        self.keep("before")
+        undisturbed_errors = self.finish(*words)
+        undisturbed, steps, failed = self.state(), 1, []
+        while True:
+            self.bring_back("before")
+            whom = {} if victim == "achdesk-day" else {"ACHDESK_DAY_KILL": self.bank.desk.process.pid}
+            status, _, errors = self.bank.day(*words, ACHDESK_DAY_KILL_AT=steps, **whom)
+            if not (self.was_killed(whom["ACHDESK_DAY_KILL"]) if whom else status == -9):
+                break
+            self.kills += 1
+            self.bank.desk.wait()
+            errors = self.finish(*words)
+            found = self.state()
+            if found != undisturbed:
+                failed.append((steps, {key: (found[key], undisturbed[key]) for key in found if found[key] != undisturbed[key]}, errors))
+            steps += self.every
+        self.checks.that(f"{self.bank.now[:10]} {victim} is killed at the steps of {' '.join(words)}, up to step {steps - 1}", failed, [])
+        self.checks.that("and there were steps", steps > 3)
+        return undisturbed_errors
+
+    def was_killed(self, process):
+        """Whether the desk with this process number has ended."""
+        time.sleep(0.1)
+        return self.bank.desk.process.pid != process or self.bank.desk.process.poll() is not None
+
+    # -- reports --
+
+    def reported(self, day):
+        """Compares the report of a day with the figures that are worked out by hand."""
+        self.run("report", day)
+        rows = list(csv.DictReader(io.StringIO((self.bank.state / "reports" / f"{day}.csv").read_text())))
+        number = lambda row, *columns: tuple(int(row[it]) for it in columns)
+        of = lambda section: [row for row in rows if row["section"] == section]
+        found = dict(
+            files={row["name"][11]: (int(row["note"].split()[0]), *number(row, "count", "debits", "credits")) for row in of("file")},
+            codes={row["name"]: number(row, "count", "debits", "credits") for row in of("return") + of("change")},
+            late=int(of("late returns")[0]["count"]),
+            suspense=[(row["name"], *number(row, "debits", "credits")) for row in of("suspense")],
+            settlement={row["day"]: int(row["net"]) for row in of("settlement")},
+            balance=int(of("balance")[0]["net"]))
+        self.checks.that(f"{day} the report has the figures worked out by hand", found, FIGURES[day])
+        words = {row["note"] for row in of("settlement") if int(row["net"]) > 0} | {"the bank pays the ACH operator"}
+        self.checks.that(f"{day} the report says who pays", words, {"the bank pays the ACH operator"})
+        text = (self.bank.state / "reports" / f"{day}.txt").read_text()
+        self.checks.that(f"{day} the report says that nothing is left", "NOT TRANSMITTED" in text, False)
+
+
+def copied(source, target, but=""):
+    """Copies the folders of the desk, of achdesk-day and of the ACH operator, but one."""
+    target.mkdir(exist_ok=True)
+    for name in ("desk", "day", "backups", "operator/inbox", "operator/taken"):
+        if name == but or not (source / name).exists():
+            continue
+        (target / name).parent.mkdir(exist_ok=True)
+        (target / name).mkdir(exist_ok=True)
+        subprocess.run(["rsync", "--archive", "--delete", "--checksum", f"{source / name}/", f"{target / name}/"], check=True)
+
+
+# ---- the days ----
+
+def monday(week):
+    week.at(MON)
+    week.run("open", says="2025-01-13")
+    week.run("holidays", "2025", "2026", says="21 holidays")
+    for company, name in (("MILL01", "MILL STREET"), ("BAKE01", "BAKERY")):
+        week.bank.curl("day", "/ops/companies", {"id": company, "name": name, "key": DESK_KEYS[company], "entry_limit": 9999999999,
+                                                 "credit_limit": 999999999999, "debit_limit": 999999999999})
+    week.submit("MILL01", submission("PAY-1", "credit", WED, 150000, 120000, 80050))
+    week.submit("MILL01", submission("DUES-1", "debit", TUE, 2500, 4900, 3100))
+    week.submit("BAKE01", submission("PAY-1", "credit", TUE, 99999))
+    week.at(MON, "15:00")
+    week.run("cut", "--dry-run", says="3,500.50")
+    week.run("cut", says="7 entries in files A")
+    week.run("send", says="sent 2025-01-13-A: 3 batches, 7 records, debits 105.00, credits 4,500.49")
+    week.submit("MILL01", submission("DUES-2", "debit", TUE, 7700))
+    week.at(MON, "16:30")
+    week.run("cut", status=1, says="past the cut-off time 16:30")
+    week.run("cut", "--late", says="1 entries in files B")
+    week.run("cut", "--late", says="nothing is due")
+
+
+def tuesday(week):
+    bank = week.bank
+    week.at(TUE)
+    week.run("open", status=1, says="not transmitted: 2025-01-13-B")
+    week.run("send", says="sent 2025-01-13-B")
+    week.run("send", says="nothing")
+    week.reported(MON)
+    week.run("open", "--day", WED, status=1, says="is after today")
+    week.at(TUE, "00:30")  # it is Tuesday in New York from 05:00 UTC on
+    bank.now = "2025-01-14T04:59:00+00:00"
+    week.run("open", says="2025-01-13 already")
+    week.at(TUE)
+    week.run("open", says="the desk day is 2025-01-14")
+    week.run("open", says="already")
+    week.run("ack", week.ack_of(["2025-01-13-A"]), status=1, says="not acknowledged: 2025-01-13-B")
+    path = week.ack_of(["2025-01-13-B"])
+    path.write_text(path.read_text().replace("7700", "7701") + "2025-01-10-A,1,1,1,1\n")
+    week.run("ack", path, status=1, says="2025-01-13-B was transmitted with")
+    week.run("ack", path, status=1, says="has 2025-01-10-A, which was not transmitted")
+    week.run("ack", week.ack_of(["2025-01-13-B"]), says="acknowledged 2025-01-13-B")
+    shorter = bank.folder / "holidays.csv"
+    shorter.write_text("2025-02-17\n2025-05-26\n")
+    week.run("holidays", shorter, status=1, says="drops days within 60 days of today: 2025-01-01 2025-01-20")
+    bank.curl("day", "/ops/status")
+    subprocess.run(["curl", "-s", "--cacert", bank.proxy.certificate, "-H", f"@{bank.folder}/keys/day", "--data-binary", f"@{shorter}",
+                    f"https://127.0.0.1:{bank.proxy.port}/ops/holidays"], check=True, stdout=subprocess.DEVNULL)
+    week.run("holidays", "2025", "2026", status=1, says="the desk has 2 holidays")
+    week.run("holidays", "2025", "2026", "--replace-unknown", says="21 holidays")
+    text = file_of_returns(1, "PPD", [returned("R01", 5, 1, 2500)])
+    week.arrive("tuesday.ach", with_change(text, 2, returned("C01", 3, 2, 0, debit=False, text="987654321")))
+    week.arrive("spoiled.ach", text.replace("0000002500E1", "0000002600E1"))
+    week.arrive("still-arriving.ach.part", text[:300])
+    week.run("returns", status=1, says="spoiled.ach was refused: BadTotal")
+    week.checks.that("the spoiled file is in quarantine, with the reason",
+                     [json.loads(it.read_text())["refused"] for it in (bank.state / "quarantine").glob("*.json")], ["BadTotal at record 5"])
+    week.arrive("tuesday-again.ach", with_change(text, 2, returned("C01", 3, 2, 0, debit=False, text="987654321")))
+    week.run("returns", says="1 returns, 1 changes, 0 late, 0 suspense; first taken on 2025-01-14")
+    week.submit("BAKE01", submission("DUES-1", "debit", WED, 40000, 21000))
+    week.run("cut", says="2 entries in files A")
+    week.run("send", says="sent 2025-01-14-A")
+    week.reported(TUE)
+
+
+def wednesday(week):
+    """The day on which everything is killed."""
+    week.at(WED)
+    week.killed_at_each_step("open")
+    week.killed_at_each_step("holidays", "2025", "2027")
+    week.arrive("wednesday.ach", file_of_returns(3, "PPD", [returned("R03", 10, 2, 21000), returned("R01", 9999999, 1, 500)]))
+    week.arrive("forward.ach", file_of_returns(4, "PPD", [returned("R01", 9, 1, 40000)]).replace("\n626", "\n627", 1))
+    errors = week.killed_at_each_step("returns")
+    week.checks.that("an alarm says that a file has forward entries", "It has forward entries" in errors)
+    week.submit("MILL01", submission("PAY-2", "credit", FRI, 200000))
+    week.killed_at_each_step("cut")
+    week.killed_at_each_step("cut", victim="desk")
+    week.submit("BAKE01", submission("PAY-2", "credit", THU, 33300))
+    week.run("cut", says="1 entries in files B")
+    week.killed_at_each_step("send", victim="desk")
+    week.bring_back("before")
+    week.killed_at_each_step("send")
+    week.bring_back("before")
+    week.operator.is_quick = True
+    week.killed_at_each_step("send")
+    week.operator.is_quick = False
+    week.killed_at_each_step("ack", str(week.ack_of(["2025-01-15-A", "2025-01-15-B"])))
+    week.killed_at_each_step("report")
+    week.killed_at_each_step("backup")
+    week.reported(WED)
+    print(f"        {week.kills} kills; a person had to decide {week.asked_again} times", flush=True)
+
+
+def thursday(week):
+    bank = week.bank
+    week.at(THU)
+    old = bank.shown["MILL01"], bank.shown["day"]
+    bank.rotate("MILL01", "day")
+    for key, path in zip(old, ("/c/MILL01/exposure", "/ops/status")):
+        week.checks.that(f"the old key opens {path} no more", bank.proxy.ask("GET", path, key=key)[0], 403)
+    lines_before, began = len(bank.proxy.logged()), time.monotonic()
+    week.run("open")
+    week.submit("MILL01", {"ref": "RT-1", "of": "DUES-1", "index": 1, "day": FRI}, "retries")
+    week.run("returns", says="the inbox is empty")
+    week.run("cut", says="1 entries in files A")
+    week.run("backup", says="backed up")
+    week.run("send", says="sent 2025-01-16-A")
+    week.reported(THU)
+    seconds = time.monotonic() - began
+    asked = sum("holder=operator:day" in line for line in bank.proxy.logged()[lines_before:])
+    print(f"        a day (open, returns, cut, backup, send, report) took {seconds:.1f} s and {asked} requests", flush=True)
+    bank.write_key("watcher")
+    week.run("metrics", "--key-file", bank.folder / "keys" / "watcher", says="achdesk_up 1")
+    week.run("cut", "--key-file", bank.folder / "keys" / "MILL01", status=2, says="is not accepted")
+    (bank.folder / "keys" / "day").chmod(0o644)
+    week.run("send", status=2, says="can be read by others")
+    (bank.folder / "keys" / "day").chmod(0o600)
+    restored_elsewhere(week)
+
+
+def restored_elsewhere(week):
+    """Restores the backup into another folder, and compares the desk that is served from there."""
+    bank = week.bank
+    other = bank.folder / "elsewhere" / "other.db"
+    other.parent.mkdir()
+    week.run("restore", "newest", "--to", other, says="restored")
+    week.checks.that("a desk is served from the restored file", is_same_desk(week, other))
+    week.run("restore", "newest", status=1, says="a desk is running")
+
+
+def is_same_desk(week, path):
+    told = []
+    for file in (path, week.bank.desk_file):
+        folder = tempfile.mkdtemp(dir=week.bank.folder)
+        for name in (file, file.with_name(file.name + "-wal")):
+            shutil.copy(name, Path(folder) / name.name)
+        asked = "".join(f"GET {it} HTTP/1.1\r\nHost: h\r\nX-Desk-Key: the-desk-s-own-operator-key\r\n\r\n"
+                        for it in ("/ops/status", "/ops/settlement", "/ops/suspense", f"/ops/files/{THU}/A"))
+        told.append(subprocess.run([week.bank.program, "stdio", Path(folder) / file.name], input=asked.encode(), capture_output=True).stdout)
+    return told[0] == told[1] and b"HTTP/1.1 200 OK" in told[0]
+
+
+def friday(week):
+    """A day after which the desk is lost and Thursday's backup is restored."""
+    bank = week.bank
+    week.at(FRI)
+    week.run("open")
+    week.arrive("friday.ach", file_of_returns(5, "PPD", [returned("R01", 6, 2, 4900), returned("R10", 7, 3, 3100)]))
+    week.run("returns", says="2 returns, 0 changes, 1 late")
+    week.submit("BAKE01", submission("DUES-2", "debit", HOLIDAY, 5000))
+    week.run("cut", says="1 entries in files A")
+    week.run("send", says="sent 2025-01-17-A")
+    week.reported(FRI)
+    wanted = bank.curl("day", "/ops/settlement")
+    bank.desk.stop()
+    week.run("metrics", says="achdesk_up 0")
+    printed = week.run("restore", "newest", says="the files that were there are in")
+    bank.desk.start()
+    week.checks.that("the restore lists the cut and the file that was sent since",
+                     all(f"{it} 2025-01-17" in printed.replace("sent 2025-01-17-A", "sent 2025-01-17") for it in ("cut", "sent", "opened")))
+    listed = next((bank.state / "reports").glob("restored-2025-01-17*.txt")).read_text()
+    week.checks.that("and what came by way of the proxy", 'POST /c/BAKE01/submissions HTTP/1.1" 201' in listed and "POST /ops/cut" in listed)
+    week.run("open", says="the desk day is 2025-01-17")
+    week.run("cut", status=1, says="would pay twice")
+    for path in (bank.state / "incoming" / FRI).glob("*.ach"):
+        path.rename(bank.state / "inbox" / "friday.ach")
+    week.run("returns", says="2 returns, 0 changes, 1 late")
+    week.submit("BAKE01", submission("DUES-2", "debit", HOLIDAY, 5000))
+    week.run("cut", "--remake", says="byte for byte; it is not sent again")
+    week.run("send", says="nothing")
+    week.checks.that("the restored desk is as it was", bank.curl("day", "/ops/settlement"), wanted)
+
+
+def holiday_and_after(week):
+    week.at(HOLIDAY)
+    week.run("open", says="is not a banking day")
+    week.run("cut", says="is not a banking day; nothing is cut")
+    week.at(NEXT)
+    week.run("cut", status=1, says="run achdesk-day open")
+    week.run("open", says="the desk day is 2025-01-21")
+    week.run("cut", says="nothing is due")
+    week.run("send", says="nothing")
+    week.reported(NEXT)
+    week.run("ack", week.ack_of(["2025-01-16-A", "2025-01-17-A"]), status=1, says="not acknowledged: 2025-01-14-A")
+
+
+def at_the_end(week):
+    """Each file once in the archive and once at the ACH operator, byte for byte as the desk has it."""
+    bank = week.bank
+    names = [f"{day}-{letter}" for day in FIGURES for letter in FIGURES[day]["files"]]
+    desk = {f"{name}.ach": bank.curl("day", f"/ops/files/{name[:10]}/{name[11]}").encode() for name in names}
+    week.checks.that("the archive has each file once, byte for byte as the desk has it", bank.archive(), desk)
+    week.checks.that("the ACH operator has each file once, byte for byte", week.operator.received(), {name: [text] for name, text in desk.items()})
+    week.checks.that("nothing is left half-way", [bytes_of(bank.state / "sending"), bytes_of(bank.sftp.inbox, ".part")], [{}, {}])
+    alarms = [json.loads(line)["text"] for line in (bank.state / "day.journal").read_text().splitlines() if '"did": "alarm"' in line]
+    week.checks.that("each alarm of the journal was given to the alarm command", set(alarms) <= set(bank.alarms()))
+
+
+def main():
+    end_if_missing()
+    program, checks, began = program_of(sys.argv[1:]), Checks(), time.monotonic()
+    with tempfile.TemporaryDirectory(prefix="judge-day-") as folder:
+        Path(folder).chmod(0o755)
+        with Bank(program, folder) as bank:
+            week = Week(bank, checks, int((sys.argv[2:] or ["1"])[0]))
+            for day in (monday, tuesday, wednesday, thursday, friday, holiday_and_after, at_the_end):
+                day(week)
+    print(f"        {time.monotonic() - began:.0f} s in all", flush=True)
+    checks.end()
+
+
+if __name__ == "__main__":
+    main()
