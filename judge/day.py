@@ -18,6 +18,7 @@ import io
 import json
 import re
 import shutil
+import signal
 import subprocess
 import sys
 import tempfile
@@ -193,28 +194,43 @@ class Week:
         """Kills the command, or the desk, at each step of the command; each time from the same state."""
         self.keep("before")
         undisturbed_errors = self.finish(*words)
-        undisturbed, steps, failed = self.state(), 1, []
+        self.undisturbed, steps, failed = self.state(), 1, []
         while True:
             self.bring_back("before")
             whom = {} if victim == "achdesk-day" else {"ACHDESK_DAY_KILL": self.bank.desk.process.pid}
-            status, _, errors = self.bank.day(*words, ACHDESK_DAY_KILL_AT=steps, **whom)
+            status = self.bank.day(*words, ACHDESK_DAY_KILL_AT=steps, **whom)[0]
             if not (self.was_killed(whom["ACHDESK_DAY_KILL"]) if whom else status == -9):
                 break
-            self.kills += 1
-            self.bank.desk.wait()
-            errors = self.finish(*words)
-            found = self.state()
-            if found != undisturbed:
-                failed.append((steps, {key: (found[key], undisturbed[key]) for key in found if found[key] != undisturbed[key]}, errors))
+            failed += self.differences(words, f"step {steps}")
             steps += self.every
         self.checks.that(f"{self.bank.now[:10]} {victim} is killed at the steps of {' '.join(words)}, up to step {steps - 1}", failed, [])
-        self.checks.that("and there were steps", steps > 3)
+        self.checks.that("and there were steps", steps > 1)
         return undisturbed_errors
 
     def was_killed(self, process):
         """Whether the desk with this process number has ended."""
         time.sleep(0.1)
         return self.bank.desk.process.pid != process or self.bank.desk.process.poll() is not None
+
+    def killed_at_random(self, *words, times):
+        """Kills the command at moments of its run, also while sftp works, which goes on by itself."""
+        self.bring_back("before")
+        began = time.monotonic()
+        self.finish(*words)
+        longest, failed = time.monotonic() - began, []
+        for at in range(times):
+            self.bring_back("before")
+            self.bank.day(*words, seconds=longest * (at + 0.5) / times)
+            failed += self.differences(words, f"after {longest * (at + 0.5) / times:.2f} s")
+        self.checks.that(f"{self.bank.now[:10]} {' '.join(words)} is killed at {times} moments", failed, [])
+
+    def differences(self, words, when):
+        """Runs a command that was killed again, and gives how the state differs from that of an undisturbed run."""
+        self.kills += 1
+        self.bank.desk.wait()
+        errors, found, wanted = self.finish(*words), self.state(), self.undisturbed
+        differs = {key: (found[key], wanted[key]) for key in found if found[key] != wanted[key]}
+        return [(when, differs, errors)] if differs else []
 
     # -- reports --
 
@@ -335,6 +351,7 @@ def wednesday(week):
     week.bring_back("before")
     week.operator.is_quick = True
     week.killed_at_each_step("send")
+    week.killed_at_random("send", times=max(1, 20 // week.every))
     week.operator.is_quick = False
     week.killed_at_each_step("ack", str(week.ack_of(["2025-01-15-A", "2025-01-15-B"])))
     week.killed_at_each_step("report")
@@ -450,6 +467,7 @@ def at_the_end(week):
 
 def main():
     end_if_missing()
+    signal.signal(signal.SIGTERM, lambda *_: sys.exit(1))  # ends the parts too
     program, checks, began = program_of(sys.argv[1:]), Checks(), time.monotonic()
     with tempfile.TemporaryDirectory(prefix="judge-day-") as folder:
         Path(folder).chmod(0o755)

@@ -134,7 +134,7 @@ class Bank:
         for path in (self.desk_file.parent, self.state, self.state / "inbox", self.folder / "keys", self.folder / "proxy"):
             path.mkdir(mode=0o700, parents=True)
         made = run(program, "init", self.desk_file, "--odfi", "121042882", "--odfi-name", "OUR BANK", "--destination", "061000146",
-                   "--destination-name", "ACH OPERATOR", "--key", OPERATOR_KEY)
+                   "--destination-name", "ACH OPERATOR", "--key", OPERATOR_KEY, seconds=300)
         if made != (b"created\n", 0):
             sys.exit(f"no desk was made: {made}")
         self.desk = KeptDesk(program, self.desk_file)
@@ -182,11 +182,18 @@ class Bank:
         text = "".join(f"[{name}]\n" + "".join(f"{key} = {value}\n" for key, value in settings.items()) for name, settings in sections.items())
         (path or self.config).write_text(text)
 
-    def day(self, *words, config=None, **environment):
-        """Runs achdesk-day; gives the status, what it printed, and its errors."""
+    def day(self, *words, config=None, seconds=None, **environment):
+        """Runs achdesk-day; gives the status, what it printed, and its errors. It is killed after so many seconds."""
         known = os.environ | {"ACHDESK_DAY_NOW": self.now} | {key: str(value) for key, value in environment.items()}
-        done = subprocess.run([sys.executable, DAY, "--config", config or self.config, *words], env=known, capture_output=True, text=True, timeout=300)
-        return done.returncode, done.stdout, done.stderr
+        it = subprocess.Popen([sys.executable, DAY, "--config", config or self.config, *words], env=known, stdout=subprocess.PIPE,
+                              stderr=subprocess.PIPE, text=True)
+        if seconds is not None:
+            try:
+                it.wait(seconds)
+            except subprocess.TimeoutExpired:
+                it.kill()
+        printed, errors = it.communicate(timeout=600)
+        return it.returncode, printed, errors
 
     def curl(self, name, path, body=None):
         """What curl gets for a caller, by way of the proxy: the answer's object."""

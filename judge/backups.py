@@ -1,0 +1,307 @@
+#!/usr/bin/env python3
+"""Tries backups, restores and a takeover by deploy/achdesk-day: `python3 judge/backups.py [PROGRAM] [EVERY]`.
+
+PROGRAM is ./achdesk if it is left out. EVERY is 1 if it is left out: with 5 only each fifth step of a command is killed.
+
+- While clients submit and the log is moved into the file again and again, backups are made one after another. Every one
+  has to open, and to have each submission that was answered before it began, by the rows that stock SQLite finds in it.
+- A backup is killed at each of its steps, under load. What has a backup's name then has to be one.
+- On a full volume no backup is made, and the one before it stays.
+- A backup with a changed byte, or without its log, is not restored. A restore is killed at each of its steps: the
+  target has the old desk, the restored one, or none that starts, and the old files are never lost.
+- The rule by which backups expire, on days that are worked out by hand.
+- A standby is given the backups by rsync over SSH, and takes over in another folder.
+
+The status is 1 if a check failed, and 2 if Debian packages are missing, which are named; that is not a pass.
+"""
+
+import http.client
+import importlib.machinery
+import importlib.util
+import json
+import os
+import shutil
+import signal
+import sqlite3
+import subprocess
+import sys
+import tempfile
+import threading
+import time
+from pathlib import Path
+
+from helpers.bank import DAY, DESK_KEYS, OPERATOR_KEY, Bank, bytes_of, end_if_missing
+from helpers.running import HOST, Checks, program_of
+
+SECONDS = 60  # of load with backups
+CLIENTS = 3
+LARGE = 60  # entries of a submission, so that the log fills
+
+
+class Clients:
+    """Clients that submit one after another, and remember when each submission was answered."""
+
+    def __init__(self, bank):
+        self.bank, self.answered, self.is_on, self.lock = bank, [], True, threading.Lock()
+        self.threads = [threading.Thread(target=self.work, args=(at,), daemon=True) for at in range(CLIENTS)]
+        for it in self.threads:
+            it.start()
+
+    def work(self, client):
+        entries = [{"routing": "091000019", "account": "123456789", "kind": "checking", "cents": 100 + at, "id": f"E{at}", "name": "ANN LEE"}
+                   for at in range(LARGE)]
+        number = 0
+        while self.is_on:
+            number += 1
+            ref = f"C{client}-{number}"
+            body = json.dumps({"ref": ref, "sec": "PPD", "direction": "credit", "description": "PAYROLL", "day": "2025-01-15", "entries": entries})
+            try:
+                link = http.client.HTTPConnection(HOST, self.bank.desk.port, timeout=60)
+                link.request("POST", "/c/MILL01/submissions", body, {"X-Desk-Key": DESK_KEYS["MILL01"], "Connection": "close"})
+                if link.getresponse().status == 201:
+                    with self.lock:
+                        self.answered.append((time.time(), ref))
+                link.close()
+            except OSError:
+                pass
+
+    def before(self, moment):
+        with self.lock:
+            return {ref for at, ref in self.answered if at < moment}
+
+    def stop(self):
+        self.is_on = False
+        for it in self.threads:
+            it.join()
+
+
+def refs_in(folder):
+    """The references of the submissions in a backup, by stock SQLite, which reads a copy."""
+    with tempfile.TemporaryDirectory() as copy:
+        for path in folder.glob("bank.db*"):
+            shutil.copy(path, copy)
+        db = sqlite3.connect(Path(copy) / "bank.db")
+        try:
+            return {ref for (ref,) in db.execute("SELECT ref FROM submissions")}
+        finally:
+            db.close()
+
+
+def opens(program, file):
+    """Whether a desk opens, on a copy of its files."""
+    with tempfile.TemporaryDirectory() as copy:
+        for path in (file, file.with_name(file.name + "-wal")):
+            if path.exists():
+                shutil.copy(path, Path(copy) / path.name)
+        done = subprocess.run([program, "stdio", Path(copy) / file.name], input=b"GET /ops/status HTTP/1.1\r\nHost: h\r\nX-Desk-Key: "
+                              + OPERATOR_KEY.encode() + b"\r\n\r\n", capture_output=True)
+        return done.stdout.partition(b"\r\n\r\n")[2] if done.stdout.startswith(b"HTTP/1.1 200") else done.stdout
+
+
+def finished(bank):
+    return sorted(path for path in bank.backups.glob("[0-9]*") if path.is_dir())
+
+
+def began(folder):
+    from datetime import datetime
+    return datetime.fromisoformat(json.loads((folder / "backup.json").read_text())["began"].replace("Z", "+00:00")).timestamp()
+
+
+def lost_of(bank, clients):
+    """What backups lack of that which was answered before they began, by the backup's name."""
+    return {path.name: sorted(lost)[:3] for path in finished(bank) if (lost := clients.before(began(path)) - refs_in(path))}
+
+
+# ---- under load ----
+
+def under_load(bank, checks, every):
+    bank.write_config(backup={"newest": 1000})
+    bank.now = ""
+    clients, tries, logs = Clients(bank), 0, set()
+    until = time.monotonic() + SECONDS
+    while time.monotonic() < until:
+        status, printed, errors = bank.day("backup")
+        tries += 1
+        if status:
+            checks.that("a backup under load", (status, errors), (0, ""))
+    for path in finished(bank):
+        logs.add((path / "bank.db-wal").read_bytes()[16:24])
+    checks.that(f"{len(finished(bank))} of {tries} backups under load, {len(clients.answered)} submissions answered", len(finished(bank)), tries)
+    checks.that("none lacks what was answered before it began", lost_of(bank, clients), {})
+    again = sum(json.loads((path / "backup.json").read_text())["copies"] - 1 for path in finished(bank))
+    print(f"        the log began again at least {len(logs) - 1} times between backups; {again} copies were made again", flush=True)
+    step, failed = 1, []
+    while bank.day("backup", ACHDESK_DAY_KILL_AT=step)[0] == -9:
+        failed += [path.name for path in finished(bank) if not opens(bank.program, path / "bank.db").startswith(b"{")][-1:]
+        failed += lost_of(bank, clients)
+        time.sleep(1)
+        if bank.day("backup")[0]:
+            failed.append(f"the backup after the kill at step {step}")
+        step += every
+        time.sleep(1)
+    clients.stop()
+    checks.that(f"a backup is killed at its steps, up to step {step - 1}, under load", failed, [])
+    checks.that("and there were steps", step > 5)
+    checks.that("nothing is left of the killed ones", [path.name for path in bank.backups.glob(".*")], [])
+    bank.write_config()
+
+
+# ---- a full volume ----
+
+FULL = r"""
+set -e
+mount -t tmpfs -o size=4m none "$1"
+"$2" "$3" --config "$4" backup
+dd if=/dev/zero of="$1/other" bs=64k 2>/dev/null || :
+sleep 1.1
+if "$2" "$3" --config "$4" backup; then exit 9; fi
+ls -A "$1"
+rm "$1/other"
+sleep 1.1
+"$2" "$3" --config "$4" backup
+ls -A "$1"
+cp -r "$1"/2* "$5"
+"""
+
+
+def full_volume(bank, checks):
+    small, kept = bank.folder / "small", bank.folder / "kept"
+    small.mkdir()
+    kept.mkdir()
+    config = bank.folder / "small.conf"
+    other = small_desk(bank)
+    bank.write_config(config, folders={"backups": small}, files={"desk": other})
+    space = [] if os.geteuid() == 0 else ["--user", "--map-root-user"]
+    done = subprocess.run(["unshare", *space, "--mount", "sh", "-c", FULL, "sh", small, sys.executable, DAY, config, kept], capture_output=True, text=True)
+    checks.that("on a full volume: a backup, none, and one again", done.returncode, 0)
+    lines = done.stdout.splitlines()
+    listed = [it for it in lines if not it.startswith("backed up")]
+    checks.that("the full volume has the first backup and nothing half-way", (len(listed), listed[1:2]), (4, ["other"]))
+    checks.that("an error says that there is no room", "No space left on device" in done.stderr, True)
+    checks.that("both backups open", [opens(bank.program, path / "bank.db")[:1] for path in sorted(kept.iterdir())], [b"{", b"{"])
+
+
+def small_desk(bank):
+    """A small desk's files, which nobody serves."""
+    folder = bank.folder / "small-desk"
+    folder.mkdir()
+    subprocess.run([bank.program, "init", folder / "bank.db", "--odfi", "121042882", "--odfi-name", "OUR BANK", "--destination", "061000146",
+                    "--destination-name", "ACH OPERATOR", "--key", OPERATOR_KEY], check=True, stdout=subprocess.DEVNULL)
+    return folder / "bank.db"
+
+
+# ---- restores ----
+
+def restores(bank, checks, every):
+    bank.day("backup")
+    bank.desk.stop()
+    newest, target = finished(bank)[-1], bank.folder / "restored" / "bank.db"
+    spoiled = bank.backups / "2001-01-01T000000Z"
+    shutil.copytree(newest, spoiled)
+    log = bytearray((spoiled / "bank.db-wal").read_bytes())
+    log[len(log) // 2] ^= 1
+    (spoiled / "bank.db-wal").write_bytes(log)
+    target.parent.mkdir()
+    status, _, errors = bank.day("restore", spoiled.name, "--to", target)
+    checks.that("a backup with a changed byte is not restored", (status, "is not the file that was backed up" in errors, target.exists()), (1, True, False))
+    (spoiled / "bank.db-wal").unlink()
+    status, _, errors = bank.day("restore", spoiled.name, "--to", target)
+    checks.that("nor one without its log", (status, "is not the file that was backed up" in errors, target.exists()), (1, True, False))
+    shutil.rmtree(spoiled)
+    old = small_desk(bank) if not (bank.folder / "small-desk").exists() else bank.folder / "small-desk" / "bank.db"
+    step, failed, wanted = 1, [], opens(bank.program, newest / "bank.db")
+    while True:
+        shutil.rmtree(target.parent)
+        shutil.copytree(old.parent, target.parent)
+        before = bytes_of(target.parent)
+        answers = {opens(bank.program, target), wanted, b"NotADesk\n"}
+        if bank.day("restore", newest.name, "--to", target, ACHDESK_DAY_KILL_AT=step)[0] != -9:
+            break
+        if opens(bank.program, target) not in answers:
+            failed.append((step, "the target is another desk", opens(bank.program, target)))
+        if bank.day("restore", newest.name, "--to", target)[0] or opens(bank.program, target) != wanted:
+            failed.append((step, "the restore after it"))
+        there = [bytes_of(path) for path in target.parent.iterdir() if path.is_dir()]
+        if not all(any(text in it.values() for it in there) for text in before.values()):
+            failed.append((step, "old files are lost"))
+        step += every
+    checks.that(f"a restore is killed at its steps, up to step {step - 1}", failed, [])
+    checks.that("and there were steps", step > 10)
+    bank.desk.start()
+
+
+# ---- the rule ----
+
+def rule(checks):
+    loader = importlib.machinery.SourceFileLoader("achdesk_day", str(DAY))
+    sys.dont_write_bytecode = True
+    module = importlib.util.module_from_spec(importlib.util.spec_from_loader("achdesk_day", loader))
+    sys.modules["achdesk_day"] = module
+    loader.exec_module(module)
+    # 2025-01-13 is a Monday. Two backups on each of these days, at 06:00 and 18:00.
+    days = ["2024-10-31", "2024-11-30", "2024-12-29", "2024-12-30", "2025-01-05", "2025-01-06", "2025-01-10", "2025-01-13", "2025-01-14"]
+    names = [f"{day}T{hour}0000Z" for day in days for hour in ("06", "18")]
+    for numbers, wanted in (((1, 0, 0, 0), ["2025-01-14T18"]), ((0, 3, 0, 0), ["2025-01-10T18", "2025-01-13T18", "2025-01-14T18"]),
+                            ((0, 0, 3, 0), ["2025-01-05T18", "2025-01-10T18", "2025-01-14T18"]),
+                            ((0, 0, 0, 3), ["2024-11-30T18", "2024-12-30T18", "2025-01-14T18"]),
+                            ((2, 1, 2, 2), ["2024-12-30T18", "2025-01-10T18", "2025-01-14T06", "2025-01-14T18"])):
+        kept = sorted(it[:13] for it in module.kept_backups(names, *numbers))
+        checks.that(f"the newest {numbers[0]}, {numbers[1]} days, {numbers[2]} weeks and {numbers[3]} months", kept, wanted)
+    observed = {2025: "01-01 01-20 02-17 05-26 06-19 07-04 09-01 10-13 11-11 11-27 12-25", 2026: "01-01 01-19 02-16 05-25 06-19 09-07 10-12 11-11 11-26 12-25",
+                2022: "01-17 02-21 05-30 06-20 07-04 09-05 10-10 11-11 11-24 12-26", 2027: "01-01 01-18 02-15 05-31 07-05 09-06 10-11 11-11 11-25"}
+    for year, listed in observed.items():
+        checks.that(f"the Federal Reserve's holidays of {year}", [f"{it:%m-%d}" for it in module.federal_reserve_holidays(year)], listed.split())
+
+
+# ---- the standby ----
+
+def takeover(bank, checks):
+    """The bank cuts and transmits; a backup before the cut is all that the standby has. It must not pay twice."""
+    shutil.rmtree(bank.backups)
+    bank.now = "2025-01-14T09:00:00-05:00"
+    bank.day("backup")
+    cut, sent = bank.day("cut"), bank.day("send")
+    copied = bank.day("copy")
+    checks.that("the bank cuts, transmits, and copies to the standby", (cut[0], sent[0], copied[0]), (0, 0, 0))
+    bank.desk.stop()
+    standby, config = bank.folder / "operator" / "standby", bank.folder / "standby.conf"
+    subprocess.run(["chown", "-R", str(os.geteuid()), standby], check=True)
+    desk_file = bank.folder / "second" / "bank.db"
+    desk_file.parent.mkdir()
+    bank.write_config(config, folders={"state": standby / "state", "backups": standby / "backups", "inbox": bank.state / "inbox"},
+                      files={"desk": desk_file, "proxy_logs": f"{standby}/proxy-logs/*"})
+    status, printed, errors = bank.day("restore", "newest", config=config)
+    checks.that("the standby restores the newest backup", (status, "cut 2025-01-14" in printed, "sent 2025-01-14-A" in printed), (0, True, True))
+    bank.desk.path = desk_file
+    bank.desk.start()
+    status, _, errors = bank.day("cut", config=config)
+    checks.that("it does not pay twice", (status, "would pay twice" in errors), (1, True))
+    status, printed, errors = bank.day("cut", "--remake", config=config)
+    checks.that("it makes the file again", (status, "byte for byte; it is not sent again" in printed), (0, True))
+    status, printed, _ = bank.day("send", config=config)
+    checks.that("and has nothing to transmit", (status, printed), (0, "to transmit: nothing\n"))
+    checks.that("the ACH operator has each file once", sorted(bank.received()), sorted(bank.archive()))
+
+
+def main():
+    end_if_missing()
+    signal.signal(signal.SIGTERM, lambda *_: sys.exit(1))  # ends the parts too
+    program, checks, every = program_of(sys.argv[1:]), Checks(), int((sys.argv[2:] or ["1"])[0])
+    rule(checks)
+    with tempfile.TemporaryDirectory(prefix="judge-backups-") as folder:
+        Path(folder).chmod(0o755)
+        with Bank(program, folder) as bank:
+            bank.now = "2025-01-14T09:00:00-05:00"
+            bank.day("holidays", "2025", "2026")
+            bank.day("open")
+            bank.curl("day", "/ops/companies", {"id": "MILL01", "name": "MILL STREET", "key": DESK_KEYS["MILL01"], "entry_limit": 9999999999,
+                                                "credit_limit": 999999999999999, "debit_limit": 0})
+            under_load(bank, checks, every)
+            full_volume(bank, checks)
+            restores(bank, checks, every)
+            takeover(bank, checks)
+    checks.end()
+
+
+if __name__ == "__main__":
+    main()
