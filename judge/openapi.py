@@ -1,24 +1,29 @@
 #!/usr/bin/env python3
-"""Sends every example of docs/openapi.yaml to the desk: `python3 judge/openapi.py [PROGRAM..]`.
+"""Tries docs/openapi.yaml against the desk: `python3 judge/openapi.py [PROGRAM]`.
 
-`PROGRAM stdio`, which is the built program if none is given, answers each script of the page with a new desk, and each
-answer has to be that of the page, to the byte. Its paths have to be those of the routes in crates/http_routes,
-and its refusals and faults those of docs/BODIES.md, each with an example that is sent or with the reason why none
-can be. Then the schemas are judged: a body is a bad field to the desk exactly where it does not fit its schema.
+`PROGRAM stdio`, by default the built program, answers each script of judge/openapi_scripts.yaml with a new desk, and each answer
+must be the page's, byte by byte. The page's paths must be those of crates/http_routes, its refusals and faults those of
+judge/helpers/refusals.py, each with an example that is sent or with the reason why it cannot be. The schemas are tried: a
+body is a bad field to the desk exactly if it does not fit its schema. Then a client of 40 lines that knows only the page
+(judge/helpers/page_client.py) sends every request of the page, in page order, to a served desk: each answer must be one
+that the page has, and the desk must be usable afterwards.
 
-It takes PyYAML; with openapi-spec-validator the page itself is checked too. One line is printed for each group
-of checks, and one for each failure. The last line is `N examples, M failed`, and the exit status is 1 for a failure.
+It needs PyYAML; with openapi-spec-validator the page itself is checked too. One line is printed for each group of checks,
+and one for each failure. The last line is `N examples, M failed`, and the exit status is 1 if something failed.
 """
 
 import re
 import sys
+import tempfile
 from pathlib import Path
 
 from helpers import openapi_faults
 from helpers.desk_messages import LARGEST_SESSION, Exchange, compact, differences, keyed, request, response
 from helpers.openapi_bounds import bounds
 from helpers.openapi_page import Page
-from helpers.running import built_program
+from helpers.page_client import PageClient, examples_of
+from helpers.refusals import CALENDAR_FAULTS, FILE_FAULTS, MESSAGE_FAULTS, ORDERS, PROXY_FAULTS, REFUSALS
+from helpers.running import HOST, Serving, built_program, make_desk
 
 try:
     import openapi_spec_validator
@@ -29,23 +34,9 @@ except ImportError:
 TOP = Path(__file__).resolve().parent.parent
 MOST_DATA = 2 << 20
 PREPARED = ("companyRegistered", "daySet")
-ORDERS = {
-    "Submission": "submit",
-    "Retry": "retry",
-    "Desk day": "setDay",
-    "Company": "registerCompany",
-    "Limits": "setLimits",
-    "Holiday list": "setHolidays",
-    "Cut": "cut",
-    "Incoming file": "takeReturns",
-    "Settlement": "settlement",
-    "Statement": "statement",
-    "rates": "rates",
-    "exposure": "exposure",
-    "Look-up": "lookUp",
-    "returns": "returns",
-    "changes of a company": "changes",
-}
+
+# No path of the page has it, since each has its own method.
+BAD_METHOD = {"badMethod": {"error": "BadMethod"}}
 
 
 class Report:
@@ -137,33 +128,9 @@ def differing_routes(page):
     return [f"{method} {path} is in one of the two alone" for method, path in sorted(routes ^ shown)]
 
 
-def rows(text, header):
-    """The rows of the table with this header, as lists of texts."""
-    _, _, rest = text.partition(f"{header}\n")
-    lines = rest.split("\n\n")[0].splitlines()[1:]
-    return [[cell.strip(" `") for cell in line.strip("|").split("|")] for line in lines]
-
-
-def numbers(text):
-    """The numbers of `1, 10 to 12`."""
-    for part in text.split(", "):
-        first, _, last = part.partition(" to ")
-        yield from range(int(first), int(last or first) + 1)
-
-
-def told_orders(bodies):
-    """For each call the numbers of its refusals, in the order in which they are told."""
-    _, _, rest = bodies.partition("The first that applies is told, in this order:")
-    for names, told in re.findall(r"(?:- |\. )([A-Z][^:.]*): ([0-9, to]+)", rest.split("\n\n")[1]):
-        for name in re.split(r", | and (?=rates|exposure|changes)", names):
-            yield name, list(numbers(told))
-
-
-def differing_orders(page, bodies, names):
-    """Of a company that is not registered the key is told first, so no path of a company has 23."""
-    for name, told in told_orders(bodies):
-        operation = page.operations[ORDERS[name]]
-        wanted = [names[it] for it in told if it != 23 or not operation.path.startswith("/c/")]
+def differing_orders(page):
+    for operation in page.operations.values():
+        wanted = [REFUSALS[it][0] for it in ORDERS[operation.name]]
         if operation.tree["x-refusals"] != wanted:
             yield f"{operation.name} has the refusals {operation.tree['x-refusals']}, and not {wanted}"
 
@@ -176,32 +143,49 @@ def lacking_refusals(page):
             yield f"{operation.name}: {name} is in its list or in its examples alone"
 
 
-def wrong_refusals(page, refusals):
-    """The examples with another number or status than docs/BODIES.md has, and names without an example."""
-    told = {name: (int(number), int(status)) for number, name, status, _ in refusals}
+def wrong_refusals(page):
+    """The examples with a wrong number or status, and the refusals without an example."""
+    wanted = {name: (number, status) for number, (name, status) in REFUSALS.items()}
     shown = [it for it in page.examples.values() if isinstance(it.value, dict) and "number" in it.value]
     for it in shown:
-        if told.get(it.value["error"]) != (it.value["number"], it.status):
-            yield f"{it.name}: {it.value} with status {it.status} is not in docs/BODIES.md"
-    yield from (f"{name} has no example" for name in sorted(told.keys() - {it.value["error"] for it in shown}))
+        if wanted.get(it.value["error"]) != (it.value["number"], it.status):
+            yield f"{it.name}: {it.value} with status {it.status} is not a refusal"
+    yield from (f"{name} has no example" for name in sorted(wanted.keys() - {it.value["error"] for it in shown}))
 
 
-def wrong_faults(page, faults):
-    told = {name: int(status) for name, status, _ in faults}
+def wrong_faults(page):
+    """The faults of messages that have another status, or are in the page or in the table alone. 405 is in none of
+    the page's paths, since each has its own method."""
+    wanted = {**MESSAGE_FAULTS, **PROXY_FAULTS}
     shown = {(it.value["error"], it.status) for it in page.examples.values() if it.status == 404}
     for operation in page.operations.values():
         shown |= {(page.shared[name]["error"], status) for name, status in page.shared_answers(operation)}
-    shown |= {(page.shared[name]["error"], status) for name, status in (("notFound", 404), ("badMethod", 405))}
-    return [f"{it} is in one of the two alone" for it in sorted(shown ^ set(told.items()), key=str)]
+    lines = [f"{it} is in one of the two alone" for it in sorted((shown | {("BadMethod", 405)}) ^ set(wanted.items()), key=str)]
+    named = page.tree["components"]["schemas"]["Fault"]["properties"]["error"]["enum"]
+    return lines + [f"{it} is in the schema or in the table alone" for it in sorted(set(named) ^ set(wanted))]
 
 
-def lacking_faults(page, bodies):
-    """The faults of files and holiday lists without an example, but for those that the page says come to nobody."""
-    wanted = {name for _, name, _ in rows(bodies, "| Number | Name | What is wrong |")}
-    wanted |= {"BadRow", "NotAscending", "TooMany"}
+def lacking_statuses(page):
+    """The operations without one of the answers that a proxy may give."""
+    for operation in page.operations.values():
+        for status in {"403", "404", "413", "429", "502", "503", "504"} - operation.tree["responses"].keys():
+            yield f"{operation.name} has no {status}"
+
+
+def lacking_faults(page):
+    """The faults of files and holiday lists without an example, except for those that no call reports."""
+    wanted = {*FILE_FAULTS, *CALENDAR_FAULTS}
     shown = {it.value["fault"] for it in page.examples.values() if isinstance(it.value, dict) and "fault" in it.value}
-    never = {it["fault"] for it in page.tree["x-not-sent"]}
-    return [f"{it} has no example, or is not in docs/BODIES.md" for it in sorted(wanted ^ (shown | never))]
+    never = {it["fault"] for it in page.not_sent}
+    return [f"{it} has no example, or is not a fault" for it in sorted(wanted ^ (shown | never))]
+
+
+def unreferenced(page):
+    """The components that nothing in the page refers to."""
+    used = set(re.findall(r"#/components/(\w+/\w+)", page.path.read_text()))
+    used |= {f"securitySchemes/{name}" for it in page.operations.values() for name in it.tree["security"][0]}
+    found = {f"{kind}/{name}" for kind, names in page.tree["components"].items() for name in names}
+    return sorted(found - used)
 
 
 # ---- messages
@@ -209,7 +193,7 @@ def lacking_faults(page, bodies):
 
 def unsent(page):
     """The examples that are in no script, or in one though they say that none can bring them about."""
-    sent = {step for script in page.tree["x-scripts"] for step in script["steps"] if isinstance(step, str)}
+    sent = {step for script in page.scripts for step in script["steps"] if isinstance(step, str)}
     wrong = [it.name for it in page.examples.values() if (it.name in sent) != it.is_sent]
     return [f"{it} is {'in a script' if it in sent else 'in no script'}" for it in wrong]
 
@@ -222,7 +206,7 @@ def run_script(page, program, steps):
 def shared_exchanges(page, name, status, operation):
     """The messages to an operation that are answered by a shared example."""
     closes = name in openapi_faults.CLOSING
-    wanted = response(status, compact(page.shared[name]), closes=closes)
+    wanted = response(status, compact({**page.shared, **BAD_METHOD}[name]), closes=closes)
     for at, sent in enumerate(openapi_faults.MESSAGES[name](operation)):
         yield Exchange(f"{name} {at + 1} at {operation.name}", sent, wanted)
 
@@ -300,19 +284,16 @@ def judge_page(page, report):
 
 
 def judge_names(page, report):
-    bodies = (TOP / "docs/BODIES.md").read_text()
-    refusals = rows(bodies, "| Number | Name | HTTP status | Cause |")
-    names = {int(number): name for number, name, _, _ in refusals}
-    wrong = [*wrong_refusals(page, refusals), *lacking_refusals(page), *differing_orders(page, bodies, names)]
-    report.tell(f"refusals: the {len(refusals)} of docs/BODIES.md, in their orders", wrong)
-    faults = rows(bodies, "| Name | HTTP status | Cause |")
-    report.tell(f"faults: the {len(faults)} of docs/BODIES.md", wrong_faults(page, faults))
-    report.tell("faults of files and of holiday lists: those of docs/BODIES.md", lacking_faults(page, bodies))
+    wrong = [*wrong_refusals(page), *lacking_refusals(page), *differing_orders(page)]
+    report.tell(f"refusals: all {len(REFUSALS)}, in their orders", wrong)
+    report.tell(f"faults: all {len(MESSAGE_FAULTS)}, and {len(PROXY_FAULTS)} of the proxy", [*wrong_faults(page), *lacking_statuses(page)])
+    report.tell("faults of files and of holiday lists: all", lacking_faults(page))
+    report.tell("components: each is used", unreferenced(page))
     report.tell("examples: each in a script, or with a reason", unsent(page))
 
 
 def judge_messages(page, program, report):
-    for script in page.tree["x-scripts"]:
+    for script in page.scripts:
         count, lines = run_script(page, program, script["steps"])
         report.tell(f"script, {script['name']}: {count} messages", lines)
     for name in openapi_faults.MESSAGES:
@@ -327,15 +308,56 @@ def judge_messages(page, program, report):
         report.tell(f"bounds: {fitting} bodies that fit and {count - fitting} that do not", lines)
 
 
+def wrong_answers(page, client):
+    """Sends every request of the page in page order. The client fails if an answer is not one of the page's."""
+    for operation in page.operations.values():
+        for body in examples_of(operation.tree, TOP / "docs"):
+            status, kind, value = client.call(operation.name, body, **operation.parameters)
+            schema = page.at(operation.tree["responses"][str(status)])["content"][kind]["schema"]
+            if openapi_spec_validator is not None and not validator_of_today(page, schema).is_valid(value):
+                yield f"{operation.name}: {value} does not fit its schema"
+
+
+# What must be possible after all requests of the page: their operation, body, status and answer.
+AFTERWARDS = (
+    ("submit", {"ref": "LAST-1", "sec": "PPD", "direction": "credit", "description": "PAYROLL", "day": "2025-01-10",
+                "entries": [{"routing": "091000019", "account": "123456789", "kind": "checking", "cents": 150000, "id": "E1", "name": "ANN LEE"}]}, 201, "ref"),
+    ("submit", {"ref": "LAST-2", "sec": "PPD", "direction": "debit", "description": "DUES", "day": "2025-01-10",
+                "entries": [{"routing": "091000019", "account": "123456789", "kind": "checking", "cents": 2500, "id": "E2", "name": "BOB RAY"}]}, 201, "ref"),
+    ("setDay", {"day": "2025-01-09"}, 200, "day"),
+    ("cut", None, 200, "files"),
+)
+
+
+def unusable(client):
+    """The calls that a desk refuses after all requests of the page."""
+    for name, body, wanted, member in AFTERWARDS:
+        status, _, value = client.call(name, body, company="MILL01")
+        if status != wanted or not value[member] or (body and value[member] != body[member]):
+            yield f"{name} of {body} is answered {status} {value}"
+
+
+def judge_client(page, program, report):
+    with tempfile.TemporaryDirectory() as folder:
+        make_desk(program, Path(folder) / "bank.db")
+        with Serving(program, Path(folder) / "bank.db").listen() as desk:
+            keys = {name: it["x-key"] for name, it in page.tree["components"]["securitySchemes"].items()}
+            client = PageClient(page.tree, f"http://{HOST}:{desk.port}", keys)
+            report.tell("client: every request of the page, in page order", list(wrong_answers(page, client)))
+            report.tell(f"client: {client.count} calls, of all {len(page.operations)} operations", sorted(page.operations.keys() - client.called))
+            report.tell("client: the desk is usable afterwards", list(unusable(client)))
+
+
 def main():
-    program = sys.argv[1:] or [built_program()]
-    page, report = Page(TOP / "docs/openapi.yaml"), Report()
+    program = sys.argv[1] if sys.argv[1:] else built_program()
+    page, report = Page(TOP / "docs/openapi.yaml", TOP / "judge/openapi_scripts.yaml"), Report()
     judge_page(page, report)
     judge_names(page, report)
-    judge_messages(page, program, report)
+    judge_client(page, program, report)
+    judge_messages(page, [program], report)
     for name, reason in page.reasons():
         print(f"not sent, {name}: {reason}")
-    sent = sum(it.is_sent for it in page.examples.values()) + len(page.shared)
+    sent = sum(it.is_sent for it in page.examples.values()) + len(page.shared) - len(PROXY_FAULTS)
     print(f"{sent} examples, {report.failed} failed")
     sys.exit(report.failed != 0)
 

@@ -1,4 +1,4 @@
-"""docs/openapi.yaml: its operations, its examples, and the messages that its scripts send."""
+"""docs/openapi.yaml: its operations, its examples, and the messages that the scripts of openapi_scripts.yaml send."""
 
 import datetime
 import json
@@ -49,9 +49,11 @@ class Example:
 
 
 class Page:
-    def __init__(self, path):
+    def __init__(self, path, scripts):
         self.path = Path(path)
         self.tree = yaml.safe_load(self.path.read_text())
+        beside = yaml.safe_load(Path(scripts).read_text())
+        self.scripts, self.not_sent = beside["scripts"], beside["not_sent"]
         self.operations = {it.name: it for it in self.read_operations()}
         self.examples = {}
         for example in self.read_examples():
@@ -61,7 +63,7 @@ class Page:
         self.shared = {name: it["value"] for name, it in self.tree["components"]["examples"].items()}
 
     def at(self, node):
-        """What a reference in the page refers to, or what is none."""
+        """The node that a reference of the page refers to; any other node is given back."""
         while isinstance(node, dict) and "$ref" in node:
             found = self.tree
             for piece in node["$ref"].removeprefix("#/").split("/"):
@@ -92,7 +94,7 @@ class Page:
     def reasons(self):
         """What is not sent, with the reason."""
         yield from ((it.name, it.why_not) for it in self.examples.values() if not it.is_sent)
-        yield from ((it["fault"], it["reason"]) for it in self.tree["x-not-sent"])
+        yield from ((it["fault"], it["reason"]) for it in self.not_sent)
 
     def shared_answers(self, operation):
         """The names of the shared examples of an operation, each with its status."""
@@ -102,13 +104,14 @@ class Page:
                     yield example["$ref"].rpartition("/")[2], int(status)
 
     def kinds(self):
-        """Every kind of a body in the page, with where it stands: its schema and its examples."""
+        """Every kind of a body with examples, with its place in the page: its schema and its examples."""
         for operation in self.operations.values():
             if operation.body() is not None:
                 yield f"{operation.name}, body", operation.body()[1]
             for status, answer in operation.tree["responses"].items():
                 for kind in self.at(answer)["content"].values():
-                    yield f"{operation.name}, {status}", kind
+                    if "examples" in kind:
+                        yield f"{operation.name}, {status}", kind
         for name, answer in self.tree["components"]["responses"].items():
             yield name, answer["content"]["application/json"]
 
