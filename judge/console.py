@@ -1,74 +1,52 @@
 #!/usr/bin/env python3
 """Clicks a bank's days through the operator's page: `python3 judge/console.py [PROGRAM] [PICTURE]`.
 
-PROGRAM is ./achdesk where it is left out. It serves a desk behind nginx, with the `server` that docs/OPERATING.md shows,
-but for TLS. Chromium without a window opens console/index.html there, types the operator's key, puts holidays, registers
-companies, sets days, cuts, fetches files and hands in files of returns, with refusals of each kind on the way. After each
-step what the page shows is compared with what the calls answer. A company's name has `<script>` in it and must stay text.
-All is there at 360 pixels and by keyboard, and the page says so when the desk is gone. PICTURE is where a picture is put; the
-company then has a plain name.
+PROGRAM is ./achdesk if it is left out. It serves a desk behind nginx with deploy/nginx.conf, but without TLS. Chromium
+without a window opens console/index.html there, types the operator's key, replaces the holidays, registers companies, sets
+days, cuts, fetches files and posts files of returns, with refusals of each kind on the way. After each step what the page
+shows is compared with what the calls answer. A company's name has `<script>` in it and must stay text, and a script that
+is put into the page must not run. Everything is reachable at 360 pixels and by keyboard, the page shows when the desk is
+gone, and locks after fifteen minutes without use. PICTURE is where a picture is written; the company then has a plain name.
 
-It takes Debian's packages chromium, chromium-driver and nginx: where one is missing it says so, with status 2. The last
-line counts the checks; the status is 1 where one failed.
+It takes Debian's packages chromium, chromium-driver and nginx: if one is missing it says so and ends with status 2, which
+is not a pass. The last line counts the checks; the status is 1 if one failed.
 """
 
 import datetime
 import http.client
 import json
 import re
-import subprocess
+import shutil
 import sys
 import tempfile
 import time
 from pathlib import Path
 
-from helpers.browser import Browser, found, missing
+from helpers.browser import Browser, missing
+from helpers.cutting_proxy import CuttingProxy
+from helpers.nginx import Nginx
+from helpers.refusals import CALENDAR_FAULTS, FILE_FAULTS, MESSAGE_FAULTS, PROXY_FAULTS, REFUSALS
 from helpers.returned import file_of_returns
-from helpers.running import HOST, MILL_KEY, OPERATOR_KEY, TOP, Checks, Serving, connect, free_port, make_desk, program_of
+from helpers.running import HOST, MILL_KEY, OPERATOR_KEY, TOP, Checks, Serving, make_desk, program_of
+from seal_console import sealed
 
 PAGE = (TOP / "console" / "index.html").read_text()
 BAKERY = "CITY BAKERY" if sys.argv[2:] else "<script>hit=1//"
 NAMES = {"BAKE01": BAKERY, "MILL01": "MILL STREET"}
 KEYS = {"BAKE01": "bakery-key", "MILL01": MILL_KEY}
 LEVELS = {"overall": "15%", "administrative": "3%", "unauthorized": "0.5%"}
-REASONS = {"NoTrace": "No entry that was sent has the trace.", "AlreadyReturned": "The entry came back before."}
+REASONS = {"NoTrace": "No sent entry has this trace number.", "AlreadyReturned": "The entry was returned before."}
+FILES = 36
 
 
-# ---- what is served
-
-class Proxy:
-    """nginx before a desk, as docs/OPERATING.md shows it, without TLS."""
-
-    def __init__(self, folder, desk):
-        self.port, self.log = free_port(), folder / "access.log"
-        shown = re.search(r"```nginx\n(server \{.*?)```", (TOP / "docs" / "OPERATING.md").read_text(), re.S).group(1)
-        server = re.sub(r"\n *(server_name|ssl_\w+) .*", "", shown).replace("443 ssl", f"{HOST}:{self.port}")
-        server = server.replace("127.0.0.1:8080", f"{HOST}:{desk}").replace("/usr/local/share/achdesk", str(TOP))
-        paths = "".join(f"{it}_temp_path {folder}/{it};" for it in ("client_body", "proxy", "fastcgi", "uwsgi", "scgi"))
-        config = folder / "nginx.conf"
-        config.write_text(f"daemon off; master_process off; pid {folder}/pid; error_log {folder}/error.log; events {{}}\n"
-                          f"http {{ access_log {self.log}; types {{ text/html html; }} {paths}\n{server}}}\n")
-        self.process = subprocess.Popen([found("nginx"), "-p", str(folder), "-e", f"{folder}/error.log", "-c", str(config)])
-        for _ in range(100):
-            try:
-                return connect(self.port).close()
-            except ConnectionRefusedError:
-                time.sleep(0.05)
-        sys.exit(f"nginx does not listen: {(folder / 'error.log').read_text()}")
-
-    def __enter__(self):
-        return self
-
-    def __exit__(self, *_):
-        self.process.kill()
-        self.process.wait()
-
+# ---- the bank
 
 class Bank:
-    """A desk behind the proxy, and the page that is opened there."""
+    """A desk behind the proxy, and the page that is opened there. `spoils` stands between the two."""
 
-    def __init__(self, checks, browser, proxy, folder):
-        self.checks, self.browser, self.proxy, self.folder = checks, browser, proxy, folder
+    def __init__(self, checks, browser, proxy, spoils, folder):
+        self.checks, self.browser, self.proxy, self.spoils, self.folder = checks, browser, proxy, spoils, folder
+        self.directions = {}  # debit or credit of the items in suspense whose file the page has read
 
     def ask(self, method, path, body=None, key=OPERATOR_KEY):
         """The status and the body of a call by way of the proxy."""
@@ -115,15 +93,40 @@ class Bank:
         path.write_bytes(text if isinstance(text, bytes) else text.encode())
         return str(path)
 
-    def set_day(self, day):
-        return self.do("set-day", day=f"{day[5:7]}{day[8:]}{day[:4]}")
+    def set_day(self, day=None, answer="yes"):
+        """Sets a day, or the one that is offered, and answers the question if there is one. Gives what is said and asked."""
+        if day is not None:
+            self.browser.type("#set-day [name=day]", f"{day[5:7]}{day[8:]}{day[:4]}")
+        self.browser.click("#set-day button")
+        self.browser.wait("return document.querySelector('dialog[open]') !== null || document.body.getAttribute('aria-busy') !== 'true'")
+        asked = []
+        if self.browser.run("return document.querySelector('dialog[open]') !== null"):
+            asked = [it for lines in self.lines("#question-title, #question-body p") for it in lines]
+            self.browser.click(f"#question-{answer}")
+        return self.said("set-day"), asked
+
+    def clock(self, moment):
+        """Makes the browser's clock stand still at a moment of its own time."""
+        self.browser.run("""window.RealDate ??= Date; const at = new RealDate(arguments[0]);
+            Date = class extends RealDate { constructor(...given) { super(...(given.length ? given : [at])); } static now() { return at.getTime(); } }""", moment)
+
+    def open(self, path="/console/"):
+        """Opens the page, and the desk with the operator's key."""
+        self.browser.go(f"http://{HOST}:{self.proxy.port}{path}")
+        self.directions = {}
+        return self.unlock()
+
+    def unlock(self):
+        self.browser.type("#open [name=key]", OPERATOR_KEY)
+        self.browser.press("Enter")
+        return self.browser.wait("return !document.getElementById('desk').hidden")
 
     def begin_cut(self):
         self.browser.click("#cut button")
         return self.is_asked()
 
     def is_asked(self):
-        """Waits for the question before a cut."""
+        """Waits for a question."""
         return self.browser.wait("return document.querySelector('dialog[open]') !== null")
 
     def cut(self):
@@ -197,14 +200,17 @@ def compare_status(bank, what):
     held = {way: sum(int(it["held"][way]["cents"]) for it in status["companies"]) for way in ("credits", "debits")}
     tiles = [["Credits due", dollars(sums(status, "credits")[0]), f"of {dollars(held['credits'])} held"],
              ["Debits due", dollars(sums(status, "debits")[0]), f"of {dollars(held['debits'])} held"],
-             ["Files today", str(len(status["files"])), " ".join(status["files"]) or "no cut made one yet"],
-             ["In suspense", str(status["suspense"]), "look at each" if status["suspense"] else "nothing waits"],
-             ["Entries sent", f"{status['sent']:,}", "since the desk began"],
+             ["Files today", str(len(status["files"])), "; ".join([*([" ".join(status["files"])] if status["files"] else []), f"{FILES - len(status['files'])} left"])],
+             ["In suspense", str(status["suspense"]), "check each" if status["suspense"] else "none"],
+             ["Entries sent", f"{status['sent']:,}", "put into files so far"],
              ["Holidays", str(status["holidays"]), "in the list" if status["holidays"] else "no list yet"]]
     bank.checks.that(f"{what}: the sums", bank.lines("#tiles > div"), tiles)
     rows = [[f"{it['name']}|{it['id']}", held_cell(it["held"]["credits"]), held_cell(it["held"]["debits"]), due_cell(it)] for it in status["companies"]]
     bank.checks.that(f"{what}: the companies", bank.rows("#companies"), rows)
-    bank.checks.that(f"{what}: the files", [it[0] for it in bank.lines("#files li")], [f"File {it}" for it in status["files"]] or ["No cut made a file on this day."])
+    bank.checks.that(f"{what}: the files", [it[0] for it in bank.lines("#files li")], [f"File {it}" for it in status["files"]] or ["No file was made on this day."])
+    due = sum(sums(status, way)[1] for way in ("credits", "debits"))
+    needed = [f"At least 1 file of the {FILES - len(status['files'])} left today."] if 0 < due <= 1000 else []
+    bank.checks.that(f"{what}: how many files are needed", bank.lines("#due p")[1], needed)
     return status
 
 
@@ -217,8 +223,8 @@ def compare_money(bank, what):
     bars = [["in" if int(it["cents"]) < 0 else "out", round(abs(int(it["cents"])) * 50 / most)] for it in reversed(settlement["days"])]
     found_bars = bank.browser.run("return [...document.querySelectorAll('#settlement i')].map(it => [it.className, parseFloat(it.style.width)])")
     bank.checks.that(f"{what}: the bars", [[side, round(wide)] for side, wide in found_bars], bars)
-    rows = [[short_day(it["day"]), f"{REASONS[it['why']]}|{it['why']}", it["code"], f"{it['trace']}|item {it['item']} of {it['file'].strip()}", dollars(it["cents"])]
-            for it in reversed(items)]
+    rows = [[short_day(it["day"]), f"{REASONS[it['why']]}|{it['why']}", it["code"], f"{it['trace']}|item {it['item']} of {it['file'].strip()}",
+             f"{dollars(it['cents'])}|{bank.directions.get((it['file'], it['item']), 'see its file')}"] for it in reversed(items)]
     bank.checks.that(f"{what}: suspense", bank.rows("#suspense"), rows)
 
 
@@ -235,7 +241,7 @@ def compare_company(bank, company):
     bank.checks.that(f"{company}: its rates", bank.lines("#company [data-rate]"), [rate_lines(it, rates[it]) for it in LEVELS])
     bank.checks.that(f"{company}: which are over", bank.browser.run("return [...document.querySelectorAll('#company .over')].map(it => it.dataset.rate)"), [it for it in LEVELS if rates[it]["over"]])
     bank.checks.that(f"{company}: its balance", bank.lines("#company .balance"), [[f"Balance on {short_day(statement['day'])}: {dollars(statement['balance'])}"]])
-    lines = [[short_day(it["day"]), "Sent by a cut" if it["cause"] == "cut" else f"Entry {it['index']} came back", it["ref"], dollars(it["cents"])] for it in reversed(statement["lines"])]
+    lines = [[short_day(it["day"]), "Sent" if it["cause"] == "cut" else f"Return of entry {it['index']}", it["ref"], dollars(it["cents"])] for it in reversed(statement["lines"])]
     bank.checks.that(f"{company}: the newest of its statement", bank.rows("#company"), lines[:12])
     if len(lines) > 12:
         bank.browser.click("#company table + button")
@@ -245,7 +251,7 @@ def compare_company(bank, company):
 
 def compare_file(bank, day, letter):
     text = bank.ask("GET", f"/ops/files/{day}/{letter}")[1]
-    bank.browser.click(f"[aria-label='Look at file {letter}']")
+    bank.browser.click(f"[aria-label='View file {letter}']")
     bank.browser.wait("return document.getElementById('paper').open")
     bank.checks.that(f"file {letter} of {day} is shown", bank.browser.run("return document.getElementById('paper-text').textContent").encode(), text)
     control = [it for it in text.decode().split("\n") if it.startswith("9") and it.strip("9")][-1]
@@ -254,7 +260,7 @@ def compare_file(bank, day, letter):
     bank.checks.that("its sums are those of its control", bank.lines("#paper-sums"), [[sums]])
     bank.browser.press("Escape")
     bank.browser.click(f"[aria-label='Save file {letter}']")
-    bank.checks.that("it is saved", bank.said("fetch"), f"File {letter} of {short_day(day)} is saved: {sums}. Send it as it is.")
+    bank.checks.that("it is saved", bank.said("fetch"), f"File {letter} of {short_day(day)} is saved, not transmitted: {sums}. Transmit it unchanged.")
     saved = bank.folder / f"ach-{day}-{letter}.txt"
     for _ in range(100):
         if saved.exists():
@@ -272,10 +278,8 @@ def opening(bank):
         browser.type("#open [name=key]", key)
         browser.press("Enter")
         browser.wait("return document.querySelector('#open .said').innerText !== ''")
-        checks.that(f"{what}: Denied", (bank.said("open"), browser.run("return document.getElementById('desk').hidden")), ("The desk does not know this key. Denied", True))
-    browser.type("#open [name=key]", OPERATOR_KEY)
-    browser.press("Enter")
-    checks.that("the key opens the desk", browser.wait("return !document.getElementById('desk').hidden"))
+        checks.that(f"{what}: Denied", (bank.said("open"), browser.run("return document.getElementById('desk').hidden")), ("This key is not accepted, or not from this machine. Denied", True))
+    checks.that("the key opens the desk", bank.unlock())
     checks.that("and is gone from the field", browser.run("return document.querySelector('#open [name=key]').value"), "")
 
 
@@ -284,26 +288,61 @@ def before_any_day(bank):
     compare_status(bank, "before any day")
     checks.that("a cut: NoDay", bank.do("cut"), "No desk day is set yet. Set the day first. NoDay")
     checks.that("a bad list of holidays", bank.do("holidays", file=bank.file("bad.csv", "2025-01-20\n2025-01-20\n")),
-                "This is no list of holidays. The old list stands. A row’s day is not after the one before. Row 2. BadCalendar NotAscending")
+                "This is not a list of holidays. The present list is unchanged. A row’s day is not after that of the row before. Row 2. BadCalendar NotAscending")
     checks.that("a good one", bank.do("holidays", file=bank.file("good.csv", "2025-01-20\n2025-05-26\n")), "The list has 2 days.")
     limits = {"entry_limit": "99,999,999.99", "credit_limit": "200000", "debit_limit": "50000.50"}
     checks.that("a company with a short key", bank.do("register", id="MILL01", name="MILL STREET", key="mill", **limits),
-                "The key has 8 to 64 plain characters, none of them a blank. BadField key")
+                "The key must have 8 to 64 characters from ! to ~. BadField key")
     checks.that("one with a limit that is no amount", bank.do("register", id="MILL01", name="MILL STREET", key=MILL_KEY, **{**limits, "entry_limit": "much"}),
-                "The limit for one entry is 0 to 99,999,999.99 dollars. BadField entry_limit")
+                "The limit for one entry must be 0 to 99,999,999.99 dollars. BadField entry_limit")
     for company, name in NAMES.items():
         checks.that(f"{company} is registered", bank.do("register", id=company, name=name, key=KEYS[company], **limits), f"{company} is registered.")
-    checks.that("it is registered once", bank.do("register", id="MILL01", name="MILL STREET", key=MILL_KEY, **limits), "A company has this identification already. CompanyExists")
+    checks.that("it is registered once", bank.do("register", id="MILL01", name="MILL STREET", key=MILL_KEY, **limits), "A company with this identification is registered already. CompanyExists")
+    new_keys(bank, limits)
     exposure = bank.told("/c/MILL01/exposure", MILL_KEY)
     checks.that("before a day nobody has an exposure", exposure, {"error": "NoDay", "number": 1})
     checks.that("nor a rate", bank.do("look", id="MILL01", key=MILL_KEY), "No desk day is set yet. Set the day first. NoDay")
-    compare_status(bank, "with two companies")
+    compare_status(bank, "with three companies")
+
+
+def new_keys(bank, limits):
+    """A key is proposed at random, is never seen while it is typed, and is shown once."""
+    checks, browser = bank.checks, bank.browser
+    field = "return document.querySelector('#register [name=key]')"
+    browser.click("#lock")
+    bank.unlock()
+    key = browser.run(f"{field}.value")
+    checks.that("a key of 32 letters and digits is proposed", bool(re.fullmatch("[A-Za-z0-9]{32}", key)))
+    checks.that("keys are masked", [browser.run(f"return document.querySelector('#{form} [name=key]').type") for form in ("open", "register", "look")], ["password"] * 3)
+    fields = {"id": "NEW01", "name": "NEW STREET", **limits}
+    bank.spoils.plans.append(("cut", 0))
+    checks.that("a registration whose answer is lost", bank.do("register", **fields), "No answer came. The desk may have done it nevertheless: refresh and look before you do it again.")
+    said = bank.do("register", **fields).splitlines()
+    checks.that("is refused when it is sent again, and its key is shown", (said[0], key in said),
+                ("A company with this identification is registered already. CompanyExists It may have been registered by the request whose answer was lost.", True))
+    checks.that("another company cannot be registered under it", bank.do("register", id="NEW01", name="OTHER", key="another-key", **limits),
+                "A company with this identification is registered already. CompanyExists")
+    browser.click("#lock")
+    checks.that("a locked page has no key", browser.run(f"{field}.value"), "")
+    bank.unlock()
+    again = browser.run(f"{field}.value")
+    said = bank.do("register", id="NEW02", name="NEW ROAD", **limits).splitlines()
+    checks.that("the next one has another key, which is shown once it is registered", (said[0], again in said, again != key), ("NEW02 is registered.", True, True))
+    checks.that("then a third one is proposed", browser.run(f"{field}.value") in (key, again, ""), False)
+    bank.do("register", id="NEW02", name="NEW ROAD", key="another-key", **limits)
+    checks.that("and the key is gone from the page", again in browser.run("return document.body.innerText + [...document.querySelectorAll('input')].map(it => it.value).join(' ')"), False)
+    status, _ = bank.ask("GET", "/c/NEW02/returns", key=again)
+    checks.that("the proxy does not know the new key", status, 403)
 
 
 def first_day(bank):
     checks, browser = bank.checks, bank.browser
-    checks.that("a Saturday", bank.set_day("2025-01-04"), "The new day is a Saturday, a Sunday or a holiday. NotBankingDay")
-    checks.that("the first day", bank.set_day("2025-01-08"), "The day is Wednesday, 8 January 2025.")
+    today = f"By the clock of this machine, today is {long_day(datetime.date.today().isoformat())}."
+    last = "A desk day cannot be taken back."
+    checks.that("a Saturday", bank.set_day("2025-01-04"), ("The new day is a Saturday, a Sunday or a holiday. NotBankingDay", ["Set the day to Saturday, 4 January 2025?", today, last]))
+    checks.that("a day that is not today is asked about", bank.set_day("2025-01-08", "no"), ("", ["Set the day to Wednesday, 8 January 2025?", today, last]))
+    checks.that("and is not set", bank.told("/ops/status")["day"], None)
+    checks.that("the first day", bank.set_day("2025-01-08")[0], "The day is Wednesday, 8 January 2025.")
     checks.that("the limits are in cents", [bank.told("/c/MILL01/exposure", MILL_KEY)[it] for it in ("entry_limit", "credit_limit", "debit_limit")], [9999999999, 20000000, 5000050])
     bank.submit("MILL01", "PAY-1", "credit", "2025-01-10", 150000)
     bank.submit("MILL01", "PAY-2", "debit", "2025-01-10", 2500)
@@ -326,8 +365,11 @@ def first_day(bank):
     checks.that("so does `Not now`, on which the focus stands", (bank.said("cut"), bank.told("/ops/status")), ("", before))
     browser.press("Enter")
     checks.that("a third time it asks", bank.is_asked())
+    checks.that("and the button says what it does", browser.text("#question-yes"), "Create files")
+    checks.that("and the question what it does not do", bank.lines("#question-body > p"),
+                [["A cut puts this into files, which cannot be taken back. It transmits nothing."], ["At least 1 file of the 36 left today."]])
     browser.press("Tab", "Enter")
-    checks.that("the next button cuts", bank.said("cut"), "Sent: 15 entries in file A.")
+    checks.that("the next button cuts", bank.said("cut"), "File A created with 15 entries, not transmitted: save it and transmit it.")
     compare_status(bank, "after the cut")
     compare_money(bank, "after the cut")
     compare_file(bank, "2025-01-08", "A")
@@ -337,22 +379,40 @@ def first_day(bank):
 def next_days(bank):
     checks = bank.checks
     checks.that("the next weekday is offered", bank.browser.run("return document.querySelector('#set-day [name=day]').value"), "2025-01-09")
-    checks.that("and taken", bank.do("set-day"), "The day is Thursday, 9 January 2025.")
-    checks.that("an earlier day", bank.set_day("2025-01-08"), "The new day is not after the present one. If an answer was lost before, the day is set already. DayNotLater")
-    checks.that("the second cut", bank.cut(), "Sent: 1 entry in file A.")
-    checks.that("a cut with nothing due", bank.cut(), "Nothing was sent.")
+    bank.clock("2025-01-09T23:59:00")
+    checks.that("and set without a question if it is today", bank.set_day(), ("The day is Thursday, 9 January 2025.", []))
+    checks.that("an earlier day", bank.set_day("2025-01-08")[0], "The new day is not after the desk day. If an answer was lost before, the day is set already. DayNotLater")
+    checks.that("the second cut", bank.cut(), "File A created with 1 entry, not transmitted: save it and transmit it.")
+    checks.that("a cut with nothing due", bank.cut(), "Nothing was due. No file was created.")
+    bank.clock("2025-01-17T00:01:00")
+    checks.that("a day eight days ahead is asked about, even if it is today", bank.set_day("2025-01-17", "no"),
+                ("", ["Set the day to Friday, 17 January 2025?", "It is 8 days after the desk day, Thursday, 9 January 2025.", "A desk day cannot be taken back."]))
+    bank.clock("2025-01-16T12:00:00")
+    checks.that("one seven days ahead that is not today is asked about for that alone", bank.set_day("2025-01-15", "no")[1][1:-1], ["By the clock of this machine, today is Thursday, 16 January 2025."])
     bank.set_day("2025-01-14")
     item = {"debit": True, "savings": False, "account": "123456789", "ident": "E1", "name": "ANN LEE", "dfi": "09100001"}
     items = [{**item, "cents": 2500, "code": "R01", "trace": "121042880000016"}, {**item, "cents": 2500, "code": "R10", "trace": "121042880000016"},
-             {**item, "cents": 4900, "code": "R02", "trace": "121042880000099"}, {**item, "cents": 100001, "code": "R10", "trace": "121042880000001"}]
+             {**item, "cents": 4900, "code": "R02", "trace": "121042880000099"}, {**item, "cents": 100001, "code": "R10", "trace": "121042880000001"},
+             {**item, "debit": False, "cents": 7700, "code": "R03", "trace": "121042880000098"}]
     text = file_of_returns(1, "PPD", items)
     taken = bank.file("returns.ach", text)
-    checks.that("a file of returns", bank.do("returns", file=taken), "Taken: 2 returns, 0 changes, 2 in suspense.")
-    checks.that("the same again", bank.do("returns", file=taken), "Taken: 2 returns, 0 changes, 2 in suspense.")
+    checks.that("a file of returns", bank.do("returns", file=taken), "Posted: 2 returns, 0 changes, 3 in suspense.")
+    checks.that("the same again", bank.do("returns", file=taken), "Posted: 2 returns, 0 changes, 3 in suspense.")
+    directions = {(text[13:34], n): "debit" if it["debit"] else "credit" for n, it in enumerate(items, 1)}
+    bank.directions = directions
+    compare_money(bank, "after the file")
+    bank.open()
+    compare_money(bank, "on a page that has not read the file")
+    checks.that("a file with none of the items", bank.do("directions", file=bank.file("none.ach", file_of_returns(9, "PPD", items))), "None of the items in suspense is from this file.")
+    checks.that("a text that is not a file", bank.do("directions", file=bank.file("none.txt", "a letter")), "None of the items in suspense is from this file.")
+    checks.that("the file itself", bank.do("directions", file=taken), "The file has 3 items in suspense.")
+    checks.that("which is all that was to be known", bank.browser.run("return document.getElementById('directions').hidden"))
+    bank.directions = directions
+    compare_money(bank, "once the page has read the file")
     checks.that("another under its key", bank.do("returns", file=bank.file("other.ach", file_of_returns(1, "PPD", items[:1]))),
-                "Another file with the same origin, date, time and modifier was taken before. Nothing of this one was taken. FileKeyReused")
+                "Another file with the same origin, date, time and modifier was taken before. Nothing of this file was posted. FileKeyReused")
     checks.that("a file with a fault", bank.do("returns", file=str(TOP / "examples" / "spoiled.ach")),
-                "This is no file of returns and changes. A control says another total. Record 7. BadFile BadTotal")
+                "This is not a file of returns and changes. Nothing of it was posted. A control has the wrong total. Record 7. BadFile BadTotal")
     checks.that("a file that is too large", bank.do("returns", file=bank.file("large", b" " * 4194305)), "The file has more than 4,194,304 bytes. TooLarge")
     bank.submit("MILL01", "PAY-3", "credit", "2025-01-16", 12520050)
     bank.submit("MILL01", "PAY-4", "credit", "2025-01-15", 4812000)
@@ -361,7 +421,7 @@ def next_days(bank):
     bank.refresh()
     compare_status(bank, "on the day of returns")
     compare_money(bank, "on the day of returns")
-    checks.that("a company's wrong key", bank.do("look", id="MILL01", key="wrong-key"), "The desk does not know this key. Denied")
+    checks.that("a company's wrong key", bank.do("look", id="MILL01", key="wrong-key"), "This key is not accepted, or not from this machine. Denied")
     compare_company(bank, "BAKE01")
     compare_company(bank, "MILL01")
 
@@ -376,7 +436,7 @@ def lapse(bank):
     told = [it for lines in bank.lines("#question-body > p") for it in lines]
     checks.that("the question says so", told[-1], "1 retry would lapse, since it would settle too late.")
     bank.browser.click("#question-yes")
-    checks.that("and it lapses", bank.said("cut"), "Sent: 4 entries in file A. 1 retry lapsed.")
+    checks.that("and it lapses", bank.said("cut"), "File A created with 4 entries, not transmitted: save it and transmit it. 1 retry lapsed.")
     compare_status(bank, "after it lapsed")
     compare_money(bank, "after it lapsed")
 
@@ -390,6 +450,77 @@ def text_and_memory(bank):
     checks.that("nothing is kept outside of the page", kept, [0, 0, ""])
     asked = {line.split('"')[1].split()[1] for line in bank.proxy.log.read_text().splitlines() if "Chrome" in line}
     checks.that("the page asks for itself and for the desk's paths", sorted(it for it in asked if not it.startswith(("/ops/", "/c/"))), ["/console/"])
+
+
+def too_many_files(bank):
+    """A status with more due than the day's files hold, which is made up here."""
+    tally = lambda submissions, cents: {"submissions": submissions, "cents": str(cents)}
+    for what, credits, debits, files, wanted in (
+            ("a thousand and one submissions", (600, 1), (401, 1), 0, "At least 2 files of the 36 left today."),
+            ("a cent over the total of one file", (1, 10**12), (0, 0), 1, "At least 2 files of the 35 left today."),
+            ("as much as all files hold", (1, 0), (36_000 - 1, 36 * (10**12 - 1)), 0, "At least 36 files of the 36 left today."),
+            ("a submission more", (1, 0), (36_000, 5), 0, "At least 37 files of the 36 left today. A cut would be refused.")):
+        due = {"credits": tally(*credits), "day": "2025-07-10", "debits": tally(*debits)}
+        company = {"due": [due], "held": {"credits": tally(*credits), "debits": tally(*debits)}, "id": "MILL01", "lapsing": 0, "name": "MILL STREET"}
+        body = json.dumps({"companies": [company], "day": "2025-07-09", "files": list("ABC"[:files]), "holidays": 0, "sent": 0, "suspense": 0}).encode()
+        head = f"HTTP/1.1 200 OK\r\nContent-Type: application/json\r\nContent-Length: {len(body)}\r\nConnection: close\r\n\r\n"
+        bank.spoils.plans.append(("answer", head.encode() + body))
+        bank.refresh()
+        bank.checks.that(f"{what} due: {wanted}", bank.lines("#due p")[1], [wanted])
+    bank.refresh()
+
+
+def without_use(bank):
+    """The page locks itself, and a question that is open is answered with no."""
+    checks, browser = bank.checks, bank.browser
+    for what, is_asked in (("with a question open", True), ("with a company shown", False)):
+        bank.open()
+        bank.do("look", id="MILL01", key=MILL_KEY)
+        cuts = len(bank.told("/ops/status")["files"])
+        if is_asked:
+            bank.begin_cut()
+        now = int(time.time() * 1000)
+        bank.clock(now + 14 * 60_000)
+        time.sleep(3)
+        checks.that(f"after fourteen minutes {what} it is open", browser.run("return document.getElementById('desk').hidden"), False)
+        bank.clock(now + 16 * 60_000)
+        browser.wait("return document.getElementById('desk').hidden")
+        checks.that(f"after fifteen minutes {what} it is locked", (bank.said("open"), browser.run("return document.getElementById('question').open")), ("The page was locked after fifteen minutes without use.", False))
+        text = browser.run("return document.body.innerText + [...document.querySelectorAll('input')].map(it => it.value).join(' ')")
+        checks.that("and shows nothing of the desk", [it for it in (BAKERY, "MILL", "$", "2025", OPERATOR_KEY, MILL_KEY) if it in text], [])
+        checks.that("and made no file", len(bank.told("/ops/status")["files"]), cuts)
+    bank.open()
+    browser.press("Shift")
+    now = int(time.time() * 1000)
+    bank.clock(now + 14 * 60_000)
+    browser.press("Shift")
+    bank.clock(now + 16 * 60_000)
+    time.sleep(3)
+    checks.that("a key that was pressed two minutes before keeps it open", browser.run("return document.getElementById('desk').hidden"), False)
+
+
+INJECTED = ("<script>window.hit = 1</script><img src=x onerror='window.hit = 2'><svg onload='window.hit = 3'></svg>"
+            "<a id=link href='javascript:window.hit = 4'>link</a><p id=styled style='color: rgb(1, 2, 3)'>text</p>")
+
+
+def injected(bank):
+    """What is put into the page as HTML does not run; in a page without a policy it does."""
+    checks, browser = bank.checks, bank.browser
+    policy = re.search(r"<meta http-equiv=\"Content-Security-Policy\".*?>", PAGE, re.S)[0]
+    folder = bank.folder / "share" / "console"
+    (folder / "injected.html").write_text(PAGE.replace("</main>", f"</main>{INJECTED}"))
+    (folder / "open.html").write_text(PAGE.replace("</main>", f"</main>{INJECTED}").replace(policy, ""))
+    later = "const it = document.createElement('script'); it.textContent = 'window.hit = 5'; document.body.append(it);"
+    for page, wanted in (("open", (5, "rgb(1, 2, 3)")), ("injected", (None, "other"))):
+        browser.go(f"http://{HOST}:{bank.proxy.port}/console/{page}.html")
+        browser.click("#link")
+        browser.run(f"try {{ {later} }} catch {{}}")
+        found = browser.run("return [window.hit ?? null, getComputedStyle(document.getElementById('styled')).color]")
+        checks.that(f"a script that is put into {'a page without a policy runs' if page == 'open' else 'the page does not run'}",
+                    (found[0], found[1] if found[1] == "rgb(1, 2, 3)" else "other"), wanted)
+    checks.that("and the page itself works", bank.unlock())
+    checks.that("the policy has the hashes of the page's script and style", PAGE == sealed(PAGE))
+    checks.that("and allows no other", "unsafe" in policy, False)
 
 
 def narrow(bank):
@@ -421,7 +552,7 @@ def without_a_desk(bank, serving, program, path):
     bank.refresh()
     checks.that("the page says that the desk is gone", browser.text("#trouble").split("\n")[0].startswith("The desk does not answer. Its last answer came at "))
     checks.that("and beside the day", browser.text("#state"), "No answer")
-    checks.that("a day that is set without an answer", bank.do("set-day"), "No answer came. The desk may have done it all the same: refresh and look before you do it again.")
+    checks.that("a day that is set without an answer", bank.set_day()[0], "No answer came. The desk may have done it nevertheless: refresh and look before you do it again.")
     with Serving(program, path, port=serving.port).listen():
         browser.click("#trouble button")
         bank.settled()
@@ -435,11 +566,11 @@ def without_a_desk(bank, serving, program, path):
 def photograph(bank, path):
     """A picture of the whole page, opened anew, with a company's rates and statement."""
     browser = bank.browser
-    browser.go(f"http://{HOST}:{bank.proxy.port}/console/")
-    browser.type("#open [name=key]", OPERATOR_KEY)
-    browser.press("Enter")
-    browser.wait("return !document.getElementById('desk').hidden")
+    bank.open()
+    bank.do("directions", file=str(bank.folder / "returns.ach"))
+    say_nothing = "document.querySelectorAll('.said').forEach(it => { it.textContent = ''; });"
     bank.do("look", id="MILL01", key=MILL_KEY)
+    browser.run(say_nothing)
     browser.run("document.querySelectorAll('details').forEach(it => { it.open = false; }); document.activeElement.blur(); window.scrollTo(0, 0)")
     browser.size(1280, browser.run("return document.documentElement.scrollHeight"))
     browser.picture(path)
@@ -448,10 +579,10 @@ def photograph(bank, path):
 
 def sentences(checks):
     """Each refusal, fault of a message and fault of a file has a sentence on the page, and nothing is put in as HTML."""
-    bodies = (TOP / "docs" / "BODIES.md").read_text()
-    names = set(re.findall(r"^\| (?:\d+ \| )?`([A-Z]\w+)` \|", bodies, re.M)) | set(re.findall(r"^\| \d+ \| `([A-Z]\w+)` \|", bodies, re.M)) | {"BadRow", "NotAscending", "TooMany"}
+    names = {name for name, _ in REFUSALS.values()} | {*MESSAGE_FAULTS, *FILE_FAULTS, *CALENDAR_FAULTS} | PROXY_FAULTS.keys()
+    names -= {"BadGateway", "GatewayTimeout"}  # these are no answer
     told = set(re.findall(r"^  ([A-Z]\w+): \"", PAGE, re.M))
-    checks.that(f"each of {len(names)} names of BODIES has a sentence", (len(names) > 40, sorted(names - told)), (True, []))
+    checks.that(f"each of {len(names)} names has a sentence", (len(names) > 40, sorted(names - told)), (True, []))
     checks.that("the page puts nothing in as HTML and runs no text", re.findall(r"innerHTML|outerHTML|insertAdjacentHTML|document\.write|eval\(|new Function|srcdoc", PAGE), [])
 
 
@@ -465,15 +596,16 @@ def main():
         folder = Path(name)
         path = folder / "bank.db"
         make_desk(program, path)
-        with Serving(program, path).listen() as serving:
-            with Proxy(folder, serving.port) as proxy, Browser(folder) as browser:
-                bank = Bank(checks, browser, proxy, folder)
+        shutil.copytree(TOP / "console", folder / "share" / "console")
+        with Serving(program, path, 100_000).listen() as serving, CuttingProxy(serving.port) as spoils:
+            with Nginx(folder, spoils.port, tls=False, share=folder / "share") as proxy, Browser(folder) as browser:
+                bank = Bank(checks, browser, proxy, spoils, folder)
                 browser.size(1280, 900)
                 for step in (opening, before_any_day, first_day, next_days):
                     step(bank)
                 if sys.argv[2:]:
                     photograph(bank, Path(sys.argv[2]))
-                for step in (lapse, text_and_memory, narrow, by_keyboard):
+                for step in (lapse, text_and_memory, too_many_files, without_use, injected, narrow, by_keyboard):
                     step(bank)
                 without_a_desk(bank, serving, program, path)
     checks.end()

@@ -4,11 +4,10 @@ import base64
 import http.client
 import json
 import os
-import shutil
 import subprocess
 import time
 
-from helpers.running import HOST, SECONDS, free_port
+from helpers.running import HOST, SECONDS, found, free_port
 
 ELEMENT = "element-6066-11e4-a52e-4f735466cecf"
 KEYS = {"Tab": "\ue004", "Enter": "\ue007", "Escape": "\ue00c", "Shift": "\ue008"}
@@ -17,10 +16,6 @@ KEYS = {"Tab": "\ue004", "Enter": "\ue007", "Escape": "\ue00c", "Shift": "\ue008
 def missing():
     """What is not on this machine, by the names of Debian's packages."""
     return [package for package, program in (("chromium", "chromium"), ("chromium-driver", "chromedriver"), ("nginx", "nginx")) if not found(program)]
-
-
-def found(program):
-    return shutil.which(program, path=f"{os.environ.get('PATH', '')}:/usr/sbin")
 
 
 class Browser:

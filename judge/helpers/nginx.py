@@ -1,38 +1,24 @@
-"""nginx before a desk, in a folder of its own: Debian's package nginx."""
+"""nginx with deploy/nginx.conf before a desk, in a folder of its own: Debian's package nginx."""
 
-import os
 import re
-import shutil
 import subprocess
 import sys
 import time
 
-from helpers.running import HOST, TOP, connect, free_port
+from helpers.running import HOST, MILL_KEY, OPERATOR_KEY, TOP, connect, found, free_port
 
-# So that the judges can be run before deploy/nginx.conf is there.
-SERVER = """
-server {
-    listen 443 ssl;
-    server_name localhost;
-    ssl_certificate cert.pem;
-    ssl_certificate_key key.pem;
-    client_max_body_size 4194304;
-    proxy_http_version 1.0;
-    location /c/ { proxy_pass http://127.0.0.1:8080; }
-    location /ops/ { allow 127.0.0.1; deny all; proxy_pass http://127.0.0.1:8080; }
-    location /console/ { root /usr/local/share/achdesk; index index.html; add_header Cache-Control no-store; }
-    location / { return 404; }
+SITE = TOP / "deploy" / "nginx.conf"
+
+# The keys that callers show, which are also those that the desk knows.
+HOLDERS = {
+    "people.map": {OPERATOR_KEY: "operator:operator"},
+    "companies.map": {MILL_KEY: "MILL01:mill", "bakery-key": "BAKE01:bakery"},
+    "desk.map": {"operator": OPERATOR_KEY, "MILL01": MILL_KEY, "BAKE01": "bakery-key"},
 }
-"""
-
-
-def found(program):
-    """The path of a program, also of one that stands in /usr/sbin, or None."""
-    return shutil.which(program, path=f"{os.environ.get('PATH', '')}:/usr/sbin")
 
 
 def make_certificate(folder):
-    """A key and a certificate for localhost that signs itself: key.pem and cert.pem."""
+    """A key and a certificate for localhost, signed by itself: key.pem and cert.pem."""
     subprocess.run(["openssl", "req", "-x509", "-newkey", "ec", "-pkeyopt", "ec_paramgen_curve:prime256v1", "-nodes", "-days", "2",
                     "-subj", "/CN=localhost", "-addext", "subjectAltName=DNS:localhost,IP:127.0.0.1",
                     "-keyout", str(folder / "key.pem"), "-out", str(folder / "cert.pem")], check=True, capture_output=True)
@@ -40,24 +26,38 @@ def make_certificate(folder):
 
 
 class Nginx:
-    """nginx on a free port, before the desk on another, with TLS or without it."""
+    """nginx on a free port before a desk. Only ports, paths, keys and the form of the log are replaced in the site; without
+    `tls` so is TLS, for a browser that would not trust the certificate."""
 
-    def __init__(self, folder, desk, tls):
-        self.port, self.folder, self.log = free_port(), folder, folder / "access.log"
-        self.config = folder / "nginx.conf"
-        self.config.write_text(self.text(desk, tls))
-        self.process = subprocess.Popen([found("nginx"), "-p", str(folder), "-e", f"{folder}/error.log", "-c", str(self.config)])
+    def __init__(self, folder, desk, tls, share=TOP):
+        self.port, self.folder, self.share, self.log = free_port(), folder, share, folder / "access.log"
+        for part in ("keys", "tls"):
+            (folder / "etc" / part).mkdir(parents=True)
+        for name, lines in HOLDERS.items():
+            (folder / "etc" / "keys" / name).write_text("".join(f'"~^{key}$" "{value}";\n' for key, value in lines.items()))
+        (folder / "etc" / "operators.conf").write_text(f"allow {HOST};\n")
+        if tls:
+            make_certificate(folder / "etc" / "tls")
+        config = folder / "nginx.conf"
+        config.write_text(self.text(desk, tls))
+        self.process = subprocess.Popen([found("nginx"), "-p", str(folder), "-e", f"{folder}/error.log", "-c", str(config)])
         self.wait()
 
+    @property
+    def certificate(self):
+        return self.folder / "etc" / "tls" / "cert.pem"
+
     def text(self, desk, tls):
-        server = SERVER.replace("443 ssl", f"{HOST}:{self.port} ssl" if tls else f"{HOST}:{self.port}")
+        site = SITE.read_text().replace("listen 443 ssl;", f"listen {HOST}:{self.port}{' ssl' if tls else ''};")
+        site = re.sub(r"proxy_pass http://[\d.:]+;", f"proxy_pass http://{HOST}:{desk};", site)
+        site = re.sub(r"access_log .*;", f"access_log {self.log};", site)
+        site = re.sub(r"keepalive_timeout .*;", "keepalive_timeout 1s;", site)
+        site = site.replace("/etc/achdesk", f"{self.folder}/etc").replace("/usr/share/achdesk", str(self.share))
         if not tls:
-            server = re.sub(r"\n *ssl_\w+ .*", "", server)
-        server = server.replace("cert.pem", f"{self.folder}/cert.pem").replace(" key.pem", f" {self.folder}/key.pem")
-        server = server.replace("127.0.0.1:8080", f"{HOST}:{desk}").replace("/usr/local/share/achdesk", str(TOP))
+            site = re.sub(r"\n *ssl_\w+ .*;", "", site)
         paths = "".join(f"{it}_temp_path {self.folder}/{it};" for it in ("client_body", "proxy", "fastcgi", "uwsgi", "scgi"))
         return (f"daemon off; master_process off; pid {self.folder}/pid; error_log {self.folder}/error.log; events {{}}\n"
-                f"http {{ access_log {self.log}; types {{ text/html html; }} {paths}\n{server}}}\n")
+                f"http {{ map_hash_bucket_size 256; types {{ text/html html; }} {paths}\n{site}}}\n")
 
     def wait(self):
         for _ in range(200):

@@ -44,6 +44,11 @@ def built_program():
     return str(TOP / "crates" / "achdesk" / "out" / "achdesk")
 
 
+def found(program):
+    """The path of a program, also of one in /usr/sbin, or None."""
+    return shutil.which(program, path=f"{os.environ.get('PATH', '')}:/usr/sbin")
+
+
 def run(program, *words, given=b"", seconds=SECONDS):
     """What a run of the program prints, and its status."""
     done = subprocess.run([program, *map(str, words)], input=given, stdout=subprocess.PIPE, stderr=subprocess.PIPE, timeout=seconds)
