@@ -314,24 +314,24 @@ def new_keys(bank, limits):
     key = browser.run(f"{field}.value")
     checks.that("a key of 32 letters and digits is proposed", bool(re.fullmatch("[A-Za-z0-9]{32}", key)))
     checks.that("keys are masked", [browser.run(f"return document.querySelector('#{form} [name=key]').type") for form in ("open", "register", "look")], ["password"] * 3)
-    fields = {"id": "NEW01", "name": "NEW STREET", **limits}
+    fields = {"id": "OAK01", "name": "OAK LIBRARY", **limits}
     bank.spoils.plans.append(("cut", 0))
     checks.that("a registration whose answer is lost", bank.do("register", **fields), "No answer came. The desk may have done it nevertheless: refresh and look before you do it again.")
     said = bank.do("register", **fields).splitlines()
     checks.that("is refused when it is sent again, and its key is shown", (said[0], key in said),
                 ("A company with this identification is registered already. CompanyExists It may have been registered by the request whose answer was lost.", True))
-    checks.that("another company cannot be registered under it", bank.do("register", id="NEW01", name="OTHER", key="another-key", **limits),
+    checks.that("another company cannot be registered under it", bank.do("register", id="OAK01", name="OTHER", key="another-key", **limits),
                 "A company with this identification is registered already. CompanyExists")
     browser.click("#lock")
     checks.that("a locked page has no key", browser.run(f"{field}.value"), "")
     bank.unlock()
     again = browser.run(f"{field}.value")
-    said = bank.do("register", id="NEW02", name="NEW ROAD", **limits).splitlines()
-    checks.that("the next one has another key, which is shown once it is registered", (said[0], again in said, again != key), ("NEW02 is registered.", True, True))
+    said = bank.do("register", id="ELM01", name="ELM FARM", **limits).splitlines()
+    checks.that("the next one has another key, which is shown once it is registered", (said[0], again in said, again != key), ("ELM01 is registered.", True, True))
     checks.that("then a third one is proposed", browser.run(f"{field}.value") in (key, again, ""), False)
-    bank.do("register", id="NEW02", name="NEW ROAD", key="another-key", **limits)
+    bank.do("register", id="ELM01", name="ELM FARM", key="another-key", **limits)
     checks.that("and the key is gone from the page", again in browser.run("return document.body.innerText + [...document.querySelectorAll('input')].map(it => it.value).join(' ')"), False)
-    status, _ = bank.ask("GET", "/c/NEW02/returns", key=again)
+    status, _ = bank.ask("GET", "/c/ELM01/returns", key=again)
     checks.that("the proxy does not know the new key", status, 403)
 
 
@@ -399,7 +399,7 @@ def next_days(bank):
     checks.that("a file of returns", bank.do("returns", file=taken), "Posted: 2 returns, 0 changes, 3 in suspense.")
     checks.that("the same again", bank.do("returns", file=taken), "Posted: 2 returns, 0 changes, 3 in suspense.")
     directions = {(text[13:34], n): "debit" if it["debit"] else "credit" for n, it in enumerate(items, 1)}
-    bank.directions = directions
+    bank.directions = bank.in_files = directions
     compare_money(bank, "after the file")
     bank.open()
     compare_money(bank, "on a page that has not read the file")
@@ -568,6 +568,7 @@ def photograph(bank, path):
     browser = bank.browser
     bank.open()
     bank.do("directions", file=str(bank.folder / "returns.ach"))
+    bank.directions = bank.in_files
     say_nothing = "document.querySelectorAll('.said').forEach(it => { it.textContent = ''; });"
     bank.do("look", id="MILL01", key=MILL_KEY)
     browser.run(say_nothing)

@@ -65,6 +65,7 @@ JUDGES = (
     Judge("growths_in_files", ("20",), ("gcc",)),
     Judge("deploy", (), ("nginx", "openssl", "logrotate", "nft", "ip", "man", "make", "strace")),
     Judge("day", (), ("nginx", "openssl", "sshd", "sftp", "curl")),
+    Judge("clients_kit", (), ("nginx", "openssl")),
     Judge("console", (), ("chromium", "chromedriver", "nginx")),
     Judge("openapi", (), (".yaml",)),
     Judge("benches", (), ("rt",), takes_program=False),
