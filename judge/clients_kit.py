@@ -82,7 +82,8 @@ class Bank:
         self.path = self.folder / "bank.db"
         for end, data in new_desk(self.program).items():
             Path(f"{self.path}{end}").write_bytes(data)
-        self.desk = Serving(self.program, self.path, 100_000, patience=self.settings.pop("patience", None)).listen()
+        self.patience = self.settings.pop("patience", None)
+        self.desk = self.serve()
         self.spoils = self.stack.enter_context(CuttingProxy(self.desk.port))
         self.relay, self.tls = None, None
         self.url = f"http://{HOST}:{self.spoils.port}"
@@ -112,10 +113,14 @@ class Bank:
 
     def restart(self, seconds=0.0):
         """Kills the desk, and starts it again on the same port."""
-        port = self.desk.port
         self.desk.stop()
         time.sleep(seconds)
-        self.desk = Serving(self.program, self.path, 100_000, port=port).listen()
+        self.desk = self.serve(self.desk.port)
+
+    def serve(self, port=None):
+        desk = Serving(self.program, self.path, 100_000, port=port, patience=self.patience)
+        desk.wait_for_line(4 * SECONDS)  # opening takes long if the machine is busy
+        return desk.listen()
 
     def __exit__(self, *_):
         self.operator.close()
@@ -491,7 +496,7 @@ def restarts(checks, program, way):
         for it in threads:
             it.start()
         kills = 0
-        while any(it.is_alive() for it in threads) and kills < 6:
+        while any(it.is_alive() for it in threads) and kills < 4:
             time.sleep(0.5)
             bank.restart(0.1)
             kills += 1
@@ -652,18 +657,17 @@ def new_items(checks, program):
         with open("/dev/full", "w") as full:
             checks.that("a run that could not print remembers nothing", new(out=full)[2], 6)
         checks.that("so it is printed again", lines(new()), rows[:2])
-        checks.that("and then no more", lines(new()), rows[:1])
+        checks.that("and then no more", (lines(new()), new("--no-header")[0]), (rows[:1], ""))
         bank.operator.take_returns(file_of_returns(2, "PPD", items[1:2]).encode())
         bank.operator.take_returns(file_of_returns(3, "PPD", items[2:]).encode())
         checks.that("the next two are new", lines(new()), [rows[0], *rows[2:]])
         checks.that("the state is for its owner alone", it.state.stat().st_mode & 0o777, 0o700)
         both = [subprocess.Popen([sys.executable, str(COMPANY_PROGRAM), "changes", "--new", "--csv"], env=it.environment, stdout=subprocess.PIPE) for _ in range(4)]
         checks.that("four runs at once", [one.wait(SECONDS) for one in both], [0] * 4)
-        port = bank.desk.port
         bank.desk.stop()
         for end in ("", "-wal"):
             shutil.copy(old / f"bank.db{end}", f"{bank.path}{end}")
-        bank.desk = Serving(program, bank.path, port=port).listen()
+        bank.desk = bank.serve(bank.desk.port)
         said = new()
         checks.that("5: a desk that was restored has fewer returns", (said[0], said[2], "restored from a backup: 3 returns were seen before" in said[1]), ("", 5, True))
         checks.that("which is told until it is taken note of", new()[2], 5)

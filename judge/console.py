@@ -209,7 +209,7 @@ def compare_status(bank, what):
     bank.checks.that(f"{what}: the companies", bank.rows("#companies"), rows)
     bank.checks.that(f"{what}: the files", [it[0] for it in bank.lines("#files li")], [f"File {it}" for it in status["files"]] or ["No file was made on this day."])
     due = sum(sums(status, way)[1] for way in ("credits", "debits"))
-    needed = [f"At least 1 file of the {FILES - len(status['files'])} left today."] if 0 < due <= 1000 else []
+    needed = [f"Needs at least 1 file; {FILES - len(status['files'])} of 36 are left today."] if 0 < due <= 1000 else []
     bank.checks.that(f"{what}: how many files are needed", bank.lines("#due p")[1], needed)
     return status
 
@@ -367,7 +367,7 @@ def first_day(bank):
     checks.that("a third time it asks", bank.is_asked())
     checks.that("and the button says what it does", browser.text("#question-yes"), "Create files")
     checks.that("and the question what it does not do", bank.lines("#question-body > p"),
-                [["A cut puts this into files, which cannot be taken back. It transmits nothing."], ["At least 1 file of the 36 left today."]])
+                [["A cut puts this into files, which cannot be taken back. It transmits nothing."], ["Needs at least 1 file; 36 of 36 are left today."]])
     browser.press("Tab", "Enter")
     checks.that("the next button cuts", bank.said("cut"), "File A created with 15 entries, not transmitted: save it and transmit it.")
     compare_status(bank, "after the cut")
@@ -456,10 +456,10 @@ def too_many_files(bank):
     """A status with more due than the day's files hold, which is made up here."""
     tally = lambda submissions, cents: {"submissions": submissions, "cents": str(cents)}
     for what, credits, debits, files, wanted in (
-            ("a thousand and one submissions", (600, 1), (401, 1), 0, "At least 2 files of the 36 left today."),
-            ("a cent over the total of one file", (1, 10**12), (0, 0), 1, "At least 2 files of the 35 left today."),
-            ("as much as all files hold", (1, 0), (36_000 - 1, 36 * (10**12 - 1)), 0, "At least 36 files of the 36 left today."),
-            ("a submission more", (1, 0), (36_000, 5), 0, "At least 37 files of the 36 left today. A cut would be refused.")):
+            ("a thousand and one submissions", (600, 1), (401, 1), 0, "Needs at least 2 files; 36 of 36 are left today."),
+            ("a cent over the total of one file", (1, 10**12), (0, 0), 1, "Needs at least 2 files; 35 of 36 are left today."),
+            ("as much as all files hold", (1, 0), (36_000 - 1, 36 * (10**12 - 1)), 0, "Needs at least 36 files; 36 of 36 are left today."),
+            ("a submission more", (1, 0), (36_000, 5), 0, "Needs at least 37 files; 36 of 36 are left today. A cut would be refused.")):
         due = {"credits": tally(*credits), "day": "2025-07-10", "debits": tally(*debits)}
         company = {"due": [due], "held": {"credits": tally(*credits), "debits": tally(*debits)}, "id": "MILL01", "lapsing": 0, "name": "MILL STREET"}
         body = json.dumps({"companies": [company], "day": "2025-07-09", "files": list("ABC"[:files]), "holidays": 0, "sent": 0, "suspense": 0}).encode()

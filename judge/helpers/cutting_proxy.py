@@ -119,7 +119,7 @@ class LosingRelay(Listener):
             threading.Thread(target=self.pump, args=(it, target), daemon=True).start()
             while piece := target.recv(65_536):
                 if is_lost and self.inner.carried_out > before:
-                    return reset(it)
+                    return it.shutdown(socket.SHUT_RDWR)  # which also ends the other thread
                 it.sendall(piece)
 
     @staticmethod
