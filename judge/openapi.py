@@ -160,7 +160,10 @@ def wrong_faults(page):
     shown = {(it.value["error"], it.status) for it in page.examples.values() if it.status == 404}
     for operation in page.operations.values():
         shown |= {(page.shared[name]["error"], status) for name, status in page.shared_answers(operation)}
-    lines = [f"{it} is in one of the two alone" for it in sorted((shown | {("BadMethod", 405)}) ^ set(wanted.items()), key=str)]
+    lines = [
+        f"{it} is in one of the two alone"
+        for it in sorted((shown | {("BadMethod", 405)}) ^ set(wanted.items()), key=str)
+    ]
     named = page.tree["components"]["schemas"]["Fault"]["properties"]["error"]["enum"]
     return lines + [f"{it} is in the schema or in the table alone" for it in sorted(set(named) ^ set(wanted))]
 
@@ -286,7 +289,10 @@ def judge_page(page, report):
 def judge_names(page, report):
     wrong = [*wrong_refusals(page), *lacking_refusals(page), *differing_orders(page)]
     report.tell(f"refusals: all {len(REFUSALS)}, in their orders", wrong)
-    report.tell(f"faults: all {len(MESSAGE_FAULTS)}, and {len(PROXY_FAULTS)} of the proxy", [*wrong_faults(page), *lacking_statuses(page)])
+    report.tell(
+        f"faults: all {len(MESSAGE_FAULTS)}, and {len(PROXY_FAULTS)} of the proxy",
+        [*wrong_faults(page), *lacking_statuses(page)],
+    )
     report.tell("faults of files and of holiday lists: all", lacking_faults(page))
     report.tell("components: each is used", unreferenced(page))
     report.tell("examples: each in a script, or with a reason", unsent(page))
@@ -320,10 +326,50 @@ def wrong_answers(page, client):
 
 # What must be possible after all requests of the page: their operation, body, status and answer.
 AFTERWARDS = (
-    ("submit", {"ref": "LAST-1", "sec": "PPD", "direction": "credit", "description": "PAYROLL", "day": "2025-01-10",
-                "entries": [{"routing": "091000019", "account": "123456789", "kind": "checking", "cents": 150000, "id": "E1", "name": "ANN LEE"}]}, 201, "ref"),
-    ("submit", {"ref": "LAST-2", "sec": "PPD", "direction": "debit", "description": "DUES", "day": "2025-01-10",
-                "entries": [{"routing": "091000019", "account": "123456789", "kind": "checking", "cents": 2500, "id": "E2", "name": "BOB RAY"}]}, 201, "ref"),
+    (
+        "submit",
+        {
+            "ref": "LAST-1",
+            "sec": "PPD",
+            "direction": "credit",
+            "description": "PAYROLL",
+            "day": "2025-01-10",
+            "entries": [
+                {
+                    "routing": "091000019",
+                    "account": "123456789",
+                    "kind": "checking",
+                    "cents": 150000,
+                    "id": "E1",
+                    "name": "ANN LEE",
+                }
+            ],
+        },
+        201,
+        "ref",
+    ),
+    (
+        "submit",
+        {
+            "ref": "LAST-2",
+            "sec": "PPD",
+            "direction": "debit",
+            "description": "DUES",
+            "day": "2025-01-10",
+            "entries": [
+                {
+                    "routing": "091000019",
+                    "account": "123456789",
+                    "kind": "checking",
+                    "cents": 2500,
+                    "id": "E2",
+                    "name": "BOB RAY",
+                }
+            ],
+        },
+        201,
+        "ref",
+    ),
     ("setDay", {"day": "2025-01-09"}, 200, "day"),
     ("cut", None, 200, "files"),
 )
@@ -344,7 +390,10 @@ def judge_client(page, program, report):
             keys = {name: it["x-key"] for name, it in page.tree["components"]["securitySchemes"].items()}
             client = PageClient(page.tree, f"http://{HOST}:{desk.port}", keys)
             report.tell("client: every request of the page, in page order", list(wrong_answers(page, client)))
-            report.tell(f"client: {client.count} calls, of all {len(page.operations)} operations", sorted(page.operations.keys() - client.called))
+            report.tell(
+                f"client: {client.count} calls, of all {len(page.operations)} operations",
+                sorted(page.operations.keys() - client.called),
+            )
             report.tell("client: the desk is usable afterwards", list(unusable(client)))
 
 

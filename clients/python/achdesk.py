@@ -111,13 +111,13 @@ class Refused(DeskError):
         self.status = status
         self.body = dict(body)
         self.name = str(body["error"])
-        self.number = _number(body.get("number"))
-        self.field = _text(body.get("field"))
-        self.index = _number(body.get("index"))
-        self.code = _text(body.get("code"))
-        self.fault = _text(body.get("fault"))
-        self.record = _number(body.get("record"))
-        self.row = _number(body.get("row"))
+        self.number = _int_or_none(body.get("number"))
+        self.field = _str_or_none(body.get("field"))
+        self.index = _int_or_none(body.get("index"))
+        self.code = _str_or_none(body.get("code"))
+        self.fault = _str_or_none(body.get("fault"))
+        self.record = _int_or_none(body.get("record"))
+        self.row = _int_or_none(body.get("row"))
         super().__init__(self._text(), may_have_acted=status in UNCERTAIN)
         self.is_temporary = status in TEMPORARY
 
@@ -134,11 +134,11 @@ class Refused(DeskError):
         return f"{self.name}{number}, status {self.status}" + "".join(f", {it}" for it in more)
 
 
-def _number(value: object) -> Optional[int]:
+def _int_or_none(value: object) -> Optional[int]:
     return value if isinstance(value, int) else None
 
 
-def _text(value: object) -> Optional[str]:
+def _str_or_none(value: object) -> Optional[str]:
     return value if isinstance(value, str) else None
 
 

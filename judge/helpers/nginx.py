@@ -19,9 +19,30 @@ HOLDERS = {
 
 def make_certificate(folder):
     """A key and a certificate for localhost, signed by itself: key.pem and cert.pem."""
-    subprocess.run(["openssl", "req", "-x509", "-newkey", "ec", "-pkeyopt", "ec_paramgen_curve:prime256v1", "-nodes", "-days", "2",
-                    "-subj", "/CN=localhost", "-addext", "subjectAltName=DNS:localhost,IP:127.0.0.1",
-                    "-keyout", str(folder / "key.pem"), "-out", str(folder / "cert.pem")], check=True, capture_output=True)
+    subprocess.run(
+        [
+            "openssl",
+            "req",
+            "-x509",
+            "-newkey",
+            "ec",
+            "-pkeyopt",
+            "ec_paramgen_curve:prime256v1",
+            "-nodes",
+            "-days",
+            "2",
+            "-subj",
+            "/CN=localhost",
+            "-addext",
+            "subjectAltName=DNS:localhost,IP:127.0.0.1",
+            "-keyout",
+            str(folder / "key.pem"),
+            "-out",
+            str(folder / "cert.pem"),
+        ],
+        check=True,
+        capture_output=True,
+    )
     return folder / "cert.pem"
 
 
@@ -34,13 +55,17 @@ class Nginx:
         for part in ("keys", "tls"):
             (folder / "etc" / part).mkdir(parents=True)
         for name, lines in HOLDERS.items():
-            (folder / "etc" / "keys" / name).write_text("".join(f'"~^{key}$" "{value}";\n' for key, value in lines.items()))
+            (folder / "etc" / "keys" / name).write_text(
+                "".join(f'"~^{key}$" "{value}";\n' for key, value in lines.items())
+            )
         (folder / "etc" / "operators.conf").write_text(f"allow {HOST};\n")
         if tls:
             make_certificate(folder / "etc" / "tls")
         config = folder / "nginx.conf"
         config.write_text(self.text(desk, tls))
-        self.process = subprocess.Popen([found("nginx"), "-p", str(folder), "-e", f"{folder}/error.log", "-c", str(config)])
+        self.process = subprocess.Popen(
+            [found("nginx"), "-p", str(folder), "-e", f"{folder}/error.log", "-c", str(config)]
+        )
         self.wait()
 
     @property
@@ -55,9 +80,13 @@ class Nginx:
         site = site.replace("/etc/achdesk", f"{self.folder}/etc").replace("/usr/share/achdesk", str(self.share))
         if not tls:
             site = re.sub(r"\n *ssl_\w+ .*;", "", site)
-        paths = "".join(f"{it}_temp_path {self.folder}/{it};" for it in ("client_body", "proxy", "fastcgi", "uwsgi", "scgi"))
-        return (f"daemon off; master_process off; pid {self.folder}/pid; error_log {self.folder}/error.log; events {{}}\n"
-                f"http {{ map_hash_bucket_size 256; types {{ text/html html; }} {paths}\n{site}}}\n")
+        paths = "".join(
+            f"{it}_temp_path {self.folder}/{it};" for it in ("client_body", "proxy", "fastcgi", "uwsgi", "scgi")
+        )
+        return (
+            f"daemon off; master_process off; pid {self.folder}/pid; error_log {self.folder}/error.log; events {{}}\n"
+            f"http {{ map_hash_bucket_size 256; types {{ text/html html; }} {paths}\n{site}}}\n"
+        )
 
     def wait(self):
         for _ in range(200):

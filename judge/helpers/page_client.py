@@ -9,17 +9,17 @@ import urllib.request
 class PageClient:
     def __init__(self, page, address, keys):
         self.page, self.address, self.keys, self.called, self.count = page, address, keys, set(), 0
-        self.operations = {it["operationId"]: (path, method, it) for path, item in page["paths"].items()
-                           for method, it in item.items() if method in ("get", "post")}
+        calls = [(path, method, it) for path, item in page["paths"].items() for method, it in item.items()]
+        self.operations = {it[2]["operationId"]: it for it in calls if it[1] in ("get", "post")}
 
     def at(self, node):
-        """The node that a reference refers to."""
+        """Returns the node that a reference refers to."""
         for piece in node["$ref"].split("/")[1:] if "$ref" in node else ():
             node = (self.page if piece == "components" else node)[piece]
         return node
 
     def call(self, name, body=None, **parameters):
-        """The status, the content type and the value of an answer, which must be one that the page has."""
+        """Returns the status, the content type and the value of an answer, which must be one of the page's."""
         path, method, operation = self.operations[name]
         (scheme,) = operation["security"][0]
         headers = {self.page["components"]["securitySchemes"][scheme]["name"]: self.keys[scheme]}
@@ -28,8 +28,9 @@ class PageClient:
             headers["Content-Type"] = next(iter(operation["requestBody"]["content"]))
             data = body.encode() if isinstance(body, str) else json.dumps(body).encode()
         target = self.address + re.sub(r"\{(\w+)\}", lambda found: parameters[found[1]], path)
+        request = urllib.request.Request(target, data, headers, method=method.upper())
         try:
-            answer = urllib.request.urlopen(urllib.request.Request(target, data, headers, method=method.upper()), timeout=60)
+            answer = urllib.request.urlopen(request, timeout=60)
         except urllib.error.HTTPError as refused:
             answer = refused
         with answer:
@@ -43,6 +44,9 @@ class PageClient:
 
 def examples_of(operation, folder):
     """The bodies that the page has for an operation; None for one without a body."""
-    for content in operation.get("requestBody", {"content": {"": {"examples": {"none": {"value": None}}}}})["content"].values():
+    if "requestBody" not in operation:
+        yield None
+        return
+    for content in operation["requestBody"]["content"].values():
         for it in content["examples"].values():
             yield (folder / it["externalValue"]).read_text() if "externalValue" in it else it["value"]

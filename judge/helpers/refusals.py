@@ -65,6 +65,19 @@ MESSAGE_FAULTS = {
 # What the proxy of deploy/nginx.conf adds to these.
 PROXY_FAULTS = {"TooManyRequests": 429, "BadGateway": 502, "GatewayTimeout": 504}
 
-FILE_FAULTS = ("TooLarge", "BadLength", "BadByte", "BadOrder", "BadNumber", "ForwardEntry", "BadAddenda", "BadCount",
-               "BadHash", "BadTotal", "BadBlock", "NoMemory", "Failed")
+FILE_FAULTS = (
+    "TooLarge",
+    "BadLength",
+    "BadByte",
+    "BadOrder",
+    "BadNumber",
+    "ForwardEntry",
+    "BadAddenda",
+    "BadCount",
+    "BadHash",
+    "BadTotal",
+    "BadBlock",
+    "NoMemory",
+    "Failed",
+)
 CALENDAR_FAULTS = ("BadRow", "NotAscending", "TooMany")

@@ -1,0 +1,123 @@
+"""Lists of entries in CSV: the client library takes and refuses them as `achdesk submit` does."""
+
+import json
+import random
+import tempfile
+from pathlib import Path
+
+from helpers.kit_bank import LIST
+from helpers.running import MILL_KEY, run
+
+import achdesk
+from achdesk import InputFault
+
+PIECES = [
+    "091000019",
+    "123456789",
+    "checking",
+    "savings",
+    "150000",
+    "0",
+    "E1",
+    "ANN LEE",
+    "yes",
+    "no",
+    "",
+    "1.5",
+    "1" * 18,
+    "1" * 19,
+    "+1",
+    " 1",
+    '"a,b"',
+    '"a""b"',
+    '"a\nb"',
+    '"open',
+    'a"b',
+    '"a"b',
+    '""',
+    '"yes"',
+    "Zo\xeb",
+    "\ufeff",
+    "'",
+    " ",
+    "\t",
+    ";",
+]
+GOOD = ["091000019", "123456789", "checking", "", "150000", "E1", "ANN LEE", ""]
+
+
+def random_list(rng):
+    """The bytes of a list in which some fields, rows and line ends are wrong."""
+    ends = rng.choice(["\n", "\r\n", "\r", "\n\n", "\n\r"])
+    rows = []
+    for _ in range(rng.randrange(4)):
+        row = list(GOOD)
+        for _ in range(rng.randrange(3)):
+            row[rng.randrange(8)] = rng.choice(PIECES)
+        if rng.random() < 0.1:
+            row = row[: rng.randrange(1, 8)] if rng.random() < 0.5 else [*row, "x"]
+        rows.append(",".join(row))
+    header = ",".join(achdesk.COLUMNS)
+    if rng.random() < 0.1:
+        header = rng.choice(["", f'"routing"{header[7:]}', header.upper(), f"{header},x", f" {header}", f"\n{header}"])
+    text = rng.choice(["", "", "\ufeff"]) + ends.join([header, *rows]) + rng.choice(["", ends])
+    data = text.encode()
+    return data.replace("\xeb".encode(), b"\xeb") if rng.random() < 0.3 else data
+
+
+def by_program(program, path):
+    """What `achdesk submit` makes of a list: the entries of its body, or its line."""
+    said, status = run(
+        program,
+        "submit",
+        path,
+        "--company",
+        "MILL01",
+        "--key",
+        MILL_KEY,
+        "--ref",
+        "R",
+        "--sec",
+        "PPD",
+        "--direction",
+        "credit",
+        "--description",
+        "P",
+        "--day",
+        "2025-01-10",
+    )
+    return json.loads(said.partition(b"\r\n\r\n")[2])["entries"] if status == 0 else said.decode().rstrip("\n")
+
+
+def by_library(data):
+    try:
+        return [it.body() for it in achdesk.entries_of_csv(data)]
+    except InputFault as fault:
+        return str(fault)
+
+
+def lists(checks, program):
+    """The same entries and faults as `achdesk submit`."""
+    rng = random.Random(73)
+    cases = [
+        LIST,
+        b"",
+        b"\n",
+        b"\xef\xbb\xbf" + LIST,
+        LIST + b"x" * (achdesk.LARGEST_BODY + 1 - len(LIST)),
+        LIST.rstrip(b"\n") + b"," + b"x" * 200_000,
+    ]
+    cases += [random_list(rng) for _ in range(400)]
+    differ, seen = [], set()
+    with tempfile.TemporaryDirectory() as folder:
+        path = Path(folder) / "list.csv"
+        for data in cases:
+            path.write_bytes(data)
+            wanted, said = by_program(program, path), by_library(data)
+            seen.add(wanted.rpartition(": ")[2] if isinstance(wanted, str) else "entries")
+            if said != wanted:
+                differ.append((data[:200], said, wanted))
+    checks.that(f"{len(cases)} lists: entries and faults are those of `achdesk submit`", differ, [])
+    checks.that(
+        "each fault was among them", seen, {"entries", "too large", "bad header", "bad row", "bad cents", "bad prenote"}
+    )
