@@ -248,8 +248,8 @@ class Week:
             settlement={row["day"]: int(row["net"]) for row in of("settlement")},
             balance=int(of("balance")[0]["net"]))
         self.checks.that(f"{day} the report has the figures worked out by hand", found, FIGURES[day])
-        words = {row["note"] for row in of("settlement") if int(row["net"]) > 0} | {"the bank pays the ACH operator"}
-        self.checks.that(f"{day} the report says who pays", words, {"the bank pays the ACH operator"})
+        pays = {True: "the bank pays the ACH operator", False: "the ACH operator pays the bank"}
+        self.checks.that(f"{day} the report says who pays", [row["note"] for row in of("settlement")], [pays[int(row["net"]) > 0] for row in of("settlement")])
         text = (self.bank.state / "reports" / f"{day}.txt").read_text()
         self.checks.that(f"{day} the report says that nothing is left", "NOT TRANSMITTED" in text, False)
 
@@ -355,7 +355,6 @@ def wednesday(week):
     week.operator.is_quick = False
     week.killed_at_each_step("ack", str(week.ack_of(["2025-01-15-A", "2025-01-15-B"])))
     week.killed_at_each_step("report")
-    week.killed_at_each_step("backup")
     week.reported(WED)
     print(f"        {week.kills} kills; a person had to decide {week.asked_again} times", flush=True)
 

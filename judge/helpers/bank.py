@@ -108,7 +108,7 @@ class KeptDesk:
     def wait(self):
         """Waits until it listens, and gives the seconds that this took."""
         began = time.monotonic()
-        while time.monotonic() < began + 120:
+        while time.monotonic() < began + 600:
             try:
                 connect(self.port).close()
                 return time.monotonic() - began
