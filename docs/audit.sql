@@ -1,11 +1,10 @@
--- Views over a copy of a desk's file, for stock SQLite from 3.37 on. docs/TABLES.md says what stands in the tables.
+-- Views over a copy of a desk's file, for stock SQLite 3.37 or later. docs/audit/tables.md describes the tables.
 --
---     cp bank.db bank.db-wal /tmp/copy/
---     sqlite3 -box -init docs/audit.sql /tmp/copy/bank.db 'SELECT * FROM audit_checks'
+--     sqlite3 -readonly -box -init docs/audit.sql copy/bank.db 'SELECT * FROM audit_checks'
 --
--- The views are temporary: they are gone when the connection closes, and nothing is written into the file. Days are
--- dates. Money stands twice, in whole cents to count with, and with two decimals to read. Each name begins with
--- audit_, since the tables have the short ones.
+-- Open copies with -readonly: without it SQLite moves the log into the file when it closes, and changes the copy. The
+-- views are temporary and disappear with the connection. Days are dates. Amounts appear twice: in whole cents, to
+-- calculate with, and with two decimals, to read. Each name begins with audit_, since the tables have the short names.
 
 -- ---- the bank, its calendar and its accounts
 
@@ -15,7 +14,7 @@ SELECT odfi AS routing, odfi_name AS bank, destination AS operator_routing, dest
        version, date(day * 86400, 'unixepoch') AS day
 FROM desk;
 
--- The holidays that the desk counts by today.
+-- The present holiday list.
 CREATE TEMP VIEW audit_holidays AS
 SELECT date(day * 86400, 'unixepoch') AS day,
        substr('MonTueWedThuFriSatSun', (day + 3) % 7 * 3 + 1, 3) AS weekday
@@ -29,16 +28,16 @@ SELECT id AS company, name,
        printf('%d.%02d', debit_limit / 100, debit_limit % 100) AS debit_limit
 FROM companies ORDER BY id;
 
--- Each account by the text that names it in the tables.
+-- Each account, with the text that names it in the tables.
 CREATE TEMP VIEW audit_accounts AS
 SELECT 'O' AS account, 'operator' AS kind, NULL AS company, destination_name AS name FROM desk
 UNION ALL SELECT 'S', 'suspense', NULL, 'SUSPENSE'
 UNION ALL SELECT 'C:' || id, 'company', id, name FROM companies;
 
--- ---- what companies handed in
+-- ---- submissions and entries
 
--- Each submission and retry: held until a cut sends it or, of a retry, lets it lapse. `returned` counts its entries
--- that came back. A retry names the entry that it tries again.
+-- Each submission and retry. It is held until a cut sends it, or lets a retry lapse. `returned` counts its returned
+-- entries. A retry names the entry that it tries again.
 CREATE TEMP VIEW audit_submissions AS
 SELECT s.company, c.name, s.ord AS number, s.ref,
        CASE WHEN s.of_ref IS NULL THEN 'submission' ELSE 'retry' END AS kind,
@@ -56,8 +55,8 @@ JOIN (SELECT company, ord, count(*) AS entries, sum(cents) AS cents FROM entries
 LEFT JOIN authorizations a ON a.company = s.company AND a.ord = s.ord
 ORDER BY s.company, s.ord;
 
--- Each entry with its state, and with the trace under which it was sent. Of a sent entry the trace is NULL where a
--- younger one has it by now: then it stands in the text of the file alone.
+-- Each entry with its state and its trace number. The trace of a sent entry is NULL if a younger entry has it by now; then
+-- only the text of the file has it.
 CREATE TEMP VIEW audit_entries AS
 SELECT e.company, e.ord AS number, s.ref, e.idx AS entry, s.direction, e.routing, e.account,
        CASE e.savings WHEN 1 THEN 'savings' ELSE 'checking' END AS kind,
@@ -75,40 +74,76 @@ LEFT JOIN numbers n ON n.nth = e.seq
 LEFT JOIN returns r ON r.company = e.company AND r.ord = e.ord AND r.idx = e.idx
 ORDER BY e.company, e.ord, e.idx;
 
--- ---- what came back
+-- ---- returns, changes and suspense
 
--- Each return that met its entry, in the order in which they were taken.
+-- Each day on which entries settled, with the deadlines of their returns by the present holiday list: the second banking
+-- day after it, and the first banking day after the sixtieth day from it.
+CREATE TEMP VIEW audit_deadlines AS
+WITH RECURSIVE
+settled(day) AS (SELECT DISTINCT s.settled FROM submissions s WHERE s.settled IS NOT NULL),
+ahead(settled, day, banking) AS (
+  SELECT day, day, 0 FROM settled
+  UNION ALL
+  SELECT settled, day + 1, banking + ((day + 4) % 7 < 5 AND day + 1 NOT IN (SELECT h.day FROM holidays h))
+  FROM ahead WHERE banking < 2),
+extended(settled, day, banking) AS (
+  SELECT day, day + 60, 0 FROM settled
+  UNION ALL
+  SELECT settled, day + 1, (day + 4) % 7 < 5 AND day + 1 NOT IN (SELECT h.day FROM holidays h)
+  FROM extended WHERE banking = 0)
+SELECT a.settled AS settled_day, date(a.settled * 86400, 'unixepoch') AS settled,
+       date(max(a.day) * 86400, 'unixepoch') AS two_banking_days,
+       (SELECT date(max(x.day) * 86400, 'unixepoch') FROM extended x WHERE x.settled = a.settled) AS sixty_days
+FROM ahead a GROUP BY a.settled ORDER BY a.settled;
+
+-- Each return that matches an entry, in the order in which they were taken. `deadline` is by the present holiday list, and
+-- NULL for a code without one; `late` was decided when the return was taken.
 CREATE TEMP VIEW audit_returns AS
 SELECT r.no, r.company, s.ref, r.idx AS entry, s.direction, e.cents,
        printf('%d.%02d', e.cents / 100, e.cents % 100) AS amount, r.code,
-       date(s.settled * 86400, 'unixepoch') AS settled, date(r.day * 86400, 'unixepoch') AS taken,
+       date(s.settled * 86400, 'unixepoch') AS settled,
+       CASE WHEN r.code IN ('R05', 'R07', 'R10', 'R11') THEN d.sixty_days
+            WHEN r.code IN ('R06', 'R13', 'R18', 'R19', 'R23', 'R25', 'R26', 'R27', 'R28') THEN NULL
+            ELSE d.two_banking_days END AS deadline,
+       date(r.day * 86400, 'unixepoch') AS taken,
        CASE r.late WHEN 1 THEN 'late' ELSE 'in time' END AS late, rtrim(r.info) AS info
 FROM returns r
 JOIN submissions s ON s.company = r.company AND s.ord = r.ord
 JOIN entries e ON e.company = r.company AND e.ord = r.ord AND e.idx = r.idx
+LEFT JOIN audit_deadlines d ON d.settled_day = s.settled
 ORDER BY r.no;
 
--- Each notification of change that met its entry.
+-- Each notification of change that matches an entry, with what the entry has: the receiver's bank, account and name as
+-- they were sent, next to the corrected data.
 CREATE TEMP VIEW audit_changes AS
-SELECT c.no, c.company, s.ref, c.idx AS entry, c.code, date(c.day * 86400, 'unixepoch') AS taken, c.text
+SELECT c.no, c.company, s.ref, c.idx AS entry, c.code, date(c.day * 86400, 'unixepoch') AS taken, c.text,
+       e.routing AS old_routing, e.account AS old_account,
+       CASE e.savings WHEN 1 THEN 'savings' ELSE 'checking' END AS old_kind, e.ident AS old_id, e.name AS old_name
 FROM changes c
 JOIN submissions s ON s.company = c.company AND s.ord = c.ord
+JOIN entries e ON e.company = c.company AND e.ord = c.ord AND e.idx = c.idx
 ORDER BY c.no;
 
--- Each item that came back and met no entry. Its money stands in suspense.
+-- Each item that matches no entry. Its money is in suspense. `direction` says whether a credit or a debit was returned:
+-- the n-th line of suspense belongs to the n-th item with money, and a returned debit lowers suspense. It is NULL for an
+-- item without money.
 CREATE TEMP VIEW audit_unmatched AS
-SELECT no, date(day * 86400, 'unixepoch') AS taken, file_key AS file, item, code, trace, cents,
-       printf('%d.%02d', cents / 100, cents % 100) AS amount, why,
-       CASE why WHEN 'NoTrace' THEN 'no entry that was sent has the trace'
-                WHEN 'Differs' THEN 'the entry with the trace is another one'
-                WHEN 'CodeOutside' THEN 'the desk takes no such code'
-                WHEN 'AlreadyReturned' THEN 'the entry came back before' END AS reason
-FROM suspense ORDER BY no;
+WITH items AS (SELECT no, row_number() OVER (ORDER BY no) AS nth FROM suspense WHERE cents > 0),
+     lines AS (SELECT cents, row_number() OVER (ORDER BY no) AS nth FROM postings WHERE account = 'S')
+SELECT s.no, date(s.day * 86400, 'unixepoch') AS taken, s.file_key AS file, s.item, s.code, s.trace,
+       CASE WHEN l.cents < 0 THEN 'debit' WHEN l.cents > 0 THEN 'credit' END AS direction, s.cents,
+       printf('%d.%02d', s.cents / 100, s.cents % 100) AS amount, s.why,
+       CASE s.why WHEN 'NoTrace' THEN 'no sent entry has the trace'
+                  WHEN 'Differs' THEN 'the entry with the trace differs from the item'
+                  WHEN 'CodeOutside' THEN 'the desk does not process the code'
+                  WHEN 'AlreadyReturned' THEN 'the entry was returned earlier' END AS reason
+FROM suspense s LEFT JOIN items i ON i.no = s.no LEFT JOIN lines l ON l.nth = i.nth
+ORDER BY s.no;
 
 -- ---- exposures
 
--- Each day on which debits settled, with the first and the second banking day after it: until the second they count.
--- `closed` names the holidays that were passed over.
+-- Each day on which debits settled, with the first and the second banking day after it. They count until the second.
+-- `closed` lists the holidays in between.
 CREATE TEMP VIEW audit_debit_days AS
 WITH RECURSIVE ahead(settled, day, banking) AS (
   SELECT DISTINCT settled, settled, 0 FROM submissions WHERE direction = 'debit' AND settled IS NOT NULL
@@ -122,9 +157,9 @@ SELECT a.settled AS settled_day, max(a.day) AS until_day, date(a.settled * 86400
         WHERE h.day > a.settled AND h.day < max(a.day) AND (h.day + 3) % 7 < 5) AS closed
 FROM ahead a GROUP BY a.settled ORDER BY a.settled;
 
--- Each entry that counts in an exposure on the desk day. A credit counts while it is held, and until it settles, also
--- where it came back. A debit counts while it is held, and until the second banking day after it settles, unless it
--- came back. What is held has no last day yet.
+-- Each entry that counts in an exposure on the desk day. A credit counts while it is held and until it settles, even if it
+-- is returned. A debit counts while it is held and until the second banking day after it settles, unless it is returned.
+-- A held entry has no last day yet.
 CREATE TEMP VIEW audit_open_entries AS
 SELECT e.company, e.number, e.ref, e.entry, e.direction, e.cents, e.amount, e.state, e.settled,
        CASE e.direction WHEN 'credit' THEN e.settled ELSE d.until END AS counts_until, d.closed
@@ -134,7 +169,7 @@ WHERE e.state = 'held'
    OR e.direction = 'credit' AND e.state <> 'lapsed' AND e.settled >= (SELECT day FROM audit_desk)
    OR e.direction = 'debit' AND e.state = 'sent' AND d.until >= (SELECT day FROM audit_desk);
 
--- Each company's exposures on the desk day beside its limits.
+-- Each company's exposures on the desk day, next to its limits.
 CREATE TEMP VIEW audit_exposures AS
 SELECT c.id AS company, c.name,
        o.credit AS credit_cents, printf('%d.%02d', o.credit / 100, o.credit % 100) AS credit,
@@ -147,6 +182,29 @@ JOIN (SELECT k.id, coalesce(sum(e.cents) FILTER (WHERE e.direction = 'credit'), 
       FROM companies k LEFT JOIN audit_open_entries e ON e.company = k.id GROUP BY k.id) o ON o.id = c.id
 ORDER BY c.id;
 
+-- Each company's return rates on the desk day, as GET /c/{company}/rates has them: over the 60 days that end on it, its
+-- debits with money that settled, and those whose return was taken. Nacha's levels are 0.5, 3 and 15 percent.
+CREATE TEMP VIEW audit_rates AS
+WITH desk_day AS (SELECT day FROM desk),
+debits AS (SELECT e.company, s.settled, r.code, r.day AS returned
+           FROM entries e
+           JOIN submissions s ON s.company = e.company AND s.ord = e.ord
+           LEFT JOIN returns r ON r.company = e.company AND r.ord = e.ord AND r.idx = e.idx
+           WHERE s.direction = 'debit' AND e.prenote = 0 AND s.settled IS NOT NULL),
+counts AS (SELECT company,
+             count(*) FILTER (WHERE settled BETWEEN (SELECT day FROM desk_day) - 59 AND (SELECT day FROM desk_day)) AS debits,
+             count(*) FILTER (WHERE returned BETWEEN (SELECT day FROM desk_day) - 59 AND (SELECT day FROM desk_day)
+                                AND code IN ('R05', 'R07', 'R10', 'R11', 'R29')) AS unauthorized,
+             count(*) FILTER (WHERE returned BETWEEN (SELECT day FROM desk_day) - 59 AND (SELECT day FROM desk_day)
+                                AND code IN ('R02', 'R03', 'R04')) AS administrative,
+             count(*) FILTER (WHERE returned BETWEEN (SELECT day FROM desk_day) - 59 AND (SELECT day FROM desk_day)) AS overall
+           FROM debits GROUP BY company)
+SELECT c.id AS company, c.name, coalesce(k.debits, 0) AS debits,
+       coalesce(k.unauthorized, 0) AS unauthorized, coalesce(k.unauthorized * 1000 > k.debits * 5, 0) AS unauthorized_over,
+       coalesce(k.administrative, 0) AS administrative, coalesce(k.administrative * 100 > k.debits * 3, 0) AS administrative_over,
+       coalesce(k.overall, 0) AS overall, coalesce(k.overall * 100 > k.debits * 15, 0) AS overall_over
+FROM companies c LEFT JOIN counts k ON k.company = c.id ORDER BY c.id;
+
 -- ---- accounts
 
 -- Each line of each account, in the order in which they were posted. It counts from its day on.
@@ -157,7 +215,7 @@ SELECT p.no, a.kind AS account, a.company, a.name, date(p.value_day * 86400, 'un
 FROM postings p LEFT JOIN audit_accounts a ON a.account = p.account
 ORDER BY p.no;
 
--- Each account's sum of each day, and its balance after that day.
+-- Each account's sum for each day, and its balance at the end of that day.
 CREATE TEMP VIEW audit_daily_sums AS
 SELECT a.kind AS account, a.company, a.name, date(s.value_day * 86400, 'unixepoch') AS day, s.lines, s.cents,
        printf('%s%d.%02d', substr('-', 1, s.cents < 0), abs(s.cents) / 100, abs(s.cents) % 100) AS amount, s.balance_cents,
@@ -179,7 +237,7 @@ JOIN (SELECT k.account, coalesce(sum(p.cents), 0) AS cents FROM audit_accounts k
 
 -- ---- files
 
--- Each file that a cut made: what the tables say of it, and its text. `records` counts entries and addenda.
+-- Each file that a cut created, with its totals from the tables, and its text. `records` counts entries and addenda.
 CREATE TEMP VIEW audit_files AS
 SELECT date(f.day * 86400, 'unixepoch') AS day, f.modifier AS file, count(s.batch) AS batches,
        sum(e.entries) AS entries, sum(e.entries + e.addenda) AS records,
@@ -191,14 +249,14 @@ JOIN (SELECT company, ord, count(*) AS entries, count(info) AS addenda, sum(cent
       FROM entries GROUP BY company, ord) e ON e.company = s.company AND e.ord = s.ord
 GROUP BY f.day, f.modifier ORDER BY f.day, f.modifier;
 
--- Each file of returns and changes that was taken, with what became of its items.
+-- Each file of returns and changes that was taken, with the numbers of its items by outcome.
 CREATE TEMP VIEW audit_taken AS
 SELECT date(day * 86400, 'unixepoch') AS taken, file_key AS file, returns, late, changes, suspense, lower(hex(digest)) AS sha256
 FROM taken ORDER BY taken.day, file_key;
 
 -- ---- checks
 
--- What must hold of every desk's file, and how much of it is wrong, which has to be 0 in each row.
+-- Properties of every desk's file, with the number of violations, which has to be 0 in each row.
 CREATE TEMP VIEW audit_checks AS
 SELECT 'on each day the lines of all accounts sum to zero' AS must_hold,
        (SELECT count(*) FROM (SELECT value_day FROM postings GROUP BY value_day HAVING sum(cents) <> 0)) AS wrong

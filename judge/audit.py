@@ -90,6 +90,8 @@ DAYS = [
                                                returns(3, came_back(9, "R03", debit=False, cents=30))]),
     ("the last day on which a debit counts", [set_day("2025-01-22")]),
     ("the day after", [set_day("2025-01-23"), returns(4, came_back(7, "R01", cents=100))]),
+    ("returns with other deadlines", [set_day("2025-01-24"), returns(5, came_back(8, "R10", cents=1), came_back(1, "R06", debit=False, cents=7)),
+                                      returns(6, came_back(99, "R01", debit=False, cents=40)), change(7, came_back(98, "C01"), "1")]),
     ("a retry that waits", [set_day("2025-07-01"), handed_in("BAKE01", retry("RT-1", "DUES-1", "2025-07-09"))]),
     ("a retry that lapses", [set_day("2025-07-09"), CUT]),
 ]
@@ -97,6 +99,20 @@ DAYS = [
 # What no call tells, by hand: the banking days after each day on which debits settled. 2025-01-20 is a holiday.
 DEBIT_DAYS = [("2025-01-10", "2025-01-13", "2025-01-14", None), ("2025-01-16", "2025-01-17", "2025-01-21", "2025-01-20"),
               ("2025-01-17", "2025-01-21", "2025-01-22", "2025-01-20")]
+
+# The items in suspense: of the two with money one is a debit that was returned a second time, the other has an unknown
+# trace; both have the transaction code of a returned debit.
+UNMATCHED = [("debit", 2500, "AlreadyReturned"), ("debit", 2500, "NoTrace"), ("credit", 40, "NoTrace"), (None, 0, "NoTrace")]
+
+# Each return with its deadline: the second banking day after settlement, or the first one after sixty days; none for R06.
+RETURNED = [
+    ("MILL01", "PAY-2", "R01", "2025-01-10", "2025-01-14", "2025-01-14", "in time"),
+    ("BAKE01", "DUES-1", "R01", "2025-01-10", "2025-01-14", "2025-01-14", "in time"),
+    ("BAKE01", "PAY-4", "R03", "2025-01-21", "2025-01-23", "2025-01-17", "in time"),
+    ("MILL01", "PAY-3", "R01", "2025-01-17", "2025-01-22", "2025-01-23", "late"),
+    ("MILL01", "PAY-3", "R10", "2025-01-17", "2025-03-19", "2025-01-24", "in time"),
+    ("BAKE01", "PAY-1", "R06", "2025-01-10", None, "2025-01-24", "in time"),
+]
 
 # Each spoils one thing, and the check that tells it.
 SPOILED = [
@@ -212,7 +228,7 @@ def compare_company(checks, audit, desk, company, day):
     heads = audit.rows("company, number, ref, sec, direction, asked, cents, of_ref, of_index", "audit_submissions", "company = ?", company)
     base = f"/c/{company}"
     paths = [f"{base}/submissions/{row[2]}" for row in heads]
-    told = desk.get([*paths, *(f"{base}/{what}" for what in ("returns", "changes", "statement", "exposure"))])
+    told = desk.get([*paths, *(f"{base}/{what}" for what in ("returns", "changes", "statement", "exposure", "rates"))])
     checks.that(f"{company}: submissions and entries", [look_up_of(audit, row) for row in heads], [json.loads(told[path]) for path in paths])
     lists = lists_of(audit, company)
     for what in ("returns", "changes"):
@@ -227,6 +243,12 @@ def compare_company(checks, audit, desk, company, day):
                 audit.rows("credit_cents, credit, credit_limit, debit_cents, debit, debit_limit", "audit_exposures", "company = ?", company),
                 [(int(exposure["credit"]), money(int(exposure["credit"])), money(exposure["credit_limit"]),
                   int(exposure["debit"]), money(int(exposure["debit"])), money(exposure["debit_limit"]))])
+    rates = json.loads(told[f"{base}/rates"])
+    checks.that(f"{company}: return rates",
+                audit.rows("debits, unauthorized, unauthorized_over, administrative, administrative_over, overall, overall_over",
+                           "audit_rates", "company = ?", company),
+                [(rates["overall"]["d"], *(value for kind in ("unauthorized", "administrative", "overall")
+                                           for value in (rates[kind]["n"], int(rates[kind]["over"]))))])
 
 
 def compare_bank(checks, audit, desk, day):
@@ -267,13 +289,19 @@ def compare_by_hand(checks, folder, desk):
     checks.that("banking days after debits settled", audit.rows("settled, first, until, closed", "audit_debit_days"), DEBIT_DAYS)
     checks.that("holidays", audit.rows("day, weekday", "audit_holidays"), [("2025-01-20", "Mon"), ("2025-05-26", "Mon")])
     checks.that("states of submissions", audit.rows("company, ref, kind, state, cut_on, file, batch, returned", "audit_submissions"), [
-        ("BAKE01", "PAY-1", "submission", "sent", "2025-01-08", "A", 1, 0), ("BAKE01", "DUES-1", "submission", "sent", "2025-01-09", "A", 1, 1),
+        ("BAKE01", "PAY-1", "submission", "sent", "2025-01-08", "A", 1, 1), ("BAKE01", "DUES-1", "submission", "sent", "2025-01-09", "A", 1, 1),
         ("BAKE01", "PAY-4", "submission", "sent", "2025-01-17", "A", 1, 1), ("BAKE01", "RT-1", "retry", "lapsed", None, None, None, 0),
         ("MILL01", "PAY-1", "submission", "sent", "2025-01-08", "A", 2, 0), ("MILL01", "PAY-2", "submission", "sent", "2025-01-09", "A", 2, 1),
-        ("MILL01", "RT-1", "retry", "sent", "2025-01-15", "A", 1, 0), ("MILL01", "PAY-3", "submission", "sent", "2025-01-16", "A", 1, 1)])
-    checks.that("suspense by days", audit.rows("day, lines, amount, balance", "audit_daily_sums", "account = 'suspense'"), [("2025-01-14", 2, "-50.00", "-50.00")])
+        ("MILL01", "RT-1", "retry", "sent", "2025-01-15", "A", 1, 0), ("MILL01", "PAY-3", "submission", "sent", "2025-01-16", "A", 1, 2)])
+    checks.that("suspense by days", audit.rows("day, lines, amount, balance", "audit_daily_sums", "account = 'suspense'"), [("2025-01-14", 2, "-50.00", "-50.00"), ("2025-01-24", 1, "0.40", "-49.60")])
+    checks.that("whether unmatched items are debits or credits", audit.rows("direction, cents, why", "audit_unmatched"), UNMATCHED)
+    checks.that("deadlines of returns", audit.rows("company, ref, code, settled, deadline, taken, late", "audit_returns"), RETURNED)
+    checks.that("a correction next to what was sent",
+                audit.rows("company, ref, entry, code, old_routing, old_account, old_kind, trim(text)", "audit_changes"),
+                [("BAKE01", "PAY-1", 2, "C01", "091000019", "123456789", "savings", "987654321")])
     checks.that("taken files", audit.rows("taken, returns, late, changes, suspense", "audit_taken"),
-                [("2025-01-14", 2, 0, 0, 2), ("2025-01-14", 0, 0, 1, 0), ("2025-01-17", 1, 0, 0, 0), ("2025-01-23", 1, 1, 0, 0)])
+                [("2025-01-14", 2, 0, 0, 2), ("2025-01-14", 0, 0, 1, 0), ("2025-01-17", 1, 0, 0, 0), ("2025-01-23", 1, 1, 0, 0),
+                 ("2025-01-24", 2, 0, 0, 0), ("2025-01-24", 0, 0, 0, 1), ("2025-01-24", 0, 0, 0, 1)])
     audit.close()
 
 
