@@ -1,135 +1,207 @@
-"""Runs the commands of the pages as they are printed: `python3 judge/pages.py [PROGRAM]`, the built program if it is left out.
+#!/usr/bin/env python3
+"""Runs the commands of the pages as printed: `python3 judge/pages.py [PROGRAM [PAGE ..]]`, the built program by default.
 
-In README.md and docs/ each `console` block is run line by line, and what it prints is compared with what the page shows,
-where the page shows something; of each `sh` block it is asked that it ends well. `serve` goes on beside what follows. A
-page is read from its top, in a folder of its own: `achdesk` is the program that is judged, `systemctl` starts and stops
-it, and what the pages put under /var and /tmp lies in that folder. What is not run is told, with the reason. The last
-line counts the checks; the status is 1 where one failed. It needs curl, ss and sqlite3, and port 8080.
+In README.md and in docs/operate, docs/integrate and docs/audit each `console` block is run line by line, and its output
+has to be what the page shows, if the page shows any; a line `..` stands for any lines. Each `sh` block is run as one
+script and has to succeed, and each `sql` block by stock SQLite with the views of docs/audit.sql. A page is read from the top, in a folder of its own; a second word after `console` or `sh` names another folder, so that a page can
+show two ways of doing the same. Paths under /etc, /var, /usr/share and /tmp lie in that folder, `sudo` and `runuser` are
+dropped, `systemctl` starts and stops the desk, and the desk's address is that of the desk that is served there. Nothing
+else is replaced. NOT_RUN lists the commands that are not run, each with the reason and the test that covers it; a command
+of the list that no page has fails. The last line counts the checks; the exit status is 1 if one failed. It needs curl, ss,
+openssl and sqlite3.
 """
 
+import os
 import re
 import subprocess
 import sys
 import tempfile
 import time
+from dataclasses import dataclass
 from pathlib import Path
 
 from helpers.first_version import write_version_1
-from helpers.running import HOST, TOP, Checks, Serving, make_desk, program_of
+from helpers.page_rooms import PREPARED, prepare
+from helpers.running import TOP, Checks, Serving, free_port, program_of
 
-PAGES = ("README.md", "docs/USING.md", "docs/OPERATING.md", "docs/TABLES.md")
-LEFT_OUT = {"rt ci": "the gate", "./try": "it compiles the program anew", "sudo": "another user"}
-ELSEWHERE = re.compile(r"(?<![\w.])/(var/lib|var/backups|tmp)/")
+PAGES = ("README.md", *sorted(str(it.relative_to(TOP)) for folder in ("operate", "integrate", "audit")
+                              for it in (TOP / "docs" / folder).glob("*.md")))
+
+# The start of a command, why it is not run, and what tests it.
+NOT_RUN = (
+    ("rt ci", "it is the gate", "it is the gate"),
+    (".ci/run", "it is the gate", "it is the gate"),
+    ("./try", "it compiles the program again", "the gate compiles it; its output is compared by hand"),
+    ("python3 judge/run.py", "it runs this script", "it is itself a test"),
+    ("make deb", "it needs the program in its tree", "judge/deploy.py"),
+    ("sudo apt install", "it installs a package", "judge/deploy.py, with dpkg --root"),
+    ("sudo install -m 600 new-cert.pem", "it needs a certificate", "judge/deploy.py, with a certificate of its own"),
+    ("sudo install -m 600 new-key.pem", "it needs a certificate", "judge/deploy.py, with a certificate of its own"),
+    ("sudo nginx -t", "it needs nginx as root", "judge/deploy.py runs nginx with deploy/nginx.conf"),
+    ("rm -f /etc/nginx", "it needs nginx as root", "judge/deploy.py runs nginx with deploy/nginx.conf"),
+    ("read -rs key", "it reads from a terminal", "the room of this script has the file that it writes"),
+)
+MOVED = re.compile(r"(?<![\w./])/(etc|var|tmp|usr/share)/")
+WAIT = 0.1
+
+
+@dataclass
+class Block:
+    number: int
+    kind: str
+    room: str
+    lines: list
 
 
 def blocks(page):
-    """The console and sh blocks of a page: their lines' first number, their kind, and their lines."""
-    kind, found = None, []
+    """Returns the console, sh and sql blocks of a page."""
+    block, found = None, []
     for number, line in enumerate((TOP / page).read_text().split("\n"), 1):
-        if kind is None and line.startswith("```"):
-            kind, start, lines = line[3:].split(" ")[0], number, []
+        if block is None and line.startswith("```"):
+            kind, _, room = line[3:].partition(" ")
+            block = Block(number, kind, room, [])
         elif line.startswith("```"):
-            if kind in ("console", "sh"):
-                found.append((start, kind, lines))
-            kind = None
-        elif kind is not None:
-            lines.append(line)
+            found += [block] if block.kind in ("console", "sh", "sql") else []
+            block = None
+        elif block is not None:
+            block.lines.append(line)
     return found
 
 
-def commands(kind, lines):
-    """The commands of a block, each with what the page shows of its output, or None where it shows nothing."""
-    if kind == "sh":
-        return [(re.sub(r"\s+# .*", "", it), None) for it in lines if it and not it.startswith("#")]
-    found = []
-    for line in lines:
-        if line.startswith("$ "):
-            found.append((line[2:], []))
+def commands(block):
+    """Returns the commands of a block, each with the output that the page shows, or None if it shows none."""
+    if block.kind == "sh":
+        return [("\n".join(block.lines), None)]
+    if block.kind == "sql":
+        return [("sqlite3 -readonly -init docs/audit.sql copy/bank.db <<'END'\n" + "\n".join([*block.lines, "END"]), None)]
+    found, is_open = [], False
+    for line in block.lines:
+        if is_open:
+            found[-1][0] += "\n" + line
+        elif line.startswith("$ "):
+            found.append([line[2:], []])
         else:
             found[-1][1].append(line)
-    return [(it, "\n".join(shown) if shown else None) for it, shown in found]
+        is_open = (is_open or line.startswith("$ ")) and line.endswith("\\")
+    return [(command, "\n".join(shown) if shown else None) for command, shown in found]
 
 
 class Room:
-    """The folder in which a page's commands are run, and the desk that is served there."""
+    """The folder in which commands of a page are run, and the desk that is served there."""
 
     def __init__(self, folder, program):
-        self.folder, self.program, self.served = Path(folder), program, None
-        for name in ("bin", "var/lib/achdesk", "var/backups/achdesk", "tmp/copy"):
+        self.folder, self.program, self.served, self.port = Path(folder), program, None, free_port()
+        for name in ("bin", "var/lib/achdesk", "var/lib/achdesk-day", "var/backups", "tmp", "etc/achdesk/keys", "usr/share"):
             (self.folder / name).mkdir(parents=True)
-        for name in ("examples", "docs", "judge"):
+        for name in ("examples", "docs", "judge", "clients", "deploy", "console"):
             (self.folder / name).symlink_to(TOP / name)
         for place in ("achdesk", "bin/achdesk"):
             (self.folder / place).symlink_to(program)
-        make_desk(program, self.folder / "var/lib/achdesk/bank.db")
+        self.database = self.folder / "var/lib/achdesk/bank.db"
 
-    def prepare(self, command):
-        """Puts in place what the sentence before a command says is there."""
-        if command.startswith("achdesk migrate"):
-            self.stop()
-            for end in ("", "-wal"):
-                (self.folder / f"bank.db{end}").unlink()
-            write_version_1(self.folder / "var/lib/achdesk/bank.db", self.folder / "bank.db")
-        elif command.startswith("cp bank.db") and not (self.folder / "bank.db").exists():
-            self.shell("cp -p var/lib/achdesk/bank.db* .")
-        elif "/tmp/copy/bank.db" in command and not command.startswith("cp"):
-            self.shell("cp -p var/lib/achdesk/bank.db* tmp/copy/")
+    @property
+    def address(self):
+        return f"http://127.0.0.1:{self.port}"
 
     def run(self, command):
-        """What a command prints, and its status."""
-        words = command.split()
-        if words[0] == "systemctl":
-            return self.stop() if words[1] == "stop" else self.serve("var/lib/achdesk/bank.db", 8080)
+        """Returns the output of a command and its status."""
+        words = command.removeprefix("sudo ").split()
+        if words[:1] == ["systemctl"] and "achdesk" in words:
+            return self.stop() if words[1] == "stop" else self.serve(self.database, self.port)
         if len(words) > 2 and words[0].endswith("achdesk") and words[1] == "serve":
-            return self.serve(words[2], int(words[3]))
-        return self.shell(ELSEWHERE.sub(lambda it: f"{self.folder}/{it[1]}/", command))
+            return self.serve(self.folder / words[2], int(words[3]))
+        self.put_operator_key()
+        if words[:2] == ["achdesk", "migrate"]:
+            self.put_version_1(self.folder / self.moved(words[2]))
+        return self.shell(command)
+
+    def put_operator_key(self):
+        """Writes the header file that a person would write with a key that a page has just made."""
+        header, made = self.folder / "operator.key", self.folder / "etc/achdesk/keys/desk.map"
+        if not header.exists() and made.exists() and (found := re.search(r'"~\^operator\$" "(\w+)"', made.read_text())):
+            header.write_text(f"X-Desk-Key: {found[1]}\n")
+
+    def put_version_1(self, path):
+        """Replaces a desk's file by one of version 1 with the same rows."""
+        self.stop()
+        old = path.with_name("version-2.db")
+        for end in ("", "-wal"):
+            Path(f"{path}{end}").rename(f"{old}{end}")
+        write_version_1(old, path)
+
+    def moved(self, command):
+        command = re.sub(r"\b(sudo|runuser -u achdesk --) ", "", command)
+        command = command.replace("https://desk.bank.example", self.address).replace("http://127.0.0.1:880/", f"{self.address}/")
+        return MOVED.sub(lambda it: f"{self.folder}/{it[1]}/", command)
 
     def shell(self, command):
-        path = {"PATH": f"{self.folder}/bin:/usr/local/bin:/usr/bin:/bin:/usr/sbin:/sbin", "HOME": str(self.folder)}
-        done = subprocess.run(["sh", "-c", command], cwd=self.folder, env=path, stdin=subprocess.DEVNULL,
-                              stdout=subprocess.PIPE, stderr=subprocess.PIPE, timeout=60)
-        return done.stdout.decode(errors="replace"), done.returncode
+        path = {"PATH": f"{self.folder}/bin:/usr/local/bin:/usr/bin:/bin:/usr/sbin:/sbin", "HOME": str(self.folder), "LANG": "C.UTF-8"}
+        done = subprocess.run(["sh", "-ec", self.moved(command)], cwd=self.folder, env=path, stdin=subprocess.DEVNULL,
+                              stdout=subprocess.PIPE, stderr=subprocess.STDOUT, timeout=120)
+        said = done.stdout.decode(errors="replace").replace(self.address, "https://desk.bank.example")
+        return said.replace(f"{self.folder}/", "/"), done.returncode
 
     def serve(self, path, port):
         self.stop()
-        self.served = Serving(self.program, self.folder / path, port=port)
+        self.served = Serving(self.program, path, port=port)
         return self.served.wait_for_line().decode(), 0 if self.served.line else 1
 
     def stop(self):
         if self.served is not None:
             self.served.stop()
             self.served = None
-            time.sleep(0.1)
+            time.sleep(WAIT)
         return "", 0
 
 
 def same(said, shown):
-    """Whether what was printed is what a page shows, which ends lines as a page does."""
-    return said.replace("\r\n", "\n").rstrip("\n") == shown.rstrip("\n")
+    """Compares an output with what a page shows. A line `..` of the page stands for any lines."""
+    said = said.replace("\r\n", "\n").rstrip("\n")
+    pattern = "".join("(?s:.*?)" if line == ".." else re.escape(line) + "\n" for line in shown.rstrip("\n").split("\n"))
+    return re.fullmatch(pattern, said + "\n") is not None
 
 
-def judge(page, room, checks):
-    for start, kind, lines in blocks(page):
-        for command, shown in commands(kind, lines):
-            why = next((LEFT_OUT[it] for it in LEFT_OUT if command.startswith(it)), None)
-            if why is not None:
-                print(f"{page}:{start}: not run: {command.split(' < ')[0]} ({why})")
+def reason(command):
+    return next((it for it in NOT_RUN if command.startswith(it[0])), None)
+
+
+def judge(page, rooms, checks, used):
+    for block in blocks(page):
+        for command, shown in commands(block):
+            if (why := reason(command)) is not None:
+                used.add(why)
+                print(f"{page}:{block.number}: not run: {command.splitlines()[0][:60]} ({why[1]}; tested by {why[2]})")
                 continue
-            room.prepare(command)
-            said, status = room.run(command)
-            checks.that(f"{page}:{start}: {command[:60]}", (status in (0, 1) if shown else status == 0, shown is None or same(said, shown) or said),
-                        (True, True))
+            said, status = rooms(block.room).run(command)
+            is_right = status in (0, 1) and same(said, shown) if shown else status == 0
+            checks.that(f"{page}:{block.number}: {command.splitlines()[0][:70]}", is_right or (status, said), True)
+
+
+def judge_page(page, program, checks, used):
+    with tempfile.TemporaryDirectory(prefix="pages-") as folder:
+        found = {}
+
+        def rooms(name):
+            if name not in found:
+                found[name] = Room(Path(folder) / (name or "room"), program)
+                prepare(found[name], PREPARED.get(page, ()))
+            return found[name]
+
+        try:
+            judge(page, rooms, checks, used)
+        finally:
+            for room in found.values():
+                room.stop()
 
 
 def main():
-    program, checks = program_of(sys.argv[1:]), Checks()
-    for page in PAGES:
-        with tempfile.TemporaryDirectory(prefix="pages-") as folder:
-            room = Room(folder, program)
-            try:
-                judge(page, room, checks)
-            finally:
-                room.stop()
+    os.environ.pop("ACHDESK_KEY", None)
+    program, checks, used = program_of(sys.argv[1:2]), Checks(), set()
+    pages = sys.argv[2:] or PAGES
+    for page in pages:
+        judge_page(page, program, checks, used)
+    if not sys.argv[2:]:
+        checks.that("each command of NOT_RUN is on a page", [it[0] for it in NOT_RUN if it not in used], [])
     checks.end()
 
 
