@@ -14,14 +14,14 @@ RENT = ('{"ref":"PAY-3","sec":"PPD","direction":"credit","description":"PAYROLL"
 # The steps of each page's rooms, in order.
 PREPARED = {
     "docs/operate/install.md": ("folders",),
-    "docs/operate/day.md": ("desk", "company", "two cuts", "held", "inbox", "serve", "keys"),
+    "docs/operate/day.md": ("desk", "company", "two cuts", "held", "inbox", "serve", "keys", "day program"),
     "docs/operate/companies.md": ("desk", "company", "two cuts", "returned", "serve", "keys"),
     "docs/operate/keys.md": ("folders",),
-    "docs/operate/backup.md": ("desk", "company", "two cuts", "serve", "keys"),
-    "docs/operate/monitoring.md": ("desk", "company", "two cuts", "held", "serve", "keys"),
+    "docs/operate/backup.md": ("desk", "company", "two cuts", "held", "serve", "keys", "day program"),
+    "docs/operate/monitoring.md": ("desk", "company", "two cuts", "held", "serve", "keys", "day program"),
     "docs/operate/capacity.md": ("desk", "serve", "keys"),
     "docs/operate/upgrades.md": ("desk", "company", "two cuts"),
-    "docs/operate/troubleshooting.md": ("desk", "company", "two cuts", "held", "serve", "keys"),
+    "docs/operate/troubleshooting.md": ("desk", "company", "two cuts", "held", "serve", "keys", "day program"),
     "docs/operate/returns-files.md": (),
     "docs/integrate/quickstart.md": ("desk", "company", "day", "serve", "keys"),
     "docs/audit/views.md": ("desk", "company", "two cuts", "returned", "copied"),
@@ -64,13 +64,55 @@ def ask(room, messages):
 
 def make_inbox(room):
     """Three files in the inbox: one with a return, one with a return of a stranger, and one that was spoiled."""
-    inbox = room.folder / "inbox"
+    inbox = room.folder / "var/lib/achdesk-day/inbox"
     inbox.mkdir()
     shutil.copy(EXAMPLES / "return-1.ach", inbox / "r-0114a.ach")
     stranger = {"debit": True, "savings": False, "account": "5550017", "cents": 4900, "ident": "E9", "name": "CAL DOE",
                 "code": "R03", "trace": "121042880000009", "dfi": "09100001"}
     (inbox / "r-0114b.ach").write_text(file_of_returns(7, "PPD", [stranger]))
     shutil.copy(EXAMPLES / "spoiled.ach", inbox / "r-0114c.ach")
+
+
+DAY_PROGRAM = """#!/bin/sh
+# The time is the page's, and the configuration names the room's folders.
+ACHDESK_DAY_NOW=${{ACHDESK_DAY_NOW-2025-01-14T08:30:00-05:00}}
+export ACHDESK_DAY_NOW
+command=$1
+shift
+exec python3 {top}/deploy/achdesk-day "$command" --config {room}/etc/achdesk/day.conf "$@"
+"""
+SFTP = """#!/bin/sh
+# OpenSSH's client and server, connected by a pipe in place of SSH.
+exec /usr/bin/sftp -b - -D "/usr/lib/openssh/sftp-server -d {room}/ach-operator"
+"""
+DAY_CONF = """[desk]
+url = {address}
+key_file = {room}/operator.key
+[folders]
+state = {room}/var/lib/achdesk-day
+backups = {room}/var/backups
+[sftp]
+host = sftp.ach-operator.example
+user = ourbank
+[files]
+desk = {room}/var/lib/achdesk/bank.db
+program = {room}/bin/achdesk
+proxy_logs = {room}/var/log/achdesk/proxy.log*
+"""
+
+
+def put_day_program(room):
+    """Installs `achdesk-day` in the folder. The file of 2025-01-09 is transmitted; the page's time is 2025-01-14."""
+    names = {"top": TOP, "room": room.folder, "address": room.address}
+    (room.folder / "ach-operator").mkdir()
+    (room.folder / "etc/achdesk/day.conf").write_text(DAY_CONF.format(**names))
+    for name, text in (("achdesk-day", DAY_PROGRAM), ("sftp", SFTP)):
+        (room.folder / "bin" / name).write_text(text.format(**names))
+        (room.folder / "bin" / name).chmod(0o755)
+    for command in ("achdesk-day begin 2025-01-09", "achdesk-day send"):
+        said, status = room.shell(f"ACHDESK_DAY_NOW=2025-01-09T15:00:00-05:00 {command}")
+        if status != 0:
+            raise RuntimeError(f"{command}: {said}")
 
 
 def put_keys(room):
@@ -96,6 +138,7 @@ OTHERS = {
     "serve": lambda room: room.serve(room.database, room.port),
     "keys": put_keys,
     "inbox": make_inbox,
+    "day program": put_day_program,
     "copied": copy_desk,
     "folders": make_folders,
 }
