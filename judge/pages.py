@@ -105,7 +105,7 @@ class Room:
 
     def run(self, command):
         """Returns the output of a command and its status."""
-        words = command.removeprefix("sudo ").split()
+        words = command.removeprefix("sudo ").split() if "\n" not in command else []
         if words[:1] == ["systemctl"] and "achdesk" in words:
             return self.stop() if words[1] == "stop" else self.serve(self.database, self.port)
         if len(words) > 2 and words[0].endswith("achdesk") and words[1] == "serve":

@@ -15,7 +15,7 @@ RENT = ('{"ref":"PAY-3","sec":"PPD","direction":"credit","description":"PAYROLL"
 PREPARED = {
     "docs/operate/install.md": ("folders",),
     "docs/operate/day.md": ("desk", "company", "two cuts", "held", "inbox", "serve", "keys", "day program"),
-    "docs/operate/companies.md": ("desk", "company", "two cuts", "returned", "serve", "keys"),
+    "docs/operate/companies.md": ("desk", "company", "two cuts", "returned", "serve", "keys", "folders", "backup"),
     "docs/operate/keys.md": ("folders",),
     "docs/operate/backup.md": ("desk", "company", "two cuts", "held", "serve", "keys", "day program"),
     "docs/operate/monitoring.md": ("desk", "company", "two cuts", "held", "serve", "keys", "day program"),
@@ -76,7 +76,7 @@ def make_inbox(room):
 DAY_PROGRAM = """#!/bin/sh
 # The time is the page's, and the configuration names the room's folders.
 ACHDESK_DAY_NOW=${{ACHDESK_DAY_NOW-2025-01-14T08:30:00-05:00}}
-export ACHDESK_DAY_NOW
+export ACHDESK_DAY_NOW SUDO_USER=alice
 command=$1
 shift
 exec python3 {top}/deploy/achdesk-day "$command" --config {room}/etc/achdesk/day.conf "$@"
@@ -109,7 +109,9 @@ def put_day_program(room):
     for name, text in (("achdesk-day", DAY_PROGRAM), ("sftp", SFTP)):
         (room.folder / "bin" / name).write_text(text.format(**names))
         (room.folder / "bin" / name).chmod(0o755)
-    for command in ("achdesk-day begin 2025-01-09", "achdesk-day send"):
+    acknowledgement = room.folder / "tmp/ack.csv"
+    acknowledgement.write_text("file,batches,entries,debits,credits\n2025-01-09-A,1,1,2500,0\n")
+    for command in ("achdesk-day begin 2025-01-09", "achdesk-day send", "achdesk-day ack tmp/ack.csv"):
         said, status = room.shell(f"ACHDESK_DAY_NOW=2025-01-09T15:00:00-05:00 {command}")
         if status != 0:
             raise RuntimeError(f"{command}: {said}")
@@ -128,6 +130,14 @@ def copy_desk(room):
         shutil.copy(f"{room.database}{end}", room.folder / f"bank.db{end}")
 
 
+def make_backup(room):
+    """A folder like those that `achdesk-day backup` makes."""
+    backup = room.folder / "var/backups/2025-01-14T133000Z"
+    backup.mkdir()
+    for end in ("", "-wal"):
+        shutil.copy(f"{room.database}{end}", backup / f"bank.db{end}")
+
+
 def make_folders(room):
     for name in ("desk.map", "people.map", "companies.map"):
         (room.folder / "etc/achdesk/keys" / name).touch(mode=0o600)
@@ -140,5 +150,6 @@ OTHERS = {
     "inbox": make_inbox,
     "day program": put_day_program,
     "copied": copy_desk,
+    "backup": make_backup,
     "folders": make_folders,
 }
