@@ -3,7 +3,8 @@
 
 In README.md and in docs/operate, docs/integrate and docs/audit each `console` block is run line by line, and its output
 has to be what the page shows, if the page shows any; a line `..` stands for any lines. Each `sh` block is run as one
-script and has to succeed, and each `sql` block by stock SQLite with the views of docs/audit.sql. A page is read from the top, in a folder of its own; a second word after `console` or `sh` names another folder, so that a page can
+script and has to succeed; variables that it exports stay. So does each `python` block, and each `sql` block by stock SQLite
+with the views of docs/audit.sql. A page is read from the top, in a folder of its own; a second word after `console` or `sh` names another folder, so that a page can
 show two ways of doing the same. Paths under /etc, /var, /usr/share and /tmp lie in that folder, `sudo` and `runuser` are
 dropped, `systemctl` starts and stops the desk, and the desk's address is that of the desk that is served there. Nothing
 else is replaced. NOT_RUN lists the commands that are not run, each with the reason and the test that covers it; a command
@@ -54,14 +55,14 @@ class Block:
 
 
 def blocks(page):
-    """Returns the console, sh and sql blocks of a page."""
+    """Returns the console, sh, python and sql blocks of a page."""
     block, found = None, []
     for number, line in enumerate((TOP / page).read_text().split("\n"), 1):
         if block is None and line.startswith("```"):
             kind, _, room = line[3:].partition(" ")
             block = Block(number, kind, room, [])
         elif line.startswith("```"):
-            found += [block] if block.kind in ("console", "sh", "sql") else []
+            found += [block] if block.kind in ("console", "sh", "python", "sql") else []
             block = None
         elif block is not None:
             block.lines.append(line)
@@ -72,6 +73,8 @@ def commands(block):
     """Returns the commands of a block, each with the output that the page shows, or None if it shows none."""
     if block.kind == "sh":
         return [("\n".join(block.lines), None)]
+    if block.kind == "python":
+        return [("python3 - <<'END'\n" + "\n".join([*block.lines, "END"]), None)]
     if block.kind == "sql":
         return [("sqlite3 -readonly -init docs/audit.sql copy/bank.db <<'END'\n" + "\n".join([*block.lines, "END"]), None)]
     found, is_open = [], False
@@ -91,6 +94,7 @@ class Room:
 
     def __init__(self, folder, program):
         self.folder, self.program, self.served, self.port = Path(folder), program, None, free_port()
+        self.exports = []
         for name in ("bin", "var/lib/achdesk", "var/lib/achdesk-day", "var/backups", "tmp", "etc/achdesk/keys", "usr/share"):
             (self.folder / name).mkdir(parents=True)
         for name in ("examples", "docs", "judge", "clients", "deploy", "console"):
@@ -135,8 +139,11 @@ class Room:
         return MOVED.sub(lambda it: f"{self.folder}/{it[1]}/", command)
 
     def shell(self, command):
-        path = {"PATH": f"{self.folder}/bin:/usr/local/bin:/usr/bin:/bin:/usr/sbin:/sbin", "HOME": str(self.folder), "LANG": "C.UTF-8"}
-        done = subprocess.run(["sh", "-ec", self.moved(command)], cwd=self.folder, env=path, stdin=subprocess.DEVNULL,
+        path = {"PATH": f"{self.folder}/bin:/usr/local/bin:/usr/bin:/bin:/usr/sbin:/sbin", "HOME": str(self.folder), "LANG": "C.UTF-8",
+                "PYTHONPATH": str(TOP / "clients/python")}
+        words = "\n".join([*self.exports, self.moved(command)])
+        self.exports += [line for line in self.moved(command).split("\n") if line.startswith("export ")]
+        done = subprocess.run(["sh", "-ec", words], cwd=self.folder, env=path, stdin=subprocess.DEVNULL,
                               stdout=subprocess.PIPE, stderr=subprocess.STDOUT, timeout=120)
         said = done.stdout.decode(errors="replace").replace(self.address, "https://desk.bank.example")
         return said.replace(f"{self.folder}/", "/"), done.returncode

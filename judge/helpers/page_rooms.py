@@ -20,8 +20,8 @@ PREPARED = {
     "docs/operate/backup.md": ("desk", "company", "two cuts", "held", "serve", "keys", "day program"),
     "docs/operate/monitoring.md": ("desk", "company", "two cuts", "held", "serve", "keys", "day program"),
     "docs/operate/capacity.md": ("desk", "serve", "keys"),
-    "docs/operate/upgrades.md": ("desk", "company", "two cuts"),
-    "docs/operate/troubleshooting.md": ("desk", "company", "two cuts", "held", "serve", "keys", "day program"),
+    "docs/operate/upgrades.md": ("desk", "company", "two cuts", "serve"),
+    "docs/operate/troubleshooting.md": ("desk", "company", "two cuts", "held", "today", "serve", "keys", "day program"),
     "docs/operate/returns-files.md": (),
     "docs/integrate/quickstart.md": ("desk", "company", "day", "serve", "keys"),
     "docs/audit/views.md": ("desk", "company", "two cuts", "returned", "copied"),
@@ -44,6 +44,7 @@ STEPS = {
     "two cuts": [set_day("2025-01-08"), submitted((EXAMPLES / "pay-1.json").read_text()), CUT,
                  submitted((EXAMPLES / "pay-2.json").read_text()), set_day("2025-01-09"), CUT],
     "held": [submitted(RENT)],
+    "today": [set_day("2025-01-14")],
     "returned": [set_day("2025-01-14"), message("POST /ops/returns", (EXAMPLES / "return-1.ach").read_bytes())],
 }
 
@@ -115,6 +116,8 @@ def put_day_program(room):
         said, status = room.shell(f"ACHDESK_DAY_NOW=2025-01-09T15:00:00-05:00 {command}")
         if status != 0:
             raise RuntimeError(f"{command}: {said}")
+    for taken in (room.folder / "ach-operator").iterdir():
+        taken.unlink()
 
 
 def put_keys(room):
@@ -122,6 +125,9 @@ def put_keys(room):
         path = room.folder / f"{name}.key"
         path.write_text(f"X-Desk-Key: {key}\n")
         path.chmod(0o600)
+    (room.folder / ".achdesk-key").write_text(f"{MILL_KEY}\n")
+    (room.folder / ".achdesk-key").chmod(0o600)
+    (room.folder / "bin/achdesk-company").symlink_to(TOP / "clients/achdesk-company")
 
 
 def copy_desk(room):
