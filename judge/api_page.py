@@ -17,8 +17,8 @@ TOP = Path(__file__).resolve().parents[1]
 SOURCE = TOP / "docs" / "openapi.yaml"
 PAGE = TOP / "docs" / "integrate" / "api.md"
 METHODS = ("get", "post")
-# No operation has an answer with these two statuses of its own.
-STATUS_OF_ALL = {"NotFound": 404, "BadMethod": 405}
+# An answer that no operation of the description has, since each path has one method.
+BAD_METHOD = ("`BadMethod`", "405", "The path takes another method.")
 # The words of the blocks that crates/documented_examples runs, by operation.
 RUN_AS = {"submit": "json submission", "retry": "json retry", "setDay": "json day", "registerCompany": "json company",
           "setLimits": "json limits"}
@@ -76,7 +76,7 @@ class Operation:
 
     def examples(self):
         for status, kind, content in self.answers():
-            for name, it in content["examples"].items():
+            for name, it in content.get("examples", {}).items():
                 yield status, kind, name, it
 
     def sent(self, asks):
@@ -278,28 +278,22 @@ def refusal_table(source):
 
 
 def fault_table(source):
-    shared, status_of = source.components["responses"], dict(STATUS_OF_ALL)
-    rows = []
+    """Returns a row for each fault of a message, by status."""
+    rows = {"BadMethod": BAD_METHOD}
     for it in source.operations():
         for status, answer in it.tree["responses"].items():
-            if "$ref" in answer:
-                status_of.setdefault(answer["$ref"].rpartition("/")[2], int(status))
-    for name, answer in shared.items():
-        if name in status_of:
-            rows += causes_of(name, status_of[name], answer["description"])
-    for it in source.operations():
-        for status, answer in it.tree["responses"].items():
-            if status == "404":
-                example = next(iter(answer["content"]["application/json"]["examples"].values()))
-                rows.append((f"`{example['value']['error']}`", status, cell(answer["description"])))
-    return table(("Name", "HTTP status", "Cause"), list(dict.fromkeys(rows)))
+            name, description = answer.get("$ref", "").rpartition("/")[2], source.at(answer)["description"]
+            if status == "404" and not name:
+                name = next(iter(answer["content"]["application/json"]["examples"].values()))["value"]["error"]
+            for fault, cause in causes_of(name, description) if name else ():
+                rows.setdefault(fault, (f"`{fault}`", status, cell(cause)))
+    return table(("Name", "HTTP status", "Cause"), sorted(rows.values(), key=lambda row: row[1]))
 
 
-def causes_of(name, status, description):
-    """The faults that a shared answer has: one by its own name, or those that its description names."""
+def causes_of(name, description):
+    """Returns the faults that an answer has, each with its cause: one by its own name, or those that it names."""
     parts = re.findall(r"^`(\w+)`: (.+?)(?=\n\n|\Z)", description.strip(), re.M | re.S)
-    for fault, cause in parts or [(name, description)]:
-        yield f"`{fault}`", str(status), cell(cause)
+    return [(fault, cause[0].upper() + cause[1:]) for fault, cause in parts] or [(name, description)]
 
 
 def fault_sections(source):
@@ -311,30 +305,21 @@ def fault_sections(source):
                 rows.append((f"`{name}`", field, kind, what if "|" not in what else f"See [faults of a returns file](#faults-of-a-returns-file)."))
     lines += table(("Refusal", "Field", "Type", "Description"), rows)
     lines += refusal_table(source)
-    lines += ["## Faults of a message", "", "A message that the desk cannot read or route is answered with `error` alone. Faults are checked before refusals, in the order in which [the first section](#conventions) lists them.", ""]
+    lines += ["## Faults of a message", "", "A message that the desk cannot read or route is answered with `error` alone. Faults are checked before refusals, in the order of [the first section](#conventions). `TooManyRequests`, `BadGateway` and `GatewayTimeout` come from a proxy alone.", ""]
     lines += fault_table(source)
     fault = source.components["schemas"]["BadFile"]["properties"]["fault"]["description"]
     lines += ["## Faults of a returns file", "", "[Returns files](../operate/returns-files.md) has an example of each.", "", fault.strip(), ""]
     return lines
 
 
-def proxy_section(source):
-    """Answers that a proxy may give, if the description lists them."""
-    rows = []
-    for name, answer in source.components["responses"].items():
-        if "x-proxy-status" in answer:
-            rows.append((str(answer["x-proxy-status"]), cell(answer["description"])))
-    return ["## Answers of a proxy", "", *table(("Status", "Meaning"), rows)] if rows else []
-
-
 def page(source):
     lines = [*HEAD.split("\n"), "## Conventions", "", paragraphs(source.tree["info"]["description"]), ""]
-    for tag in source.tree["tags"]:
-        lines += [f"## {tag['name'].capitalize()}: calls", "", paragraphs(tag["description"]), ""]
+    for tag in sorted(source.tree["tags"], key=lambda it: it["name"]):
+        lines += [f"## Calls: {tag['name']}", "", paragraphs(tag["description"]), ""]
         for it in source.operations():
             if tag["name"] in it.tree["tags"]:
                 lines += operation_section(source, it)
-    lines += fault_sections(source) + proxy_section(source)
+    lines += fault_sections(source)
     return re.sub(r"\n{3,}", "\n\n", "\n".join(lines)).rstrip("\n") + "\n"
 
 
