@@ -1,4 +1,4 @@
-//! The library in use, as docs/USING.md shows it.
+//! The library in use, as docs/integrate/library.md shows it.
 use ach_fields::{FieldFault, Id, Routing};
 use desk_core::{Answer, Call, Desk, Identity, ListStore, Outcome, PartyName, StoreFault};
 use http_json::{company_draft, day_draft, read_object, submission_draft};

@@ -1,9 +1,8 @@
-//! The examples of the README, of docs/USING.md and of docs/BODIES.md, each made anew: what is put in is
-//! answered by the library, and what the page prints beneath it has to be that answer.
+//! Runs the examples of the pages: the library answers each input, and the page has to show that answer below it.
 //!
-//! The pages lie in data/, as they lie at the top of the repository. For each page a line is printed that
-//! says how many examples agree, and one before it for each that does not. A bank's days in messages are
-//! answered too, as `examples/bank_day` has them.
+//! Copies of the pages are in data/, with their paths in the repository. For each page the program prints a line with
+//! the number of examples that agree, and before it one for each that does not. The messages of
+//! `examples/bank_day` are answered too, and compared with its answers.
 #![tactic(auto)]
 
 mod bank_day;
@@ -16,7 +15,14 @@ mod refusals;
 
 use std::{fs, io};
 
-const PAGES: [&str; 3] = ["README.md", "docs/USING.md", "docs/BODIES.md"];
+const REFERENCE: &str = "docs/integrate/api.md";
+
+const PAGES: [&str; 4] = [
+    "README.md",
+    REFERENCE,
+    "docs/integrate/csv.md",
+    "docs/operate/returns-files.md",
+];
 
 fn main(rt: HostRuntime) -> io::Result<()> {
     for name in PAGES {
@@ -24,9 +30,9 @@ fn main(rt: HostRuntime) -> io::Result<()> {
         let agreed = page::compare(&rt, name, text.as_str())?;
         println!(rt; "{name}: {agreed} examples agree")?;
     }
-    let text = fs::read_to_string(&rt, "docs/BODIES.md")?;
+    let text = fs::read_to_string(&rt, REFERENCE)?;
     let rows = refusals::count_rows(rt.alloc(), text.as_str())?;
-    println!(rt; "docs/BODIES.md: {rows} refusals are listed")?;
+    println!(rt; "{REFERENCE}: {rows} refusals are listed")?;
     bank_day::compare(&rt)?;
     let pay = fs::read(&rt, "examples/pay-1.json")?;
     library::show(&rt, pay.as_slice())
