@@ -43,7 +43,8 @@ install: program
 	install -m 644 console/* $(SHARE)/achdesk/console
 	install -m 644 $(lists:%=deploy/keys/%.map) $(SHARE)/achdesk/keys
 	install -m 644 deploy/nftables.conf $(SHARE)/achdesk
-	install -m 644 deploy/README.md docs/*.md docs/*.sql docs/*.yaml docs/*.png $(SHARE)/doc/achdesk
+	install -m 644 deploy/README.md CHANGELOG.md docs/*.md docs/*.sql docs/*.yaml docs/*.png $(SHARE)/doc/achdesk
+	for folder in operate integrate audit; do install -D -m 644 -t $(SHARE)/doc/achdesk/$$folder docs/$$folder/*.md || exit 1; done
 	for name in $(configurations); do test -e $(ETC)/achdesk/$$name || install -m 644 deploy/$$name $(ETC)/achdesk || exit 1; done
 	for name in $(lists); do test -e $(ETC)/achdesk/keys/$$name.map || install -m 600 deploy/keys/$$name.map $(ETC)/achdesk/keys || exit 1; done
 	test -e $(ETC)/logrotate.d/achdesk || install -m 644 deploy/logrotate $(ETC)/logrotate.d/achdesk

@@ -1,7 +1,7 @@
 #!/usr/bin/env python3
 """Prints a manual page: `python3 deploy/manual.py NAME PROGRAM > NAME.1`.
 
-The page is made of what `PROGRAM --help` and `PROGRAM COMMAND --help` print, of the exit statuses in docs/ (the table whose
+The page is made of what `PROGRAM --help` and `PROGRAM COMMAND --help` print, of the exit statuses in docs/operate/ (the table whose
 first header is `Status`) and of the paths in deploy/README.md (the table whose first header is `Path`). The status is 1 if
 the program prints no help or a table is missing."""
 
@@ -11,7 +11,7 @@ import sys
 from pathlib import Path
 
 TOP = Path(__file__).resolve().parent.parent
-PAGES = sorted((TOP / "docs").glob("*.md"))
+PAGES = [TOP / "docs" / "operate" / "troubleshooting.md"]
 # `  --day DAY   The day`: what is explained, and the explanation, which may begin on the next line.
 ITEM = re.compile(r" {1,8}(\S.*?)(?: {2,}(\S.*))?")
 

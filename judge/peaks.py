@@ -7,7 +7,7 @@ more into one table as make a body of so many megabytes: lines of the company's 
 or the text of a file. Each of these files is served by a new process, which is asked for that body twice. Its peak is the most
 memory that was resident while it answered (VmHWM, which /proc/PID/clear_refs sets back), without what was resident before.
 
-The desk is started with the environment of the unit of systemd in docs/OPERATING.md: without it the C library may keep a list
+The desk is started with the environment of the unit deploy/achdesk.service: without it the C library may keep a list
 of up to 32 MB that the desk gave back. At the first answer the engine also takes the memory that it keeps for later queries, as
 copies of a text. The second answer shows what a GET takes each time.
 

@@ -165,7 +165,7 @@ def filled(steps, turn):
 
 
 def edited(data, edit):
-    """The file or list with a change, which is written as in docs/BODIES.md."""
+    """The file or list with a change, which is written as in docs/operate/returns-files.md."""
     if found := re.fullmatch(r"record (\d+) from (\d+) is (.+)", edit):
         return with_text(data, int(found[1]), int(found[2]), found[3].encode())
     if found := re.fullmatch(r"record (\d+) is left out", edit):
