@@ -199,7 +199,7 @@ def main():
     progress = progress_of(below, uses, cores)
     say(f"{len(below)} crates are proved and the program is built first, on {cores} cores; {time_text(progress.seconds_left(start))} if this machine "
         "is as fast as the one where that was measured")
-    say("./try answers in three minutes, with nothing proved, any command that needs no desk file")
+    say("./try runs any command that does not open a desk file sooner, with nothing proved")
     if progress.count():
         say(progress.kept())
     try:

@@ -55,6 +55,7 @@ JUDGES = (
     Judge("soak"),
     Judge("audit"),
     Judge("patience"),
+    Judge("numbers"),
     Judge("private_files"),
     Judge("statuses"),
     Judge("texts", takes_program=False),
