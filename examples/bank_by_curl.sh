@@ -39,9 +39,9 @@ serve() {
     desk=http://127.0.0.1:$port
 }
 
-# Who asks shows a key. All else is curl's.
-operator() { curl --silent --show-error --header 'X-Desk-Key: operator-key' "$@"; }
-mill() { curl --silent --show-error --header 'X-Desk-Key: mill-street-key' "$@"; }
+# The keys are in files, so that they appear in no list of processes.
+operator() { curl --silent --show-error --header "@$here/operator.key" "$@"; }
+mill() { curl --silent --show-error --header "@$here/mill.key" "$@"; }
 
 step "The bank makes its desk in a file:" \
     "$("$achdesk" init "$work/bank.db" --odfi 121042882 --odfi-name 'OUR BANK' \

@@ -101,6 +101,8 @@ class Room:
             (self.folder / name).symlink_to(TOP / name)
         for place in ("achdesk", "bin/achdesk"):
             (self.folder / place).symlink_to(program)
+        # On a terminal curl prints no progress when it prints a body.
+        (self.folder / ".curlrc").write_text("silent\nshow-error\n")
         self.database = self.folder / "var/lib/achdesk/bank.db"
 
     @property
