@@ -1,5 +1,5 @@
 //! An incoming file, read from its bytes.
-ghost use Rattle.std.specs.Prelude.{◌≡◌, ◌≢◌, IfOk};
+ghost use Rattle.std.specs.Prelude.{◌≡◌, ◌≢◌, IfOk, OnErr};
 ghost use Rattle.ach_files.specs.declared.fault.FileFault.TheVariants.{NoMemory};
 ghost use Rattle.desk_intake.specs.OverStores.{OfFile};
 
@@ -8,10 +8,11 @@ use desk_history::one_message;
 use desk_store::StoreFault;
 use std::alloc::Global;
 
-// Returns a fault of the bytes; lack of memory is not one.
+// Returns a fault of the bytes: every one except lack of memory.
 fn fault_of_bytes(fault: Fault) -> Result<Fault, StoreFault>
     ensures same { IfOk result (λ told. told ≡ fault) }
     ensures told { IfOk result (λ told. told.kind ≢ NoMemory) }
+    ensures memory { OnErr result (fault.kind ≡ NoMemory) }
 {
     match fault.kind {
         FileFault::NoMemory => Err(StoreFault::Unavailable),
