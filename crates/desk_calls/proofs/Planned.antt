@@ -46,7 +46,7 @@ may_take : (b : Book) (x : CutFacts) (rs : List (ℕ × ℕ)) (latest : List (Op
     → MayTake x latest may → may_send x.day (map sent_sequence b.sent) (map plan_of (cut_sendings (cut_facts b x.day))) ≡ may
 may_take b x rs latest may is taken settled takes =
     ap (λ (y : CutFacts). may_send x.day (map sent_sequence b.sent) (map plan_of (cut_sendings y))) (sym is)
-    ∙ takes (map sent_sequence b.sent) (record {
+    ∙ takes.take (map sent_sequence b.sent) (record {
       last = sym (ap (λ (y : CutFacts). y.last) is);
       settled = settled ∙ ap (λ (rs : List (ℕ × ℕ)). latest_of rs b)
           (taken ∙ ap (λ last. ranges last (map (λ y. y.entries) (map plan_of (cut_sendings x)))) (ap (λ (y : CutFacts). y.last) is));

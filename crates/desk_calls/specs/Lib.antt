@@ -1,6 +1,7 @@
 pub mod Alike
 pub mod Applying
 pub mod Cutting
+pub mod Faults
 pub mod OverStores
 pub mod Retrying
 pub mod Running

@@ -3,6 +3,7 @@ ghost use Rattle.std.specs.Prelude.{◌≡◌};
 ghost use Rattle.bank_days.specs.HolidayList.{holidays_in};
 ghost use Rattle.desk_history.specs.Message.{SetDay, SetHolidays, PutCompany, PutLimits};
 ghost use Rattle.desk_book.specs.OnOperator.{new_day};
+ghost use Rattle.desk_calls.specs.Faults.{list_refusal};
 ghost use Rattle.desk_calls.specs.OverStores.{Obeys};
 
 use bank_days::{Calendar, CalendarFault};
@@ -65,8 +66,17 @@ pub(crate) fn set_holidays<S: Store>(
             store.set_holidays(alloc, holidays)?;
             Ok(Answer::Done(Outcome::Holidays(count as u64)))
         }
-        Err(CalendarFault::NoMemory) => Err(StoreFault::Unavailable),
-        Err(fault) => Ok(Answer::Refused(CallRefusal::BadCalendar(fault))),
+        Err(fault) => list_refusal(fault),
+    }
+}
+
+// The answer to a holiday list that is refused. Want of memory is no answer, and all else is one.
+fn list_refusal(fault: CalendarFault) -> Result<Answer, StoreFault>
+    ensures { result ≡ list_refusal fault }
+{
+    match fault {
+        CalendarFault::NoMemory => Err(StoreFault::Unavailable),
+        _ => Ok(Answer::Refused(CallRefusal::BadCalendar(fault))),
     }
 }
 
