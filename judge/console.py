@@ -480,6 +480,8 @@ def without_use(bank):
         if is_asked:
             bank.begin_cut()
         now = int(time.time() * 1000)
+        bank.clock(now)
+        browser.press("Shift")
         bank.clock(now + 14 * 60_000)
         time.sleep(3)
         checks.that(f"after fourteen minutes {what} it is open", browser.run("return document.getElementById('desk').hidden"), False)
@@ -490,7 +492,6 @@ def without_use(bank):
         checks.that("and shows nothing of the desk", [it for it in (BAKERY, "MILL", "$", "2025", OPERATOR_KEY, MILL_KEY) if it in text], [])
         checks.that("and made no file", len(bank.told("/ops/status")["files"]), cuts)
     bank.open()
-    browser.press("Shift")
     now = int(time.time() * 1000)
     bank.clock(now + 14 * 60_000)
     browser.press("Shift")
