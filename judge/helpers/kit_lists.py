@@ -11,38 +11,11 @@ from helpers.running import MILL_KEY, run
 import achdesk
 from achdesk import InputFault
 
-PIECES = [
-    "091000019",
-    "123456789",
-    "checking",
-    "savings",
-    "150000",
-    "0",
-    "E1",
-    "ANN LEE",
-    "yes",
-    "no",
-    "",
-    "1.5",
-    "1" * 18,
-    "1" * 19,
-    "+1",
-    " 1",
-    '"a,b"',
-    '"a""b"',
-    '"a\nb"',
-    '"open',
-    'a"b',
-    '"a"b',
-    '""',
-    '"yes"',
-    "Zo\xeb",
-    "\ufeff",
-    "'",
-    " ",
-    "\t",
-    ";",
-]
+# fmt: off
+PIECES = ["091000019", "123456789", "checking", "savings", "150000", "0", "E1", "ANN LEE", "yes", "no", "", "1.5",
+          "1" * 18, "1" * 19, "+1", " 1", '"a,b"', '"a""b"', '"a\nb"', '"open', 'a"b', '"a"b', '""', '"yes"', "Zo\xeb",
+          "\ufeff", "'", " ", "\t", ";"]
+# fmt: on
 GOOD = ["091000019", "123456789", "checking", "", "150000", "E1", "ANN LEE", ""]
 
 

@@ -44,34 +44,8 @@ class Program:
         return (done.stdout or b"").decode(), done.stderr.decode(), done.returncode
 
 
-SUBMIT = [
-    "submit",
-    "-",
-    "--ref",
-    "PAY-1",
-    "--sec",
-    "PPD",
-    "--direction",
-    "credit",
-    "--description",
-    "PAYROLL",
-    "--day",
-    "2025-01-10",
-]
-DUES_WORDS = [
-    "submit",
-    "-",
-    "--ref",
-    "PAY-2",
-    "--sec",
-    "PPD",
-    "--direction",
-    "debit",
-    "--description",
-    "DUES",
-    "--day",
-    "2025-01-10",
-]
+SUBMIT = "submit - --ref PAY-1 --sec PPD --direction credit --description PAYROLL --day 2025-01-10".split()
+DUES_WORDS = "submit - --ref PAY-2 --sec PPD --direction debit --description DUES --day 2025-01-10".split()
 DUES_LIST = b"routing,account,kind,prenote,cents,id,name,info\n091000019,123456789,checking,,2500,E2,BOB RAY,\n"
 
 
