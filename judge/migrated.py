@@ -4,8 +4,8 @@
 A desk in a file answers the messages of examples/bank_day. Stock SQLite writes its rows into a new file as version 1 had
 them: the same tables and indexes, but for those of numbers and of authorizations. `serve` and `stdio` must refuse that
 file, `migrate` must make it one of version 2, and then every GET must be answered as by the first desk, and so must what
-is sent again and what is new. A file of an unknown version is refused, and no refusal changes a byte of a file. The last
-line counts the checks; the exit status is 1 if one failed.
+is sent again and what is new. A file of an unknown version is refused, and no refusal changes a byte of the database
+file. The last line counts the checks; the exit status is 1 if one failed.
 """
 
 import sqlite3
@@ -34,11 +34,6 @@ def asked_after():
     return b"".join([*reads, *again, retry, message("POST /ops/cut", ""), *reads])
 
 
-def bytes_of(path):
-    """The bytes of a desk's file, and of its log if there is one."""
-    return [it.read_bytes() for it in (path, Path(f"{path}-wal")) if it.exists()]
-
-
 def write_version_9(source, path):
     """The rows of a desk's file, with a version that no program has."""
     write_copy(source, path)
@@ -55,18 +50,18 @@ def main():
         said, status = run(program, "stdio", first, given=days())
         checks.that("a bank's days are answered", (said, status), ((TOP / "examples" / "bank_day" / "answers.txt").read_bytes(), 0))
         write_version_1(first, old)
-        before = bytes_of(old)
+        before = old.read_bytes()
         checks.that("`serve` refuses a file of version 1", run(program, "serve", old, free_port()), (b"WrongVersion 1\n", 1))
         checks.that("`stdio` refuses it", run(program, "stdio", old, given=days()), (b"WrongVersion 1\n", 1))
         checks.that("`init` refuses it", run(program, "init", old, "--odfi", "121042882", "--odfi-name", "X", "--destination", "061000146",
                                              "--destination-name", "Y", "--key", "operator-key"), (b"Exists\n", 1))
-        checks.that("no refusal changed the file", bytes_of(old), before)
+        checks.that("no refusal changed the database file", old.read_bytes() == before)
         later = Path(folder) / "later.db"
         write_version_9(first, later)
-        before = bytes_of(later)
+        before = later.read_bytes()
         for words in (["serve", later, free_port()], ["stdio", later], ["migrate", later]):
             checks.that(f"`{words[0]}` refuses a file of version 9", run(program, *words, given=b""), (b"WrongVersion 9\n", 1))
-        checks.that("and leaves it as it was", bytes_of(later), before)
+        checks.that("and leaves the database file as it was", later.read_bytes() == before)
         checks.that("it is migrated", run(program, "migrate", old), (b"migrated 1 to 2\n", 0))
         checks.that("a second time it is refused", run(program, "migrate", old), (b"WrongVersion 2\n", 1))
         checks.that("so is a desk that was made so", run(program, "migrate", first), (b"WrongVersion 2\n", 1))

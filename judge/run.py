@@ -55,7 +55,7 @@ JUDGES = (
     Judge("soak"),
     Judge("audit"),
     Judge("patience"),
-    Judge("numbers"),
+    Judge("facts"),
     Judge("private_files"),
     Judge("statuses"),
     Judge("texts", takes_program=False),

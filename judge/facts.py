@@ -1,5 +1,5 @@
 #!/usr/bin/env python3
-"""Compares numbers, names, counts and links in the pages with the tree: `python3 judge/numbers.py [PROGRAM]`.
+"""Compares numbers, names, counts and links in the pages with the tree: `python3 judge/facts.py [PROGRAM]`.
 
 `.ci/run` runs it before the gate. It needs nothing but Python's standard library. With a program it also compares the
 version and the options that the pages name. A line is printed for each check that fails, and the last line counts; the
