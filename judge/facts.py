@@ -133,8 +133,8 @@ def check_numbers():
     check("assurance.md: planted bugs", number("docs/audit/assurance.md", r"reject each: (\d+) in the gate"), edits)
     check("PROVED: planted bugs", number("docs/PROVED.md", r"makes the desk wrong in (\d+) ways"), edits)
     more = len(list((TOP / "judge/edits").glob("*/*.edit")))
-    for page, sentence in (("docs/audit/assurance.md", r"more than (\d+) outside it"), ("docs/PROVED.md", r"More than (\d+) further edits")):
-        check(f"{page}: more planted bugs, in hundreds", number(page, sentence), more // 100 * 100)
+    for name, sentence in (("docs/audit/assurance.md", r"more than (\d+) outside it"), ("docs/PROVED.md", r"More than (\d+) further edits")):
+        check(f"{name}: more planted bugs, in hundreds", number(name, sentence), more // 100 * 100)
     check("upgrades.md: file version", number("docs/operate/upgrades.md", r"files of version (\d)"), constant("judge/stock_sqlite.py", r"\(1, (\d)\)\]"))
     check("CHANGELOG: file version", number("CHANGELOG.md", r"File version \| (\d)"), constant("judge/stock_sqlite.py", r"\(1, (\d)\)\]"))
     version = re.search(r'"achdesk (\S+)\\n"', text("crates/cli_words/src/version_line.rt"))[1]
