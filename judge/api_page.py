@@ -26,8 +26,15 @@ HEAD = """# API reference
 
 <!-- Written by judge/api_page.py from docs/openapi.yaml. Change that file, and run the script. -->
 
-This page is generated from [openapi.yaml](../openapi.yaml), the OpenAPI 3.1 description of the same interface. Start with the [quick start](quickstart.md); [retries](retries.md) covers lost answers, proxies and polling.
+This page is generated from [openapi.yaml](../openapi.yaml), the OpenAPI 3.1 description of the same interface. \
+Start with the [quick start](quickstart.md); [retries](retries.md) covers lost answers, proxies and polling.
 """
+REFUSALS = ("The desk rejects a call that it understands with a refusal: a number that never changes and a name. A refused "
+            "call changes nothing. Additional fields of a refusal:")
+MESSAGE_FAULTS = ("A message that the desk cannot read or route is answered with `error` alone. Faults are checked before "
+                  "refusals, in the order of [the first section](#conventions). `TooManyRequests`, `BadGateway` and "
+                  "`GatewayTimeout` come from a proxy alone.")
+FILE_FAULTS = "See [faults of a returns file](#faults-of-a-returns-file)."
 
 
 class Source:
@@ -182,7 +189,8 @@ def fields_of(source, schema, before=""):
                    cell(one_line(source.at(inner).get("description")) + note))
             below = source.at(inner)
             nested = below["items"] if below.get("type") == "array" else below
-            deeper = fields_of(source, nested, f"{before}{name}" + ("[]." if below.get("type") == "array" else ".")) if is_object(source, nested) else []
+            path = f"{before}{name}" + ("[]." if below.get("type") == "array" else ".")
+            deeper = fields_of(source, nested, path) if is_object(source, nested) else []
             rows.setdefault(name, [row, *deeper])
     return [row for group in rows.values() for row in group]
 
@@ -256,7 +264,8 @@ def refusals(it):
             rows.append((str(status), f"`{name}`", cell(example["summary"]), f"`{text_of(example['value'])}`"))
             body = it.sent(example["x-request"])
             if name == "BadField" and body is not None and it.name in RUN_AS:
-                run += [f"{example['summary']}:", "", *block(RUN_AS[it.name], body), *block("json answer", text_of(example["value"]))]
+                answer = block("json answer", text_of(example["value"]))
+                run += [f"{example['summary']}:", "", *block(RUN_AS[it.name], body), *answer]
     lines = ["Refusals, in the order in which they are checked:", ""] if it.tree.get("x-refusals") else ["Other answers:", ""]
     lines += table(("Status", "Name", "Example", "Body"), rows)
     return lines + (["Invalid bodies and their answers:", "", *run] if run else [])
@@ -297,18 +306,19 @@ def causes_of(name, description):
 
 
 def fault_sections(source):
-    lines = ["## Refusals", "", "The desk rejects a call that it understands with a refusal: a number that never changes and a name. A refused call changes nothing. Additional fields of a refusal:", ""]
+    lines = ["## Refusals", "", REFUSALS, ""]
     rows = []
     for name in ("BadField", "NotRetryable", "BadFile", "BadCalendar"):
         for field, kind, what in fields_of(source, source.components["schemas"][name]):
             if field not in ("`error`", "`number`"):
-                rows.append((f"`{name}`", field, kind, what if "|" not in what else f"See [faults of a returns file](#faults-of-a-returns-file)."))
+                rows.append((f"`{name}`", field, kind, FILE_FAULTS if "|" in what else what))
     lines += table(("Refusal", "Field", "Type", "Description"), rows)
     lines += refusal_table(source)
-    lines += ["## Faults of a message", "", "A message that the desk cannot read or route is answered with `error` alone. Faults are checked before refusals, in the order of [the first section](#conventions). `TooManyRequests`, `BadGateway` and `GatewayTimeout` come from a proxy alone.", ""]
+    lines += ["## Faults of a message", "", MESSAGE_FAULTS, ""]
     lines += fault_table(source)
     fault = source.components["schemas"]["BadFile"]["properties"]["fault"]["description"]
-    lines += ["## Faults of a returns file", "", "[Returns files](../operate/returns-files.md) has an example of each.", "", fault.strip(), ""]
+    example = "[Returns files](../operate/returns-files.md) has an example of each."
+    lines += ["## Faults of a returns file", "", example, "", fault.strip(), ""]
     return lines
 
 
@@ -331,7 +341,8 @@ def main():
     if not given.check:
         PAGE.write_text(text)
     elif not PAGE.exists() or PAGE.read_text() != text:
-        print(f"{PAGE.relative_to(TOP)} is not generated from {SOURCE.relative_to(TOP)}: run python3 judge/api_page.py", file=sys.stderr)
+        names = PAGE.relative_to(TOP), SOURCE.relative_to(TOP)
+        print(f"{names[0]} is not generated from {names[1]}: run python3 judge/api_page.py", file=sys.stderr)
         return 1
     return 0
 

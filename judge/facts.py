@@ -22,6 +22,7 @@ USER_PAGES = [TOP / "README.md", TOP / "CHANGELOG.md", TOP / "docs/glossary.md",
               *sorted(it for folder in FOLDERS for it in (TOP / folder).glob("*.md"))]
 ALL_PAGES = [*USER_PAGES, TOP / "bench/RESULTS.md", TOP / "judge/README.md", *sorted((TOP / "docs").glob("*.md"))]
 GENERATED = TOP / "docs/integrate/api.md"
+NAMED = re.compile(r"`((?:judge|bench|crates|deploy|clients|console|examples|docs|\.ci)/[\w./@-]+)`")
 MOST_README, MOST_WORDS, MOST_HABITS = 700, 20_000, 6.0
 failed, count = 0, 0
 
@@ -82,7 +83,7 @@ def broken_links():
 def missing_paths():
     """Returns the files that pages name in code and the tree does not have."""
     for page in ALL_PAGES:
-        for name in set(re.findall(r"`((?:judge|bench|crates|deploy|clients|console|examples|docs|\.ci)/[\w./@-]+)`", prose_of(page))):
+        for name in set(NAMED.findall(prose_of(page))):
             if not (TOP / name.rstrip("/")).exists() and "CRATE" not in name and "NAME" not in name:
                 yield f"{page.relative_to(TOP)}: {name} does not exist"
 
@@ -116,44 +117,72 @@ def check_names():
     tables = dict(re.findall(r'^    "(\w+)": \("([^"]*)"', sources.partition("INDEXES")[0], re.M))
     pages = set(re.findall(r"^\*\*`(\w+)`\*\*", text("docs/audit/tables.md"), re.M))
     check("tables.md: the tables", pages, set(tables))
-    columns = set(re.findall(r"`(\w+)`", "\n".join(re.findall(r"^\| (`[^|]*) \|", text("docs/audit/tables.md"), re.M))))
-    named = {it.split(":")[0] for row in re.findall(r'"([\w: ?]+:[\w: ?]+)"', sources.partition("INDEXES")[0]) for it in row.split()}
+    cells = re.findall(r"^\| (`[^|]*) \|", text("docs/audit/tables.md"), re.M)
+    columns = {name for cell in cells for name in re.findall(r"`(\w+)`", cell)}
+    rows = re.findall(r'"([\w: ?]+:[\w: ?]+)"', sources.partition("INDEXES")[0])
+    named = {column.split(":")[0] for row in rows for column in row.split()}
     check("tables.md: columns that no table has, or that it lacks", columns ^ named, set())
     indexes = set(re.findall(r'^    "(\w+)": \("', sources.partition("INDEXES")[2].partition("def ")[0], re.M))
-    shown = set(re.findall(r"`(\w+_\w+)`", text("docs/audit/tables.md").partition("There are six more")[2].partition("No answer")[0]))
-    check("tables.md: indexes", shown, indexes)
+    sentence = text("docs/audit/tables.md").partition("There are six more")[2].partition("No answer")[0]
+    check("tables.md: indexes", set(re.findall(r"`(\w+_\w+)`", sentence)), indexes)
+
+
+def facts_of_tree():
+    """Returns what the tree has, by the names that NUMBERS uses."""
+    api, proxy = load(text("docs/openapi.yaml")), text("deploy/nginx.conf")
+    schemas = api["components"]["schemas"]
+    return {
+        "operations": sum(method in item for item in api["paths"].values() for method in ("get", "post")),
+        "edits": len(list((TOP / "crates").glob("*/must-fail/*.edit"))),
+        "hundreds of further edits": len(list((TOP / "judge/edits").glob("*/*.edit"))) // 100 * 100,
+        "file version": constant("judge/stock_sqlite.py", r"\(1, (\d)\)\]"),
+        "port": constant("deploy/achdesk.env", r"DESK_PORT=(\d+)"),
+        "rate of an address": rate_of(proxy, "address_rate"),
+        "rate of a company": rate_of(proxy, "company_rate"),
+        "entries of a submission": schemas["Submission"]["properties"]["entries"]["maxItems"],
+        "cents of an entry": schemas["EntryCents"]["maximum"],
+        "files of a day": schemas["CutMade"]["properties"]["files"]["maxItems"],
+        "batches of a file": constant("deploy/achdesk-day", r"MOST_BATCHES, MOST_CENTS = ([\d_]+),"),
+        "holidays": constant("deploy/achdesk-day", r"MOST_HOLIDAYS, NEAR_DAYS = (\d+),"),
+    }
+
+
+# Each sentence of a page with a number, and the fact that it has to be.
+NUMBERS = (
+    ("docs/PROVED.md", r"refuses alike to each of the (\d+)", "operations"),
+    ("README.md", r"plants (\d+) bugs", "edits"),
+    ("docs/audit/assurance.md", r"reject each: (\d+) in the gate", "edits"),
+    ("docs/PROVED.md", r"makes the desk wrong in (\d+) ways", "edits"),
+    ("docs/audit/assurance.md", r"more than (\d+) outside it", "hundreds of further edits"),
+    ("docs/PROVED.md", r"More than (\d+) further edits", "hundreds of further edits"),
+    ("docs/operate/upgrades.md", r"files of version (\d)", "file version"),
+    ("CHANGELOG.md", r"File version \| (\d)", "file version"),
+    ("docs/operate/install.md", r"127\.0\.0\.1:(\d+)", "port"),
+    ("docs/operate/install.md", r"each address to (\d+) requests", "rate of an address"),
+    ("docs/operate/capacity.md", r"at most (\d+) requests a second", "rate of an address"),
+    ("docs/operate/install.md", r"each company to (\d+)", "rate of a company"),
+    ("docs/operate/troubleshooting.md", r"limit of (\d+) requests a second", "rate of a company"),
+    ("docs/operate/capacity.md", r"Batches \(submissions\) in a file \| ([\d,]+)", "batches of a file"),
+    ("docs/operate/capacity.md", r"Entries of a submission \| ([\d,]+)", "entries of a submission"),
+    ("docs/operate/capacity.md", r"Cents of an entry \| ([\d,]+)", "cents of an entry"),
+    ("docs/operate/capacity.md", r"Files of one desk day \| (\d+)", "files of a day"),
+    ("docs/operate/capacity.md", r"Holiday list \| (\d+) days", "holidays"),
+    ("docs/integrate/csv.md", r"at most (\d+) rows", "holidays"),
+)
 
 
 def check_numbers():
-    page = load(text("docs/openapi.yaml"))
-    operations = sum(method in item for item in page["paths"].values() for method in ("get", "post"))
-    check("PROVED: operations", number("docs/PROVED.md", r"refuses alike to each of the (\d+)"), operations)
-    edits = len(list((TOP / "crates").glob("*/must-fail/*.edit")))
-    check("README: planted bugs", number("README.md", r"plants (\d+) bugs"), edits)
-    check("assurance.md: planted bugs", number("docs/audit/assurance.md", r"reject each: (\d+) in the gate"), edits)
-    check("PROVED: planted bugs", number("docs/PROVED.md", r"makes the desk wrong in (\d+) ways"), edits)
-    more = len(list((TOP / "judge/edits").glob("*/*.edit")))
-    for name, sentence in (("docs/audit/assurance.md", r"more than (\d+) outside it"), ("docs/PROVED.md", r"More than (\d+) further edits")):
-        check(f"{name}: more planted bugs, in hundreds", number(name, sentence), more // 100 * 100)
-    check("upgrades.md: file version", number("docs/operate/upgrades.md", r"files of version (\d)"), constant("judge/stock_sqlite.py", r"\(1, (\d)\)\]"))
-    check("CHANGELOG: file version", number("CHANGELOG.md", r"File version \| (\d)"), constant("judge/stock_sqlite.py", r"\(1, (\d)\)\]"))
+    facts = facts_of_tree()
+    for page, sentence, name in NUMBERS:
+        check(f"{page}: {name}", number(page, sentence), facts[name])
     version = re.search(r'"achdesk (\S+)\\n"', text("crates/cli_words/src/version_line.rt"))[1]
-    check("CHANGELOG: newest version", re.search(r"^## (\S+)", text("CHANGELOG.md"), re.M)[1], version)
+    check("CHANGELOG.md: newest version", re.search(r"^## (\S+)", text("CHANGELOG.md"), re.M)[1], version)
     check("install.md: version", re.search(r"^achdesk (\S+)", text("docs/operate/install.md"), re.M)[1], version)
-    proxy = text("deploy/nginx.conf")
-    check("install.md: requests a second of an address", number("docs/operate/install.md", r"each address to (\d+) requests"), rate_of(proxy, "address_rate"))
-    check("install.md: requests a second of a company", number("docs/operate/install.md", r"each company to (\d+)"), rate_of(proxy, "company_rate"))
-    check("capacity.md: requests a second", number("docs/operate/capacity.md", r"at most (\d+) requests a second"), rate_of(proxy, "address_rate"))
-    check("install.md: port", number("docs/operate/install.md", r"127\.0\.0\.1:(\d+)"), constant("deploy/achdesk.env", r"DESK_PORT=(\d+)"))
-    check("capacity.md: batches of a file", number("docs/operate/capacity.md", r"Batches \(submissions\) in a file \| ([\d,]+)"), 1000)
-    schemas = page["components"]["schemas"]
-    check("capacity.md: entries", number("docs/operate/capacity.md", r"Entries of a submission \| ([\d,]+)"), schemas["Submission"]["properties"]["entries"]["maxItems"])
-    check("capacity.md: cents of an entry", number("docs/operate/capacity.md", r"Cents of an entry \| ([\d,]+)"), schemas["EntryCents"]["maximum"])
-    check("capacity.md: files of a day", number("docs/operate/capacity.md", r"Files of one desk day \| (\d+)"), schemas["CutMade"]["properties"]["files"]["maxItems"])
-    check("library.md: its example", [it for it in re.findall(r"```rust\n(.*?)```", text("docs/integrate/library.md"), re.S)
-                                      if it not in text("crates/documented_examples/src/library.rt")], [])
-    tasks = len(re.findall(r"^\| (?!\*\*|Task|---|Page|\[)[^|]+ \| \[", text("docs/operate/README.md"), re.M))
-    check("operate/README.md: tasks", tasks, 25)
+    examples = re.findall(r"```rust\n(.*?)```", text("docs/integrate/library.md"), re.S)
+    source = text("crates/documented_examples/src/library.rt")
+    check("library.md: examples that the gate does not run", [it for it in examples if it not in source], [])
+    tasks = re.findall(r"^\| (?!\*\*|Task|---|Page|\[)[^|]+ \| \[", text("docs/operate/README.md"), re.M)
+    check("operate/README.md: tasks", len(tasks), 25)
 
 
 def rate_of(proxy, zone):
