@@ -3,13 +3,13 @@
 
 In README.md and in docs/operate, docs/integrate and docs/audit each `console` block is run line by line, and its output
 has to be what the page shows, if the page shows any; a line `..` stands for any lines. Each `sh` block is run as one
-script and has to succeed; variables that it exports stay. So does each `python` block, and each `sql` block by stock SQLite
-with the views of docs/audit.sql. A page is read from the top, in a folder of its own; a second word after `console` or `sh` names another folder, so that a page can
-show two ways of doing the same. Paths under /etc, /var, /usr/share and /tmp lie in that folder, `sudo` and `runuser` are
-dropped, `systemctl` starts and stops the desk, and the desk's address is that of the desk that is served there. Nothing
-else is replaced. NOT_RUN lists the commands that are not run, each with the reason and the test that covers it; a command
-of the list that no page has fails. The last line counts the checks; the exit status is 1 if one failed. It needs curl, ss,
-openssl and sqlite3.
+script and has to succeed; variables that it exports stay. So does each `python` block, and each `sql` block, which stock
+SQLite runs with the views of docs/audit.sql. A page is read from the top, in a folder of its own; a second word after
+`console` or `sh` names another folder, so that a page can show two ways of doing the same. Paths under /etc, /var,
+/usr/share and /tmp lie in that folder, `sudo` and `runuser` are dropped, `systemctl` starts and stops the desk, and the
+desk's address is that of the desk that is served there. Nothing else is replaced. NOT_RUN lists the commands that are not
+run, each with the reason and the test that covers it; a command of the list that no page has fails. The last line counts
+the checks; the exit status is 1 if one failed. It needs curl, ss, openssl, sqlite3 and OpenSSH's sftp with its server.
 """
 
 import os
@@ -30,10 +30,7 @@ PAGES = ("README.md", *sorted(str(it.relative_to(TOP)) for folder in ("operate",
 
 # The start of a command, why it is not run, and what tests it.
 NOT_RUN = (
-    ("rt ci", "it is the gate", "it is the gate"),
-    (".ci/run", "it is the gate", "it is the gate"),
-    ("./try", "it compiles the program again", "the gate compiles it; its output is compared by hand"),
-    ("python3 judge/run.py", "it runs this script", "it is itself a test"),
+    (".ci/run", "it takes long", "the merge itself, which it gates"),
     ("make deb", "it needs the program in its tree", "judge/deploy.py"),
     ("sudo apt install", "it installs a package", "judge/deploy.py, with dpkg --root"),
     ("sudo install -m 600 new-cert.pem", "it needs a certificate", "judge/deploy.py, with a certificate of its own"),

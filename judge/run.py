@@ -62,7 +62,7 @@ JUDGES = (
     Judge("first_use", takes_program=False),
     Judge("clients", (), ("curl",)),
     Judge("sent_first", (), ("curl",)),
-    Judge("pages", (), ("curl", "ss", "sqlite3")),
+    Judge("pages", (), ("curl", "ss", "openssl", "sqlite3", "sftp")),
     Judge("growths_in_files", ("20",), ("gcc",)),
     Judge("deploy", (), ("nginx", "openssl", "logrotate", "nft", "ip", "man", "make", "strace")),
     Judge("day", (), ("nginx", "openssl", "sshd", "sftp", "curl")),
