@@ -343,13 +343,14 @@ def heads(checks, bank):
 
 def logged(checks, bank):
     """Each request of a holder has a line with its name, and no key is in the log."""
+    time.sleep(0.5)
     before = len(bank.proxy.logged())
     bank.proxy.ask("GET", "/ops/status", key=ALICE)
     bank.proxy.ask("GET", "/c/MILL01/returns", key=PAYROLL)
     bank.proxy.ask("GET", "/none")
     time.sleep(1.1)
     bank.proxy.ask("GET", "/ops/status", key="guess-key-1")
-    lines = [LOGGED.fullmatch(it) for it in bank.proxy.logged()[before:]]
+    lines = [LOGGED.fullmatch(it) for it in bank.proxy.logged(before + 3)[before:]]
     checks.that("the log names the holders, and has no line of a stranger's 404", [it and (it["holder"], it["request"], it["status"], it["desk"]) for it in lines],
                 [("operator:alice", "GET /ops/status HTTP/1.1", "200", "200"), ("MILL01:payroll", "GET /c/MILL01/returns HTTP/1.1", "200", "200"),
                  ("-", "GET /ops/status HTTP/1.1", "403", "-")])
@@ -642,6 +643,7 @@ def log(checks, program, folder):
         printed, status = said(*rotate, "--debug", rotation)
         checks.that("logrotate's debug run finds no error", (status, "error" in printed.replace("error.log", ""), "considering log" in printed), (0, False, True))
         bank.proxy.ask("GET", "/ops/status", key=ALICE)
+        bank.proxy.logged(1)
         checks.that("a rotation ends well", said(*rotate, "--force", rotation), ("", 0))
         for _ in range(100):
             if bank.proxy.log.exists() and all(not it for it in held(bank.proxy, "proxy.log-")):
@@ -650,7 +652,7 @@ def log(checks, program, folder):
         bank.proxy.ask("GET", "/c/MILL01/returns", key=PAYROLL)
         old = [it for it in bank.proxy.folder.iterdir() if it.name.startswith("proxy.log-")]
         checks.that("the old log has the requests before it", [len(it.read_text().splitlines()) for it in old], [1])
-        checks.that("the new one those after it", [LOGGED.fullmatch(it)["holder"] for it in bank.proxy.logged()], ["MILL01:payroll"])
+        checks.that("the new one those after it", [LOGGED.fullmatch(it)["holder"] for it in bank.proxy.logged(1)], ["MILL01:payroll"])
         checks.that("for nginx and a group alone", mode_of(bank.proxy.log), "0o640")
     checks.that("Debian's rotation of nginx has other logs", "/var/log/achdesk" in Path("/etc/logrotate.d/nginx").read_text(), False)
 

@@ -123,8 +123,14 @@ class Proxy:
         finally:
             it.close()
 
-    def logged(self):
-        return self.log.read_text().splitlines() if self.log.exists() else []
+    def logged(self, count=0):
+        """The lines of the log, once there are so many: nginx writes a line after the answer."""
+        for _ in range(100):
+            lines = self.log.read_text().splitlines() if self.log.exists() else []
+            if len(lines) >= count:
+                break
+            time.sleep(0.05)
+        return lines
 
     def stop(self):
         self.process.send_signal(signal.SIGQUIT)
