@@ -51,7 +51,7 @@ FIGURES = {
 }
 
 
-# ---- what companies submit, and what comes back ----
+# ---- submissions, returns and changes ----
 
 def entry(cents, ident, name, account="123456789"):
     return {"routing": "091000019", "account": account, "kind": "checking", "cents": cents, "id": ident, "name": name}
