@@ -62,7 +62,7 @@ class Clients:
                     with self.lock:
                         self.answered.append((time.time(), ref))
                 link.close()
-            except OSError:
+            except (OSError, http.client.HTTPException):
                 pass
 
     def before(self, moment):
@@ -124,6 +124,7 @@ def under_load(bank, checks, every):
         tries += 1
         if status:
             checks.that("a backup under load", (status, errors), (0, ""))
+        time.sleep(1)  # a backup's name is the second in which it began
     for path in finished(bank):
         logs.add((path / "bank.db-wal").read_bytes()[16:24])
     checks.that(f"{len(finished(bank))} of {tries} backups under load, {len(clients.answered)} submissions answered", len(finished(bank)), tries)
