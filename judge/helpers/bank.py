@@ -114,6 +114,7 @@ class KeptDesk:
                 return time.monotonic() - began
             except OSError:
                 time.sleep(0.02)
+        self.stop()
         sys.exit("the desk does not listen")
 
     def stop(self):
