@@ -1,8 +1,10 @@
 #!/bin/sh
-# A bank's days by curl: `examples/bank_by_curl.sh [PROGRAM]`, ./achdesk where it is left out. A desk is made in a
-# file and served on a port of this machine; a company hands in a pay run from a list in CSV and a collection; the bank
-# cuts, fetches its file, and takes a file of returns; then the accounts are asked. Each step is told, and what comes is
-# compared with what must come. The last line counts the checks; the status is 1 where one failed.
+# A bank's days by curl: `examples/bank_by_curl.sh [PROGRAM]`. PROGRAM is ./achdesk by default.
+#
+# Creates a desk in a temporary file and serves it on a free port of this machine. A company submits a payroll from a
+# CSV list and a collection; the bank cuts, fetches its file and takes a file of returns; then both ask for accounts.
+# Prints each step with its answer and compares the answer with the expected one. The last line counts the checks; the
+# exit status is 1 if one failed.
 set -u
 here=$(cd "$(dirname "$0")" && pwd)
 achdesk=${1:-$here/../achdesk}
@@ -12,7 +14,7 @@ trap '[ -z "$server" ] || kill "$server" 2>/dev/null; rm -rf "$work"' EXIT
 checks=0
 failed=0
 
-# Tells a step, and compares what came with what must come.
+# Prints a step and its answer, and compares the answer with the expected one.
 step() {
     checks=$((checks + 1))
     echo "$1"
