@@ -44,6 +44,11 @@ def main():
             checks.that(f"{said}: and its files are as they were", modes(path), ["0o600", "0o600"])
             checks.that(f"{said}: a second `init` is refused", run(program, 0, "init", path, *IDENTITY), (b"Exists\n", 1))
             checks.that(f"{said}: and leaves them so", modes(path), ["0o600", "0o600"])
+        empty = Path(name) / "empty.db"
+        empty.touch()
+        empty.chmod(0o644)
+        checks.that("an empty file that others can read becomes a desk", run(program, 0o022, "init", empty, *IDENTITY), (b"created\n", 0))
+        checks.that("and both files are for their owner alone", modes(empty), ["0o600", "0o600"])
         letter = Path(name) / "letter.txt"
         letter.write_text("This is a letter and no database.\n" * 500)
         letter.chmod(0o644)

@@ -1,6 +1,5 @@
 -- What a check makes of an input that may be longer than a file.
 use Rattle.std.proofs.Common.{◌≡◌, inl, inr, ◌<◌, ℕ, Bool, true, false, List, [], Option, None, Some, IfSome, option_map, refl, sym, ap, ◌∙◌, subst, nat_le, append-nil, take, drop, take_all, length, arith}
-use Rattle.std.specs.Io.KnownBytes.{Appends}
 use Rattle.std.proofs.Math.ListN.{take-append-drop}
 use Rattle.std.proofs.lemmas.List.{length-take-le}
 use Rattle.std.proofs.lemmas.Bool.Decides.{nat_tests}
@@ -12,8 +11,9 @@ use Rattle.cli_commands.proofs.FeedingLemmas.{FaultsStand}
 use Rattle.cli_commands.proofs.PrintingLemmas.{Answer}
 use Rattle.cli_commands.specs.FileChecks.{verdict_answer, IsVerdict, IsVerdictOn, IsCheckAnswer, HasChecked, IsFailedCheck}
 use Rattle.cli_commands.specs.BodyAnswers.{IsAnswer}
-use Rattle.cli_commands.specs.Printing.{PrintsLine, PrintsPrefixOf, status_of, with_line_feed}
-use Rattle.io_retries.specs.Prefixes.{AppendsPrefix}
+use Rattle.cli_commands.specs.Printing.{FailsToPrint, PrintsLine, status_of, with_line_feed}
+use Rattle.io_retries.specs.Written.{IsCutOff, IsWritten}
+use Rattle.io_retries.specs.declared.sink.Sink as sink
 use Rattle.cli_commands.specs.Inputs.{most_read}
 use Rattle.cli_commands.specs.declared.status.Status.{Status}
 use Rattle.cli_commands.specs.declared.file_verdict.Verdict.{Verdict}
@@ -66,13 +66,13 @@ pub on_taken : (known : Option (List ℕ)) (v : Verdict) (o : Answer) → FilesA
 on_taken known v None files stands long on given = tt
 on_taken known v (Some a) files stands long on given = (v, on_whole known v files stands long on, given)
 
-pub checked : (input old new : Option (List ℕ)) (answer : Answer) (status : Status)
-    → IfSome answer (IsCheckAnswer input) → PrintsLine answer old new status → HasChecked input old new status
-checked input old new None status is printed = elim printed [ ]
-checked input old new (Some a) status is printed =
-    (is.0, is.1, (printed.0 ∙ ap status_of is.2.0, subst (λ t. Appends old new t) is.2.1 printed.1))
+module _ {W : Type 0} (input : Option (List ℕ)) (w : sink.Ghosts W) (old new : W) where
+  pub checked : (answer : Answer) (status : Status) → IfSome answer (IsCheckAnswer input) → PrintsLine answer w old new status
+      → HasChecked input w old new status
+  checked None status is printed = elim printed [ ]
+  checked (Some a) status is printed =
+      (is.0, is.1, (printed.0 ∙ ap status_of is.2.0, subst (λ t. IsWritten t w old new) is.2.1 printed.1))
 
-pub check_failed : (input old new : Option (List ℕ)) (answer : Answer)
-    → IfSome answer (IsCheckAnswer input) → PrintsPrefixOf answer old new → IsFailedCheck input old new
-check_failed input old new None is prefix = inl prefix
-check_failed input old new (Some a) is prefix = inr (is.0, is.1, subst (λ t. AppendsPrefix old new t) is.2.1 prefix)
+  pub check_failed : (answer : Answer) → IfSome answer (IsCheckAnswer input) → FailsToPrint answer w old new → IsFailedCheck input w old new
+  check_failed None is failed = inl failed
+  check_failed (Some a) is cut = inr (is.0, is.1, subst (λ t. IsCutOff t w old new) is.2.1 cut)

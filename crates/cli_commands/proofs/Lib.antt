@@ -5,6 +5,6 @@ pub mod MessageRunLemmas
 pub mod PrefixLemmas
 pub mod PrintingLemmas
 pub mod RememberedRuns
-pub mod ServedLemmas
+pub mod ServedPortLemmas
 pub mod SessionRuns
 pub mod VerdictLemmas

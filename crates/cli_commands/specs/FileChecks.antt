@@ -11,8 +11,9 @@ use Rattle.ach_files.specs.declared.facts.ReturnOrChange.{ReturnOrChange}
 use Rattle.ach_files.specs.declared.facts.ReturnOrChange.TheVariants.{Return, Change}
 use Rattle.cli_commands.specs.Inputs.{MayHave}
 use Rattle.cli_commands.specs.BodyAnswers.{IsAnswer}
-use Rattle.cli_commands.specs.Printing.{with_line_feed, unavailable, PrintsAnswer}
-use Rattle.io_retries.specs.Prefixes.{AppendsPrefix}
+use Rattle.cli_commands.specs.Printing.{with_line_feed, PrintsAnswer, SaysUnavailable}
+use Rattle.io_retries.specs.Written.{IsCutOff}
+use Rattle.io_retries.specs.declared.sink.Sink as sink
 use Rattle.cli_commands.specs.declared.status.Status.{Status}
 use Rattle.cli_commands.specs.declared.file_verdict.Verdict.{Verdict}
 use Rattle.cli_commands.specs.declared.file_verdict.Verdict.TheVariants.{Fine, Faulty}
@@ -58,13 +59,13 @@ abbrev pub IsCheckAnswer : (input : Option (List ℕ)) → (given : Bool × Vec 
 IsCheckAnswer input given = (verdict : Verdict) × IsVerdictOn input verdict × IsAnswer (with_line_feed (verdict_answer verdict)) given
 
 -- the command answered all that its input had
-abbrev pub HasChecked : (input old new : Option (List ℕ)) → Status → Type 0
-HasChecked input old new status =
+abbrev pub HasChecked : {W : Type 0} → (input : Option (List ℕ)) → sink.Ghosts W → (old new : W) → Status → Type 0
+HasChecked input w old new status =
     (verdict : Verdict) × IsVerdictOn input verdict
-    × PrintsAnswer (with_line_feed (verdict_answer verdict)) old new status
+    × PrintsAnswer (with_line_feed (verdict_answer verdict)) w old new status
 
--- a check that failed printed a prefix of `unavailable`, or of its answer
-abbrev pub IsFailedCheck : (input old new : Option (List ℕ)) → Type 0
-IsFailedCheck input old new =
-    AppendsPrefix old new unavailable
-    ⊎ ((verdict : Verdict) × IsVerdictOn input verdict × AppendsPrefix old new (with_line_feed (verdict_answer verdict)).1)
+-- a check that failed printed `unavailable`, or a write of that or of its answer failed
+abbrev pub IsFailedCheck : {W : Type 0} → (input : Option (List ℕ)) → sink.Ghosts W → (old new : W) → Type 0
+IsFailedCheck input w old new =
+    SaysUnavailable w old new
+    ⊎ ((verdict : Verdict) × IsVerdictOn input verdict × IsCutOff (with_line_feed (verdict_answer verdict)).1 w old new)

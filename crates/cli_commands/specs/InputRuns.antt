@@ -3,8 +3,9 @@ use Rattle.std.specs.Prelude.{◌⊎◌, ℕ, Bool, List, Option, Vec}
 use Rattle.std.specs.declared.alloc.Global.{Global}
 use Rattle.cli_commands.specs.BodyAnswers.{IsAnswer}
 use Rattle.cli_commands.specs.Inputs.{MayHave}
-use Rattle.cli_commands.specs.Printing.{unavailable, PrintsAnswer}
-use Rattle.io_retries.specs.Prefixes.{AppendsPrefix}
+use Rattle.cli_commands.specs.Printing.{PrintsAnswer, SaysUnavailable}
+use Rattle.io_retries.specs.Written.{IsCutOff}
+use Rattle.io_retries.specs.declared.sink.Sink as sink
 use Rattle.cli_commands.specs.declared.status.Status.{Status}
 
 -- whether an input is accepted, and what is printed of it
@@ -16,12 +17,12 @@ abbrev pub IsInputAnswer : Answering → (input : Option (List ℕ)) → (given 
 IsInputAnswer answer input given = (bytes : List ℕ) × MayHave input bytes × IsAnswer (answer bytes) given
 
 -- the command answered all that its input had
-abbrev pub HasAnswered : Answering → (input old new : Option (List ℕ)) → Status → Type 0
-HasAnswered answer input old new status =
-    (bytes : List ℕ) × MayHave input bytes × PrintsAnswer (answer bytes) old new status
+abbrev pub HasAnswered : {W : Type 0} → Answering → (input : Option (List ℕ)) → sink.Ghosts W → (old new : W) → Status → Type 0
+HasAnswered answer input w old new status =
+    (bytes : List ℕ) × MayHave input bytes × PrintsAnswer (answer bytes) w old new status
 
--- a command that failed printed a prefix of `unavailable`, or of its answer
-abbrev pub IsFailedRun : Answering → (input old new : Option (List ℕ)) → Type 0
-IsFailedRun answer input old new =
-    AppendsPrefix old new unavailable
-    ⊎ ((bytes : List ℕ) × MayHave input bytes × AppendsPrefix old new (answer bytes).1)
+-- a command that failed printed `unavailable`, or a write of that or of its answer failed
+abbrev pub IsFailedRun : {W : Type 0} → Answering → (input : Option (List ℕ)) → sink.Ghosts W → (old new : W) → Type 0
+IsFailedRun answer input w old new =
+    SaysUnavailable w old new
+    ⊎ ((bytes : List ℕ) × MayHave input bytes × IsCutOff (answer bytes).1 w old new)

@@ -1,5 +1,6 @@
 -- The command that makes the message of a list of entries.
 use Rattle.std.specs.Prelude.{ℕ, Bool, true, false, List, Option, Result, Ok, Err}
+use Rattle.io_retries.specs.declared.sink.Sink as sink
 use Rattle.cli_submit.specs.FaultLines.{fault_line}
 use Rattle.cli_submit.specs.Messages.{message_of}
 use Rattle.cli_submit.specs.Options.{OptionTexts, texts_of}
@@ -23,9 +24,9 @@ abbrev pub submit_answer : SubmitOptions → Answering
 submit_answer options = list_answer (texts_of options)
 
 -- the message of the list that the input had was printed, or the line of its fault
-abbrev pub HasSubmitted : SubmitOptions → (input old new : Option (List ℕ)) → Status → Type 0
-HasSubmitted options input old new status = HasAnswered (submit_answer options) input old new status
+abbrev pub HasSubmitted : {W : Type 0} → SubmitOptions → (input : Option (List ℕ)) → sink.Ghosts W → (old new : W) → Status → Type 0
+HasSubmitted options input w old new status = HasAnswered (submit_answer options) input w old new status
 
--- a prefix of that was printed, or of `unavailable`
-abbrev pub IsFailedSubmit : SubmitOptions → (input old new : Option (List ℕ)) → Type 0
-IsFailedSubmit options input old new = IsFailedRun (submit_answer options) input old new
+-- `unavailable` was printed, or a write of that or of the answer failed
+abbrev pub IsFailedSubmit : {W : Type 0} → SubmitOptions → (input : Option (List ℕ)) → sink.Ghosts W → (old new : W) → Type 0
+IsFailedSubmit options input w old new = IsFailedRun (submit_answer options) input w old new

@@ -1,15 +1,17 @@
 -- A session with a new desk of the sample bank.
 use Rattle.std.specs.Prelude.{◌≡◌, ◌⊎◌, ⊤, ℕ, List, [], Option, Result, Ok, Err, codes}
 use Rattle.sha2.specs.Sha256.{sha256}
-use Rattle.io_retries.specs.Prefixes.{AppendsPrefix}
+use Rattle.io_retries.specs.declared.sink.Sink as sink
+use Rattle.io_retries.specs.declared.source.Source as source
 use Rattle.desk_history.specs.declared.identity.Identity.{Identity}
 use Rattle.desk_book.specs.Book.{Book, book_of}
 use Rattle.http_session.specs.Session.{SessionRan}
+use Rattle.http_session.specs.Sides.{Leaves}
 use Rattle.http_session.specs.declared.sessions.Ended.{Ended}
 use Rattle.http_session.specs.declared.sessions.Ended.TheVariants.{Closed, Cut, Full}
 use Rattle.http_session.specs.declared.sessions.SessionFault.{SessionFault}
 use Rattle.desk_http.specs.Answering.{DeskHistory, IsAnswered}
-use Rattle.cli_commands.specs.Printing.{unavailable}
+use Rattle.cli_commands.specs.Printing.{SaysUnavailable}
 use Rattle.cli_commands.specs.declared.status.Status.{Status}
 use Rattle.cli_commands.specs.declared.status.Status.TheVariants.{Done, Refused, Failed}
 
@@ -40,16 +42,19 @@ status_of_session (Ok Full) = Done
 status_of_session (Ok Cut) = Refused
 status_of_session (Err fault) = Failed
 
--- A session answered what the input spells: each answer is the text of its message after those before it.
-abbrev pub HasRun : (input old new : Option (List ℕ)) → Result Ended SessionFault → Type 0
-HasRun input old new ended =
-    (left : Option (List ℕ)) × SessionRan IsAnswered ⊤ (λ (h : DeskHistory). h ≡ new_history) (λ h. ⊤) input left old new ended
+-- A session answered what the reader's bytes spell: each answer is the text of its message after those before it.
+abbrev pub HasRun : {R W : Type 0} → source.Ghosts R → (reader : R) → sink.Ghosts W → (old new : W) → Result Ended SessionFault → Type 0
+HasRun {R} r reader w old new ended =
+    (after : R) × Leaves r w ended after old new
+    × SessionRan IsAnswered ⊤ (λ (h : DeskHistory). h ≡ new_history) (λ h. ⊤)
+    (r.remaining reader) (r.remaining after) (w.contents old) (w.contents new) ended
 
 -- the session ended as the status says
-abbrev pub HasAnsweredMessages : (input old new : Option (List ℕ)) → Status → Type 0
-HasAnsweredMessages input old new status =
-    (ended : Result Ended SessionFault) × (status ≡ status_of_session ended) × HasRun input old new ended
+abbrev pub HasAnsweredMessages : {R W : Type 0} → source.Ghosts R → (reader : R) → sink.Ghosts W → (old new : W) → Status → Type 0
+HasAnsweredMessages r reader w old new status =
+    (ended : Result Ended SessionFault) × (status ≡ status_of_session ended) × HasRun r reader w old new ended
 
--- a read or a write failed in the session; or it did not begin, and a prefix of `unavailable` was printed
-abbrev pub HasBrokenOff : (input old new : Option (List ℕ)) → Type 0
-HasBrokenOff input old new = AppendsPrefix old new unavailable ⊎ ((fault : SessionFault) × HasRun input old new (Err fault))
+-- A read or a write failed in the session; or it did not begin, and `unavailable` is printed.
+abbrev pub HasBrokenOff : {R W : Type 0} → source.Ghosts R → (reader : R) → sink.Ghosts W → (old new : W) → Type 0
+HasBrokenOff r reader w old new =
+    SaysUnavailable w old new ⊎ ((fault : SessionFault) × HasRun r reader w old new (Err fault))

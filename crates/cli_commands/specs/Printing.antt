@@ -1,8 +1,8 @@
 -- What a command prints of its answer, and the status that it ends with.
-use Rattle.std.specs.Prelude.{◌≡◌, Option, None, Some, ℕ, Bool, List, [], ◌∷◌, ◌++◌, if◌then◌else◌, codes, Result, MatchResult, Vec}
+use Rattle.std.specs.Prelude.{◌≡◌, Option, None, Some, ℕ, Bool, List, [], ◌∷◌, ◌++◌, if◌then◌else◌, codes, Vec}
 use Rattle.std.specs.declared.alloc.Global.{Global}
-use Rattle.std.specs.Io.KnownBytes.{Appends}
-use Rattle.io_retries.specs.Prefixes.{AppendsPrefix}
+use Rattle.io_retries.specs.Written.{IsCutOff, IsWritten, IsWrittenOrCutOff}
+use Rattle.io_retries.specs.declared.sink.Sink as sink
 use Rattle.cli_commands.specs.declared.status.Status.{Status}
 use Rattle.cli_commands.specs.declared.status.Status.TheVariants.{Done, Refused}
 
@@ -18,24 +18,20 @@ status_of is_accepted = if is_accepted then Done else Refused
 abbrev pub unavailable : List ℕ
 unavailable = codes "unavailable" ++ 10 ∷ []
 
--- the answer stands after what the writer held, and the command ended as it says
-abbrev pub PrintsAnswer : (answer : Bool × List ℕ) → (old new : Option (List ℕ)) → Status → Type 0
-PrintsAnswer answer old new status = (status ≡ status_of answer.0) × Appends old new answer.1
+-- that is printed, unless a write failed
+abbrev pub SaysUnavailable : {W : Type 0} → sink.Ghosts W → (old new : W) → Type 0
+SaysUnavailable w old new = IsWrittenOrCutOff unavailable w old new
 
--- the line that a call gave stands after what the writer held, and the command ended as it says
-abbrev pub PrintsLine : (given : Option (Bool × Vec ℕ Global)) → (old new : Option (List ℕ)) → Status → Type 0
-PrintsLine None old new status = ⊥
-PrintsLine (Some given) old new status = (status ≡ status_of given.0) × Appends old new given.1.items
+-- the answer is printed, and the command ended as it says
+abbrev pub PrintsAnswer : {W : Type 0} → (answer : Bool × List ℕ) → sink.Ghosts W → (old new : W) → Status → Type 0
+PrintsAnswer answer w old new status = (status ≡ status_of answer.0) × IsWritten answer.1 w old new
 
--- the writer took a prefix of that line, or of `unavailable` where there was none
-abbrev pub PrintsPrefixOf : (given : Option (Bool × Vec ℕ Global)) → (old new : Option (List ℕ)) → Type 0
-PrintsPrefixOf None old new = AppendsPrefix old new unavailable
-PrintsPrefixOf (Some given) old new = AppendsPrefix old new given.1.items
+-- the line that a call gave is printed, and the command ended as it says
+abbrev pub PrintsLine : {W : Type 0} → (given : Option (Bool × Vec ℕ Global)) → sink.Ghosts W → (old new : W) → Status → Type 0
+PrintsLine None w old new status = ⊥
+PrintsLine (Some given) w old new status = (status ≡ status_of given.0) × IsWritten given.1.items w old new
 
--- the writer took a prefix of a line that is known
-abbrev pub PrintsPrefix : (line : List ℕ) → (old new : Option (List ℕ)) → Type 0
-PrintsPrefix line old new = AppendsPrefix old new line
-
--- the writer took a line, or a prefix of it where a write failed
-abbrev pub WritesLine : {E : Type 0} → (line : List ℕ) → (old new : Option (List ℕ)) → Result (Unit {0}) E → Type 0
-WritesLine line old new written = MatchResult written (λ _. Appends old new line) (λ _. AppendsPrefix old new line)
+-- a write of that line failed; or there was none, and `unavailable` is printed
+abbrev pub FailsToPrint : {W : Type 0} → (given : Option (Bool × Vec ℕ Global)) → sink.Ghosts W → (old new : W) → Type 0
+FailsToPrint None w old new = SaysUnavailable w old new
+FailsToPrint (Some given) w old new = IsCutOff given.1.items w old new

@@ -1,13 +1,25 @@
--- What is printed where the desk of a store is served on a port.
-use Rattle.std.specs.Prelude.{◌≡◌, ◌≢◌, ◌⊎◌, ℕ, Bool, true, List, ◌++◌, codes, Option}
+-- What a command says that serves on a port: what was bound, how many connections were served, and what was printed. `n`
+-- says what a network bound, `p` what is printed to; the others are those of `http_session.specs.Serving`.
+use Rattle.std.specs.Prelude.{◌≡◌, ◌⊎◌, ℕ, Bool, true, ◌*◌, List, [], ◌++◌, codes, Result, Ok, Err}
+use Rattle.std.specs.Duration.{as_nanos}
 use Rattle.std.specs.Fmt.{decimal}
-use Rattle.desk_store.specs.declared.store.Store.{Ghosts}
-use Rattle.io_retries.specs.Prefixes.{AppendsPrefix}
-use Rattle.http_session.specs.Serving.{HasServed}
+use Rattle.std.specs.declared.time.Duration.{Duration}
+use Rattle.io_retries.specs.Written.{IsCutOff, IsWritten, IsWrittenOrCutOff}
+use Rattle.io_retries.specs.declared.sink.Sink as sink
+use Rattle.io_retries.specs.declared.source.Source as source
+use Rattle.desk_store.specs.declared.store.Store as store
+use Rattle.http_session.specs.Exchanges.{Exchange, StandsAfter}
+use Rattle.http_session.specs.Serving.{ServesAll, all_messages}
+use Rattle.http_session.specs.declared.connection.Connection as connection
+use Rattle.http_session.specs.declared.listener.Listener as listener
+use Rattle.http_session.specs.declared.network.Network as network
+use Rattle.http_session.specs.declared.serving.ServeFault.{ServeFault}
+use Rattle.http_session.specs.declared.serving.ServeFault.TheVariants.{Accept}
 use Rattle.desk_http.specs.Answering.{IsAnswered, StandsBehind}
-use Rattle.cli_commands.specs.Printing.{unavailable, with_line_feed, PrintsAnswer}
+use Rattle.cli_words.specs.declared.serve_options.ServeOptions.{ServeOptions}
+use Rattle.cli_commands.specs.Printing.{unavailable, with_line_feed, SaysUnavailable}
 use Rattle.cli_commands.specs.declared.status.Status.{Status}
-use Rattle.cli_commands.specs.declared.status.Status.TheVariants.{Failed}
+use Rattle.cli_commands.specs.declared.status.Status.TheVariants.{Done, Refused, Failed}
 
 -- where it listens
 abbrev pub listening_text : (port : ℕ) → List ℕ
@@ -16,23 +28,42 @@ listening_text port = codes "listening on 127.0.0.1:" ++ decimal port
 abbrev pub listening_answer : (port : ℕ) → Bool × List ℕ
 listening_answer port = with_line_feed (true, listening_text port)
 
--- it told where it listens, and served all connections
-abbrev pub HasServedConnections : (port : ℕ) → (old new : Option (List ℕ)) → Status → Type 0
-HasServedConnections port old new status = PrintsAnswer (listening_answer port) old new status
+module _ {L S : Type 0} (l : listener.Ghosts L S) (c : connection.Ghosts S) (r : source.Ghosts S) (w : sink.Ghosts S)
+    {P : Type 0} (p : sink.Ghosts P) (options : ServeOptions) (Stands : List Exchange → Type 0) where
+  -- As many connections were served as the options say, with their patience, or fewer until one could not be accepted. What
+  -- answers stands for all messages of these sessions.
+  pub record ServesAsTold (old new : L) (result : Result (Unit {0}) ServeFault) : Type 0 where
+    pub patience : Duration
+    pub sessions : List (List Exchange)
+    pub waits : as_nanos patience ≡ options.patience * 1000000000
+    pub serves : ServesAll l c r w patience options.connections old new result sessions
+    pub stands : Stands (all_messages sessions)
 
--- it could not listen; or it told where it listens, and then a connection could not be accepted; or a write failed
-abbrev pub FailsToServe : (port : ℕ) → (old new : Option (List ℕ)) → Type 0
-FailsToServe port old new = AppendsPrefix old new unavailable ⊎ AppendsPrefix old new ((listening_answer port).1 ++ unavailable)
+  -- How a bound port was served, as the status says. The line that tells where it listens was printed first; if a write of
+  -- it failed, no connection was asked for.
+  abbrev pub TellsServed : (line : List ℕ) → (old new : L) → (was printed : P) → Status → Type 0
+  TellsServed line old new was printed Done = IsWritten line p was printed × ServesAsTold old new (Ok tt)
+  TellsServed line old new was printed Refused = ⊥
+  TellsServed line old new was printed Failed =
+      (IsCutOff line p was printed × (new ≡ old) × Stands [])
+      ⊎ (IsWrittenOrCutOff (line ++ unavailable) p was printed × ((served : ℕ) × ServesAsTold old new (Err (Accept served))))
 
--- The desk of a store was served, and the store given back. It was clean before, if it is clean in the end; it then stands
--- for each history for which it stood, with the messages that were answered. `g` says which books a store holds.
-pub record Serves {S : Type 0} (g : Ghosts S) (store back : S) (port : ℕ) (old new : Option (List ℕ)) (status : Status) : Type 0 where
-  pub before : g.is_clean back → g.is_clean store
-  pub served : HasServed IsAnswered (g.is_clean back) (StandsBehind (g.holds store)) (StandsBehind (g.holds back))
-  pub answered : status ≢ Failed → HasServedConnections port old new status
-  pub failed : status ≡ Failed → FailsToServe port old new
+module _ {N L S : Type 0} (n : network.Ghosts N L S) (l : listener.Ghosts L S) (c : connection.Ghosts S)
+    (r : source.Ghosts S) (w : sink.Ghosts S) {P : Type 0} (p : sink.Ghosts P)
+    (network : N) (options : ServeOptions) (Stands : List Exchange → Type 0) where
+  -- the port of the options was bound, and served so
+  pub record ServesPort (was printed : P) (status : Status) : Type 0 where
+    pub old : L
+    pub new : L
+    pub bound : n.binds network options.port old
+    pub told : TellsServed l c r w p options Stands (listening_answer options.port).1 old new was printed status
 
--- a call served the desk of a store, and gave its status and the store back
-abbrev pub StoreServes : {S W : Type 0} → (g : Ghosts S) → (store : S) → (port : ℕ) → (contents : W → Option (List ℕ))
-    → (old new : W) → (given : Status × S) → Type 0
-StoreServes g store port contents old new given = Serves g store given.1 port (contents old) (contents new) given.0
+  -- That was so; or the port could not be had or memory was refused before, and nothing was served.
+  abbrev pub TellsPort : (was printed : P) → Status → Type 0
+  TellsPort was printed status =
+      ServesPort was printed status ⊎ ((status ≡ Failed) × SaysUnavailable p was printed × Stands [])
+
+-- the store that was given back stands for each history for which it stood, with these messages, if it is clean
+abbrev pub IsServedBy : {S : Type 0} → (g : store.Ghosts S) → (store back : S) → List Exchange → Type 0
+IsServedBy g store back exchanges =
+    StandsAfter IsAnswered (g.is_clean back) (StandsBehind (g.holds store)) (StandsBehind (g.holds back)) exchanges

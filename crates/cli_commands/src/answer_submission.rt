@@ -10,18 +10,17 @@ use crate::input::{MOST_INPUT, read_input};
 use crate::output::{end_line, print_answer};
 use crate::status::Status;
 use http_json::fault_text;
-use io_retries::Tries;
+use io_retries::{Sink, Source, Tries};
 use std::alloc::Global;
-use std::io::{Read, Write};
 
 /// Reads a submission's body, and prints its answer as the first order of a desk with no limits.
 ///
-/// At most 4,194,304 bytes are read; one more is `{"error":"TooLarge"}`. Where a read fails or memory
-/// runs out, `unavailable` is printed; where a write fails, nothing more is printed.
-pub fn first_run<R: Read + Drop, W: Write>(alloc: Global, reader: R, writer: &mut W) -> Status
-    ensures answered { IfAnswered result W.contents writer.old writer.new
+/// At most 4,194,304 bytes are read; one more is `{"error":"TooLarge"}`. If a read fails or memory runs
+/// out, it prints `unavailable`; if a write fails, nothing more is printed.
+pub fn first_run<R: Source + Drop, W: Sink>(alloc: Global, reader: R, writer: &mut W) -> Status
+    ensures answered { IfAnswered result W.Sink writer.old writer.new
         (HasAnswered first_run_line (R.remaining reader)) }
-    ensures failed { IfFailed result W.contents writer.old writer.new
+    ensures failed { IfFailed result W.Sink writer.old writer.new
         (IsFailedRun first_run_line (R.remaining reader)) }
 {
     let (answer, tries) = input_answer(alloc, reader);
@@ -29,7 +28,7 @@ pub fn first_run<R: Read + Drop, W: Write>(alloc: Global, reader: R, writer: &mu
 }
 
 // The answer to an input, if it could be had, and the tries that are left.
-fn input_answer<R: Read + Drop>(alloc: Global, reader: R) -> (Option<(bool, Vec<u8>)>, Tries)
+fn input_answer<R: Source + Drop>(alloc: Global, reader: R) -> (Option<(bool, Vec<u8>)>, Tries)
     ensures { IfSome result.0 (IsInputAnswer first_run_line (R.remaining reader)) }
 {
     let (body, tries) = read_input(alloc, reader);

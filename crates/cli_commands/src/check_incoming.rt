@@ -1,5 +1,5 @@
 //! The command that checks an incoming file.
-ghost use Rattle.std.specs.Prelude.{◌≡◌, IfSome, IfOk, None, string_bytes};
+ghost use Rattle.std.specs.Prelude.{◌≡◌, IfSome, IfOk, string_bytes};
 ghost use Rattle.cli_commands.specs.BodyAnswers.{IsAnswer};
 ghost use Rattle.cli_commands.specs.Endings.{IfAnswered, IfFailed};
 ghost use Rattle.cli_commands.specs.FileChecks.{fault_line, counts_line, verdict_answer, IsCheckAnswer, HasChecked, IsFailedCheck};
@@ -7,42 +7,28 @@ ghost use Rattle.cli_commands.specs.Printing.{with_line_feed};
 
 use crate::file_verdict::{Verdict, verdict_of};
 use crate::input::bounded_input;
-use crate::output::{end_line, print_answer, print_unavailable};
+use crate::output::{end_line, print_answer};
 use crate::status::Status;
 use ach_files::{Fault, faults_stand, file_or_fault, long_bytes_have_faults};
-use io_retries::Tries;
+use io_retries::{Sink, Source, Tries};
 use std::alloc::{AllocError, Global};
-use std::fs::File;
-use std::io::{Read, Write};
 
 /// Reads an incoming file, at most 4,194,305 bytes of it in pieces of at most 65,536, and prints what
 /// it has, as `ok 2 returns 1 changes`, or its first fault, as `BadHash at record 5`.
 ///
-/// Where a read fails or memory runs out, `unavailable` is printed; where a write fails, nothing more
-/// is printed.
-pub fn check_file<R: Read + Drop, W: Write>(alloc: Global, reader: R, writer: &mut W) -> Status
-    ensures answered { IfAnswered result W.contents writer.old writer.new
+/// If a read fails or memory runs out, it prints `unavailable`; if a write fails, nothing more is printed.
+pub fn check_file<R: Source + Drop, W: Sink>(alloc: Global, reader: R, writer: &mut W) -> Status
+    ensures answered { IfAnswered result W.Sink writer.old writer.new
         (HasChecked (R.remaining reader)) }
-    ensures failed { IfFailed result W.contents writer.old writer.new
+    ensures failed { IfFailed result W.Sink writer.old writer.new
         (IsFailedCheck (R.remaining reader)) }
 {
     let (answer, tries) = file_answer(alloc, reader);
     print_answer(writer, &answer, tries)
 }
 
-/// Checks the incoming file at a path. Where it cannot be opened, `unavailable` is printed.
-pub fn check_path<W: Write>(rt: &HostRuntime, path: &str, writer: &mut W) -> Status
-    ensures answered { IfAnswered result W.contents writer.old writer.new (HasChecked None) }
-    ensures failed { IfFailed result W.contents writer.old writer.new (IsFailedCheck None) }
-{
-    match File::open(rt, path) {
-        Ok(file) => check_file(rt.alloc(), file, writer),
-        Err(_) => print_unavailable(writer, Tries::new()),
-    }
-}
-
 // The answer to an input, if it could be had, and the tries that are left.
-fn file_answer<R: Read + Drop>(alloc: Global, reader: R) -> (Option<(bool, Vec<u8>)>, Tries)
+fn file_answer<R: Source + Drop>(alloc: Global, reader: R) -> (Option<(bool, Vec<u8>)>, Tries)
     ensures { IfSome result.0 (IsCheckAnswer (R.remaining reader)) }
 {
     file_or_fault();

@@ -3,7 +3,7 @@ ghost use Rattle.std.specs.Prelude.{◌≡◌, IfSome};
 ghost use Rattle.std.specs.Io.Take.{take_inner, take_limit};
 ghost use Rattle.cli_commands.specs.Inputs.{bounded, most_read, MayHave};
 
-use io_retries::{RetryingReader, Tries};
+use io_retries::{RetryingReader, Source, Tries};
 use std::alloc::Global;
 use std::io::{Read, Take};
 
@@ -12,7 +12,7 @@ pub const MOST_INPUT: u64 = 4_194_304;
 
 /// Reads an input to its end, or to one byte more than it may have, and gives the tries that are left.
 /// It gives no bytes where a read failed or memory ran out.
-pub fn read_input<R: Read + Drop>(alloc: Global, reader: R) -> (Option<Vec<u8>>, Tries)
+pub fn read_input<R: Source + Drop>(alloc: Global, reader: R) -> (Option<Vec<u8>>, Tries)
     ensures { IfSome result.0 (λ bytes. MayHave (bounded (R.remaining reader)) bytes.items) }
 {
     let mut input = bounded_input(reader);
@@ -27,7 +27,7 @@ pub fn read_input<R: Read + Drop>(alloc: Global, reader: R) -> (Option<Vec<u8>>,
 
 /// Gives an input of which at most 4,194,305 bytes are read, one more than it may have, and whose
 /// interrupted reads are made again by the tries of a new run.
-pub fn bounded_input<R: Read>(reader: R) -> Take<RetryingReader<R>>
+pub fn bounded_input<R: Source>(reader: R) -> Take<RetryingReader<R>>
     ensures inner { (take_inner result).inner ≡ reader }
     ensures limit { take_limit result ≡ most_read }
 {

@@ -9,9 +9,8 @@ use crate::status::Status;
 use desk_http::HttpDesk;
 use http_routes::Routes;
 use http_session::{Ended, SessionFault, session};
-use io_retries::Tries;
+use io_retries::{Sink, Source, Tries};
 use std::alloc::Global;
-use std::io::{Read, Write};
 
 /// Answers the messages that a reader's bytes spell, in one session, by a new desk of the sample bank.
 ///
@@ -19,11 +18,15 @@ use std::io::{Read, Write};
 /// after 1,000 messages; it is refused where the input ends inside a message, and has failed where a
 /// read or a write fails. A session prints its answers alone. Where memory runs out before it begins,
 /// `unavailable` is printed, and the command has failed.
-pub fn answer_messages<R: Read + Drop, W: Write>(alloc: Global, reader: R, writer: &mut W) -> Status
-    ensures answered { IfAnswered result W.contents writer.old writer.new
-        (HasAnsweredMessages (R.remaining reader)) }
-    ensures failed { IfFailed result W.contents writer.old writer.new
-        (HasBrokenOff (R.remaining reader)) }
+pub fn answer_messages<R: Source + Drop, W: Sink>(
+    alloc: Global,
+    reader: R,
+    writer: &mut W,
+) -> Status
+    ensures answered { IfAnswered result W.Sink writer.old writer.new
+        (HasAnsweredMessages R.Source reader) }
+    ensures failed { IfFailed result W.Sink writer.old writer.new
+        (HasBrokenOff R.Source reader) }
 {
     let Ok(routes) = Routes::new(alloc) else {
         return print_unavailable(writer, Tries::new());

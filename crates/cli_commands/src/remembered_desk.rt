@@ -1,5 +1,6 @@
-//! The desk of a store answers and is served by what it remembers of the store.
-ghost use Rattle.cli_commands.specs.ServedRuns.{StoreServes};
+//! The desk of a store that remembers: return rates by day, and the open submissions of the companies that
+//! were asked about, which are followed through cuts, files, days and holiday lists.
+ghost use Rattle.cli_commands.specs.ServedRuns.{TellsPort, IsServedBy};
 ghost use Rattle.cli_commands.specs.StoreRuns.{StoreAnswers};
 
 use crate::served_store::serve_by_store;
@@ -7,37 +8,47 @@ use crate::status::Status;
 use crate::store_session::answer_by_store;
 use cli_words::ServeOptions;
 use desk_store::Store;
+use http_session::Network;
+use io_retries::{Sink, Source};
 use remembering_store::Remembering;
 use std::alloc::Global;
-use std::io::{Read, Write};
 
 /// Serves the desk of a store as `serve_by_store` does, and remembers the exposures and the return
-/// rates of its companies meanwhile.
-pub fn serve_remembering<S: Store + Drop, W: Write>(
-    rt: &HostRuntime,
+/// rates of its companies until it returns.
+pub fn serve_remembering<N: Network, S: Store + Drop, W: Sink>(
+    alloc: Global,
+    network: &N,
     store: S,
     options: ServeOptions,
     writer: &mut W,
 ) -> (Status, S)
-    ensures { StoreServes S.Store store options.port W.contents writer.old writer.new result }
+    ensures before { S.is_clean result.1 → S.is_clean store }
+    ensures told { TellsPort N.Network N.Bound.Listener N.Bound.Stream.Connection
+        N.Bound.Stream.Source N.Bound.Stream.Sink W.Sink network.now options
+        (IsServedBy S.Store store result.1) writer.old writer.new result.0 }
 {
-    let store = Remembering::new(rt.alloc(), store);
-    let (status, store) = serve_by_store(rt, store, options, writer);
-    (status, store.into_inner())
+    open_sums::numbered_books();
+    let follows = open_sums::Remembering::new(alloc, store);
+    let store = Remembering::new(alloc, follows);
+    let (status, store) = serve_by_store(alloc, network, store, options, writer);
+    let follows = store.into_inner();
+    (status, follows.into_inner())
 }
 
 /// Answers messages by the desk of a store as `answer_by_store` does, and remembers the exposures and
-/// the return rates of its companies meanwhile.
-pub fn answer_remembering<S: Store + Drop, R: Read + Drop, W: Write>(
+/// the return rates of its companies until it returns.
+pub fn answer_remembering<S: Store + Drop, R: Source + Drop, W: Sink>(
     alloc: Global,
     store: S,
     reader: R,
     writer: &mut W,
 ) -> (Status, S)
-    ensures { StoreAnswers S.Store store (R.remaining reader)
-        W.contents writer.old writer.new result }
+    ensures { StoreAnswers S.Store store R.Source reader W.Sink writer.old writer.new result }
 {
-    let store = Remembering::new(alloc, store);
+    open_sums::numbered_books();
+    let follows = open_sums::Remembering::new(alloc, store);
+    let store = Remembering::new(alloc, follows);
     let (status, store) = answer_by_store(alloc, store, reader, writer);
-    (status, store.into_inner())
+    let follows = store.into_inner();
+    (status, follows.into_inner())
 }

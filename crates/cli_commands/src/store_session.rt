@@ -9,9 +9,8 @@ use desk_http::HttpDesk;
 use desk_store::Store;
 use http_routes::Routes;
 use http_session::session;
-use io_retries::Tries;
+use io_retries::{Sink, Source, Tries};
 use std::alloc::Global;
-use std::io::{Read, Write};
 
 /// Answers the messages that a reader's bytes spell, in one session, by the desk of a store, and gives the
 /// store back.
@@ -19,14 +18,14 @@ use std::io::{Read, Write};
 /// The command ends as `answer_messages` says. By the clauses each answer is the text of its message after
 /// those before it, for every history for which the store stood, and the store given back stands for that
 /// history with these messages and no other, where it is clean in the end.
-pub fn answer_by_store<S: Store + Drop, R: Read + Drop, W: Write>(
+pub fn answer_by_store<S: Store + Drop, R: Source + Drop, W: Sink>(
     alloc: Global,
     store: S,
     reader: R,
     writer: &mut W,
 ) -> (Status, S)
-    ensures { StoreAnswers S.Store store (R.remaining reader)
-        W.contents writer.old writer.new result }
+    ensures { StoreAnswers S.Store store R.Source reader
+        W.Sink writer.old writer.new result }
 {
     let Ok(routes) = Routes::new(alloc) else {
         return (print_unavailable(writer, Tries::new()), store);

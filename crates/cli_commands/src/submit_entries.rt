@@ -1,59 +1,39 @@
 //! The command that makes the message of a list of entries.
-ghost use Rattle.std.specs.Prelude.{IfSome, Err, None};
+ghost use Rattle.std.specs.Prelude.{IfSome, Err};
 ghost use Rattle.cli_commands.specs.BodyAnswers.{IsAnswer};
 ghost use Rattle.cli_commands.specs.Endings.{IfAnswered, IfFailed};
 ghost use Rattle.cli_commands.specs.InputRuns.{IsInputAnswer};
 ghost use Rattle.cli_commands.specs.ListRuns.{outcome_text, submit_answer, HasSubmitted, IsFailedSubmit};
 
 use crate::input::read_input;
-use crate::output::{end_line, print_answer, print_unavailable};
+use crate::output::{end_line, print_answer};
 use crate::status::Status;
 use cli_submit::{InputFault, SubmitFault, SubmitOptions, submit_message};
-use io_retries::Tries;
+use io_retries::{Sink, Source, Tries};
 use std::alloc::Global;
-use std::fs::File;
-use std::io::{Read, Write};
 
 /// Reads a list of entries in CSV, and prints the message that hands it to a desk, with nothing after
 /// it; or the line of the first fault of the options and the list, as `row 3: bad cents`.
 ///
-/// At most 4,194,304 bytes are read; one more is `too large`. Where a read fails or memory runs out,
-/// `unavailable` is printed; where a write fails, nothing more is printed.
-pub fn submit_list<R: Read + Drop, W: Write>(
+/// At most 4,194,304 bytes are read; one more is `too large`. If a read fails or memory runs out, it prints
+/// `unavailable`; if a write fails, nothing more is printed.
+pub fn submit_list<R: Source + Drop, W: Sink>(
     alloc: Global,
     options: &SubmitOptions<'_>,
     reader: R,
     writer: &mut W,
 ) -> Status
-    ensures answered { IfAnswered result W.contents writer.old writer.new
+    ensures answered { IfAnswered result W.Sink writer.old writer.new
         (HasSubmitted options.now (R.remaining reader)) }
-    ensures failed { IfFailed result W.contents writer.old writer.new
+    ensures failed { IfFailed result W.Sink writer.old writer.new
         (IsFailedSubmit options.now (R.remaining reader)) }
 {
     let (answer, tries) = input_answer(alloc, options, reader);
     print_answer(writer, &answer, tries)
 }
 
-/// Makes the message of the list at a path. Where it cannot be opened, `unavailable` is printed.
-pub fn submit_path<W: Write>(
-    rt: &HostRuntime,
-    path: &str,
-    options: &SubmitOptions<'_>,
-    writer: &mut W,
-) -> Status
-    ensures answered { IfAnswered result W.contents writer.old writer.new
-        (HasSubmitted options.now None) }
-    ensures failed { IfFailed result W.contents writer.old writer.new
-        (IsFailedSubmit options.now None) }
-{
-    match File::open(rt, path) {
-        Ok(file) => submit_list(rt.alloc(), options, file, writer),
-        Err(_) => print_unavailable(writer, Tries::new()),
-    }
-}
-
 // What is to be printed of an input, if it could be had, and the tries that are left.
-fn input_answer<R: Read + Drop>(
+fn input_answer<R: Source + Drop>(
     alloc: Global,
     options: &SubmitOptions<'_>,
     reader: R,

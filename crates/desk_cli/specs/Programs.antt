@@ -1,5 +1,5 @@
 -- What the program does by its words.
-use Rattle.std.specs.Prelude.{◌≡◌, ◌≢◌, ℕ, ⊤, List, drop, map, Option, Result, Ok, Err, Vec, String, codes, string_bytes}
+use Rattle.std.specs.Prelude.{◌≡◌, ◌≢◌, ℕ, ⊤, List, drop, map, Result, Ok, Err, Vec, String, codes, string_bytes}
 use Rattle.std.specs.Borrow.{Bor}
 use Rattle.std.specs.IoError.{error_kind}
 use Rattle.std.specs.Vec.Iter.{into_iter_items}
@@ -9,47 +9,35 @@ use Rattle.std.specs.declared.io.ErrorKind.{ErrorKind}
 use Rattle.std.specs.declared.io.ErrorKind.TheVariants.{InvalidData}
 use Rattle.std.specs.declared.vec.IntoIter.{IntoIter}
 use Rattle.clap.specs.Words.{Text}
+use Rattle.io_retries.specs.declared.sink.Sink as sink
 use Rattle.cli_words.specs.CommandLine.{GivesAt}
-use Rattle.desk_cli.specs.Commands.{CarriesOut, FailsToCarryOut, PrintsLineFault, NoneKnown}
-use Rattle.cli_commands.specs.ExitCodes.{code_of}
-use Rattle.cli_commands.specs.declared.status.Status.{Status}
-use Rattle.cli_commands.specs.declared.status.Status.TheVariants.{Failed}
 use Rattle.cli_words.specs.declared.command.Command.{Command}
 use Rattle.cli_words.specs.declared.command.LineFault.{LineFault}
 use Rattle.cli_words.specs.declared.command.LineFault.TheVariants.{NoMemory, Usage}
-
--- the command was carried out, or failed, and the exit status says which
-abbrev pub RunsCommand : Command → (input old new : Option (List ℕ)) → (code : ℕ) → Type 0
-RunsCommand command input old new code =
-    (status : Status)
-    × (code ≡ code_of status)
-    × (status ≢ Failed → CarriesOut NoneKnown command input old new status)
-    × (status ≡ Failed → FailsToCarryOut NoneKnown command input old new)
-
--- the command that the words give is run, or why they give none is printed
-abbrev pub DoesRead : Result Command LineFault → (input old new : Option (List ℕ)) → (code : ℕ) → Type 0
-DoesRead (Ok command) input old new code = RunsCommand command input old new code
-DoesRead (Err fault) input old new code = PrintsLineFault fault old new code
-
--- the program does what the words ask for
-abbrev pub RunsWords : (words : List Text) → (input old new : Option (List ℕ)) → (code : ℕ) → Type 0
-RunsWords words input old new code =
-    (read : Result Command LineFault) × GivesAt words read × DoesRead read input old new code
+use Rattle.cli_commands.specs.ExitCodes.{code_of}
+use Rattle.cli_commands.specs.declared.status.Status.{Status}
+use Rattle.desk_cli.specs.Commands.{PrintsLineFault}
 
 -- the words behind references
 abbrev pub words_in : List (Bor (List ℕ)) → List Text
 words_in words = map (λ w. w.now) words
 
--- and does so over a reader and a writer
-abbrev pub RunsTexts : {W : Type 0} → (texts : List (Bor (List ℕ))) → (input : Option (List ℕ))
-    → (contents : W → Option (List ℕ)) → (old new : W) → (code : ℕ) → Type 0
-RunsTexts texts input contents old new code = RunsWords (words_in texts) input (contents old) (contents new) code
+-- `Runs` says what a command does that is run and ends so
+module _ {W : Type 0} (w : sink.Ghosts W) (Runs : Command → (old new : W) → Status → Type 0) (old new : W) where
+  -- the command that the words give is run, and the exit status says how it ended; or why they give none is printed
+  abbrev pub DoesRead : Result Command LineFault → (code : ℕ) → Type 0
+  DoesRead (Ok command) code = (status : Status) × (code ≡ code_of status) × Runs command old new status
+  DoesRead (Err fault) code = PrintsLineFault fault w old new code
 
--- The words that the program was started with are its name, which asks for nothing, and those that are run. Where they
--- could not be had, why is printed.
-abbrev pub RunsStarted : Result (Vec (String Global) Global) LineFault → (input old new : Option (List ℕ)) → (code : ℕ) → Type 0
-RunsStarted (Ok words) input old new code = RunsWords (map string_bytes (drop 1 words.items)) input old new code
-RunsStarted (Err fault) input old new code = PrintsLineFault fault old new code
+  -- the program does what the words ask for
+  abbrev pub RunsWords : (words : List Text) → (code : ℕ) → Type 0
+  RunsWords words code = (read : Result Command LineFault) × GivesAt words read × DoesRead read code
+
+  -- The words that the program was started with are its name, which asks for nothing, and those that are run. If they could
+  -- not be had, why is printed.
+  abbrev pub RunsStarted : Result (Vec (String Global) Global) LineFault → (code : ℕ) → Type 0
+  RunsStarted (Ok words) code = RunsWords (map string_bytes (drop 1 words.items)) code
+  RunsStarted (Err fault) code = PrintsLineFault fault w old new code
 
 -- ---- the words that the program was started with
 

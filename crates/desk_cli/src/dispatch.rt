@@ -1,86 +1,93 @@
 //! Commands that are carried out, and line faults that are printed.
-ghost use Rattle.desk_cli.specs.Commands.{IfCarriedOut, IfCarriedOutFrom, IfGivenUp, IfGivenUpFrom, NoneKnown, PrintsLineFault, PrintsWithCode};
+ghost use Rattle.std.specs.Prelude.{◌≤◌};
+ghost use Rattle.desk_cli.specs.Commands.{IfCarriedOut, IfGivenUp, PrintsLineFault, PrintsWithCode, RunsBy, TellsOfFile};
 
 use crate::init_desk::make_desk;
 use crate::kept_session::answer_by_file;
+use crate::listed_files::{check_at, submit_at};
 use crate::migrate_desk::migrate_by_file;
 use crate::served_file::serve_by_file;
-use cli_commands::{
-    Status, answer_messages, check_path, first_run, print_unavailable, submit_path, write_line,
-};
+use cli_commands::{Status, answer_messages, first_run, print_unavailable, write_line};
 use cli_words::{Command, LineFault, VERSION_LINE};
-use io_retries::Tries;
-use sql_files::{Connection, FileFrom, FileStore, Start, Wary};
-use std::io::{Read, Write};
+use http_session::Network;
+use io_retries::{Sink, Source, Tries};
+use sql_files::{Closes, DeskFiles, Opened};
+use std::alloc::Global;
 
-/// Carries out a command, which reads what it needs of the reader and prints to the writer.
+/// Carries out a command, which reads what it needs of the reader and prints to the writer, over files and a
+/// network, and closes what it opened.
 ///
-/// Where a file cannot be opened or read, `unavailable` is printed. A session prints its answers alone.
-///
-/// Of the history that a desk's file keeps these clauses say nothing, since no code can read what it
-/// holds: there the promise is that of `run_from`, for whatever it holds, which this function calls.
-pub fn run<R: Read + Drop, W: Write>(
-    rt: &HostRuntime,
+/// If a file cannot be opened or read, it prints `unavailable`. A session prints its answers alone. By the
+/// clause the promise is that of `run_from`, of what was then given back to the files.
+pub fn run_over<F, N: Network, R: Source + Drop, W: Sink>(
+    alloc: Global,
+    files: &mut F,
+    network: &N,
     command: &Command<'_>,
     reader: R,
     writer: &mut W,
 ) -> Status
-    ensures answered { IfCarriedOut NoneKnown command.now (R.remaining reader)
-        W.contents writer.old writer.new result }
-    ensures failed { IfGivenUp NoneKnown command.now (R.remaining reader)
-        W.contents writer.old writer.new result }
+where
+    F: DeskFiles + Closes<Opened<F::Device>>,
+    ensures { RunsBy F.DeskFiles F.Device.Disk F.Input.Source
+        N.Network N.Bound.Listener N.Bound.Stream.Connection N.Bound.Stream.Source N.Bound.Stream.Sink
+        R.Source W.Sink files.old network.now reader F.Closes files.new command.now
+        writer.old writer.new result }
 {
-    run_from(rt, Wary, command, reader, writer)
-}
-
-/// Carries out a command as `run` does, where `S` stands for what the files of a desk hold. No code can
-/// read that: what is proved for all `S` is so for whatever they hold.
-pub fn run_from<S: Start, R: Read + Drop, W: Write>(
-    rt: &HostRuntime,
-    start: S,
-    command: &Command<'_>,
-    reader: R,
-    writer: &mut W,
-) -> Status
-    ensures answered { IfCarriedOutFrom S.Start command.now (R.remaining reader)
-        W.contents writer.old writer.new result }
-    ensures failed { IfGivenUpFrom S.Start command.now (R.remaining reader)
-        W.contents writer.old writer.new result }
-{
-    let (status, _opened) = carry_out(rt, start, command, reader, writer);
+    let (status, opened) = run_from(alloc, files, network, command, reader, writer);
+    files.close(opened);
     status
 }
 
-// Carries out a command, and gives the connection to the file that it opened, so that all files are closed
-// in one place: each that is closed takes the prover its time, as the type of such a connection is long.
-fn carry_out<S: Start, R: Read + Drop, W: Write>(
-    rt: &HostRuntime,
-    start: S,
+/// Carries out a command over files and a network, and gives what it opened: the connection, or the refusal.
+/// This is the theorem of the program.
+///
+/// By the clause `file` the command's own path was looked at, and the desk there opened, made or migrated, as
+/// the command says, and nothing else was asked of the files. By `answered` and `failed` what was printed is
+/// by that connection, or it is the fault of that refusal; and `serve` bound its port, and accepted as many
+/// connections as it says.
+pub fn run_from<F: DeskFiles, N: Network, R: Source + Drop, W: Sink>(
+    alloc: Global,
+    files: &mut F,
+    network: &N,
     command: &Command<'_>,
     reader: R,
     writer: &mut W,
-) -> (Status, Option<Connection<FileStore<FileFrom<S>>>>)
-    ensures answered { IfCarriedOutFrom S.Start command.now (R.remaining reader)
-        W.contents writer.old writer.new result.0 }
-    ensures failed { IfGivenUpFrom S.Start command.now (R.remaining reader)
-        W.contents writer.old writer.new result.0 }
+) -> (Status, Opened<F::Device>)
+    ensures file { TellsOfFile F.DeskFiles F.Device.Disk files.old command.now result.1 files.new }
+    ensures answered { IfCarriedOut F.DeskFiles F.Device.Disk F.Input.Source
+        N.Network N.Bound.Listener N.Bound.Stream.Connection N.Bound.Stream.Source N.Bound.Stream.Sink
+        R.Source W.Sink files.old network.now reader command.now writer.old writer.new result }
+    ensures failed { IfGivenUp F.DeskFiles F.Device.Disk F.Input.Source
+        N.Network N.Bound.Listener N.Bound.Stream.Connection N.Bound.Stream.Source N.Bound.Stream.Sink
+        R.Source W.Sink files.old network.now reader command.now writer.old writer.new result }
 {
     match *command {
-        Command::AnswerSubmission => (first_run(rt.alloc(), reader, writer), None),
-        Command::Check(path) => (check_path(rt, path, writer), None),
-        Command::Submit(path, options) => (submit_path(rt, path, &options, writer), None),
-        Command::AnswerMessages => (answer_messages(rt.alloc(), reader, writer), None),
-        Command::Init(path, options) => make_desk(rt, path, start, &options, writer),
-        Command::AnswerByFile(path) => answer_by_file(rt, path, start, reader, writer),
-        Command::Serve(path, options) => serve_by_file(rt, path, start, options, writer),
-        Command::Migrate(path) => migrate_by_file(rt, path, start, writer),
+        Command::AnswerSubmission => (first_run(alloc, reader, writer), None),
+        Command::Check(path) => (check_at(alloc, files, path, writer), None),
+        Command::Submit(path, options) => (submit_at(alloc, files, path, &options, writer), None),
+        Command::AnswerMessages => (answer_messages(alloc, reader, writer), None),
+        Command::Init(path, options) => make_desk(alloc, files, path, &options, writer),
+        Command::AnswerByFile(path) => {
+            let (status, opened) = answer_by_file(alloc, files, path, reader, writer);
+            (status, Some(opened))
+        }
+        Command::Serve(path, options) => {
+            let (status, opened) = serve_by_file(alloc, files, network, path, options, writer);
+            (status, Some(opened))
+        }
+        Command::Migrate(path) => {
+            let (status, opened) = migrate_by_file(alloc, files, path, writer);
+            (status, Some(opened))
+        }
     }
 }
 
 /// Prints why words name no command, and gives the exit status: 0 for help and the version, 2 for wrong
-/// words, and 3 where a write fails or the program is out of memory.
-pub fn print_line_fault<W: Write>(writer: &mut W, fault: &LineFault) -> u8
-    ensures { PrintsLineFault fault.now (W.contents writer.old) (W.contents writer.new) result }
+/// words, and 3 if a write fails or memory ran out.
+pub fn print_line_fault<W: Sink>(writer: &mut W, fault: &LineFault) -> u8
+    ensures printed { PrintsLineFault fault.now W.Sink writer.old writer.new result }
+    ensures status { result ≤ 3 }
 {
     match fault {
         LineFault::Help(text) => print_with_code(writer, text.as_bytes(), 0),
@@ -90,8 +97,9 @@ pub fn print_line_fault<W: Write>(writer: &mut W, fault: &LineFault) -> u8
     }
 }
 
-fn print_with_code<W: Write>(writer: &mut W, text: &[u8], code: u8) -> u8
-    ensures { PrintsWithCode (W.contents writer.old) (W.contents writer.new) text.now code result }
+fn print_with_code<W: Sink>(writer: &mut W, text: &[u8], code: u8) -> u8
+    ensures printed { PrintsWithCode text.now code W.Sink writer.old writer.new result }
+    ensures status { code ≤ 3 → result ≤ 3 }
 {
     match write_line(writer, text, Tries::new()) {
         Ok(()) => code,

@@ -1,41 +1,59 @@
 //! The command that makes a new desk.
-ghost use Rattle.std.specs.Prelude.{IfSome};
 ghost use Rattle.cli_commands.specs.Endings.{IfAnswered, IfFailed};
-ghost use Rattle.desk_cli.specs.NewDesks.{IsMadeFrom};
+ghost use Rattle.cli_words.specs.InitOptions.{init_texts_of};
+ghost use Rattle.sha2.specs.Sha256.{sha256};
 ghost use Rattle.desk_cli.specs.InitRuns.{FailsToSayWhetherCreated, SaysWhetherCreated};
+ghost use Rattle.desk_cli.specs.Paths.{IsMadeAt, IsOfOptions};
 
-use crate::init_file::{InitFault, new_desk};
 use crate::open_fault::print_open_fault;
-use cli_commands::{Status, print_line};
+use cli_commands::{Status, identity_of, print_line};
 use cli_words::InitOptions;
-use sql_files::{Connection, FileFrom, FileStore, Start};
-use std::io::Write;
+use desk_history::Identity;
+use io_retries::Sink;
+use sha2::{Digest, Sha256};
+use sql_files::{Connection, DeskFiles, FileStore, Opened, Refusal};
+use std::alloc::Global;
 
 /// This line is printed of a new desk.
 const CREATED: &[u8; 8] = b"created\n";
 
-/// Makes a new desk in the file at a path, prints `created`, and gives the connection, so that the
-/// file may be closed; or prints the first bad option, as `bad odfi`, or `Exists` where the file is a desk
-/// already.
+/// Makes a new desk in the file at a path, prints `created`, and gives the connection.
 ///
-/// Where the file cannot be opened or has something else in it, or memory runs out, `unavailable` is
-/// printed.
-pub fn make_desk<S: Start, W: Write>(
-    rt: &HostRuntime,
+/// If the file has a table `desk` already, it prints `Exists`; if the file cannot be opened or has something
+/// else in it, or memory runs out, `unavailable`. That is the fault of the refusal that it gives. If an option
+/// is bad, it prints the first, as `bad odfi`, and asks for no file.
+pub fn make_desk<F: DeskFiles, W: Sink>(
+    alloc: Global,
+    files: &mut F,
     path: &str,
-    start: S,
     options: &InitOptions<'_>,
     writer: &mut W,
-) -> (Status, Option<Connection<FileStore<FileFrom<S>>>>)
-    ensures made { IfSome result.1 (IsMadeFrom S.Start options.now) }
-    ensures answered { IfAnswered result.0 W.contents writer.old writer.new
-        (SaysWhetherCreated options.now result.1) }
-    ensures failed { IfFailed result.0 W.contents writer.old writer.new
-        (FailsToSayWhetherCreated options.now result.1) }
+) -> (Status, Opened<F::Device>)
+    ensures file { IsOfOptions F.DeskFiles F.Device.Disk files.old path.now
+        (init_texts_of options.now) result.1 files.new }
+    ensures answered { IfAnswered result.0 W.Sink writer.old writer.new
+        (SaysWhetherCreated (init_texts_of options.now) result.1) }
+    ensures failed { IfFailed result.0 W.Sink writer.old writer.new
+        (FailsToSayWhetherCreated (init_texts_of options.now) result.1) }
 {
-    match new_desk(rt, path, start, options) {
-        Ok(conn) => (print_line(writer, true, CREATED), Some(conn)),
-        Err(InitFault::Bad(fault)) => (print_line(writer, false, fault.line()), None),
-        Err(InitFault::File(fault)) => (print_open_fault(rt.alloc(), writer, fault), None),
+    match identity_of(options) {
+        Ok(identity) => match new_desk(files, path, identity, options.key) {
+            Ok(conn) => (print_line(writer, true, CREATED), Some(Ok(conn))),
+            Err(why) => (print_open_fault(alloc, writer, why.fault()), Some(Err(why))),
+        },
+        Err(fault) => (print_line(writer, false, fault.line()), None),
     }
+}
+
+// Makes a new desk of this bank, with the digest of this key.
+fn new_desk<F: DeskFiles>(
+    files: &mut F,
+    path: &str,
+    identity: Identity,
+    key: &str,
+) -> Result<Connection<FileStore<F::Device>>, Refusal<F::Device>>
+    ensures { IsMadeAt F.DeskFiles F.Device.Disk files.old path.now identity
+        (sha256 key.now) result files.new }
+{
+    files.create(path, identity, Sha256::digest(key.as_bytes()))
 }

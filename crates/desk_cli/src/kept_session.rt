@@ -1,59 +1,67 @@
 //! The command that answers messages by the desk in a file.
+ghost use Rattle.std.specs.Prelude.{◌≡◌, ◌≢◌};
 ghost use Rattle.sqlite.specs.Held.{state};
 ghost use Rattle.sqlite.specs.State.{HasCleanDisk};
-ghost use Rattle.desk_cli.specs.KeptRuns.{IfFileAnswered, IfFileBrokeOff, IfTablesAnswered, IfTablesBrokeOff};
+ghost use Rattle.desk_cli.specs.KeptRuns.{FileAnswers, FileBreaksOff, StandsInTables, TablesAnswer, TablesBreakOff};
+ghost use Rattle.desk_cli.specs.Paths.{IsOpenedAt};
 
 use crate::open_fault::print_open_fault;
 use cli_commands::{Status, answer_remembering};
-use sql_files::{Connection, FileFrom, FileStore, Start, open};
+use io_retries::{Sink, Source};
+use sql_files::{Connection, DeskFiles, FileStore, Refusal};
 use sql_store::SqlStore;
 use sqlite::Alter;
 use std::alloc::Global;
-use std::io::{Read, Write};
 
 /// Answers the messages that a reader's bytes spell, in one session, by the desk in the file at a path,
-/// and gives the connection to it, where there is one, so that the file may be closed.
+/// and gives the connection to it, or why there is none.
 ///
-/// The command ends as `answer_messages` says. Where the file is not opened as a desk, `NotADesk`,
-/// `WrongVersion 9` or `unavailable` is printed, and there is no session.
+/// The command ends as `answer_messages` says. If the file is not opened as a desk, it prints `NotADesk`,
+/// `WrongVersion 9` or `unavailable`, which is the fault of the refusal that it gives, and there is no
+/// session.
 ///
 /// By the clauses each answer is the text of its message after those before it, for every history whose
-/// book the file kept, and the tables then stand for that history with these messages and no other, where
-/// nobody else acted on the file.
-pub fn answer_by_file<S: Start, R: Read + Drop, W: Write>(
-    rt: &HostRuntime,
+/// book the file kept. The tables that the connection sees then stand for that history with these messages
+/// and no other, if its disk is clean.
+pub fn answer_by_file<F: DeskFiles, R: Source + Drop, W: Sink>(
+    alloc: Global,
+    files: &mut F,
     path: &str,
-    start: S,
     reader: R,
     writer: &mut W,
-) -> (Status, Option<Connection<FileStore<FileFrom<S>>>>)
-    ensures answered { IfFileAnswered S.Start (R.remaining reader)
-        W.contents writer.old writer.new result }
-    ensures failed { IfFileBrokeOff S.Start (R.remaining reader)
-        W.contents writer.old writer.new result }
+) -> (
+    Status,
+    Result<Connection<FileStore<F::Device>>, Refusal<F::Device>>,
+)
+    ensures file { IsOpenedAt F.DeskFiles F.Device.Disk files.old path.now result.1 files.new }
+    ensures answered { result.0 ≢ Status.Failed → FileAnswers R.Source reader
+        W.Sink writer.old writer.new (F.holds files.old path.now) result.1 result.0 }
+    ensures failed { result.0 ≡ Status.Failed → FileBreaksOff R.Source reader
+        W.Sink writer.old writer.new (F.holds files.old path.now) result.1 }
 {
-    match open(rt, path, start) {
+    let presence = files.look(path);
+    match files.open(path, presence) {
         Ok(conn) => {
-            let (status, conn) = answer_by_tables(rt.alloc(), conn, reader, writer);
-            (status, Some(conn))
+            let (status, conn) = answer_by_tables(alloc, conn, reader, writer);
+            (status, Ok(conn))
         }
-        Err(fault) => (print_open_fault(rt.alloc(), writer, fault), None),
+        Err(why) => (print_open_fault(alloc, writer, why.fault()), Err(why)),
     }
 }
 
 // The same by the desk in the tables of a connection. That they are those of files is left out here, so
 // that the prover does not compare the store's calls with those of so long a type.
-fn answer_by_tables<P: Alter + Drop, R: Read + Drop, W: Write>(
+fn answer_by_tables<P: Alter + Drop, R: Source + Drop, W: Sink>(
     alloc: Global,
     conn: Connection<P>,
     reader: R,
     writer: &mut W,
 ) -> (Status, Connection<P>)
     ensures before { HasCleanDisk (state P.Store result.1) → HasCleanDisk (state P.Store conn) }
-    ensures answered { IfTablesAnswered P.Store conn (R.remaining reader)
-        W.contents writer.old writer.new result }
-    ensures failed { IfTablesBrokeOff P.Store conn (R.remaining reader)
-        W.contents writer.old writer.new result }
+    ensures answered { result.0 ≢ Status.Failed → TablesAnswer R.Source reader
+        W.Sink writer.old writer.new (StandsInTables (state P.Store conn)) (state P.Store result.1) result.0 }
+    ensures failed { result.0 ≡ Status.Failed → TablesBreakOff R.Source reader
+        W.Sink writer.old writer.new (StandsInTables (state P.Store conn)) (state P.Store result.1) }
 {
     let (status, store) = answer_remembering(alloc, SqlStore::new(conn), reader, writer);
     (status, store.into_connection())

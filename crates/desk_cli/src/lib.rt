@@ -5,8 +5,8 @@
 
 mod dispatch;
 mod init_desk;
-mod init_file;
 mod kept_session;
+mod listed_files;
 mod migrate_desk;
 mod open_fault;
 mod program;
@@ -17,9 +17,10 @@ pub use cli_commands::{
 };
 pub use cli_submit::{InputFault, RowFault, SubmitFault, SubmitOptions, submit_message};
 pub use cli_words::{Command, InitOptions, LineFault, ServeOptions, VERSION_LINE, command_of};
-pub use dispatch::{print_line_fault, run, run_from};
+pub use dispatch::{print_line_fault, run_from, run_over};
 pub use init_desk::make_desk;
 pub use kept_session::answer_by_file;
 pub use migrate_desk::migrate_by_file;
-pub use program::{run_program, run_started, run_words, started_words};
+pub use program::{run, run_program, run_started, run_words, started_words};
 pub use served_file::serve_by_file;
+pub use sql_files::{Closes, DeskFiles, HostFiles, Opened};

@@ -1,23 +1,23 @@
-//! Why a file is not opened as a desk, as it is printed.
+//! The line that is printed of a file that is not opened as a desk.
 ghost use Rattle.std.specs.Prelude.{◌≡◌, IfOk, IfSome, Some, string_bytes};
 ghost use Rattle.cli_commands.specs.Endings.{IfAnswered, IfFailed};
 ghost use Rattle.desk_cli.specs.OpenFaults.{fault_text, IsFaultAnswer, SaysFault, FailsToSayFault};
 
 use cli_commands::{Status, end_line, print_answer};
-use io_retries::Tries;
+use io_retries::{Sink, Tries};
 use sql_files::OpenFault;
 use std::alloc::{AllocError, Global};
-use std::io::Write;
 
 /// Prints why a file is not opened as a desk: `NotADesk`, `WrongVersion 9`, `Exists` or `unavailable`.
-pub fn print_open_fault<W: Write>(alloc: Global, writer: &mut W, fault: OpenFault) -> Status
-    ensures answered { IfAnswered result W.contents writer.old writer.new (SaysFault fault) }
-    ensures failed { IfFailed result W.contents writer.old writer.new (FailsToSayFault fault) }
+/// Where memory for the line runs out, it prints `unavailable`.
+pub fn print_open_fault<W: Sink>(alloc: Global, writer: &mut W, fault: OpenFault) -> Status
+    ensures answered { IfAnswered result W.Sink writer.old writer.new (SaysFault fault) }
+    ensures failed { IfFailed result W.Sink writer.old writer.new (FailsToSayFault fault) }
 {
     print_answer(writer, &fault_answer(alloc, fault), Tries::new())
 }
 
-// The line of a fault, where it has one and there is memory for it.
+// The line of a fault that has one, if there is memory for it.
 fn fault_answer(alloc: Global, fault: OpenFault) -> Option<(bool, Vec<u8>)>
     ensures { IfSome result (IsFaultAnswer fault) }
 {

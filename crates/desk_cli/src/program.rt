@@ -1,24 +1,65 @@
 //! The program: the words that it was started with, and what they ask for.
 ghost use Rattle.std.specs.Prelude.{◌≡◌, ◌≢◌, ◌≤◌, [], drop, map, IfOk, IfErr, OnErr, string_bytes};
 ghost use Rattle.std.specs.Vec.Iter.{into_iter_items};
-ghost use Rattle.desk_cli.specs.Programs.{words_in, GivesStarted, IsNotTextFault, RunsStarted, RunsTexts};
+ghost use Rattle.desk_cli.specs.Commands.{RunsHere};
+ghost use Rattle.desk_cli.specs.Programs.{words_in, GivesStarted, IsNotTextFault, RunsStarted, RunsWords};
 
-use crate::dispatch::{print_line_fault, run};
-use cli_words::{LineFault, command_of};
+use crate::dispatch::{print_line_fault, run_over};
+use cli_commands::Status;
+use cli_words::{Command, LineFault, command_of};
+use http_session::{Listener, Network};
+use io_retries::{Sink, Source};
+use sql_files::{Closes, DeskFiles, FileFrom, HostFiles, Opened, Wary};
+use sqlite_disk::Disk;
 use std::alloc::{AllocError, Global};
 use std::env::Args;
-use std::io::{ErrorKind, Read, Write};
+use std::fs::File;
+use std::io::ErrorKind;
+use std::net::{TcpListener, TcpStream};
 use std::{env, io};
+
+/// Carries out a command as `run_over` does, over the files and the network of the host. A desk's file is
+/// opened as `Wary`, which supposes nothing of a torn write.
+///
+/// No contract knows what the host's files hold, and the facts of its files and its network say nothing. What
+/// is promised for all files and networks is the contract of `run_over`.
+pub fn run<R: Source + Drop, W: Sink>(
+    rt: &HostRuntime,
+    command: &Command<'_>,
+    reader: R,
+    writer: &mut W,
+) -> Status
+    ensures { RunsHere ⟦<HostFiles<'static, Wary> as DeskFiles>⟧ ⟦<FileFrom<Wary> as Disk>⟧
+        ⟦<File as Source>⟧ ⟦<HostRuntime as Network>⟧ ⟦<TcpListener as Listener>⟧
+        ⟦<TcpStream as http_session::Connection>⟧ ⟦<TcpStream as Source>⟧ ⟦<TcpStream as Sink>⟧
+        ⟦<HostFiles<'static, Wary> as Closes<Opened<FileFrom<Wary>>>>⟧
+        R.Source W.Sink rt.now reader command.now writer.old writer.new result }
+{
+    run_over(
+        rt.alloc(),
+        &mut HostFiles::new(rt, Wary),
+        rt,
+        command,
+        reader,
+        writer,
+    )
+}
 
 /// Does what the words after the program's name ask for, over this reader and writer, and gives the
 /// exit status.
-pub fn run_words<R: Read + Drop, W: Write>(
+pub fn run_words<R: Source + Drop, W: Sink>(
     rt: &HostRuntime,
     words: &[&str],
     reader: R,
     writer: &mut W,
 ) -> u8
-    ensures { RunsTexts words.now (R.remaining reader) W.contents writer.old writer.new result }
+    ensures runs { RunsWords W.Sink (RunsHere ⟦<HostFiles<'static, Wary> as DeskFiles>⟧ ⟦<FileFrom<Wary> as Disk>⟧
+        ⟦<File as Source>⟧ ⟦<HostRuntime as Network>⟧ ⟦<TcpListener as Listener>⟧
+        ⟦<TcpStream as http_session::Connection>⟧ ⟦<TcpStream as Source>⟧ ⟦<TcpStream as Sink>⟧
+        ⟦<HostFiles<'static, Wary> as Closes<Opened<FileFrom<Wary>>>>⟧
+        R.Source W.Sink rt.now reader)
+        writer.old writer.new (words_in words.now) result }
+    ensures status { result ≤ 3 }
 {
     match command_of(rt.alloc(), words) {
         Ok(command) => run(rt, &command, reader, writer).code(),
@@ -29,14 +70,19 @@ pub fn run_words<R: Read + Drop, W: Write>(
 /// Does what the words that the program was started with ask for, over this reader and writer, and
 /// gives the exit status. The first word is the program's name, and asks for nothing. Where the words
 /// could not be had, why is printed.
-pub fn run_started<R: Read + Drop, W: Write>(
+pub fn run_started<R: Source + Drop, W: Sink>(
     rt: &HostRuntime,
     started: Result<Vec<String>, LineFault>,
     reader: R,
     writer: &mut W,
 ) -> u8
-    ensures { RunsStarted started
-        (R.remaining reader) (W.contents writer.old) (W.contents writer.new) result }
+    ensures runs { RunsStarted W.Sink (RunsHere ⟦<HostFiles<'static, Wary> as DeskFiles>⟧ ⟦<FileFrom<Wary> as Disk>⟧
+        ⟦<File as Source>⟧ ⟦<HostRuntime as Network>⟧ ⟦<TcpListener as Listener>⟧
+        ⟦<TcpStream as http_session::Connection>⟧ ⟦<TcpStream as Source>⟧ ⟦<TcpStream as Sink>⟧
+        ⟦<HostFiles<'static, Wary> as Closes<Opened<FileFrom<Wary>>>>⟧
+        R.Source W.Sink rt.now reader)
+        writer.old writer.new started result }
+    ensures status { result ≤ 3 }
 {
     let words = match started {
         Ok(words) => words,

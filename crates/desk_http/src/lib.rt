@@ -24,9 +24,10 @@ pub use http_json::{
     company_draft, day_draft, fault_text, limits_draft, put_acceptance, read_object, refusal_text,
     retry_draft, submission_draft,
 };
-pub use http_message::Message;
+pub use http_message::{Field, Message, Request, Version};
 pub use http_response::UNAVAILABLE;
 pub use http_routes::{RouteFault, Routes};
 pub use http_session::{
-    Answers, CountedListener, Ended, ServeFault, SessionFault, Tries, Unavailable, serve, session,
+    Answers, Connection, Ended, Listener, ServeFault, SessionFault, Tries, Unavailable, serve,
+    session,
 };

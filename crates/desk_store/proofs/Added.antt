@@ -1,4 +1,4 @@
--- What one more submission makes of the book.
+-- The effect of one more submission on the book.
 use Rattle.std.proofs.Common.{◌≡◌, ◌∙◌, ap, sym, inl, inr, ℕ, ◌+◌, Bool, List, [], ◌∷◌, ◌++◌, map, length}
 use Rattle.std.specs.Prelude.{filter, if◌then◌else◌, bytes_eq, Option}
 use Rattle.std.proofs.lemmas.Bool.{cases_Bool}

@@ -1,4 +1,4 @@
--- What a cut makes of flat rows is what it makes of their book.
+-- A cut has the same effect on flat rows as on their book.
 use Rattle.std.proofs.Common.{◌≡◌, ℕ, List, [], ◌∷◌, ◌++◌, map, refl, sym, ap, ◌∙◌, append_assoc}
 use Rattle.std.specs.Prelude.{◌&&◌, ◌==◌, if◌then◌else◌, fold, is_none, option_map, find, Some}
 use Rattle.std.proofs.lemmas.List.{append-nil, reverse-append}

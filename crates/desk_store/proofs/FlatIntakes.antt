@@ -1,4 +1,4 @@
--- What an incoming file makes of flat rows is what it makes of their book.
+-- An incoming file has the same effect on flat rows as on their book.
 use Rattle.std.proofs.Common.{◌≡◌, ℕ, List, [], ◌∷◌, ◌++◌, map, sym, ap, ◌∙◌, append_assoc}
 use Rattle.std.specs.Prelude.{◌&&◌, if◌then◌else◌, fold, is_none, find, Option, Some, bytes_eq}
 use Rattle.std.proofs.lemmas.List.{append-nil}

@@ -1,4 +1,4 @@
--- What a change of flat lists makes of the look-ups of a book.
+-- The effect of a change of flat lists on the look-ups of a book.
 use Rattle.std.proofs.Common.{◌≡◌, ℕ, ◌+◌, List, [], ◌∷◌, ◌++◌, map, Bool, true, false, cond, refl, sym, ap, ◌∙◌, inl, inr, arith}
 use Rattle.std.specs.Prelude.{if◌then◌else◌, filter, count_by, bytes_eq}
 use Rattle.std.proofs.lemmas.Bool.{cases_Bool, false_from_ne_true}
@@ -66,7 +66,7 @@ passing_more row p xs x =
     ∙ map-append row (filter p xs) (filter p (x ∷ []))
     ∙ elim (p x) as (λ t. map row (filter p xs) ++ map row (cond t (x ∷ []) []) ≡ map row (filter p xs) ++ (if t then row x ∷ [] else [])) [ true ↦ refl | false ↦ refl ]
 
--- it stands at the end of its company's
+-- it comes last among its company's
 pub own_more : {X Y : Type 0} (row : X → Y) (company : X → List ℕ) (xs : List X) (x : X) (c : List ℕ)
     → map row (filter (λ y. bytes_eq (company y) c) (xs ++ x ∷ [])) ≡ change_at (company x) (λ ys. ys ++ row x ∷ []) (λ d. map row (filter (λ y. bytes_eq (company y) d) xs)) c
 own_more row company xs x c =

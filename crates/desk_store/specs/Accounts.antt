@@ -1,4 +1,4 @@
--- What reads of a store find of an account.
+-- The reads of an account.
 use Rattle.std.specs.Prelude.{ℕ, ℤ, List}
 use Rattle.desk_accounts.specs.declared.account.Account.{Account}
 use Rattle.desk_accounts.specs.declared.posting.Posting.{Posting}

@@ -1,4 +1,4 @@
--- What a cut and an intake make of the flat rows.
+-- The effect of a cut and an intake on the flat rows.
 use Rattle.std.specs.Prelude.{List, [], ◌∷◌, ◌++◌, map, fold, if◌then◌else◌, ℕ, bytes_eq}
 use Rattle.desk_book.specs.declared.row.Row.{Row}
 use Rattle.desk_book.specs.Standing.{sent_row, lapsed_row}

@@ -1,4 +1,4 @@
--- What a company hands in, as it is kept until a cut.
+-- An accepted submission, as it is kept until a cut.
 use Rattle.std.specs.Prelude.{ℕ, false, List, length, replicate, Option, None}
 use Rattle.desk_rules.specs.declared.rules.entry_fact.EntryState.TheVariants.{Held}
 use Rattle.desk_rules.specs.declared.bodies.submission.Retry.{Retry}

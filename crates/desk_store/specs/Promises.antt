@@ -1,6 +1,6 @@
--- What a call of a store promises, in one word for each kind of call: that the store was clean as the call began if it is
--- clean as it ends, what the call tells of the book or makes of it, and what a crash may leave then. `is_clean`, `holds`,
--- `keeps` and `may_leave` say of a store what the trait says that they do.
+-- The promises of a store's calls, in one word for each kind of call: that the store was clean when the call began if
+-- it is clean when it ends, what the call says of the book or does to it, and what a crash may leave then. `is_clean`,
+-- `holds`, `keeps` and `may_leave` have the meaning that the trait gives them.
 use Rattle.std.specs.Prelude.{ℕ, List, Option, Result, Vec}
 use Rattle.std.specs.declared.alloc.Global.{Global}
 use Rattle.desk_rules.specs.declared.bodies.submission.Retry.{Retry}
@@ -10,7 +10,7 @@ use Rattle.desk_book.specs.Steps.{Step, add_submission}
 use Rattle.desk_store.specs.Words.{Reads, ReadsList, Writes, LeavesRead, LeavesWrite}
 use Rattle.desk_store.specs.declared.store.StoreFault.{StoreFault}
 
--- The call tells this, and a crash leaves nothing that it could not leave before.
+-- The call says this, and a crash leaves nothing that it could not leave before.
 pub record CallTells {S Kept : Type 0} (is_clean : S → Type 0) (may_leave : S → Kept → Type 0) (old new : S) (Told : Type 0) : Type 0 where
   pub before : is_clean new → is_clean old
   pub read : is_clean new → Told
@@ -37,7 +37,7 @@ module _ {S Kept : Type 0} (is_clean : S → Type 0) (holds : S → Book → Typ
   CallTakes keeps old new result step =
       CallMakes is_clean old new (Writes (holds old) result step (holds new)) (LeavesWrite keeps (holds old) (may_leave old) result step (may_leave new))
 
-  -- So it takes the step that adds a company's submission or retry.
+  -- It takes the step that adds a company's submission or retry.
   abbrev pub CallAdds : (keeps : Kept → Book → Type 0) → (old new : S) → Result (Unit {0}) StoreFault
       → (company : List ℕ) → (order : ℕ) → Submission → Option Retry → Type 0
   CallAdds keeps old new result company order s retry =

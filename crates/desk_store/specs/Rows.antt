@@ -20,8 +20,8 @@ pub record CompanyRow : Type 0 where
   pub company : List ℕ
   pub row : Row
 
--- Companies stand in the byte order of their identifications, all else in the order in which it came:
--- so a company's submissions by order number, and their entries by index.
+-- Companies are listed in the byte order of their identifications, everything else in the order in which it was
+-- written: a company's submissions by order number, and their entries by index.
 pub record Rows : Type 0 where
   pub identity : Identity
   pub operator_key : List ℕ

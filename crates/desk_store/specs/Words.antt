@@ -1,4 +1,4 @@
--- What calls of a store say, by the books that it may hold before and after.
+-- The results of a store's calls, by the books that it may hold before and after.
 use Rattle.std.specs.Prelude.{◌≡◌, ◌⊎◌, Result, Ok, Err, List, Vec}
 use Rattle.std.specs.declared.alloc.Global.{Global}
 use Rattle.desk_book.specs.Book.{Book}

@@ -1,4 +1,4 @@
--- What the desk hands to a store to write.
+-- The values that the desk gives a store to write.
 use Rattle.std.specs.Prelude.{◌≡◌, ℕ}
 use Rattle.desk_store.specs.declared.store.CutRows.{CutRows}
 use Rattle.desk_store.specs.declared.store.IntakeRows.{IntakeRows}
@@ -8,7 +8,7 @@ use Rattle.desk_book.specs.Steps.{CutWrite, IntakeWrite, Step, commit_cut, commi
 abbrev pub cut_rows : CutRows → CutWrite
 cut_rows x = record { sent = x.sent.now; lapsed = x.lapsed.now; entries = x.entries.now; postings = x.postings.now; files = x.files.now }
 
--- a cut, where it is said how many entries were sent before it
+-- a cut, given the number of entries sent before it
 abbrev pub commit_cut_after : (before : ℕ) → CutWrite → Step
 commit_cut_after before x = record { Admits = λ b. (commit_cut x).Admits b × (before ≡ sent_count b); after = (commit_cut x).after }
 

@@ -50,7 +50,7 @@ impl<T: Drop> From<AllocFailed<T>> for StoreFault {
 pub struct LastNumber {
     /// Its sequence, 0 where no entry was sent.
     pub sequence: u32,
-    /// Its place among all sent entries, from 1: so many were sent.
+    /// Its place among all sent entries, from 1, which is their number.
     pub place: u64,
 }
 
@@ -77,16 +77,16 @@ pub struct IntakeRows<'a> {
     pub file: TakenFile,
 }
 
-/// A `Store` is the store of a desk. It holds a book.
+/// The store of a desk. It holds a book.
 ///
-/// Each call answers, or says that it could not act: then the store holds what it held. Each write
-/// is one atomic step. What is said of the book holds where the store is clean as the call ends.
+/// Each call succeeds, or returns `StoreFault::Unavailable` and leaves the book unchanged. Each write is
+/// one atomic step. The clauses about the book hold if the store is clean when the call ends.
 ///
-/// A write is owed for what a desk writes. To rows that no desk writes a store may answer that it
-/// could not act: a company, reference, file or key that is there already; a retry unlike its
-/// content; a submission that is sent or lapses and is not held, or comes twice; an entry that was
-/// sent before, or a sequence past 9,999,999; a return or change of an unknown reference, or a
-/// return of what was not sent; sums of an account that it cannot keep.
+/// A write must succeed for the rows that a desk writes. For other rows a store may return
+/// `Unavailable`: a company, reference, file or key that exists already; a retry unlike its content; a
+/// submission that is sent or lapses and is not held, or appears twice; an entry that was sent before,
+/// or a sequence past 9,999,999; a return or change of an unknown reference, or a return of an entry
+/// that was not sent; sums of an account that it cannot keep.
 pub trait Store {
     /// Says which books it may hold: the one that it holds.
     ghost holds: { Self → Book → Type 0 };
@@ -94,8 +94,8 @@ pub trait Store {
     /// Is in what form it keeps a book, as the rows of its tables: what a crash leaves is this.
     ghost Kept: { Type 0 };
 
-    /// Says of which books this is the form. It may be that of two, since of a sequence that is used
-    /// again the tables of a desk no longer name the older entry.
+    /// The books that have this form. It may be two, because the tables of a desk no longer name the
+    /// older entry of a sequence that is used again.
     ghost keeps: { Kept → Book → Type 0 };
 
     /// Says what a crash may leave.
@@ -108,7 +108,7 @@ pub trait Store {
     fn identity(&mut self, alloc: Global) -> Result<Identity, StoreFault>
         ensures { CallGives is_clean holds may_leave self.old self.new result (λ b. b.identity) };
 
-    /// Reads the digest of a caller's key; there is none where the company is not registered.
+    /// Reads the digest of a caller's key, or `None` if the company is not registered.
     fn key_of(&mut self, alloc: Global, caller: Caller) -> Result<Option<[u8; 32]>, StoreFault>
         ensures { CallGives is_clean holds may_leave self.old self.new result (key_of caller) };
 
@@ -144,8 +144,8 @@ pub trait Store {
         ensures { CallGives is_clean holds may_leave self.old self.new result
             (submission_count company) };
 
-    /// Reads a company's submissions and retries with their entries, by order number, of which an
-    /// entry is held or settled on a day or later, also where it came back.
+    /// Reads a company's open submissions and retries with their entries, by order number: those with
+    /// an entry that is held or settled on a day or later. Returned entries count too.
     fn open_rows(&mut self, alloc: Global, company: Id, since: Day) -> Result<Vec<Row>, StoreFault>
         ensures { CallGivesList is_clean holds may_leave self.old self.new result
             (open_rows_of company since) };
@@ -167,9 +167,9 @@ pub trait Store {
         ensures { CallGivesList is_clean holds may_leave self.old self.new result
             (λ b. b.rows company) };
 
-    /// Reads a company's credit exposure and its debit exposure on a day. Where a store has nothing
-    /// better, it reads the holidays and the rows that still count: the open ones, and all where
-    /// there is no day before which none is open.
+    /// Reads a company's credit exposure and its debit exposure on a day, in cents. A store without a
+    /// better way reads the holidays and the rows that still count: the open ones, or all if every
+    /// settlement still counts.
     fn exposures(
         &mut self,
         alloc: Global,
@@ -188,8 +188,8 @@ pub trait Store {
         Ok(exposures_among(alloc, &rows, today, &calendar)?)
     }
 
-    /// Reads a company's return rates on a day. Where a store has nothing better, it reads all the
-    /// company's rows.
+    /// Reads a company's return rates on a day. A store without a better way reads all the company's
+    /// rows.
     fn rates(&mut self, alloc: Global, company: Id, today: Day) -> Result<Rates, StoreFault>
         ensures { CallGives is_clean holds may_leave self.old self.new result
             (rates_of company today) }
@@ -245,8 +245,8 @@ pub trait Store {
         ensures { CallGives is_clean holds may_leave self.old self.new result
             (λ b. b.files_on day) };
 
-    /// Reads for each trace the youngest entry that has it, and whether that came back; what is no
-    /// trace names nothing.
+    /// Reads for each trace the youngest entry that has it, and whether that is returned. A text that
+    /// is not a trace names nothing.
     fn traced_entries(
         &mut self,
         alloc: Global,
@@ -266,9 +266,28 @@ pub trait Store {
         }
     }
 
-    /// Reads the returns and changes of a company's entries.
+    /// Returns the returns of a company's entries, in the order in which they were taken.
+    fn returns_of(&mut self, alloc: Global, company: Id) -> Result<Vec<ReturnRow>, StoreFault>
+        ensures { CallGivesList is_clean holds may_leave self.old self.new result
+            (λ b. b.returns company) };
+
+    /// Returns the notifications of change for a company's entries, in the order in which they were
+    /// taken.
+    fn changes_of(&mut self, alloc: Global, company: Id) -> Result<Vec<ChangeRow>, StoreFault>
+        ensures { CallGivesList is_clean holds may_leave self.old self.new result
+            (λ b. b.changes company) };
+
+    /// Returns the returns and the notifications of change of a company's entries.
     fn items_of(&mut self, alloc: Global, company: Id) -> Result<ReturnsAndChanges, StoreFault>
-        ensures { CallGives is_clean holds may_leave self.old self.new result (items_of company) };
+        ensures { CallGives is_clean holds may_leave self.old self.new result (items_of company) }
+    {
+        let returns = self.returns_of(alloc, company)?;
+        let changes = self.changes_of(alloc, company)?;
+        Ok(ReturnsAndChanges {
+            returns: ListOf::new(returns),
+            changes: ListOf::new(changes),
+        })
+    }
 
     /// Reads the lines of an account, in the order in which they came.
     fn postings_of(&mut self, alloc: Global, account: Account) -> Result<Vec<Posting>, StoreFault>
@@ -284,12 +303,12 @@ pub trait Store {
         ensures { CallGivesList is_clean holds may_leave self.old self.new result
             (balances_of account) };
 
-    /// Reads what stands in suspense, in the order in which it came.
+    /// Reads the items in suspense, in the order in which they were taken.
     fn suspense(&mut self, alloc: Global) -> Result<Vec<SuspenseRow>, StoreFault>
         ensures { CallGivesList is_clean holds may_leave self.old self.new result
             (λ b. b.suspense) };
 
-    /// Says how many items stand in suspense.
+    /// Returns the number of items in suspense.
     fn suspense_count(&mut self, alloc: Global) -> Result<u64, StoreFault>
         ensures { CallGives is_clean holds may_leave self.old self.new result
             (λ b. length b.suspense) };
@@ -339,8 +358,8 @@ pub trait Store {
         ensures { CallAdds is_clean holds may_leave keeps self.old self.new result
             company order content.now retry };
 
-    /// Writes all that a cut does. Each of its entries is one of a submission that it sends, as the
-    /// book has that submission, and so many entries were sent before as it says.
+    /// Writes all rows of a cut. Each of its entries is one of a submission that it sends, as the book
+    /// has that submission, and `before` is the number of entries sent before.
     fn commit_cut(&mut self, alloc: Global, cut: &CutRows<'_>) -> Result<(), StoreFault>
         ensures { CallTakes is_clean holds may_leave keeps self.old self.new result
             (cut_step cut.now) };

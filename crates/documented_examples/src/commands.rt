@@ -1,7 +1,8 @@
 //! Transcripts: commands of the program `achdesk` that need no desk's file, each with what it prints.
-use cli_commands::{answer_messages, check_path, first_run, submit_path};
+use cli_commands::{answer_messages, check_file, first_run, submit_list};
 use cli_words::{Command, command_of};
 use std::alloc::AllocError;
+use std::fs::File;
 use std::{fs, io};
 
 /// The transcript that has the commands of this one: each line that begins with `$ `, and what that
@@ -53,8 +54,14 @@ fn run_over(rt: &HostRuntime, line: &str, input: &[u8]) -> io::Result<Vec<u8>> {
     let _status = match command_of(rt.alloc(), words.as_slice()) {
         Ok(Command::AnswerSubmission) => Some(first_run(rt.alloc(), input, &mut printed)),
         Ok(Command::AnswerMessages) => Some(answer_messages(rt.alloc(), input, &mut printed)),
-        Ok(Command::Check(path)) => Some(check_path(rt, path, &mut printed)),
-        Ok(Command::Submit(path, options)) => Some(submit_path(rt, path, &options, &mut printed)),
+        Ok(Command::Check(path)) => {
+            let file = File::open(rt, path)?;
+            Some(check_file(rt.alloc(), file, &mut printed))
+        }
+        Ok(Command::Submit(path, options)) => {
+            let list = File::open(rt, path)?;
+            Some(submit_list(rt.alloc(), &options, list, &mut printed))
+        }
         Ok(_) | Err(_) => None,
     };
     Ok(printed)

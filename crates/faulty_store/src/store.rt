@@ -4,8 +4,8 @@ ghost use Rattle.std.specs.Prelude.{◌≡◌, ◌↔◌, ◌-◌, Err};
 use ach_fields::{Id, Ref, Trace};
 use bank_days::{Calendar, Day};
 use desk_accounts::{Account, Posting};
-use desk_book::{Caller, HeldSubmission, NamedEntry, ReturnsAndChanges, Row};
-use desk_history::{Identity, ListOf, SuspenseRow, TakenFile};
+use desk_book::{Caller, HeldSubmission, NamedEntry, Row};
+use desk_history::{ChangeRow, Identity, ListOf, ReturnRow, SuspenseRow, TakenFile};
 use desk_rules::{Company, Limits, Retry, RuleDay, SizedSubmission};
 use desk_store::{CutRows, IntakeRows, LastNumber, Store, StoreFault};
 use memory_store::ListStore;
@@ -180,9 +180,14 @@ impl Store for FaultyStore {
         self.store.traced_entries(alloc, traces)
     }
 
-    fn items_of(&mut self, alloc: Global, company: Id) -> Result<ReturnsAndChanges, StoreFault> {
+    fn returns_of(&mut self, alloc: Global, company: Id) -> Result<Vec<ReturnRow>, StoreFault> {
         self.count_call()?;
-        self.store.items_of(alloc, company)
+        self.store.returns_of(alloc, company)
+    }
+
+    fn changes_of(&mut self, alloc: Global, company: Id) -> Result<Vec<ChangeRow>, StoreFault> {
+        self.count_call()?;
+        self.store.changes_of(alloc, company)
     }
 
     fn postings_of(&mut self, alloc: Global, account: Account) -> Result<Vec<Posting>, StoreFault> {

@@ -1,12 +1,10 @@
 -- What reading from a reader does.
-use Rattle.std.specs.Prelude.{◌≡◌, ℕ, ◌+◌, ◌<◌, ◌≤◌, ◌==◌, ◌||◌, Bool, true, false, List, [], ◌++◌, length, min, take, drop, Option, Some, None, Result, Ok, Err, Vec}
+use Rattle.std.specs.Prelude.{⊤, ◌≡◌, ℕ, ◌+◌, ◌<◌, ◌≤◌, ◌==◌, ◌||◌, Bool, true, false, List, [], ◌++◌, length, min, take, drop, Option, Some, None, Result, Ok, Err, Vec}
 use Rattle.std.specs.declared.alloc.Global.{Global}
 use Rattle.std.specs.Io.KnownBytes.{Consumes, IsAtEnd}
 use Rattle.httparse.specs.Grammar.{RequestHead, HasNoRequest}
 use Rattle.httparse.specs.declared.spans.HeaderSpan.{HeaderSpan}
 use Rattle.httparse.specs.declared.spans.RequestSpans.{RequestSpans}
-use Rattle.io_retries.specs.declared.tries.Failure.TheVariants.{Read}
-use Rattle.io_retries.specs.declared.tries.Tries.{Tries}
 use Rattle.http_message.specs.Start.{IsStart, IsHeadAt}
 use Rattle.http_message.specs.Heads.{request_of}
 use Rattle.http_message.specs.Message.{asked}
@@ -117,14 +115,14 @@ pub record Arrives (arrival : Arrival) (fields : List HeaderSpan) (before after 
   pub is : IsArrival arrival fields (old ++ taken) new after
   pub few : length new ≤ 16384
 
--- a read that failed has left its mark, and is told; where none failed there is no mark of it
-abbrev pub StopMarks : Result (Option (Vec ℕ Global)) Stop → (old new : Tries) → Type 0
-StopMarks (Err Fault) old new = new.failed ≡ Some Read
-StopMarks result old new = new.failed ≡ old.failed
+-- after a fault this holds, as what is then known of the reader
+abbrev pub OnStopFault : Result (Option (Vec ℕ Global)) Stop → (Known : Type 0) → Type 0
+OnStopFault (Err Fault) Known = Known
+OnStopFault result Known = ⊤
 
-abbrev pub ArrivalMarks : Arrival → (old new : Tries) → Type 0
-ArrivalMarks arrivals.Fault old new = new.failed ≡ Some Read
-ArrivalMarks arrival old new = new.failed ≡ old.failed
+abbrev pub OnArrivalFault : Arrival → (Known : Type 0) → Type 0
+OnArrivalFault arrivals.Fault Known = Known
+OnArrivalFault arrival Known = ⊤
 
 -- a room for so many bytes begins with those of them that had come
 abbrev pub HasWhatCame : (size : ℕ) → (come room : List ℕ) → Type 0

@@ -1,7 +1,7 @@
 -- What reading does, told of the reader that was read. `g` says what a reader has left.
 use Rattle.std.specs.Prelude.{◌≡◌, ℕ, Bool, List, [], Result}
 use Rattle.std.specs.Io.KnownBytes.{Consumes}
-use Rattle.std.specs.declared.io.Read.{Ghosts}
+use Rattle.io_retries.specs.declared.source.Source.{Ghosts}
 use Rattle.httparse.specs.declared.spans.HeaderSpan.{HeaderSpan}
 use Rattle.http_message.specs.Input.{Grows, ReadsOn, ReadsHead, Arrives}
 use Rattle.http_message.specs.declared.head.Start.{Start}

@@ -6,6 +6,7 @@ ghost use Rattle.http_message.specs.Framing.{framing_of, is_number};
 
 use crate::fields::{is_repeated, value_of};
 use crate::message::Field;
+use http::Method;
 
 /// The most bytes of a body.
 pub const MAX_BODY: usize = 4_194_304;
@@ -62,7 +63,7 @@ pub fn framing_of(method: &[u8], fields: &[Field<'_>]) -> Framing
     match length {
         Some(length) if length > MAX_BODY => Framing::TooLarge,
         Some(length) => Framing::Body(length),
-        None if method == b"POST".as_slice() => Framing::LengthRequired,
+        None if method == Method::POST.as_str().as_bytes() => Framing::LengthRequired,
         None => Framing::Body(0),
     }
 }

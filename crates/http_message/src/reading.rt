@@ -1,11 +1,11 @@
 //! Reading messages from any reader.
-ghost use Rattle.std.specs.Prelude.{◌≡◌, ◌≤◌, length, IfOk};
+ghost use Rattle.std.specs.Prelude.{◌≡◌, ◌≤◌, length, IfOk, OnErr};
 ghost use Rattle.std.specs.List.{list_all};
 ghost use Rattle.httparse.specs.Spans.{IsRequestWithin};
-ghost use Rattle.io_retries.specs.Marks.{Marks};
+ghost use Rattle.io_retries.specs.Failures.{ReadFailed};
 ghost use Rattle.http_message.specs.Start.{IsStart, OnHeadAt};
 ghost use Rattle.http_message.specs.Heads.{head_framing};
-ghost use Rattle.http_message.specs.Input.{is_line_end_byte, IsOpen, FillsRoom, ReadsBody, HasWhatCame, ArrivalMarks, StopMarks};
+ghost use Rattle.http_message.specs.Input.{is_line_end_byte, IsOpen, FillsRoom, ReadsBody, HasWhatCame, OnArrivalFault, OnStopFault};
 ghost use Rattle.http_message.specs.Readers.{ReadsOnFrom, ReadsHeadFrom, ArrivesFrom};
 
 use crate::framing::{Framing, framing_of};
@@ -13,10 +13,9 @@ use crate::head::{MAX_FIELDS, Start, request_at, start_of};
 use crate::message::EMPTY_FIELD;
 use crate::unread::{MAX_HEAD, Unread};
 use httparse::spans::{HeaderSpan, RequestSpans};
-use io_retries::{Failure, Tries, read_with_retries};
+use io_retries::{Source, Tries, read_with_retries};
 use std::alloc::{AllocError, Global};
 use std::io;
-use std::io::Read;
 
 /// A room is filled with so many zeros at a time, which takes less time than one after another.
 const ZEROS: [u8; 16_384] = [0; 16_384];
@@ -75,10 +74,10 @@ fn is_blank(bytes: &[u8]) -> bool
 ///
 /// A head ends with a line feed and has a byte that ends no line. So it need not be looked for before both
 /// came, and a reader that gives one byte a time has it looked for once for each of its lines.
-fn read_on<R: Read>(reader: &mut R, tries: &mut Tries, unread: &mut Unread) -> io::Result<bool>
+fn read_on<R: Source>(reader: &mut R, tries: &mut Tries, unread: &mut Unread) -> io::Result<bool>
     requires { IsOpen unread.old }
-    ensures read { ReadsOnFrom R.Read reader.old reader.new result unread.old unread.new }
-    ensures mark { Marks result Failure.Read tries.old tries.new }
+    ensures read { ReadsOnFrom R.Source reader.old reader.new result unread.old unread.new }
+    ensures fault { OnErr result (ReadFailed R.Source reader.new tries.new) }
 {
     let mut blank = is_blank(unread.bytes());
     loop {
@@ -96,16 +95,16 @@ fn read_on<R: Read>(reader: &mut R, tries: &mut Tries, unread: &mut Unread) -> i
 }
 
 /// Reads until it can be told what stands at the start, or the input ends.
-fn read_head<R: Read>(
+fn read_head<R: Source>(
     reader: &mut R,
     tries: &mut Tries,
     unread: &mut Unread,
     fields: &mut [HeaderSpan],
 ) -> io::Result<Start>
     requires { length fields.old ≡ MAX_FIELDS }
-    ensures read { ReadsHeadFrom R.Read reader.old reader.new
+    ensures read { ReadsHeadFrom R.Source reader.old reader.new
         result fields.new unread.old unread.new }
-    ensures mark { Marks result Failure.Read tries.old tries.new }
+    ensures fault { OnErr result (ReadFailed R.Source reader.new tries.new) }
 {
     loop {
         let start = start_of(unread.bytes(), fields);
@@ -121,9 +120,9 @@ fn read_head<R: Read>(
 /// Reads until the room is full, and tells whether it is; if not, the input has ended.
 ///
 /// A read that fails is the last one: what came before it is lost with the body.
-fn read_whole<R: Read>(reader: &mut R, tries: &mut Tries, room: &mut [u8]) -> io::Result<bool>
+fn read_whole<R: Source>(reader: &mut R, tries: &mut Tries, room: &mut [u8]) -> io::Result<bool>
     ensures filled { FillsRoom result (R.remaining reader.old) (R.remaining reader.new) room.new }
-    ensures mark { Marks result Failure.Read tries.old tries.new }
+    ensures fault { OnErr result (ReadFailed R.Source reader.new tries.new) }
 {
     let mut filled = 0;
     while filled < room.len() {
@@ -152,7 +151,7 @@ fn room_for(alloc: Global, come: &[u8], size: usize) -> Result<Vec<u8>, AllocErr
 
 /// Reads the body of a head, of which some bytes came with the head; none where the input ends inside it.
 /// The rest of it is read into its place.
-fn read_body<R: Read>(
+fn read_body<R: Source>(
     alloc: Global,
     reader: &mut R,
     tries: &mut Tries,
@@ -161,7 +160,7 @@ fn read_body<R: Read>(
 ) -> Result<Option<Vec<u8>>, Stop>
     ensures read { ReadsBody result (R.remaining reader.old)
         (R.remaining reader.new) come.now size }
-    ensures mark { StopMarks result tries.old tries.new }
+    ensures fault { OnStopFault result (ReadFailed R.Source reader.new tries.new) }
 {
     if size == 0 {
         return Ok(Some(Vec::new(alloc)));
@@ -187,7 +186,7 @@ fn head_framing(alloc: Global, bytes: &[u8], fields: &[HeaderSpan], head: &Reque
 }
 
 /// Reads the body of the head at the start of the bytes.
-fn read_rest<R: Read>(
+fn read_rest<R: Source>(
     alloc: Global,
     reader: &mut R,
     tries: &mut Tries,
@@ -198,9 +197,9 @@ fn read_rest<R: Read>(
     requires start { IsStart bytes.now fields.now (Start.Head head) }
     requires fits { length fields.now ≡ MAX_FIELDS }
     requires few { length bytes.now ≤ MAX_HEAD }
-    ensures arrived { ArrivesFrom R.Read reader.old reader.new
+    ensures arrived { ArrivesFrom R.Source reader.old reader.new
         result fields.now bytes.now bytes.now }
-    ensures mark { ArrivalMarks result tries.old tries.new }
+    ensures fault { OnArrivalFault result (ReadFailed R.Source reader.new tries.new) }
 {
     match head_framing(alloc, bytes, fields, &head) {
         Framing::BadLength => Arrival::BadHead,
@@ -220,7 +219,7 @@ fn read_rest<R: Read>(
 ///
 /// A head takes no memory but the unread bytes, a body room for its bytes, and no more is read of the
 /// stream after a body that was not whole in the unread bytes.
-pub fn read_message<R: Read>(
+pub fn read_message<R: Source>(
     alloc: Global,
     reader: &mut R,
     tries: &mut Tries,
@@ -228,9 +227,9 @@ pub fn read_message<R: Read>(
     fields: &mut [HeaderSpan],
 ) -> Arrival
     requires { length fields.old ≡ MAX_FIELDS }
-    ensures arrived { ArrivesFrom R.Read reader.old reader.new
+    ensures arrived { ArrivesFrom R.Source reader.old reader.new
         result fields.new unread.old unread.new }
-    ensures mark { ArrivalMarks result tries.old tries.new }
+    ensures fault { OnArrivalFault result (ReadFailed R.Source reader.new tries.new) }
 {
     match read_head(reader, tries, unread, fields) {
         Ok(Start::Unfinished) => {

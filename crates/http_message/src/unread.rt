@@ -1,12 +1,11 @@
 //! Bytes that came and belong to no message yet.
 ghost use Rattle.std.specs.Prelude.{◌≡◌, ◌+◌, ◌<◌, ◌≤◌, ℕ, List, [], length, take, drop, slice_range, IfOk, OnErr};
 ghost use Rattle.std.specs.Io.KnownBytes.{IsAtEnd};
-ghost use Rattle.io_retries.specs.Marks.{Marks};
+ghost use Rattle.io_retries.specs.Failures.{ReadFailed};
 ghost use Rattle.http_message.specs.Readers.{GrowsFrom, NoneCame};
 
-use io_retries::{Failure, Tries, read_with_retries};
+use io_retries::{Source, Tries, read_with_retries};
 use std::io;
-use std::io::Read;
 use std::marker::Model;
 
 /// The most bytes of a head, with the empty lines before it.
@@ -72,12 +71,12 @@ impl Unread {
 
     /// Reads once, as many bytes as there is room for, and tells how many came. None come at the end of
     /// the input alone.
-    pub(crate) fn fill<R: Read>(&mut self, reader: &mut R, tries: &mut Tries) -> io::Result<usize>
+    pub(crate) fn fill<R: Source>(&mut self, reader: &mut R, tries: &mut Tries) -> io::Result<usize>
         requires { length self.old < MAX_HEAD }
-        ensures ok { IfOk result (λ n. GrowsFrom R.Read reader.old reader.new n self.old self.new) }
+        ensures ok { IfOk result (λ n. GrowsFrom R.Source reader.old reader.new n self.old self.new) }
         ensures end { IfOk result (λ n. n ≡ 0 → IsAtEnd (R.remaining reader.new)) }
-        ensures err { OnErr result (NoneCame R.Read reader.old reader.new self.old self.new) }
-        ensures mark { Marks result Failure.Read tries.old tries.new }
+        ensures err { OnErr result (NoneCame R.Source reader.old reader.new self.old self.new) }
+        ensures fault { OnErr result (ReadFailed R.Source reader.new tries.new) }
     {
         self.end = move_to_start(&mut self.bytes, self.start, self.end);
         self.start = 0;

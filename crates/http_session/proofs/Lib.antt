@@ -1,3 +1,4 @@
+pub mod FaultLemmas
 pub mod Following
 pub mod ServedOn
 pub mod TurnLemmas

@@ -1,16 +1,14 @@
 -- One turn of a session after those before it.
-use Rattle.std.proofs.Common.{◌≡◌, ℕ, ◌+◌, ◌≤◌, List, [], ◌∷◌, ◌++◌, length, Bool, true, false, not, Option, Some, None, Result, Ok, Err, refl, sym, ◌∙◌, subst, append-nil, length-append, arith}
+use Rattle.std.proofs.Common.{◌≡◌, ℕ, ◌+◌, ◌≤◌, List, [], ◌∷◌, ◌++◌, length, Bool, true, false, not, Option, Some, None, Result, Ok, Err, refl, sym, subst, append-nil, length-append, arith}
 use Rattle.std.specs.Io.KnownBytes.{Appends, Consumes}
 use Rattle.std.proofs.lemmas.List.Elements.{All-append, All-cons, All-nil}
 use Rattle.std.proofs.KnownBytes.{Consumes-nil, Appends-nil, Consumes-trans, Appends-trans}
-use Rattle.io_retries.specs.declared.tries.Tries.{Tries}
 use Rattle.http_message.specs.Input.{IsLittle}
 use Rattle.http_message.specs.Message.{MessageValue}
-use Rattle.http_message.specs.Stream.{Reads, Spells, WantsBody, is_last_after}
+use Rattle.http_message.specs.Stream.{Reads, WantsBody, is_last_after}
 use Rattle.http_message.proofs.StreamLemmas.{Spells-append}
 use Rattle.http_response.specs.Response.{unavailable_text}
-use Rattle.http_session.specs.Causes.{HasCause}
-use Rattle.http_session.specs.Exchanges.{Exchange, response_of, responses_of, messages_of, ends_after, GoesOn, StepsWith, Follows}
+use Rattle.http_session.specs.Exchanges.{Exchange, response_of, responses_of, messages_of, ends_after, GoesOn, StepsWith, StandsAfter}
 use Rattle.http_session.specs.Session.{SessionRan, EndsAs, Writes}
 use Rattle.http_session.specs.Turns.{Sends, Replied, SoFar, Turned, turn_of}
 use Rattle.http_session.specs.declared.sessions.Ended.{Ended}
@@ -44,10 +42,9 @@ is_true false e = absurd (cc)
 
 -- what the answers come to with one answer more
 answers_more : {B : Type 0} (step : B → MessageValue → List ℕ → B → Type 0) (clean now : Type 0) (stood mid stands : B → Type 0)
-    (xs : List Exchange) (m : MessageValue) (answer : Option (List ℕ)) → (now → clean)
-    → (clean → (w : B) → stood w → (v : B) × Follows step w xs v × mid v)
+    (xs : List Exchange) (m : MessageValue) (answer : Option (List ℕ)) → (now → clean) → StandsAfter step clean stood mid xs
     → (now → (w : B) → mid w → (v : B) × StepsWith step w m answer v × stands v)
-    → now → (w : B) → stood w → (v : B) × Follows step w (xs ++ exchange m answer ∷ []) v × stands v
+    → StandsAfter step now stood stands (xs ++ exchange m answer ∷ [])
 answers_more step clean now stood mid stands xs m answer was so_far one c w here =
     let (v, follows, there) = so_far (was c) w here in
     let (u, steps, behind) = one c v there in
@@ -87,24 +84,27 @@ ends_with : {B : Type 0} (step : B → MessageValue → List ℕ → B → Type 
     → SessionRan step now stood stands before after old new result
 ends_with step clean now stood mid stands before between after old held new n unread more rest m told result sent was p takes reads r sends writes ending few =
     let x = exchange m r.answer in
-    let P : ℕ → Type 0 = λ k. EndsAs result (k + 1) (Some x) (response_of r.answer) rest after in
-    record {
-      first = p.exchanges;
-      last = Some x;
-      taken = p.taken ++ more;
-      rest = rest;
-      final = response_of r.answer;
-      sent = responses_of p.exchanges ++ sent;
-      takes = Consumes-trans before between after p.taken more p.takes takes;
-      spelled = spells_more p.taken more unread rest p.exchanges x n p.size p.spelled reads;
-      few = omega (arith, p.size, p.few);
-      little = omega (arith, few);
-      sends = Appends-trans old held new (responses_of p.exchanges) sent p.sends sends;
-      writes = writes;
-      goes_on = p.goes_on;
-      ending = subst P (sym p.size) ending;
-      answers = answers_more step clean now stood mid stands p.exchanges m r.answer was p.answers r.answered;
-    }
+    let P : ℕ → Type 0 = λ k. EndsAs result (k + 1) (Some x) (response_of r.answer) rest after in (
+      p.exchanges ++ x ∷ [],
+      record {
+        first = p.exchanges;
+        last = Some x;
+        taken = p.taken ++ more;
+        rest = rest;
+        final = response_of r.answer;
+        sent = responses_of p.exchanges ++ sent;
+        whole = refl;
+        takes = Consumes-trans before between after p.taken more p.takes takes;
+        spelled = spells_more p.taken more unread rest p.exchanges x n p.size p.spelled reads;
+        few = omega (arith, p.size, p.few);
+        little = omega (arith, few);
+        sends = Appends-trans old held new (responses_of p.exchanges) sent p.sends sends;
+        writes = writes;
+        goes_on = p.goes_on;
+        ending = subst P (sym p.size) ending;
+      },
+      answers_more step clean now stood mid stands p.exchanges m r.answer was p.answers r.answered,
+    )
 
 -- a session that ends before the next message, when it has sent so much
 pub ends_before : {B : Type 0} (step : B → MessageValue → List ℕ → B → Type 0) (clean : Type 0) (stood stands : B → Type 0)
@@ -113,29 +113,29 @@ pub ends_before : {B : Type 0} (step : B → MessageValue → List ℕ → B →
     → Appends held new sent → Writes result (responses_of p.exchanges) final (responses_of p.exchanges ++ sent)
     → EndsAs result (n + 1) None final (unread ++ more) after → IsLittle (unread ++ more)
     → SessionRan step clean stood stands before after old new result
-ends_before {B} step clean stood stands before between after old held new n unread more result final sent p takes sends writes ending little =
+ends_before step clean stood stands before between after old held new n unread more result final sent p takes sends writes ending little =
     let xs = p.exchanges in
-    let e : xs ++ [] ≡ xs = append-nil xs in
-    let P : ℕ → Type 0 = λ k. EndsAs result (k + 1) None final (unread ++ more) after in
-    let Q : List Exchange → Type 0 = λ l. Spells 0 (p.taken ++ more) (messages_of l) (unread ++ more) in
-    let R : List Exchange → Type 0 = λ l. clean → (w : B) → stood w → (v : B) × Follows step w l v × stands v in
-    record {
-      first = xs;
-      last = None;
-      taken = p.taken ++ more;
-      rest = unread ++ more;
-      final = final;
-      sent = responses_of xs ++ sent;
-      takes = Consumes-trans before between after p.taken more p.takes takes;
-      spelled = subst Q (sym e) (Spells-append 0 p.taken unread more (messages_of xs) p.spelled);
-      few = omega (arith, p.size, p.few);
-      little = little;
-      sends = Appends-trans old held new (responses_of xs) sent p.sends sends;
-      writes = writes;
-      goes_on = p.goes_on;
-      ending = subst P (sym p.size) ending;
-      answers = subst R (sym e) p.answers;
-    }
+    let P : ℕ → Type 0 = λ k. EndsAs result (k + 1) None final (unread ++ more) after in (
+      xs,
+      record {
+        first = xs;
+        last = None;
+        taken = p.taken ++ more;
+        rest = unread ++ more;
+        final = final;
+        sent = responses_of xs ++ sent;
+        whole = sym (append-nil xs);
+        takes = Consumes-trans before between after p.taken more p.takes takes;
+        spelled = Spells-append 0 p.taken unread more (messages_of xs) p.spelled;
+        few = omega (arith, p.size, p.few);
+        little = little;
+        sends = Appends-trans old held new (responses_of xs) sent p.sends sends;
+        writes = writes;
+        goes_on = p.goes_on;
+        ending = subst P (sym p.size) ending;
+      },
+      p.answers,
+    )
 
 -- a message was answered
 pub turned : {B : Type 0} (step : B → MessageValue → List ℕ → B → Type 0) (clean now : Type 0) (stood mid stands : B → Type 0)
@@ -175,11 +175,3 @@ gave_up step clean stood stands before between after old held new n unread more 
 gave_up step clean stood stands before between after old held new n unread more Write p takes wants little sends =
     ends_before step clean stood stands before between after old held new n unread more (Err Write) unavailable_text sends.0 p takes
     sends.3 (sends.0, sends.1, sends.2, refl) (refl, wants) little
-
--- the cause of a turn's fault is that of the reply
-pub turn_cause : (told : Result Bool SessionFault) (is_last : Bool) (old mid new : Tries) → mid.failed ≡ old.failed → HasCause told mid new
-    → HasCause (turn_of told is_last) old new
-turn_cause (Ok true) is_last old mid new kept cause = cause ∙ kept
-turn_cause (Ok false) true old mid new kept cause = cause ∙ kept
-turn_cause (Ok false) false old mid new kept cause = cause ∙ kept
-turn_cause (Err fault) is_last old mid new kept cause = cause

@@ -40,6 +40,12 @@ abbrev pub Follows : {B : Type 0} → (B → MessageValue → List ℕ → B →
 Follows step before [] after = after ≡ before
 Follows {B} step before (x ∷ xs) after = (mid : B) × StepsWith step before x.message x.answer mid × Follows step mid xs after
 
+-- If it is clean, the answerer stands for what these messages with their answers make of whatever it stood for.
+abbrev pub StandsAfter : {B : Type 0} → (B → MessageValue → List ℕ → B → Type 0) → (is_clean : Type 0) → (stood stands : B → Type 0)
+    → List Exchange → Type 0
+StandsAfter {B} step is_clean stood stands exchanges =
+    is_clean → (w : B) → stood w → (v : B) × Follows step w exchanges v × stands v
+
 -- The answer is a step from what stands behind the answerer, and it then stands for what is after; or it
 -- could not answer, and stands for what it stood for.
 abbrev pub Answered : {B : Type 0} → (B → MessageValue → List ℕ → B → Type 0) → B → MessageValue → (B → Type 0) → Result (Vec ℕ Global) Unavailable → Type 0

@@ -1,5 +1,5 @@
-pub mod Causes
 pub mod Exchanges
+pub mod Faults
 pub mod Lingering
 pub mod Serving
 pub mod Session

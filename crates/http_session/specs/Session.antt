@@ -5,7 +5,7 @@ use Rattle.http_message.specs.Input.{IsLittle}
 use Rattle.http_message.specs.Message.{MessageValue}
 use Rattle.http_message.specs.Stream.{Spells, IsCut, IsPart, WantsBody}
 use Rattle.http_response.specs.Response.{unavailable_text}
-use Rattle.http_session.specs.Exchanges.{Exchange, response_of, responses_of, messages_of, ends_after, GoesOn, Follows}
+use Rattle.http_session.specs.Exchanges.{Exchange, response_of, responses_of, messages_of, ends_after, GoesOn, StandsAfter}
 use Rattle.http_session.specs.declared.sessions.Ended.{Ended}
 use Rattle.http_session.specs.declared.sessions.Ended.TheVariants.{Closed, Cut, Full}
 use Rattle.http_session.specs.declared.sessions.SessionFault.{SessionFault}
@@ -43,19 +43,19 @@ Writes result answers final sent = sent ≡ answers ++ final
 abbrev pub all_exchanges : List Exchange → Option Exchange → List Exchange
 all_exchanges first last = first ++ option_to_list last
 
--- A session: a reader had before and has after, a writer had old and has new, and an answerer stood for
--- something and stands for what the exchanges make of it, if it is clean.
-pub record SessionRan {B : Type 0} (step : B → MessageValue → List ℕ → B → Type 0) (is_clean : Type 0)
-    (stood stands : B → Type 0) (before after old new : Option (List ℕ)) (result : Result Ended SessionFault) : Type 0 where
+-- What a session read and wrote, whatever answered: a reader had before and has after, a writer had old and has new, and
+-- these are the messages with their answers.
+pub record SessionSpoke (before after old new : Option (List ℕ)) (result : Result Ended SessionFault) (exchanges : List Exchange) : Type 0 where
   pub first : List Exchange
   pub last : Option Exchange
   pub taken : List ℕ
   pub rest : List ℕ
   pub final : List ℕ
   pub sent : List ℕ
+  pub whole : exchanges ≡ all_exchanges first last
   -- what was taken from the reader spells the messages, at most 1,000 with the last
   pub takes : Consumes before after taken
-  pub spelled : Spells 0 taken (messages_of (all_exchanges first last)) rest
+  pub spelled : Spells 0 taken (messages_of exchanges) rest
   pub few : length first < 1000
   -- it took no more ahead than a head and a body have at most
   pub little : IsLittle rest
@@ -65,5 +65,11 @@ pub record SessionRan {B : Type 0} (step : B → MessageValue → List ℕ → B
   -- where and how the session ends
   pub goes_on : All GoesOn first
   pub ending : EndsAs result (length first + 1) last final rest after
-  -- each answer is one from what stood behind the answerer then
-  pub answers : is_clean → (w : B) → stood w → (v : B) × Follows step w (all_exchanges first last) v × stands v
+
+-- A session: each answer is one from what stood behind the answerer then, and the answerer stands for what the messages
+-- make of it, if it is clean.
+abbrev pub SessionRan : {B : Type 0} → (step : B → MessageValue → List ℕ → B → Type 0) → (is_clean : Type 0)
+    → (stood stands : B → Type 0) → (before after old new : Option (List ℕ)) → (result : Result Ended SessionFault) → Type 0
+SessionRan step is_clean stood stands before after old new result =
+    (exchanges : List Exchange) × SessionSpoke before after old new result exchanges
+    × StandsAfter step is_clean stood stands exchanges

@@ -4,7 +4,7 @@ use Rattle.std.specs.Io.KnownBytes.{Appends, Consumes}
 use Rattle.io_retries.specs.Prefixes.{AppendsPrefix}
 use Rattle.http_message.specs.Message.{MessageValue}
 use Rattle.http_message.specs.Stream.{Spells}
-use Rattle.http_session.specs.Exchanges.{Exchange, response_of, responses_of, messages_of, ends_after, GoesOn, StepsWith, Follows}
+use Rattle.http_session.specs.Exchanges.{Exchange, response_of, responses_of, messages_of, ends_after, GoesOn, StepsWith, StandsAfter}
 use Rattle.http_session.specs.Session.{SessionRan}
 use Rattle.http_session.specs.declared.sessions.Ended.{Ended}
 use Rattle.http_session.specs.declared.sessions.Ended.TheVariants.{Closed, Full}
@@ -48,7 +48,7 @@ pub record SoFar {B : Type 0} (step : B → MessageValue → List ℕ → B → 
   pub few : count < 1000
   pub sends : Appends old new (responses_of exchanges)
   pub goes_on : All GoesOn exchanges
-  pub answers : is_clean → (w : B) → stood w → (v : B) × Follows step w exchanges v × stands v
+  pub answers : StandsAfter step is_clean stood stands exchanges
 
 -- the session has gone on after one message more, or has ended
 abbrev pub Turned : {B : Type 0} → (B → MessageValue → List ℕ → B → Type 0) → Type 0

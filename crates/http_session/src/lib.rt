@@ -3,15 +3,19 @@
 #![tactic(auto)]
 
 mod answers;
-mod connections;
-mod counted;
+mod connection;
 mod lingering;
+mod listener;
+mod network;
 mod replying;
+mod serving;
 mod sessions;
 
 pub use answers::{Answers, Unavailable};
-pub use connections::{ServeFault, serve};
-pub use counted::CountedListener;
+pub use connection::Connection;
 pub use io_retries::Tries;
 pub use lingering::{MAX_DROPPED, drop_rest};
+pub use listener::Listener;
+pub use network::Network;
+pub use serving::{ServeFault, serve};
 pub use sessions::{Ended, SessionFault, session};

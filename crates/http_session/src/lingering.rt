@@ -1,10 +1,10 @@
 //! Reading what is not answered any more.
-ghost use Rattle.std.specs.Prelude.{◌≡◌};
+ghost use Rattle.std.specs.Prelude.{◌≡◌, OnErr};
+ghost use Rattle.io_retries.specs.Failures.{ReadFailed};
 ghost use Rattle.http_session.specs.Lingering.{DropsRest};
 
-use io_retries::{Tries, read_with_retries};
+use io_retries::{Source, Tries, read_with_retries};
 use std::io;
-use std::io::Read;
 
 /// So many bytes of a client are dropped at most: a body that is too large, four times over.
 pub const MAX_DROPPED: usize = 16_777_216;
@@ -13,8 +13,9 @@ pub const MAX_DROPPED: usize = 16_777_216;
 const PIECE: usize = 16_384;
 
 /// Reads and drops what a reader still gives, to the end of its input, and at most 16 MiB.
-pub fn drop_rest<R: Read>(reader: &mut R, tries: &mut Tries) -> io::Result<()>
-    ensures { DropsRest result (R.remaining reader.old) (R.remaining reader.new) }
+pub fn drop_rest<R: Source>(reader: &mut R, tries: &mut Tries) -> io::Result<()>
+    ensures dropped { DropsRest result (R.remaining reader.old) (R.remaining reader.new) }
+    ensures fault { OnErr result (ReadFailed R.Source reader.new tries.new) }
 {
     let mut piece = [0; PIECE];
     let mut left = MAX_DROPPED;

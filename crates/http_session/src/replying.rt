@@ -2,8 +2,7 @@
 ghost use Rattle.std.specs.Prelude.{◌≡◌, length};
 ghost use Rattle.httparse.specs.Spans.{IsRequestWithin};
 ghost use Rattle.http_response.specs.Response.{unavailable_text};
-ghost use Rattle.http_session.specs.Causes.{HasCause};
-ghost use Rattle.http_session.specs.Sides.{Replies, RepliesAt};
+ghost use Rattle.http_session.specs.Sides.{Flushes, Replies, RepliesAt, WriterFaults};
 ghost use Rattle.http_session.specs.Turns.{Sends};
 
 use crate::answers::Answers;
@@ -11,14 +10,14 @@ use crate::sessions::SessionFault;
 use http_message::{EMPTY_FIELD, MAX_FIELDS, Message, closes, request_at};
 use http_response::UNAVAILABLE;
 use httparse::spans::{HeaderSpan, RequestSpans};
-use io_retries::{Tries, write_all_with_retries};
+use io_retries::{Sink, Tries, write_all_with_retries};
 use std::alloc::Global;
-use std::io::Write;
 
 /// Writes all the bytes.
-fn send<W: Write>(writer: &mut W, tries: &mut Tries, bytes: &[u8]) -> Result<(), SessionFault>
+fn send<W: Sink>(writer: &mut W, tries: &mut Tries, bytes: &[u8]) -> Result<(), SessionFault>
     ensures sends { Sends result (W.contents writer.old) (W.contents writer.new) bytes.now }
-    ensures cause { HasCause result tries.old tries.new }
+    ensures flushed { Flushes W.Sink result writer.old writer.new }
+    ensures fault { WriterFaults W.Sink result writer.new tries.new }
 {
     match write_all_with_retries(writer, bytes, tries) {
         Ok(()) => Ok(()),
@@ -27,18 +26,19 @@ fn send<W: Write>(writer: &mut W, tries: &mut Tries, bytes: &[u8]) -> Result<(),
 }
 
 /// Writes the constant text for being out of memory.
-pub(crate) fn send_unavailable<W: Write>(
+pub(crate) fn send_unavailable<W: Sink>(
     writer: &mut W,
     tries: &mut Tries,
 ) -> Result<(), SessionFault>
     ensures sends { Sends result (W.contents writer.old) (W.contents writer.new) unavailable_text }
-    ensures cause { HasCause result tries.old tries.new }
+    ensures flushed { Flushes W.Sink result writer.old writer.new }
+    ensures fault { WriterFaults W.Sink result writer.new tries.new }
 {
     send(writer, tries, UNAVAILABLE)
 }
 
 /// Answers a message, and tells whether the session goes on.
-pub(crate) fn reply<D: Answers, W: Write>(
+pub(crate) fn reply<D: Answers, W: Sink>(
     alloc: Global,
     desk: &mut D,
     writer: &mut W,
@@ -46,9 +46,10 @@ pub(crate) fn reply<D: Answers, W: Write>(
     message: Message<'_>,
 ) -> Result<bool, SessionFault>
     ensures before { D.is_clean desk.new → D.is_clean desk.old }
-    ensures replied { Replies D.Answers W.Write desk.old desk.new
+    ensures replied { Replies D.Answers W.Sink desk.old desk.new
         writer.old writer.new message.entry result }
-    ensures cause { HasCause result tries.old tries.new }
+    ensures flushed { Flushes W.Sink result writer.old writer.new }
+    ensures fault { WriterFaults W.Sink result writer.new tries.new }
 {
     let closes = closes(&message);
     match desk.answer(alloc, message) {
@@ -64,7 +65,7 @@ pub(crate) fn reply<D: Answers, W: Write>(
 }
 
 /// Answers the request at the start of the bytes, which has this body.
-pub(crate) fn reply_to_request<D: Answers, W: Write>(
+pub(crate) fn reply_to_request<D: Answers, W: Sink>(
     alloc: Global,
     desk: &mut D,
     writer: &mut W,
@@ -78,9 +79,10 @@ pub(crate) fn reply_to_request<D: Answers, W: Write>(
     requires within { IsRequestWithin bytes.now fields.now head.now }
     requires fits { length fields.now ≡ MAX_FIELDS }
     ensures before { D.is_clean desk.new → D.is_clean desk.old }
-    ensures replied { RepliesAt D.Answers W.Write desk.old desk.new
+    ensures replied { RepliesAt D.Answers W.Sink desk.old desk.new
         writer.old writer.new bytes.now fields.now head.now body is_last result }
-    ensures cause { HasCause result tries.old tries.new }
+    ensures flushed { Flushes W.Sink result writer.old writer.new }
+    ensures fault { WriterFaults W.Sink result writer.new tries.new }
 {
     let mut room = [EMPTY_FIELD; MAX_FIELDS];
     let request = request_at(bytes, fields, head, &mut room, body, is_last);

@@ -1,17 +1,15 @@
 //! Sessions.
 ghost use Rattle.std.specs.Prelude.{◌≡◌, ◌<◌, length};
-ghost use Rattle.io_retries.specs.Marks.{IsUnused};
-ghost use Rattle.http_session.specs.Causes.{HasCause};
-ghost use Rattle.http_session.specs.Sides.{Runs, Turns};
+ghost use Rattle.io_retries.specs.Tries.{IsUnused};
+ghost use Rattle.http_session.specs.Sides.{Faults, Flushes, Runs, Turns};
 ghost use Rattle.http_session.specs.Turns.{turn_of};
 
 use crate::answers::Answers;
 use crate::replying::{reply, reply_to_request, send_unavailable};
 use http_message::{Arrival, MAX_FIELDS, MAX_MESSAGES, Message, Unread, read_message};
 use httparse::spans::{EMPTY_HEADER_SPAN, HeaderSpan};
-use io_retries::Tries;
+use io_retries::{Sink, Source, Tries};
 use std::alloc::Global;
-use std::io::{Read, Write};
 
 /// How a session ended.
 #[derive(Clone, Copy, PartialEq, Eq, Debug)]
@@ -51,7 +49,7 @@ fn turn_of(told: Result<bool, SessionFault>, is_last: bool) -> Result<Option<End
 }
 
 /// Reads a message and answers it, or tells how the session ends.
-fn turn<D: Answers, R: Read, W: Write>(
+fn turn<D: Answers, R: Source, W: Sink>(
     alloc: Global,
     desk: &mut D,
     reader: &mut R,
@@ -63,9 +61,10 @@ fn turn<D: Answers, R: Read, W: Write>(
 ) -> Result<Option<Ended>, SessionFault>
     requires { length fields.old ≡ MAX_FIELDS }
     ensures before { D.is_clean desk.new → D.is_clean desk.old }
-    ensures turned { Turns D.Answers R.Read W.Write is_last desk.old desk.new
+    ensures turned { Turns D.Answers R.Source W.Sink is_last desk.old desk.new
         reader.old reader.new writer.old writer.new unread.old unread.new result }
-    ensures cause { HasCause result tries.old tries.new }
+    ensures flushed { Flushes W.Sink result writer.old writer.new }
+    ensures fault { Faults R.Source W.Sink result reader.new writer.new tries.new }
 {
     match read_message(alloc, reader, tries, unread, fields) {
         Arrival::Fault => Err(SessionFault::Read),
@@ -106,9 +105,11 @@ fn turn<D: Answers, R: Read, W: Write>(
 /// read or write is tried again, at most 1,000 times in the session. No more is kept than one head, one
 /// body, and one answer.
 ///
-/// The tries are those of a new run. By the clause `cause` a session tells `Read` and `Write` only where a
-/// call of the reader or of the writer failed, as these tries are marked then.
-pub fn session<D: Answers, R: Read, W: Write>(
+/// The tries are those of a new run. Each answer is flushed once it is written.
+///
+/// # Errors
+/// `Read` or `Write` only if a read of this reader or a write of this writer failed: the clause `fault`.
+pub fn session<D: Answers, R: Source, W: Sink>(
     alloc: Global,
     desk: &mut D,
     reader: &mut R,
@@ -117,9 +118,10 @@ pub fn session<D: Answers, R: Read, W: Write>(
 ) -> Result<Ended, SessionFault>
     requires unused { IsUnused tries.old }
     ensures before { D.is_clean desk.new → D.is_clean desk.old }
-    ensures ran { Runs D.Answers R.Read W.Write desk.old desk.new
+    ensures ran { Runs D.Answers R.Source W.Sink desk.old desk.new
         reader.old reader.new writer.old writer.new result }
-    ensures cause { HasCause result tries.old tries.new }
+    ensures flushed { Flushes W.Sink result writer.old writer.new }
+    ensures fault { Faults R.Source W.Sink result reader.new writer.new tries.new }
 {
     let mut unread = Unread::new();
     let mut fields = [EMPTY_HEADER_SPAN; MAX_FIELDS];

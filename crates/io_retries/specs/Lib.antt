@@ -1,2 +1,4 @@
-pub mod Marks
+pub mod Failures
 pub mod Prefixes
+pub mod Tries
+pub mod Written

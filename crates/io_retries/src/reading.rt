@@ -1,16 +1,20 @@
-//! Reads that are made again where they are interrupted.
-ghost use Rattle.std.specs.Prelude.{◌≡◌, ◌≢◌, ◌≤◌, IfErr};
+//! Reads that are made again if they are interrupted.
+ghost use Rattle.std.specs.Prelude.{◌≢◌, ◌≤◌, IfErr, OnErr};
 ghost use Rattle.std.specs.Io.{ReadsAtMost};
 ghost use Rattle.std.specs.Io.KnownBytes.{ReadConsumes};
 ghost use Rattle.std.specs.IoError.{error_kind};
-ghost use Rattle.io_retries.specs.Marks.{Marks};
+ghost use Rattle.io_retries.specs.Failures.{ReadFailed};
 
-use crate::tries::{Failure, Tries};
+use crate::source::Source;
+use crate::tries::Tries;
 use std::io;
-use std::io::{ErrorKind, Read};
+use std::io::ErrorKind;
 
-/// Makes one read, and makes it again where it is interrupted and tries are left.
-pub fn read_with_retries<R: Read>(
+/// Makes one read, and makes it again while it is interrupted and tries are left.
+///
+/// # Errors
+/// Only if a read of this reader failed: the clause `fault` says which.
+pub fn read_with_retries<R: Source>(
     reader: &mut R,
     buf: &mut [u8],
     tries: &mut Tries,
@@ -18,13 +22,13 @@ pub fn read_with_retries<R: Read>(
     ensures bound { ReadsAtMost result buf.new }
     ensures bytes { ReadConsumes (R.remaining reader.old) (R.remaining reader.new) result buf.new }
     ensures tries { tries.new.left ≤ tries.old.left }
-    ensures mark { Marks result Failure.Read tries.old tries.new }
     ensures failed { IfErr result (λ e. error_kind e ≢ ErrorKind.Interrupted) }
+    ensures fault { OnErr result (ReadFailed R.Source reader.new tries.new) }
 {
     loop {
         match reader.read(buf) {
             Ok(count) => return Ok(count),
-            Err(error) => tries.spend(Failure::Read, error)?,
+            Err(error) => tries.spend(error)?,
         }
     }
 }
@@ -36,7 +40,7 @@ pub struct RetryingReader<R> {
     pub tries: Tries,
 }
 
-impl<R: Read> Read for RetryingReader<R> {
+impl<R: Source> io::Read for RetryingReader<R> {
     ghost remaining = { λ r. R.remaining r.inner };
 
     fn read(&mut self, buf: &mut [u8]) -> io::Result<usize>
@@ -44,8 +48,8 @@ impl<R: Read> Read for RetryingReader<R> {
         ensures bytes { ReadConsumes (R.remaining self.old.inner)
             (R.remaining self.new.inner) result buf.new }
         ensures tries { self.new.tries.left ≤ self.old.tries.left }
-        ensures mark { Marks result Failure.Read self.old.tries self.new.tries }
         ensures failed { IfErr result (λ e. error_kind e ≢ ErrorKind.Interrupted) }
+        ensures fault { OnErr result (ReadFailed R.Source self.new.inner self.new.tries) }
     {
         read_with_retries(&mut self.inner, buf, &mut self.tries)
     }

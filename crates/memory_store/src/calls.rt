@@ -25,8 +25,8 @@ use crate::writes::{held_row, limit_company, place_of};
 use ach_fields::{Id, Ref, Trace};
 use bank_days::{Calendar, Day};
 use desk_accounts::{Account, Posting};
-use desk_book::{Caller, HeldSubmission, NamedEntry, ReturnsAndChanges, Row};
-use desk_history::{Identity, ListOf, SuspenseRow, TakenFile};
+use desk_book::{Caller, HeldSubmission, NamedEntry, Row};
+use desk_history::{ChangeRow, Identity, ListOf, ReturnRow, SuspenseRow, TakenFile};
 use desk_rules::{Company, Limits, Retry, RuleDay, SizedSubmission};
 use desk_store::{CutRows, IntakeRows, LastNumber, Store, StoreFault};
 use std::alloc::Global;
@@ -213,13 +213,12 @@ impl Store for ListStore {
         Ok(traced.entries_of(alloc, traces)?)
     }
 
-    fn items_of(&mut self, alloc: Global, company: Id) -> Result<ReturnsAndChanges, StoreFault> {
-        let returns = returns_of(alloc, &self.returned, company)?;
-        let changes = changes_of(alloc, &self.changed, company)?;
-        Ok(ReturnsAndChanges {
-            returns: ListOf::new(returns),
-            changes: ListOf::new(changes),
-        })
+    fn returns_of(&mut self, alloc: Global, company: Id) -> Result<Vec<ReturnRow>, StoreFault> {
+        Ok(returns_of(alloc, &self.returned, company)?)
+    }
+
+    fn changes_of(&mut self, alloc: Global, company: Id) -> Result<Vec<ChangeRow>, StoreFault> {
+        Ok(changes_of(alloc, &self.changed, company)?)
     }
 
     fn postings_of(&mut self, alloc: Global, account: Account) -> Result<Vec<Posting>, StoreFault> {

@@ -7,9 +7,9 @@ use ach_fields::{Id, Ref, Trace};
 use bank_days::{Calendar, Day};
 use desk_accounts::{Account, Posting};
 use desk_book::{
-    Caller, HeldSubmission, NamedEntry, ReturnsAndChanges, Row, exposures_grow, rates_stay,
+    Caller, HeldSubmission, NamedEntry, Row, exposures_grow, rates_stay,
 };
-use desk_history::{Identity, ListOf, SuspenseRow, TakenFile};
+use desk_history::{ChangeRow, Identity, ListOf, ReturnRow, SuspenseRow, TakenFile};
 use desk_rules::{Company, Limits, Rates, Retry, RuleDay, SizedSubmission};
 use desk_store::{CutRows, IntakeRows, LastNumber, Store, StoreFault};
 use std::alloc::Global;
@@ -174,8 +174,12 @@ impl<S: Store> Store for Remembering<S> {
         self.store.traced_entries(alloc, traces)
     }
 
-    fn items_of(&mut self, alloc: Global, company: Id) -> Result<ReturnsAndChanges, StoreFault> {
-        self.store.items_of(alloc, company)
+    fn returns_of(&mut self, alloc: Global, company: Id) -> Result<Vec<ReturnRow>, StoreFault> {
+        self.store.returns_of(alloc, company)
+    }
+
+    fn changes_of(&mut self, alloc: Global, company: Id) -> Result<Vec<ChangeRow>, StoreFault> {
+        self.store.changes_of(alloc, company)
     }
 
     fn postings_of(&mut self, alloc: Global, account: Account) -> Result<Vec<Posting>, StoreFault> {

@@ -6,15 +6,22 @@
 #![tactic(auto)]
 
 mod connect;
+mod desk_files;
 mod found_file;
+mod host_files;
 mod migrated_file;
 mod new_file;
 mod presence;
 mod private_file;
+mod refusal;
 
+pub use desk_files::{Closes, DeskFiles, Opened};
 pub use found_file::open;
+pub use host_files::{HostFiles, HostStart};
 pub use migrated_file::migrate_file;
 pub use new_file::create;
+pub use presence::{Presence, look};
+pub use refusal::Refusal;
 pub use sql_migration::migrate;
-pub use sql_setup::OpenFault;
-pub use sqlite::{Connection, FileFrom, FileStore, Start, Unknown, Wary};
+pub use sql_setup::{DeskFault, OpenFault};
+pub use sqlite::{Connection, FileFrom, FileStore, Leftover, Start, Unknown, Wary};

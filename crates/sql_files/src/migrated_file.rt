@@ -1,20 +1,26 @@
 //! The desk of version 1 in the file at a path becomes one of version 2.
-ghost use Rattle.std.specs.Prelude.{◌≡◌, ◌≢◌, Err, IfOk, IfErr};
+ghost use Rattle.std.specs.Prelude.{◌≡◌, ◌≢◌, IfOk, IfErr, OnOk};
+ghost use Rattle.sqlite.specs.Held.{state};
+ghost use Rattle.sqlite_std_file.specs.File.{IsFresh};
 ghost use Rattle.sqlite_wal.specs.Files.{image_at};
+ghost use Rattle.sql_setup.specs.Refusals.{IsGivenBack};
+ghost use Rattle.sql_migration.specs.FirstVersion.{first_version};
 ghost use Rattle.sql_migration.specs.Migration.{HasMigrated};
-ghost use Rattle.sql_files.specs.Connections.{IfClean, IsUnmigrated, WasClean, WasFirst};
-ghost use Rattle.sql_files.specs.Opened.{IfCleanFiles, IsMigratedIn, RefusesFirst};
+ghost use Rattle.sql_files.specs.Connections.{IfClean, WasClean, WasFirst};
+ghost use Rattle.sql_files.specs.Opened.{IfCleanFiles, IsMigratedIn, leaves_migrated};
+ghost use Rattle.sql_files.specs.Refusals.{RefusesFirst};
 
 use crate::connect::connect;
-use crate::presence::check_presence;
+use crate::presence::Presence;
+use crate::refusal::Refusal;
 use sql_migration::migrate;
-use sql_setup::OpenFault;
+use sql_setup::{DeskFault, OpenFault};
 use sqlite::{Alter, Connection, FileFrom, FileStore, Start};
 use std::alloc::Global;
 
 /// Makes the desk of version 1 in the database file at a path one of version 2, in one transaction, and
 /// gives the connection. Each book that the file and its log kept is kept, whatever moment a crash left
-/// them at, and whatever moment the next one comes at.
+/// them at, and whatever moment the next one comes at. The file system said this of the path.
 ///
 /// Where there is no file, an empty one, or a database with no table `desk` or no row in it, it is
 /// `OpenFault::NotADesk`, and no file is made. Where that row says another version, also after an
@@ -25,28 +31,39 @@ pub fn migrate_file<S: Start>(
     rt: &HostRuntime,
     path: &str,
     start: S,
-) -> Result<Connection<FileStore<FileFrom<S>>>, OpenFault>
+    presence: Presence,
+) -> Result<Connection<FileStore<FileFrom<S>>>, Refusal<FileFrom<S>>>
     ensures migrated { IfOk result (IfCleanFiles (IsMigratedIn (image_at S.Start))) }
-    ensures refused { result ≢ Err OpenFault.NotADesk → RefusesFirst (image_at S.Start) result }
-    ensures otherwise { IfErr result (λ fault. fault ≢ OpenFault.Exists) }
+    ensures present { OnOk result (presence ≡ Presence.File) }
+    ensures refused { IfErr result (RefusesFirst IsFresh (image_at S.Start) presence) }
 {
-    check_presence(rt, path)?;
-    let conn = connect(rt, path, start)?;
-    with_second_version(rt.alloc(), conn)
+    if let Some(fault) = presence.fault() {
+        return Err(Refusal::NoFile(fault));
+    }
+    match connect(rt, path, start) {
+        Ok(conn) => match with_second_version(rt.alloc(), conn) {
+            Ok(conn) => Ok(conn),
+            Err((why, conn)) => Err(Refusal::Refused(why, conn)),
+        },
+        Err((error, left)) => Err(Refusal::Unopened(error, left)),
+    }
 }
 
-// Migrates the tables of a connection, and gives it back.
-fn with_second_version<P: Alter + Drop>(
+// Migrates the tables of a connection, and gives the connection back.
+fn with_second_version<P: Alter>(
     alloc: Global,
     conn: Connection<P>,
-) -> Result<Connection<P>, OpenFault>
+) -> Result<Connection<P>, (DeskFault, Connection<P>)>
     ensures before { IfOk result (IfClean P.Store WasClean conn) }
     ensures migrated { IfOk result (IfClean P.Store HasMigrated conn) }
     ensures first { IfOk result (IfClean P.Store WasFirst conn) }
-    ensures refused { IfErr result (IsUnmigrated P.Store conn) }
-    ensures otherwise { IfErr result (λ fault. fault ≢ OpenFault.Exists) }
+    ensures refused { IfErr result (λ why.
+        IsGivenBack P.Store first_version (leaves_migrated (state P.Store conn)) conn why.1 why.0) }
+    ensures otherwise { IfErr result (λ why. why.0 ≢ DeskFault.Told OpenFault.Exists) }
 {
     let mut conn = conn;
-    migrate(alloc, &mut conn)?;
-    Ok(conn)
+    match migrate(alloc, &mut conn) {
+        Ok(()) => Ok(conn),
+        Err(why) => Err((why, conn)),
+    }
 }

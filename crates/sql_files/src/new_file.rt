@@ -1,15 +1,18 @@
 //! A new desk is made in the file at a path.
-ghost use Rattle.std.specs.Prelude.{◌≡◌, codes, Err, IfOk, IfErr};
+ghost use Rattle.std.specs.Prelude.{◌≡◌, codes, IfOk, IfErr, IsErrAnd};
+ghost use Rattle.sqlite_std_file.specs.File.{IsFresh};
 ghost use Rattle.sqlite_wal.specs.Files.{image_at};
-ghost use Rattle.sql_setup.specs.Refusals.{IsUnmade};
+ghost use Rattle.sql_setup.specs.Refusals.{IsLeftUnmade};
 ghost use Rattle.sql_setup.specs.Setup.{HasNewDesk};
-ghost use Rattle.sql_files.specs.Connections.{IfClean, RefusesNew, WasClean};
-ghost use Rattle.sql_files.specs.Opened.{IfCleanFiles, IsMadeIn, UnmadeIn, leaves_new};
+ghost use Rattle.sql_files.specs.Connections.{IfClean, WasClean};
+ghost use Rattle.sql_files.specs.Opened.{IfCleanFiles, IsMadeIn, leaves_new};
+ghost use Rattle.sql_files.specs.Refusals.{RefusesNew, fault_of};
 
 use crate::connect::connect;
 use crate::private_file::make_private;
+use crate::refusal::Refusal;
 use desk_history::Identity;
-use sql_setup::{OpenFault, make_desk};
+use sql_setup::{DeskFault, OpenFault, make_desk};
 use sqlite::{Alter, Connection, FileFrom, FileStore, Start};
 
 /// Makes a new desk in the database file at a path, with the SHA-256 digest of the operator's key. A
@@ -25,30 +28,40 @@ pub fn create<S: Start>(
     start: S,
     identity: Identity,
     operator_key: [u8; 32],
-) -> Result<Connection<FileStore<FileFrom<S>>>, OpenFault>
+) -> Result<Connection<FileStore<FileFrom<S>>>, Refusal<FileFrom<S>>>
     ensures created { IfOk result
         (IfCleanFiles (IsMadeIn (image_at S.Start) identity operator_key)) }
-    ensures unmade { UnmadeIn (image_at S.Start) (leaves_new identity operator_key) result }
-    ensures memory { path.now ≡ codes ":memory:" → result ≡ Err OpenFault.Unavailable }
-    ensures otherwise { IfErr result RefusesNew }
+    ensures unmade { IfErr result
+        (RefusesNew IsFresh (image_at S.Start) (leaves_new identity operator_key)) }
+    ensures memory { path.now ≡ codes ":memory:" →
+        IsErrAnd result (λ why. fault_of why ≡ OpenFault.Unavailable) }
 {
-    make_private(rt, path)?;
-    let conn = connect(rt, path, start)?;
-    with_new_desk(conn, identity, operator_key)
+    if let Err(fault) = make_private(rt, path) {
+        return Err(Refusal::NoFile(fault));
+    }
+    match connect(rt, path, start) {
+        Ok(conn) => match with_new_desk(conn, identity, operator_key) {
+            Ok(conn) => Ok(conn),
+            Err((why, conn)) => Err(Refusal::Refused(why, conn)),
+        },
+        Err((error, left)) => Err(Refusal::Unopened(error, left)),
+    }
 }
 
-// Makes a new desk on a connection, and gives it back.
-fn with_new_desk<P: Alter + Drop>(
+// Makes a new desk on a connection, and gives the connection back.
+fn with_new_desk<P: Alter>(
     conn: Connection<P>,
     identity: Identity,
     operator_key: [u8; 32],
-) -> Result<Connection<P>, OpenFault>
+) -> Result<Connection<P>, (DeskFault, Connection<P>)>
     ensures before { IfOk result (IfClean P.Store WasClean conn) }
     ensures desk { IfOk result (IfClean P.Store (HasNewDesk identity operator_key) conn) }
-    ensures unmade { IfErr result (IsUnmade P.Store (leaves_new identity operator_key) conn) }
-    ensures otherwise { IfErr result RefusesNew }
+    ensures unmade { IfErr result
+        (λ why. IsLeftUnmade P.Store (leaves_new identity operator_key) conn why.1 why.0) }
 {
     let mut conn = conn;
-    make_desk(&mut conn, identity, operator_key)?;
-    Ok(conn)
+    match make_desk(&mut conn, identity, operator_key) {
+        Ok(()) => Ok(conn),
+        Err(why) => Err((why, conn)),
+    }
 }

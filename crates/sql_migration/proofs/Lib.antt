@@ -1,4 +1,5 @@
 mod AddedTables
+mod FirstChecks
 mod FirstSchemas
 mod KeptBooks
 mod KeptSchemas

@@ -1,5 +1,5 @@
 -- The statements of a migration make its edit, and what that says of the connection.
-use Rattle.std.proofs.Common.{◌≡◌, Option, None, Some, ℕ, [], Ok, IsTrue, refl, sym, ◌∙◌, subst, arith}
+use Rattle.std.proofs.Common.{◌≡◌, Option, None, Some, ℕ, [], Ok, IsTrue, refl, sym, ap, ◌∙◌, subst, arith}
 use Rattle.sqlite.specs.Effect.{Database}
 use Rattle.sqlite_trees.specs.Tree.{Trees}
 use Rattle.sqlite.specs.State.{State, HasCleanDisk, Survives, Executes}
@@ -57,10 +57,10 @@ migration_made s0 s1 s2 s3 s4 a b c on1 on2 on3 numbers authorizations version e
 
 -- ---- after the check of the tables
 
-module _ (old mid new : State) (settled : IsTrue old.is_open → old.now ≡ old.committed) (stays : HasCleanDisk mid → Stays old mid) (schema : old.now.schema ≡ first_schema) where
+module _ (old mid new : State) (settled : IsTrue old.is_open → old.now ≡ old.committed) (stays : HasCleanDisk mid → Stays old mid) (schema : mid.now.schema ≡ first_schema) where
   -- what was seen is what the transaction begins with
   began : HasCleanDisk mid → IsTrue mid.is_open → (o : Option Tables) → IsFirstSeen old.now.trees o → Holds migration_layout mid.now (First o)
-  began clean is_open o h = subst (λ d. Holds migration_layout d (First o)) (sym (stays clean is_open).1) (schema, h)
+  began clean is_open o h = (schema, subst (λ (d : Database). IsFirstSeen d.trees o) (sym (stays clean is_open).1) h)
 
   -- and so is what was committed
   kept_first : HasCleanDisk mid → IsTrue mid.is_open → (b : Book) (k : KeepsFirst old.committed.trees b) → Holds migration_layout mid.now (First (Some k.0))
@@ -75,7 +75,7 @@ module _ (old mid new : State) (settled : IsTrue old.is_open → old.now ≡ old
       record {
         was_open = (stays clean done.was_open).0;
         is_open = done.is_open;
-        was_first = schema;
+        was_first = ap (λ (d : Database). d.schema) (sym (stays clean done.was_open).1) ∙ schema;
         is_second = (done.holds (First None) (began clean done.was_open None tt)).0.0;
         tables = λ t h. (done.holds (First (Some t)) (began clean done.was_open (Some t) h)).0.1;
         sees = sees;

@@ -1,5 +1,5 @@
 -- The tables of version 1, which has no table of numbers and none of authorizations, and which book they hold.
-use Rattle.std.specs.Prelude.{◌≡◌, ℕ, ℤ, List, [], ◌∷◌, All, Option, Some}
+use Rattle.std.specs.Prelude.{◌≡◌, ℕ, List, [], ◌∷◌, All}
 use Rattle.std.specs.List.{enumerate_from}
 use Rattle.std.specs.Ordering.{nat_cmp, on}
 use Rattle.sqlite_trees.specs.Tree.{Trees}
@@ -20,7 +20,6 @@ use Rattle.sql_tables.specs.Layout.{Keeps}
 use Rattle.sql_tables.specs.Tables.{Tables, IsTableOf}
 use Rattle.sql_tables.specs.declared.records.AuthorizationRecord.{AuthorizationRecord}
 use Rattle.sql_tables.specs.declared.records.NumberRecord.{NumberRecord}
-use Rattle.sql_setup.specs.Refusals.{SaysVersion}
 use Rattle.sql_setup.specs.Versions.{IsOfVersion}
 pub use Rattle.sql_setup.specs.Versions.{first_schema, versioned_row}
 
@@ -30,11 +29,6 @@ first_version = 1
 -- where the row of the desk said a version, it was the first
 abbrev pub WasFirst : (old new : State) → Type 0
 WasFirst old new = (n : ℕ) → IsOfVersion old.now n → n ≡ first_version
-
-module _ {X : Type 0} (g : Ghosts X) where
-  -- the version that was found is that which the row of the desk says
-  abbrev pub FindsVersion : Held X → (found : Option ℤ) → (old new : State) → Type 0
-  FindsVersion c found old new = (n : ℤ) → found ≡ Some n → SaysVersion g c n
 
 -- The trees store these records, but for the tables that version 1 has not.
 pub record IsFirstStored (trees : Trees) (t : Tables) : Type 0 where

@@ -1,5 +1,5 @@
 //! Version 1's tables become version 2's.
-ghost use Rattle.std.specs.Prelude.{◌≡◌, ◌≢◌, false, IfErr};
+ghost use Rattle.std.specs.Prelude.{◌≡◌, ◌≢◌, false, Err, IfErr, IsTrue};
 ghost use Rattle.sql_statements.specs.Promises.{SucceedsIn, FailsUnchanged};
 ghost use Rattle.sql_setup.specs.Refusals.{IsRefused, TellsNoDesk};
 ghost use Rattle.sql_setup.specs.Setup.{MayLeave};
@@ -9,7 +9,7 @@ ghost use Rattle.sql_migration.specs.Migration.{migration_layout, migration_edit
 use crate::check::check_first;
 use crate::entries::number_entries;
 use desk_book::unauthorized_books;
-use sql_setup::OpenFault;
+use sql_setup::{DeskFault, OpenFault};
 use sql_statements::{TransactionBody, commit, execute};
 use sqlite::{Alter, Connection, Error, Transaction};
 use std::alloc::Global;
@@ -48,25 +48,27 @@ impl TransactionBody for Migration {
 ///
 /// Where there is no table `desk`, or no row in it, it is `OpenFault::NotADesk`. Where its row says
 /// another version it is `OpenFault::WrongVersion`, whatever else the schema is. Every other schema, and
-/// a connection that is inside a transaction, is `OpenFault::Unavailable`. After an error the tables are
-/// as they were.
-pub fn migrate<S: Alter>(alloc: Global, conn: &mut Connection<S>) -> Result<(), OpenFault>
+/// a connection that is inside a transaction, is `OpenFault::Unavailable`. The error is given of a
+/// database that failed, and of memory that ran out. The tables are then as they were.
+pub fn migrate<S: Alter>(alloc: Global, conn: &mut Connection<S>) -> Result<(), DeskFault>
     ensures migrated { SucceedsIn S.Store conn.old conn.new result HasMigrated }
     ensures absent { TellsNoDesk S.Store conn.old result }
+    ensures inside { IsTrue conn.old.in_transaction →
+        (result ≡ Err (DeskFault.Told OpenFault.Unavailable)) × (conn.new ≡ conn.old) }
     ensures first { SucceedsIn S.Store conn.old conn.new result WasFirst }
     ensures refused { IfErr result (IsRefused S.Store first_version conn.old conn.new) }
-    ensures otherwise { IfErr result (λ fault. fault ≢ OpenFault.Exists) }
+    ensures otherwise { IfErr result (λ why. why ≢ DeskFault.Told OpenFault.Exists) }
     ensures unmigrated { FailsUnchanged S.Store conn.old conn.new result }
     ensures survives { MayLeave S.Store conn.old conn.new (KeepsBooksOf S.Store conn.old) }
     ensures ended { conn.old.in_transaction ≡ false → conn.new.in_transaction ≡ false }
 {
     if !conn.is_autocommit() {
-        return Err(OpenFault::Unavailable);
+        return Err(DeskFault::Told(OpenFault::Unavailable));
     }
     check_first(alloc, conn)?;
     unauthorized_books();
     match commit(conn, &Migration) {
         Ok(()) => Ok(()),
-        Err(_) => Err(OpenFault::Unavailable),
+        Err(error) => Err(DeskFault::Failed(error)),
     }
 }

@@ -1,59 +1,68 @@
-//! A connection is told to have a desk's tables of version 1.
-ghost use Rattle.std.specs.Prelude.{◌≡◌, ◌≢◌, false, Err, IfErr, OnOk};
+//! A connection is checked to have a desk's tables of version 1.
+ghost use Rattle.std.specs.Prelude.{◌≡◌, ◌≢◌, false, pos, Err, IfErr, OnOk};
 ghost use Rattle.sqlite.specs.Held.{state};
 ghost use Rattle.sql_statements.specs.Promises.{SucceedsIn, LeavesNothingNew, SeesStill};
 ghost use Rattle.sql_tables.specs.Schema.{desk_schema};
+ghost use Rattle.sql_setup.specs.Checked.{TellsSchema};
 ghost use Rattle.sql_setup.specs.Refusals.{IsRefused};
 ghost use Rattle.sql_setup.specs.Setup.{HasDesk};
-ghost use Rattle.sql_migration.specs.FirstVersion.{first_version, first_schema, WasFirst};
+ghost use Rattle.sql_setup.specs.Versions.{ShowsVersion};
+ghost use Rattle.sql_migration.specs.FirstVersion.{first_version, first_schema};
 
 use crate::first::is_first_schema;
-use crate::first_version::check_version;
-use sql_setup::{OpenFault, empty_tables};
+use sql_setup::{DeskFault, OpenFault, check_version, empty_tables};
 use sqlite::{Alter, Connection};
 use sqlite_schema::schema::Schema;
 use std::alloc::Global;
 
-// Tells that the tables and indexes are those of version 1, by a schema of version 2, where the row of
-// the desk has version 1.
-fn check_tables<S: Alter>(conn: &mut Connection<S>, pattern: &Schema) -> Result<(), OpenFault>
-    requires { pattern.now ≡ desk_schema }
-    ensures checked { OnOk result ((state S.Store conn.old).now.schema ≡ first_schema) }
-    ensures first { SucceedsIn S.Store conn.old conn.new result WasFirst }
-    ensures refused { IfErr result (IsRefused S.Store first_version conn.old conn.new) }
-    ensures otherwise { IfErr result (λ fault. fault ≢ OpenFault.Exists) }
-    ensures stays { SeesStill S.Store conn.old conn.new }
-    ensures survives { LeavesNothingNew S.Store conn.old conn.new }
-    ensures ended { conn.old.in_transaction ≡ false → conn.new.in_transaction ≡ false }
+// The version that is migrated.
+const FIRST_VERSION: i64 = 1;
+
+// Checks that the tables and indexes are those of version 1.
+fn check_schema(alloc: Global, schema: &Schema) -> Result<(), DeskFault>
+    ensures { TellsSchema first_schema schema.now result }
 {
-    let is_first = is_first_schema(pattern, conn.schema());
-    check_version(conn)?;
-    if !is_first {
-        return Err(OpenFault::Unavailable);
+    match empty_tables(alloc) {
+        Ok(pattern) => same_schema(pattern.schema(), schema),
+        Err(error) => Err(DeskFault::Failed(error)),
     }
-    Ok(())
 }
 
-/// Tells that a connection has a desk's tables of version 1. It changes nothing.
+// The same by a schema of version 2.
+fn same_schema(pattern: &Schema, schema: &Schema) -> Result<(), DeskFault>
+    requires { pattern.now ≡ desk_schema }
+    ensures { TellsSchema first_schema schema.now result }
+{
+    if is_first_schema(pattern, schema) {
+        Ok(())
+    } else {
+        Err(DeskFault::Told(OpenFault::Unavailable))
+    }
+}
+
+/// Checks that a connection, which is outside of a transaction, has a desk's tables of version 1. It
+/// changes nothing.
 pub(crate) fn check_first<S: Alter>(
     alloc: Global,
     conn: &mut Connection<S>,
-) -> Result<(), OpenFault>
-    ensures checked { OnOk result ((state S.Store conn.old).now.schema ≡ first_schema) }
+) -> Result<(), DeskFault>
+    requires { conn.old.in_transaction ≡ false }
+    ensures checked { OnOk result ((state S.Store conn.new).now.schema ≡ first_schema) }
+    ensures version { SucceedsIn S.Store conn.old conn.new result
+        (λ before after. ShowsVersion before after (pos first_version)) }
     ensures absent { ¬ HasDesk (state S.Store conn.old).now.schema
-        → result ≡ Err OpenFault.NotADesk }
-    ensures first { SucceedsIn S.Store conn.old conn.new result WasFirst }
+        → result ≡ Err (DeskFault.Told OpenFault.NotADesk) }
     ensures refused { IfErr result (IsRefused S.Store first_version conn.old conn.new) }
-    ensures otherwise { IfErr result (λ fault. fault ≢ OpenFault.Exists) }
+    ensures otherwise { IfErr result (λ why. why ≢ DeskFault.Told OpenFault.Exists) }
     ensures stays { SeesStill S.Store conn.old conn.new }
     ensures survives { LeavesNothingNew S.Store conn.old conn.new }
-    ensures ended { conn.old.in_transaction ≡ false → conn.new.in_transaction ≡ false }
+    ensures ended { conn.new.in_transaction ≡ false }
 {
     if conn.schema().table_named(b"desk").is_none() {
-        return Err(OpenFault::NotADesk);
+        return Err(DeskFault::Told(OpenFault::NotADesk));
     }
-    let Ok(pattern) = empty_tables(alloc) else {
-        return Err(OpenFault::Unavailable);
-    };
-    check_tables(conn, pattern.schema())
+    match check_version(conn, FIRST_VERSION) {
+        Ok(()) => check_schema(alloc, conn.schema()),
+        Err(why) => Err(why),
+    }
 }

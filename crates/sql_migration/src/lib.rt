@@ -9,6 +9,5 @@ mod body;
 mod check;
 mod entries;
 mod first;
-mod first_version;
 
 pub use body::migrate;

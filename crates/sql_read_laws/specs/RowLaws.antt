@@ -4,7 +4,7 @@ use Rattle.sql_statements.specs.Books.{Agrees}
 use Rattle.desk_rules.specs.declared.bodies.company.Company.{Company}
 use Rattle.desk_book.specs.declared.row.Row.{Row}
 use Rattle.desk_book.specs.OpenRows.{is_open_row}
-use Rattle.desk_book.specs.Reads.{submission, submission_count, open_rows_of, retries_of, waiting_of, waiting, items_of}
+use Rattle.desk_book.specs.Reads.{submission, submission_count, open_rows_of, retries_of, waiting_of, waiting}
 use Rattle.desk_book.specs.Sums.{exposures_of, rates_of}
 use Rattle.desk_history.specs.declared.reports.ChangeRow.{ChangeRow}
 use Rattle.desk_history.specs.declared.reports.ReturnRow.{ReturnRow}
@@ -24,6 +24,7 @@ pub record RowLaws : Type 0 where
   pub rates : (company : List ℕ) (day : ℕ) → ReadsAs (rates_in company day) (rates_of company day)
   pub waiting_of : (company : Company) → ReadsAs (waiting_of_in company) (waiting_of company)
   pub waiting : ReadsAs waiting_in waiting
-  pub items_of : (company : List ℕ) (returns : List ReturnRow) (changes : List ChangeRow) → Agrees desk_layout IsBookIn
-      (λ t. (map Some returns ≡ map (return_row_in company t) (return_lines_in company t)) × (map Some changes ≡ map (change_row_in company t) (change_lines_in company t)))
-      (λ b. record { returns = returns; changes = changes } ≡ items_of company b)
+  pub returns_of : (company : List ℕ) (returns : List ReturnRow) → Agrees desk_layout IsBookIn
+      (λ t. map Some returns ≡ map (return_row_in company t) (return_lines_in company t)) (λ b. returns ≡ b.returns company)
+  pub changes_of : (company : List ℕ) (changes : List ChangeRow) → Agrees desk_layout IsBookIn
+      (λ t. map Some changes ≡ map (change_row_in company t) (change_lines_in company t)) (λ b. changes ≡ b.changes company)

@@ -1,96 +1,125 @@
-//! What came back of a company's entries.
-ghost use Rattle.std.specs.Prelude.{Option, Some};
+//! A company's returns and notifications of change, each with the reference of its submission. The
+//! submission is looked up once where lines of one submission follow one another, as they do in a file.
+ghost use Rattle.std.specs.Prelude.{◌≡◌, ℕ, Some};
 ghost use Rattle.desk_history.specs.declared.reports.ChangeRow.{ChangeRow};
 ghost use Rattle.desk_history.specs.declared.reports.ReturnRow.{ReturnRow};
-ghost use Rattle.sql_tables.specs.Composed.{return_row_in, change_row_in};
+ghost use Rattle.sql_tables.specs.declared.row.submissions.SubmissionFacts.{SubmissionFacts};
+ghost use Rattle.sql_tables.specs.Composed.{change_row_of, return_row_of};
 ghost use Rattle.sql_queries.specs.Asking.{Asks};
-ghost use Rattle.sql_reads.specs.ItemsFound.{AreChangeRowsOf, AreItemsOf, AreReturnRowsOf};
+ghost use Rattle.sql_read_steps.specs.Answers.{LearnsEach, LearnsOn};
+ghost use Rattle.sql_reads.specs.ItemsFound.{AreChangeRowsOf, AreReturnRowsOf, row_in};
+ghost use Rattle.sql_reads.specs.Known.{Knowing};
 
+use crate::last_submission::{LastSubmission, facts_of};
 use ach_fields::Id;
-use desk_book::ReturnsAndChanges;
-use desk_history::{ChangeRow, ListOf, ReturnRow};
+use desk_history::{ChangeRow, ReturnRow};
 use desk_store::StoreFault;
-use sql_queries::{change_lines, facts, return_lines};
-use sql_read_steps::{ItemRead, or_unavailable, read_each};
-use sql_tables::{ChangeLine, ReturnLine};
+use emptying_lists::EmptyingList;
+use sql_queries::{change_lines, return_lines};
+use sql_read_steps::or_unavailable;
+use sql_tables::{ChangeLine, ReturnLine, SubmissionFacts};
 use sqlite::{Alter, Connection};
 use std::alloc::Global;
 
-// Returns of a company's entries, each with the reference of its submission.
-#[derive(Clone, Copy)]
-struct ReturnRows {
-    company: Id,
+/// A line of the table of returns or of changes, which names its submission by order number.
+trait ItemLine: Drop {
+    type Row: Drop;
+
+    ghost order: { Self → ℕ };
+
+    ghost row: { Self → SubmissionFacts → Self.Row };
+
+    /// Returns the order number of the line's submission.
+    fn order(&self) -> u64
+        ensures { result ≡ order self.now };
+
+    /// Returns the line as its company reads it, with what its submission says.
+    fn row(&self, facts: &SubmissionFacts) -> Self::Row
+        ensures { result ≡ row self.now facts.now };
 }
 
-impl ItemRead for ReturnRows {
-    type Item = ReturnLine;
+impl ItemLine for ReturnLine {
+    type Row = ReturnRow;
 
-    type Found = ReturnRow;
+    ghost order = { λ line. line.order };
 
-    ghost Shown = { Option ReturnRow };
+    ghost row = { return_row_of };
 
-    ghost shown = { Some };
+    fn order(&self) -> u64 {
+        self.order
+    }
 
-    ghost value = { λ rows t line. return_row_in rows.company t line };
-
-    fn read_item<S: Alter>(
-        &self,
-        conn: &mut Connection<S>,
-        _alloc: Global,
-        line: &ReturnLine,
-    ) -> Result<ReturnRow, StoreFault> {
-        match or_unavailable(facts(conn, self.company, line.order))? {
-            Some(facts) => Ok(ReturnRow {
-                code: line.back.code,
-                day: line.back.day,
-                index: line.back.index,
-                info: line.info,
-                late: line.back.late,
-                reference: facts.reference,
-            }),
-            None => Err(StoreFault::Unavailable),
+    fn row(&self, facts: &SubmissionFacts) -> ReturnRow {
+        ReturnRow {
+            code: self.back.code,
+            day: self.back.day,
+            index: self.back.index,
+            info: self.info,
+            late: self.back.late,
+            reference: facts.reference,
         }
     }
 }
 
-// Changes of a company's entries, each with the reference of its submission.
-#[derive(Clone, Copy)]
-struct ChangeRows {
-    company: Id,
-}
+impl ItemLine for ChangeLine {
+    type Row = ChangeRow;
 
-impl ItemRead for ChangeRows {
-    type Item = ChangeLine;
+    ghost order = { λ line. line.order };
 
-    type Found = ChangeRow;
+    ghost row = { change_row_of };
 
-    ghost Shown = { Option ChangeRow };
+    fn order(&self) -> u64 {
+        self.order
+    }
 
-    ghost shown = { Some };
-
-    ghost value = { λ rows t line. change_row_in rows.company t line };
-
-    fn read_item<S: Alter>(
-        &self,
-        conn: &mut Connection<S>,
-        _alloc: Global,
-        line: &ChangeLine,
-    ) -> Result<ChangeRow, StoreFault> {
-        match or_unavailable(facts(conn, self.company, line.order))? {
-            Some(facts) => Ok(ChangeRow {
-                code: line.code,
-                day: line.day,
-                index: line.index,
-                reference: facts.reference,
-                text: line.text,
-            }),
-            None => Err(StoreFault::Unavailable),
+    fn row(&self, facts: &SubmissionFacts) -> ChangeRow {
+        ChangeRow {
+            code: self.code,
+            day: self.day,
+            index: self.index,
+            reference: facts.reference,
+            text: self.text,
         }
     }
 }
 
-// A company's returns, in the order in which they came.
-fn returns_of<S: Alter>(
+// Reads the row of a line. A line of a submission that is not there leaves the store unable to act.
+fn row_of<S: Alter, L: ItemLine>(
+    conn: &mut Connection<S>,
+    last: &mut Option<LastSubmission>,
+    company: Id,
+    line: &L,
+) -> Result<L::Row, StoreFault>
+    ensures { LearnsOn S.Store conn.old conn.new result (λ found. Knowing last.old last.new
+        (λ t. Some found ≡ row_in L.ItemLine.order L.ItemLine.row company t line.now)) }
+{
+    match facts_of(conn, last, company, line.order())? {
+        Some(facts) => Ok(line.row(&facts)),
+        None => Err(StoreFault::Unavailable),
+    }
+}
+
+// Reads the rows of a company's lines.
+fn rows_of<S: Alter, L: ItemLine>(
+    conn: &mut Connection<S>,
+    alloc: Global,
+    company: Id,
+    lines: Vec<L>,
+) -> Result<Vec<L::Row>, StoreFault>
+    ensures { LearnsEach S.Store conn.old conn.new result Some
+        (row_in L.ItemLine.order L.ItemLine.row company) lines.items }
+{
+    let mut last = None;
+    let mut left = EmptyingList::new(lines);
+    let mut all = Vec::new(alloc);
+    while let Some(line) = left.take_first() {
+        all.push(row_of(conn, &mut last, company, &line)?)?;
+    }
+    Ok(all)
+}
+
+/// Reads a company's returns, in the order in which they were taken.
+pub fn returns_of<S: Alter>(
     conn: &mut Connection<S>,
     alloc: Global,
     company: Id,
@@ -99,11 +128,11 @@ fn returns_of<S: Alter>(
         (λ found t. AreReturnRowsOf company found.items t) }
 {
     let lines = or_unavailable(return_lines(conn, alloc, company))?;
-    read_each(conn, alloc, &ReturnRows { company }, lines)
+    rows_of(conn, alloc, company, lines)
 }
 
-// A company's changes, in the order in which they came.
-fn changes_of<S: Alter>(
+/// Reads the notifications of change for a company's entries, in the order in which they were taken.
+pub fn changes_of<S: Alter>(
     conn: &mut Connection<S>,
     alloc: Global,
     company: Id,
@@ -112,22 +141,5 @@ fn changes_of<S: Alter>(
         (λ found t. AreChangeRowsOf company found.items t) }
 {
     let lines = or_unavailable(change_lines(conn, alloc, company))?;
-    read_each(conn, alloc, &ChangeRows { company }, lines)
-}
-
-/// Reads the returns and changes of a company's entries. One of a submission that is not there leaves
-/// the store unable to act.
-pub fn items_of<S: Alter>(
-    conn: &mut Connection<S>,
-    alloc: Global,
-    company: Id,
-) -> Result<ReturnsAndChanges, StoreFault>
-    ensures { Asks S.Store conn.old conn.new result (AreItemsOf company) }
-{
-    let returns = returns_of(conn, alloc, company)?;
-    let changes = changes_of(conn, alloc, company)?;
-    Ok(ReturnsAndChanges {
-        returns: ListOf::new(returns),
-        changes: ListOf::new(changes),
-    })
+    rows_of(conn, alloc, company, lines)
 }

@@ -1,5 +1,6 @@
 -- What is known of a connection that has a desk's tables.
-use Rattle.std.specs.Prelude.{◌≡◌, false, pos}
+use Rattle.std.specs.Prelude.{◌≡◌, ◌≢◌, ⊤, false, pos, Result, Ok, Err}
+use Rattle.sqlite_schema.specs.declared.schema.Schema.{Schema}
 use Rattle.sqlite.specs.State.{State, IsUnchanged}
 use Rattle.sql_statements.specs.Layouts.{Holds}
 use Rattle.desk_book.specs.Book.{Book}
@@ -9,14 +10,18 @@ use Rattle.sql_tables.specs.DeskTables.{version}
 use Rattle.sql_tables.specs.ByName.{IsStored}
 use Rattle.sql_tables.specs.Tables.{Tables}
 use Rattle.sql_setup.specs.Versions.{ShowsVersion}
+use Rattle.sql_setup.specs.declared.fault.DeskFault.{DeskFault}
+use Rattle.sql_setup.specs.declared.fault.DeskFault.TheVariants.{Told, Failed}
+use Rattle.sql_setup.specs.declared.fault.OpenFault.TheVariants.{NotADesk, WrongVersion, Unavailable, Exists}
 
--- the row of the desk says the version of the desk's tables
-abbrev pub HasDeskVersion : (old new : State) → Type 0
-HasDeskVersion old new = ShowsVersion old new (pos version)
-
--- and all tables and indexes are those of a desk
-abbrev pub HasDeskTables : (old new : State) → Type 0
-HasDeskTables old new = HasDeskVersion old new × (new.now.schema ≡ desk_schema)
+-- the schema is this one, or another, or memory ran out
+abbrev pub TellsSchema : {A : Type 0} → (wanted schema : Schema) → Result A DeskFault → Type 0
+TellsSchema wanted schema (Ok done) = schema ≡ wanted
+TellsSchema wanted schema (Err (Told Unavailable)) = schema ≢ wanted
+TellsSchema wanted schema (Err (Told NotADesk)) = ⊥
+TellsSchema wanted schema (Err (Told (WrongVersion n))) = ⊥
+TellsSchema wanted schema (Err (Told Exists)) = ⊥
+TellsSchema wanted schema (Err (Failed error)) = ⊤
 
 -- All tables and indexes are those of a desk, and the version is theirs. What is committed is seen: whatever records and
 -- whatever book the trees keep, the connection has.

@@ -1,7 +1,7 @@
 -- What the row of the desk says of the version of the tables.
-use Rattle.std.specs.Prelude.{◌≡◌, ◌⊎◌, ℕ, ℤ, List, [], ◌∷◌, codes, drop, Option, Some}
+use Rattle.std.specs.Prelude.{◌≡◌, ◌≢◌, ◌⊎◌, ℕ, ℤ, List, [], ◌∷◌, codes, drop, slice_get, Option, Some, None, IsTrue}
 use Rattle.sqlite.specs.Effect.{Database}
-use Rattle.sqlite.specs.State.{State}
+use Rattle.sqlite.specs.State.{State, Shown}
 use Rattle.sqlite_value.specs.declared.value.Value.TheVariants.{Int}
 use Rattle.sqlite_value.specs.Order.{Row}
 use Rattle.sql_statements.specs.StoredRows.{whole, Stores}
@@ -24,9 +24,17 @@ row_text = codes "SELECT 1 FROM desk LIMIT 1"
 abbrev pub version_row : (version : ℤ) → Row
 version_row n = Int n ∷ []
 
--- the first row of a query has the version that was found, if there is a row
-abbrev pub ReadsVersion : (sql : List ℕ) → (found : Option ℤ) → (old new : State) → Type 0
-ReadsVersion sql found old new = ReadsFirst sql [] version_row old new found
+-- the first of these rows says this version, or says none
+abbrev pub SaysFirst : List Row → Option ℤ → Type 0
+SaysFirst rows (Some n) = slice_get rows 0 ≡ Some (version_row n)
+SaysFirst rows None = (n : ℤ) → slice_get rows 0 ≢ Some (version_row n)
+
+-- so the query of the version shows
+pub record FindsVersion (found : Option ℤ) (old new : State) : Type 0 where
+  pub was_open : IsTrue old.is_open
+  pub rows : List Row
+  pub shown : Shown version_text [] old new rows
+  pub says : SaysFirst rows found
 
 -- the query of the version shows this one
 abbrev pub ShowsVersion : (old new : State) → (version : ℤ) → Type 0

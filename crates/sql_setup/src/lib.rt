@@ -8,13 +8,12 @@ mod create;
 mod fault;
 mod new_desk;
 mod pattern;
-mod row;
 mod same;
 mod version;
 
 pub use check::check_desk;
-pub use fault::OpenFault;
+pub use fault::{DeskFault, OpenFault};
 pub use new_desk::make_desk;
 pub use pattern::empty_tables;
-pub use row::unread_fault;
 pub use same::{are_same_indexes, are_same_tables};
+pub use version::check_version;

@@ -3,12 +3,12 @@ ghost use Rattle.std.specs.Prelude.{◌≡◌, ◌↔◌, [], false, Err, OnOk, 
 ghost use Rattle.sqlite.specs.Held.{state};
 ghost use Rattle.sql_statements.specs.Promises.{Runs, SucceedsIn, FailsUnchanged};
 ghost use Rattle.sql_tables.specs.Schema.{schema_of};
-ghost use Rattle.sql_setup.specs.Refusals.{IsOfMaking};
+ghost use Rattle.sql_setup.specs.Refusals.{ExplainsUnmade};
 ghost use Rattle.sql_setup.specs.Setup.{KeepsNewDesk, HasDesk, setup_layout, new_desk_edit, HasOwnDigits, PutsRow, MayLeave, HasNewDesk};
 
 use crate::blank::{check_name, is_blank};
 use crate::create::create_tables;
-use crate::fault::OpenFault;
+use crate::fault::{DeskFault, OpenFault};
 use crate::version::VERSION;
 use desk_history::Identity;
 use sql_statements::{TransactionBody, blob, commit, execute, number};
@@ -96,16 +96,18 @@ fn set_up<S: Alter>(
 /// indexes and the row of the desk, in one transaction. A crash leaves the database as it was, or the
 /// whole desk.
 ///
-/// Where a table `desk` is there already, it is `OpenFault::Exists`. The database has to be blank, and
-/// the connection outside of a transaction.
+/// Over a table `desk` it is `OpenFault::Exists`, and over anything else that a schema has
+/// `OpenFault::Unavailable`. The error is given of a database that failed. A connection that is inside a
+/// transaction, over a blank database, is refused with `Error::InvalidQuery`.
 pub fn make_desk<S: Alter>(
     conn: &mut Connection<S>,
     identity: Identity,
     operator_key: [u8; 32],
-) -> Result<(), OpenFault>
-    ensures exists { (result ≡ Err OpenFault.Exists) ↔ HasDesk (state S.Store conn.old).now.schema }
-    ensures untouched { result ≡ Err OpenFault.Exists → conn.new ≡ conn.old }
-    ensures otherwise { IfErr result IsOfMaking }
+) -> Result<(), DeskFault>
+    ensures exists { (result ≡ Err (DeskFault.Told OpenFault.Exists)) ↔
+        HasDesk (state S.Store conn.old).now.schema }
+    ensures untouched { result ≡ Err (DeskFault.Told OpenFault.Exists) → conn.new ≡ conn.old }
+    ensures otherwise { IfErr result (ExplainsUnmade S.Store conn.old) }
     ensures blank { OnOk result ((state S.Store conn.old).now.schema ≡ schema_of []) }
     ensures made { SucceedsIn S.Store conn.old conn.new result (HasNewDesk identity operator_key) }
     ensures unmade { FailsUnchanged S.Store conn.old conn.new result }
@@ -114,13 +116,13 @@ pub fn make_desk<S: Alter>(
 {
     let schema = conn.schema();
     if schema.table_named(b"desk").is_some() {
-        return Err(OpenFault::Exists);
+        return Err(DeskFault::Told(OpenFault::Exists));
     }
     if !is_blank(schema) {
-        return Err(OpenFault::Unavailable);
+        return Err(DeskFault::Told(OpenFault::Unavailable));
     }
     match set_up(conn, identity, operator_key) {
         Ok(()) => Ok(()),
-        Err(_) => Err(OpenFault::Unavailable),
+        Err(error) => Err(DeskFault::Failed(error)),
     }
 }

@@ -1,6 +1,6 @@
 -- What is promised of a connection, or of a transaction on it, by whatever runs there: `old` is the connection before,
 -- `new` after, and `g` says what a database over this storage holds.
-use Rattle.std.specs.Prelude.{◌≡◌, ℕ, IsTrue, true, List, slice_get, Option, Result, Ok, IfOk, OnOk, OnErr, Vec}
+use Rattle.std.specs.Prelude.{◌≡◌, ℕ, IsTrue, true, List, slice_get, Option, Result, Ok, IfOk, IfErr, OnOk, OnErr, Vec}
 use Rattle.std.specs.declared.alloc.Global.{Global}
 use Rattle.std.specs.Borrow.{MutBor}
 use Rattle.sqlite_trees.specs.declared.store.Store.{Ghosts}
@@ -66,6 +66,10 @@ module _ {S : Type 0} (g : Ghosts S) where
   -- the same, of what it gives too
   abbrev pub SucceedsWith : {A E : Type 0} → (old new : Held S) → Result A E → (Holds : A → State → State → Type 0) → Type 0
   SucceedsWith old new result Holds = HasCleanDisk (state g new) → IfOk result (λ given. Holds given (state g old) (state g new))
+
+  -- Where it failed, and the disk is clean as it ends, this holds of its error and of the database before and after.
+  abbrev pub FailsWith : {A E : Type 0} → (old new : Held S) → Result A E → (Holds : E → State → State → Type 0) → Type 0
+  FailsWith old new result Holds = HasCleanDisk (state g new) → IfErr result (λ error. Holds error (state g old) (state g new))
 
   -- Where it failed, and the disk is clean as it ends, the database is seen as it was.
   abbrev pub FailsUnchanged : {A E : Type 0} → (old new : Held S) → Result A E → Type 0

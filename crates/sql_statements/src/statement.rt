@@ -1,8 +1,9 @@
 //! A statement is run inside a transaction, and a query outside one.
-ghost use Rattle.std.specs.Prelude.{IsTrue};
+ghost use Rattle.std.specs.Prelude.{◌≡◌, false, IsTrue};
+ghost use Rattle.sqlite.specs.State.{FailsToQuery};
 ghost use Rattle.sqlite.specs.Values.{bound};
 ghost use Rattle.sql_statements.specs.SelectTexts.{IsSelectText};
-ghost use Rattle.sql_statements.specs.Promises.{Ran, RunsWith, ShowsRows, EndsIn, SucceedsWith, SeesStill, LeavesNothingNew};
+ghost use Rattle.sql_statements.specs.Promises.{Ran, RunsWith, ShowsRows, EndsIn, FailsWith, SucceedsWith, SeesStill, LeavesNothingNew};
 
 use sqlite::types::ValueRef;
 use sqlite::{Alter, Connection, Error, Row, Transaction};
@@ -19,7 +20,8 @@ pub fn execute<S: Alter>(
     tx.execute(sql, params)
 }
 
-/// Gives the rows of a query, outside any transaction.
+/// Gives the rows of a query, outside any transaction. An error is the one that the database failed
+/// with; a connection that is inside a transaction is refused with `Error::InvalidQuery`.
 pub fn query<S: Alter>(
     conn: &mut Connection<S>,
     sql: &str,
@@ -27,6 +29,9 @@ pub fn query<S: Alter>(
 ) -> Result<Vec<Row>, Error>
     ensures shown { SucceedsWith S.Store conn.old conn.new result
         (ShowsRows sql.now (bound params.now)) }
+    ensures failed { conn.old.in_transaction ≡ false → FailsWith S.Store conn.old conn.new result
+        (λ error before after. FailsToQuery sql.now (bound params.now) before after error) }
+    ensures ended { conn.old.in_transaction ≡ false → conn.new.in_transaction ≡ false }
     ensures was_open { EndsIn S.Store conn.old conn.new
         (λ before after. IsTrue after.is_open → IsTrue before.is_open) }
     ensures stays { IsSelectText sql.now → SeesStill S.Store conn.old conn.new }

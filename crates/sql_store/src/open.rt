@@ -1,5 +1,5 @@
 //! A store over tables begins with a new desk, or with one that is there.
-ghost use Rattle.std.specs.Prelude.{◌≡◌, ◌≢◌, ◌⊎◌, [], IfOk, IfErr};
+ghost use Rattle.std.specs.Prelude.{◌≡◌, ◌≢◌, [], IfOk, IfErr, IsErrAnd, IsTrue};
 ghost use Rattle.sqlite.specs.Held.{state};
 ghost use Rattle.sqlite.specs.State.{HasCleanDisk};
 ghost use Rattle.sqlite.specs.Steps.{over_memory};
@@ -8,12 +8,12 @@ ghost use Rattle.sql_statements.specs.Promises.{EndsIn};
 ghost use Rattle.sql_tables.specs.Layout.{Keeps, Sees};
 ghost use Rattle.sql_tables.specs.DeskTables.{version};
 ghost use Rattle.sql_setup.specs.Checked.{IsDesk};
-ghost use Rattle.sql_setup.specs.Refusals.{IsDropped, IsUnmade};
+ghost use Rattle.sql_setup.specs.Refusals.{IsGivenBack, IsLeftUnmade};
 ghost use Rattle.sql_setup.specs.Setup.{HasNewDesk};
 
 use crate::store::SqlStore;
 use desk_history::Identity;
-use sql_setup::{OpenFault, check_desk, make_desk};
+use sql_setup::{DeskFault, OpenFault, check_desk, make_desk};
 use sqlite::{Alter, Connection, MemStore};
 use std::alloc::Global;
 
@@ -27,48 +27,56 @@ impl<S: Alter> SqlStore<S> {
     }
 }
 
-impl<S: Alter + Drop> SqlStore<S> {
+impl<S: Alter> SqlStore<S> {
     /// Makes a new desk in a blank database, with the SHA-256 digest of the operator's key: all tables
     /// and the row of the desk, in one transaction.
     ///
-    /// Where a table `desk` is there already, it is `OpenFault::Exists`. A database that has something
-    /// else in it, and a connection that is inside a transaction, are `OpenFault::Unavailable`. A
-    /// refused call changes nothing, and drops the connection.
+    /// Over a table `desk` it is `OpenFault::Exists`. A database that has something else in it, one that
+    /// failed, and a connection that is inside a transaction, are `OpenFault::Unavailable`. A refused call
+    /// changes nothing, and gives the connection back.
     pub fn create_on(
         conn: Connection<S>,
         identity: Identity,
         operator_key: [u8; 32],
-    ) -> Result<SqlStore<S>, OpenFault>
+    ) -> Result<SqlStore<S>, (DeskFault, Connection<S>)>
         ensures created { IfOk result
             (λ s. EndsIn S.Store conn s.conn (HasNewDesk identity operator_key)) }
         ensures before { IfOk result
             (λ s. EndsIn S.Store conn s.conn (λ before _. HasCleanDisk before)) }
-        ensures unmade { IfErr result
-            (IsUnmade S.Store (λ trees. Keeps trees (book_of identity operator_key [])) conn) }
-        ensures otherwise { IfErr result
-            (λ fault. (fault ≡ OpenFault.Exists) ⊎ (fault ≡ OpenFault.Unavailable)) }
+        ensures unmade { IfErr result (λ why. IsLeftUnmade S.Store
+            (λ trees. Keeps trees (book_of identity operator_key [])) conn why.1 why.0) }
     {
         let mut conn = conn;
-        make_desk(&mut conn, identity, operator_key)?;
-        Ok(SqlStore::new(conn))
+        match make_desk(&mut conn, identity, operator_key) {
+            Ok(()) => Ok(SqlStore::new(conn)),
+            Err(why) => Err((why, conn)),
+        }
     }
 
     /// Takes over the desk that is in a database: the store holds each book that the tables keep.
     ///
     /// Where there is no table `desk`, or no row in it, it is `OpenFault::NotADesk`. Where its row says
     /// another version it is `OpenFault::WrongVersion`, whatever else the schema is. Every other schema,
-    /// and a connection that is inside a transaction, is `OpenFault::Unavailable`. A refused call
-    /// changes nothing, and drops the connection.
-    pub fn adopt(alloc: Global, conn: Connection<S>) -> Result<SqlStore<S>, OpenFault>
+    /// a database that failed, and a connection that is inside a transaction, are
+    /// `OpenFault::Unavailable`. A refused call changes nothing, and gives the connection back.
+    pub fn adopt(
+        alloc: Global,
+        conn: Connection<S>,
+    ) -> Result<SqlStore<S>, (DeskFault, Connection<S>)>
         ensures before { IfOk result
             (λ s. EndsIn S.Store conn s.conn (λ before _. HasCleanDisk before)) }
         ensures adopted { IfOk result (λ s. EndsIn S.Store conn s.conn IsDesk) }
-        ensures refused { IfErr result (IsDropped S.Store version (λ _. ⊥) conn) }
-        ensures otherwise { IfErr result (λ fault. fault ≢ OpenFault.Exists) }
+        ensures inside { IsTrue conn.in_transaction → IsErrAnd result
+            (λ why. (why.0 ≡ DeskFault.Told OpenFault.Unavailable) × (why.1 ≡ conn)) }
+        ensures refused { IfErr result
+            (λ why. IsGivenBack S.Store version (λ _. ⊥) conn why.1 why.0) }
+        ensures otherwise { IfErr result (λ why. why.0 ≢ DeskFault.Told OpenFault.Exists) }
     {
         let mut conn = conn;
-        check_desk(alloc, &mut conn)?;
-        Ok(SqlStore::new(conn))
+        match check_desk(alloc, &mut conn) {
+            Ok(()) => Ok(SqlStore::new(conn)),
+            Err(why) => Err((why, conn)),
+        }
     }
 
     /// Gives the connection back, so that its file may be closed.
@@ -93,6 +101,9 @@ impl SqlStore<MemStore> {
         let Ok(conn) = Connection::open_in_memory(alloc) else {
             return Err(OpenFault::Unavailable);
         };
-        SqlStore::create_on(conn, identity, operator_key)
+        match SqlStore::create_on(conn, identity, operator_key) {
+            Ok(store) => Ok(store),
+            Err((why, _conn)) => Err(why.told()),
+        }
     }
 }

@@ -9,8 +9,8 @@ use crate::whole_write::write;
 use ach_fields::{Id, Ref, Trace};
 use bank_days::{Calendar, Day};
 use desk_accounts::{Account, Posting};
-use desk_book::{Caller, HeldSubmission, NamedEntry, ReturnsAndChanges, Row};
-use desk_history::{Identity, ListOf, SuspenseRow, TakenFile};
+use desk_book::{Caller, HeldSubmission, NamedEntry, Row};
+use desk_history::{ChangeRow, Identity, ListOf, ReturnRow, SuspenseRow, TakenFile};
 use desk_rules::{Company, Limits, Rates, Retry, RuleDay, SizedSubmission};
 use desk_store::{CutRows, IntakeRows, LastNumber, Store, StoreFault};
 use sql_read_laws::{files_of_tables, numbers_of_tables, registry_of_tables, rows_of_tables};
@@ -176,9 +176,14 @@ impl<S: Alter> Store for SqlStore<S> {
         sql_reads::traced_entries(&mut self.conn, alloc, traces)
     }
 
-    fn items_of(&mut self, alloc: Global, company: Id) -> Result<ReturnsAndChanges, StoreFault> {
+    fn returns_of(&mut self, alloc: Global, company: Id) -> Result<Vec<ReturnRow>, StoreFault> {
         rows_of_tables();
-        sql_reads::items_of(&mut self.conn, alloc, company)
+        sql_reads::returns_of(&mut self.conn, alloc, company)
+    }
+
+    fn changes_of(&mut self, alloc: Global, company: Id) -> Result<Vec<ChangeRow>, StoreFault> {
+        rows_of_tables();
+        sql_reads::changes_of(&mut self.conn, alloc, company)
     }
 
     fn postings_of(&mut self, alloc: Global, account: Account) -> Result<Vec<Posting>, StoreFault> {

@@ -27,6 +27,8 @@ mod crashes;
 #[cfg(test)]
 mod files;
 #[cfg(test)]
+mod names;
+#[cfg(test)]
 mod records;
 #[cfg(test)]
 mod rows;

@@ -19,11 +19,11 @@ fn identity(rt: &impl Abort) -> Identity {
 // These have no clause, so that the proof of a test does not carry the state of each call.
 
 fn make<S: Alter>(conn: &mut Connection<S>, identity: Identity) -> Result<(), OpenFault> {
-    make_desk(conn, identity, [7; 32])
+    make_desk(conn, identity, [7; 32]).map_err(|why| why.told())
 }
 
 fn check<S: Alter>(alloc: Global, conn: &mut Connection<S>) -> Result<(), OpenFault> {
-    check_desk(alloc, conn)
+    check_desk(alloc, conn).map_err(|why| why.told())
 }
 
 fn batch(conn: &mut Connection<MemStore>, sql: &str) -> Result<(), Error> {

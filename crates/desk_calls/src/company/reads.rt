@@ -8,11 +8,11 @@ use crate::company::statement::statement;
 use ach_fields::{Id, Ref};
 use desk_accounts::Account;
 use desk_admission::{company_limits, desk_day, refuse};
-use desk_history::{Answer, DayRates, Exposure, Outcome};
+use desk_history::{Answer, DayRates, Exposure, ListOf, Outcome};
 use desk_store::{Store, StoreFault};
 use std::alloc::Global;
 
-/// Answers with the returns of a company's entries.
+/// Answers with the returns of a company's entries, in the order in which they were taken.
 pub(crate) fn returns_of<S: Store>(
     store: &mut S,
     alloc: Global,
@@ -23,11 +23,11 @@ pub(crate) fn returns_of<S: Store>(
     if let Err(why) = company_limits(store, alloc, company)? {
         return Ok(refuse(why));
     }
-    let items = store.items_of(alloc, company)?;
-    Ok(Answer::Done(Outcome::Returns(items.returns)))
+    let returns = store.returns_of(alloc, company)?;
+    Ok(Answer::Done(Outcome::Returns(ListOf::new(returns))))
 }
 
-/// Answers with the changes of a company's entries.
+/// Answers with the notifications of change for a company's entries, in the order in which they were taken.
 pub(crate) fn changes_of<S: Store>(
     store: &mut S,
     alloc: Global,
@@ -38,8 +38,8 @@ pub(crate) fn changes_of<S: Store>(
     if let Err(why) = company_limits(store, alloc, company)? {
         return Ok(refuse(why));
     }
-    let items = store.items_of(alloc, company)?;
-    Ok(Answer::Done(Outcome::Changes(items.changes)))
+    let changes = store.changes_of(alloc, company)?;
+    Ok(Answer::Done(Outcome::Changes(ListOf::new(changes))))
 }
 
 /// Answers with a company's submission or retry, by its reference.

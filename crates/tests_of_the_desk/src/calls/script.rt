@@ -135,8 +135,11 @@ pub(super) fn after<S: Store>(
 }
 
 // A store that remembers.
-fn remembering<S: Store>(rt: &(impl Abort + Alloc<A = Global>), store: S) -> Remembering<S> {
-    Remembering::new(rt.alloc(), store)
+fn remembering<S: Store>(
+    rt: &(impl Abort + Alloc<A = Global>),
+    store: S,
+) -> Remembering<open_sums::Remembering<S>> {
+    Remembering::new(rt.alloc(), open_sums::Remembering::new(rt.alloc(), store))
 }
 
 // Runs a script over a store: was a call asked once more?

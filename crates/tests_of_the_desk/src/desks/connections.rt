@@ -3,8 +3,9 @@ use super::exchanges::{LENGTH_REQUIRED, UNAVAILABLE, follow, http_desk};
 use super::samples::{Exchange, MILL, new_lists};
 use desk_core::Store;
 use desk_http::HttpDesk;
-use http_session::{CountedListener, ServeFault, serve};
+use http_session::{Listener, ServeFault, serve};
 use std::alloc::Global;
+use std::cell::Cell;
 use std::io;
 use std::io::{Read, Write};
 use std::net::{Net, OpenListener, OpenStream, Shutdown, SocketAddr, TcpListener, TcpStream};
@@ -17,16 +18,13 @@ fn patience() -> Duration {
 }
 
 // How a service of so many connections ends.
-fn serve_all<S: Store, L: OpenListener + Drop>(
+fn serve_all<S: Store, L: Listener + Drop>(
     rt: &impl Alloc<A = Global>,
     desk: &mut HttpDesk<S>,
     listener: L,
     connections: u64,
-) -> Result<(), ServeFault>
-where
-    L::Stream: Read + Write + OpenStream,
-{
-    let mut listener = CountedListener::new(listener);
+) -> Result<(), ServeFault> {
+    let mut listener = listener;
     serve(rt.alloc(), desk, &mut listener, connections, patience())
 }
 
@@ -131,20 +129,22 @@ fn a_client_that_sends_before_it_reads_gets_its_answer(rt: HostRuntime) {
     assert!(rt; answer_of(&rt, client).as_slice() == LENGTH_REQUIRED);
 }
 
-// A connection that can do less: its waiting is bounded or not, and it has no second handle.
+// A connection that can do less: its waiting is bounded or not, and it has no second handle. It notes that
+// its writing side was shut.
 #[derive(Drop)]
-struct Bare {
+struct Bare<'a> {
     stream: TcpStream,
     waits_at_most: bool,
+    is_shut: &'a Cell<bool>,
 }
 
-impl Read for Bare {
+impl Read for Bare<'_> {
     fn read(&mut self, buf: &mut [u8]) -> io::Result<usize> {
         self.stream.read(buf)
     }
 }
 
-impl Write for Bare {
+impl Write for Bare<'_> {
     fn write(&mut self, buf: &[u8]) -> io::Result<usize> {
         self.stream.write(buf)
     }
@@ -154,8 +154,9 @@ impl Write for Bare {
     }
 }
 
-impl OpenStream for Bare {
+impl OpenStream for Bare<'_> {
     fn shutdown(&self, how: Shutdown) -> io::Result<()> {
+        self.is_shut.set(matches!(how, Shutdown::Write));
         self.stream.shutdown(how)
     }
 
@@ -173,31 +174,31 @@ impl OpenStream for Bare {
 
 // Its connections are bare.
 #[derive(Drop)]
-struct BareListener {
+struct BareListener<'a> {
     listener: TcpListener,
     waits_at_most: bool,
+    is_shut: &'a Cell<bool>,
 }
 
-impl OpenListener for BareListener {
-    type Stream = Bare;
+impl<'a> OpenListener for BareListener<'a> {
+    type Stream = Bare<'a>;
 
-    fn accept(&self) -> io::Result<(Bare, SocketAddr)> {
+    fn accept(&self) -> io::Result<(Bare<'a>, SocketAddr)> {
         let (stream, address) = self.listener.accept()?;
-        let waits_at_most = self.waits_at_most;
-        Ok((
-            Bare {
-                stream,
-                waits_at_most,
-            },
-            address,
-        ))
+        let bare = Bare {
+            stream,
+            waits_at_most: self.waits_at_most,
+            is_shut: self.is_shut,
+        };
+        Ok((bare, address))
     }
 }
 
-// What a client gets that sends nothing over a bare connection, which is counted.
+// What a client gets that sends nothing over a bare connection.
 fn answer_over(
     rt: &(impl Abort + Alloc<A = Global> + Net<Listener = TcpListener, Stream = TcpStream>),
     waits_at_most: bool,
+    is_shut: &Cell<bool>,
 ) -> Vec<u8> {
     let listener = listening(rt);
     let client = client_sent(rt, &listener, b"");
@@ -208,6 +209,7 @@ fn answer_over(
     let listener = BareListener {
         listener,
         waits_at_most,
+        is_shut,
     };
     let mut desk = http_desk(rt, new_lists(rt));
     assert!(rt; serve_all(rt, &mut desk, listener, 1) == Ok(()));
@@ -216,12 +218,16 @@ fn answer_over(
 
 #[test]
 fn a_connection_of_one_handle_is_told_that_nothing_can_be_answered(rt: HostRuntime) {
-    assert!(rt; answer_over(&rt, true).as_slice() == UNAVAILABLE);
+    let is_shut = Cell::new(false);
+    assert!(rt; answer_over(&rt, true, &is_shut).as_slice() == UNAVAILABLE);
+    assert!(rt; is_shut.get());
 }
 
 #[test]
 fn a_connection_that_would_wait_for_ever_is_closed(rt: HostRuntime) {
-    assert!(rt; answer_over(&rt, false).is_empty());
+    let is_shut = Cell::new(false);
+    assert!(rt; answer_over(&rt, false, &is_shut).is_empty());
+    assert!(rt; !is_shut.get());
 }
 
 #[test]

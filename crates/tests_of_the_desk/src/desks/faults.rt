@@ -4,6 +4,16 @@ use super::samples::{DAY_8, HOLIDAYS, MILL, PAY_1, PAY_1_ACCEPTED, Script, new_l
 
 const DENIED: &str = r#"{"error":"Denied"}"#;
 
+/// An object with 130 lists, each inside the one before.
+const NESTED: &str = concat!(
+    r#"{"x":"#,
+    "[[[[[[[[[[[[[[[[[[[[[[[[[[[[[[[[[[[[[[[[[[[[[[[[[[[[[[[[[[[[[[[[[",
+    "[[[[[[[[[[[[[[[[[[[[[[[[[[[[[[[[[[[[[[[[[[[[[[[[[[[[[[[[[[[[[[[[[",
+    "]]]]]]]]]]]]]]]]]]]]]]]]]]]]]]]]]]]]]]]]]]]]]]]]]]]]]]]]]]]]]]]]]",
+    "]]]]]]]]]]]]]]]]]]]]]]]]]]]]]]]]]]]]]]]]]]]]]]]]]]]]]]]]]]]]]]]]]",
+    "}",
+);
+
 /// Scripts by what they try.
 const SCRIPTS: &[Script] = &[
     (
@@ -49,6 +59,12 @@ const SCRIPTS: &[Script] = &[
             (
                 "desk POST /ops/day",
                 "{",
+                "400 Bad Request",
+                r#"{"error":"BadJson"}"#,
+            ),
+            (
+                "desk POST /ops/day",
+                NESTED,
                 "400 Bad Request",
                 r#"{"error":"BadJson"}"#,
             ),

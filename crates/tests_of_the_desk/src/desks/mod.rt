@@ -2,9 +2,11 @@
 //! and with each call of the store refused.
 mod companies;
 mod connections;
+mod cut_answers;
 mod exchanges;
 mod faults;
 mod isolation;
+mod large_bodies;
 mod refused_calls;
 mod samples;
 mod settlements;

@@ -80,7 +80,7 @@ pub(super) const SUBMIT_2: Exchange = (
 );
 
 /// The one return that a file has, of a debit that was sent with the first sequence.
-const RETURN_1: &str = concat!(
+pub(super) const RETURN_1: &str = concat!(
     "101 121042882 0610001462501140930A094101OUR BANK               ACH OPERATOR                   \n",
     "5225MILL STREET                         MILL01    PPDDUES            2501140141091000010000001\n",
     "626121042882123456789        0000002500E2             BOB RAY                 1091000010000007\n",

@@ -1,10 +1,81 @@
-//! Files that are no desk's of version 1 are not migrated. That one is, another script shows
-//! (`judge/migrated.py`).
+//! A desk's file of version 1 is migrated, and the desk answers as before. Other files are not migrated.
 use super::desks::{clear, is_absent, is_made};
 use super::{NOBODY, prints};
-use desk_cli::{Command, Status};
+use crate::crashes::exchanges::{add, add_answers, add_requests};
+use crate::crashes::scripts::DAYS;
+use crate::files::paths::change_database;
+use desk_cli::{Command, Status, run};
 use std::fs;
+use std::process::Abort;
 use std::test::Fail;
+
+/// Takes from a desk's file what version 1 did not have.
+const TO_VERSION_1: &str =
+    "DROP TABLE numbers; DROP TABLE authorizations; UPDATE desk SET version = 1";
+
+/// After the bank's days come the reads of all else that a company and the operator may ask.
+const READS: [&str; 10] = [
+    "GET /c/MILL01/returns HTTP/1.1\r\nX-Desk-Key: mill-street-key\r\n\r\n",
+    "GET /c/MILL01/changes HTTP/1.1\r\nX-Desk-Key: mill-street-key\r\n\r\n",
+    "GET /c/MILL01/rates HTTP/1.1\r\nX-Desk-Key: mill-street-key\r\n\r\n",
+    "GET /c/MILL01/exposure HTTP/1.1\r\nX-Desk-Key: mill-street-key\r\n\r\n",
+    "GET /c/MILL01/submissions/PAY-1 HTTP/1.1\r\nX-Desk-Key: mill-street-key\r\n\r\n",
+    "GET /c/MILL01/submissions/PAY-2 HTTP/1.1\r\nX-Desk-Key: mill-street-key\r\n\r\n",
+    "GET /ops/files/2025-01-08/A HTTP/1.1\r\nX-Desk-Key: operator-key\r\n\r\n",
+    "GET /ops/files/2025-01-09/A HTTP/1.1\r\nX-Desk-Key: operator-key\r\n\r\n",
+    "GET /ops/suspense HTTP/1.1\r\nX-Desk-Key: operator-key\r\n\r\n",
+    "GET /ops/status HTTP/1.1\r\nX-Desk-Key: operator-key\r\n\r\n",
+];
+
+// Does a session with the desk in this file answer a bank's days as it has to? The statement and the
+// settlement are the last that is asked.
+fn answers_days(host: &HostRuntime, rt: &impl Abort, path: &str) -> bool {
+    let mut input = Vec::new(host.alloc());
+    add_requests(rt, &mut input, DAYS.messages);
+    let mut wanted = Vec::new(host.alloc());
+    add_answers(rt, &mut wanted, DAYS.messages);
+    let command = Command::AnswerByFile(path);
+    prints(host, &command, &input, Status::Done, &wanted)
+}
+
+// What the desk in this file tells, where all is told.
+fn told(host: &HostRuntime, rt: &impl Abort, path: &str) -> Result<Vec<u8>, Fail> {
+    let mut input = Vec::new(host.alloc());
+    let reads = DAYS.messages.len().saturating_sub(2);
+    add_requests(rt, &mut input, DAYS.messages.get(reads..).ok_or("reads")?);
+    for read in READS {
+        add(rt, &mut input, read.as_bytes());
+    }
+    let mut told = Vec::new(host.alloc());
+    let ended = run(
+        host,
+        &Command::AnswerByFile(path),
+        input.as_slice(),
+        &mut told,
+    );
+    assert!(rt; ended == Status::Done);
+    let answers = str::from_utf8(&told)?
+        .matches("HTTP/1.1 200 OK\r\n")
+        .count();
+    assert!(rt; answers == READS.len() + 2);
+    Ok(told)
+}
+
+#[test]
+fn a_desk_of_version_1_is_migrated_and_answers_as_before(rt: HostRuntime) -> Result<(), Fail> {
+    let path = "of_version_1.db";
+    assert!(rt; is_made(&rt, path)?);
+    assert!(rt; answers_days(&rt, &rt, path));
+    let before = told(&rt, &rt, path)?;
+    change_database(&rt, &rt, path, TO_VERSION_1)?;
+    let stdio = Command::AnswerByFile(path);
+    assert!(rt; prints(&rt, &stdio, NOBODY, Status::Refused, b"WrongVersion 1\n"));
+    let migrate = Command::Migrate(path);
+    assert!(rt; prints(&rt, &migrate, NOBODY, Status::Done, b"migrated 1 to 2\n"));
+    assert!(rt; told(&rt, &rt, path)? == before);
+    assert!(rt; is_refused(&rt, path, "WrongVersion 2\n"));
+    clear(&rt, path)
+}
 
 // Is this file refused by `migrate`, with this line?
 fn is_refused(rt: &HostRuntime, path: &str, line: &str) -> bool {

@@ -6,7 +6,7 @@ mod failing;
 mod files;
 mod kept;
 mod large;
-mod lists;
+pub(crate) mod lists;
 mod messages;
 mod migrated;
 mod served;
@@ -16,11 +16,12 @@ use desk_cli::{Command, Status, first_run, run};
 use std::alloc::Global;
 
 /// A credit of 1500.00 to a checking account.
-const PAY_1: &[u8] =
+pub(crate) const PAY_1: &[u8] =
     b"{\"ref\":\"PAY-1\",\"sec\":\"PPD\",\"direction\":\"credit\",\"description\":\"PAYROLL\",\"day\":\"2025-01-10\",\"entries\":[{\"routing\":\"091000019\",\"account\":\"123456789\",\"kind\":\"checking\",\"cents\":150000,\"id\":\"E1\",\"name\":\"ANN LEE\"}]}";
 
 /// Its answer.
-const PAY_1_LINE: &str = "{\"cents\":150000,\"entries\":1,\"order\":1,\"ref\":\"PAY-1\"}\n";
+pub(crate) const PAY_1_LINE: &str =
+    "{\"cents\":150000,\"entries\":1,\"order\":1,\"ref\":\"PAY-1\"}\n";
 
 /// A submission as far as its entries.
 const PREFIX: &str =

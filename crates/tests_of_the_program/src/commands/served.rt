@@ -1,18 +1,18 @@
 //! A desk that is served on loopback alone, and desks that cannot be served, each told as the command says.
 //! What a desk answers that is served, clients of other make show (`judge/clients.py`).
-use super::desks::{clear, is_absent, is_made};
+use super::desks::{SAMPLE_BANK, clear, is_absent, is_made};
 use super::{NOBODY, prints};
-use desk_cli::{Command, ServeOptions, Status, run};
+use desk_cli::{Command, InitOptions, ServeOptions, Status, run};
 use std::io::{Read, Write};
 use std::net::{Ipv4Addr, OpenListener, TcpListener, TcpStream};
 use std::test::Fail;
 use std::{fs, io};
 
-// `serve` of this file on this port, for one connection.
-fn serve(path: &str, port: u16) -> Command<'_> {
+// `serve` of this file on this port, for so many connections.
+fn serve(path: &str, port: u16, connections: u32) -> Command<'_> {
     let options = ServeOptions {
         port,
-        connections: 1,
+        connections,
         patience: 1,
     };
     Command::Serve(path, options)
@@ -22,7 +22,7 @@ fn serve(path: &str, port: u16) -> Command<'_> {
 fn is_no_desk(rt: &HostRuntime, path: &str, port: u16) -> bool {
     prints(
         rt,
-        &serve(path, port),
+        &serve(path, port, 1),
         NOBODY,
         Status::Refused,
         b"NotADesk\n",
@@ -41,7 +41,7 @@ fn a_port_that_is_taken(rt: HostRuntime) -> Result<(), Fail> {
     let path = "served.db";
     assert!(rt; is_made(&rt, path)?);
     let (_listener, port) = listen(&rt)?;
-    let command = serve(path, port);
+    let command = serve(path, port, 1);
     assert!(rt; prints(&rt, &command, NOBODY, Status::Failed, b"unavailable\n"));
     // The desk is looked for before the port.
     clear(&rt, path)?;
@@ -109,10 +109,99 @@ fn a_desk_is_reached_on_loopback_alone(rt: HostRuntime) -> Result<(), Fail> {
         client: None,
         is_reached_elsewhere: false,
     };
-    let ended = run(&rt, &serve(path, port), NOBODY, &mut caller);
+    let ended = run(&rt, &serve(path, port, 1), NOBODY, &mut caller);
     assert!(rt; ended == Status::Done);
     assert!(rt; !caller.is_reached_elsewhere);
     assert!(rt; is_listening(&rt, port, caller.printed.as_slice())?);
     assert!(rt; is_sent(&rt, caller.client, NOT_FOUND)?);
+    clear(&rt, path)
+}
+
+// ---- a desk that is not the sample bank's
+
+/// The operator registers a company, which only this file then has.
+const REGISTERS: &str =
+    "POST /ops/companies HTTP/1.1\r\nX-Desk-Key: our-own-operator-key\r\nContent-Length: 144\r\nConnection: close\r\n\r\n{\"id\":\"LAKE07\",\"name\":\"LAKE SHORE\",\"key\":\"lake-shore-key\",\"entry_limit\":9999999999,\"credit_limit\":999999999999999,\"debit_limit\":999999999999999}";
+
+const REGISTERED: &str =
+    "HTTP/1.1 201 Created\r\nContent-Type: application/json\r\nContent-Length: 15\r\nConnection: close\r\n\r\n{\"id\":\"LAKE07\"}";
+
+/// The company asks for its returns.
+const ASKS: &str =
+    "GET /c/LAKE07/returns HTTP/1.1\r\nX-Desk-Key: lake-shore-key\r\nConnection: close\r\n\r\n";
+
+const NO_RETURNS: &str =
+    "HTTP/1.1 200 OK\r\nContent-Type: application/json\r\nContent-Length: 14\r\nConnection: close\r\n\r\n{\"returns\":[]}";
+
+// Standard output of which two clients read where the desk listens, and call it there, one after the other.
+#[derive(Drop)]
+struct Callers<'a> {
+    rt: &'a HostRuntime,
+    port: u16,
+    messages: [&'static str; 2],
+    clients: Vec<TcpStream>,
+}
+
+impl<'a> Write for Callers<'a> {
+    fn write(&mut self, buf: &[u8]) -> io::Result<usize> {
+        Ok(buf.len())
+    }
+
+    fn flush(&mut self) -> io::Result<()> {
+        for message in &self.messages {
+            let mut client = TcpStream::connect(self.rt, (Ipv4Addr::LOCALHOST, self.port))?;
+            client.write_all(message.as_bytes())?;
+            self.clients.push(client)?;
+        }
+        Ok(())
+    }
+}
+
+// Is each client of a run of `serve` over this file sent its answer?
+fn answers_two(
+    rt: &HostRuntime,
+    path: &str,
+    messages: [&'static str; 2],
+    wanted: [&str; 2],
+) -> Result<bool, Fail> {
+    let (listener, port) = listen(rt)?;
+    drop(listener);
+    let mut callers = Callers {
+        rt,
+        port,
+        messages,
+        clients: Vec::new(rt.alloc()),
+    };
+    let mut are_sent = run(rt, &serve(path, port, 2), NOBODY, &mut callers) == Status::Done;
+    for (client, answer) in callers.clients.into_iter().zip(wanted) {
+        are_sent &= is_sent(rt, Some(client), answer.as_bytes())?;
+    }
+    Ok(are_sent)
+}
+
+#[test]
+fn a_desk_is_served_from_its_own_file(rt: HostRuntime) -> Result<(), Fail> {
+    let path = "own.db";
+    clear(&rt, path)?;
+    // Its operator's key is not that of the sample bank's.
+    let options = InitOptions {
+        key: "our-own-operator-key",
+        ..SAMPLE_BANK
+    };
+    let made = Command::Init(path, options);
+    assert!(rt; prints(&rt, &made, NOBODY, Status::Done, b"created\n"));
+    assert!(rt; answers_two(&rt, path, [REGISTERS, ASKS], [REGISTERED, NO_RETURNS])?);
+    // Another run finds in the file what this one left there, and so does a session.
+    assert!(rt; answers_two(&rt, path, [ASKS, ASKS], [NO_RETURNS, NO_RETURNS])?);
+    let session = Command::AnswerByFile(path);
+    assert!(rt;
+        prints(
+            &rt,
+            &session,
+            ASKS.as_bytes(),
+            Status::Done,
+            NO_RETURNS.as_bytes()
+        )
+    );
     clear(&rt, path)
 }

@@ -8,7 +8,7 @@ use std::process::Abort;
 pub(super) const UNAVAILABLE: &[u8] =
     b"HTTP/1.1 503 Service Unavailable\r\nContent-Type: application/json\r\nContent-Length: 23\r\nConnection: close\r\n\r\n{\"error\":\"Unavailable\"}";
 
-pub(super) fn add(rt: &impl Abort, out: &mut Vec<u8>, bytes: &[u8]) {
+pub(crate) fn add(rt: &impl Abort, out: &mut Vec<u8>, bytes: &[u8]) {
     out.extend_from_slice(bytes).ok().expect(rt, "memory");
 }
 
@@ -19,7 +19,7 @@ fn add_texts(rt: &impl Abort, out: &mut Vec<u8>, texts: &[&str]) {
 }
 
 /// Adds the bytes of the messages, one after another.
-pub(super) fn add_requests(rt: &impl Abort, out: &mut Vec<u8>, messages: &[Exchange]) {
+pub(crate) fn add_requests(rt: &impl Abort, out: &mut Vec<u8>, messages: &[Exchange]) {
     for message in messages {
         let mut digits = Buffer::new();
         let texts = [
@@ -50,7 +50,7 @@ fn add_answer(rt: &impl Abort, out: &mut Vec<u8>, answer: Answer) {
 }
 
 /// Adds the bytes that have to answer the messages.
-pub(super) fn add_answers(rt: &impl Abort, out: &mut Vec<u8>, messages: &[Exchange]) {
+pub(crate) fn add_answers(rt: &impl Abort, out: &mut Vec<u8>, messages: &[Exchange]) {
     for message in messages {
         add_answer(rt, out, message.answer);
     }

@@ -1,11 +1,11 @@
 mod damage;
-mod exchanges;
+pub(crate) mod exchanges;
 mod faults;
 mod full;
 mod images;
 mod limits;
 mod paths;
-mod scripts;
+pub(crate) mod scripts;
 mod tasks;
 mod tears;
 mod trials;

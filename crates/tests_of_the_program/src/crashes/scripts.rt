@@ -1,11 +1,11 @@
 //! The messages of some days, with their answers.
 
 /// The status and the body of an answer.
-pub(super) type Answer = (&'static str, &'static str);
+pub(crate) type Answer = (&'static str, &'static str);
 
 /// A message with its answer.
 #[derive(Clone, Copy)]
-pub(super) struct Exchange {
+pub(crate) struct Exchange {
     pub key: &'static str,
     /// The method and the path.
     pub asks: &'static str,
@@ -17,7 +17,7 @@ pub(super) struct Exchange {
 
 /// Messages that are sent one after another.
 #[derive(Clone, Copy)]
-pub(super) struct Script {
+pub(crate) struct Script {
     pub messages: &'static [Exchange],
     /// The messages that submit something that is accepted; they get their first answer whenever
     /// they are repeated.
@@ -283,7 +283,7 @@ const RETRY_REUSED: Exchange = Exchange {
 };
 
 /// A credit and a debit are sent, the debit is returned, and the accounts are read.
-pub(super) const DAYS: Script = Script {
+pub(crate) const DAYS: Script = Script {
     messages: &[
         HOLIDAYS,
         COMPANY,

@@ -1,11 +1,12 @@
 //! Tasks of a desk on a connection, for any storage of its pages.
 use super::exchanges::UNAVAILABLE;
 use crate::files::bank::identity;
+use crate::names::session;
 use crate::tables::add_tables;
 use desk_core::Desk;
 use desk_http::HttpDesk;
 use http_routes::Routes;
-use http_session::{Answers, Ended, Tries, session};
+use http_session::{Answers, Ended, Tries};
 use sql_files::migrate;
 use sql_setup::{OpenFault, check_desk, make_desk};
 use sql_store::SqlStore;
@@ -40,7 +41,15 @@ const OPERATOR_DIGEST: [u8; 32] = [
 ];
 
 fn make<S: Alter>(rt: &impl Abort, conn: &mut Connection<S>) -> Result<(), OpenFault> {
-    make_desk(conn, identity(rt), OPERATOR_DIGEST)
+    make_desk(conn, identity(rt), OPERATOR_DIGEST).map_err(|why| why.told())
+}
+
+fn migrate_desk<S: Alter>(alloc: Global, conn: &mut Connection<S>) -> Result<(), OpenFault> {
+    migrate(alloc, conn).map_err(|why| why.told())
+}
+
+fn check<S: Alter>(alloc: Global, conn: &mut Connection<S>) -> Result<(), OpenFault> {
+    check_desk(alloc, conn).map_err(|why| why.told())
 }
 
 fn run<S: Alter>(conn: &mut Connection<S>, sql: &str) -> Result<(), OpenFault> {
@@ -77,9 +86,9 @@ fn carry_out_one<S: Alter>(
 ) -> Result<(), OpenFault> {
     match task {
         Task::Make => make(rt, conn),
-        Task::Migrate => migrate(rt.alloc(), conn),
+        Task::Migrate => migrate_desk(rt.alloc(), conn),
         Task::Run(sql) => run(conn, sql),
-        Task::Check => check_desk(rt.alloc(), conn),
+        Task::Check => check(rt.alloc(), conn),
         Task::Read => read(conn, told),
         Task::Answer(_) if !told.ends_with(UNAVAILABLE) => Ok(()),
         Task::Answer(_) | Task::Leave => Err(OpenFault::Unavailable),

@@ -6,10 +6,10 @@ use std::alloc::Global;
 use std::process::Abort;
 
 /// This is the digest of the operator's key.
-pub(super) const OPERATOR_DIGEST: [u8; 32] = [7; 32];
+pub(crate) const OPERATOR_DIGEST: [u8; 32] = [7; 32];
 
 // The return of the second entry that the desk sends.
-const RETURN: &str = concat!(
+pub(crate) const RETURN: &str = concat!(
     "101 121042882 0610001462501140930A094101OUR BANK               ACH OPERATOR                   \n",
     "5225MILL STREET                         MILL01    PPDDUES            2501140141091000010000001\n",
     "626121042882123456789        0000002500E2             BOB RAY                 1091000010000007\n",

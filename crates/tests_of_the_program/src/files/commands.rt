@@ -27,7 +27,7 @@ fn command(rt: &(impl Abort + Alloc<A = Global>), number: usize) -> Call {
 }
 
 /// Gives the command with this number. Is it done?
-pub(super) fn is_done<S: Store>(
+pub(crate) fn is_done<S: Store>(
     rt: &(impl Abort + Alloc<A = Global>),
     desk: &mut Desk<S>,
     number: usize,

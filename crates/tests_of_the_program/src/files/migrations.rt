@@ -1,6 +1,6 @@
 //! Databases are migrated, or refused as they are.
 use super::first_version::{INDEXES, ROWS, TABLES};
-use sql_files::migrate;
+use crate::names::migrate;
 use sql_queries::places;
 use sql_setup::{OpenFault, check_desk};
 use sqlite::{Connection, Error, MemStore};
@@ -14,11 +14,11 @@ fn batch(conn: &mut Connection<MemStore>, sql: &str) -> Result<(), Error> {
 }
 
 fn migrate_desk(alloc: Global, conn: &mut Connection<MemStore>) -> Result<(), OpenFault> {
-    migrate(alloc, conn)
+    migrate(alloc, conn).map_err(|why| why.told())
 }
 
 fn check(alloc: Global, conn: &mut Connection<MemStore>) -> Result<(), OpenFault> {
-    check_desk(alloc, conn)
+    check_desk(alloc, conn).map_err(|why| why.told())
 }
 
 // The places of the sequences up to 9.

@@ -1,5 +1,5 @@
 pub(crate) mod bank;
-mod commands;
+pub(crate) mod commands;
 mod damage;
 mod first_version;
 mod migrations;

@@ -3,7 +3,9 @@ use super::bank::{OPERATOR_DIGEST, identity};
 use super::commands::{ACCEPTED, COMMANDS, give, is_done};
 use crate::tables::add_tables;
 use desk_core::{Desk, Store};
-use desk_tables::{FileStore, OpenFault, SqlStore, Wary, create, migrate_file, open};
+use desk_tables::{
+    FileStore, OpenFault, Refusal, SqlStore, Wary, create, look, migrate_file, open,
+};
 use sqlite::{Alter, Connection, Error};
 use sqlite_disk::Disk;
 use std::alloc::Global;
@@ -34,12 +36,14 @@ fn change<D: Disk + Drop>(
     conn.close()
 }
 
-fn connection<P: Alter + Drop>(opened: Result<SqlStore<P>, OpenFault>) -> Option<Connection<P>> {
+fn connection<D: Disk + Drop>(
+    opened: Result<SqlStore<FileStore<D>>, Refusal<D>>,
+) -> Option<Connection<FileStore<D>>> {
     Some(opened.ok()?.into_connection())
 }
 
-fn fault<D: Disk + Drop>(opened: Result<SqlStore<FileStore<D>>, OpenFault>) -> Option<OpenFault> {
-    opened.err()
+fn fault<D: Disk + Drop>(opened: Result<SqlStore<FileStore<D>>, Refusal<D>>) -> Option<OpenFault> {
+    Some(opened.err()?.fault())
 }
 
 // Gives the commands from this number on, and once more what is accepted again.
@@ -90,7 +94,7 @@ fn go_on_with_found(
     rt: &(impl Abort + Alloc<A = Global>),
     path: &str,
 ) -> Result<Vec<u8>, Error> {
-    go_on(rt, open(host, path, Wary).ok(), COMMANDS)
+    go_on(rt, open(host, path, Wary, look(host, path)).ok(), COMMANDS)
 }
 
 /// Opens a desk, runs these statements, and closes it.
@@ -100,10 +104,15 @@ pub(super) fn change_desk(
     path: &str,
     sql: &str,
 ) -> Result<(), Error> {
-    change(rt, connection(open(host, path, Wary)), sql)
+    change(
+        rt,
+        connection(open(host, path, Wary, look(host, path))),
+        sql,
+    )
 }
 
-fn change_database(
+/// Runs these statements over a database, and closes it.
+pub(crate) fn change_database(
     host: &HostRuntime,
     rt: &impl Abort,
     path: &str,
@@ -121,15 +130,15 @@ pub(crate) fn fault_of(
 ) -> Option<OpenFault> {
     let opened = match way {
         Way::Create => create(host, path, Wary, identity(rt), OPERATOR_DIGEST),
-        Way::Migrate => migrate_file(host, path, Wary),
-        Way::Open => open(host, path, Wary),
+        Way::Migrate => migrate_file(host, path, Wary, look(host, path)),
+        Way::Open => open(host, path, Wary, look(host, path)),
     };
     fault(opened)
 }
 
 // Tells why an open desk is not opened a second time meanwhile.
 fn second_fault(host: &HostRuntime, rt: &impl Abort, path: &str) -> Option<OpenFault> {
-    let _first = open(host, path, Wary);
+    let _first = open(host, path, Wary, look(host, path));
     fault_of(host, rt, path, Way::Open)
 }
 

@@ -4,6 +4,6 @@ use Rattle.cli_commands.proofs.answer_submission.input_answer.Goals as goal
 
 pub returns : goal.returns
 returns g c =
-    answers_whole first_run_line (g.R.Read.remaining c.args.reader) c.in-Some.body.items _ first_run_decided
+    answers_whole first_run_line (g.R.Source.remaining c.args.reader) c.in-Some.body.items _ first_run_decided
     (rw c.in-Some.is at c.read_input-body.ensures)
     (rw c.as_slice.ensures.value at c.answer_line.ensures)

@@ -1,5 +1,5 @@
-use Rattle.cli_commands.proofs.PrefixLemmas.{prefix_of}
+use Rattle.cli_commands.proofs.PrintingLemmas.{written_or_cut_off}
 use Rattle.cli_commands.proofs.output.print_unavailable.Goals as goal
 
 pub returns-clause-printed : goal.returns-clause-printed
-returns-clause-printed g c = prefix_of _ _ _ _ c.write_line.ensures
+returns-clause-printed g c = written_or_cut_off _ g.W.Sink _ _ _ c.write_line.ensures

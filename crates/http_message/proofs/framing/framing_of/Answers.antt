@@ -34,6 +34,6 @@ returns-in-None-2 c = elim c.match-value_of.branch [
   | in-Some+in-Some-content_length w ↦ absurd (cc)
   | in-None w ↦
       let none = not_found _ _ c.value_of-2.ensures (sym c.is_some.ensures ∙ c.if-is_some.false) in
-      let get : is_post c.args.method.now ≡ false = ap (bytes_eq c.args.method.now) (sym c.as_slice.ensures) ∙ sym c.eq.ensures ∙ c.if-eq.false in
+      let get : is_post c.args.method.now ≡ false = ap (bytes_eq c.args.method.now) (sym c.as_str.ensures.value ∙ sym c.as_bytes.ensures.value) ∙ sym c.eq.ensures ∙ c.if-eq.false in
       no_length c.args.method.now _ _ w.in-None.ensures get none
 ]

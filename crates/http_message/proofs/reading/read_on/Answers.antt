@@ -13,7 +13,7 @@ not_both false is off = absurd (cc)
 
 pub loop-unread-preserved : goal.loop-unread-preserved
 loop-unread-preserved g c =
-    let (taken, takes, grown, inside, blank, unmarked) = c.loop-unread.invariant in
+    let (taken, takes, grown, inside, blank) = c.loop-unread.invariant in
     let more = c.in_ok-fill.ensures.ok in
     let known = c.loop-unread.unread in
     let all = c.fill.new.self in
@@ -38,5 +38,4 @@ loop-unread-preserved g c =
       more.grown ∙ ap (λ l. l ++ more.taken) grown ∙ append_assoc _ taken more.taken,
       (omega (arith, few, size), still_no_head known more.taken all inside.1 more.grown none),
       now,
-      c.in_ok-fill.ensures.mark ∙ unmarked,
     )

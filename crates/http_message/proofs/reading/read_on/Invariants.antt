@@ -6,9 +6,8 @@ use Rattle.http_message.proofs.reading.read_on.Given as goal
 
 abbrev pub invariant-loop-unread : goal.invariant-loop-unread
 invariant-loop-unread g l =
-    (taken : List ℕ) × Consumes (g.R.Read.remaining l.initial.reader) (g.R.Read.remaining l.reader) taken
+    (taken : List ℕ) × Consumes (g.R.Source.remaining l.initial.reader) (g.R.Source.remaining l.reader) taken
     × (l.unread ≡ l.initial.unread ++ taken) × IsOpen l.unread × (l.blank ≡ list_all is_line_end_byte l.unread)
-    × (l.tries.failed ≡ l.initial.tries.failed)
 
 abbrev pub decreases-loop-unread : goal.decreases-loop-unread
 decreases-loop-unread g l = 16384 - length l.unread

@@ -1,4 +1,4 @@
-use Rattle.std.proofs.Common.{◌≤◌, ◌+◌, ◌++◌, ℕ, List, length, take, arith, subst, sym, refl, ◌∙◌, length-append}
+use Rattle.std.proofs.Common.{◌≤◌, ◌+◌, ◌++◌, ℕ, List, length, take, arith, subst, sym, refl, length-append}
 use Rattle.std.proofs.lemmas.List.{length-take}
 use Rattle.std.proofs.KnownBytes.{Consumes-trans}
 use Rattle.std.specs.Io.KnownBytes.{Consumes}
@@ -18,5 +18,4 @@ loop-filled-preserved g c =
     record {
       within = filled_within c.loop-filled.room c.read_with_retries.new.buf _ c.loop-filled.filled c.in_ok-count.count inside few;
       takes = subst (Consumes _ _) (sym filled) (Consumes-trans _ _ _ _ _ c.loop-filled.invariant.takes c.in_ok-count.ensures.bytes.0);
-      unmarked = c.in_ok-count.ensures.mark ∙ c.loop-filled.invariant.unmarked;
     }

@@ -1,12 +1,12 @@
-use Rattle.std.proofs.Common.{◌≡◌, length}
+use Rattle.std.proofs.Common.{◌≡◌, ◌⊎◌, length}
 use Rattle.http_session.specs.Turns.{SoFar}
 use Rattle.http_session.proofs.sessions.session.Given as goal
 
 abbrev pub invariant-loop-count : goal.invariant-loop-count
 invariant-loop-count g l = record {
   fits : length l.fields ≡ 32;
-  unmarked : l.tries.failed ≡ l.fn.tries.failed;
   before : g.D.Answers.is_clean l.desk → g.D.Answers.is_clean l.fn.desk;
   so_far : SoFar g.D.Answers.step (g.D.Answers.is_clean l.desk) (g.D.Answers.stands_for l.fn.desk) (g.D.Answers.stands_for l.desk)
-      (g.R.Read.remaining l.fn.reader) (g.R.Read.remaining l.reader) (g.W.Write.contents l.fn.writer) (g.W.Write.contents l.writer) l.count l.unread;
+      (g.R.Source.remaining l.fn.reader) (g.R.Source.remaining l.reader) (g.W.Sink.contents l.fn.writer) (g.W.Sink.contents l.writer) l.count l.unread;
+  flushed : (l.writer ≡ l.fn.writer) ⊎ g.W.Sink.is_flushed l.writer;
 }

@@ -1,4 +1,4 @@
-use Rattle.std.proofs.Common.{ℕ, List, [], ◌++◌, drop, length, Ok, Err, inl, inr, refl, sym, ap, ◌∙◌, subst, arith, length-drop}
+use Rattle.std.proofs.Common.{◌≡◌, ◌⊎◌, ℕ, List, [], ◌++◌, drop, length, Ok, Err, inl, inr, refl, sym, ap, ◌∙◌, subst, arith, length-drop}
 use Rattle.std.proofs.KnownBytes.{Appends-nil}
 use Rattle.httparse.specs.Spans.{IsRequestAt}
 use Rattle.http_message.specs.Heads.{request_of}
@@ -6,11 +6,13 @@ use Rattle.http_message.specs.Message.{asked, bad_head}
 use Rattle.http_message.specs.Stream.{Reads}
 use Rattle.http_message.proofs.StartLemmas.{cut_is_little, part_is_little}
 use Rattle.http_response.specs.Response.{unavailable_text}
-use Rattle.http_session.specs.Causes.{HasCause}
-use Rattle.http_session.specs.Turns.{Replied, Turned}
+use Rattle.io_retries.specs.Failures.{ReadFailed, WriteFailed}
+use Rattle.http_session.specs.Faults.{AfterFault, UnlessCutOff}
+use Rattle.http_session.specs.Turns.{Turned}
 use Rattle.http_session.specs.declared.sessions.Ended.TheVariants.{Closed, Cut}
 use Rattle.http_session.specs.declared.sessions.SessionFault.TheVariants.{Read}
-use Rattle.http_session.proofs.TurnLemmas.{ends_before, gave_up, turn_cause, turned}
+use Rattle.http_session.proofs.FaultLemmas.{turn_faults, turn_flushes}
+use Rattle.http_session.proofs.TurnLemmas.{ends_before, gave_up, turned}
 use Rattle.http_session.proofs.sessions.turn.Goals as goal
 
 pub returns-in-Fault-clause-turned : goal.returns-in-Fault-clause-turned
@@ -61,16 +63,27 @@ returns-in-Request-clause-turned g c start before old count e p =
     (turned _ _ _ _ _ _ _ _ _ _ _ _ count _ came.taken _ (asked (request_of h body c.args.is_last)) c.args.is_last c.reply_to_request-told.result e
     c.reply_to_request-told.ensures.before p came.takes reads replied (omega (arith, sizes, few)))
 
-pub returns-in-BadHead-clause-cause : goal.returns-in-BadHead-clause-cause
-returns-in-BadHead-clause-cause g c =
-    let old = c.args.tries.now in
-    let new = c.reply-told.new.tries in
-    subst (λ r. HasCause r old new) (sym c.turn_of.ensures)
-    (turn_cause c.reply-told.result c.args.is_last old c.read_message.new.tries new c.in-BadHead.ensures.mark c.reply-told.ensures.cause)
+pub returns-in-BadHead-clause-fault : goal.returns-in-BadHead-clause-fault
+returns-in-BadHead-clause-fault g c =
+    let OfRead = ReadFailed g.R.Source c.read_message.new.reader c.reply-told.new.tries in
+    let OfWrite = WriteFailed g.W.Sink c.reply-told.new.writer c.reply-told.new.tries in
+    subst (λ r. AfterFault r OfRead OfWrite) (sym c.turn_of.ensures) (turn_faults c.reply-told.result c.args.is_last OfRead OfWrite c.reply-told.ensures.fault)
 
-pub returns-in-Request-clause-cause : goal.returns-in-Request-clause-cause
-returns-in-Request-clause-cause g c =
-    let old = c.args.tries.now in
-    let new = c.reply_to_request-told.new.tries in
-    subst (λ r. HasCause r old new) (sym c.turn_of-in-Request.ensures)
-    (turn_cause c.reply_to_request-told.result c.args.is_last old c.read_message.new.tries new c.in-Request.ensures.mark c.reply_to_request-told.ensures.cause)
+pub returns-in-Request-clause-fault : goal.returns-in-Request-clause-fault
+returns-in-Request-clause-fault g c =
+    let told = c.reply_to_request-told in
+    let OfRead = ReadFailed g.R.Source c.read_message.new.reader told.new.tries in
+    let OfWrite = WriteFailed g.W.Sink told.new.writer told.new.tries in
+    subst (λ r. AfterFault r OfRead OfWrite) (sym c.turn_of-in-Request.ensures) (turn_faults told.result c.args.is_last OfRead OfWrite told.ensures.fault)
+
+pub returns-in-BadHead-clause-flushed : goal.returns-in-BadHead-clause-flushed
+returns-in-BadHead-clause-flushed g c =
+    let writer = c.reply-told.new.writer in
+    let Flushed = (writer ≡ c.args.writer.now) ⊎ g.W.Sink.is_flushed writer in
+    subst (λ r. UnlessCutOff r Flushed) (sym c.turn_of.ensures) (turn_flushes c.reply-told.result c.args.is_last Flushed c.reply-told.ensures.flushed)
+
+pub returns-in-Request-clause-flushed : goal.returns-in-Request-clause-flushed
+returns-in-Request-clause-flushed g c =
+    let told = c.reply_to_request-told in
+    let Flushed = (told.new.writer ≡ c.args.writer.now) ⊎ g.W.Sink.is_flushed told.new.writer in
+    subst (λ r. UnlessCutOff r Flushed) (sym c.turn_of-in-Request.ensures) (turn_flushes told.result c.args.is_last Flushed told.ensures.flushed)

@@ -11,8 +11,8 @@ more_done all done rest n e =
 
 pub loop-rest-preserved : goal.loop-rest-preserved
 loop-rest-preserved g c =
-    let (done, split, appended, fewer, unmarked) = c.loop-rest.invariant in
+    let (done, split, appended, fewer) = c.loop-rest.invariant in
     let rest = c.loop-rest.rest.now in
     let n = c.in_ok-count.count in
     let less = c.in_ok-count.ensures.tries in
-    (done ++ take n rest, more_done _ done rest n split, Appends-trans _ _ _ _ _ appended c.in_ok-count.ensures.bytes, omega (arith, less, fewer), c.in_ok-count.ensures.mark ∙ unmarked)
+    (done ++ take n rest, more_done _ done rest n split, Appends-trans _ _ _ _ _ appended c.in_ok-count.ensures.bytes, omega (arith, less, fewer))

@@ -1,16 +1,25 @@
+use Rattle.std.proofs.Common.{sym, ◌∙◌}
+use Rattle.sqlite_std_file.specs.File.{IsFresh}
 use Rattle.sqlite_wal.specs.Files.{image_at}
 use Rattle.sql_migration.specs.FirstVersion.{first_version}
 use Rattle.sql_files.specs.Opened.{leaves_migrated}
-use Rattle.sql_files.proofs.Openings.{migrated_in, refused_in}
+use Rattle.sql_files.proofs.Openings.{is_file, migrated_on, refused_on}
 use Rattle.sql_files.proofs.migrated_file.migrate_file.Goals as goal
 
-pub returns-clause-migrated : goal.returns-clause-migrated
-returns-clause-migrated g c =
-    let was = c.in_ok-conn.ensures in
-    migrated_in (image_at g.S.Start) c.in_ok-conn.conn was.opened was.found c.with_second_version.result
-    c.with_second_version.ensures.before c.with_second_version.ensures.migrated c.with_second_version.ensures.first
+pub returns-in-Ok-with_second_version-clause-migrated : goal.returns-in-Ok-with_second_version-clause-migrated
+returns-in-Ok-with_second_version-clause-migrated g c =
+    let was = c.in-Ok.ensures in
+    let desk = c.in-Ok-with_second_version.ensures in
+    migrated_on (image_at g.S.Start) c.in-Ok.conn was.opened was.found c.in-Ok-with_second_version.conn desk.before desk.migrated desk.first
 
-pub returns-clause-refused : goal.returns-clause-refused
-returns-clause-refused g c other =
-    let was = c.in_ok-conn.ensures in
-    refused_in (image_at g.S.Start) c.in_ok-conn.conn was.opened was.found first_version leaves_migrated c.with_second_version.result c.with_second_version.ensures.refused
+pub returns-in-Ok-with_second_version-clause-present : goal.returns-in-Ok-with_second_version-clause-present
+returns-in-Ok-with_second_version-clause-present g c = is_file c.args.presence (sym c.fault.ensures ∙ c.in_default.is)
+
+pub returns-in-Err-with_second_version-clause-refused : goal.returns-in-Err-with_second_version-clause-refused
+returns-in-Err-with_second_version-clause-refused g c =
+    let was = c.in-Ok.ensures in
+    let why = c.in-Err-with_second_version in (
+      is_file c.args.presence (sym c.fault.ensures ∙ c.in_default.is),
+      why.ensures.otherwise,
+      refused_on (image_at g.S.Start) c.in-Ok.conn was.opened was.found IsFresh first_version leaves_migrated why.conn why.why why.ensures.refused,
+    )

@@ -1,4 +1,4 @@
-use Rattle.desk_book.specs.Reads.{submission, submission_count, retries_of, waiting_of, waiting, items_of}
+use Rattle.desk_book.specs.Reads.{submission, submission_count, retries_of, waiting_of, waiting}
 use Rattle.desk_book.specs.OpenRows.{is_open_row}
 use Rattle.sql_tables.specs.ByName as named
 use Rattle.sql_tables.specs.TableReads.{rows_in, row_under_in, is_of, is_retry_of, last_order}
@@ -13,6 +13,7 @@ use Rattle.desk_rules.specs.ReturnRates.{rates}
 use Rattle.sql_tables.specs.Composed.{exposures_in, rates_in, waiting_of_in, waiting_in}
 use Rattle.sql_read_laws.proofs.ItemLines.{returns_found, changes_found, all_there}
 use Rattle.sql_read_laws.proofs.WaitingRows.{waiting_of_found, waiting_found}
+use Rattle.desk_book.specs.Book.{Book}
 use Rattle.desk_store.specs.Rows.{flat_book}
 use Rattle.sql_read_laws.proofs.rows.rows_of_tables.Goals as goal
 
@@ -29,8 +30,10 @@ returns c = record {
   rates = λ company day. reads_as (rates_in company day) (rates_of company day) (λ trees t r stored e beside. ap (λ rows. rates (facts_in rows) day) (entries_found t r e (stored.stands named.submissions).rise company));
   waiting_of = λ company. reads_as (waiting_of_in company) (waiting_of company) (λ trees t r stored e beside. waiting_of_found t r e (stored.stands named.submissions).rise company);
   waiting = reads_as waiting_in waiting (λ trees t r stored e beside. waiting_found t r e (stored.stands named.submissions).rise);
-  items_of = λ company returns changes trees t b stored is told.
-      let back : returns ≡ (flat_book is.rows).returns company = all_there returns ((flat_book is.rows).returns company) (told.0 ∙ returns_found t is.rows is.encodes (stored.stands named.submissions).rise company) in
-      let changed : changes ≡ (flat_book is.rows).changes company = all_there changes ((flat_book is.rows).changes company) (told.1 ∙ changes_found t is.rows is.encodes (stored.stands named.submissions).rise company) in
-      (λ i. record { returns = back i; changes = changed i }) ∙ sym (ap (items_of company) is.book);
+  returns_of = λ company returns trees t b stored is told.
+      all_there returns ((flat_book is.rows).returns company) (told ∙ returns_found t is.rows is.encodes (stored.stands named.submissions).rise company)
+      ∙ sym (ap (λ (c : Book). c.returns company) is.book);
+  changes_of = λ company changes trees t b stored is told.
+      all_there changes ((flat_book is.rows).changes company) (told ∙ changes_found t is.rows is.encodes (stored.stands named.submissions).rise company)
+      ∙ sym (ap (λ (c : Book). c.changes company) is.book);
 }

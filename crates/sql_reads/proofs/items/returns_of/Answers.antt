@@ -6,4 +6,4 @@ use Rattle.sql_reads.proofs.items.returns_of.Goals as goal
 pub returns : goal.returns
 returns g c =
     let lines = query (rw c.in_ok-lines.ensures at c.return_lines.ensures.answer) c.return_lines.ensures.stays c.return_lines.ensures.survives in
-    answered_last lines c.read_each.ensures (λ found t are these. these ∙ ap (map (return_row_in c.args.company t)) are)
+    answered_last lines c.rows_of.ensures (λ found t are these. these ∙ ap (map (return_row_in c.args.company t)) are)

@@ -1,0 +1,27 @@
+-- The commands that read a file which is no desk's: it was opened at this path, or could not be.
+use Rattle.std.specs.Prelude.{◌⊎◌, ℕ, List}
+use Rattle.sql_files.specs.declared.desk_files.DeskFiles as files
+use Rattle.io_retries.specs.declared.sink.Sink as sink
+use Rattle.io_retries.specs.declared.source.Source as source
+use Rattle.cli_submit.specs.declared.options.SubmitOptions.{SubmitOptions}
+use Rattle.cli_commands.specs.FileChecks.{HasChecked, IsFailedCheck}
+use Rattle.cli_commands.specs.ListRuns.{HasSubmitted, IsFailedSubmit}
+use Rattle.cli_commands.specs.Printing.{SaysUnavailable}
+use Rattle.cli_commands.specs.declared.status.Status.{Status}
+
+module _ {F D Q W : Type 0} (f : files.Ghosts F D Q) (q : source.Ghosts Q) (files : F) (path : List ℕ) (w : sink.Ghosts W) (old new : W) where
+  -- the file at this path could not be opened, and `unavailable` was printed
+  abbrev pub FailsUnread : Type 0
+  FailsUnread = f.fails_to_read files path × SaysUnavailable w old new
+
+  abbrev pub ChecksAt : Status → Type 0
+  ChecksAt status = (input : Q) × f.reads files path input × HasChecked (q.remaining input) w old new status
+
+  abbrev pub FailsToCheckAt : Type 0
+  FailsToCheckAt = ((input : Q) × f.reads files path input × IsFailedCheck (q.remaining input) w old new) ⊎ FailsUnread
+
+  abbrev pub SubmitsAt : SubmitOptions → Status → Type 0
+  SubmitsAt options status = (input : Q) × f.reads files path input × HasSubmitted options (q.remaining input) w old new status
+
+  abbrev pub FailsToSubmitAt : SubmitOptions → Type 0
+  FailsToSubmitAt options = ((input : Q) × f.reads files path input × IsFailedSubmit options (q.remaining input) w old new) ⊎ FailsUnread

@@ -1,0 +1,85 @@
+-- What is known of one company follows a step, and that of the others stays.
+use Rattle.std.proofs.Common.{◌≡◌, ◌∙◌, refl, ap, sym, subst, ℕ, ◌+◌, ◌<◌, ◌≤◌, Bool, true, false, List, [], ◌∷◌, length, take, get_or, Option, Some, cond}
+use Rattle.std.proofs.lemmas.List.{take_all}
+use Rattle.std.proofs.lemmas.List.Sums.{fold_more}
+use Rattle.std.specs.Prelude.{if◌then◌else◌, IfSome, bytes_eq, fold}
+use Rattle.std.specs.BTreeMap.{BTreeMap, get, is_at}
+use Rattle.std.specs.Cmp.Lexicographic.{texts_ties, same_text}
+use Rattle.desk_book.specs.Book.{Book}
+use Rattle.desk_book.specs.declared.row.Row.{Row}
+use Rattle.desk_book.specs.declared.flat_rows.ChangedRow.{ChangedRow}
+use Rattle.desk_book.specs.declared.flat_rows.FileRow.{FileRow}
+use Rattle.desk_book.specs.Steps.{put_change, put_file}
+use Rattle.open_sums.specs.CompanyKeys.{company_cmp}
+use Rattle.open_sums.specs.Known.{KnowsRight, Follows}
+use Rattle.open_sums.specs.Remembered.{IsOf}
+use Rattle.open_sums.specs.declared.company_key.CompanyKey.{CompanyKey}
+use Rattle.open_sums.specs.declared.known.Known.{Known}
+use Rattle.open_sums.specs.declared.remembered.Remembered.{Remembered}
+
+abbrev key : List ℕ → CompanyKey
+key c = record { company = c }
+
+pub company_followed : (c : List ℕ) (turn : List Row → List Row) (m n : BTreeMap CompanyKey Remembered) (v w : Remembered) (b : Book)
+    → Some v ≡ get company_cmp m (key c)
+    → ((q : CompanyKey) → get company_cmp n q ≡ cond (is_at (company_cmp (key c)) q) (Some w) (get company_cmp m q))
+    → ((rs : List Row) → IsOf v rs → IsOf w (turn rs))
+    → ((q : CompanyKey) → IfSome (get company_cmp m q) (λ x. IsOf x (b.rows q.company)))
+    → (q : CompanyKey) → IfSome (get company_cmp n q) (λ x. IsOf x (if bytes_eq c q.company then turn (b.rows q.company) else b.rows q.company))
+company_followed c turn m n v w b found puts follows all q =
+    subst (λ (o : Option Remembered). IfSome o (λ x. IsOf x (if bytes_eq c q.company then turn (b.rows q.company) else b.rows q.company))) (sym (puts q)) (by (is_at (company_cmp (key c)) q) (texts_ties c q.company)) where
+      by : (t : Bool) → bytes_eq c q.company ≡ t → IfSome (cond t (Some w) (get company_cmp m q)) (λ x. IsOf x (if bytes_eq c q.company then turn (b.rows q.company) else b.rows q.company))
+      by true e =
+          let was : IsOf v (b.rows c) = subst (λ (o : Option Remembered). IfSome o (λ x. IsOf x (b.rows c))) (sym found) (all (key c)) in
+          let here : IsOf v (b.rows q.company) = subst (λ (k : List ℕ). IsOf v (b.rows k)) (same_text c q.company (sym e)) was in
+          subst (λ (t : Bool). IsOf w (if t then turn (b.rows q.company) else b.rows q.company)) (sym e) (follows (b.rows q.company) here)
+      by false e = subst (λ (t : Bool). IfSome (get company_cmp m q) (λ x. IsOf x (if t then turn (b.rows q.company) else b.rows q.company))) (sym e) (all q)
+
+-- the same, where the step is followed of the rows that the company has
+pub company_followed_there : (c : List ℕ) (turn : List Row → List Row) (m n : BTreeMap CompanyKey Remembered) (v w : Remembered) (b : Book)
+    → Some v ≡ get company_cmp m (key c)
+    → ((q : CompanyKey) → get company_cmp n q ≡ cond (is_at (company_cmp (key c)) q) (Some w) (get company_cmp m q))
+    → (IsOf v (b.rows c) → IsOf w (turn (b.rows c)))
+    → ((q : CompanyKey) → IfSome (get company_cmp m q) (λ x. IsOf x (b.rows q.company)))
+    → (q : CompanyKey) → IfSome (get company_cmp n q) (λ x. IsOf x (if bytes_eq c q.company then turn (b.rows q.company) else b.rows q.company))
+company_followed_there c turn m n v w b found puts follows all q =
+    subst (λ (o : Option Remembered). IfSome o (λ x. IsOf x (if bytes_eq c q.company then turn (b.rows q.company) else b.rows q.company))) (sym (puts q)) (by (is_at (company_cmp (key c)) q) (texts_ties c q.company)) where
+      by : (t : Bool) → bytes_eq c q.company ≡ t → IfSome (cond t (Some w) (get company_cmp m q)) (λ x. IsOf x (if bytes_eq c q.company then turn (b.rows q.company) else b.rows q.company))
+      by true e =
+          let was : IsOf v (b.rows c) = subst (λ (o : Option Remembered). IfSome o (λ x. IsOf x (b.rows c))) (sym found) (all (key c)) in
+          let here : IsOf w (turn (b.rows q.company)) = subst (λ (k : List ℕ). IsOf w (turn (b.rows k))) (same_text c q.company (sym e)) (follows was) in
+          subst (λ (t : Bool). IsOf w (if t then turn (b.rows q.company) else b.rows q.company)) (sym e) here
+      by false e = subst (λ (t : Bool). IfSome (get company_cmp m q) (λ x. IsOf x (if t then turn (b.rows q.company) else b.rows q.company))) (sym e) (all q)
+
+-- a company is put in
+pub company_put : (c : List ℕ) (m n : BTreeMap CompanyKey Remembered) (w : Remembered) (b : Book)
+    → ((q : CompanyKey) → get company_cmp n q ≡ cond (is_at (company_cmp (key c)) q) (Some w) (get company_cmp m q)) → IsOf w (b.rows c)
+    → ((q : CompanyKey) → IfSome (get company_cmp m q) (λ x. IsOf x (b.rows q.company))) → (q : CompanyKey) → IfSome (get company_cmp n q) (λ x. IsOf x (b.rows q.company))
+company_put c m n w b puts is all q = subst (λ (o : Option Remembered). IfSome o (λ x. IsOf x (b.rows q.company))) (sym (puts q)) (by (is_at (company_cmp (key c)) q) (texts_ties c q.company)) where
+  by : (t : Bool) → bytes_eq c q.company ≡ t → IfSome (cond t (Some w) (get company_cmp m q)) (λ x. IsOf x (b.rows q.company))
+  by true e = subst (λ (k : List ℕ). IsOf w (b.rows k)) (same_text c q.company (sym e)) is
+  by false e = all q
+
+-- ---- what a cut and a file write beside rows
+
+pub same_rows : (m : Known) (b after : Book) → after.rows ≡ b.rows → KnowsRight m b → KnowsRight m after
+same_rows m b after same right k = subst (λ (rows : List ℕ → List Row). IfSome (get company_cmp m.companies k) (λ x. IsOf x (rows k.company))) (sym same) (right k)
+
+pub files_keep_rows : (fs : List FileRow) (b : Book) → (fold put_file b fs).rows ≡ b.rows
+files_keep_rows [] b = refl
+files_keep_rows (f ∷ fs) b = files_keep_rows fs (put_file b f)
+
+pub changes_keep_rows : (xs : List ChangedRow) (b : Book) → (fold put_change b xs).rows ≡ b.rows
+changes_keep_rows [] b = refl
+changes_keep_rows (x ∷ xs) b = changes_keep_rows xs (put_change b x)
+
+-- ---- one step after another
+
+pub one_more : {X : Type 0} (start : Book → Book) (step : Book → X → Book) (xs : List X) (i : ℕ) (x : X) (old m new : Known) → i < length xs → x ≡ get_or xs i x
+    → Follows old m (λ b. fold step (start b) (take i xs)) → Follows m new (λ b. step b x) → Follows old new (λ b. fold step (start b) (take (i + 1) xs))
+one_more start step xs i x old m new within is before follow b right =
+    subst (KnowsRight new) (sym (fold_more step (start b) xs i x within ∙ ap (step (fold step (start b) (take i xs))) (sym is))) (follow (fold step (start b) (take i xs)) (before b right))
+
+pub all_done : {X : Type 0} (start : Book → Book) (step : Book → X → Book) (xs : List X) (i : ℕ) (old m : Known) → length xs ≤ i
+    → Follows old m (λ b. fold step (start b) (take i xs)) → Follows old m (λ b. fold step (start b) xs)
+all_done {X} start step xs i old m past before b right = subst (λ (ys : List X). KnowsRight m (fold step (start b) ys)) (take_all i xs past) (before b right)

@@ -1,0 +1,19 @@
+use Rattle.std.specs.Prelude.{Err}
+use Rattle.desk_store.specs.Written.{intake_rows, intake_step}
+use Rattle.open_sums.proofs.Deciding.{made, not_made, left_numbered}
+use Rattle.open_sums.proofs.Numbered.{intake_numbered}
+use Rattle.open_sums.proofs.remembering.RememberingStore.commit_intake.Goals as goal
+
+pub returns-in-Ok : goal.returns-in-Ok
+returns-in-Ok g c = record {
+  before = c.in-Ok.ensures.before;
+  write = λ clean. made _ _ c.args.self.now.known c.follow_intake.new.self (intake_step c.args.intake.now) (intake_numbered (intake_rows c.args.intake.now)) c.follow_intake.ensures (c.in-Ok.ensures.write clean);
+  left = λ clean b k held admits new. (c.in-Ok.ensures.left clean b k held.held admits new, intake_numbered (intake_rows c.args.intake.now) b held.numbered);
+}
+
+pub returns-in-Err : goal.returns-in-Err
+returns-in-Err g c = record {
+  before = c.in-Err.ensures.before;
+  write = λ clean. not_made _ _ c.args.self.now.known (c.in-Err.ensures.write clean);
+  left = λ clean. left_numbered g.S.Store.keeps _ c.args.self.now.known _ _ (Err c.in-Err.fault) (intake_step c.args.intake.now) (intake_numbered (intake_rows c.args.intake.now)) (c.in-Err.ensures.left clean);
+}

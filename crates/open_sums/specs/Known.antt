@@ -1,0 +1,29 @@
+-- What is remembered of companies, and when it agrees with a book.
+use Rattle.std.specs.Prelude.{ℕ, List, IfSome}
+use Rattle.std.specs.BTreeMap.{get}
+use Rattle.desk_book.specs.Book.{Book}
+use Rattle.open_sums.specs.CompanyKeys.{company_cmp}
+use Rattle.open_sums.specs.Remembered.{AreNumbered, IsOf}
+use Rattle.open_sums.specs.declared.company_key.CompanyKey.{CompanyKey}
+use Rattle.open_sums.specs.declared.known.Known.{Known}
+
+abbrev pub KnowsRight : Known → Book → Type 0
+KnowsRight m b = (k : CompanyKey) → IfSome (get company_cmp m.companies k) (λ x. IsOf x (b.rows k.company))
+
+-- what agreed with a book agrees with the one after a step
+abbrev pub Follows : (old new : Known) → (Book → Book) → Type 0
+Follows old new after = (b : Book) → KnowsRight old b → KnowsRight new (after b)
+
+-- each company's submissions are numbered 1, 2, 3 ...
+abbrev pub IsNumbered : Book → Type 0
+IsNumbered b = (c : List ℕ) → AreNumbered (b.rows c)
+
+-- the store holds a numbered book, and what is remembered agrees with it
+pub record HoldsKnown (holds : Book → Type 0) (m : Known) (b : Book) : Type 0 where
+  pub held : holds b
+  pub numbered : IsNumbered b
+  pub known : KnowsRight m b
+
+-- what a store keeps of a book that is numbered
+abbrev pub KeepsNumbered : {Kept : Type 0} → (Kept → Book → Type 0) → Kept → Book → Type 0
+KeepsNumbered keeps k b = keeps k b × IsNumbered b

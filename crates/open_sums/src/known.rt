@@ -1,0 +1,141 @@
+//! What is remembered of all companies.
+ghost use Rattle.std.specs.Prelude.{◌≡◌, ◌+◌, Option, IfSome, length};
+ghost use Rattle.desk_rules.specs.declared.bodies.submission.Retry.{Retry};
+ghost use Rattle.desk_book.specs.Book.{Book};
+ghost use Rattle.desk_book.specs.Steps.{add_submission, put_lapsed_row, put_return, put_sent_row};
+ghost use Rattle.desk_book.specs.Sums.{exposures_on};
+ghost use Rattle.desk_store.specs.Written.{cut_step, intake_step};
+ghost use Rattle.open_sums.specs.Known.{Follows, IsNumbered, KnowsRight};
+ghost use Rattle.open_sums.specs.Remembered.{IsOf};
+
+use crate::company_key::CompanyKey;
+use crate::remembered::Remembered;
+use ach_fields::Id;
+use bank_days::{Calendar, Day};
+use desk_book::{LapsedRow, ReturnedRow, SentRow};
+use desk_rules::SizedSubmission;
+use desk_store::{CutRows, IntakeRows};
+use std::alloc::Global;
+use std::collections::BTreeMap;
+
+/// The open submissions of the companies that were asked about.
+#[derive(Drop)]
+pub struct Known {
+    companies: BTreeMap<CompanyKey, Remembered>,
+}
+
+impl Known {
+    /// Returns memory of no company.
+    pub fn new(alloc: Global) -> Known
+        ensures { (b : Book) → KnowsRight result b }
+    {
+        Known {
+            companies: BTreeMap::new(alloc),
+        }
+    }
+
+    /// Remembers a company. Without memory for it, all companies are forgotten.
+    pub fn remember(&mut self, company: Id, remembered: Remembered)
+        ensures { (b : Book) → KnowsRight self.old b → IsOf remembered (b.rows company)
+            → KnowsRight self.new b }
+    {
+        if self
+            .companies
+            .insert(CompanyKey { company }, remembered)
+            .is_err()
+        {
+            self.companies.clear();
+        }
+    }
+
+    /// Returns a company's credit and debit exposure on a day, in cents, if they are known.
+    pub fn exposures(&self, company: Id, today: Day, calendar: &Calendar) -> Option<(u128, u128)>
+        ensures { IfSome result (λ sums. (b : Book) → KnowsRight self.now b
+            → sums ≡ exposures_on (b.rows company) today calendar.now) }
+    {
+        self.companies
+            .get(&CompanyKey { company })?
+            .exposures(today, calendar)
+    }
+
+    /// Follows an accepted submission.
+    pub fn add(&mut self, alloc: Global, company: Id, order: u64, content: &SizedSubmission)
+        ensures { (b : Book) (retry : Option Retry) → order ≡ length (b.rows company) + 1
+            → IsNumbered b → KnowsRight self.old b
+            → KnowsRight self.new ((add_submission company order content.now retry).after b) }
+    {
+        let key = CompanyKey { company };
+        let Some(known) = self.companies.get_mut(&key) else {
+            return;
+        };
+        if !known.add(alloc, order, content) {
+            self.companies.remove(&key);
+        }
+    }
+
+    // Follows a submission that a cut sends. A company that cannot be followed is forgotten.
+    fn send(&mut self, sent: &SentRow)
+        ensures { Follows self.old self.new (λ b. put_sent_row b sent.now) }
+    {
+        let key = CompanyKey {
+            company: sent.company,
+        };
+        let Some(company) = self.companies.get_mut(&key) else {
+            return;
+        };
+        if !company.send(sent.order, sent.settled) {
+            self.companies.remove(&key);
+        }
+    }
+
+    // Follows a retry that lapses at a cut.
+    fn lapse(&mut self, lapsed: &LapsedRow)
+        ensures { Follows self.old self.new (λ b. put_lapsed_row b lapsed.now) }
+    {
+        let key = CompanyKey {
+            company: lapsed.company,
+        };
+        let Some(company) = self.companies.get_mut(&key) else {
+            return;
+        };
+        if !company.lapse(lapsed.order) {
+            self.companies.remove(&key);
+        }
+    }
+
+    // Follows a return.
+    fn give_back(&mut self, returned: &ReturnedRow)
+        ensures { Follows self.old self.new (λ b. put_return b returned.now) }
+    {
+        let key = CompanyKey {
+            company: returned.company,
+        };
+        let Some(company) = self.companies.get_mut(&key) else {
+            return;
+        };
+        if !company.give_back(returned) {
+            self.companies.remove(&key);
+        }
+    }
+
+    /// Follows a cut.
+    pub fn follow_cut(&mut self, cut: &CutRows<'_>)
+        ensures { Follows self.old self.new (cut_step cut.now).after }
+    {
+        for row in cut.sent {
+            self.send(row);
+        }
+        for row in cut.lapsed {
+            self.lapse(row);
+        }
+    }
+
+    /// Follows the returns of an incoming file.
+    pub fn follow_intake(&mut self, intake: &IntakeRows<'_>)
+        ensures { Follows self.old self.new (intake_step intake.now).after }
+    {
+        for row in intake.returned {
+            self.give_back(row);
+        }
+    }
+}

@@ -1,0 +1,88 @@
+//! A company's open submissions, found by order number and by reference.
+ghost use Rattle.std.specs.Prelude.{◌≡◌, ℕ, None, IsTrue, IfSome};
+ghost use Rattle.open_sums.specs.OpenRows.{Adds, Lapses, Returns, Sends, row_in};
+
+use crate::open_row::OpenRow;
+use crate::reference_key::ReferenceKey;
+use ach_fields::Ref;
+use desk_rules::RuleDay;
+use std::alloc::Global;
+use std::collections::BTreeMap;
+
+/// A company's open submissions. A cut names them by order number, a return by reference.
+#[derive(Drop)]
+pub(crate) struct OpenRows {
+    rows: BTreeMap<u64, OpenRow>,
+    orders: BTreeMap<ReferenceKey, u64>,
+}
+
+impl OpenRows {
+    /// Returns no submissions.
+    pub(crate) fn new(alloc: Global) -> OpenRows
+        ensures { (order : ℕ) → row_in order result ≡ None }
+    {
+        OpenRows {
+            rows: BTreeMap::new(alloc),
+            orders: BTreeMap::new(alloc),
+        }
+    }
+
+    /// Adds a submission. Returns false if its order number or reference is already kept, or if there
+    /// is no memory.
+    pub(crate) fn add(&mut self, order: u64, row: OpenRow) -> bool
+        ensures { IsTrue result → Adds order row self.old self.new }
+    {
+        let key = ReferenceKey {
+            reference: row.reference,
+        };
+        if self.rows.contains_key(&order) || self.orders.contains_key(&key) {
+            return false;
+        }
+        if self.orders.insert(key, order).is_err() {
+            return false;
+        }
+        if self.rows.insert(order, row).is_err() {
+            return false;
+        }
+        true
+    }
+
+    /// Marks a held submission sent, and returns whether it is one of debits, with its cents. Returns
+    /// `None` if no held submission has this order number.
+    pub(crate) fn send(&mut self, order: u64, day: RuleDay) -> Option<(bool, u128)>
+        ensures { IfSome result (λ x. Sends order day x.0 x.1 self.old self.new) }
+    {
+        let row = self.rows.get_mut(&order)?;
+        if row.settled.is_some() {
+            return None;
+        }
+        let found = (row.debit, row.total);
+        row.settle(day);
+        Some(found)
+    }
+
+    /// Removes a held submission that lapsed, and returns whether it is one of debits, with its cents.
+    /// Returns `None` if no held submission has this order number.
+    pub(crate) fn lapse(&mut self, order: u64) -> Option<(bool, u128)>
+        ensures { IfSome result (λ x. Lapses order x.0 x.1 self.old self.new) }
+    {
+        let row = self.rows.remove(&order)?;
+        if row.settled.is_some() {
+            return None;
+        }
+        Some((row.debit, row.total))
+    }
+
+    /// Takes away the cents of a returned entry, named by its submission's reference and its number
+    /// there, and returns them with their settlement day. Returns `None` if that changes nothing.
+    pub(crate) fn take(&mut self, reference: Ref, index: u64) -> Option<(RuleDay, u64)>
+        ensures { Returns reference index result self.old self.new }
+    {
+        let order = *self.orders.get(&ReferenceKey { reference })?;
+        let row = self.rows.get_mut(&order)?;
+        if row.reference.bytes() != reference.bytes() {
+            return None;
+        }
+        row.take(index)
+    }
+}

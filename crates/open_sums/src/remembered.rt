@@ -1,0 +1,150 @@
+//! What is remembered of one company, and how it follows each write.
+ghost use Rattle.std.specs.Prelude.{◌≡◌, ◌+◌, ◌++◌, ◌∷◌, [], List, Option, length, map, IfSome, IsTrue};
+ghost use Rattle.desk_book.specs.declared.row.Row.{Row};
+ghost use Rattle.desk_book.specs.declared.flat_rows.ReturnedRow.{ReturnedRow};
+ghost use Rattle.desk_book.specs.Standing.{lapsed_row, next_row, sent_row};
+ghost use Rattle.desk_rules.specs.declared.bodies.submission.Retry.{Retry};
+ghost use Rattle.desk_book.specs.Steps.{if_order, returned_row_by};
+ghost use Rattle.desk_book.specs.Sums.{exposures_on};
+ghost use Rattle.open_sums.specs.KnownRow.{Fits};
+ghost use Rattle.desk_book.specs.OpenRows.{open_rows};
+ghost use Rattle.open_sums.specs.Remembered.{AreKept, AreNumbered, IsOf};
+
+use crate::first_read::keep_row;
+use crate::keep::keep;
+use crate::open_row::OpenRow;
+use crate::open_rows::OpenRows;
+use crate::sums::Sums;
+use bank_days::{Calendar, Day};
+use desk_book::{ReturnedRow, Row, first_open_day};
+use desk_rules::{RuleDay, SizedSubmission};
+use std::alloc::Global;
+
+/// A company's open submissions with their sums: all that is held, and what settles on day `since` or
+/// later.
+#[derive(Drop)]
+pub struct Remembered {
+    since: Day,
+    sums: Sums,
+    rows: OpenRows,
+}
+
+impl Remembered {
+    /// Returns the memory of a company without submissions.
+    pub fn new(alloc: Global, since: Day) -> Remembered
+        ensures of { IsOf result [] }
+        ensures since { result.since ≡ since }
+    {
+        Remembered {
+            since,
+            sums: Sums::new(alloc),
+            rows: OpenRows::new(alloc),
+        }
+    }
+
+    // Adds a submission that the store already has. Returns false if it cannot be kept.
+    fn load(&mut self, order: u64, row: OpenRow) -> bool
+        ensures right { IsTrue result → (rs : List Row) (of : Row) → IsOf self.old rs
+            → AreKept self.old.rows rs → of.order ≡ order → Fits row of
+            → IsOf self.new (rs ++ of ∷ []) × AreKept self.new.rows (rs ++ of ∷ []) }
+        ensures since { self.new.since ≡ self.old.since }
+    {
+        let debit = row.debit;
+        let total = row.total;
+        let settled = row.settled;
+        let Some(counted) = row.counted() else {
+            return false;
+        };
+        if !self.rows.add(order, row) {
+            return false;
+        }
+        match settled {
+            Some(day) => self.sums.settle(debit, day, counted),
+            None => self.sums.hold(debit, total),
+        }
+    }
+
+    /// Returns the memory of a company by its rows that are open since a day, or `None` if they cannot
+    /// be kept.
+    pub fn read(alloc: Global, since: Day, rows: &[Row]) -> Option<Remembered>
+        ensures { IfSome result (λ m. (all : List Row) → AreNumbered all
+            → rows.now ≡ open_rows since all → IsOf m all) }
+    {
+        let mut read = Remembered::new(alloc, since);
+        for row in rows {
+            let kept = keep_row(alloc, row)?;
+            if !read.load(row.order, kept) {
+                return None;
+            }
+        }
+        Some(read)
+    }
+
+    /// Follows an accepted submission. Returns false if it cannot.
+    pub fn add(&mut self, alloc: Global, order: u64, content: &SizedSubmission) -> bool
+        ensures { IsTrue result → (rs : List Row) (retry : Option Retry) → order ≡ length rs + 1
+            → AreNumbered rs → IsOf self.old rs
+            → IsOf self.new (rs ++ next_row rs content.now retry ∷ []) }
+    {
+        let Some(row) = keep(alloc, content) else {
+            return false;
+        };
+        let debit = row.debit;
+        let cents = row.total;
+        if !self.rows.add(order, row) {
+            return false;
+        }
+        self.sums.hold(debit, cents)
+    }
+
+    /// Follows a submission that is sent, by its order number. Returns false if it cannot.
+    pub fn send(&mut self, order: u64, day: RuleDay) -> bool
+        ensures { IsTrue result → (rs : List Row) → IsOf self.old rs
+            → IsOf self.new (map (if_order order (sent_row day)) rs) }
+    {
+        let Some((debit, cents)) = self.rows.send(order, day) else {
+            return false;
+        };
+        if !self.sums.let_go(debit, cents) {
+            return false;
+        }
+        self.sums.settle(debit, day, cents)
+    }
+
+    /// Follows a retry that lapses, by its order number. Returns false if it cannot.
+    pub fn lapse(&mut self, order: u64) -> bool
+        ensures { IsTrue result → (rs : List Row) → IsOf self.old rs
+            → IsOf self.new (map (if_order order lapsed_row) rs) }
+    {
+        let Some((debit, cents)) = self.rows.lapse(order) else {
+            return false;
+        };
+        self.sums.let_go(debit, cents)
+    }
+
+    /// Follows a return. Returns false if it cannot. A return of a submission that is not kept is too
+    /// late to change any exposure.
+    pub fn give_back(&mut self, returned: &ReturnedRow) -> bool
+        ensures { IsTrue result → (rs : List Row) → IsOf self.old rs
+            → IsOf self.new (map (returned_row_by returned.now) rs) }
+    {
+        let row = &returned.row;
+        match self.rows.take(row.reference, row.index) {
+            Some((day, cents)) => self.sums.give_back(day, u128::from(cents)),
+            None => true,
+        }
+    }
+
+    /// Returns the credit and debit exposure on a day, in cents. Returns `None` if something before
+    /// `since` counts on that day, as after a holiday list that opens an earlier settlement again.
+    pub fn exposures(&self, today: Day, calendar: &Calendar) -> Option<(u128, u128)>
+        ensures { IfSome result (λ sums. (rs : List Row) → IsOf self.now rs
+            → sums ≡ exposures_on rs today calendar.now) }
+    {
+        let first = first_open_day(calendar, today)?;
+        if first < self.since {
+            return None;
+        }
+        self.sums.exposures(today, calendar)
+    }
+}

@@ -1,0 +1,296 @@
+//! The store around a store.
+ghost use Rattle.std.specs.Prelude.{◌≡◌};
+ghost use Rattle.desk_book.specs.Book.{Book};
+ghost use Rattle.desk_store.specs.Words.{LeavesRead};
+ghost use Rattle.open_sums.specs.Known.{HoldsKnown, KnowsRight};
+
+use crate::known::Known;
+use crate::remembered::Remembered;
+use ach_fields::{Id, Ref, Trace};
+use bank_days::{Calendar, Day};
+use desk_accounts::{Account, Posting};
+use desk_book::{Caller, HeldSubmission, NamedEntry, Row, first_open_day};
+use desk_history::{ChangeRow, Identity, ListOf, ReturnRow, SuspenseRow, TakenFile};
+use desk_rules::{Company, Limits, Rates, Retry, RuleDay, SizedSubmission};
+use desk_store::{CutRows, IntakeRows, LastNumber, Store, StoreFault};
+use std::alloc::Global;
+
+/// A store that remembers the open submissions of the companies that were asked about, and hands every
+/// call on to the store inside.
+#[derive(Drop)]
+pub struct Remembering<S> {
+    store: S,
+    known: Known,
+}
+
+impl<S> Remembering<S> {
+    /// Returns a store around `store` that remembers nothing yet.
+    pub fn new(alloc: Global, store: S) -> Remembering<S>
+        ensures store { result.store ≡ store }
+        ensures known { (b : Book) → KnowsRight result.known b }
+    {
+        Remembering {
+            store,
+            known: Known::new(alloc),
+        }
+    }
+
+    /// Returns the store inside.
+    pub fn into_inner(self) -> S
+        ensures { result ≡ self.store }
+    {
+        self.store
+    }
+}
+
+impl<S: Store> Remembering<S> {
+    // Reads a company's open submissions and remembers them, if that can be done.
+    fn learn(&mut self, alloc: Global, company: Id, today: Day, calendar: &Calendar)
+        ensures before { S.is_clean self.new.store → S.is_clean self.old.store }
+        ensures read { S.is_clean self.new.store → (b : Book)
+            → HoldsKnown (S.holds self.old.store) self.old.known b
+            → HoldsKnown (S.holds self.new.store) self.new.known b }
+        ensures left { S.is_clean self.new.store
+            → LeavesRead (S.may_leave self.old.store) (S.may_leave self.new.store) }
+    {
+        let Some(since) = first_open_day(calendar, today) else {
+            return;
+        };
+        let Ok(rows) = self.store.open_rows(alloc, company, since) else {
+            return;
+        };
+        let Some(read) = Remembered::read(alloc, since, &rows) else {
+            return;
+        };
+        self.known.remember(company, read);
+    }
+}
+
+impl<S: Store> Store for Remembering<S> {
+    ghost use Rattle.open_sums.specs.Known.{HoldsKnown, KeepsNumbered};
+
+    ghost holds = { λ r. HoldsKnown (S.holds r.store) r.known };
+
+    ghost Kept = { S.Kept };
+
+    ghost keeps = { KeepsNumbered S.keeps };
+
+    ghost may_leave = { λ r. S.may_leave r.store };
+
+    ghost is_clean = { λ r. S.is_clean r.store };
+
+    fn identity(&mut self, alloc: Global) -> Result<Identity, StoreFault> {
+        self.store.identity(alloc)
+    }
+
+    fn key_of(&mut self, alloc: Global, caller: Caller) -> Result<Option<[u8; 32]>, StoreFault> {
+        self.store.key_of(alloc, caller)
+    }
+
+    fn day(&mut self, alloc: Global) -> Result<Option<RuleDay>, StoreFault> {
+        self.store.day(alloc)
+    }
+
+    fn calendar(&mut self, alloc: Global) -> Result<Calendar, StoreFault> {
+        self.store.calendar(alloc)
+    }
+
+    fn company(&mut self, alloc: Global, id: Id) -> Result<Option<Company>, StoreFault> {
+        self.store.company(alloc, id)
+    }
+
+    fn companies(&mut self, alloc: Global) -> Result<Vec<Company>, StoreFault> {
+        self.store.companies(alloc)
+    }
+
+    fn submission(
+        &mut self,
+        alloc: Global,
+        company: Id,
+        reference: Ref,
+    ) -> Result<Option<Row>, StoreFault> {
+        self.store.submission(alloc, company, reference)
+    }
+
+    fn submission_count(&mut self, alloc: Global, company: Id) -> Result<u64, StoreFault> {
+        self.store.submission_count(alloc, company)
+    }
+
+    fn open_rows(
+        &mut self,
+        alloc: Global,
+        company: Id,
+        since: Day,
+    ) -> Result<Vec<Row>, StoreFault> {
+        self.store.open_rows(alloc, company, since)
+    }
+
+    fn exposures(
+        &mut self,
+        alloc: Global,
+        company: Id,
+        today: Day,
+    ) -> Result<(u128, u128), StoreFault> {
+        let calendar = self.store.calendar(alloc)?;
+        if let Some(exposures) = self.known.exposures(company, today, &calendar) {
+            return Ok(exposures);
+        }
+        self.learn(alloc, company, today, &calendar);
+        if let Some(exposures) = self.known.exposures(company, today, &calendar) {
+            return Ok(exposures);
+        }
+        self.store.exposures(alloc, company, today)
+    }
+
+    fn rates(&mut self, alloc: Global, company: Id, today: Day) -> Result<Rates, StoreFault> {
+        self.store.rates(alloc, company, today)
+    }
+
+    fn retries_of(
+        &mut self,
+        alloc: Global,
+        company: Id,
+        of: Ref,
+        index: u64,
+    ) -> Result<Vec<Row>, StoreFault> {
+        self.store.retries_of(alloc, company, of, index)
+    }
+
+    fn entries_of(&mut self, alloc: Global, company: Id) -> Result<Vec<Row>, StoreFault> {
+        self.store.entries_of(alloc, company)
+    }
+
+    fn waiting_of(
+        &mut self,
+        alloc: Global,
+        company: Company,
+    ) -> Result<Vec<HeldSubmission>, StoreFault> {
+        self.store.waiting_of(alloc, company)
+    }
+
+    fn waiting(&mut self, alloc: Global) -> Result<Vec<HeldSubmission>, StoreFault> {
+        self.store.waiting(alloc)
+    }
+
+    fn last_number(&mut self, alloc: Global) -> Result<LastNumber, StoreFault> {
+        self.store.last_number(alloc)
+    }
+
+    fn latest_settled(
+        &mut self,
+        alloc: Global,
+        from: u32,
+        to: u32,
+    ) -> Result<Option<Day>, StoreFault> {
+        self.store.latest_settled(alloc, from, to)
+    }
+
+    fn files_on(&mut self, alloc: Global, day: Day) -> Result<u64, StoreFault> {
+        self.store.files_on(alloc, day)
+    }
+
+    fn traced_entries(
+        &mut self,
+        alloc: Global,
+        traces: &[Option<Trace>],
+    ) -> Result<Vec<Option<NamedEntry>>, StoreFault> {
+        self.store.traced_entries(alloc, traces)
+    }
+
+    fn returns_of(&mut self, alloc: Global, company: Id) -> Result<Vec<ReturnRow>, StoreFault> {
+        self.store.returns_of(alloc, company)
+    }
+
+    fn changes_of(&mut self, alloc: Global, company: Id) -> Result<Vec<ChangeRow>, StoreFault> {
+        self.store.changes_of(alloc, company)
+    }
+
+    fn postings_of(&mut self, alloc: Global, account: Account) -> Result<Vec<Posting>, StoreFault> {
+        self.store.postings_of(alloc, account)
+    }
+
+    fn balances_of(
+        &mut self,
+        alloc: Global,
+        account: Account,
+    ) -> Result<Vec<(Day, i128)>, StoreFault> {
+        self.store.balances_of(alloc, account)
+    }
+
+    fn suspense(&mut self, alloc: Global) -> Result<Vec<SuspenseRow>, StoreFault> {
+        self.store.suspense(alloc)
+    }
+
+    fn suspense_count(&mut self, alloc: Global) -> Result<u64, StoreFault> {
+        self.store.suspense_count(alloc)
+    }
+
+    fn file(
+        &mut self,
+        alloc: Global,
+        day: Day,
+        modifier: u8,
+    ) -> Result<Option<ListOf<u8>>, StoreFault> {
+        self.store.file(alloc, day, modifier)
+    }
+
+    fn taken(&mut self, alloc: Global, key: [u8; 21]) -> Result<Option<TakenFile>, StoreFault> {
+        self.store.taken(alloc, key)
+    }
+
+    fn set_day(&mut self, alloc: Global, day: RuleDay) -> Result<(), StoreFault> {
+        self.store.set_day(alloc, day)
+    }
+
+    fn set_holidays(&mut self, alloc: Global, holidays: Calendar) -> Result<(), StoreFault> {
+        self.store.set_holidays(alloc, holidays)
+    }
+
+    fn put_company(&mut self, alloc: Global, company: Company) -> Result<(), StoreFault> {
+        self.store.put_company(alloc, company)
+    }
+
+    fn put_limits(&mut self, alloc: Global, company: Id, limits: Limits) -> Result<(), StoreFault> {
+        self.store.put_limits(alloc, company, limits)
+    }
+
+    fn add_submission(
+        &mut self,
+        alloc: Global,
+        company: Id,
+        order: u64,
+        content: &SizedSubmission,
+        retry: Option<Retry>,
+    ) -> Result<(), StoreFault> {
+        match self
+            .store
+            .add_submission(alloc, company, order, content, retry)
+        {
+            Ok(done) => {
+                self.known.add(alloc, company, order, content);
+                Ok(done)
+            }
+            Err(fault) => Err(fault),
+        }
+    }
+
+    fn commit_cut(&mut self, alloc: Global, cut: &CutRows<'_>) -> Result<(), StoreFault> {
+        match self.store.commit_cut(alloc, cut) {
+            Ok(done) => {
+                self.known.follow_cut(cut);
+                Ok(done)
+            }
+            Err(fault) => Err(fault),
+        }
+    }
+
+    fn commit_intake(&mut self, alloc: Global, intake: &IntakeRows<'_>) -> Result<(), StoreFault> {
+        match self.store.commit_intake(alloc, intake) {
+            Ok(done) => {
+                self.known.follow_intake(intake);
+                Ok(done)
+            }
+            Err(fault) => Err(fault),
+        }
+    }
+}

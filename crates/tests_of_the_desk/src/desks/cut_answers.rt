@@ -1,0 +1,55 @@
+//! Answers that are cut off, since the writer fails inside one: the command is done, and the same message
+//! sent again to the same desk is answered as it would have been.
+use super::exchanges::{add_request, add_response, follow, http_desk};
+use super::samples::{DAY_8, Exchange, HOLIDAYS, MILL, SUBMIT_1, new_lists};
+use crate::sessions::texts::sink;
+use http_session::{SessionFault, Tries, session};
+use std::alloc::Global;
+use std::process::Abort;
+
+/// The submission is held.
+const LOOK_UP_1: Exchange = (
+    "MILL01 GET /c/MILL01/submissions/PAY-1",
+    "",
+    "200 OK",
+    r#"{"cents":150000,"day":"2025-01-10","direction":"credit","entries":[{"cents":150000,"index":1,"state":"held"}],"order":1,"ref":"PAY-1","sec":"PPD"}"#,
+);
+
+// A new desk is sent a submission, and so many bytes of the answer are taken.
+fn is_done_and_answered_again(
+    rt: &(impl Abort + Alloc<A = Global>),
+    input: &[u8],
+    answer: &[u8],
+    room: usize,
+) {
+    let mut desk = http_desk(rt, new_lists(rt));
+    follow(rt, &mut desk, "before", &[HOLIDAYS, MILL, DAY_8]);
+    let mut reader = input;
+    let mut writer = sink(rt);
+    writer.room = room;
+    let ended = session(
+        rt.alloc(),
+        &mut desk,
+        &mut reader,
+        &mut writer,
+        &mut Tries::new(),
+    );
+    assert!(rt; ended == Err(SessionFault::Write), "{room}");
+    assert!(rt;
+        Some(writer.taken.as_slice()) == answer.get(..room),
+        "{room}"
+    );
+    follow(rt, &mut desk, "after", &[LOOK_UP_1, SUBMIT_1]);
+}
+
+#[test]
+fn a_submission_is_done_though_its_answer_is_cut_off(rt: HostRuntime) {
+    let (asks, body, status, text) = SUBMIT_1;
+    let mut input = Vec::new(rt.alloc());
+    add_request(&rt, &mut input, asks, body);
+    let mut answer = Vec::new(rt.alloc());
+    add_response(&rt, &mut answer, asks, status, text);
+    for room in 0..answer.len() {
+        is_done_and_answered_again(&rt, &input, &answer, room);
+    }
+}
