@@ -10,28 +10,27 @@ use clap::{ArgMatches, Command as ClapCommand, Error};
 use std::alloc::{AllocError, Global};
 
 /// The help says this of `init`.
-pub const ABOUT_INIT: &str = "Makes a new desk in a file";
+pub const ABOUT_INIT: &str = "Creates a desk in a new database file";
 
 /// The help says this of `serve`.
-pub const ABOUT_SERVE: &str =
-    "Answers HTTP/1.1 messages on connections to a port of this machine, by a desk's file";
+pub const ABOUT_SERVE: &str = "Serves a desk over HTTP/1.1 on a port of 127.0.0.1";
 
 /// The help says this of `migrate`.
-pub const ABOUT_MIGRATE: &str = "Brings a desk's file of version 1 to version 2";
+pub const ABOUT_MIGRATE: &str = "Upgrades a desk's database file from version 1 to version 2";
 
 /// The help says this of the argument of commands that work by a desk.
-const HELP_DESK: &str = "The path of the desk's file";
+const HELP_DESK: &str = "Path of the desk's database file";
 
 /// The help says this of the arguments of `init`.
-const HELP_ODFI: &str = "The bank's routing number: nine digits";
+const HELP_ODFI: &str = "Routing number of the originating bank: nine digits";
 
-const HELP_ODFI_NAME: &str = "The bank's name: 1 to 23 characters";
+const HELP_ODFI_NAME: &str = "Name of the originating bank: 1 to 23 characters";
 
-const HELP_DESTINATION: &str = "The ACH operator's routing number: nine digits";
+const HELP_DESTINATION: &str = "Routing number of the ACH operator: nine digits";
 
-const HELP_DESTINATION_NAME: &str = "The ACH operator's name: 1 to 23 characters";
+const HELP_DESTINATION_NAME: &str = "Name of the ACH operator: 1 to 23 characters";
 
-const HELP_OPERATOR_KEY: &str = "The desk operator's key: 8 to 64 characters, no blanks";
+const HELP_OPERATOR_KEY: &str = "Key of the desk's operator: 8 to 64 characters, no spaces";
 
 /// The options of `init`, as `add_options` takes them.
 const INIT_OPTIONS: [(&str, &str, &str); 5] = [
@@ -58,7 +57,7 @@ fn init_command<'a>(alloc: Global) -> Result<ClapCommand<'a>, AllocError>
     ensures { IfOk result (IsApp init_app) }
 {
     let command = new_command(alloc, "achdesk init", ABOUT_INIT)?;
-    let command = add_argument(alloc, command, "DB", "The path of the new desk's file")?;
+    let command = add_argument(alloc, command, "DB", "Path of the new database file")?;
     add_options(alloc, command.after_help(HELP_REQUIRED), &INIT_OPTIONS)
 }
 

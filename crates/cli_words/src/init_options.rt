@@ -3,7 +3,7 @@
 /// The options say whose desk a new one is.
 #[derive(Clone, Copy, Debug, PartialEq, Eq)]
 pub struct InitOptions<'a> {
-    /// The bank's routing number: nine digits.
+    /// Routing number of the originating bank: nine digits.
     pub odfi: &'a str,
     /// The bank's name: at most 23 characters.
     pub odfi_name: &'a str,

@@ -9,47 +9,46 @@ use clap::{Arg, ArgAction, ArgMatches, Command as ClapCommand, Error};
 use std::alloc::{AllocError, Global};
 
 /// The help says this of `check`.
-pub const ABOUT_CHECK: &str =
-    "Checks an incoming ACH file, and tells how many returns and changes it has";
+pub const ABOUT_CHECK: &str = "Checks an incoming ACH file and counts its returns and changes";
 
 /// The help says this of `submit`.
 pub const ABOUT_SUBMIT: &str =
-    "Prints the message that hands a list of entries to a desk, or the list's first fault";
+    "Prints the HTTP request that submits a list of entries, or the list's first fault";
 
 /// The help says this of `stdio`.
 pub const ABOUT_STDIO: &str =
-    "Answers HTTP/1.1 messages on standard input, by a desk's file, or by a new desk of a sample bank";
+    "Answers HTTP/1.1 requests on standard input, from a desk's file or a sample desk in memory";
 
 /// The help says this of the arguments of `submit`.
 const HELP_LIST: &str =
-    "The path of the list, CSV with the header routing,account,kind,prenote,cents,id,name,info";
+    "Path of the list: CSV with the header routing,account,kind,prenote,cents,id,name,info";
 
-const HELP_COMPANY: &str = "The company's identification: 1 to 10 of A-Z and 0-9";
+const HELP_COMPANY: &str = "Identification of the company: 1 to 10 of A-Z and 0-9";
 
-const HELP_KEY: &str = "The company's key: 8 to 64 characters, no blanks";
+const HELP_KEY: &str = "Key of the company: 8 to 64 characters, no spaces";
 
 const HELP_REFERENCE: &str =
-    "The company's own reference for the submission: 1 to 20 of A-Z, a-z, 0-9, '-', '_' and '.'";
+    "The company's reference for the submission: 1 to 20 of A-Z, a-z, 0-9, '-', '_' and '.'";
 
-const HELP_DIRECTION: &str = "credit, which pays the receivers, or debit, which collects from them";
+const HELP_DIRECTION: &str = "credit to pay the receivers, debit to collect from them";
 
-const HELP_DESCRIPTION: &str = "What the receivers are told that it is for: 1 to 10 characters";
+const HELP_DESCRIPTION: &str = "Purpose of the entries, which receivers see: 1 to 10 characters";
 
-const HELP_DAY: &str = "The day on which it is to settle, as 2025-01-10: 2000-01-01 to 2099-12-31";
+const HELP_DAY: &str = "Requested settlement day, as in 2025-01-10: 2000-01-01 to 2099-12-31";
 
 /// The help says this below the options of a command that have to be there.
-pub const HELP_REQUIRED: &str = "Every option has to be given: none has a default.";
+pub const HELP_REQUIRED: &str = "All options are required.";
 
 /// The help says this of the argument of `stdio`.
 const HELP_DESK_OR_NONE: &str =
-    "The path of the desk's file [default: none, which is a new desk of a sample bank in memory]";
+    "Path of the desk's database file [default: none, a sample desk in memory]";
 
 /// The options of `submit`, as `add_options` takes them.
 const SUBMIT_OPTIONS: [(&str, &str, &str); 7] = [
     ("COMPANY", "company", HELP_COMPANY),
     ("KEY", "key", HELP_KEY),
     ("REF", "ref", HELP_REFERENCE),
-    ("SEC", "sec", "The entry class: PPD or CCD"),
+    ("SEC", "sec", "SEC code of the entries: PPD or CCD"),
     ("DIRECTION", "direction", HELP_DIRECTION),
     ("TEXT", "description", HELP_DESCRIPTION),
     ("DAY", "day", HELP_DAY),
@@ -83,7 +82,7 @@ fn check_command<'a>(alloc: Global) -> Result<ClapCommand<'a>, AllocError>
     ensures { IfOk result (IsApp check_app) }
 {
     let command = new_command(alloc, "achdesk check", ABOUT_CHECK)?;
-    add_argument(alloc, command, "FILE", "The path of the file")
+    add_argument(alloc, command, "FILE", "Path of the file")
 }
 
 fn stdio_command<'a>(alloc: Global) -> Result<ClapCommand<'a>, AllocError>

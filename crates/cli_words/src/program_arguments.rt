@@ -11,7 +11,7 @@ use std::alloc::{AllocError, Global};
 
 /// The help says this of the program.
 const ABOUT_PROGRAM: &str =
-    "The ACH desk of an originating bank.\n\nWithout words it reads a submission in JSON from standard input, and answers it.";
+    "ACH desk of an originating bank.\n\nWithout a command, it reads a submission in JSON from standard input and prints the answer.";
 
 /// The help and the usage say this of the words.
 const USAGE_PROGRAM: &str = "achdesk < SUBMISSION\n       achdesk <COMMAND>";

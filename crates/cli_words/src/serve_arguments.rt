@@ -7,13 +7,13 @@ use clap::{Arg, ArgAction, value_parser};
 use std::alloc::Global;
 
 /// The help says this of the port.
-const HELP_PORT: &str = "The port, 1 to 65535, on 127.0.0.1";
+const HELP_PORT: &str = "Port on 127.0.0.1, 1 to 65535";
 
 /// The help says this of the number of connections.
-const HELP_CONNECTIONS: &str = "How many connections are served before the end, 1 to 1000000";
+const HELP_CONNECTIONS: &str = "Number of connections to serve before it exits, 1 to 1000000";
 
 /// The help says this of the patience.
-const HELP_PATIENCE: &str = "How many seconds a client may keep the desk waiting, 1 to 3600";
+const HELP_PATIENCE: &str = "Seconds that a client may keep the desk waiting, 1 to 3600";
 
 /// Gives the port's argument, which has to be there.
 pub fn port_argument<'a>(alloc: Global) -> Arg<'a>

@@ -11,12 +11,12 @@ const WORDS: &[(&[&str], u8, &str)] = &[
     (
         &["--help"],
         0,
-        "The ACH desk of an originating bank.\n\nWithout words it reads a submission in JSON from standard input",
+        "ACH desk of an originating bank.\n\nWithout a command, it reads a submission in JSON from standard input",
     ),
     (&["--version"], 0, "achdesk "),
     (&["-V"], 0, "achdesk "),
     (&["check", "--version"], 2, "error: "),
-    (&["help"], 0, "The ACH desk of an originating bank."),
+    (&["help"], 0, "ACH desk of an originating bank."),
     (&["help", "help"], 0, "Print this message"),
     (
         &["help", "bogus"],
@@ -40,25 +40,21 @@ const WORDS: &[(&[&str], u8, &str)] = &[
         3,
         "unavailable\n",
     ),
-    (&["submit", "--help"], 0, "Prints the message"),
+    (&["submit", "--help"], 0, "Prints the HTTP request"),
     (&["submit"], 2, "error: "),
     (&["stdio"], 1, ""),
-    (&["stdio", "--help"], 0, "Answers HTTP/1.1 messages"),
+    (&["stdio", "--help"], 0, "Answers HTTP/1.1 requests"),
     (&["stdio", "no such desk"], 1, "NotADesk\n"),
-    (&["init", "--help"], 0, "Makes a new desk in a file"),
-    (&["init", "desk.db"], 2, "error: "),
     (
-        &["migrate", "--help"],
+        &["init", "--help"],
         0,
-        "Brings a desk's file of version 1",
+        "Creates a desk in a new database file",
     ),
+    (&["init", "desk.db"], 2, "error: "),
+    (&["migrate", "--help"], 0, "Upgrades a desk's database file"),
     (&["migrate"], 2, "error: "),
     (&["migrate", "no such desk"], 1, "NotADesk\n"),
-    (
-        &["serve", "--help"],
-        0,
-        "Answers HTTP/1.1 messages on connections",
-    ),
+    (&["serve", "--help"], 0, "Serves a desk over HTTP/1.1"),
     (&["serve", "no such desk"], 2, "error: "),
     (&["serve", "no such desk", "0"], 2, "error: "),
     (&["serve", "no such desk", "65536"], 2, "error: "),
@@ -87,20 +83,20 @@ const WORDS: &[(&[&str], u8, &str)] = &[
 ];
 
 /// The whole text of help.
-const HELP: &str = "The ACH desk of an originating bank.
+const HELP: &str = "ACH desk of an originating bank.
 
-Without words it reads a submission in JSON from standard input, and answers it.
+Without a command, it reads a submission in JSON from standard input and prints the answer.
 
 Usage: achdesk < SUBMISSION
        achdesk <COMMAND>
 
 Commands:
-  check    Checks an incoming ACH file, and tells how many returns and changes it has
-  submit   Prints the message that hands a list of entries to a desk, or the list's first fault
-  stdio    Answers HTTP/1.1 messages on standard input, by a desk's file, or by a new desk of a sample bank
-  init     Makes a new desk in a file
-  serve    Answers HTTP/1.1 messages on connections to a port of this machine, by a desk's file
-  migrate  Brings a desk's file of version 1 to version 2
+  check    Checks an incoming ACH file and counts its returns and changes
+  submit   Prints the HTTP request that submits a list of entries, or the list's first fault
+  stdio    Answers HTTP/1.1 requests on standard input, from a desk's file or a sample desk in memory
+  init     Creates a desk in a new database file
+  serve    Serves a desk over HTTP/1.1 on a port of 127.0.0.1
+  migrate  Upgrades a desk's database file from version 1 to version 2
   help     Print this message or the help of the given subcommand(s)
 
 Options:
