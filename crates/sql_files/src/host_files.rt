@@ -1,10 +1,11 @@
 //! The host's file system has desks.
-use crate::desk_files::{Closes, DeskFiles};
+use crate::desk_files::{Closes, DeskFiles, Opened};
 use crate::presence::Presence;
 use crate::refusal::Refusal;
 use crate::{found_file, migrated_file, new_file, presence};
 use desk_history::Identity;
 use sqlite::{Connection, FileFrom, FileStore, Start, Unknown, Wary};
+use sqlite_disk::Disk;
 use std::fs::File;
 use std::io;
 use std::marker::PhantomData;
@@ -112,12 +113,13 @@ impl<S: HostStart> DeskFiles for HostFiles<'_, S> {
     }
 }
 
-impl<T: Drop, S: HostStart> Closes<T> for HostFiles<'_, S> {
+// It is for every disk, so that a caller does not compare how each part of the host's files is dropped.
+impl<D: Disk + Drop, S: HostStart> Closes<Opened<D>> for HostFiles<'_, S> {
     ghost use Rattle.std.specs.Prelude.{⊤};
 
     ghost closes = { λ _ _ _. ⊤ };
 
-    fn close(&mut self, value: T) {
-        let _closed = value;
+    fn close(&mut self, opened: Opened<D>) {
+        let _closed = opened;
     }
 }
