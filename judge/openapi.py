@@ -18,7 +18,7 @@ import tempfile
 from pathlib import Path
 
 from helpers import openapi_faults
-from helpers.desk_messages import LARGEST_SESSION, Exchange, compact, differences, keyed, request, response
+from helpers.desk_messages import LARGEST_SESSION, Exchange, compact, differences, is_sanitized, keyed, request, response
 from helpers.openapi_bounds import bounds
 from helpers.openapi_page import Page
 from helpers.page_client import PageClient, examples_of
@@ -320,7 +320,8 @@ def judge_messages(page, program, report):
         count, lines = run_all_shared(page, program, name)
         report.tell(f"shared, {name}: {count} messages", lines)
     count, lines = run_unavailable(page, program)
-    report.tell(f"shared, unavailable: {count} messages", lines)
+    how = ", which AddressSanitizer refuses memory" if is_sanitized(program[0]) else ""
+    report.tell(f"shared, unavailable: {count} messages{how}", lines)
     count, lines = run_connections(page, program)
     report.tell(f"connections: {count} messages", lines)
     if openapi_spec_validator is not None:

@@ -14,7 +14,7 @@ from pathlib import Path
 
 TOP = Path(__file__).resolve().parents[2]
 HOST = "127.0.0.1"
-SECONDS = 30  # so long an answer, or the end of a program, is waited for
+SECONDS = 120  # so long an answer, or the end of a program, is waited for: a busy machine takes ten times as long
 
 OPERATOR_KEY = "operator-key"
 MILL_KEY = "mill-street-key"
