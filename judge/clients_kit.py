@@ -350,7 +350,8 @@ def waits(checks, bank):
         with bank.make_mill(keeps_connection=keeps) as it:
             for _ in range(3):
                 it.exposure()
-        checks.that(f"three calls {'if a connection is kept' if keeps else ''}: {wanted} connections", spoils.connections - before, wanted)
+        what = "on a kept connection" if keeps else "as they are by default"
+        checks.that(f"three calls {what}: connections opened", spoils.connections - before, wanted)
 
 
 def growing(checks):
