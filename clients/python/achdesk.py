@@ -633,7 +633,8 @@ class Settings:
 
     `timeout` bounds each wait for the network, in seconds; a proxy usually gives up after 60.
     `total_seconds` bounds all attempts of one call with their pauses: no attempt begins after it,
-    and the last one waits no longer than what is left of it. With 0 each call is sent once.
+    and the last one waits no longer than what is left of it. With 0 each call is sent once. A
+    restart of a large desk takes minutes.
 
     `keeps_connection` sends one request after another on one connection. Use it through a proxy
     only: the desk itself serves one connection at a time, and others wait until it is closed.
@@ -645,7 +646,7 @@ class Settings:
     """
 
     timeout: float = 70.0
-    total_seconds: float = 120.0
+    total_seconds: float = 600.0
     keeps_connection: bool = False
     tls: Optional[ssl.SSLContext] = None
     allows_plain_http: bool = False

@@ -70,7 +70,7 @@ def built(work, name, source, uses):
 
 def make_desk(program, path):
     """A new desk of the sample bank in a file."""
-    said = run(program, "init", path, *IDENTITY)
+    said = run(program, "init", path, *IDENTITY, seconds=5 * SECONDS)
     if said != (b"created\n", 0):
         sys.exit(f"no desk was made: {said}")
 
