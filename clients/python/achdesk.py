@@ -606,8 +606,8 @@ class _Answer:
     def json(self) -> object:
         """The body as JSON, or None."""
         try:
-            told: object = json.loads(self.body)
-            return told
+            value: object = json.loads(self.body)
+            return value
         except (ValueError, RecursionError):
             return None
 
@@ -653,7 +653,7 @@ class Settings:
     on_retry: Optional[Notice] = None
 
     def __post_init__(self) -> None:
-        """Raises `InputFault`: `bad timeout` or `bad total_seconds`, if it is not such a time."""
+        """Raises `InputFault`: `bad timeout` or `bad total_seconds`."""
         if not 0 < self.timeout <= LONGEST_TIME:
             raise InputFault("bad timeout")
         if not 0 <= self.total_seconds <= LONGEST_TIME:
@@ -823,10 +823,10 @@ def _pause(attempt: int) -> float:
 
 
 def _failure(answer: _Answer, retry_after: str) -> DeskError:
-    told = answer.json()
+    body = answer.json()
     error: DeskError
-    if answer.status >= 400 and isinstance(told, dict) and isinstance(told.get("error"), str):
-        error = Refused(answer.status, told)
+    if answer.status >= 400 and isinstance(body, dict) and isinstance(body.get("error"), str):
+        error = Refused(answer.status, body)
     else:
         error = answer.foreign()
     if re.fullmatch("[0-9]{1,4}", retry_after):
