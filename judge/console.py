@@ -24,7 +24,7 @@ from pathlib import Path
 
 from helpers.browser import Browser, missing
 from helpers.cutting_proxy import CuttingProxy
-from helpers.nginx import Nginx
+from helpers.proxy import SAME_KEYS, Proxy
 from helpers.refusals import CALENDAR_FAULTS, FILE_FAULTS, MESSAGE_FAULTS, PROXY_FAULTS, REFUSALS
 from helpers.returned import file_of_returns
 from helpers.running import HOST, MILL_KEY, OPERATOR_KEY, TOP, Checks, Serving, make_desk, program_of
@@ -105,10 +105,11 @@ class Bank:
             self.browser.click(f"#question-{answer}")
         return self.said("set-day"), asked
 
-    def clock(self, moment):
-        """Makes the browser's clock stand still at a moment of its own time."""
+    def clock(self, moment, is_used=True):
+        """Stops the browser's clock at a moment of its own time. The page is used then, or would lock itself after a leap."""
         self.browser.run("""window.RealDate ??= Date; const at = new RealDate(arguments[0]);
-            Date = class extends RealDate { constructor(...given) { super(...(given.length ? given : [at])); } static now() { return at.getTime(); } }""", moment)
+            Date = class extends RealDate { constructor(...given) { super(...(given.length ? given : [at])); } static now() { return at.getTime(); } };
+            if (arguments[1]) document.dispatchEvent(new Event("keydown"));""", moment, is_used)
 
     def open(self, path="/console/"):
         """Opens the page, and the desk with the operator's key."""
@@ -480,12 +481,12 @@ def without_use(bank):
         if is_asked:
             bank.begin_cut()
         now = int(time.time() * 1000)
-        bank.clock(now)
+        bank.clock(now, is_used=False)
         browser.press("Shift")
-        bank.clock(now + 14 * 60_000)
+        bank.clock(now + 14 * 60_000, is_used=False)
         time.sleep(3)
         checks.that(f"after fourteen minutes {what} it is open", browser.run("return document.getElementById('desk').hidden"), False)
-        bank.clock(now + 16 * 60_000)
+        bank.clock(now + 16 * 60_000, is_used=False)
         browser.wait("return document.getElementById('desk').hidden")
         checks.that(f"after fifteen minutes {what} it is locked", (bank.said("open"), browser.run("return document.getElementById('question').open")), ("The page was locked after fifteen minutes without use.", False))
         text = browser.run("return document.body.innerText + [...document.querySelectorAll('input')].map(it => it.value).join(' ')")
@@ -493,9 +494,9 @@ def without_use(bank):
         checks.that("and made no file", len(bank.told("/ops/status")["files"]), cuts)
     bank.open()
     now = int(time.time() * 1000)
-    bank.clock(now + 14 * 60_000)
+    bank.clock(now + 14 * 60_000, is_used=False)
     browser.press("Shift")
-    bank.clock(now + 16 * 60_000)
+    bank.clock(now + 16 * 60_000, is_used=False)
     time.sleep(3)
     checks.that("a key that was pressed two minutes before keeps it open", browser.run("return document.getElementById('desk').hidden"), False)
 
@@ -600,7 +601,9 @@ def main():
         make_desk(program, path)
         shutil.copytree(TOP / "console", folder / "share" / "console")
         with Serving(program, path, 100_000).listen() as serving, CuttingProxy(serving.port) as spoils:
-            with Nginx(folder, spoils.port, tls=False, share=folder / "share") as proxy, Browser(folder) as browser:
+            folder.chmod(0o711)  # nginx's workers are another user
+            every = [("achdesk_log if=$achdesk_is_logged", "combined")]
+            with Proxy(folder / "proxy", spoils.port, *SAME_KEYS, console=folder / "share", tls=False, changes=every) as proxy, Browser(folder) as browser:
                 bank = Bank(checks, browser, proxy, spoils, folder)
                 browser.size(1280, 900)
                 for step in (opening, before_any_day, first_day, next_days):
