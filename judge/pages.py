@@ -38,6 +38,9 @@ NOT_RUN = (
     ("sudo nginx -t", "it needs nginx as root", "judge/deploy.py runs nginx with deploy/nginx.conf"),
     ("sudo chown achdesk", "it needs the user achdesk", "judge/deploy.py, in a root where the package is installed"),
     ("sudo systemctl stop achdesk-day-cut.timer", "it needs systemd", "judge/deploy.py verifies the timers"),
+    ("sudo install -d -o achdesk", "it needs the user achdesk", "judge/backups.py, with a standby of its own"),
+    ("sudo usermod", "it needs the user achdesk", "judge/backups.py, with a standby of its own"),
+    ("cp -a /var/lib/achdesk-standby", "it needs a standby", "judge/backups.py, which runs it"),
     ("rm -f /etc/nginx", "it needs nginx as root", "judge/deploy.py runs nginx with deploy/nginx.conf"),
     ("read -rs key", "it reads from a terminal", "the room of this script has the file that it writes"),
 )
