@@ -65,6 +65,7 @@ SELECT e.company, e.ord AS number, s.ref, e.idx AS entry, s.direction, e.routing
        CASE WHEN s.lapsed = 1 THEN 'lapsed' WHEN s.settled IS NULL THEN 'held'
             WHEN r.no IS NULL THEN 'sent' ELSE 'returned' END AS state,
        date(s.settled * 86400, 'unixepoch') AS settled,
+       date(s.file_day * 86400, 'unixepoch') AS cut_on, s.modifier AS file,
        e.seq AS place, substr(d.odfi, 1, 8) || substr('000000' || n.sequence, -7) AS trace,
        r.code, date(r.day * 86400, 'unixepoch') AS returned, CASE r.late WHEN 1 THEN 'late' WHEN 0 THEN 'in time' END AS late
 FROM desk d

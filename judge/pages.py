@@ -6,10 +6,11 @@ has to be what the page shows, if the page shows any; a line `..` stands for any
 script and has to succeed; variables that it exports stay. So does each `python` block, and each `sql` block, which stock
 SQLite runs with the views of docs/audit.sql. A page is read from the top, in a folder of its own; a second word after
 `console` or `sh` names another folder, so that a page can show two ways of doing the same. Paths under /etc, /var,
-/usr/share and /tmp lie in that folder, `sudo` and `runuser` are dropped, `systemctl` starts and stops the desk, and the
-desk's address is that of the desk that is served there. Nothing else is replaced. NOT_RUN lists the commands that are not
-run, each with the reason and the test that covers it; a command of the list that no page has fails. The last line counts
-the checks; the exit status is 1 if one failed. It needs curl, ss, openssl, sqlite3 and OpenSSH's sftp with its server.
+/usr/share and /tmp lie in that folder, `sudo` and `runuser` are dropped, `systemctl` starts and stops the desk, `kill %1`
+stops it, a key that a command reads is given to it, and the desk's address is that of the desk that is served there.
+Nothing else is replaced. NOT_RUN lists the commands that are not run, each with the reason and the test that covers it; a
+command of the list that no page has fails. The last line counts the checks; the exit status is 1 if one failed. It needs
+bash, curl, ss, openssl, sqlite3 and OpenSSH's sftp with its server.
 """
 
 import os
@@ -23,7 +24,7 @@ from pathlib import Path
 
 from helpers.first_version import write_version_1
 from helpers.page_rooms import PREPARED, prepare
-from helpers.running import TOP, Checks, Serving, free_port, program_of
+from helpers.running import MILL_KEY, OPERATOR_KEY, TOP, Checks, Serving, free_port, program_of
 
 PAGES = ("README.md", *sorted(str(it.relative_to(TOP)) for folder in ("operate", "integrate", "audit")
                               for it in (TOP / "docs" / folder).glob("*.md")))
@@ -37,10 +38,10 @@ NOT_RUN = (
     ("sudo install -m 600 new-key.pem", "it needs a certificate", "judge/deploy.py, with a certificate of its own"),
     ("sudo nginx -t", "it needs nginx as root", "judge/deploy.py runs nginx with deploy/nginx.conf"),
     ("rm -f /etc/nginx", "it needs nginx as root", "judge/deploy.py runs nginx with deploy/nginx.conf"),
-    ("read -rs key", "it reads from a terminal", "the room of this script has the file that it writes"),
 )
 MOVED = re.compile(r"(?<![\w./])/(etc|var|tmp|usr/share)/")
 WAIT = 0.1
+SECONDS = 120
 
 
 @dataclass
@@ -111,18 +112,22 @@ class Room:
         words = command.removeprefix("sudo ").split() if "\n" not in command else []
         if words[:1] == ["systemctl"] and "achdesk" in words:
             return self.stop() if words[1] == "stop" else self.serve(self.database, self.port)
+        if words == ["kill", "%1"]:
+            return self.stop()
         if len(words) > 2 and words[0].endswith("achdesk") and words[1] == "serve":
             return self.serve(self.folder / words[2], int(words[3]))
-        self.put_operator_key()
         if words[:2] == ["achdesk", "migrate"]:
             self.put_version_1(self.folder / self.moved(words[2]))
         return self.shell(command)
 
-    def put_operator_key(self):
-        """Writes the header file that a person would write with a key that a page has just made."""
-        header, made = self.folder / "operator.key", self.folder / "etc/achdesk/keys/desk.map"
-        if not header.exists() and made.exists() and (found := re.search(r'"~\^operator\$" "(\w+)"', made.read_text())):
-            header.write_text(f"X-Desk-Key: {found[1]}\n")
+    def typed(self, command):
+        """Returns the key that a person types for a command that reads one: the desk's own, since no proxy is here."""
+        if "read -rs key" not in command:
+            return ""
+        made = self.folder / "etc/achdesk/keys/desk.map"
+        found = re.search(r'"~\^operator\$" "(\w+)"', made.read_text()) if made.exists() else None
+        operator_key = found[1] if found else OPERATOR_KEY
+        return f"{operator_key if 'operator.key' in command else MILL_KEY}\n"
 
     def put_version_1(self, path):
         """Replaces a desk's file by one of version 1 with the same rows."""
@@ -142,8 +147,8 @@ class Room:
                 "PYTHONPATH": str(TOP / "clients/python")}
         words = "\n".join([*self.exports, self.moved(command)])
         self.exports += [line for line in self.moved(command).split("\n") if line.startswith("export ")]
-        done = subprocess.run(["sh", "-ec", words], cwd=self.folder, env=path, stdin=subprocess.DEVNULL,
-                              stdout=subprocess.PIPE, stderr=subprocess.STDOUT, timeout=120)
+        done = subprocess.run(["bash", "-ec", words], cwd=self.folder, env=path, input=self.typed(command).encode(),
+                              stdout=subprocess.PIPE, stderr=subprocess.STDOUT, timeout=SECONDS)
         said = done.stdout.decode(errors="replace").replace(self.address, "https://desk.bank.example")
         return said.replace(f"{self.folder}/", "/"), done.returncode
 
