@@ -37,6 +37,11 @@ NOT_RUN = (
     ("sudo install -m 600 new-cert.pem", "it needs a certificate", "judge/deploy.py, with a certificate of its own"),
     ("sudo install -m 600 new-key.pem", "it needs a certificate", "judge/deploy.py, with a certificate of its own"),
     ("sudo nginx -t", "it needs nginx as root", "judge/deploy.py runs nginx with deploy/nginx.conf"),
+    ("sudo chown achdesk", "it needs the user achdesk", "judge/deploy.py, in a root where the package is installed"),
+    ("sudo systemctl stop achdesk-day-cut.timer", "it needs systemd", "judge/deploy.py verifies the timers"),
+    ("sudo install -d -o achdesk", "it needs the user achdesk", "judge/backups.py, with a standby of its own"),
+    ("sudo usermod", "it needs the user achdesk", "judge/backups.py, with a standby of its own"),
+    ("cp -a /var/lib/achdesk-standby", "it needs a standby", "judge/backups.py, which runs it"),
     ("rm -f /etc/nginx", "it needs nginx as root", "judge/deploy.py runs nginx with deploy/nginx.conf"),
 )
 MOVED = re.compile(r"(?<![\w./])/(etc|var|tmp|usr/share)/")
@@ -93,8 +98,9 @@ class Room:
     def __init__(self, folder, program):
         self.folder, self.program, self.served, self.port = Path(folder), program, None, free_port()
         self.exports = []
-        for name in ("bin", "var/lib/achdesk", "var/lib/achdesk-day", "var/backups", "tmp", "etc/achdesk/keys", "usr/share"):
+        for name in ("bin", "var/lib/achdesk", "var/lib/achdesk-day/backups", "tmp", "etc/achdesk/keys", "usr/share/achdesk"):
             (self.folder / name).mkdir(parents=True)
+        (self.folder / "usr/share/achdesk/audit.sql").symlink_to(TOP / "docs/audit.sql")
         for name in ("examples", "docs", "judge", "clients", "deploy", "console"):
             (self.folder / name).symlink_to(TOP / name)
         for place in ("achdesk", "bin/achdesk"):
@@ -138,7 +144,7 @@ class Room:
         write_version_1(old, path)
 
     def moved(self, command):
-        command = re.sub(r"\b(sudo|runuser -u achdesk --) ", "", command)
+        command = re.sub(r"\b(sudo -u achdesk|sudo|runuser -u achdesk --) ", "", command)
         command = command.replace("https://desk.bank.example", self.address).replace("http://127.0.0.1:880/", f"{self.address}/")
         return MOVED.sub(lambda it: f"{self.folder}/{it[1]}/", command)
 
