@@ -15,13 +15,15 @@ LIBC = $(shell dpkg-query --show --showformat='$${Version}' libc6 | cut -d- -f1)
 BIN = $(DESTDIR)/usr/bin
 UNITS = $(DESTDIR)/usr/lib/systemd/system
 SHARE = $(DESTDIR)/usr/share
+# Where the system's python3 looks for modules: this is Debian's folder.
+PYTHON = $(DESTDIR)/usr/lib/python3/dist-packages
 ETC = $(DESTDIR)/etc
 
 units = $(wildcard deploy/*.service deploy/*.timer)
-commands = achdesk achdesk-day
+commands = achdesk achdesk-day achdesk-company
 lists = people companies desk
 configurations = achdesk.env day.conf operators.conf
-installed = $(commands:%=$(BIN)/%) $(commands:%=$(SHARE)/man/man1/%.1.gz) $(units:deploy/%=$(UNITS)/%) \
+installed = $(commands:%=$(BIN)/%) $(commands:%=$(SHARE)/man/man1/%.1.gz) $(PYTHON)/achdesk.py $(units:deploy/%=$(UNITS)/%) \
     $(DESTDIR)/usr/lib/sysusers.d/achdesk.conf $(DESTDIR)/usr/lib/tmpfiles.d/achdesk.conf
 
 .PHONY: install uninstall deb program
@@ -30,20 +32,22 @@ program:
 	@test -x '$(PROGRAM)' || { echo 'make: there is no $(PROGRAM): ./achdesk --version proves and builds it' >&2; exit 1; }
 
 install: program
-	install -d $(BIN) $(UNITS) $(SHARE)/achdesk/console $(SHARE)/achdesk/keys $(SHARE)/man/man1 $(SHARE)/doc/achdesk
+	install -d $(BIN) $(PYTHON) $(UNITS) $(SHARE)/achdesk/console $(SHARE)/achdesk/keys $(SHARE)/man/man1 $(SHARE)/doc/achdesk
 	install -d $(ETC)/achdesk $(ETC)/logrotate.d $(ETC)/nginx/sites-available
 	install -d -m 700 $(ETC)/achdesk/keys $(ETC)/achdesk/tls
 	install -m 755 '$(PROGRAM)' $(BIN)/achdesk
-	install -m 755 deploy/achdesk-day $(BIN)/achdesk-day
+	install -m 755 deploy/achdesk-day clients/achdesk-company $(BIN)
+	install -m 644 clients/python/achdesk.py $(PYTHON)
 	for name in $(commands); do \
-	    python3 deploy/manual.py $$name $(BIN)/$$name > $(SHARE)/man/man1/$$name.1 && gzip -9nf $(SHARE)/man/man1/$$name.1 || exit 1; done
+	    PYTHONDONTWRITEBYTECODE=1 PYTHONPATH=$(PYTHON) python3 deploy/manual.py $$name $(BIN)/$$name > $(SHARE)/man/man1/$$name.1 && gzip -9nf $(SHARE)/man/man1/$$name.1 || exit 1; done
 	install -m 644 $(units) $(UNITS)
 	install -D -m 644 deploy/sysusers.conf $(DESTDIR)/usr/lib/sysusers.d/achdesk.conf
 	install -D -m 644 deploy/tmpfiles.conf $(DESTDIR)/usr/lib/tmpfiles.d/achdesk.conf
 	install -m 644 console/* $(SHARE)/achdesk/console
 	install -m 644 $(lists:%=deploy/keys/%.map) $(SHARE)/achdesk/keys
-	install -m 644 deploy/nftables.conf $(SHARE)/achdesk
-	install -m 644 deploy/README.md CHANGELOG.md docs/*.md docs/*.sql docs/*.yaml docs/*.png $(SHARE)/doc/achdesk
+	install -m 644 deploy/nftables.conf docs/audit.sql $(SHARE)/achdesk
+	install -m 644 deploy/README.md CHANGELOG.md docs/*.md docs/*.yaml docs/*.png $(SHARE)/doc/achdesk
+	ln -sf ../../achdesk/audit.sql $(SHARE)/doc/achdesk/audit.sql
 	for folder in operate integrate audit; do install -D -m 644 -t $(SHARE)/doc/achdesk/$$folder docs/$$folder/*.md || exit 1; done
 	for name in $(configurations); do test -e $(ETC)/achdesk/$$name || install -m 644 deploy/$$name $(ETC)/achdesk || exit 1; done
 	for name in $(lists); do test -e $(ETC)/achdesk/keys/$$name.map || install -m 600 deploy/keys/$$name.map $(ETC)/achdesk/keys || exit 1; done
@@ -51,7 +55,7 @@ install: program
 	test -e $(ETC)/nginx/sites-available/achdesk || install -m 644 deploy/nginx.conf $(ETC)/nginx/sites-available/achdesk
 
 uninstall:
-	rm -f $(installed)
+	rm -f $(installed) $(PYTHON)/__pycache__/achdesk.*.pyc
 	rm -rf $(SHARE)/achdesk $(SHARE)/doc/achdesk
 
 deb: program

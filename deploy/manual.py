@@ -5,6 +5,7 @@ The page is made of what `PROGRAM --help` and `PROGRAM COMMAND --help` print, of
 first header is `Status`) and of the paths in deploy/README.md (the table whose first header is `Path`). The status is 1 if
 the program prints no help or a table is missing."""
 
+import os
 import re
 import subprocess
 import sys
@@ -30,7 +31,8 @@ def from_markdown(text):
 
 def help_of(program, *words):
     """What the program prints when it is asked for help."""
-    done = subprocess.run([program, *words, "--help"], stdout=subprocess.PIPE, text=True, timeout=60, env={"PATH": "/usr/bin:/bin", "COLUMNS": "100"})
+    known = {"PATH": "/usr/bin:/bin", "COLUMNS": "100", "PYTHONDONTWRITEBYTECODE": "1", "PYTHONPATH": os.environ.get("PYTHONPATH", "")}
+    done = subprocess.run([program, *words, "--help"], stdout=subprocess.PIPE, text=True, timeout=60, env=known)
     if done.returncode or not done.stdout.strip():
         sys.exit(f"{program} {' '.join(words)} --help: status {done.returncode}, {len(done.stdout)} characters")
     return done.stdout
@@ -64,9 +66,9 @@ def commands_in(text):
 
 
 def items(lines):
-    """The lines of a list as pairs of what is explained and its explanation; argparse's `{a,b}` is left out."""
+    """The lines of a list as pairs of what is explained and its explanation; argparse's `{a,b}` or `COMMAND` is left out."""
     found, margin = [], None
-    for line in (it for it in lines if it.strip() and not it.lstrip().startswith("{")):
+    for line in (it for it in lines if it.strip() and it.strip() != "COMMAND" and not it.lstrip().startswith("{")):
         indent = len(line) - len(line.lstrip())
         margin = indent if margin is None else margin
         item = ITEM.fullmatch(line) if indent <= margin + 4 else None
@@ -81,12 +83,15 @@ def write_block(out, title, lines, level, known=()):
     """Writes a block, of a list the items that are not known from another block."""
     if title == "Usage":
         out += [".PP" if level == ".SS" else ".SH SYNOPSIS", ".nf", *(plain(it.strip()) for it in lines if it.strip()), ".fi"]
+    elif title.startswith("Example"):
+        out += [f'{level} "{title.upper()}"', ".nf", *(plain(it.strip()) for it in lines if it.strip()), ".fi"]
     elif title:
-        new = [it for it in items(lines) if it not in known]
+        names = [name for name, _ in known] if title == "Settings" else []
+        new = [it for it in items(lines) if it not in known and it[0] not in names]
         if new:
             out.append(f'{level} "{title.upper()}"' if level == ".SH" else f".PP\n.I {plain(title)}")
         for name, meaning in new:
-            out += [".TP", f".B {plain(name)}", plain(meaning)]
+            out += [".TP", f".B {plain(name)}", plain(" ".join(meaning.split()))]
     else:
         for paragraph in re.split(r"\n\s*\n", "\n".join(lines).strip("\n")):
             if all(it.startswith("  ") for it in paragraph.split("\n")):
@@ -141,11 +146,12 @@ def page_of(name, program):
         out.append('.SH "EXIT STATUS"')
         for status, printed, meaning in table(PAGES, "Status"):
             out += [".TP", f".B {status} {printed}".rstrip(), meaning]
-    out.append(".SH FILES")
-    for path, meaning in table([TOP / "deploy" / "README.md"], "Path"):
-        out += [".TP", path, meaning]
-    other = "achdesk-day" if name == "achdesk" else "achdesk"
-    out += ['.SH "SEE ALSO"', f".BR {plain(other)} (1),", ".BR nginx (8),", ".BR systemctl (1),", "/usr/share/doc/achdesk"]
+    if name != "achdesk-company":
+        out.append(".SH FILES")
+        for path, meaning in table([TOP / "deploy" / "README.md"], "Path"):
+            out += [".TP", path, meaning]
+    others = [it for it in ("achdesk", "achdesk-company", "achdesk-day") if it != name]
+    out += ['.SH "SEE ALSO"', *(f".BR {plain(it)} (1)," for it in others), ".BR nginx (8),", ".BR systemctl (1),", "/usr/share/doc/achdesk"]
     return "\n".join(out) + "\n"
 
 

@@ -5,12 +5,14 @@ PROGRAM is ./achdesk if it is left out. EVERY is 1 if it is left out: with 5 onl
 
 - While clients submit and the log is moved into the file again and again, backups are made one after another. Every one
   has to open, and to have each submission that was answered before it began, by the rows that stock SQLite finds in it.
+- A checkpoint, and a log that begins again, between the copy of the file and that of the log.
 - A backup is killed at each of its steps, under load. What has a backup's name then has to be one.
 - On a full volume no backup is made, and the one before it stays.
 - A backup with a changed byte, or without its log, is not restored. A restore is killed at each of its steps: the
   target has the old desk, the restored one, or none that starts, and the old files are never lost.
 - The rule by which backups expire, on days that are worked out by hand.
-- A standby is given the backups by rsync over SSH, and takes over in another folder.
+- A standby is given the backups by rsync over SSH, which is killed at each step, and takes over in another folder by the
+  commands of docs/operate/backup.md.
 
 The status is 1 if a check failed, and 2 if Debian packages are missing, which are named; that is not a pass.
 """
@@ -20,6 +22,7 @@ import importlib.machinery
 import importlib.util
 import json
 import os
+import re
 import shutil
 import signal
 import sqlite3
@@ -31,7 +34,7 @@ import time
 from pathlib import Path
 
 from helpers.bank import DAY, DESK_KEYS, OPERATOR_KEY, Bank, bytes_of, end_if_missing
-from helpers.running import HOST, Checks, program_of
+from helpers.running import HOST, TOP, Checks, program_of
 
 SECONDS = 60  # of load with backups
 CLIENTS = 3
@@ -48,22 +51,12 @@ class Clients:
             it.start()
 
     def work(self, client):
-        entries = [{"routing": "091000019", "account": "123456789", "kind": "checking", "cents": 100 + at, "id": f"E{at}", "name": "ANN LEE"}
-                   for at in range(LARGE)]
         number = 0
         while self.is_on:
             number += 1
-            ref = f"C{client}-{number}"
-            body = json.dumps({"ref": ref, "sec": "PPD", "direction": "credit", "description": "PAYROLL", "day": "2025-01-15", "entries": entries})
-            try:
-                link = http.client.HTTPConnection(HOST, self.bank.desk.port, timeout=60)
-                link.request("POST", "/c/MILL01/submissions", body, {"X-Desk-Key": DESK_KEYS["MILL01"], "Connection": "close"})
-                if link.getresponse().status == 201:
-                    with self.lock:
-                        self.answered.append((time.time(), ref))
-                link.close()
-            except (OSError, http.client.HTTPException):
-                pass
+            if submit(self.bank, f"C{client}-{number}"):
+                with self.lock:
+                    self.answered.append((time.time(), f"C{client}-{number}"))
 
     def before(self, moment):
         with self.lock:
@@ -73,6 +66,21 @@ class Clients:
         self.is_on = False
         for it in self.threads:
             it.join()
+
+
+def submit(bank, ref):
+    """Whether a submission was accepted."""
+    entries = [{"routing": "091000019", "account": "123456789", "kind": "checking", "cents": 100 + at, "id": f"E{at}", "name": "ANN LEE"}
+               for at in range(LARGE)]
+    body = json.dumps({"ref": ref, "sec": "PPD", "direction": "credit", "description": "PAYROLL", "day": "2025-01-15", "entries": entries})
+    link = http.client.HTTPConnection(HOST, bank.desk.port, timeout=60)
+    try:
+        link.request("POST", "/c/MILL01/submissions", body, {"X-Desk-Key": DESK_KEYS["MILL01"], "Connection": "close"})
+        return link.getresponse().status == 201
+    except (OSError, http.client.HTTPException):
+        return False
+    finally:
+        link.close()
 
 
 def refs_in(folder):
@@ -145,6 +153,42 @@ def under_load(bank, checks, every):
     checks.that("and there were steps", step > 5)
     checks.that("nothing is left of the killed ones", [path.name for path in bank.backups.glob(".*")], [])
     bank.write_config()
+
+
+# ---- a checkpoint between the two copies ----
+
+def day_module():
+    """The module of achdesk-day."""
+    sys.dont_write_bytecode = True
+    if "achdesk_day" not in sys.modules:
+        loader = importlib.machinery.SourceFileLoader("achdesk_day", str(DAY))
+        sys.modules["achdesk_day"] = importlib.util.module_from_spec(importlib.util.spec_from_loader("achdesk_day", loader))
+        loader.exec_module(sys.modules["achdesk_day"])
+    return sys.modules["achdesk_day"]
+
+
+def checkpoints(bank, checks):
+    """Copies a pair while submissions are accepted between the copy of the file and that of the log: until the log is moved
+    into the file, and until the log begins again, after which the pair has to be copied again."""
+    module, log = day_module(), bank.desk_file.with_name("bank.db-wal")
+    undisturbed = module.step
+    for what, seen, copies in (("a checkpoint", lambda: bank.desk_file.stat().st_mtime_ns, 1), ("a log that begins again", lambda: log.read_bytes()[:32], 2)):
+        answered, calls, folder = [f"{len(what)}-{at}" for at in range(3)], [], Path(tempfile.mkdtemp(dir=bank.folder))
+        checks.that(f"{what}: submissions before the backup", all(submit(bank, ref) for ref in answered))
+
+        def after_a_copy(what=what, seen=seen, calls=calls):
+            calls.append(what)
+            before, number = seen(), 0
+            while len(calls) == 1 and seen() == before and number < 5_000:
+                number += 1
+                submit(bank, f"{len(what)}-between-{number}")
+
+        module.step = after_a_copy
+        made = module.copy_pair(bank.desk_file, folder)
+        module.step = undisturbed
+        checks.that(f"{what} between the two copies: the pair is copied so often", made["copies"], copies)
+        checks.that(f"{what}: the pair opens", opens(bank.program, folder / "bank.db")[:1], b"{")
+        checks.that(f"{what}: it has what was answered before", sorted(set(answered) - refs_in(folder)), [])
 
 
 # ---- a full volume ----
@@ -234,11 +278,7 @@ def restores(bank, checks, every):
 # ---- the rule ----
 
 def rule(checks):
-    loader = importlib.machinery.SourceFileLoader("achdesk_day", str(DAY))
-    sys.dont_write_bytecode = True
-    module = importlib.util.module_from_spec(importlib.util.spec_from_loader("achdesk_day", loader))
-    sys.modules["achdesk_day"] = module
-    loader.exec_module(module)
+    module = day_module()
     # 2025-01-13 is a Monday. Two backups on each of these days, at 06:00 and 18:00.
     days = ["2024-10-31", "2024-11-30", "2024-12-29", "2024-12-30", "2025-01-05", "2025-01-06", "2025-01-10", "2025-01-13", "2025-01-14"]
     names = [f"{day}T{hour}0000Z" for day in days for hour in ("06", "18")]
@@ -256,21 +296,40 @@ def rule(checks):
 
 # ---- the standby ----
 
+def commands_of_page(heading, **places):
+    """The sh block of docs/operate/backup.md below a heading, with other paths."""
+    part = (TOP / "docs/operate/backup.md").read_text().partition(f"\n{heading}\n")[2]
+    text = re.search(r"```sh\n(.*?)```", part, re.S)[1]
+    for old, new in places.items():
+        text = text.replace(f"/var/lib/{old.replace('_', '-')}", str(new))
+    return text
+
+
 def takeover(bank, checks):
     """The bank cuts and transmits; a backup before the cut is all that the standby has. It must not pay twice."""
     shutil.rmtree(bank.backups)
     bank.now = "2025-01-14T09:00:00-05:00"
     bank.day("backup")
     cut, sent = bank.day("cut"), bank.day("send")
+    checks.that("the bank cuts and transmits", (cut[0], sent[0]), (0, 0))
+    standby, config, step, failed = bank.folder / "operator" / "standby", bank.folder / "standby.conf", 1, []
+    while bank.day("copy", ACHDESK_DAY_KILL_AT=step)[0] == -9:
+        there = day_module().finished_backups(standby / "backups")
+        failed += [(step, name) for name in there if not opens(bank.program, standby / "backups" / name / "bank.db").startswith(b"{")]
+        step += 1
+    checks.that(f"a copy is killed at its steps, up to step {step - 1}: each backup with a manifest opens on the standby", failed, [])
+    checks.that("and there were steps", step > 4)
     copied = bank.day("copy")
-    checks.that("the bank cuts, transmits, and copies to the standby", (cut[0], sent[0], copied[0]), (0, 0, 0))
+    checks.that("the bank copies to the standby", copied[0], 0)
+    checks.that("its backup is there", [it.name for it in finished(bank)], day_module().finished_backups(standby / "backups"))
     bank.desk.stop()
-    standby, config = bank.folder / "operator" / "standby", bank.folder / "standby.conf"
     subprocess.run(["chown", "-R", str(os.geteuid()), standby], check=True)
-    desk_file = bank.folder / "second" / "bank.db"
+    desk_file, state = bank.folder / "second" / "bank.db", bank.folder / "second-day"
     desk_file.parent.mkdir()
-    bank.write_config(config, folders={"state": standby / "state", "backups": standby / "backups", "inbox": bank.state / "inbox"},
-                      files={"desk": desk_file, "proxy_logs": f"{standby}/proxy-logs/*"})
+    state.mkdir(mode=0o700)
+    text = commands_of_page("To take over:", achdesk_standby=standby, achdesk_day=state)
+    checks.that("the page's command takes the copies over", subprocess.run(["sh", "-ec", text]).returncode, 0)
+    bank.write_config(config, folders={"state": state, "backups": state / "backups"}, files={"desk": desk_file, "proxy_logs": f"{standby}/proxy-logs/*"})
     status, printed, errors = bank.day("restore", "newest", config=config)
     checks.that("the standby restores the newest backup", (status, "cut 2025-01-14" in printed, "sent 2025-01-14-A" in printed), (0, True, True))
     bank.desk.path = desk_file
@@ -297,6 +356,7 @@ def main():
             bank.day("open")
             bank.curl("day", "/ops/companies", {"id": "MILL01", "name": "MILL STREET", "key": DESK_KEYS["MILL01"], "entry_limit": 9999999999,
                                                 "credit_limit": 999999999999999, "debit_limit": 0})
+            checkpoints(bank, checks)
             under_load(bank, checks, every)
             full_volume(bank, checks)
             restores(bank, checks, every)

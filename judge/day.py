@@ -6,9 +6,10 @@ which is quicker with a program that was built without proofs and takes seconds 
 OpenSSH server for SFTP that is not root, and two companies that use curl. The week has returns and changes, refused
 files, a company's and the bank's key rotated on Thursday, a holiday, and a restore of the desk on Friday. On Wednesday
 each command is killed at each of its steps, and so is the desk, from the same state each time; the command is run again
-as a person would, and everything has to be as if nothing had been killed. At the end the archive has each file once,
-byte for byte as the desk has it, the ACH operator has each once, and the reports have the figures that are worked out by
-hand below.
+as a person would, and everything has to be as if nothing had been killed. On the Tuesday after it files are transmitted by
+hand, one of them without a wrong payroll, and one is withheld; these commands are killed as well. At the end the archive
+has each transmitted file once, byte for byte as the desk has it, the ACH operator has each once, and the reports have the
+figures that are worked out by hand below.
 
 The status is 1 if a check failed, and 2 if Debian packages are missing, which are named; that is not a pass.
 """
@@ -17,6 +18,7 @@ import csv
 import io
 import json
 import re
+import resource
 import shutil
 import signal
 import subprocess
@@ -30,13 +32,14 @@ from helpers.bank import DESK_KEYS, Bank, bytes_of, digest, end_if_missing
 from helpers.returned import file_of_returns
 from helpers.running import Checks, program_of
 
-MON, TUE, WED, THU, FRI, HOLIDAY, NEXT = (f"2025-01-{day}" for day in (13, 14, 15, 16, 17, 20, 21))
+MON, TUE, WED, THU, FRI, HOLIDAY, NEXT, AFTER = (f"2025-01-{day}" for day in (13, 14, 15, 16, 17, 20, 21, 22))
 DFI = "09100001"
 
 # What is worked out by hand, for each day: its files (batches, records, debits, credits), returns and changes by code
 # (count, debits, credits), late returns, items in suspense, the settlement by value day, and the balance of the day.
 # Traces are numbered in the order of cuts, and in a cut by company and order: Monday BAKE01 1, MILL01 PAY-1 2 to 4,
-# DUES-1 5 to 7, then DUES-2 8; Tuesday 9 and 10; Wednesday 11 and 12; Thursday 13; Friday 14.
+# DUES-1 5 to 7, then DUES-2 8; Tuesday 9 and 10; Wednesday 11 and 12; Thursday 13; Friday 14; on the Tuesday after it
+# BAKE01 15, MILL01 PAY-3 16 and 17, PAY-4 18, then BAKE01 19, then MILL01 20. PAY-4 and PAY-5, 18 and 20, are wrong.
 FIGURES = {
     MON: dict(files={"A": (3, 7, 2500 + 4900 + 3100, 99999 + 150000 + 120000 + 80050), "B": (1, 1, 7700, 0)}, codes={}, late=0, suspense=[],
               settlement={TUE: 99999 - 10500 - 7700, WED: 350050}, balance=0),
@@ -47,8 +50,11 @@ FIGURES = {
     THU: dict(files={"A": (1, 1, 2500, 0)}, codes={}, late=0, suspense=[], settlement={THU: 33300, FRI: 200000 - 2500}, balance=394849 + 33300),
     FRI: dict(files={"A": (1, 1, 5000, 0)}, codes={"R01": (1, 4900, 0), "R10": (1, 3100, 0)}, late=1, suspense=[],
               settlement={FRI: 197500 + 4900 + 3100, NEXT: -5000}, balance=428149 + 205500),
-    NEXT: dict(files={}, codes={}, late=0, suspense=[], settlement={NEXT: -5000}, balance=633649 - 5000),
+    NEXT: dict(files={"A": (3, 4, 0, 5000 + 100000 + 10000), "B": (1, 1, 0, 7000), "C": (1, 1, 0, 900)}, codes={"R06": (2, 0, 10900)}, late=0, suspense=[],
+               settlement={NEXT: -5000 - 10900, AFTER: 115000 + 7000 + 900}, balance=633649 - 5000 - 10900),
 }
+CORRECTED = (2, 3, 0, 105000)  # what was transmitted in place of the file A of NEXT
+WITHHELD = f"{NEXT}-C"
 
 
 # ---- submissions, returns and changes ----
@@ -79,6 +85,21 @@ def with_change(text, number, item):
     return "".join(f"{it}\n" for it in whole + ["9" * 94] * (-len(whole) % 10))
 
 
+def without_batch(text, number):
+    """A file without one of its batches, as another tool writes it: with a new control record and new fillers."""
+    header, *body, control = [it for it in text.splitlines() if it != "9" * 94]
+    kept, batch = [], []
+    for record in body:
+        batch.append(record)
+        if record[0] == "8":
+            kept, batch = kept + (batch if int(record[87:94]) != number else []), []
+    counted = [it for it in kept if it[0] == "8"]
+    sums = [sum(int(it[at:end]) for it in counted) for at, end in ((4, 10), (10, 20), (20, 32), (32, 44))]
+    control = f"9{len(counted):06}{-(-(len(kept) + 2) // 10):06}{sums[0]:08}{sums[1] % 10 ** 10:010}{sums[2]:012}{sums[3]:012}{' ' * 39}"
+    whole = [header, *kept, control]
+    return "".join(f"{it}\n" for it in whole + ["9" * 94] * (-len(whole) % 10))
+
+
 class Operator:
     """The ACH operator: takes each file out of the SFTP folder as soon as it has its name, if it is quick."""
 
@@ -86,6 +107,10 @@ class Operator:
         self.inbox, self.taken, self.is_quick, self.lock = bank.sftp.inbox, bank.folder / "operator" / "taken", False, threading.Lock()
         self.taken.mkdir()
         threading.Thread(target=self.work, daemon=True).start()
+
+    def by_portal(self, name, text):
+        """Takes a file that the bank uploads by hand."""
+        (self.taken / f"{len(list(self.taken.iterdir())):04}-{name}.ach").write_text(text)
 
     def work(self):
         while True:
@@ -142,7 +167,7 @@ class Week:
         ask = lambda path: self.bank.curl("day", path)
         status = ask("/ops/status")
         folders = {name: {str(path.relative_to(self.bank.state)): digest(path.read_bytes()) for path in sorted((self.bank.state / name).rglob("*"))
-                          if path.is_file()} for name in ("outgoing", "sending", "incoming", "quarantine", "inbox")}
+                          if path.is_file()} for name in ("outgoing", "sending", "withheld", "by_hand", "incoming", "quarantine", "inbox")}
         files = {it: digest(ask(f"/ops/files/{status['day']}/{it}").encode()) for it in status["files"]}
         return {"status": status, "settlement": ask("/ops/settlement"), "suspense": ask("/ops/suspense"), "files": files, **folders,
                 "received": {name: [digest(it) for it in texts] for name, texts in self.operator.received().items()},
@@ -206,6 +231,22 @@ class Week:
         self.checks.that(f"{self.bank.now[:10]} {victim} is killed at the steps of {' '.join(words)}, up to step {steps - 1}", failed, [])
         self.checks.that("and there were steps", steps > 1)
         return undisturbed_errors
+
+    def sent_after_a_kill(self, name, *words):
+        """Kills `mark` at each step, after which the timer's `send` runs: once the mark is recorded nothing is uploaded."""
+        step, failed = 1, []
+        while True:
+            self.bring_back("before")
+            if self.bank.day(*words, ACHDESK_DAY_KILL_AT=step)[0] != -9:
+                break
+            is_marked = f'"did": "marking", "file": "{name}"' in (self.bank.state / "day.journal").read_text()
+            status = self.bank.day("send")[0]
+            if (status, (self.bank.sftp.inbox / f"{name}.ach").exists()) != (0, not is_marked):
+                failed.append((step, status, is_marked))
+            self.kills, step = self.kills + 1, step + self.every
+        self.checks.that(f"{self.bank.now[:10]} {' '.join(words[:3])} is killed at its steps, up to step {step - 1}, and send runs", failed, [])
+        self.bring_back("before")
+        self.finish(*words)
 
     def was_killed(self, process):
         """Whether the desk with this process number has ended."""
@@ -334,10 +375,14 @@ def tuesday(week):
 def wednesday(week):
     """The day on which everything is killed."""
     week.at(WED)
+    week.killed_at_each_step("open", victim="desk")
+    week.bring_back("before")
     week.killed_at_each_step("open")
     week.killed_at_each_step("holidays", "2025", "2027")
     week.arrive("wednesday.ach", file_of_returns(3, "PPD", [returned("R03", 10, 2, 21000), returned("R01", 9999999, 1, 500)]))
     week.arrive("forward.ach", file_of_returns(4, "PPD", [returned("R01", 9, 1, 40000)]).replace("\n626", "\n627", 1))
+    week.killed_at_each_step("returns", victim="desk")
+    week.bring_back("before")
     errors = week.killed_at_each_step("returns")
     week.checks.that("an alarm says that a file has forward entries", "It has forward entries" in errors)
     week.submit("MILL01", submission("PAY-2", "credit", FRI, 200000))
@@ -366,7 +411,7 @@ def thursday(week):
     bank.rotate("MILL01", "day")
     for key, path in zip(old, ("/c/MILL01/exposure", "/ops/status")):
         week.checks.that(f"the old key opens {path} no more", bank.proxy.ask("GET", path, key=key)[0], 403)
-    lines_before, began = len(bank.proxy.logged()), time.monotonic()
+    lines_before, began, worked = len(bank.proxy.logged()), time.monotonic(), cpu_of_children()
     week.run("open")
     week.submit("MILL01", {"ref": "RT-1", "of": "DUES-1", "index": 1, "day": FRI}, "retries")
     week.run("returns", says="the inbox is empty")
@@ -374,16 +419,23 @@ def thursday(week):
     week.run("backup", says="backed up")
     week.run("send", says="sent 2025-01-16-A")
     week.reported(THU)
-    seconds = time.monotonic() - began
+    seconds, worked = time.monotonic() - began, cpu_of_children() - worked
     asked = sum("holder=operator:day" in line for line in bank.proxy.logged()[lines_before:])
-    print(f"        a day (open, returns, cut, backup, send, report) took {seconds:.1f} s and {asked} requests", flush=True)
+    print(f"        a day (open, returns, cut, backup, send, report) took {seconds:.1f} s, {worked:.1f} s of CPU and {asked} requests", flush=True)
     bank.write_key("watcher")
     week.run("metrics", "--key-file", bank.folder / "keys" / "watcher", says="achdesk_up 1")
+    week.run("metrics", says="achdesk_files_today 1\nachdesk_files_left 35\nachdesk_files_needed_at_least 0\nachdesk_suspense_items 1\nachdesk_entries_sent_total 13")
     week.run("cut", "--key-file", bank.folder / "keys" / "MILL01", status=2, says="is not accepted")
     (bank.folder / "keys" / "day").chmod(0o644)
     week.run("send", status=2, says="can be read by others")
     (bank.folder / "keys" / "day").chmod(0o600)
     restored_elsewhere(week)
+
+
+def cpu_of_children():
+    """The CPU time of the commands that have ended, with curl's and sftp's; the desk and nginx have not."""
+    used = resource.getrusage(resource.RUSAGE_CHILDREN)
+    return used.ru_utime + used.ru_stime
 
 
 def restored_elsewhere(week):
@@ -448,8 +500,60 @@ def holiday_and_after(week):
     week.run("open", says="the desk day is 2025-01-21")
     week.run("cut", says="nothing is due")
     week.run("send", says="nothing")
-    week.reported(NEXT)
     week.run("ack", week.ack_of(["2025-01-16-A", "2025-01-17-A"]), status=1, says="not acknowledged: 2025-01-14-A")
+
+
+def by_hand(week):
+    """Files that are transmitted by hand, one of them without a wrong payroll, and one that is withheld."""
+    bank, copy = week.bank, week.bank.folder / "corrected.ach"
+    desk_file = lambda letter: bank.curl("day", f"/ops/files/{NEXT}/{letter}")
+    week.submit("BAKE01", submission("PAY-3", "credit", AFTER, 5000))
+    week.submit("MILL01", submission("PAY-3", "credit", AFTER, 60000, 40000))
+    week.submit("MILL01", submission("PAY-4", "credit", AFTER, 10000))
+    week.run("cut", says="4 entries in files A")
+    copy.write_text(without_batch(desk_file("A"), 3))
+    week.operator.by_portal(f"{NEXT}-A", copy.read_text())
+    week.run("correct", f"{NEXT}-A", status=1, says="is neither transmitted nor withheld")
+    spoiled = bank.folder / "spoiled.ach"
+    spoiled.write_text(copy.read_text().replace("0000060000", "0000060001", 1))
+    week.run("mark", f"{NEXT}-A", "--transmitted-as", spoiled, status=1, says="a batch control")
+    words = ("mark", f"{NEXT}-A", "--transmitted-as", str(copy), "--why", "without PAY-4")
+    week.killed_at_each_step(*words)
+    week.sent_after_a_kill(f"{NEXT}-A", *words)
+    week.run(*words, says="already")
+    week.run("mark", f"{NEXT}-A", "--withheld", status=1, says="it was transmitted")
+    week.run("send", says="nothing")
+    week.run("send", "--again", f"{NEXT}-A", status=1, says="another file was transmitted in its place")
+    week.killed_at_each_step("correct", f"{NEXT}-A")
+    week.run("correct", f"{NEXT}-A", "--trace", "121042880000018", says="1 entries, debits 0.00, credits 100.00")
+    week.run("correct", f"{NEXT}-A", "--all", status=1, says="were corrected before, the first with trace 121042880000018")
+    week.run("returns", says="1 returns, 0 changes, 0 late, 0 suspense")
+    week.run("correct", f"{NEXT}-A", says="credits 100.00")
+    week.run("returns", says="1 returns, 0 changes, 0 late, 0 suspense")
+    week.submit("BAKE01", submission("PAY-4", "credit", AFTER, 7000))
+    week.run("cut", says="1 entries in files B")
+    week.operator.by_portal(f"{NEXT}-B", desk_file("B"))
+    words = ("mark", f"{NEXT}-B", "--transmitted")
+    week.killed_at_each_step(*words)
+    week.sent_after_a_kill(f"{NEXT}-B", *words)
+    week.submit("MILL01", submission("PAY-5", "credit", AFTER, 900))
+    week.run("cut", says="1 entries in files C")
+    words = ("mark", f"{NEXT}-C", "--withheld")
+    week.killed_at_each_step(*words)
+    week.sent_after_a_kill(f"{NEXT}-C", *words)
+    week.run("send", says="nothing")
+    week.run("correct", f"{NEXT}-C", says="1 entries, debits 0.00, credits 9.00")
+    week.killed_at_each_step("returns")
+    week.reported(NEXT)
+    found = [bank.curl("MILL01", f"/c/MILL01/submissions/{ref}")["entries"] for ref in ("PAY-3", "PAY-4", "PAY-5")]
+    week.checks.that("the companies see what was not transmitted as returned", [[(it["state"], it.get("code")) for it in entries] for entries in found],
+                     [[("sent", None), ("sent", None)], [("returned", "R06")], [("returned", "R06")]])
+    path = week.ack_of([f"{NEXT}-B"])
+    rows = path.read_text()
+    path.write_text(rows + f"{NEXT}-A,{','.join(map(str, CORRECTED))}\n")
+    week.run("ack", path, status=1, says=f"acknowledged {NEXT}-A: 2 batches, 3 records, debits 0.00, credits 1,050.00")
+    path.write_text(rows + f"{WITHHELD},1,1,0,900\n")
+    week.run("ack", path, status=1, says=f"has {WITHHELD}, which was withheld")
 
 
 def at_the_end(week):
@@ -457,8 +561,12 @@ def at_the_end(week):
     bank = week.bank
     names = [f"{day}-{letter}" for day in FIGURES for letter in FIGURES[day]["files"]]
     desk = {f"{name}.ach": bank.curl("day", f"/ops/files/{name[:10]}/{name[11]}").encode() for name in names}
-    week.checks.that("the archive has each file once, byte for byte as the desk has it", bank.archive(), desk)
-    week.checks.that("the ACH operator has each file once, byte for byte", week.operator.received(), {name: [text] for name, text in desk.items()})
+    withheld = desk.pop(f"{WITHHELD}.ach")
+    week.checks.that("the archive has each transmitted file once, byte for byte as the desk has it", bank.archive(), desk)
+    week.checks.that("and the one that was withheld elsewhere", list(bytes_of(bank.state / "withheld").values()), [withheld])
+    copy = (bank.folder / "corrected.ach").read_bytes()
+    week.checks.that("and the one that was transmitted in place of another", list(bytes_of(bank.state / "by_hand").values()), [copy])
+    week.checks.that("the ACH operator has each file once, byte for byte", week.operator.received(), {name: [text] for name, text in (desk | {f"{NEXT}-A.ach": copy}).items()})
     week.checks.that("nothing is left half-way", [bytes_of(bank.state / "sending"), bytes_of(bank.sftp.inbox, ".part")], [{}, {}])
     alarms = [json.loads(line)["text"] for line in (bank.state / "day.journal").read_text().splitlines() if '"did": "alarm"' in line]
     week.checks.that("each alarm of the journal was given to the alarm command", set(alarms) <= set(bank.alarms()))
@@ -472,7 +580,7 @@ def main():
         Path(folder).chmod(0o755)
         with Bank(program, folder) as bank:
             week = Week(bank, checks, int((sys.argv[2:] or ["1"])[0]))
-            for day in (monday, tuesday, wednesday, thursday, friday, holiday_and_after, at_the_end):
+            for day in (monday, tuesday, wednesday, thursday, friday, holiday_and_after, by_hand, at_the_end):
                 day(week)
     print(f"        {time.monotonic() - began:.0f} s in all", flush=True)
     checks.end()

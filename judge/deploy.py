@@ -665,7 +665,7 @@ def held(proxy, name):
 # ---- manual pages
 
 def manual(checks, program, folder):
-    for name, path in (("achdesk", program), ("achdesk-day", str(DEPLOY / "achdesk-day"))):
+    for name, path in (("achdesk", program), ("achdesk-day", str(DEPLOY / "achdesk-day")), ("achdesk-company", str(TOP / "clients/achdesk-company"))):
         page = folder / f"{name}.1"
         with open(page, "w") as out:
             done = subprocess.run([sys.executable, DEPLOY / "manual.py", name, path], stdout=out, stderr=subprocess.PIPE, text=True)
@@ -677,7 +677,8 @@ def manual(checks, program, folder):
         helped = said(path, "--help")[0]
         options = set(re.findall(r"(?<!\S)--[a-z-]+", helped))
         checks.that(f"{name}(1) has each option of --help", sorted(it for it in options if it not in text), [])
-        checks.that(f"{name}(1) has its sections", [it for it in ("NAME", "SYNOPSIS", "DESCRIPTION", "FILES") if f".SH {it}" not in text], [])
+        sections = ["NAME", "SYNOPSIS", "DESCRIPTION", *(["FILES"] if name != "achdesk-company" else [])]
+        checks.that(f"{name}(1) has its sections", [it for it in sections if f".SH {it}" not in text], [])
 
 
 # ---- the package
@@ -692,6 +693,34 @@ def snapshot(root, *folders):
     return found
 
 
+def company(root, *words):
+    """What the installed achdesk-company says, with the modules of that root alone."""
+    return said("/usr/bin/python3", root / "usr/bin/achdesk-company", *words, env={"PATH": PATHS, "PYTHONPATH": str(root / "usr/lib/python3/dist-packages")}, cwd="/")
+
+
+def day_keys(checks, at, user, group):
+    """The commands of docs/operate/install.md that issue a key to achdesk-day, which then reads it and no other file of the folder."""
+    page = (TOP / "docs/operate/install.md").read_text().partition("\n## The day program\n")[2].partition("\n## ")[0]
+    lines = [re.search(r"```sh\n(.*?)```", page, re.S)[1], *re.findall(r"^\$ sudo (ssh-keygen .*|chown .*)$", page, re.M)]
+    text = "\n".join(lines).replace("/etc/achdesk", f"{at}/etc/achdesk").replace("achdesk:achdesk", f"{user}:{group}")
+    checks.that("the page's commands make the keys of achdesk-day", said("sh", "-ec", text), ("", 0))
+    checks.that("its line in people.map has the key", (at / "etc/achdesk/keys/people.map").read_text().count('"operator:day";'), 1)
+    config = at / "day.conf"
+    config.write_text(re.sub(r"(?m)^#?(key_file|state|identity) = (/.*)$", rf"\1 = {at}\2", (at / "etc/achdesk/day.conf").read_text().replace("desk.bank.example", f"127.0.0.1:{free_port()}")))
+    config.chmod(0o644)
+    for it in (at, *at.parents):
+        if it != Path("/") and not os.stat(it).st_mode & 0o001:
+            it.chmod(0o711)
+    as_user = lambda *words: said("setpriv", f"--reuid={user}", f"--regid={group}", "--clear-groups", *words)
+    printed, status = as_user("/usr/bin/python3", at / "usr/bin/achdesk-day", "--config", config, "metrics")
+    checks.that("achdesk-day reads its key as the service's user, and finds no desk", (status, "achdesk_up 0" in printed and "cannot be reached" in printed), (0, True))
+    keys = at / "etc/achdesk/keys"
+    checks.that("and that of its sftp", as_user("cat", keys / "sftp")[1], 0)
+    checks.that("the user reads no list of keys, and does not list the folder", [as_user(*words)[1] for words in (("cat", keys / "people.map"), ("ls", keys))], [1, 2])
+    other = said("setpriv", f"--reuid={OTHER}", f"--regid={OTHER}", "--clear-groups", "cat", keys / "day")
+    checks.that("another user does not read the key", (other[1], "Permission denied" in other[0]), (1, True))
+
+
 def installed(checks, program, folder):
     """`make install` and `make uninstall` below another root."""
     root = folder / "made"
@@ -700,8 +729,10 @@ def installed(checks, program, folder):
     checks.that("make install", status == 0 or printed)
     checks.that("the program is the one that was built", (root / "usr/bin/achdesk").read_bytes() == Path(program).read_bytes())
     checks.that("and has its help", said(root / "usr/bin/achdesk", "--help")[1], 0)
+    checks.that("the company's program finds its module", company(root, "--help")[1], 0)
     for name in ("usr/bin/achdesk-day", "usr/lib/systemd/system/achdesk.service", "usr/lib/systemd/system/achdesk@.service", "usr/lib/systemd/system/achdesk-restart.timer",
-                 "usr/share/achdesk/console/index.html", "usr/share/man/man1/achdesk.1.gz", "usr/share/man/man1/achdesk-day.1.gz", "etc/nginx/sites-available/achdesk", "etc/logrotate.d/achdesk"):
+                 "usr/share/achdesk/console/index.html", "usr/share/achdesk/audit.sql", "usr/share/doc/achdesk/audit.sql", "usr/bin/achdesk-company",
+                 "usr/lib/python3/dist-packages/achdesk.py", "usr/share/man/man1/achdesk.1.gz", "usr/share/man/man1/achdesk-day.1.gz", "usr/share/man/man1/achdesk-company.1.gz", "etc/nginx/sites-available/achdesk", "etc/logrotate.d/achdesk"):
         checks.that(f"it installs {name}", (root / name).is_file())
     (root / "var/lib/achdesk").mkdir(parents=True)
     (root / "var/lib/achdesk/bank.db").write_text("a desk")
@@ -762,6 +793,9 @@ def package(checks, program, folder):
     log = os.stat(at / "var/log/achdesk/proxy.log")
     checks.that("the log is for nginx and achdesk-day", (oct(log.st_mode & 0o777), log.st_uid, log.st_gid), ("0o640", 33, int(user[2])))
     checks.that("the lists of keys are for root alone", [(mode_of(it), os.stat(it).st_uid) for it in sorted((at / "etc/achdesk/keys").iterdir())], [("0o600", 0)] * 3)
+    day_keys(checks, at, int(user[1]), int(user[2]))
+    checks.that("the company's program runs", company(at, "--help")[1], 0)
+    checks.that("Python keeps its module compiled", len([*(at / "usr/lib/python3/dist-packages/__pycache__").glob("achdesk.*")]), 1)
     make_desk(str(at / "usr/bin/achdesk"), at / "var/lib/achdesk/bank.db")
     for name in ("var/lib/achdesk-day/2025-01-08-A.ach", "var/log/achdesk/proxy.log", "etc/achdesk/tls/key.pem"):
         (at / name).write_text(name)
@@ -775,6 +809,7 @@ def package(checks, program, folder):
     checks.that("nothing of the bank's is touched", (snapshot(at, *KEPT), (at / "etc/achdesk/operators.conf").read_text()), (kept, configured))
     printed, status = root.dpkg("--remove", "achdesk")
     checks.that("it is removed", (status == 0 or printed, root.status(), (at / "usr/bin/achdesk").exists()), (True, "deinstall ok config-files", False))
+    checks.that("no module is left", [*(at / "usr/lib/python3").rglob("achdesk*")], [])
     checks.that("nothing of the bank's is touched by that", (snapshot(at, *KEPT), (at / "etc/achdesk/operators.conf").read_text()), (kept, configured))
     checks.that("it is installed again", root.dpkg("--install", debs[1])[1], 0)
     checks.that("and the keys are those of before", snapshot(at, *KEPT), kept)

@@ -24,7 +24,7 @@ HERE = Path(__file__).resolve().parent
 PATHS = f"{os.environ.get('PATH', '')}:/usr/sbin:/sbin"
 # What judges need, and what has it: Debian's packages, but for the toolchain. A module of Python is named with a dot.
 NEEDS = {"chromedriver": "chromium-driver", "chromium": "chromium", "curl": "curl", "gcc": "gcc", "ip": "iproute2", "logrotate": "logrotate", "make": "make", "man": "man-db",
-         "nft": "nftables", "nginx": "nginx", "openssl": "openssl", "rt": "the Rattle toolchain", "sftp": "openssh-client", "sqlite3": "sqlite3", "ss": "iproute2", "sshd": "openssh-server",
+         "nft": "nftables", "nginx": "nginx", "openssl": "openssl", "rsync": "rsync", "rt": "the Rattle toolchain", "sftp": "openssh-client", "sqlite3": "sqlite3", "ss": "iproute2", "sshd": "openssh-server",
          "strace": "strace", ".yaml": "python3-yaml"}
 
 
@@ -65,7 +65,8 @@ JUDGES = (
     Judge("pages", (), ("curl", "ss", "openssl", "sqlite3", "sftp")),
     Judge("growths_in_files", ("20",), ("gcc",)),
     Judge("deploy", (), ("nginx", "openssl", "logrotate", "nft", "ip", "man", "make", "strace")),
-    Judge("day", (), ("nginx", "openssl", "sshd", "sftp", "curl")),
+    Judge("day", (), ("nginx", "openssl", "sshd", "sftp", "curl", "rsync")),
+    Judge("backups", (), ("nginx", "openssl", "sshd", "sftp", "curl", "rsync")),
     Judge("clients_kit", (), ("nginx", "openssl")),
     Judge("console", (), ("chromium", "chromedriver", "nginx")),
     Judge("openapi", (), (".yaml",)),

@@ -10,10 +10,17 @@ EXAMPLES = TOP / "examples"
 COMPANY = (EXAMPLES / "company.json").read_text()
 RENT = ('{"ref":"PAY-3","sec":"PPD","direction":"credit","description":"PAYROLL","day":"2025-01-16","entries":[{"routing":'
         '"091000019","account":"123456789","kind":"checking","cents":98000,"id":"E1","name":"ANN LEE"}]}')
+WRONG = RENT.replace("PAY-3", "PAY-4").replace("98000", "25000")
+# The file of a cut of RENT and WRONG without WRONG, as another tool would write it.
+CORRECTED = ("101 061000146 121042882250114    A094101ACH OPERATOR           OUR BANK                       ",
+             "5220MILL STREET                         MILL01    PPDPAYROLL         250116   1121042880000001",
+             "622091000019123456789        0000098000E1             ANN LEE                 0121042880000003",
+             "82200000010009100001000000000000000000098000MILL01                             121042880000001",
+             "9000001000001000000010009100001000000000000000000098000                                       ", *["9" * 94] * 5)
 
 # The steps of each page's rooms, in order.
 PREPARED = {
-    "docs/operate/install.md": ("folders",),
+    "docs/operate/install.md": ("folders", "day command"),
     "docs/operate/day.md": ("desk", "company", "two cuts", "held", "inbox", "serve", "keys", "day program"),
     "docs/operate/companies.md": ("desk", "company", "two cuts", "returned", "serve", "keys", "folders", "backup"),
     "docs/operate/keys.md": ("folders",),
@@ -21,7 +28,8 @@ PREPARED = {
     "docs/operate/monitoring.md": ("desk", "company", "two cuts", "held", "serve", "keys", "day program"),
     "docs/operate/capacity.md": ("desk", "serve", "keys"),
     "docs/operate/upgrades.md": ("desk", "company", "two cuts", "serve"),
-    "docs/operate/troubleshooting.md": ("desk", "company", "two cuts", "held", "today", "serve", "keys", "day program"),
+    "docs/operate/troubleshooting.md": ("desk", "company", "two cuts", "held", "wrong", "today", "serve", "keys", "day program", "day backup",
+                                         "corrected"),
     "docs/operate/returns-files.md": (),
     "docs/integrate/quickstart.md": ("desk", "company", "day", "serve", "keys"),
     "docs/audit/views.md": ("desk", "company", "two cuts", "returned", "copied"),
@@ -44,6 +52,7 @@ STEPS = {
     "two cuts": [set_day("2025-01-08"), submitted((EXAMPLES / "pay-1.json").read_text()), CUT,
                  submitted((EXAMPLES / "pay-2.json").read_text()), set_day("2025-01-09"), CUT],
     "held": [submitted(RENT)],
+    "wrong": [submitted(WRONG)],
     "today": [set_day("2025-01-14")],
     "returned": [set_day("2025-01-14"), message("POST /ops/returns", (EXAMPLES / "return-1.ach").read_bytes())],
 }
@@ -66,7 +75,7 @@ def ask(room, messages):
 def make_inbox(room):
     """Three files in the inbox: one with a return, one with a return of a stranger, and one that was spoiled."""
     inbox = room.folder / "var/lib/achdesk-day/inbox"
-    inbox.mkdir()
+    inbox.mkdir(exist_ok=True)
     shutil.copy(EXAMPLES / "return-1.ach", inbox / "r-0114a.ach")
     stranger = {"debit": True, "savings": False, "account": "5550017", "cents": 4900, "ident": "E9", "name": "CAL DOE",
                 "code": "R03", "trace": "121042880000009", "dfi": "09100001"}
@@ -91,7 +100,6 @@ url = {address}
 key_file = {room}/operator.key
 [folders]
 state = {room}/var/lib/achdesk-day
-backups = {room}/var/backups
 [sftp]
 host = sftp.ach-operator.example
 user = ourbank
@@ -102,17 +110,25 @@ proxy_logs = {room}/var/log/achdesk/proxy.log*
 """
 
 
-def put_day_program(room):
-    """Installs `achdesk-day` in the folder. The file of 2025-01-09 is transmitted; the page's time is 2025-01-14."""
+def put_day_command(room):
+    """Installs `achdesk-day` in the folder."""
     names = {"top": TOP, "room": room.folder, "address": room.address}
     (room.folder / "ach-operator").mkdir()
     (room.folder / "etc/achdesk/day.conf").write_text(DAY_CONF.format(**names))
     for name, text in (("achdesk-day", DAY_PROGRAM), ("sftp", SFTP)):
         (room.folder / "bin" / name).write_text(text.format(**names))
         (room.folder / "bin" / name).chmod(0o755)
+
+
+def put_day_program(room):
+    """Lets `achdesk-day` begin. The file of 2025-01-09 is transmitted, and the list of holidays is its own; the page's
+    time is 2025-01-14."""
+    put_day_command(room)
+    (room.folder / "tmp/holidays.csv").write_text("2025-01-20\n")
     acknowledgement = room.folder / "tmp/ack.csv"
     acknowledgement.write_text("file,batches,entries,debits,credits\n2025-01-09-A,1,1,2500,0\n")
-    for command in ("achdesk-day begin 2025-01-09", "achdesk-day send", "achdesk-day ack tmp/ack.csv"):
+    for command in ("achdesk-day begin 2025-01-09", "achdesk-day holidays tmp/holidays.csv --replace-unknown", "achdesk-day send",
+                    "achdesk-day ack tmp/ack.csv"):
         said, status = room.shell(f"ACHDESK_DAY_NOW=2025-01-09T15:00:00-05:00 {command}")
         if status != 0:
             raise RuntimeError(f"{command}: {said}")
@@ -138,7 +154,7 @@ def copy_desk(room):
 
 def make_backup(room):
     """A folder like those that `achdesk-day backup` makes."""
-    backup = room.folder / "var/backups/2025-01-14T133000Z"
+    backup = room.folder / "var/lib/achdesk-day/backups/2025-01-14T133000Z"
     backup.mkdir()
     for end in ("", "-wal"):
         shutil.copy(f"{room.database}{end}", backup / f"bank.db{end}")
@@ -149,12 +165,21 @@ def make_folders(room):
         (room.folder / "etc/achdesk/keys" / name).touch(mode=0o600)
 
 
+def back_up(room):
+    said, status = room.shell("achdesk-day backup")
+    if status != 0:
+        raise RuntimeError(f"achdesk-day backup: {said}")
+
+
 OTHERS = {
+    "day backup": back_up,
+    "corrected": lambda room: (room.folder / "corrected.ach").write_text("".join(f"{it}\n" for it in CORRECTED)),
     "desk": lambda room: make_desk(room.program, room.database),
     "serve": lambda room: room.serve(room.database, room.port),
     "keys": put_keys,
     "inbox": make_inbox,
     "day program": put_day_program,
+    "day command": put_day_command,
     "copied": copy_desk,
     "backup": make_backup,
     "folders": make_folders,
