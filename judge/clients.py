@@ -355,7 +355,7 @@ def by_http_client(checks, port):
 
 def curl(*words, given=b""):
     """What curl prints, its trace, and its status."""
-    done = subprocess.run(["curl", "--silent", "--show-error", "--verbose", "--max-time", "30", *words], input=given, capture_output=True)
+    done = subprocess.run(["curl", "--silent", "--show-error", "--verbose", "--max-time", str(SECONDS), *words], input=given, capture_output=True)
     return done.stdout, done.stderr.decode("latin-1"), done.returncode
 
 

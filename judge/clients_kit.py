@@ -227,13 +227,19 @@ def repeats(checks, program):
         spoils.plans.append(("cut", 30))
         checks.that("so it is with one that made a file", named(error_of(op.cut)), ("NoAnswer",))
         checks.that("the status shows the file", (op.status().files, op.status().sent), (("A",), 1))
-        spoils.plans.append(("answer", error_page(503, "Unavailable")))
-        error = error_of(op.cut)
-        checks.that(
-            "a cut that has 503 is not repeated, and did nothing",
-            (named(error), error.may_have_acted, error.status),
-            (("Refused", "Unavailable"), False, 503),
-        )
+        for status, name, may_have_acted in (
+            (429, "TooManyRequests", False),
+            (502, "BadGateway", True),
+            (503, "Unavailable", False),
+            (504, "GatewayTimeout", True),
+        ):
+            spoils.plans.append(("answer", error_page(status, name)))
+            error = error_of(op.cut)
+            checks.that(
+                f"a cut that is answered {status} is not repeated",
+                (named(error), error.may_have_acted, error.status, error.attempts),
+                (("Refused", name), may_have_acted, status, 1),
+            )
 
         spoils.plans.append(("cut", 0))
         checks.that("a day whose answer is lost is set", op.set_day(day("01-09")), day("01-09"))
@@ -247,6 +253,24 @@ def repeats(checks, program):
             "so it is after a request that was lost, if the status shows another day",
             named(error_of(lambda: op.set_day(day("01-08")))),
             ("Refused", "DayNotLater"),
+        )
+        for status, name in ((429, "TooManyRequests"), (503, "Unavailable")):
+            spoils.plans.append(("answer", error_page(status, name)))
+            error = error_of(lambda: op.set_day(day("01-09")))
+            checks.that(
+                f"a day that is refused after {status} was not set by this call: nothing was lost",
+                (named(error), error.attempts, error.may_have_acted),
+                (("Refused", "DayNotLater"), 2, False),
+            )
+        for status, name in ((502, "BadGateway"), (504, "GatewayTimeout")):
+            spoils.plans.append(("answer", error_page(status, name)))
+            checks.that(f"after {status} it may have been, and the status shows it", op.set_day(day("01-09")), day("01-09"))
+        spoils.plans.extend([("cut", 0), ("pass",), ("answer", error_page(404, "NotFound"))])
+        error = error_of(lambda: op.set_day(day("01-10")))
+        checks.that(
+            "if the status is not answered, the refusal is raised",
+            (named(error), error.may_have_acted, named(error.__cause__)),
+            (("Refused", "DayNotLater"), True, ("Refused", "NotFound")),
         )
         spoils.plans.append(("cut", 0))
         bake = {**MILL, "id": "BAKE01", "name": "BAKERY", "key": "bakery-key"}
@@ -290,12 +314,44 @@ def repeats(checks, program):
         began = time.monotonic()
         mill.exposure()
         checks.that("Retry-After is waited for", 1 <= time.monotonic() - began < 3)
+        spoils.plans.append(("answer", page(429, "application/json", b'{"error":"TooManyRequests"}', "Retry-After: 500\r\n")))
+        began = time.monotonic()
+        error = error_of(mill.exposure)
+        checks.that(
+            "if it is longer than the time that is left, the error is raised at once",
+            (named(error), error.attempts, error.retry_after, time.monotonic() - began < 3),
+            (("Refused", "TooManyRequests"), 1, 500.0, True),
+        )
+        waits(checks, bank)
         pauses = []
         told = bank.make_mill(on_retry=lambda error, pause: pauses.append((named(error), pause >= 0)))
         spoils.plans.extend([("drop",), ("answer", page(502))])
         told.exposure()
         checks.that("each further attempt is told of", pauses, [(("NoAnswer",), True), (("ForeignAnswer",), True)])
         growing(checks)
+
+
+def waits(checks, bank):
+    """Timeouts, and how many connections are opened."""
+    spoils = bank.spoils
+    spoils.plans.append(("wait", 5))
+    began = time.monotonic()
+    error = error_of(bank.make_mill(total_seconds=0, timeout=1).exposure)
+    checks.that(
+        "an answer is waited for no longer than the timeout",
+        (named(error), error.may_have_acted, error.is_temporary, time.monotonic() - began < 4),
+        (("NoAnswer",), True, True, True),
+    )
+    spoils.plans.append(("wait", 2))
+    checks.that("which is not cut short if a call is sent once", bank.make_mill(total_seconds=0).exposure(), bank.mill.exposure())
+    time.sleep(4)  # the request that was given up is passed on
+    for keeps, wanted in ((False, 3), (True, 1)):
+        before = spoils.connections
+        with bank.make_mill(keeps_connection=keeps) as it:
+            for _ in range(3):
+                it.exposure()
+        what = "on a kept connection" if keeps else "as they are by default"
+        checks.that(f"three calls {what}: connections opened", spoils.connections - before, wanted)
 
 
 def growing(checks):
@@ -313,8 +369,8 @@ def no_desk(checks, program):
         error = error_of(bank.mill.exposure)
         checks.that(
             "a page with status 200 is not an answer of the desk",
-            (named(error), error.status, error.content_type),
-            (("ForeignAnswer",), 200, "text/html"),
+            (named(error), error.status, error.content_type, error.attempts),
+            (("ForeignAnswer",), 200, "text/html", 1),
         )
         for status in (302, 401, 403, 404, 413, 500):
             bank.spoils.plans.append(("answer", page(status)))
@@ -406,9 +462,9 @@ def refusals(checks, program):
             given = {"entries": [ANN], "ref": "PAY-1", "day": day("01-10"), **PAY, **more}
             error = error_of(lambda: mill.submit(given.pop("entries"), **given))
             checks.that(
-                f"{wanted[0]}: status, number, field and index",
-                (error.name, error.status, error.number, error.field, error.index),
-                wanted,
+                f"{wanted[0]}: status, number, field and index, and it is not repeated",
+                (error.name, error.status, error.number, error.field, error.index, error.attempts),
+                (*wanted, 1),
             )
         error = error_of(lambda: op.take_returns((TOP / "examples" / "spoiled.ach").read_bytes()))
         checks.that(
@@ -450,6 +506,10 @@ def refusals(checks, program):
         "bad url ": lambda: Operator("http://desk.bank.example", OPERATOR_KEY),
         "bad url  ": lambda: Operator("https://desk/?x", OPERATOR_KEY),
         "bad key ": lambda: Operator("https://desk", "line\nline-line"),
+        "bad timeout": lambda: Settings(timeout=0),
+        "bad timeout ": lambda: Settings(timeout=float("inf")),
+        "bad total_seconds": lambda: Settings(total_seconds=-1),
+        "bad text": lambda: Company("https://desk", "MILL01", MILL_KEY).submit([ANN], ref="\udcff", day=day("01-10"), **PAY),
     }.items():
         checks.that(f"{what.strip()}: nothing is sent", str(error_of(make)).partition(":")[0], what.strip())
 

@@ -24,7 +24,7 @@ from pathlib import Path
 
 from helpers.browser import Browser, missing
 from helpers.cutting_proxy import CuttingProxy
-from helpers.nginx import Nginx
+from helpers.proxy import SAME_KEYS, Proxy
 from helpers.refusals import CALENDAR_FAULTS, FILE_FAULTS, MESSAGE_FAULTS, PROXY_FAULTS, REFUSALS
 from helpers.returned import file_of_returns
 from helpers.running import HOST, MILL_KEY, OPERATOR_KEY, TOP, Checks, Serving, make_desk, program_of
@@ -600,7 +600,9 @@ def main():
         make_desk(program, path)
         shutil.copytree(TOP / "console", folder / "share" / "console")
         with Serving(program, path, 100_000).listen() as serving, CuttingProxy(serving.port) as spoils:
-            with Nginx(folder, spoils.port, tls=False, share=folder / "share") as proxy, Browser(folder) as browser:
+            folder.chmod(0o711)  # nginx's workers are another user
+            every = [("achdesk_log if=$achdesk_is_logged", "combined")]
+            with Proxy(folder / "proxy", spoils.port, *SAME_KEYS, console=folder / "share", tls=False, changes=every) as proxy, Browser(folder) as browser:
                 bank = Bank(checks, browser, proxy, spoils, folder)
                 browser.size(1280, 900)
                 for step in (opening, before_any_day, first_day, next_days):

@@ -18,7 +18,7 @@ import tempfile
 from pathlib import Path
 
 from helpers import openapi_faults
-from helpers.desk_messages import LARGEST_SESSION, Exchange, compact, differences, keyed, request, response
+from helpers.desk_messages import LARGEST_SESSION, Exchange, compact, differences, is_sanitized, keyed, request, response
 from helpers.openapi_bounds import bounds
 from helpers.openapi_page import Page
 from helpers.page_client import PageClient, examples_of
@@ -169,10 +169,12 @@ def wrong_faults(page):
 
 
 def lacking_statuses(page):
-    """The operations without one of the answers that a proxy may give."""
+    """The operations without one of the answers that a proxy may give, which need not be JSON, or without the desk's 503."""
     for operation in page.operations.values():
-        for status in {"403", "404", "413", "429", "502", "503", "504"} - operation.tree["responses"].keys():
-            yield f"{operation.name} has no {status}"
+        for status in ("403", "404", "413", "429", "502", "503", "504"):
+            content = page.at(operation.tree["responses"].get(status, {})).get("content", {})
+            for kind in {"application/json", *(["text/html"] if status != "503" else [])} - content.keys():
+                yield f"{operation.name} has no {status} with {kind}"
 
 
 def lacking_faults(page):
@@ -181,6 +183,16 @@ def lacking_faults(page):
     shown = {it.value["fault"] for it in page.examples.values() if isinstance(it.value, dict) and "fault" in it.value}
     never = {it["fault"] for it in page.not_sent}
     return [f"{it} has no example, or is not a fault" for it in sorted(wanted ^ (shown | never))]
+
+
+def loose_texts(node, place=""):
+    """The places of texts that may be anything: all but a proxy's page have a pattern or a list of values."""
+    if isinstance(node, dict):
+        if node.get("type") == "string" and not {"pattern", "enum", "const"} & node.keys() and not place.endswith("/ProxyPage"):
+            yield f"{place} has no pattern"
+        node = {key: it for key, it in node.items() if key not in ("example", "examples", "x-request")}
+    for key, it in node.items() if isinstance(node, dict) else enumerate(node) if isinstance(node, list) else ():
+        yield from loose_texts(it, f"{place}/{key}")
 
 
 def unreferenced(page):
@@ -295,6 +307,8 @@ def judge_names(page, report):
     )
     report.tell("faults of files and of holiday lists: all", lacking_faults(page))
     report.tell("components: each is used", unreferenced(page))
+    report.tell("texts: each has a pattern or a list of values", list(loose_texts(page.tree)))
+    report.tell("servers: the first has https", [it["url"] for it in page.tree["servers"][:1] if not it["url"].startswith("https://")])
     report.tell("examples: each in a script, or with a reason", unsent(page))
 
 
@@ -306,7 +320,8 @@ def judge_messages(page, program, report):
         count, lines = run_all_shared(page, program, name)
         report.tell(f"shared, {name}: {count} messages", lines)
     count, lines = run_unavailable(page, program)
-    report.tell(f"shared, unavailable: {count} messages", lines)
+    how = ", which AddressSanitizer refuses memory" if is_sanitized(program[0]) else ""
+    report.tell(f"shared, unavailable: {count} messages{how}", lines)
     count, lines = run_connections(page, program)
     report.tell(f"connections: {count} messages", lines)
     if openapi_spec_validator is not None:

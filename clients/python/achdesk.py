@@ -15,8 +15,8 @@ its answer as a frozen dataclass. Amounts and balances are integers of cents, da
     for item in mill.returns():
         print(item.ref, item.index, item.code)
 
-Retries. If no answer arrives, or the status is 429, 502, 503 or 504, the call is sent again after a
-pause. Pauses grow from half a second to 30 seconds; `Settings.total_seconds` bounds all attempts of
+Retries. If no answer arrives, or the status is 429, 502, 503 or 504, the request is repeated after
+a pause. Pauses grow from half a second to 30 seconds; `Settings.total_seconds` bounds all attempts of
 a call with their pauses. This is safe: the desk answers a repeated submission, retry or returns
 file as it did the first time and does not take it again. Only `Operator.cut` is never repeated by
 itself.
@@ -26,7 +26,7 @@ Errors. Every error of a call is a `DeskError`, and one of these:
 - `Refused`: the desk, or the proxy in front of it, refused the call.
 - `NoAnswer`: no answer arrived in the given time.
 - `ForeignAnswer`: something other than the desk answered, such as a proxy with an error page.
-- `InputFault`: nothing was sent, because the list, the key or another argument is malformed.
+- `InputFault`: no request was made, because the list, the key or another argument is malformed.
 
 An object is used by one thread at a time.
 """
@@ -64,6 +64,7 @@ COLUMNS = ("routing", "account", "kind", "prenote", "cents", "id", "name", "info
 
 FIRST_PAUSE = 0.5
 LONGEST_PAUSE = 30.0
+LONGEST_TIME = 1_000_000.0
 TEMPORARY = frozenset({429, 502, 503, 504})
 # A gateway that answers these has sent the request on and does not know what became of it.
 UNCERTAIN = frozenset({502, 504})
@@ -79,9 +80,10 @@ class DeskError(Exception):
     """An error of one call.
 
     `attempts` is how often the request was sent. `is_temporary` is True if the same call may
-    succeed later. `may_have_acted` is True if an attempt was sent and the desk's answer to it did
-    not arrive: the desk may have carried it out. After such an error make the same call again; for
-    `Operator.cut`, read `Operator.status` first.
+    succeed later; `retry_after` is how many seconds to wait before, if the answer said so, or 0.
+    `may_have_acted` is True if an attempt was sent and the desk's answer to it did not arrive: the
+    desk may have carried it out. After such an error make the same call again; for `Operator.cut`,
+    read `Operator.status` first.
     """
 
     def __init__(self, text: str, *, may_have_acted: bool = False) -> None:
@@ -89,8 +91,6 @@ class DeskError(Exception):
         self.attempts = 0
         self.may_have_acted = may_have_acted
         self.is_temporary = False
-        # When the next attempt is made: at once, or after so many seconds at least.
-        self.is_at_once = False
         self.retry_after = 0.0
 
 
@@ -169,7 +169,7 @@ class ForeignAnswer(DeskError):
 
 
 class InputFault(DeskError, ValueError):
-    """Nothing was sent, because what was given is malformed.
+    """No request was made, because what was given is malformed.
 
     `name` says what is wrong, such as `bad company`, `bad header` or `bad cents`; `row` is the
     number of the row of a list, from 1 after the header, or None. The text is the line that
@@ -606,10 +606,13 @@ class _Answer:
     def json(self) -> object:
         """The body as JSON, or None."""
         try:
-            told: object = json.loads(self.body)
-            return told
+            value: object = json.loads(self.body)
+            return value
         except (ValueError, RecursionError):
             return None
+
+    def foreign(self) -> ForeignAnswer:
+        return ForeignAnswer(self.status, self.content_type, self.body)
 
 
 @dataclass(frozen=True)
@@ -629,8 +632,9 @@ class Settings:
     """How requests are sent.
 
     `timeout` bounds each wait for the network, in seconds; a proxy usually gives up after 60.
-    `total_seconds` bounds all attempts of one call with their pauses; with 0 each call is sent
-    once.
+    `total_seconds` bounds all attempts of one call with their pauses: no attempt begins after it,
+    and the last one waits no longer than what is left of it. With 0 each call is sent once. A
+    restart of a large desk takes minutes.
 
     `keeps_connection` sends one request after another on one connection. Use it through a proxy
     only: the desk itself serves one connection at a time, and others wait until it is closed.
@@ -642,11 +646,18 @@ class Settings:
     """
 
     timeout: float = 70.0
-    total_seconds: float = 120.0
+    total_seconds: float = 600.0
     keeps_connection: bool = False
     tls: Optional[ssl.SSLContext] = None
     allows_plain_http: bool = False
     on_retry: Optional[Notice] = None
+
+    def __post_init__(self) -> None:
+        """Raises `InputFault`: `bad timeout` or `bad total_seconds`."""
+        if not 0 < self.timeout <= LONGEST_TIME:
+            raise InputFault("bad timeout")
+        if not 0 <= self.total_seconds <= LONGEST_TIME:
+            raise InputFault("bad total_seconds")
 
 
 class _Caller:
@@ -685,27 +696,37 @@ class _Caller:
 
         Its members that are `wanted` must have these values: it could be another call's answer.
         """
-        answer = self._answer(request)
-        try:
-            value: T = _value_of(kind, answer.json())
-            if all(getattr(value, name) == it for name, it in wanted.items()):
-                return value
-        except _Mismatch:
-            pass
-        raise ForeignAnswer(answer.status, answer.content_type, answer.body)
 
-    def _answer(self, request: _Request) -> _Answer:
-        """Returns the first answer with status 200 or 201; repeats the request until it comes."""
-        until = time.monotonic() + self._settings.total_seconds
+        def value_of(answer: _Answer) -> T:
+            try:
+                value: T = _value_of(kind, answer.json())
+                if all(getattr(value, name) == it for name, it in wanted.items()):
+                    return value
+            except _Mismatch:
+                pass
+            raise answer.foreign()
+
+        return self._ask(request, value_of)
+
+    def _ask(self, request: _Request, value_of: Callable[[_Answer], T]) -> T:
+        """Returns the value of the first answer with status 200 or 201.
+
+        Repeats the request until it arrives, another status forbids it, or the time is over.
+        """
+        total = self._settings.total_seconds
+        until = time.monotonic() + (total or self._settings.timeout)
         may_have_acted = False
         for attempt in itertools.count(1):
+            was_kept = self._kept is not None
             try:
-                return self._attempt(request, until - time.monotonic())
+                return value_of(self._attempt(request, until - time.monotonic()))
             except DeskError as error:
                 error.attempts = attempt
                 error.may_have_acted = may_have_acted = may_have_acted or error.may_have_acted
-                pause = 0.0 if error.is_at_once else max(error.retry_after, _pause(attempt))
-                is_over = time.monotonic() + pause >= until
+                # The other side closes a connection that was idle; another one is opened at once.
+                is_at_once = was_kept and isinstance(error, NoAnswer)
+                pause = 0.0 if is_at_once else max(error.retry_after, _pause(attempt))
+                is_over = total == 0 or time.monotonic() + pause >= until
                 if is_over or not (request.is_repeated and error.is_temporary):
                     raise
                 if self._settings.on_retry is not None:
@@ -718,11 +739,7 @@ class _Caller:
         kept, self._kept = self._kept, None
         if kept is not None and kept.sock is not None and request.is_repeated:
             kept.sock.settimeout(timeout)
-            try:
-                return self._exchange(kept, request)
-            except NoAnswer as error:
-                error.is_at_once = True  # the other side closes a connection that was idle
-                raise
+            return self._exchange(kept, request)
         if kept is not None:
             kept.close()
         return self._exchange(self._connect(timeout), request)
@@ -806,12 +823,12 @@ def _pause(attempt: int) -> float:
 
 
 def _failure(answer: _Answer, retry_after: str) -> DeskError:
-    told = answer.json()
+    body = answer.json()
     error: DeskError
-    if answer.status >= 400 and isinstance(told, dict) and isinstance(told.get("error"), str):
-        error = Refused(answer.status, told)
+    if answer.status >= 400 and isinstance(body, dict) and isinstance(body.get("error"), str):
+        error = Refused(answer.status, body)
     else:
-        error = ForeignAnswer(answer.status, answer.content_type, answer.body)
+        error = answer.foreign()
     if re.fullmatch("[0-9]{1,4}", retry_after):
         error.retry_after = float(retry_after)
     return error
@@ -819,7 +836,10 @@ def _failure(answer: _Answer, retry_after: str) -> DeskError:
 
 def _post(path: str, members: Mapping[str, object]) -> _Request:
     body = json.dumps(members, separators=(",", ":"), sort_keys=True, ensure_ascii=False)
-    return _Request("POST", path, body.encode(), "application/json")
+    try:
+        return _Request("POST", path, body.encode(), "application/json")
+    except UnicodeEncodeError:
+        raise InputFault("bad text: it is not Unicode") from None
 
 
 def _get(path: str) -> _Request:
@@ -843,7 +863,7 @@ class Company(_Caller):
     def __init__(
         self, url: str, company: str, key: str, settings: Optional[Settings] = None
     ) -> None:
-        """Raises `InputFault`: `bad company`, `bad key` or `bad url`. Nothing is sent yet."""
+        """Raises `InputFault`: `bad company`, `bad key` or `bad url`. No request is made yet."""
         if not re.fullmatch("[A-Z0-9]{1,10}", company):
             raise InputFault("bad company")
         super().__init__(url, key, settings)
@@ -888,7 +908,7 @@ class Company(_Caller):
     ) -> Accepted:
         """Submits a list in CSV: `submit` of what `entries_of_csv` returns.
 
-        Raises `InputFault`, and sends nothing, if the list has a fault.
+        Raises `InputFault`, and makes no request, if the list has a fault.
         """
         return self.submit(entries_of_csv(data), ref=ref, sec=sec, direction=direction,
                            description=description, day=day)
@@ -947,7 +967,7 @@ class Operator(_Caller):
     """The calls of the bank's operator. `key` is the operator's key."""
 
     def __init__(self, url: str, key: str, settings: Optional[Settings] = None) -> None:
-        """Raises `InputFault`: `bad key` or `bad url`. Nothing is sent yet."""
+        """Raises `InputFault`: `bad key` or `bad url`. No request is made yet."""
         super().__init__(url, key, settings)
 
     def __enter__(self) -> Operator:
@@ -1030,10 +1050,13 @@ class Operator(_Caller):
         """
         if not re.fullmatch("[A-Z0-9]", modifier):
             raise InputFault("bad modifier")
-        answer = self._answer(_get(f"/ops/files/{_iso(day)}/{modifier}"))
-        if not answer.content_type.startswith("text/plain"):
-            raise ForeignAnswer(answer.status, answer.content_type, answer.body)
-        return answer.body
+
+        def text_of(answer: _Answer) -> bytes:
+            if not answer.content_type.startswith("text/plain"):
+                raise answer.foreign()
+            return answer.body
+
+        return self._ask(_get(f"/ops/files/{_iso(day)}/{modifier}"), text_of)
 
     def settlement(self) -> Settlement:
         """Returns the account of the ACH operator, by value day."""

@@ -4,6 +4,7 @@ import re
 import socket
 import struct
 import threading
+import time
 from collections import deque
 
 from helpers.running import HOST, SECONDS, connect, read_answer
@@ -66,14 +67,16 @@ class CuttingProxy(Listener):
     - ("cut", n): the desk carries the request out, and the client gets the first n bytes of the answer;
       a negative n counts from the end. Every other connection is reset, and the rest are closed;
     - ("drop",): the request is read, and the connection is closed: the desk never gets it;
-    - ("answer", bytes): the request is read, and the client gets these bytes.
+    - ("answer", bytes): the request is read, and the client gets these bytes;
+    - ("wait", n): the request is passed on after n seconds.
     """
 
     def __init__(self, desk):
-        self.desk, self.plans, self.requests, self.carried_out = desk, deque(), [], 0
+        self.desk, self.plans, self.requests, self.carried_out, self.connections = desk, deque(), [], 0, 0
         super().__init__()
 
     def serve(self, it):
+        self.connections += 1
         with it.makefile("rb") as reader:
             while (request := read_request(reader)) and self.goes_on(it, request):
                 pass
@@ -87,6 +90,8 @@ class CuttingProxy(Listener):
         if plan[0] == "answer":
             it.sendall(plan[1])
             return False
+        if plan[0] == "wait":
+            time.sleep(plan[1])
         answer = self.asked(request)
         if plan[0] == "cut":
             it.sendall(answer[: plan[1]])

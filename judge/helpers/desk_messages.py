@@ -1,10 +1,13 @@
 """Messages to a desk, the answers that must come, and sessions of the program in which they are sent."""
 
+import functools
 import json
+import os
 import re
 import resource
 import subprocess
 from dataclasses import dataclass
+from pathlib import Path
 
 SECONDS = 60
 LARGEST_SESSION = 1000
@@ -80,14 +83,27 @@ def limit_data(size):
     resource.setrlimit(resource.RLIMIT_DATA, (size, size))
 
 
+@functools.cache
+def is_sanitized(program):
+    """Was the program compiled with AddressSanitizer? It then reserves terabytes, and does not start under a limit."""
+    return b"__asan_init" in Path(program).read_bytes()
+
+
 def session(program, sent, most_data=None):
-    """What the program prints for these bytes, its errors and its status; with so much memory, where it is told."""
-    limit = None if most_data is None else lambda: limit_data(most_data)
+    """What the program prints for these bytes, its errors and its status, with so much memory if a size is given.
+
+    AddressSanitizer refuses allocations of more than this size instead, and warns of each on standard error."""
+    limit, known, warning = None, {}, b""
+    if most_data is not None and is_sanitized(program[0]):
+        known = {"ASAN_OPTIONS": f"allocator_may_return_null=1:max_allocation_size_mb={most_data >> 20}"}
+        warning = rb"==\d+==WARNING: AddressSanitizer failed to allocate \w+ bytes\n"
+    elif most_data is not None:
+        limit = lambda: limit_data(most_data)
     try:
-        done = subprocess.run([*program, "stdio"], input=sent, capture_output=True, timeout=SECONDS, preexec_fn=limit)
+        done = subprocess.run([*program, "stdio"], input=sent, capture_output=True, timeout=SECONDS, preexec_fn=limit, env=os.environ | known)
     except subprocess.TimeoutExpired:
         return b"", b"no end", None
-    return done.stdout, done.stderr, done.returncode
+    return done.stdout, re.sub(warning, b"", done.stderr), done.returncode
 
 
 def is_wanted(exchange, answer):

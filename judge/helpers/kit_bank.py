@@ -3,7 +3,6 @@
 import datetime
 import functools
 import json
-import ssl
 import sys
 import tempfile
 import time
@@ -11,7 +10,7 @@ from contextlib import ExitStack
 from pathlib import Path
 
 from helpers.cutting_proxy import CuttingProxy, LosingRelay
-from helpers.nginx import Nginx
+from helpers.proxy import SAME_KEYS, Proxy
 from helpers.returned import file_of_returns
 from helpers.running import HOST, MILL_KEY, OPERATOR_KEY, SECONDS, TOP, Serving, make_desk
 
@@ -88,10 +87,12 @@ class Bank:
         self.relay, self.tls = None, None
         self.url = f"http://{HOST}:{self.spoils.port}"
         if self.way == "through nginx with TLS":
-            nginx = self.stack.enter_context(Nginx(self.folder, self.spoils.port, tls=True))
-            self.certificate = nginx.certificate
-            self.tls = ssl.create_default_context(cafile=self.certificate)
-            self.relay = self.stack.enter_context(LosingRelay(nginx.port, self.spoils))
+            self.folder.chmod(0o711)  # nginx's workers are another user
+            proxy = self.stack.enter_context(
+                Proxy(self.folder / "proxy", self.spoils.port, *SAME_KEYS, changes=[("keepalive_timeout     15s", "keepalive_timeout 1s")])
+            )
+            self.certificate, self.tls = proxy.certificate, proxy.context()
+            self.relay = self.stack.enter_context(LosingRelay(proxy.port, self.spoils))
             self.url = f"https://localhost:{self.relay.port}"
         self.operator, self.mill = self.make_operator(), self.make_mill()
         return self

@@ -160,6 +160,13 @@ def commands(checks, program, way):
             it.run("retry", "--ref", "RT-1", "--of", "PAY-2", "--index", "1", "--day", "2025-01-16", "--csv"),
             ("ref,order,entries,cents\nRT-1,3,1,2500\n", "", 0),
         )
+        if bank.tls:
+            said, errors, status = it.run("returns", ACHDESK_CA_FILE=None)
+            checks.that(
+                "4: a certificate of an authority that is not known, which is told at once",
+                (said, status, "give --ca-file" in errors, "trying again" in errors),
+                ("", 4, True, False),
+            )
         bank.spoils.plans.append(("cut", 20))
         said, errors, status = it.run("look", "RT-1", "--csv")
         checks.that(
@@ -200,6 +207,8 @@ def exit_statuses(checks, program):
             (["returns"], {"ACHDESK_KEY_FILE": None}),
             (["returns"], {"ACHDESK_COMPANY": "mill"}),
             (["returns"], {"ACHDESK_URL": "http://desk.bank.example"}),
+            (["returns", "--timeout", "0"], {}),
+            (["returns", "--total-seconds", "nan"], {}),
         ):
             checks.that(f"2: {' '.join(words[:2])} {' '.join(more)}".rstrip(), it.run(*words, **more)[2], 2)
         bank.spoils.plans.extend([("drop",)] * 100)
@@ -227,10 +236,14 @@ def exit_statuses(checks, program):
             (f"achdesk-company: warning: other users may read {it.key}; run: chmod 600 {it.key}\n", 0),
         )
         it.key.chmod(0o600)
+        header = bank.folder / "mill.header"
+        header.touch(0o600)
+        header.write_text(f"X-Desk-Key: {MILL_KEY}\n")
+        checks.that("0: the key file of curl", it.run("returns", ACHDESK_KEY_FILE=str(header)), ("No returns.\n", "", 0))
         said, _, status = it.run("--help")
         checks.that(
             "--help has each status and an example",
-            (status, [n for n in range(7) if f"\n  {n}  " not in said], "submit pay.csv" in said),
+            (status, [n for n in [*range(7), 130] if f"\n  {n}  " not in said], "submit pay.csv" in said),
             (0, [], True),
         )
 

@@ -84,7 +84,7 @@ class Page:
         for operation in self.operations.values():
             for status, answer in operation.tree["responses"].items():
                 for content, kind in ({} if "$ref" in answer else answer["content"]).items():
-                    for name, it in kind["examples"].items():
+                    for name, it in kind.get("examples", {}).items():
                         asks, why_not = it["x-request"], it.get("x-not-sent")
                         yield Example(name, operation, int(status), content, it["value"], asks, why_not)
 

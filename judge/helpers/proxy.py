@@ -1,5 +1,5 @@
-"""nginx before a desk with the site of deploy/nginx.conf, in which only the port, the paths and the desk's port are
-replaced: shared by the judges that need a proxy. It needs nginx, and openssl for a certificate of 127.0.0.1."""
+"""nginx in front of a desk, with the site of deploy/nginx.conf, in which only ports, paths and what a judge names are
+replaced: shared by all judges that need a proxy. It needs nginx, and openssl for a certificate of 127.0.0.1."""
 
 import http.client
 import os
@@ -12,10 +12,9 @@ import sys
 import time
 from pathlib import Path
 
-from helpers.running import HOST, TOP, connect, free_port
+from helpers.running import HOST, MILL_KEY, OPERATOR_KEY, TOP, connect, found, free_port
 
 SITE = TOP / "deploy" / "nginx.conf"
-NGINX = shutil.which("nginx") or shutil.which("nginx", path="/usr/sbin:/usr/local/sbin")
 # What Debian's own nginx.conf has, in short. A worker must be able to read the folder of the judge.
 MAIN = """user www-data; worker_processes auto; pid {folder}/nginx.pid; error_log {folder}/error.log;
 events {{ worker_connections {connections}; }}
@@ -25,6 +24,10 @@ include {folder}/site.conf; }}
 """
 TEMPORARY = ("client_body", "proxy", "fastcgi", "uwsgi", "scgi")
 
+# For judges that are not about keys: people, companies and the desk's keys, each caller with the key that the desk knows.
+SAME_KEYS = ({OPERATOR_KEY: "operator:operator"}, {MILL_KEY: "MILL01:mill", "bakery-key": "BAKE01:bakery"},
+             {"operator": OPERATOR_KEY, "MILL01": MILL_KEY, "BAKE01": "bakery-key"})
+
 
 def replaced(text, old, new):
     """The text with each `old` replaced; there must be one."""
@@ -33,14 +36,16 @@ def replaced(text, old, new):
     return text.replace(old, new)
 
 
-def site(folder, port, desk_port, console=TOP, seconds=60):
-    """The text of deploy/nginx.conf for a folder and two ports; `console` is the folder that has console/, and the desk
-    is waited for so many seconds."""
+def site(folder, port, desk_port, console=TOP, seconds=60, tls=True, changes=()):
+    """The text of deploy/nginx.conf for a folder and two ports.
+
+    `console` is the folder that has console/, and the desk is waited for so many seconds. `changes` are further texts with
+    what replaces them. Without `tls` the site is plain HTTP, for a browser that would not trust the certificate."""
     text = replaced(SITE.read_text(), "_timeout      60s", f"_timeout      {seconds}s")
-    for old, new in (("listen 443 ssl", f"listen {HOST}:{port} ssl"), ("127.0.0.1:880", f"{HOST}:{desk_port}"), ("/etc/achdesk", str(folder)),
-                     ("/var/log/achdesk", str(folder)), ("/usr/share/achdesk", str(console))):
+    for old, new in (("listen 443 ssl", f"listen {HOST}:{port}{' ssl' if tls else ''}"), ("127.0.0.1:880", f"{HOST}:{desk_port}"),
+                     ("/etc/achdesk", str(folder)), ("/var/log/achdesk", str(folder)), ("/usr/share/achdesk", str(console)), *changes):
         text = replaced(text, old, new)
-    return text
+    return text if tls else re.sub(r"\n *ssl_\w+ .*;", "", text)
 
 
 def lines_of_keys(keys):
@@ -51,10 +56,11 @@ class Proxy:
     """nginx in a folder of its own, and the keys that it knows.
 
     `people` and `companies` have for each key that is shown its `ROLE:NAME`; `desk` has for `operator` and for each
-    company the key that the desk knows."""
+    company the key that the desk knows. The folder is made if it is not there; `changes` and the rest are as in `site`."""
 
-    def __init__(self, folder, desk_port, people, companies, desk, port=None, connections=768, console=TOP, seconds=60):
+    def __init__(self, folder, desk_port, people, companies, desk, port=None, connections=768, console=TOP, seconds=60, tls=True, changes=()):
         self.folder, self.port = Path(folder), port or free_port()
+        self.folder.mkdir(exist_ok=True)
         self.folder.chmod(0o755)
         (self.folder / "keys").mkdir(mode=0o700)
         (self.folder / "tls").mkdir(mode=0o700)
@@ -63,7 +69,7 @@ class Proxy:
         self.make_certificate()
         self.write_keys(people, companies, desk)
         shutil.copy(TOP / "deploy" / "operators.conf", self.folder)
-        (self.folder / "site.conf").write_text(site(self.folder, self.port, desk_port, console, seconds))
+        (self.folder / "site.conf").write_text(site(self.folder, self.port, desk_port, console, seconds, tls, changes))
         temporary = "".join(f"{it}_temp_path {self.folder}/{it};" for it in TEMPORARY)
         self.main = self.folder / "nginx.conf"
         self.main.write_text(MAIN.format(folder=self.folder, connections=connections, temporary=temporary))
@@ -71,7 +77,7 @@ class Proxy:
         self.wait()
 
     def command(self):
-        return [NGINX, "-p", str(self.folder), "-e", str(self.errors), "-c", str(self.main)]
+        return [found("nginx"), "-p", str(self.folder), "-e", str(self.errors), "-c", str(self.main)]
 
     def make_certificate(self):
         words = ["openssl", "req", "-x509", "-newkey", "ec", "-pkeyopt", "ec_paramgen_curve:prime256v1", "-nodes", "-days", "30", "-subj", "/CN=desk",
@@ -150,7 +156,3 @@ class Proxy:
 LOGGED = re.compile(r'(?P<time>\S+) (?P<address>\S+) holder=(?P<holder>\S+) "(?P<request>(?:[^"\\]|\\.)*)" (?P<status>\d+) '
                     r'received=(?P<received>\d+) sent=(?P<sent>\d+) seconds=(?P<seconds>[\d.]+) desk=(?P<desk>.+)')
 
-
-def holder_of(line):
-    found = LOGGED.fullmatch(line)
-    return found and found["holder"]

@@ -14,7 +14,7 @@ from pathlib import Path
 
 TOP = Path(__file__).resolve().parents[2]
 HOST = "127.0.0.1"
-SECONDS = 30  # so long an answer, or the end of a program, is waited for
+SECONDS = 120  # so long an answer, or the end of a program, is waited for: a busy machine takes ten times as long
 
 OPERATOR_KEY = "operator-key"
 MILL_KEY = "mill-street-key"
@@ -70,7 +70,7 @@ def built(work, name, source, uses):
 
 def make_desk(program, path):
     """A new desk of the sample bank in a file."""
-    said = run(program, "init", path, *IDENTITY)
+    said = run(program, "init", path, *IDENTITY, seconds=5 * SECONDS)
     if said != (b"created\n", 0):
         sys.exit(f"no desk was made: {said}")
 
