@@ -152,7 +152,7 @@ def check_names():
     check("returns-files.md: faults of a file", tuple(files), FILE_FAULTS)
     check("names of refusals and faults that the desk does not have", sorted(unknown_names()), [])
     code = "\n".join(it for page in USER_PAGES for it in re.findall(r"`[^`\n]+`|^```.*?^```", page.read_text(), re.M | re.S))
-    metrics = set(re.findall(r'put\("(\w+)"', text("deploy/achdesk-day")))
+    metrics = set(re.findall(r'"([a-z_]+)"', text("deploy/achdesk-day")))
     named = set(re.findall(r"\bachdesk_([a-z_]+)", code)) - set(re.findall(r"achdesk_(\w+)", text("deploy/nginx.conf"))) - {""}
     check("metrics that achdesk-day does not print", sorted(named - metrics), [])
     views = set(re.findall(r"CREATE TEMP VIEW (\w+)", text("docs/audit.sql")))
@@ -174,7 +174,7 @@ def unknown_names():
 
 
 # Settings of systemd, which are written as names of faults are.
-UNITS = {"LimitAS", "OnFailure", "OnCalendar"}
+UNITS = {"LimitAS", "OnFailure", "OnCalendar", "ReadWritePaths"}
 
 
 def unknown_paths():
@@ -190,7 +190,7 @@ def unknown_paths():
 
 
 # Names of one's own below an installed folder, as the pages use them.
-EXAMPLES = {"NAME.env", "NAME", "new-cert.pem"}
+EXAMPLES = {"NAME.env", "NAME", "sftp.pub"}
 
 
 # ---- what auditors read
@@ -362,7 +362,7 @@ NUMBERS = (
     ("docs/operate/install.md", r"`--connections`, at most ([\d,]+)", "connections"),
     ("docs/operate/install.md", r"`--patience` seconds, (\d+) by default", "seconds of patience"),
     ("docs/operate/install.md", r"by default and (\d+) in the unit", "seconds of patience in the unit"),
-    ("docs/operate/install.md", r"address space to (\d+) GiB", "GiB of the unit"),
+    ("deploy/README.md", r"The unit has (\d+) GiB", "GiB of the unit"),
     ("docs/operate/install.md", r"each address to (\d+) requests", "rate of an address"),
     ("docs/operate/install.md", r"each company to (\d+)", "rate of a company"),
     ("docs/operate/install.md", r"sends up to (\d+) MiB more", "MiB that are read and dropped"),
@@ -461,8 +461,6 @@ def check_numbers():
 
 # ---- commands
 
-# Words of a command that stand for others.
-PLACE = re.compile(r"[A-Z][A-Z/.a-z]*\b|\.\.|N\b")
 PROGRAMS = re.compile(r"(?:sudo |sudo -u achdesk )?(?:achdesk(?:-day|-company)?|\./achdesk|\./try|systemctl|journalctl|make|python3|curl|sqlite3|ss|fuser|nginx|apt) \S")
 
 
@@ -471,30 +469,31 @@ def check_commands():
     printed = [" ".join(command.split()) for page in pages.PAGES for block in pages.blocks(page) for command, _ in pages.commands(block)]
     lines = {line.strip() for command in printed for line in re.split(r" && | \| |; |\n", command)} | set(printed)
     lines |= {re.sub(r"^(?:sudo(?: -u \w+)? )", "", it) for it in lines}
-    missing, used = [], set()
+    missing, used, listed = [], set(), (*pages.NOT_RUN, *pages.IN_TEXT)
     for page in USER_PAGES:
         for command in re.findall(r"`([^`\n]+)`", prose_of(page)):
             if not PROGRAMS.match(command):
                 continue
-            if (why := pages.reason(command)) is not None:
-                used.add(why[0])
-            elif not any(is_like(command, it) for it in lines):
+            why = [it[0] for it in listed if command.removeprefix("./").startswith(it[0].removeprefix("./"))]
+            used |= set(why)
+            if not why and not any(is_like(command, it) for it in lines):
                 missing.append(f"{page.relative_to(TOP)}: {command}")
     check("commands in the text that judge/pages.py neither runs nor lists", missing, [])
     used |= {why[0] for it in printed if (why := pages.reason(it)) is not None}
-    check("commands of NOT_RUN that no page has", [it[0] for it in pages.NOT_RUN if it[0] not in used], [])
-    tests = {name for it in pages.NOT_RUN for name in re.findall(r"\bjudge/\w+\.py|\.ci/\w+", it[2])}
-    check("tests that NOT_RUN names and the tree does not have", sorted(it for it in tests if not (TOP / it).exists()), [])
+    check("commands that judge/pages.py lists and no page has", [it[0] for it in listed if it[0] not in used], [])
+    tests = {name for it in listed for name in re.findall(r"\b(?:judge/\w+\.py|crates/\w+)", it[2])}
+    check("tests that judge/pages.py names and the tree does not have", sorted(it for it in tests if not (TOP / it).exists()), [])
     check("commands and options that achdesk-day does not have", sorted(unknown_options("achdesk-day", "deploy/achdesk-day", {"--help"})), [])
     check("commands and options that achdesk-company does not have",
           sorted(unknown_options("achdesk-company", "clients/achdesk-company", {"--help"})), [])
 
 
 def is_like(command, line):
-    """Is a line the command, with more words after it and others in places of words like FILE?"""
-    words = re.sub(r"^(?:sudo(?: -u \w+)? )", "", command).removeprefix("./").split()
-    run = line.removeprefix("./").split()
-    return len(run) >= len(words) and all(PLACE.fullmatch(a) or a == b for a, b in zip(words, run))
+    """Returns whether a line has the words of a command in their order; capitals in a command, as FILE, stand for any text."""
+    words = iter(line.removeprefix("./").split())
+    command = re.sub(r"^(?:sudo(?: -u \w+)? )", "", command).removeprefix("./")
+    return all(any(re.fullmatch(it, word) for word in words)
+               for it in (re.sub(r"[A-Z]{2,}", r"\\S+", re.escape(word)) for word in command.split()))
 
 
 def unknown_options(program, source, known):

@@ -5,12 +5,15 @@ In README.md and in docs/operate, docs/integrate and docs/audit each `console` b
 has to be what the page shows, if the page shows any; a line `..` stands for any lines. Each `sh` block is run as one
 script and has to succeed; variables that it exports stay. So does each `python` block, and each `sql` block, which stock
 SQLite runs with the views of docs/audit.sql. A page is read from the top, in a folder of its own; a second word after
-`console` or `sh` names another folder, so that a page can show two ways of doing the same. Paths under /etc, /var,
-/usr/share and /tmp lie in that folder, `sudo` and `runuser` are dropped, `systemctl` starts and stops the desk, `kill %1`
-stops it, a key that a command reads is given to it, and the desk's address is that of the desk that is served there.
-Nothing else is replaced. NOT_RUN lists the commands that are not run, each with the reason and the test that covers it; a
-command of the list that no page has fails. The last line counts the checks; the exit status is 1 if one failed. It needs
-bash, curl, ss, openssl, sqlite3 and OpenSSH's sftp with its server.
+`console` or `sh` names another folder, so that a page can show two ways of doing the same.
+
+Paths under /etc, /var, /usr/share and /tmp lie in that folder, `sudo` and `runuser` are dropped, `systemctl` starts and
+stops the desk, `kill %1` stops it, a key that a command reads is given to it, `./try` runs the program in place of
+compiling it, and the desk's address is that of the desk that is served there. Nothing else is replaced.
+
+NOT_RUN lists the commands of blocks that are not run, each with the reason and the test that covers it, and IN_TEXT the
+commands that no block has. A command of NOT_RUN that no page has fails. The last line counts the checks; the exit status
+is 1 if one failed. It needs bash, curl, ss, openssl, sqlite3 and OpenSSH's sftp with its server.
 """
 
 import os
@@ -44,9 +47,43 @@ NOT_RUN = (
     ("cp -a /var/lib/achdesk-standby", "it needs a standby", "judge/backups.py, which runs it"),
     ("rm -f /etc/nginx", "it needs nginx as root", "judge/deploy.py runs nginx with deploy/nginx.conf"),
 )
+# Commands in the text of pages that no block has, with the same; judge/facts.py compares them with the pages.
+IN_TEXT = (
+    ("achdesk help", "its answer is long", "crates/tests_of_the_program"),
+    ("achdesk-company --help", "its answer is long", "judge/clients_kit.py runs each command"),
+    ("achdesk-company changes --new", "the page shows it for returns", "judge/clients_kit.py"),
+    ("achdesk-day backup --expire-only", "it is for a standby", "judge/backups.py, the rule of it"),
+    ("achdesk-day begin", "a desk has it once", "judge/day.py"),
+    ("achdesk-day correct", "other pages show other words of it", "judge/day.py"),
+    ("achdesk-day cut --remake", "it follows a restore", "judge/backups.py"),
+    ("achdesk-day open --day", "it follows a restore", "judge/day.py"),
+    ("fuser", "it only looks at processes", "none"),
+    ("journalctl", "it needs systemd", "none"),
+    ("make install", "it installs below /usr", "judge/deploy.py"),
+    ("python3 judge/run.py", "it runs the judges, and this one", "none"),
+    ("python3 judge/audit.py", "it is a judge", "judge/audit.py itself"),
+    ("ss -", "it only looks at sockets", "none"),
+    ("systemctl daemon-reload", "it needs systemd", "none"),
+    ("systemctl disable --now achdesk", "it needs systemd", "none"),
+    ("systemctl edit", "it needs systemd", "judge/deploy.py verifies the units"),
+    ("systemctl status", "it needs systemd", "none"),
+)
 MOVED = re.compile(r"(?<![\w./])/(etc|var|tmp|usr/share)/")
 WAIT = 0.1
 SECONDS = 120
+# The toolchain for ./try: the program runs with the words that it would be given, and with the file of --data by its path.
+RT = """#!/bin/sh
+[ "$1" = try ] || exit 2
+shift
+[ "$1" = --data ] && file=${{2#given=}} && shift 2
+[ "$1" = -- ] && shift
+for word in "$@"; do
+    shift
+    [ "$word" = given ] && word=$file
+    set -- "$@" "$word"
+done
+exec {program} "$@"
+"""
 
 
 @dataclass
@@ -101,8 +138,10 @@ class Room:
         for name in ("bin", "var/lib/achdesk", "var/lib/achdesk-day/backups", "tmp", "etc/achdesk/keys", "usr/share/achdesk"):
             (self.folder / name).mkdir(parents=True)
         (self.folder / "usr/share/achdesk/audit.sql").symlink_to(TOP / "docs/audit.sql")
-        for name in ("examples", "docs", "judge", "clients", "deploy", "console"):
+        for name in ("examples", "docs", "judge", "clients", "deploy", "console", "crates", "try"):
             (self.folder / name).symlink_to(TOP / name)
+        (self.folder / "bin/rt").write_text(RT.format(program=program))
+        (self.folder / "bin/rt").chmod(0o755)
         for place in ("achdesk", "bin/achdesk"):
             (self.folder / place).symlink_to(program)
         # On a terminal curl prints no progress when it prints a body.
@@ -154,7 +193,8 @@ class Room:
         words = "\n".join([*self.exports, self.moved(command)])
         self.exports += [line for line in self.moved(command).split("\n") if line.startswith("export ")]
         done = subprocess.run(["bash", "-ec", words], cwd=self.folder, env=path, input=self.typed(command).encode(),
-                              stdout=subprocess.PIPE, stderr=subprocess.STDOUT, timeout=SECONDS)
+                              stdout=subprocess.PIPE, stderr=subprocess.DEVNULL if command.startswith("./try ") else subprocess.STDOUT,
+                              timeout=SECONDS)
         said = done.stdout.decode(errors="replace").replace(self.address, "https://desk.bank.example")
         return said.replace(f"{self.folder}/", "/"), done.returncode
 
