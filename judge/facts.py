@@ -11,6 +11,7 @@ A sentence that no page has fails too: whoever rewords it changes NUMBERS, and w
 """
 
 import datetime
+import functools
 import re
 import subprocess
 import sys
@@ -42,8 +43,20 @@ def check(what, found, wanted):
         print(f"{what}: the page has {found}, the tree has {wanted}")
 
 
+@functools.cache
 def text(path):
     return (TOP / path).read_text()
+
+
+@functools.cache
+def sources():
+    """Returns the sources of the crates, each with its path."""
+    return [(path, path.read_text()) for path in (TOP / "crates").glob("*/src/**/*.rt")]
+
+
+@functools.cache
+def api():
+    return load(text("docs/openapi.yaml"))
 
 
 def number(path, pattern):
@@ -61,8 +74,8 @@ def constant(path, pattern):
 def constants():
     """Returns the constants of the crates, each by the name of its file and its own, as `limits.MOST_BYTES`."""
     found = {}
-    for path in (TOP / "crates").glob("*/src/**/*.rt"):
-        for name, value in re.findall(r"\bconst ([A-Z_]+): \w+ = ([\d_]+);", path.read_text()):
+    for path, source in sources():
+        for name, value in re.findall(r"\bconst ([A-Z_]+): \w+ = ([\d_]+);", source):
             found[f"{path.stem}.{name}"] = int(value.replace("_", ""))
     return found
 
@@ -143,10 +156,10 @@ def check_libraries():
 # ---- names
 
 def check_names():
-    api = GENERATED.read_text()
-    shown = {int(n): (name, int(status)) for n, name, status in re.findall(r"^\| (\d+) \| `(\w+)` \| (\d+) \|", api, re.M)}
+    page = GENERATED.read_text()
+    shown = {int(n): (name, int(status)) for n, name, status in re.findall(r"^\| (\d+) \| `(\w+)` \| (\d+) \|", page, re.M)}
     check("api.md: refusals", shown, REFUSALS)
-    faults = dict(re.findall(r"^\| `(\w+)` \| (\d+) \|", api, re.M))
+    faults = dict(re.findall(r"^\| `(\w+)` \| (\d+) \|", page, re.M))
     check("api.md: faults of a message", {name: int(it) for name, it in faults.items()}, MESSAGE_FAULTS | PROXY_FAULTS)
     files = re.findall(r"^\| \d+ \| `(\w+)` \|", text("docs/operate/returns-files.md"), re.M)
     check("returns-files.md: faults of a file", tuple(files), FILE_FAULTS)
@@ -165,8 +178,8 @@ def unknown_names():
     known = {name for name, _ in REFUSALS.values()} | {*MESSAGE_FAULTS, *PROXY_FAULTS, *FILE_FAULTS, *CALENDAR_FAULTS}
     known |= set(re.findall(r"^    (\w+)(?:\(\w+\))?,$", text("crates/sql_setup/src/fault.rt"), re.M))
     known |= set(re.findall(r"^class (\w+)", text("clients/python/achdesk.py"), re.M)) | UNITS
-    known |= set(re.findall(r"\b(?:struct|enum|trait) (\w+)", "".join(it.read_text() for it in (TOP / "crates").glob("*/src/**/*.rt"))))
-    reasons = load(text("docs/openapi.yaml"))["components"]["schemas"]["SuspenseItem"]["properties"]["why"]["enum"]
+    known |= {name for _, source in sources() for name in re.findall(r"\b(?:struct|enum|trait) (\w+)", source)}
+    reasons = api()["components"]["schemas"]["SuspenseItem"]["properties"]["why"]["enum"]
     for page in USER_PAGES:
         for name in re.findall(r"`([A-Z][a-z]+(?:[A-Z][a-z]*)+)\b", prose_of(page)):
             if name not in known | set(reasons):
@@ -180,9 +193,9 @@ UNITS = {"LimitAS", "OnFailure", "OnCalendar", "ReadWritePaths"}
 def unknown_paths():
     """Returns installed paths of which neither the package nor a program of deploy/ has a part."""
     makefile = re.sub(r"\$\((\w+)\)", lambda it: {"BIN": "/usr/bin", "SHARE": "/usr/share", "ETC": "/etc"}.get(it[1], it[0]), text("Makefile"))
-    sources = "\n".join([makefile, *(it.read_text() for it in (TOP / "deploy").rglob("*") if it.is_file()), text("judge/deploy.py")])
-    known = {parent for it in INSTALLED.findall(sources) for parent in (it, *map(str, Path(it).parents))}
-    names = set(re.findall(r"[\w.-]+", sources))
+    lines = "\n".join([makefile, *(it.read_text() for it in (TOP / "deploy").rglob("*") if it.is_file()), text("judge/deploy.py")])
+    known = {parent for it in INSTALLED.findall(lines) for parent in (it, *map(str, Path(it).parents))}
+    names = set(re.findall(r"[\w.-]+", lines))
     for page in USER_PAGES:
         for path in INSTALLED.findall(page.read_text()):
             if path not in known and not (str(Path(path).parent) in known and Path(path).name in names | EXAMPLES):
@@ -197,9 +210,9 @@ EXAMPLES = {"NAME.env", "NAME", "sftp.pub"}
 
 def check_tables():
     """tables.md has each table with its columns in their order, and says of exactly those that may be NULL that they may be."""
-    sources = text("judge/stock_sqlite.py")
+    listed = text("judge/stock_sqlite.py")
     tables = {name: row.split() for name, row in
-              re.findall(r'^    "(\w+)": \("((?:[^"]|"\s+")*)"', sources.partition("INDEXES")[0], re.M)}
+              re.findall(r'^    "(\w+)": \("((?:[^"]|"\s+")*)"', listed.partition("INDEXES")[0], re.M)}
     tables = {name: [it.strip('"') for it in row if it != '"'] for name, row in tables.items()}
     page = text("docs/audit/tables.md")
     found, nulls = {}, {}
@@ -209,8 +222,8 @@ def check_tables():
         nulls[name] = [column for cell, said in rows for column in re.findall(r"`(\w+)`", cell) if re.search(r"NULL", said) or said.endswith("else NULL.")]
     check("tables.md: tables and columns", found, {name: [it.partition(":")[0] for it in row] for name, row in tables.items()})
     check("tables.md: columns that may be NULL", nulls, {name: [it.partition(":")[0] for it in row if it.endswith("?")] for name, row in tables.items()})
-    indexes = set(re.findall(r'^    "(\w+)": \("', sources.partition("INDEXES")[2].partition("def ")[0], re.M))
-    sentence = page.partition("There are six more")[2].partition("No answer")[0]
+    indexes = set(re.findall(r'^    "(\w+)": \("', listed.partition("INDEXES")[2].partition("def ")[0], re.M))
+    sentence = page.partition("There are six more indexes")[2].partition("No answer")[0]
     check("tables.md: indexes", set(re.findall(r"`(\w+_\w+)`", sentence)), indexes)
     check("tables.md: six more indexes", len(indexes), 6)
 
@@ -249,10 +262,10 @@ def rate_of(proxy, zone):
 
 def facts_of_tree():
     """Returns what the tree has, by the names that NUMBERS uses."""
-    api, proxy, day, kit = load(text("docs/openapi.yaml")), text("deploy/nginx.conf"), "deploy/achdesk-day", "clients/python/achdesk.py"
-    schemas, code = api["components"]["schemas"], constants()
+    proxy, day, client = text("deploy/nginx.conf"), "deploy/achdesk-day", "clients/python/achdesk.py"
+    schemas, code = api()["components"]["schemas"], constants()
     return {
-        "operations": sum(method in item for item in api["paths"].values() for method in ("get", "post")),
+        "operations": sum(method in item for item in api()["paths"].values() for method in ("get", "post")),
         "edits": len(list((TOP / "crates").glob("*/must-fail/*.edit"))),
         "hundreds of further edits": len(list((TOP / "judge/edits").glob("*/*.edit"))) // 100 * 100,
         "file version": code["version.VERSION"],
@@ -301,8 +314,8 @@ def facts_of_tree():
         "days of backups": constant(day, r'"newest": "\d+", "days": "(\d+)"'),
         "weeks of backups": constant(day, r'"weeks": "(\d+)"'),
         "months of backups": constant(day, r'"months": "(\d+)"'),
-        "seconds of a client": constant(kit, r"timeout: float = (\d+)\.0"),
-        "longest pause of a client": constant(kit, r"LONGEST_PAUSE = (\d+)\.0"),
+        "seconds of a client": constant(client, r"timeout: float = (\d+)\.0"),
+        "longest pause of a client": constant(client, r"LONGEST_PAUSE = (\d+)\.0"),
         "years of logs": constant("deploy/logrotate", r"rotate (\d+)") * 4 // 1461,
         "shortest first use": constant("bench/RESULTS.md", r"First use of `\./achdesk`.*?\| (\d+) to \d+ min"),
         "longest first use": constant("bench/RESULTS.md", r"First use of `\./achdesk`.*?\| \d+ to (\d+) min"),
