@@ -18,6 +18,7 @@ import sys
 from pathlib import Path
 
 import pages
+import run
 from helpers.prose import habits
 from helpers.refusals import CALENDAR_FAULTS, FILE_FAULTS, MESSAGE_FAULTS, PROXY_FAULTS, REFUSALS
 from helpers.small_yaml import load
@@ -525,6 +526,15 @@ def unknown_options(program, source, known):
                 yield from (f"{page.relative_to(TOP)}: {program} {it}" for it in re.findall(r"(?<!\S)--[a-z-]+", words) if it not in options)
 
 
+def check_judges():
+    """judge/README.md has each judge of judge/run.py, in the table of those that run without a name or in the other."""
+    first, _, second = text("judge/README.md").partition("These run if they are named")
+    for part, is_asked in ((first, False), (second, True)):
+        names = [f"{it.name}.py" for it in run.JUDGES if it.is_asked() == is_asked]
+        check(f"judge/README.md: judges that run {'if they are named' if is_asked else 'without words'}",
+              sorted(re.findall(r"^\| `(\w+\.py)` \|", part, re.M)), sorted(names))
+
+
 # ---- the program and the kit
 
 def check_program(program):
@@ -558,6 +568,7 @@ def main():
     check_views()
     check_numbers()
     check_commands()
+    check_judges()
     if sys.argv[1:]:
         check_program(sys.argv[1])
     warn_of_kit()
