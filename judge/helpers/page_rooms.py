@@ -21,8 +21,8 @@ CORRECTED = ("101 061000146 121042882250114    A094101ACH OPERATOR           OUR
 # The steps of each page's rooms, in order.
 PREPARED = {
     "docs/operate/install.md": ("folders", "day command"),
-    "docs/operate/day.md": ("desk", "company", "two cuts", "held", "inbox", "serve", "keys", "day program"),
-    "docs/operate/companies.md": ("desk", "company", "two cuts", "returned", "serve", "keys", "folders", "backup"),
+    "docs/operate/day.md": ("desk", "company", "two cuts", "held", "inbox", "copy", "serve", "keys", "day program"),
+    "docs/operate/companies.md": ("desk", "company", "two cuts", "returned", "copy", "serve", "keys", "folders"),
     "docs/operate/keys.md": ("folders",),
     "docs/operate/backup.md": ("desk", "company", "two cuts", "held", "serve", "keys", "day program"),
     "docs/operate/monitoring.md": ("desk", "company", "two cuts", "held", "serve", "keys", "day program"),
@@ -152,12 +152,11 @@ def copy_desk(room):
         shutil.copy(f"{room.database}{end}", room.folder / f"bank.db{end}")
 
 
-def make_backup(room):
-    """A folder like those that `achdesk-day backup` makes."""
-    backup = room.folder / "var/lib/achdesk-day/backups/2025-01-14T133000Z"
-    backup.mkdir()
+def make_copy(room):
+    """The copy that the commands of docs/operate/backup.md make from a backup."""
+    (room.folder / "copy").mkdir()
     for end in ("", "-wal"):
-        shutil.copy(f"{room.database}{end}", backup / f"bank.db{end}")
+        shutil.copy(f"{room.database}{end}", room.folder / f"copy/bank.db{end}")
 
 
 def make_folders(room):
@@ -181,6 +180,6 @@ OTHERS = {
     "day program": put_day_program,
     "day command": put_day_command,
     "copied": copy_desk,
-    "backup": make_backup,
+    "copy": make_copy,
     "folders": make_folders,
 }
