@@ -387,9 +387,10 @@ def no_desk(checks, program):
             b'{"day":"2025-13-08","credit":"0","credit_limit":1,"debit":"0","debit_limit":1,"entry_limit":1}',
             b'{"day":"2025-01-08","credit":"x","credit_limit":1,"debit":"0","debit_limit":1,"entry_limit":1}',
             b'{"day":"2025-01-08","credit":"0","credit_limit":true,"debit":"0","debit_limit":1,"entry_limit":1}',
+            b'{"credit":"' + b"9" * 5000 + b'","day":"2025-01-08","credit_limit":1,"debit":"0","debit_limit":1,"entry_limit":1}',
         ):
             bank.spoils.plans.append(("answer", page(200, "application/json", body)))
-            checks.that(f"nor is {body.decode()}", named(error_of(bank.mill.exposure)), ("ForeignAnswer",))
+            checks.that(f"nor is {body.decode()[:110]}", named(error_of(bank.mill.exposure)), ("ForeignAnswer",))
         bank.spoils.plans.append(
             (
                 "answer",

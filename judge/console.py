@@ -105,10 +105,11 @@ class Bank:
             self.browser.click(f"#question-{answer}")
         return self.said("set-day"), asked
 
-    def clock(self, moment):
-        """Makes the browser's clock stand still at a moment of its own time."""
+    def clock(self, moment, is_used=True):
+        """Stops the browser's clock at a moment of its own time. The page is used then, or would lock itself after a leap."""
         self.browser.run("""window.RealDate ??= Date; const at = new RealDate(arguments[0]);
-            Date = class extends RealDate { constructor(...given) { super(...(given.length ? given : [at])); } static now() { return at.getTime(); } }""", moment)
+            Date = class extends RealDate { constructor(...given) { super(...(given.length ? given : [at])); } static now() { return at.getTime(); } };
+            if (arguments[1]) document.dispatchEvent(new Event("keydown"));""", moment, is_used)
 
     def open(self, path="/console/"):
         """Opens the page, and the desk with the operator's key."""
@@ -480,12 +481,12 @@ def without_use(bank):
         if is_asked:
             bank.begin_cut()
         now = int(time.time() * 1000)
-        bank.clock(now)
+        bank.clock(now, is_used=False)
         browser.press("Shift")
-        bank.clock(now + 14 * 60_000)
+        bank.clock(now + 14 * 60_000, is_used=False)
         time.sleep(3)
         checks.that(f"after fourteen minutes {what} it is open", browser.run("return document.getElementById('desk').hidden"), False)
-        bank.clock(now + 16 * 60_000)
+        bank.clock(now + 16 * 60_000, is_used=False)
         browser.wait("return document.getElementById('desk').hidden")
         checks.that(f"after fifteen minutes {what} it is locked", (bank.said("open"), browser.run("return document.getElementById('question').open")), ("The page was locked after fifteen minutes without use.", False))
         text = browser.run("return document.body.innerText + [...document.querySelectorAll('input')].map(it => it.value).join(' ')")
@@ -493,9 +494,9 @@ def without_use(bank):
         checks.that("and made no file", len(bank.told("/ops/status")["files"]), cuts)
     bank.open()
     now = int(time.time() * 1000)
-    bank.clock(now + 14 * 60_000)
+    bank.clock(now + 14 * 60_000, is_used=False)
     browser.press("Shift")
-    bank.clock(now + 16 * 60_000)
+    bank.clock(now + 16 * 60_000, is_used=False)
     time.sleep(3)
     checks.that("a key that was pressed two minutes before keeps it open", browser.run("return document.getElementById('desk').hidden"), False)
 

@@ -37,7 +37,6 @@ import dataclasses
 import datetime
 import functools
 import http.client
-import itertools
 import json
 import random
 import re
@@ -70,7 +69,7 @@ TEMPORARY = frozenset({429, 502, 503, 504})
 UNCERTAIN = frozenset({502, 504})
 LOOPBACK = re.compile(r"localhost|127\.\d+\.\d+\.\d+|::1")
 DATE = re.compile("[0-9]{4}-[0-9]{2}-[0-9]{2}")
-DIGITS = re.compile("-?[0-9]+")
+DIGITS = re.compile("-?[0-9]{1,40}")
 
 
 # ---- errors
@@ -633,8 +632,8 @@ class Settings:
 
     `timeout` bounds each wait for the network, in seconds; a proxy usually gives up after 60.
     `total_seconds` bounds all attempts of one call with their pauses: no attempt begins after it,
-    and the last one waits no longer than what is left of it. With 0 each call is sent once. A
-    restart of a large desk takes minutes.
+    and the last one waits no longer than what is left of it, or a second. With 0 each call is sent
+    once. A restart of a large desk takes minutes.
 
     `keeps_connection` sends one request after another on one connection. Use it through a proxy
     only: the desk itself serves one connection at a time, and others wait until it is closed.
@@ -715,9 +714,9 @@ class _Caller:
         """
         total = self._settings.total_seconds
         until = time.monotonic() + (total or self._settings.timeout)
-        may_have_acted = False
-        for attempt in itertools.count(1):
-            was_kept = self._kept is not None
+        may_have_acted, attempt = False, 0
+        while True:
+            attempt, was_kept = attempt + 1, self._kept is not None
             try:
                 return value_of(self._attempt(request, until - time.monotonic()))
             except DeskError as error:
@@ -732,7 +731,6 @@ class _Caller:
                 if self._settings.on_retry is not None:
                     self._settings.on_retry(error, pause)
             time.sleep(pause)
-        raise AssertionError("count does not end")
 
     def _attempt(self, request: _Request, seconds: float) -> _Answer:
         timeout = min(self._settings.timeout, max(1.0, seconds))
