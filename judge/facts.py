@@ -513,8 +513,7 @@ def is_like(command, line):
 def unknown_options(program, source, known):
     """Returns commands and options that pages give a program of Python, and its source does not."""
     code = text(source)
-    commands = set(re.findall(r'^    "([a-z-]+)": \(|\("([a-z]+)", [^)]*(?:help|text)|^    "([a-z]+)",?$', code, re.M))
-    commands = {it for them in commands for it in them if it} | set(re.findall(r'"([a-z]+)"', code))
+    commands = {one or other for one, other in re.findall(r'^    "([a-z]+)": \(\w+, "|\(\w+, "([a-z]+)", "', code, re.M)}
     options = set(re.findall(r'add_argument\(\s*"(--[a-z-]+)"', code)) | known
     for page in USER_PAGES:
         spans = re.findall(r"`([^`\n]+)`", prose_of(page)) + re.findall(r"^(?:\$ )?(.*)$", "\n".join(re.findall(r"```\w*.*?\n(.*?)```", page.read_text(), re.S)), re.M)
