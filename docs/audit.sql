@@ -65,6 +65,7 @@ SELECT e.company, e.ord AS number, s.ref, e.idx AS entry, s.direction, e.routing
        CASE WHEN s.lapsed = 1 THEN 'lapsed' WHEN s.settled IS NULL THEN 'held'
             WHEN r.no IS NULL THEN 'sent' ELSE 'returned' END AS state,
        date(s.settled * 86400, 'unixepoch') AS settled,
+       date(s.file_day * 86400, 'unixepoch') AS cut_on, s.modifier AS file,
        e.seq AS place, substr(d.odfi, 1, 8) || substr('000000' || n.sequence, -7) AS trace,
        r.code, date(r.day * 86400, 'unixepoch') AS returned, CASE r.late WHEN 1 THEN 'late' WHEN 0 THEN 'in time' END AS late
 FROM desk d
@@ -266,12 +267,12 @@ UNION ALL SELECT 'each line of a company or of suspense has the operator''s oppo
    LEFT JOIN postings o ON o.no = p.no + 1 AND o.account = 'O' AND o.value_day = p.value_day AND o.cents = -p.cents
                        AND o.cause = p.cause AND o.ref IS p.ref AND o.idx = p.idx
    WHERE CASE p.no % 2 WHEN 1 THEN p.account = 'O' OR o.no IS NULL ELSE p.account <> 'O' END)
-UNION ALL SELECT 'each kept sum of a day is the sum of its lines',
+UNION ALL SELECT 'each stored sum of a day is the sum of its lines',
   (WITH summed AS (SELECT account, value_day, CAST(sum(cents) AS TEXT) FROM postings GROUP BY account, value_day),
         kept AS (SELECT account, value_day, cents FROM balances)
    SELECT (SELECT count(*) FROM (SELECT * FROM summed EXCEPT SELECT * FROM kept))
         + (SELECT count(*) FROM (SELECT * FROM kept EXCEPT SELECT * FROM summed)))
-UNION ALL SELECT 'the cut lines of companies are what was sent with money',
+UNION ALL SELECT 'the cut lines of companies are the sent submissions with money',
   (WITH sent AS (SELECT company, ref, settled, CASE direction WHEN 'credit' THEN -cents ELSE cents END
                  FROM audit_submissions WHERE state = 'sent' AND cents > 0),
         lines AS (SELECT company, ref, day, cents FROM audit_lines WHERE account = 'company' AND cause = 'cut')
@@ -290,18 +291,18 @@ UNION ALL SELECT 'the lines of suspense are its items with money, in their order
         + (SELECT count(*) FROM (SELECT * FROM lines EXCEPT SELECT * FROM items)))
 UNION ALL SELECT 'the places of sent entries are 1, 2, 3 and so on',
   (SELECT count(*) <> coalesce(max(seq), 0) OR count(*) <> count(DISTINCT seq) FROM entries WHERE seq IS NOT NULL)
-UNION ALL SELECT 'an entry has a place exactly where its submission settles',
+UNION ALL SELECT 'an entry has a place if and only if its submission was sent',
   (SELECT count(*) FROM entries e JOIN submissions s ON s.company = e.company AND s.ord = e.ord
    WHERE (e.seq IS NULL) <> (s.settled IS NULL))
-UNION ALL SELECT 'each sequence names the place of a sent entry',
+UNION ALL SELECT 'each sequence belongs to a sent entry',
   (SELECT count(*) FROM numbers n LEFT JOIN entries e ON e.seq = n.nth WHERE e.seq IS NULL)
-UNION ALL SELECT 'what came back was sent',
+UNION ALL SELECT 'each returned entry was sent',
   (SELECT count(*) FROM returns r LEFT JOIN entries e ON e.company = r.company AND e.ord = r.ord AND e.idx = r.idx
    WHERE e.seq IS NULL)
-UNION ALL SELECT 'the returns, changes and items in suspense are those that taken files count',
+UNION ALL SELECT 'the taken files count as many returns, changes and items in suspense as there are',
   (SELECT (coalesce(sum(returns), 0) <> (SELECT count(*) FROM returns)) + (coalesce(sum(changes), 0) <> (SELECT count(*) FROM changes))
         + (coalesce(sum(suspense), 0) <> (SELECT count(*) FROM suspense)) FROM taken)
-UNION ALL SELECT 'the control of each file counts what the tables have of it',
+UNION ALL SELECT 'the control record of each file agrees with the tables',
   (SELECT count(*) FROM audit_files
    WHERE substr(text, 95 * (1 + 2 * batches + records) + 1, 94) NOT LIKE
          printf('9%06d______%08d__________%012d%012d%%', batches, records, debit_cents, credit_cents));

@@ -3,13 +3,15 @@
 
 A desk in a file works through some days of a bank: two companies, credits and debits, prenotes, a holiday, returns, a
 change, items in suspense, a retry that is sent and one that lapses. After each day stock SQLite opens a copy of the file
-and of its log, without the right to write, and what the views say is compared with what the desk answers to its calls;
-days and sums that no call tells were found by hand. Then rows of the last copy are spoiled one by one, and the check that
-is named beside must tell it. The last line counts the checks; the status is 1 where one failed.
+and of its log, without the right to write, and the rows of the views are compared with the desk's answers to its calls;
+days and sums that no call returns were found by hand, and so were the results of the queries of docs/audit/views.md. Then
+rows of the last copy are spoiled one by one, and the check that is named next to each has to report it. The last line
+counts the checks; the exit status is 1 if one failed.
 """
 
 import io
 import json
+import re
 import shutil
 import sqlite3
 import sys
@@ -20,6 +22,7 @@ from helpers.returned import file_of_returns
 from helpers.running import IDENTITY, MILL_KEY, OPERATOR_KEY, TOP, Checks, body_of, make_desk, message, program_of, read_answer, run, status_of
 
 VIEWS = (TOP / "docs" / "audit.sql").read_text()
+QUERIES = re.findall(r"^```sql\n(.*?)^```", (TOP / "docs" / "audit" / "views.md").read_text(), re.M | re.S)
 KEYS = {"BAKE01": "bakery-key", "MILL01": MILL_KEY}
 NAMES = {"BAKE01": "BAKERY", "MILL01": "MILL STREET"}
 LIMITS = {"entry_limit": 9999999999, "credit_limit": 999999999999999, "debit_limit": 20000005}
@@ -114,22 +117,32 @@ RETURNED = [
     ("BAKE01", "PAY-1", "R06", "2025-01-10", None, "2025-01-24", "in time"),
 ]
 
-# Each spoils one thing, and the check that tells it.
+# The rows of each query of the page, after the last day: 60 days without debits; the second entry of the first cut; the
+# returns of MILL01; a credit to the account that the change had corrected.
+ANSWERS = [
+    [("BAKE01", "BAKERY", 0, 0, 0, 0, 0, 0, 0), ("MILL01", "MILL STREET", 0, 0, 0, 0, 0, 0, 0)],
+    [("BAKE01", "PAY-1", 2, "sent", "2025-01-10", None)],
+    [("PAY-2", 1, "R01", "2025-01-10", "2025-01-14", "2025-01-14", "in time"), ("PAY-3", 1, "R01", "2025-01-17", "2025-01-22", "2025-01-23", "late"),
+     ("PAY-3", 2, "R10", "2025-01-17", "2025-03-19", "2025-01-24", "in time")],
+    [("BAKE01", "PAY-1", 2, "C01", "123456789", f"{'987654321':29}", "PAY-4", "2025-01-17")],
+]
+
+# Each statement spoils one thing, and the check reports it.
 SPOILED = [
     ("UPDATE postings SET value_day = value_day + 1 WHERE no = 1", "on each day the lines of all accounts sum to zero"),
     ("UPDATE postings SET cents = cents - 1 WHERE no = 1", "the balances of all accounts on the desk day sum to zero"),
     ("UPDATE postings SET idx = 3 WHERE no = 2", "each line of a company or of suspense has the operator's opposite next after it"),
-    ("UPDATE balances SET cents = '1' WHERE account = 'S'", "each kept sum of a day is the sum of its lines"),
-    ("DELETE FROM balances WHERE account = 'S'", "each kept sum of a day is the sum of its lines"),
-    ("UPDATE entries SET cents = cents + 1 WHERE seq = 1", "the cut lines of companies are what was sent with money"),
+    ("UPDATE balances SET cents = '1' WHERE account = 'S'", "each stored sum of a day is the sum of its lines"),
+    ("DELETE FROM balances WHERE account = 'S'", "each stored sum of a day is the sum of its lines"),
+    ("UPDATE entries SET cents = cents + 1 WHERE seq = 1", "the cut lines of companies are the sent submissions with money"),
     ("DELETE FROM returns WHERE no = 1", "the return lines of companies are the returns of entries with money"),
     ("UPDATE suspense SET cents = 1 WHERE no = 2", "the lines of suspense are its items with money, in their order"),
     ("UPDATE entries SET seq = 2 WHERE seq = 1", "the places of sent entries are 1, 2, 3 and so on"),
-    ("UPDATE entries SET seq = NULL WHERE seq = 1", "an entry has a place exactly where its submission settles"),
-    ("UPDATE numbers SET nth = 99 WHERE sequence = 1", "each sequence names the place of a sent entry"),
-    ("UPDATE returns SET idx = 9 WHERE no = 1", "what came back was sent"),
-    ("DELETE FROM changes", "the returns, changes and items in suspense are those that taken files count"),
-    ("UPDATE submissions SET modifier = 'B' WHERE file_day = 20096 AND company = 'MILL01'", "the control of each file counts what the tables have of it"),
+    ("UPDATE entries SET seq = NULL WHERE seq = 1", "an entry has a place if and only if its submission was sent"),
+    ("UPDATE numbers SET nth = 99 WHERE sequence = 1", "each sequence belongs to a sent entry"),
+    ("UPDATE returns SET idx = 9 WHERE no = 1", "each returned entry was sent"),
+    ("DELETE FROM changes", "the taken files count as many returns, changes and items in suspense as there are"),
+    ("UPDATE submissions SET modifier = 'B' WHERE file_day = 20096 AND company = 'MILL01'", "the control record of each file agrees with the tables"),
 ]
 
 
@@ -302,6 +315,8 @@ def compare_by_hand(checks, folder, desk):
     checks.that("taken files", audit.rows("taken, returns, late, changes, suspense", "audit_taken"),
                 [("2025-01-14", 2, 0, 0, 2), ("2025-01-14", 0, 0, 1, 0), ("2025-01-17", 1, 0, 0, 0), ("2025-01-23", 1, 1, 0, 0),
                  ("2025-01-24", 2, 0, 0, 0), ("2025-01-24", 0, 0, 0, 1), ("2025-01-24", 0, 0, 0, 1)])
+    checks.that("the queries of the page", [[tuple(row) for row in audit.db.execute(query)] for query in QUERIES], ANSWERS)
+    checks.that("each check is spoiled", {row[0] for row in audit.rows("must_hold", "audit_checks")} - {check for _, check in SPOILED}, set())
     audit.close()
 
 

@@ -5,24 +5,33 @@
 version and the options that the pages name. A line is printed for each check that fails, and the last line counts; the
 exit status is 1 if one failed. A kit other than the one that the pages name is only a warning, since another kit may have
 the same logic.
+
+Numbers are taken from the sources, the files of deploy/ and docs/openapi.yaml, and looked for in the pages by a sentence.
+A sentence that no page has fails too: whoever rewords it changes NUMBERS, and whoever removes the number removes its line.
 """
 
+import datetime
+import functools
 import re
 import subprocess
 import sys
 from pathlib import Path
 
+import pages
+import run
 from helpers.prose import habits
-from helpers.refusals import FILE_FAULTS, MESSAGE_FAULTS, PROXY_FAULTS, REFUSALS
+from helpers.refusals import CALENDAR_FAULTS, FILE_FAULTS, MESSAGE_FAULTS, PROXY_FAULTS, REFUSALS
 from helpers.small_yaml import load
 
 TOP = Path(__file__).resolve().parents[1]
 FOLDERS = ("docs/operate", "docs/integrate", "docs/audit")
 USER_PAGES = [TOP / "README.md", TOP / "CHANGELOG.md", TOP / "docs/glossary.md",
               *sorted(it for folder in FOLDERS for it in (TOP / folder).glob("*.md"))]
-ALL_PAGES = [*USER_PAGES, TOP / "bench/RESULTS.md", TOP / "judge/README.md", *sorted((TOP / "docs").glob("*.md"))]
+ALL_PAGES = [*USER_PAGES, *(TOP / it for it in ("bench/RESULTS.md", "judge/README.md", "deploy/README.md", "clients/README.md")),
+             *sorted(it for it in (TOP / "docs").glob("*.md") if it not in USER_PAGES)]
 GENERATED = TOP / "docs/integrate/api.md"
 NAMED = re.compile(r"`((?:judge|bench|crates|deploy|clients|console|examples|docs|\.ci)/[\w./@-]+)`")
+INSTALLED = re.compile(r"/(?:etc/achdesk|etc/nginx|usr/bin|usr/share/achdesk|usr/share/doc/achdesk|var/log/achdesk)(?:/[\w-][\w.-]*)*\b")
 MOST_README, MOST_WORDS, MOST_HABITS = 700, 20_000, 6.0
 failed, count = 0, 0
 
@@ -35,8 +44,20 @@ def check(what, found, wanted):
         print(f"{what}: the page has {found}, the tree has {wanted}")
 
 
+@functools.cache
 def text(path):
     return (TOP / path).read_text()
+
+
+@functools.cache
+def sources():
+    """Returns the sources of the crates, each with its path."""
+    return [(path, path.read_text()) for path in (TOP / "crates").glob("*/src/**/*.rt")]
+
+
+@functools.cache
+def api():
+    return load(text("docs/openapi.yaml"))
 
 
 def number(path, pattern):
@@ -46,9 +67,18 @@ def number(path, pattern):
 
 
 def constant(path, pattern):
-    """Returns the number that a source has."""
+    """Returns the number that a file has."""
     found = re.search(pattern, text(path))
     return int(found[1].replace("_", "").replace(",", "")) if found else f"nothing like {pattern} in {path}"
+
+
+def constants():
+    """Returns the constants of the crates, each by the name of its file and its own, as `limits.MOST_BYTES`."""
+    found = {}
+    for path, source in sources():
+        for name, value in re.findall(r"\bconst ([A-Z_]+): \w+ = ([\d_]+);", source):
+            found[f"{path.stem}.{name}"] = int(value.replace("_", ""))
+    return found
 
 
 def prose_of(path):
@@ -88,7 +118,7 @@ def missing_paths():
                 yield f"{page.relative_to(TOP)}: {name} does not exist"
 
 
-# ---- groups of checks
+# ---- pages as a whole
 
 def check_pages():
     check("broken links", sorted(broken_links()), [])
@@ -103,81 +133,339 @@ def check_pages():
             check(f"{page.relative_to(TOP)}: habits of wording in a thousand words, at most", min(rate, MOST_HABITS), rate)
 
 
+def check_promises():
+    """Each promise of the README names laws that are in the files that it links, and the page for auditors explains it."""
+    part = text("README.md").partition("## What it promises")[2].partition("\n## ")[0]
+    promises = re.findall(r"^\d\. (.*?): (\[`.*)$", part, re.M)
+    check("README: promises", len(promises), 8)
+    laws = [law for _, links in promises for law in re.findall(r"\[`([\w:]+)`\]\((\S+?)\)", links)]
+    missing = [f"{name} in {path}" for name, path in laws if not re.search(rf"fn {name.rpartition(':')[2]}\b", text(path))]
+    check("README: laws that are not in their files", missing, [])
+    rows = re.findall(r"^\| (.*?) \|", text("docs/audit/assurance.md").partition("| Promise |")[2].partition("\n\n")[0], re.M)
+    check("assurance.md: promises of the README", rows, [it.partition(";")[0] for it, _ in promises])
+
+
+def check_libraries():
+    lines = [it.partition("#")[0].partition(":") for it in text("crates.txt").splitlines()]
+    uses = {name.split()[0]: libraries.split() for name, colon, libraries in lines if colon}
+    # The toolchain divides sqlite and jiff into several crates.
+    found = {re.sub(r"^(sqlite|jiff)_\w+$", r"\1", it) for them in uses.values() for it in them if it not in uses}
+    sentence = re.search(r"^It uses (.*) of the toolchain\.$", text("README.md"), re.M)
+    check("README: libraries of the toolchain", set(re.findall(r"`(\w+)`", sentence[1])) if sentence else None, found | {"std"})
+
+
+# ---- names
+
 def check_names():
-    api = GENERATED.read_text()
-    shown = {int(n): (name, int(status)) for n, name, status in re.findall(r"^\| (\d+) \| `(\w+)` \| (\d+) \|", api, re.M)}
+    page = GENERATED.read_text()
+    shown = {int(n): (name, int(status)) for n, name, status in re.findall(r"^\| (\d+) \| `(\w+)` \| (\d+) \|", page, re.M)}
     check("api.md: refusals", shown, REFUSALS)
-    faults = dict(re.findall(r"^\| `(\w+)` \| (\d+) \|", api, re.M))
+    faults = dict(re.findall(r"^\| `(\w+)` \| (\d+) \|", page, re.M))
     check("api.md: faults of a message", {name: int(it) for name, it in faults.items()}, MESSAGE_FAULTS | PROXY_FAULTS)
     files = re.findall(r"^\| \d+ \| `(\w+)` \|", text("docs/operate/returns-files.md"), re.M)
     check("returns-files.md: faults of a file", tuple(files), FILE_FAULTS)
+    check("names of refusals and faults that the desk does not have", sorted(unknown_names()), [])
+    code = "\n".join(it for page in USER_PAGES for it in re.findall(r"`[^`\n]+`|^```.*?^```", page.read_text(), re.M | re.S))
+    metrics = set(re.findall(r'"([a-z_]+)"', text("deploy/achdesk-day")))
+    named = set(re.findall(r"\bachdesk_([a-z_]+)", code)) - set(re.findall(r"achdesk_(\w+)", text("deploy/nginx.conf"))) - {""}
+    check("metrics that achdesk-day does not print", sorted(named - metrics), [])
     views = set(re.findall(r"CREATE TEMP VIEW (\w+)", text("docs/audit.sql")))
-    check("views.md: the views", set(re.findall(r"`(audit_\w+)`", text("docs/audit/views.md"))), views)
-    sources = text("judge/stock_sqlite.py")
-    tables = dict(re.findall(r'^    "(\w+)": \("([^"]*)"', sources.partition("INDEXES")[0], re.M))
-    pages = set(re.findall(r"^\*\*`(\w+)`\*\*", text("docs/audit/tables.md"), re.M))
-    check("tables.md: the tables", pages, set(tables))
-    cells = re.findall(r"^\| (`[^|]*) \|", text("docs/audit/tables.md"), re.M)
-    columns = {name for cell in cells for name in re.findall(r"`(\w+)`", cell)}
-    rows = re.findall(r'"([\w: ?]+:[\w: ?]+)"', sources.partition("INDEXES")[0])
-    named = {column.split(":")[0] for row in rows for column in row.split()}
-    check("tables.md: columns that no table has, or that it lacks", columns ^ named, set())
-    indexes = set(re.findall(r'^    "(\w+)": \("', sources.partition("INDEXES")[2].partition("def ")[0], re.M))
-    sentence = text("docs/audit/tables.md").partition("There are six more")[2].partition("No answer")[0]
+    check("views that docs/audit.sql does not have", sorted(set(re.findall(r"\baudit_\w+", code)) - views), [])
+    check("paths that nothing installs", sorted(unknown_paths()), [])
+
+
+def unknown_names():
+    """Returns names in the form of a refusal or fault, in code, that are none of the desk's, of its clients' or of its crates'."""
+    known = {name for name, _ in REFUSALS.values()} | {*MESSAGE_FAULTS, *PROXY_FAULTS, *FILE_FAULTS, *CALENDAR_FAULTS}
+    known |= set(re.findall(r"^    (\w+)(?:\(\w+\))?,$", text("crates/sql_setup/src/fault.rt"), re.M))
+    known |= set(re.findall(r"^class (\w+)", text("clients/python/achdesk.py"), re.M)) | UNITS
+    known |= {name for _, source in sources() for name in re.findall(r"\b(?:struct|enum|trait) (\w+)", source)}
+    reasons = api()["components"]["schemas"]["SuspenseItem"]["properties"]["why"]["enum"]
+    for page in USER_PAGES:
+        for name in re.findall(r"`([A-Z][a-z]+(?:[A-Z][a-z]*)+)\b", prose_of(page)):
+            if name not in known | set(reasons):
+                yield f"{page.relative_to(TOP)}: {name}"
+
+
+# Settings of systemd, which are written as names of faults are.
+UNITS = {"LimitAS", "OnFailure", "OnCalendar", "ReadWritePaths"}
+
+
+def unknown_paths():
+    """Returns installed paths of which neither the package nor a program of deploy/ has a part."""
+    makefile = re.sub(r"\$\((\w+)\)", lambda it: {"BIN": "/usr/bin", "SHARE": "/usr/share", "ETC": "/etc"}.get(it[1], it[0]), text("Makefile"))
+    lines = "\n".join([makefile, *(it.read_text() for it in (TOP / "deploy").rglob("*") if it.is_file()), text("judge/deploy.py")])
+    known = {parent for it in INSTALLED.findall(lines) for parent in (it, *map(str, Path(it).parents))}
+    names = set(re.findall(r"[\w.-]+", lines))
+    for page in USER_PAGES:
+        for path in INSTALLED.findall(page.read_text()):
+            if path not in known and not (str(Path(path).parent) in known and Path(path).name in names | EXAMPLES):
+                yield f"{page.relative_to(TOP)}: {path}"
+
+
+# Names of one's own below an installed folder, as the pages use them.
+EXAMPLES = {"NAME.env", "NAME", "sftp.pub"}
+
+
+# ---- what auditors read
+
+def check_tables():
+    """tables.md has each table with its columns in their order, and says of exactly those that may be NULL that they may be."""
+    listed = text("judge/stock_sqlite.py")
+    tables = {name: row.split() for name, row in
+              re.findall(r'^    "(\w+)": \("((?:[^"]|"\s+")*)"', listed.partition("INDEXES")[0], re.M)}
+    tables = {name: [it.strip('"') for it in row if it != '"'] for name, row in tables.items()}
+    page = text("docs/audit/tables.md")
+    found, nulls = {}, {}
+    for name, part in re.findall(r"^\*\*`(\w+)`\*\*(.*?)(?=^\*\*`|^## )", page, re.M | re.S):
+        rows = re.findall(r"^\| (`[^|]*) \| (.*) \|$", part, re.M)
+        found[name] = [column for cell, _ in rows for column in re.findall(r"`(\w+)`", cell)]
+        nulls[name] = [column for cell, said in rows for column in re.findall(r"`(\w+)`", cell) if re.search(r"NULL", said) or said.endswith("else NULL.")]
+    check("tables.md: tables and columns", found, {name: [it.partition(":")[0] for it in row] for name, row in tables.items()})
+    check("tables.md: columns that may be NULL", nulls, {name: [it.partition(":")[0] for it in row if it.endswith("?")] for name, row in tables.items()})
+    indexes = set(re.findall(r'^    "(\w+)": \("', listed.partition("INDEXES")[2].partition("def ")[0], re.M))
+    sentence = page.partition("There are six more indexes")[2].partition("No answer")[0]
     check("tables.md: indexes", set(re.findall(r"`(\w+_\w+)`", sentence)), indexes)
+    check("tables.md: six more indexes", len(indexes), 6)
+
+
+def codes_of(path, name):
+    """Returns the return codes of a definition, which is a list of numbers."""
+    return re.findall(r"\d+", re.search(rf"^{name} = (.*)$", text(path), re.M)[1])
+
+
+def check_views():
+    """audit.sql has the deadlines, levels and codes of the definitions, and the pages name the same."""
+    views = text("docs/audit.sql")
+    defined = set(re.findall(r"CREATE TEMP VIEW (\w+)", views))
+    check("views.md: the views", set(re.findall(r"`(audit_\w+)`", text("docs/audit/views.md"))), defined)
+    classes, rates = "crates/desk_rules/specs/TimeClasses.antt", "crates/desk_rules/specs/ReturnRates.antt"
+    wanted = {"THEN d.sixty_days": codes_of(classes, "sixty_day_codes"), "THEN NULL": codes_of(classes, "unlimited_codes"),
+              ") AS unauthorized": codes_of(rates, "unauthorized_codes"), ") AS administrative": codes_of(rates, "administrative_codes")}
+    for place, codes in wanted.items():
+        before = views.partition(place)[0].rpartition(" IN (")[2]
+        check(f"audit.sql: codes before `{place}`", re.findall(r"R(\d\d)", before), [f"{int(it):02}" for it in codes])
+    page = text("docs/operate/companies.md")
+    for kind, name in (("unauthorized returns", "unauthorized_codes"), ("administrative ones", "administrative_codes")):
+        found = re.search(rf"{kind} \(([^)]*)\)", page)
+        check(f"companies.md: codes of {kind}", re.findall(r"R(\d\d)", found[1]) if found else None, [f"{int(it):02}" for it in codes_of(rates, name)])
+
+
+# ---- numbers
+
+def day_text(number):
+    return str(datetime.date(1970, 1, 1) + datetime.timedelta(number))
+
+
+def rate_of(proxy, zone):
+    return int(re.search(rf"zone=achdesk_{zone}:\w+\s+rate=(\d+)r/s", proxy)[1])
 
 
 def facts_of_tree():
     """Returns what the tree has, by the names that NUMBERS uses."""
-    api, proxy = load(text("docs/openapi.yaml")), text("deploy/nginx.conf")
-    schemas = api["components"]["schemas"]
+    proxy, day, client = text("deploy/nginx.conf"), "deploy/achdesk-day", "clients/python/achdesk.py"
+    schemas, code = api()["components"]["schemas"], constants()
     return {
-        "operations": sum(method in item for item in api["paths"].values() for method in ("get", "post")),
+        "operations": sum(method in item for item in api()["paths"].values() for method in ("get", "post")),
         "edits": len(list((TOP / "crates").glob("*/must-fail/*.edit"))),
         "hundreds of further edits": len(list((TOP / "judge/edits").glob("*/*.edit"))) // 100 * 100,
-        "file version": constant("judge/stock_sqlite.py", r"\(1, (\d)\)\]"),
+        "file version": code["version.VERSION"],
+        "first file version": code["first_version.FIRST_VERSION"],
         "port": constant("deploy/achdesk.env", r"DESK_PORT=(\d+)"),
         "rate of an address": rate_of(proxy, "address_rate"),
         "rate of a company": rate_of(proxy, "company_rate"),
-        "entries of a submission": schemas["Submission"]["properties"]["entries"]["maxItems"],
-        "cents of an entry": schemas["EntryCents"]["maximum"],
-        "files of a day": schemas["CutMade"]["properties"]["files"]["maxItems"],
-        "batches of a file": constant("deploy/achdesk-day", r"MOST_BATCHES, MOST_CENTS = ([\d_]+),"),
-        "holidays": constant("deploy/achdesk-day", r"MOST_HOLIDAYS, NEAR_DAYS = (\d+),"),
+        "seconds of the proxy": constant("deploy/nginx.conf", r"proxy_read_timeout\s+(\d+)s"),
+        "bytes of a body": code["framing.MAX_BODY"],
+        "bytes of a body at the proxy": constant("deploy/nginx.conf", r"client_max_body_size\s+(\d+);"),
+        "bytes of a file": code["limits.MOST_BYTES"],
+        "bytes of a list": code["message.MOST_BYTES"],
+        "MiB that are read and dropped": code["lingering.MAX_DROPPED"] // 2 ** 20,
+        "messages of a connection": code["message.MAX_MESSAGES"],
+        "connections": constant("crates/cli_words/src/serve_arguments.rt", r"u32\)\.range\(1\.\.=([\d_]+)\)"),
+        "connections of the unit": constant("deploy/achdesk.env", r"--connections (\d+)"),
+        "seconds of patience": constant("crates/cli_words/src/serve_arguments.rt", r"(?s)patience.*default_value\(\"(\d+)\"\)"),
+        "seconds of patience in the unit": constant("deploy/achdesk.env", r"--patience (\d+)"),
+        "GiB of the unit": constant("deploy/achdesk.service", r"(?m)^LimitAS=(\d+)G"),
+        "entries of a submission": code["size.MOST_ENTRIES"],
+        "entries of a submission in the API": schemas["Submission"]["properties"]["entries"]["maxItems"],
+        "cents of a submission": code["cents.MOST_CENTS"],
+        "cents of an entry": code["entry_cents.MOST_ENTRY_CENTS"],
+        "cents of a limit": code["operator_fields.MOST_EXPOSURE_LIMIT"],
+        "files of a day": code["day_modifiers.MOST_FILES"],
+        "batches of a file": code["load.MOST_BATCHES"],
+        "records of a file": code["load.MOST_RECORDS"],
+        "submissions of a day": code["day_modifiers.MOST_FILES"] * code["load.MOST_BATCHES"],
+        "traces": code["trace.MOST_SEQUENCE"],
+        "days until a trace is free": code["reuse.DAYS"],
+        "days that may be asked for": code["limit_checks.MOST_DAYS"],
+        "days of a retry": code["retry_rule.MOST_DAYS"],
+        "days of the rates": code["return_rates.DAYS_BEFORE"] + 1,
+        "holidays": code["row.MOST_ROWS"],
+        "first row too many": code["row.MOST_ROWS"] + 1,
+        "holidays of achdesk-day": constant(day, r"MOST_HOLIDAYS, NEAR_DAYS = (\d+),"),
+        "days that stay in the list": constant(day, r"MOST_HOLIDAYS, NEAR_DAYS = \d+, (\d+)"),
+        "characters of a company's name": schemas["CompanyName"]["maxLength"],
+        "characters of an identification": schemas["Identification"]["maxLength"],
+        "characters of a receiver's name": schemas["Entry"]["properties"]["name"]["maxLength"],
+        "characters of the bank's name": constant("crates/desk_history/src/party_name.rt", r"ShortText<(\d+)>"),
+        "first desk day": day_text(code["day.FIRST"]),
+        "last desk day": day_text(code["operator_fields.LAST_DESK_DAY"]),
+        "last day of a rule": day_text(code["rule_day.LAST_RULE_DAY"]),
+        "newest backups": constant(day, r'"newest": "(\d+)"'),
+        "days of backups": constant(day, r'"newest": "\d+", "days": "(\d+)"'),
+        "weeks of backups": constant(day, r'"weeks": "(\d+)"'),
+        "months of backups": constant(day, r'"months": "(\d+)"'),
+        "seconds of a client": constant(client, r"timeout: float = (\d+)\.0"),
+        "longest pause of a client": constant(client, r"LONGEST_PAUSE = (\d+)\.0"),
+        "years of logs": constant("deploy/logrotate", r"rotate (\d+)") * 4 // 1461,
+        "shortest first use": constant("bench/RESULTS.md", r"First use of `\./achdesk`.*?\| (\d+) to \d+ min"),
+        "longest first use": constant("bench/RESULTS.md", r"First use of `\./achdesk`.*?\| \d+ to (\d+) min"),
+        "shortest try": constant("bench/RESULTS.md", r"`\./try`.*?\| (\d+) to \d+ min"),
+        "longest try": constant("bench/RESULTS.md", r"`\./try`.*?\| \d+ to (\d+) min"),
+        "MB of a hostile body": constant("bench/RESULTS.md", r"hostile body of 4 MiB of nested JSON takes (\d+) MB"),
     }
 
 
-# Each sentence of a page with a number, and the fact that it has to be.
+# Each sentence of a page with a number or a day, and the fact that it has to be.
 NUMBERS = (
     ("docs/PROVED.md", r"refuses alike to each of the (\d+)", "operations"),
-    ("README.md", r"plants (\d+) bugs", "edits"),
-    ("docs/audit/assurance.md", r"reject each: (\d+) in the gate", "edits"),
     ("docs/PROVED.md", r"makes the desk wrong in (\d+) ways", "edits"),
-    ("docs/audit/assurance.md", r"more than (\d+) outside it", "hundreds of further edits"),
     ("docs/PROVED.md", r"More than (\d+) further edits", "hundreds of further edits"),
-    ("docs/operate/upgrades.md", r"files of version (\d)", "file version"),
+    ("README.md", r"plants (\d+) bugs", "edits"),
+    ("README.md", r"takes \d+ to (\d+) minutes", "longest first use"),
+    ("README.md", r"takes (\d+) to \d+ minutes", "shortest first use"),
+    ("README.md", r"in \d+ to (\d+) minutes", "longest try"),
+    ("README.md", r"in (\d+) to \d+ minutes", "shortest try"),
+    ("README.md", r"([\d,]+) entries a year", "traces"),
     ("CHANGELOG.md", r"File version \| (\d)", "file version"),
-    ("docs/operate/install.md", r"127\.0\.0\.1:(\d+)", "port"),
-    ("docs/operate/install.md", r"each address to (\d+) requests", "rate of an address"),
-    ("docs/operate/capacity.md", r"at most (\d+) requests a second", "rate of an address"),
-    ("docs/operate/install.md", r"each company to (\d+)", "rate of a company"),
-    ("docs/operate/troubleshooting.md", r"limit of (\d+) requests a second", "rate of a company"),
-    ("docs/operate/capacity.md", r"Batches \(submissions\) in a file \| ([\d,]+)", "batches of a file"),
-    ("docs/operate/capacity.md", r"Entries of a submission \| ([\d,]+)", "entries of a submission"),
-    ("docs/operate/capacity.md", r"Cents of an entry \| ([\d,]+)", "cents of an entry"),
+    ("CHANGELOG.md", r"Migrates \| files of version (\d)", "first file version"),
+    ("CHANGELOG.md", r"again after ([\d,]+) entries", "traces"),
+    ("docs/audit/assurance.md", r"reject each: (\d+) in the gate", "edits"),
+    ("docs/audit/assurance.md", r"more than (\d+) outside it", "hundreds of further edits"),
+    ("docs/audit/assurance.md", r"at most ([\d,]+) sent entries", "traces"),
+    ("docs/audit/tables.md", r"`version` \| The version of these tables, (\d)", "file version"),
+    ("docs/audit/tables.md", r"After ([\d,]+) the sequences", "traces"),
+    ("docs/audit/tables.md", r"`sequence` \| The sequence, 1 to ([\d,]+)", "traces"),
+    ("docs/audit/tables.md", r"lie between (2\d{3}-\d\d-\d\d)", "first desk day"),
+    ("docs/audit/tables.md", r"lie between \S+ and (2\d{3}-\d\d-\d\d)", "last day of a rule"),
     ("docs/operate/capacity.md", r"Files of one desk day \| (\d+)", "files of a day"),
+    ("docs/operate/capacity.md", r"Batches \(submissions\) in a file \| ([\d,]+)", "batches of a file"),
+    ("docs/operate/capacity.md", r"records in a file \| ([\d,]+)", "records of a file"),
+    ("docs/operate/capacity.md", r"of a file \| ([\d,]+) cents each", "cents of a submission"),
+    ("docs/operate/capacity.md", r"Trace numbers \| ([\d,]+),", "traces"),
+    ("docs/operate/capacity.md", r"free again (\d+) days after", "days until a trace is free"),
+    ("docs/operate/capacity.md", r"used again (\d+) days after", "days until a trace is free"),
+    ("docs/operate/capacity.md", r"Entries of a submission \| ([\d,]+)", "entries of a submission"),
+    ("docs/operate/capacity.md", r"Cents of a submission \| ([\d,]+)", "cents of a submission"),
+    ("docs/operate/capacity.md", r"Cents of an entry \| ([\d,]+)", "cents of an entry"),
+    ("docs/operate/capacity.md", r"Requested day \| 1 to (\d+) days", "days that may be asked for"),
+    ("docs/operate/capacity.md", r"Body, and incoming file \| ([\d,]+) bytes", "bytes of a body"),
     ("docs/operate/capacity.md", r"Holiday list \| (\d+) days", "holidays"),
+    ("docs/operate/capacity.md", r"Desk days \| (2\d{3}-\d\d-\d\d)", "first desk day"),
+    ("docs/operate/capacity.md", r"Desk days \| \S+ to (2\d{3}-\d\d-\d\d)", "last desk day"),
+    ("docs/operate/capacity.md", r"exposure ([\d,]+) cents", "cents of a limit"),
+    ("docs/operate/capacity.md", r"Messages of a connection \| ([\d,]+)", "messages of a connection"),
+    ("docs/operate/capacity.md", r"one run of `serve` \| ([\d,]+)", "connections"),
+    ("docs/operate/capacity.md", r"at most (\d+) requests a second", "rate of an address"),
+    ("docs/operate/capacity.md", r"(\d+) MB for 4 MiB", "MB of a hostile body"),
+    ("docs/operate/companies.md", r"1 to (\d+) of `A-Z`", "characters of an identification"),
+    ("docs/operate/companies.md", r"a name of at most (\d+) characters", "characters of a company's name"),
+    ("docs/operate/companies.md", r"(\d+) days that end on the desk day", "days of the rates"),
+    ("docs/operate/install.md", r"127\.0\.0\.1:(\d+)", "port"),
+    ("docs/operate/install.md", r"Names have 1 to (\d+) characters", "characters of the bank's name"),
+    ("docs/operate/install.md", r"`--connections`, at most ([\d,]+)", "connections"),
+    ("docs/operate/install.md", r"`--patience` seconds, (\d+) by default", "seconds of patience"),
+    ("docs/operate/install.md", r"by default and (\d+) in the unit", "seconds of patience in the unit"),
+    ("deploy/README.md", r"The unit has (\d+) GiB", "GiB of the unit"),
+    ("docs/operate/install.md", r"each address to (\d+) requests", "rate of an address"),
+    ("docs/operate/install.md", r"each company to (\d+)", "rate of a company"),
+    ("docs/operate/install.md", r"sends up to (\d+) MiB more", "MiB that are read and dropped"),
+    ("docs/operate/install.md", r"up to the ([\d,]+)th message", "messages of a connection"),
+    ("docs/operate/backup.md", r"the (\d+) newest", "newest backups"),
+    ("docs/operate/backup.md", r"newest of (\d+) days", "days of backups"),
+    ("docs/operate/backup.md", r"(\d+) weeks", "weeks of backups"),
+    ("docs/operate/backup.md", r"(\d+) months", "months of backups"),
+    ("docs/operate/day.md", r"within (\d+) days of today", "days that stay in the list"),
+    ("docs/operate/day.md", r"ascending, at most (\d+)", "holidays of achdesk-day"),
+    ("docs/operate/monitoring.md", r"waited longer than (\d+) seconds", "seconds of the proxy"),
+    ("docs/operate/monitoring.md", r"listening on 127\.0\.0\.1:(\d+)", "port"),
+    ("docs/operate/returns-files.md", r"more than ([\d,]+) bytes", "bytes of a file"),
+    ("docs/operate/troubleshooting.md", r"limit of (\d+) requests a second", "rate of a company"),
+    ("docs/operate/troubleshooting.md", r"([\d,]+) submissions take", "submissions of a day"),
+    ("docs/operate/upgrades.md", r"files of version (\d)", "file version"),
+    ("docs/operate/upgrades.md", r"a file of version (\d) into", "first file version"),
     ("docs/integrate/csv.md", r"at most (\d+) rows", "holidays"),
+    ("docs/integrate/csv.md", r"if it is the (\d+)st", "first row too many"),
+    ("docs/integrate/csv.md", r"name, at most (\d+) characters", "characters of a receiver's name"),
+    ("docs/integrate/csv.md", r"more than ([\d,]+) bytes", "bytes of a list"),
+    ("docs/integrate/quickstart.md", r"twice at most, within (\d+) days", "days of a retry"),
+    ("docs/integrate/retries.md", r"each time up to (\d+) seconds", "longest pause of a client"),
+    ("docs/integrate/retries.md", r"Wait (\d+) seconds for an answer", "seconds of a client"),
+    ("docs/integrate/retries.md", r"gives up after (\d+)", "seconds of the proxy"),
+    ("docs/integrate/retries.md", r"at most ([\d,]+) messages", "messages of a connection"),
 )
+
+# What each such sentence of any page of users has to have, and the least number of pages that have one.
+ANYWHERE = (
+    (r"\b([\d,]+) files (?:a day|hold)", "files of a day", 3),
+    (r"\b([\d,]{7,}) bytes", "bytes of a body", 3),
+    (r"more than (\d+) days after the original", "days of a retry", 2),
+    (r"\b([\d,]{6,}) traces", "traces", 1),
+    (r"files of version (\d+)(?= \||\.)", "file version", 2),
+)
+
+# Facts that have to be equal.
+EQUAL = (
+    ("bytes of a body", "bytes of a body at the proxy"), ("bytes of a body", "bytes of a file"), ("bytes of a body", "bytes of a list"),
+    ("entries of a submission", "entries of a submission in the API"), ("holidays", "holidays of achdesk-day"), ("connections", "connections of the unit"),
+)
+
+# A line of a file and the words of a page that say the same: if one changes, so must the other.
+SAID = (
+    ("deploy/achdesk-day-open.timer", "OnCalendar=Mon..Fri 06:00 ", "docs/operate/install.md", "`open`, at 6:00 on weekdays"),
+    ("deploy/achdesk-day-returns.timer", "OnCalendar=Mon..Fri 06..20:0/10 ", "docs/operate/install.md", "`returns`, every ten minutes from 6:00 to 20:00"),
+    ("deploy/achdesk-day-cut.timer", "OnCalendar=Mon..Fri 15:30 ", "docs/operate/install.md", "at 15:30"),
+    ("deploy/achdesk-day-backup.timer", "OnCalendar=*:0/10\n", "docs/operate/install.md", "`backup`, every ten minutes"),
+    ("deploy/achdesk-day-copy.timer", "OnCalendar=*:0/1\n", "docs/operate/install.md", "every minute"),
+    ("deploy/logrotate", "daily\n", "docs/operate/monitoring.md", "rotated daily and kept for seven years"),
+    ("deploy/logrotate", "rotate 2557\n", "docs/operate/monitoring.md", "rotated daily and kept for seven years"),
+    ("clients/python/achdesk.py", "FIRST_PAUSE = 0.5\n", "docs/integrate/retries.md", "Wait half a second before the first retry"),
+    ("clients/README.md", "Python 3.9 or later", "docs/integrate/quickstart.md", "Python 3.9 or later"),
+    ("docs/openapi.yaml", '"^R(0[1-9]|[12][0-9])$"', "README.md", "Return codes above R29"),
+    ("docs/openapi.yaml", '"^C(0[1-9]|1[0-4])$"', "README.md", "change codes above C14"),
+    ("docs/openapi.yaml", '"^R(0[1-9]|[12][0-9])$"', "docs/audit/tables.md", "`R01` to `R29`"),
+    ("docs/openapi.yaml", '"^C(0[1-9]|1[0-4])$"', "docs/audit/tables.md", "`C01` to `C14`"),
+    ("docs/openapi.yaml", '"^[!-~]{8,64}$"', "docs/integrate/csv.md", "8 to 64 printable characters"),
+    ("docs/audit.sql", "k.unauthorized * 1000 > k.debits * 5", "docs/operate/companies.md", "0.5 percent for unauthorized returns"),
+    ("docs/audit.sql", "k.administrative * 100 > k.debits * 3", "docs/operate/companies.md", "3 percent for administrative ones"),
+    ("docs/audit.sql", "k.overall * 100 > k.debits * 15", "docs/operate/companies.md", "15 percent overall"),
+    ("docs/audit.sql", "stock SQLite 3.37", "docs/audit/views.md", "stock SQLite 3.37"),
+)
+
+# Times that were measured belong into bench/RESULTS.md.
+MEASURED = re.compile(r"\b\d[\d.,]*(?: to \d[\d.,]*)? (?:ms|µs|min)\b|\b\d+ to \d+ (?:seconds|minutes|hours)\b|\bCPU time\b")
 
 
 def check_numbers():
     facts = facts_of_tree()
     for page, sentence, name in NUMBERS:
-        check(f"{page}: {name}", number(page, sentence), facts[name])
+        found = re.search(sentence, text(page))
+        check(f"{page}: {name}", found and found[1].replace(",", ""), str(facts[name]))
+    for sentence, name, least in ANYWHERE:
+        found = {page.relative_to(TOP): set(re.findall(sentence, page.read_text())) for page in USER_PAGES}
+        wrong = {str(page): them for page, them in found.items() if {it.replace(",", "") for it in them} - {str(facts[name])}}
+        check(f"{name}, on pages with another number than {facts[name]}", wrong, {})
+        check(f"{name}: pages that have it, at least {least}", sum(map(bool, found.values())) >= least, True)
+    for one, other in EQUAL:
+        check(f"{one} and {other}", facts[one], facts[other])
+    for source, line, page, words in SAID:
+        check(f"{source} has `{line.strip()}`, and {page} has `{words}`", (line in text(source), words in text(page)), (True, True))
+    measured = {str(it.relative_to(TOP)): MEASURED.findall(prose_of(it)) for it in USER_PAGES if it.name != "README.md" and MEASURED.search(prose_of(it))}
+    check("times on pages other than the README and bench/RESULTS.md", measured, {})
     version = re.search(r'"achdesk (\S+)\\n"', text("crates/cli_words/src/version_line.rt"))[1]
     check("CHANGELOG.md: newest version", re.search(r"^## (\S+)", text("CHANGELOG.md"), re.M)[1], version)
     check("install.md: version", re.search(r"^achdesk (\S+)", text("docs/operate/install.md"), re.M)[1], version)
+    check("upgrades.md: version", re.search(r"^\| ([\d.]+) \|", text("docs/operate/upgrades.md"), re.M)[1], version.rpartition(".")[0])
     examples = re.findall(r"```rust\n(.*?)```", text("docs/integrate/library.md"), re.S)
     source = text("crates/documented_examples/src/library.rt")
     check("library.md: examples that the gate does not run", [it for it in examples if it not in source], [])
@@ -185,9 +473,68 @@ def check_numbers():
     check("operate/README.md: tasks", len(tasks), 25)
 
 
-def rate_of(proxy, zone):
-    return int(re.search(rf"zone=achdesk_{zone}:\w+\s+rate=(\d+)r/s", proxy)[1])
+# ---- commands
 
+PROGRAMS = re.compile(r"(?:sudo |sudo -u achdesk )?(?:achdesk(?:-day|-company)?|\./achdesk|\./try|systemctl|journalctl|make|python3|curl|sqlite3|ss|fuser|nginx|apt) \S")
+
+
+def check_commands():
+    """Each command in a line of text is run in a block of some page, or is in the list of judge/pages.py."""
+    printed = [" ".join(command.split()) for page in pages.PAGES for block in pages.blocks(page) for command, _ in pages.commands(block)]
+    lines = {line.strip() for command in printed for line in re.split(r" && | \| |; |\n", command)} | set(printed)
+    lines |= {re.sub(r"^(?:sudo(?: -u \w+)? )", "", it) for it in lines}
+    missing, used, listed = [], set(), (*pages.NOT_RUN, *pages.IN_TEXT)
+    for page in USER_PAGES:
+        for command in re.findall(r"`([^`\n]+)`", prose_of(page)):
+            if not PROGRAMS.match(command):
+                continue
+            why = [it[0] for it in listed if command.removeprefix("./").startswith(it[0].removeprefix("./"))]
+            used |= set(why)
+            if not why and not any(is_like(command, it) for it in lines):
+                missing.append(f"{page.relative_to(TOP)}: {command}")
+    check("commands in the text that judge/pages.py neither runs nor lists", missing, [])
+    used |= {why[0] for it in printed if (why := pages.reason(it)) is not None}
+    check("commands that judge/pages.py lists and no page has", [it[0] for it in listed if it[0] not in used], [])
+    tests = {name for it in listed for name in re.findall(r"\b(?:judge/\w+\.py|crates/\w+)", it[2])}
+    check("tests that judge/pages.py names and the tree does not have", sorted(it for it in tests if not (TOP / it).exists()), [])
+    check("commands and options that achdesk-day does not have", sorted(unknown_options("achdesk-day", "deploy/achdesk-day", {"--help"})), [])
+    check("commands and options that achdesk-company does not have",
+          sorted(unknown_options("achdesk-company", "clients/achdesk-company", {"--help"})), [])
+
+
+def is_like(command, line):
+    """Returns whether a line has the words of a command in their order; capitals in a command, as FILE, stand for any text."""
+    words = iter(line.removeprefix("./").split())
+    command = re.sub(r"^(?:sudo(?: -u \w+)? )", "", command).removeprefix("./")
+    return all(any(re.fullmatch(it, word) for word in words)
+               for it in (re.sub(r"[A-Z]{2,}", r"\\S+", re.escape(word)) for word in command.split()))
+
+
+def unknown_options(program, source, known):
+    """Returns commands and options that pages give a program of Python, and its source does not."""
+    code = text(source)
+    commands = {one or other for one, other in re.findall(r'^    "([a-z]+)": \(\w+, "|\(\w+, "([a-z]+)", "', code, re.M)}
+    options = set(re.findall(r'add_argument\(\s*"(--[a-z-]+)"', code)) | known
+    for page in USER_PAGES:
+        spans = re.findall(r"`([^`\n]+)`", prose_of(page)) + re.findall(r"^(?:\$ )?(.*)$", "\n".join(re.findall(r"```\w*.*?\n(.*?)```", page.read_text(), re.S)), re.M)
+        for span in spans:
+            for words in re.findall(rf"(?<![\w/-]){program} ([^|;&)]*)", span):
+                first = next((it for it in words.split() if not it.startswith("-")), "")
+                if re.fullmatch(r"[a-z]+", first) and first not in commands:
+                    yield f"{page.relative_to(TOP)}: {program} {first}"
+                yield from (f"{page.relative_to(TOP)}: {program} {it}" for it in re.findall(r"(?<!\S)--[a-z-]+", words) if it not in options)
+
+
+def check_judges():
+    """judge/README.md has each judge of judge/run.py, in the table of those that run without a name or in the other."""
+    first, _, second = text("judge/README.md").partition("These run if they are named")
+    for part, is_asked in ((first, False), (second, True)):
+        names = [f"{it.name}.py" for it in run.JUDGES if it.is_asked() == is_asked]
+        check(f"judge/README.md: judges that run {'if they are named' if is_asked else 'without words'}",
+              sorted(re.findall(r"^\| `(\w+\.py)` \|", part, re.M)), sorted(names))
+
+
+# ---- the program and the kit
 
 def check_program(program):
     said = subprocess.run([program, "--version"], stdout=subprocess.PIPE, text=True).stdout.split()
@@ -213,8 +560,14 @@ def warn_of_kit():
 
 def main():
     check_pages()
+    check_promises()
+    check_libraries()
     check_names()
+    check_tables()
+    check_views()
     check_numbers()
+    check_commands()
+    check_judges()
     if sys.argv[1:]:
         check_program(sys.argv[1])
     warn_of_kit()

@@ -5,11 +5,15 @@ In README.md and in docs/operate, docs/integrate and docs/audit each `console` b
 has to be what the page shows, if the page shows any; a line `..` stands for any lines. Each `sh` block is run as one
 script and has to succeed; variables that it exports stay. So does each `python` block, and each `sql` block, which stock
 SQLite runs with the views of docs/audit.sql. A page is read from the top, in a folder of its own; a second word after
-`console` or `sh` names another folder, so that a page can show two ways of doing the same. Paths under /etc, /var,
-/usr/share and /tmp lie in that folder, `sudo` and `runuser` are dropped, `systemctl` starts and stops the desk, and the
-desk's address is that of the desk that is served there. Nothing else is replaced. NOT_RUN lists the commands that are not
-run, each with the reason and the test that covers it; a command of the list that no page has fails. The last line counts
-the checks; the exit status is 1 if one failed. It needs curl, ss, openssl, sqlite3 and OpenSSH's sftp with its server.
+`console` or `sh` names another folder, so that a page can show two ways of doing the same.
+
+Paths under /etc, /var, /usr/share and /tmp lie in that folder, `sudo` and `runuser` are dropped, `systemctl` starts and
+stops the desk, `kill %1` stops it, a key that a command reads is given to it, `./try` runs the program in place of
+compiling it, and the desk's address is that of the desk that is served there. Nothing else is replaced.
+
+NOT_RUN lists the commands of blocks that are not run, each with the reason and the test that covers it, and IN_TEXT the
+commands that no block has. A command of NOT_RUN that no page has fails. The last line counts the checks; the exit status
+is 1 if one failed. It needs bash, curl, ss, openssl, sqlite3 and OpenSSH's sftp with its server.
 """
 
 import os
@@ -23,7 +27,7 @@ from pathlib import Path
 
 from helpers.first_version import write_version_1
 from helpers.page_rooms import PREPARED, prepare
-from helpers.running import TOP, Checks, Serving, free_port, program_of
+from helpers.running import MILL_KEY, OPERATOR_KEY, TOP, Checks, Serving, free_port, program_of
 
 PAGES = ("README.md", *sorted(str(it.relative_to(TOP)) for folder in ("operate", "integrate", "audit")
                               for it in (TOP / "docs" / folder).glob("*.md")))
@@ -42,10 +46,44 @@ NOT_RUN = (
     ("sudo usermod", "it needs the user achdesk", "judge/backups.py, with a standby of its own"),
     ("cp -a /var/lib/achdesk-standby", "it needs a standby", "judge/backups.py, which runs it"),
     ("rm -f /etc/nginx", "it needs nginx as root", "judge/deploy.py runs nginx with deploy/nginx.conf"),
-    ("read -rs key", "it reads from a terminal", "the room of this script has the file that it writes"),
+)
+# Commands in the text of pages that no block has, with the same; judge/facts.py compares them with the pages.
+IN_TEXT = (
+    ("achdesk help", "its answer is long", "crates/tests_of_the_program"),
+    ("achdesk-company --help", "its answer is long", "judge/clients_kit.py runs each command"),
+    ("achdesk-company changes --new", "the page shows it for returns", "judge/clients_kit.py"),
+    ("achdesk-day backup --expire-only", "it is for a standby", "judge/backups.py, the rule of it"),
+    ("achdesk-day begin", "a desk has it once", "judge/day.py"),
+    ("achdesk-day correct", "other pages show other words of it", "judge/day.py"),
+    ("achdesk-day cut --remake", "it follows a restore", "judge/backups.py"),
+    ("achdesk-day open --day", "it follows a restore", "judge/day.py"),
+    ("fuser", "it only looks at processes", "none"),
+    ("journalctl", "it needs systemd", "none"),
+    ("make install", "it installs below /usr", "judge/deploy.py"),
+    ("python3 judge/run.py", "it runs the judges, and this one", "none"),
+    ("python3 judge/audit.py", "it is a judge", "judge/audit.py itself"),
+    ("ss -", "it only looks at sockets", "none"),
+    ("systemctl daemon-reload", "it needs systemd", "none"),
+    ("systemctl disable --now achdesk", "it needs systemd", "none"),
+    ("systemctl edit", "it needs systemd", "judge/deploy.py verifies the units"),
+    ("systemctl status", "it needs systemd", "none"),
 )
 MOVED = re.compile(r"(?<![\w./])/(etc|var|tmp|usr/share)/")
 WAIT = 0.1
+SECONDS = 120
+# The toolchain for ./try: the program runs with the words that it would be given, and with the file of --data by its path.
+RT = """#!/bin/sh
+[ "$1" = try ] || exit 2
+shift
+[ "$1" = --data ] && file=${{2#given=}} && shift 2
+[ "$1" = -- ] && shift
+for word in "$@"; do
+    shift
+    [ "$word" = given ] && word=$file
+    set -- "$@" "$word"
+done
+exec {program} "$@"
+"""
 
 
 @dataclass
@@ -100,8 +138,10 @@ class Room:
         for name in ("bin", "var/lib/achdesk", "var/lib/achdesk-day/backups", "tmp", "etc/achdesk/keys", "usr/share/achdesk"):
             (self.folder / name).mkdir(parents=True)
         (self.folder / "usr/share/achdesk/audit.sql").symlink_to(TOP / "docs/audit.sql")
-        for name in ("examples", "docs", "judge", "clients", "deploy", "console"):
+        for name in ("examples", "docs", "judge", "clients", "deploy", "console", "crates", "try"):
             (self.folder / name).symlink_to(TOP / name)
+        (self.folder / "bin/rt").write_text(RT.format(program=program))
+        (self.folder / "bin/rt").chmod(0o755)
         for place in ("achdesk", "bin/achdesk"):
             (self.folder / place).symlink_to(program)
         # On a terminal curl prints no progress when it prints a body.
@@ -117,18 +157,22 @@ class Room:
         words = command.removeprefix("sudo ").split() if "\n" not in command else []
         if words[:1] == ["systemctl"] and "achdesk" in words:
             return self.stop() if words[1] == "stop" else self.serve(self.database, self.port)
+        if words == ["kill", "%1"]:
+            return self.stop()
         if len(words) > 2 and words[0].endswith("achdesk") and words[1] == "serve":
             return self.serve(self.folder / words[2], int(words[3]))
-        self.put_operator_key()
         if words[:2] == ["achdesk", "migrate"]:
             self.put_version_1(self.folder / self.moved(words[2]))
         return self.shell(command)
 
-    def put_operator_key(self):
-        """Writes the header file that a person would write with a key that a page has just made."""
-        header, made = self.folder / "operator.key", self.folder / "etc/achdesk/keys/desk.map"
-        if not header.exists() and made.exists() and (found := re.search(r'"~\^operator\$" "(\w+)"', made.read_text())):
-            header.write_text(f"X-Desk-Key: {found[1]}\n")
+    def typed(self, command):
+        """Returns the key that a person types for a command that reads one: the desk's own, since no proxy is here."""
+        if "read -rs key" not in command:
+            return ""
+        made = self.folder / "etc/achdesk/keys/desk.map"
+        found = re.search(r'"~\^operator\$" "(\w+)"', made.read_text()) if made.exists() else None
+        operator_key = found[1] if found else OPERATOR_KEY
+        return f"{operator_key if 'operator.key' in command else MILL_KEY}\n"
 
     def put_version_1(self, path):
         """Replaces a desk's file by one of version 1 with the same rows."""
@@ -148,8 +192,9 @@ class Room:
                 "PYTHONPATH": str(TOP / "clients/python")}
         words = "\n".join([*self.exports, self.moved(command)])
         self.exports += [line for line in self.moved(command).split("\n") if line.startswith("export ")]
-        done = subprocess.run(["sh", "-ec", words], cwd=self.folder, env=path, stdin=subprocess.DEVNULL,
-                              stdout=subprocess.PIPE, stderr=subprocess.STDOUT, timeout=120)
+        done = subprocess.run(["bash", "-ec", words], cwd=self.folder, env=path, input=self.typed(command).encode(),
+                              stdout=subprocess.PIPE, stderr=subprocess.DEVNULL if command.startswith("./try ") else subprocess.STDOUT,
+                              timeout=SECONDS)
         said = done.stdout.decode(errors="replace").replace(self.address, "https://desk.bank.example")
         return said.replace(f"{self.folder}/", "/"), done.returncode
 
