@@ -270,7 +270,7 @@ def facts_of_tree():
         "edits": len(list((TOP / "crates").glob("*/must-fail/*.edit"))),
         "hundreds of further edits": len(list((TOP / "judge/edits").glob("*/*.edit"))) // 100 * 100,
         "file version": code["version.VERSION"],
-        "first file version": code["first_version.FIRST_VERSION"],
+        "first file version": code["check.FIRST_VERSION"],
         "port": constant("deploy/achdesk.env", r"DESK_PORT=(\d+)"),
         "rate of an address": rate_of(proxy, "address_rate"),
         "rate of a company": rate_of(proxy, "company_rate"),
