@@ -128,6 +128,7 @@ class Room:
         """Writes the header file that a person would write with a key that a page has just made."""
         header, made = self.folder / "operator.key", self.folder / "etc/achdesk/keys/desk.map"
         if not header.exists() and made.exists() and (found := re.search(r'"~\^operator\$" "(\w+)"', made.read_text())):
+            header.touch(mode=0o600)
             header.write_text(f"X-Desk-Key: {found[1]}\n")
 
     def put_version_1(self, path):
