@@ -37,7 +37,7 @@ def main():
     unread = b"error: a word of the command line is not UTF-8\n"
     checks.that("a word that is no text is told", ended(program, os.fsdecode(b"\xff")), (unread, b"", 2))
     said, errors, status = ended(program, "--help")
-    checks.that("help is given", (said[:12], errors, status), (b"The ACH desk", b"", 0))
+    checks.that("help is given", (said[:12], errors, status), (b"ACH desk of ", b"", 0))
     checks.that("a file that cannot be read", ended(program, "check", "no such file"), (b"unavailable\n", b"", 3))
     with open("/dev/full", "wb") as full:
         checks.that("output that takes nothing", ended(program, given=BODY, out=full)[1:], (b"", 3))
