@@ -497,9 +497,15 @@ def check_commands():
     check("commands that judge/pages.py lists and no page has", [it[0] for it in listed if it[0] not in used], [])
     tests = {name for it in listed for name in re.findall(r"\b(?:judge/\w+\.py|crates/\w+)", it[2])}
     check("tests that judge/pages.py names and the tree does not have", sorted(it for it in tests if not (TOP / it).exists()), [])
-    check("commands and options that achdesk-day does not have", sorted(unknown_options("achdesk-day", "deploy/achdesk-day", {"--help"})), [])
-    check("commands and options that achdesk-company does not have",
-          sorted(unknown_options("achdesk-company", "clients/achdesk-company", {"--help"})), [])
+    programs = {"achdesk-day": words_of("deploy/achdesk-day"), "achdesk-company": words_of("clients/achdesk-company")}
+    for program, (commands, options) in programs.items():
+        check(f"commands and options that {program} does not have", sorted(unknown_options(program, commands, options)), [])
+    desk = {it for path, source in sources() if "cli_words" in path.parts for it in re.findall(r'"([a-z-]+)"', source)}
+    commands = {"init", "serve", "stdio", "check", "submit", "migrate"}.union(*(it for it, _ in programs.values()))
+    options = {f"--{it}" for it in desk}.union(*(it for _, it in programs.values()))
+    bare = [f"{page.relative_to(TOP)}: {first} {option}" for page in USER_PAGES
+            for first, option in re.findall(r"`([a-z]+) (--[a-z-]+)", prose_of(page)) if first in commands and option not in options]
+    check("options that no program has", bare, [])
 
 
 def is_like(command, line):
@@ -510,11 +516,15 @@ def is_like(command, line):
                for it in (re.sub(r"[A-Z]{2,}", r"\\S+", re.escape(word)) for word in command.split()))
 
 
-def unknown_options(program, source, known):
-    """Returns commands and options that pages give a program of Python, and its source does not."""
+def words_of(source):
+    """Returns the commands and the options of a program of Python."""
     code = text(source)
     commands = {one or other for one, other in re.findall(r'^    "([a-z]+)": \(\w+, "|\(\w+, "([a-z]+)", "', code, re.M)}
-    options = set(re.findall(r'add_argument\(\s*"(--[a-z-]+)"', code)) | known
+    return commands, set(re.findall(r'add_argument\(\s*"(--[a-z-]+)"', code)) | {"--help"}
+
+
+def unknown_options(program, commands, options):
+    """Returns commands and options that pages give a program and that it does not have."""
     for page in USER_PAGES:
         spans = re.findall(r"`([^`\n]+)`", prose_of(page)) + re.findall(r"^(?:\$ )?(.*)$", "\n".join(re.findall(r"```\w*.*?\n(.*?)```", page.read_text(), re.S)), re.M)
         for span in spans:
