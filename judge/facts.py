@@ -72,12 +72,19 @@ def constant(path, pattern):
     return int(found[1].replace("_", "").replace(",", "")) if found else f"nothing like {pattern} in {path}"
 
 
+class Constants(dict):
+    """The constants of the crates, by the crate and the name, as `ach_files.MOST_BYTES`, and by the file and the name."""
+
+    def __missing__(self, name):
+        sys.exit(f"judge/facts.py: no crate has the constant {name}")
+
+
 def constants():
-    """Returns the constants of the crates, each by the name of its file and its own, as `limits.MOST_BYTES`."""
-    found = {}
+    found = Constants()
     for path, source in sources():
         for name, value in re.findall(r"\bconst ([A-Z_]+): \w+ = ([\d_]+);", source):
-            found[f"{path.stem}.{name}"] = int(value.replace("_", ""))
+            for place in (path.relative_to(TOP / "crates").parts[0], path.stem):
+                found[f"{place}.{name}"] = int(value.replace("_", ""))
     return found
 
 
@@ -269,48 +276,48 @@ def facts_of_tree():
         "operations": sum(method in item for item in api()["paths"].values() for method in ("get", "post")),
         "edits": len(list((TOP / "crates").glob("*/must-fail/*.edit"))),
         "hundreds of further edits": len(list((TOP / "judge/edits").glob("*/*.edit"))) // 100 * 100,
-        "file version": code["version.VERSION"],
-        "first file version": code["check.FIRST_VERSION"],
+        "file version": code["sql_setup.VERSION"],
+        "first file version": code["sql_migration.FIRST_VERSION"],
         "port": constant("deploy/achdesk.env", r"DESK_PORT=(\d+)"),
         "rate of an address": rate_of(proxy, "address_rate"),
         "rate of a company": rate_of(proxy, "company_rate"),
         "seconds of the proxy": constant("deploy/nginx.conf", r"proxy_read_timeout\s+(\d+)s"),
-        "bytes of a body": code["framing.MAX_BODY"],
+        "bytes of a body": code["http_message.MAX_BODY"],
         "bytes of a body at the proxy": constant("deploy/nginx.conf", r"client_max_body_size\s+(\d+);"),
-        "bytes of a file": code["limits.MOST_BYTES"],
-        "bytes of a list": code["message.MOST_BYTES"],
-        "MiB that are read and dropped": code["lingering.MAX_DROPPED"] // 2 ** 20,
-        "messages of a connection": code["message.MAX_MESSAGES"],
+        "bytes of a file": code["ach_files.MOST_BYTES"],
+        "bytes of a list": code["cli_submit.MOST_BYTES"],
+        "MiB that are read and dropped": code["http_session.MAX_DROPPED"] // 2 ** 20,
+        "messages of a connection": code["http_message.MAX_MESSAGES"],
         "connections": constant("crates/cli_words/src/serve_arguments.rt", r"u32\)\.range\(1\.\.=([\d_]+)\)"),
         "connections of the unit": constant("deploy/achdesk.env", r"--connections (\d+)"),
         "seconds of patience": constant("crates/cli_words/src/serve_arguments.rt", r"(?s)patience.*default_value\(\"(\d+)\"\)"),
         "seconds of patience in the unit": constant("deploy/achdesk.env", r"--patience (\d+)"),
         "GiB of the unit": constant("deploy/achdesk.service", r"(?m)^LimitAS=(\d+)G"),
-        "entries of a submission": code["size.MOST_ENTRIES"],
+        "entries of a submission": code["desk_rules.MOST_ENTRIES"],
         "entries of a submission in the API": schemas["Submission"]["properties"]["entries"]["maxItems"],
-        "cents of a submission": code["cents.MOST_CENTS"],
-        "cents of an entry": code["entry_cents.MOST_ENTRY_CENTS"],
-        "cents of a limit": code["operator_fields.MOST_EXPOSURE_LIMIT"],
-        "files of a day": code["day_modifiers.MOST_FILES"],
-        "batches of a file": code["load.MOST_BATCHES"],
-        "records of a file": code["load.MOST_RECORDS"],
-        "submissions of a day": code["day_modifiers.MOST_FILES"] * code["load.MOST_BATCHES"],
-        "traces": code["trace.MOST_SEQUENCE"],
-        "days until a trace is free": code["reuse.DAYS"],
+        "cents of a submission": code["ach_fields.MOST_CENTS"],
+        "cents of an entry": code["desk_rules.MOST_ENTRY_CENTS"],
+        "cents of a limit": code["desk_rules.MOST_EXPOSURE_LIMIT"],
+        "files of a day": code["desk_plan.MOST_FILES"],
+        "batches of a file": code["desk_plan.MOST_BATCHES"],
+        "records of a file": code["desk_plan.MOST_RECORDS"],
+        "submissions of a day": code["desk_plan.MOST_FILES"] * code["desk_plan.MOST_BATCHES"],
+        "traces": code["ach_fields.MOST_SEQUENCE"],
+        "days until a trace is free": code["desk_plan.DAYS"],
         "days that may be asked for": code["limit_checks.MOST_DAYS"],
         "days of a retry": code["retry_rule.MOST_DAYS"],
-        "days of the rates": code["return_rates.DAYS_BEFORE"] + 1,
-        "holidays": code["row.MOST_ROWS"],
-        "first row too many": code["row.MOST_ROWS"] + 1,
+        "days of the rates": code["desk_rules.DAYS_BEFORE"] + 1,
+        "holidays": code["bank_days.MOST_ROWS"],
+        "first row too many": code["bank_days.MOST_ROWS"] + 1,
         "holidays of achdesk-day": constant(day, r"MOST_HOLIDAYS, NEAR_DAYS = (\d+),"),
         "days that stay in the list": constant(day, r"MOST_HOLIDAYS, NEAR_DAYS = \d+, (\d+)"),
         "characters of a company's name": schemas["CompanyName"]["maxLength"],
         "characters of an identification": schemas["Identification"]["maxLength"],
         "characters of a receiver's name": schemas["Entry"]["properties"]["name"]["maxLength"],
         "characters of the bank's name": constant("crates/desk_history/src/party_name.rt", r"ShortText<(\d+)>"),
-        "first desk day": day_text(code["day.FIRST"]),
-        "last desk day": day_text(code["operator_fields.LAST_DESK_DAY"]),
-        "last day of a rule": day_text(code["rule_day.LAST_RULE_DAY"]),
+        "first desk day": day_text(code["bank_days.FIRST"]),
+        "last desk day": day_text(code["desk_rules.LAST_DESK_DAY"]),
+        "last day of a rule": day_text(code["desk_rules.LAST_RULE_DAY"]),
         "newest backups": constant(day, r'"newest": "(\d+)"'),
         "days of backups": constant(day, r'"newest": "\d+", "days": "(\d+)"'),
         "weeks of backups": constant(day, r'"weeks": "(\d+)"'),
@@ -331,7 +338,6 @@ NUMBERS = (
     ("docs/PROVED.md", r"refuses alike to each of the (\d+)", "operations"),
     ("docs/PROVED.md", r"makes the desk wrong in (\d+) ways", "edits"),
     ("docs/PROVED.md", r"More than (\d+) further edits", "hundreds of further edits"),
-    ("README.md", r"plants (\d+) bugs", "edits"),
     ("README.md", r"takes \d+ to (\d+) minutes", "longest first use"),
     ("README.md", r"takes (\d+) to \d+ minutes", "shortest first use"),
     ("README.md", r"in \d+ to (\d+) minutes", "longest try"),
@@ -497,9 +503,15 @@ def check_commands():
     check("commands that judge/pages.py lists and no page has", [it[0] for it in listed if it[0] not in used], [])
     tests = {name for it in listed for name in re.findall(r"\b(?:judge/\w+\.py|crates/\w+)", it[2])}
     check("tests that judge/pages.py names and the tree does not have", sorted(it for it in tests if not (TOP / it).exists()), [])
-    check("commands and options that achdesk-day does not have", sorted(unknown_options("achdesk-day", "deploy/achdesk-day", {"--help"})), [])
-    check("commands and options that achdesk-company does not have",
-          sorted(unknown_options("achdesk-company", "clients/achdesk-company", {"--help"})), [])
+    programs = {"achdesk-day": words_of("deploy/achdesk-day"), "achdesk-company": words_of("clients/achdesk-company")}
+    for program, (commands, options) in programs.items():
+        check(f"commands and options that {program} does not have", sorted(unknown_options(program, commands, options)), [])
+    desk = {it for path, source in sources() if "cli_words" in path.parts for it in re.findall(r'"([a-z-]+)"', source)}
+    commands = {"init", "serve", "stdio", "check", "submit", "migrate"}.union(*(it for it, _ in programs.values()))
+    options = {f"--{it}" for it in desk}.union(*(it for _, it in programs.values()))
+    bare = [f"{page.relative_to(TOP)}: {first} {option}" for page in USER_PAGES
+            for first, option in re.findall(r"`([a-z]+) (--[a-z-]+)", prose_of(page)) if first in commands and option not in options]
+    check("options that no program has", bare, [])
 
 
 def is_like(command, line):
@@ -510,11 +522,15 @@ def is_like(command, line):
                for it in (re.sub(r"[A-Z]{2,}", r"\\S+", re.escape(word)) for word in command.split()))
 
 
-def unknown_options(program, source, known):
-    """Returns commands and options that pages give a program of Python, and its source does not."""
+def words_of(source):
+    """Returns the commands and the options of a program of Python."""
     code = text(source)
     commands = {one or other for one, other in re.findall(r'^    "([a-z]+)": \(\w+, "|\(\w+, "([a-z]+)", "', code, re.M)}
-    options = set(re.findall(r'add_argument\(\s*"(--[a-z-]+)"', code)) | known
+    return commands, set(re.findall(r'add_argument\(\s*"(--[a-z-]+)"', code)) | {"--help"}
+
+
+def unknown_options(program, commands, options):
+    """Returns commands and options that pages give a program and that it does not have."""
     for page in USER_PAGES:
         spans = re.findall(r"`([^`\n]+)`", prose_of(page)) + re.findall(r"^(?:\$ )?(.*)$", "\n".join(re.findall(r"```\w*.*?\n(.*?)```", page.read_text(), re.S)), re.M)
         for span in spans:

@@ -231,7 +231,8 @@ def judge(page, rooms, checks, used):
                 continue
             said, status = rooms(block.room).run(command)
             is_right = status in (0, 1) and same(said, shown) if shown else status == 0
-            checks.that(f"{page}:{block.number}: {command.splitlines()[0][:70]}", is_right or (status, said), True)
+            wanted = "status 0" if shown is None else shown
+            checks.that(f"{page}:{block.number}: {command.splitlines()[0][:70]}", wanted if is_right else f"status {status}, {said}", wanted)
 
 
 def judge_page(page, program, checks, used):
