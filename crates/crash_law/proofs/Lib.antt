@@ -1,4 +1,5 @@
 mod Books
+mod Growing
 mod Kept
 mod Openings
 mod Runs

@@ -1,4 +1,4 @@
--- A new desk, and one that was adopted, begin as the laws of crashes presume.
+-- A new desk, and one that was adopted or migrated, begin as the laws of crashes presume.
 use Rattle.std.proofs.Common.{◌≡◌, ◌∙◌, sym, ap, subst, List, [], IsTrue}
 use Rattle.std.proofs.Math.Logic.{∥∥₁_map}
 use Rattle.sqlite_disk.specs.declared.Disk as disk
@@ -10,14 +10,53 @@ use Rattle.sqlite.specs.Held.{state}
 use Rattle.sqlite.proofs.Theorems.{next_run}
 use Rattle.desk_history.specs.Message as core
 use Rattle.desk_book.specs.Book.{book_of}
+use Rattle.desk_history.specs.Authorizations.{without_authorizations}
+use Rattle.desk_history.specs.Operator.{IsHistory}
 use Rattle.http_history.specs.History.{calls_of}
+use Rattle.http_history.specs.Laws.{CallsAreHistory, FirstCalls, IsSpelled}
+use Rattle.http_history.specs.Versions.{Present}
 use Rattle.http_history.proofs.Calls.{calls_of-none}
 use Rattle.sql_tables.specs.Layout.{Keeps, Sees}
-use Rattle.crash_law.specs.Crashes.{StandsAfterCrash}
+use Rattle.sql_migration.specs.FirstHistory.{FirstStandsFor}
+use Rattle.sql_migration.specs.FirstVersion.{HasFirstTables}
+use Rattle.sql_migration.specs.Migration.{HasMigrated}
+use Rattle.sqlite.specs.State.{State}
+use Rattle.desk_http.specs.Answering.{DeskHistory}
+use Rattle.crash_law.specs.Crashes.{IsFirstHistory, StandsAfterCrash}
+use Rattle.crash_law.specs.Runs.{book_after}
 use Rattle.open_sums.specs.Laws.{NumberedBooks}
-use Rattle.crash_law.specs.Openings.{holds, keeps, may_leave, Tables, InFiles, FilesSurvive}
+use Rattle.crash_law.specs.Openings.{holds, keeps, may_leave, StandsMigrated, FirstOverBytes, Tables, InFiles, FilesSurvive}
 
-module _ {T : Type 0} (g : Ghosts T) (numbered : NumberedBooks) (settled : (s : T) (db : Trees) → IsTrue (g.view s).is_open → g.recovers s db → db ≡ (g.view s).committed) where
+module _ (first : FirstCalls) (are : CallsAreHistory) where
+  -- without the key the calls are those of the history over bytes
+  same_calls : (h : DeskHistory) (G : List core.Pair) → IsFirstHistory h → IsSpelled h.identity h.key h.pairs G → calls_of h.identity h.pairs ≡ without_authorizations G
+  same_calls h G is spelled = first.calls h.identity h.key h.pairs G is.history is.first spelled
+
+  over_bytes : (trees : Trees) (h : DeskHistory) (G : List core.Pair) → IsFirstHistory h → IsSpelled h.identity h.key h.pairs G → FirstStandsFor trees h.identity h.key G → HasFirstTables trees (book_after h)
+  over_bytes trees h G is spelled stands = subst (λ (K : List core.Pair). HasFirstTables trees (book_of h.identity h.key K)) (sym (same_calls h G is spelled)) stands.book
+
+  over_calls : (trees : Trees) (h : DeskHistory) (G : List core.Pair) → IsFirstHistory h → IsSpelled h.identity h.key h.pairs G → HasFirstTables trees (book_after h) → FirstStandsFor trees h.identity h.key G
+  over_calls trees h G is spelled has =
+      let same = same_calls h G is spelled in
+      record {
+        history = subst (IsHistory h.identity) same (are h.identity h.pairs);
+        book = subst (λ (K : List core.Pair). HasFirstTables trees (book_of h.identity h.key K)) same has;
+      }
+
+  migrated : (old new : State) (h : DeskHistory) → HasMigrated old new → IsFirstHistory h → HasFirstTables old.committed.trees (book_after h) → StandsMigrated new h
+  migrated old new h desk is has =
+      let spelled = first.spelled h.identity h.key h.pairs is.history is.first in
+      let stands = desk.stands h.identity h.key spelled.0 (over_calls old.committed.trees h spelled.0 is spelled.1 has) in
+      let same = sym (same_calls h spelled.0 is spelled.1) in
+      record {
+        sees = record { history = is.history; book = subst (λ (K : List core.Pair). Sees new (book_of h.identity h.key K)) same stands.sees };
+        keeps = λ trees leaves. record { history = is.history; book = subst (λ (K : List core.Pair). Keeps trees (book_of h.identity h.key K)) same (stands.keeps trees leaves) };
+      }
+
+  pub first_over_bytes : {T : Type 0} (g : Ghosts T) → FirstOverBytes g
+  first_over_bytes g = record { bytes = over_bytes; calls = over_calls; migrated = λ was now h desk is has. migrated (state g was) (state g now) h desk is has }
+
+module _ {T : Type 0} (g : Ghosts T) (numbered : NumberedBooks) (over : FirstOverBytes g) (settled : (s : T) (db : Trees) → IsTrue (g.view s).is_open → g.recovers s db → db ≡ (g.view s).committed) where
   pub in_tables : Tables g
   in_tables = record {
     made = λ identity key was s desk begins.
@@ -42,6 +81,21 @@ module _ {T : Type 0} (g : Ghosts T) (numbered : NumberedBooks) (settled : (s : 
           held = λ b kept. (record { held = desk.sees b kept.0; numbered = kept.1; known = begins.0 b }, begins.1 b);
           left = λ b k kept left. subst (λ (trees : Trees). keeps trees b) (sym (settled s.store.store.conn.store k desk.unchanged.0.is_open left ∙ ap (λ (d : Database). d.trees) desk.unchanged.0.committed_is)) kept;
         };
+    migrated = λ was s desk begins.
+        record {
+          held = λ h is has. (
+            record {
+              held = (over.migrated was s.store.store.conn h desk is has).sees.book;
+              numbered = numbered h.identity h.key (calls_of h.identity h.pairs);
+              known = begins.0 (book_after h);
+            },
+            begins.1 (book_after h),
+          );
+          left = λ h k is has left. (
+            ((over.migrated was s.store.store.conn h desk is has).keeps k left).book,
+            numbered h.identity h.key (calls_of h.identity h.pairs),
+          );
+        };
   }
 
 module _ {D : Type 0} (g : disk.Ghosts D) (tables : Tables (over_files {g = g})) where
@@ -55,9 +109,16 @@ module _ {D : Type 0} (g : disk.Ghosts D) (tables : Tables (over_files {g = g}))
           held = λ b kept. it.held b (subst (λ (trees : Trees). keeps trees b) (sym same) kept);
           left = λ b j kept left. it.left b j (subst (λ (trees : Trees). keeps trees b) (sym same) kept) left;
         };
+    migrated = λ held k s moved begins is_held.
+        let same = moved.opened.found.holds k is_held in
+        let it = tables.migrated moved.was s moved.desk begins in
+        record {
+          held = λ h is has. it.held h is (subst (λ (trees : Trees). HasFirstTables trees (book_after h)) (sym same) has);
+          left = λ h j is has left. it.left h j is (subst (λ (trees : Trees). HasFirstTables trees (book_after h)) (sym same) has) left;
+        };
   }
 
   pub files_survive : StandsAfterCrash (holds (over_files {g = g})) keeps (may_leave over_files) → FilesSurvive g
   files_survive law h start end now xs held settled takes sound left found begins =
       ∥∥₁_map (next_run end.store.store.conn.store sound.numbered sound.databases held left (file_state found.was) found.opened.found) (λ recovers.
-      law h start end now xs (file_state found.was).committed.trees settled takes recovers (tables.adopted found.was now found.desk begins))
+      law Present h start end now xs (file_state found.was).committed.trees settled takes recovers (tables.adopted found.was now found.desk begins))

@@ -1,16 +1,27 @@
--- What a crash leaves of the store of a desk that took messages, and what stands after it is opened again.
-use Rattle.std.specs.Prelude.{◌≡◌, ℕ, List, [], ◌∷◌, Option, Some, None, Result, Ok, Err, Vec}
+-- What a crash leaves of the store of a desk that took messages, and what stands after it is opened again or migrated.
+use Rattle.std.specs.Prelude.{◌≡◌, ◌⊎◌, ℕ, List, [], ◌∷◌, Option, Some, None, Result, Ok, Err, Vec, IsFalse}
 use Rattle.std.specs.declared.alloc.Global.{Global}
+use Rattle.desk_history.specs.Message.{Message}
 use Rattle.desk_book.specs.Book.{Book}
+use Rattle.desk_admission.specs.Answering.{IsLeft}
+use Rattle.http_message.specs.Message.{MessageValue}
 use Rattle.http_session.specs.Exchanges.{Exchange}
 use Rattle.http_session.specs.declared.answers.Unavailable.{Unavailable}
-use Rattle.desk_http.specs.Answering.{DeskHistory, StandsBehind, GoesBytes, LeavesBytes}
-use Rattle.crash_law.specs.Runs.{book_after, IsAfter, MayBeFound, MayBeFoundLater}
+use Rattle.http_history.specs.History.{taken_by, text, IsHistory}
+use Rattle.http_history.specs.Laws.{AreOfFirst}
+use Rattle.http_history.specs.Verdict.{verdict_on}
+use Rattle.http_history.specs.Versions.{Version, First, Present, MeansAt}
+use Rattle.desk_http.specs.Answering.{DeskHistory, StandsBehind, GoesBytes, LeavesBytes, reads, writes}
+use Rattle.crash_law.specs.Runs.{book_after, with_taken, IsAfter, MayBeFound, MayBeFoundLater}
 
 -- the bytes of an answer, where there is one
 abbrev pub answer_in : Result (Vec ℕ Global) Unavailable → Option (List ℕ)
 answer_in (Ok bytes) = Some bytes.items
 answer_in (Err fault) = None
+
+-- the history with a message more, as a desk of this version answers it
+abbrev pub with_answered : Version → DeskHistory → MessageValue → Option Message → DeskHistory
+with_answered version h v means = with_taken version h v (text h.identity h.key h.pairs (taken_by version v) means) means
 
 module _ {S Kept : Type 0} (holds : S → Book → Type 0) (keeps : Kept → Book → Type 0) (may_leave : S → Kept → Type 0) where
   -- ---- the desk takes messages
@@ -22,10 +33,30 @@ module _ {S Kept : Type 0} (holds : S → Book → Type 0) (keeps : Kept → Boo
     pub goes : GoesBytes (holds before) x.message result (holds after)
     pub left : LeavesBytes keeps (holds before) (may_leave before) x.message result (may_leave after)
 
+  -- after the history a desk of this version answers so: by the text, or not at all
+  abbrev pub GoesBy : Version → DeskHistory → MessageValue → Option Message → (answer : Option (List ℕ)) → (after : S) → Type 0
+  GoesBy version h v means (Some bytes) after = (bytes ≡ text h.identity h.key h.pairs (taken_by version v) means) × StandsBehind (holds after) (with_taken version h v bytes means)
+  GoesBy version h v means None after = StandsBehind (holds after) h
+
+  -- and a crash then leaves this
+  abbrev pub LeavesBy : Version → (before : S) → DeskHistory → MessageValue → Option Message → (answer : Option (List ℕ)) → Kept → Type 0
+  LeavesBy version before h v means (Some bytes) k = IsLeft (writes (book_after h) means) (keeps k (book_after (with_answered version h v means))) (may_leave before k)
+  LeavesBy version before h v means None k = may_leave before k ⊎ (IsFalse (reads means) × keeps k (book_after (with_answered version h v means)))
+
+  -- a message took a desk of version 1 so: the same, but that the desk read it without the key `authorized`
+  pub record TakesFirst (before : S) (x : Exchange) (after : S) : Type 0 where
+    pub goes : (h : DeskHistory) (means : Option Message) → StandsBehind (holds before) h → MeansAt First (verdict_on (book_after h) x.message) means → GoesBy First h x.message means x.answer after
+    pub left : (h : DeskHistory) (means : Option Message) (k : Kept) → StandsBehind (holds before) h → MeansAt First (verdict_on (book_after h) x.message) means → may_leave after k
+        → LeavesBy First before h x.message means x.answer k
+
+  abbrev pub TakesBy : Version → (before : S) → Exchange → (after : S) → Type 0
+  TakesBy First = TakesFirst
+  TakesBy Present = Takes
+
   -- and messages do so one after another, of which the newest stands first
-  abbrev pub TakesAll : (start : S) → List Exchange → (end : S) → Type 0
-  TakesAll start [] end = start ≡ end
-  TakesAll start (x ∷ xs) end = (before : S) × TakesAll start xs before × Takes before x end
+  abbrev pub TakesAll : Version → (start : S) → List Exchange → (end : S) → Type 0
+  TakesAll version start [] end = start ≡ end
+  TakesAll version start (x ∷ xs) end = (before : S) × TakesAll version start xs before × TakesBy version before x end
 
   -- the store holds the book of the history, and a crash leaves what keeps it
   pub record IsSettled (h : DeskHistory) (s : S) : Type 0 where
@@ -34,14 +65,14 @@ module _ {S Kept : Type 0} (holds : S → Book → Type 0) (keeps : Kept → Boo
 
   -- After messages the store holds the book of the history with those that were answered. A crash at any moment leaves
   -- what keeps that book, or the book with one pending message more.
-  pub record HasTaken (h : DeskHistory) (xs : List Exchange) (end : S) : Type 0 where
+  pub record HasTaken (version : Version) (h : DeskHistory) (xs : List Exchange) (end : S) : Type 0 where
     pub after : DeskHistory
-    pub history : IsAfter h xs after
+    pub history : IsAfter version h xs after
     pub stands : StandsBehind (holds end) after
-    pub left : (k : Kept) → may_leave end k → (found : DeskHistory) × MayBeFound h xs found × keeps k (book_after found)
+    pub left : (k : Kept) → may_leave end k → (found : DeskHistory) × MayBeFound version h xs found × keeps k (book_after found)
 
   abbrev pub AnswersSurvive : Type 0
-  AnswersSurvive = (h : DeskHistory) (start end : S) (xs : List Exchange) → IsSettled h start → TakesAll start xs end → HasTaken h xs end
+  AnswersSurvive = (version : Version) (h : DeskHistory) (start end : S) (xs : List Exchange) → IsSettled h start → TakesAll version start xs end → HasTaken version h xs end
 
   -- ---- the store is opened again
 
@@ -53,17 +84,48 @@ module _ {S Kept : Type 0} (holds : S → Book → Type 0) (keeps : Kept → Boo
   -- the store stands for the history of what was answered, or for that with one pending message more
   abbrev pub StandsAfterCrash : Type 0
   StandsAfterCrash =
-      (h : DeskHistory) (start end now : S) (xs : List Exchange) (k : Kept) → IsSettled h start → TakesAll start xs end → may_leave end k → IsReopened k now
-      → (found : DeskHistory) × MayBeFound h xs found × IsSettled found now
+      (version : Version) (h : DeskHistory) (start end now : S) (xs : List Exchange) (k : Kept) → IsSettled h start → TakesAll version start xs end → may_leave end k → IsReopened k now
+      → (found : DeskHistory) × MayBeFound version h xs found × IsSettled found now
 
   -- lives of a desk one after another, the newest first: in each it takes messages, a crash ends it, and what that left is opened
-  abbrev pub Lives : (start : S) → List (List Exchange) → (now : S) → Type 0
-  Lives start [] now = start ≡ now
-  Lives start (xs ∷ lives) now =
-      (begun : S) × (end : S) × (k : Kept) × Lives start lives begun × TakesAll begun xs end × may_leave end k × IsReopened k now
+  abbrev pub Lives : Version → (start : S) → List (List Exchange) → (now : S) → Type 0
+  Lives version start [] now = start ≡ now
+  Lives version start (xs ∷ lives) now =
+      (begun : S) × (end : S) × (k : Kept) × Lives version start lives begun × TakesAll version begun xs end × may_leave end k × IsReopened k now
 
   -- over all lives, each crash adds at most one pending message to what was answered
   abbrev pub StandsAfterLives : Type 0
   StandsAfterLives =
-      (h : DeskHistory) (start now : S) (lives : List (List Exchange)) → IsSettled h start → Lives start lives now
-      → (found : DeskHistory) × MayBeFoundLater h lives found × IsSettled found now
+      (version : Version) (h : DeskHistory) (start now : S) (lives : List (List Exchange)) → IsSettled h start → Lives version start lives now
+      → (found : DeskHistory) × MayBeFoundLater version h lives found × IsSettled found now
+
+-- ---- a desk of version 1 is migrated
+
+-- a history of a desk of version 1
+pub record IsFirstHistory (h : DeskHistory) : Type 0 where
+  pub history : IsHistory h.identity h.key h.pairs
+  pub first : AreOfFirst h.pairs
+
+module _ {F FirstKept S Kept : Type 0}
+    (first_holds : F → Book → Type 0) (first_keeps : FirstKept → Book → Type 0) (first_may_leave : F → FirstKept → Type 0)
+    (holds : S → Book → Type 0) (keeps : Kept → Book → Type 0) (may_leave : S → Kept → Type 0) where
+  -- a store was migrated from what a desk of version 1 left: it holds the book of each history of such a desk that this
+  -- keeps, and so does what the next crash leaves
+  pub record IsMigrated (k : FirstKept) (s : S) : Type 0 where
+    pub held : (h : DeskHistory) → IsFirstHistory h → first_keeps k (book_after h) → holds s (book_after h)
+    pub left : (h : DeskHistory) (j : Kept) → IsFirstHistory h → first_keeps k (book_after h) → may_leave s j → keeps j (book_after h)
+
+  -- lives of a desk of version 1, then a migration of what its last crash left, and then lives of the desk since
+  abbrev pub LivesMigrated : (start : F) → (earlier : List (List Exchange)) → (last : List Exchange) → (lives : List (List Exchange)) → (now : S) → Type 0
+  LivesMigrated start earlier last lives now =
+      (begun : F) × (end : F) × (k : FirstKept) × (migrated : S)
+      × Lives first_holds first_keeps first_may_leave First start earlier begun × TakesAll first_holds first_keeps first_may_leave First begun last end × first_may_leave end k
+      × IsMigrated k migrated × Lives holds keeps may_leave Present migrated lives now
+
+  -- The store stands for the history of what was answered over all lives, with at most one pending message more for each
+  -- crash: those before the migration as a desk of version 1 read them.
+  abbrev pub StandsAfterMigration : Type 0
+  StandsAfterMigration =
+      (h : DeskHistory) (start : F) (now : S) (earlier : List (List Exchange)) (last : List Exchange) (lives : List (List Exchange))
+      → AreOfFirst h.pairs → IsSettled first_holds first_keeps first_may_leave h start → LivesMigrated start earlier last lives now
+      → (before : DeskHistory) × (found : DeskHistory) × MayBeFoundLater First h (last ∷ earlier) before × MayBeFoundLater Present before lives found × IsSettled holds keeps may_leave found now

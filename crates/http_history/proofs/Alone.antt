@@ -20,16 +20,17 @@ use Rattle.desk_book.specs.Reads.{key_of}
 use Rattle.http_message.specs.Message as messages
 use Rattle.http_routes.specs.declared.route.CompanyRoute.{CompanyRoute}
 use Rattle.http_history.specs.Addressee.{Addressee, to_nobody, to_company, to_operator, addressee_of, shown_key}
-use Rattle.http_history.specs.Verdict.{is_company, company_request, company_verdict, verdict_by, Means}
+use Rattle.http_history.specs.Verdict.{is_company, company_request, company_verdict, verdict_by}
+use Rattle.http_history.specs.Versions.{Version, MeansAt}
 use Rattle.http_history.specs.Texts.{is_success}
-use Rattle.http_history.specs.History.{Origin, from_message, from_facts, Pair, call_pair, with_call, calls_of, IsReadAs, IsHistory}
+use Rattle.http_history.specs.History.{Origin, taken_by, from_facts, Pair, call_pair, with_call, calls_of, IsReadAs, IsHistory}
 use Rattle.http_history.specs.Part.{Event, Given, core_events, is_post, post_if, own_events, operator_events, pair_events, part}
 use Rattle.http_history.specs.Reply.{reply_to}
 use Rattle.http_history.specs.Alone as bytes_alone
 use Rattle.http_history.specs.Alone.{with_files, with_origin, alone}
 use Rattle.http_history.specs.Laws.{AreAcceptedOrOwn, CallsAlone, ServedAlone}
 use Rattle.http_history.proofs.Answered.{right_text}
-use Rattle.http_history.proofs.Asking.{no_command}
+use Rattle.http_history.proofs.Asking.{no_command_at}
 use Rattle.http_history.proofs.Calls.{calls_are_history, calls_of-more, calls_of-none, right_pair, none_pair}
 use Rattle.http_history.proofs.PartAlone.{origin_part, origin_accepted}
 use Rattle.http_history.proofs.Parts.{call_events, core_events-append, keys_of, pair_events_are, same_part}
@@ -79,9 +80,10 @@ module _ (digests : DigestOfPart) where
 -- ---- its history
 
 -- who posted something is the company
-posted : (b : Bool) (route : CompanyRoute) (body : List ℕ) (es : List events.Event) (e : Event) (more : List Event) → es ≡ [] → post_if b route body ++ map Given es ≡ e ∷ more → b ≡ true
-posted true route body es e more none is = refl
-posted false route body es e more none is = let no : [] ≡ e ∷ more = sym (ap (map Given) none) ∙ is in cc
+posted : (b : Bool) (version : Version) (route : CompanyRoute) (body : List ℕ) (es : List events.Event) (e : Event) (more : List Event) → es ≡ []
+    → post_if b version route body ++ map Given es ≡ e ∷ more → b ≡ true
+posted true version route body es e more none is = refl
+posted false version route body es e more none is = let no : [] ≡ e ∷ more = sym (ap (map Given) none) ∙ is in cc
 
 is_own : (c k : List ℕ) (post own : Bool) → (post && (bytes_eq k c && own)) ≡ true → k ≡ c
 is_own c k post own is =
@@ -100,20 +102,20 @@ module _ (digests : DigestOfPart) (identity : Identity) (key c : List ℕ) (H A 
       ∙ ap digest (ap (core_history.part identity.odfi (calls_of identity H)) is ∙ sym same ∙ ap (core_history.part identity.odfi (calls_of identity A)) (sym is))
       ∙ sym (keys_of digests identity key A k)
 
-  addressee_reads : (a : Addressee) (means : Option Message) (ok : Bool) (P : List events.Event) (e : Event) (more : List Event)
-      → own_events c a P ++ map Given (operator_events identity c (calls_of identity H) ok means P) ≡ e ∷ more
-      → Means (verdict_by (key_in H) (Some key) a) means → Means (verdict_by (key_in A) (Some key) a) means
-  addressee_reads (to_nobody fault) means ok P e more is read = read
-  addressee_reads (to_operator route r) means ok P e more is read = read
-  addressee_reads (to_company route k r) means ok P e more is read =
-      let none = no_command identity c (calls_of identity H) ok P k (company_request (key_in H k) route k r) means read in
-      let own = posted (is_post route && (bytes_eq k c && is_company (digest P) c (shown_key r))) route r.body (operator_events identity c (calls_of identity H) ok means P) e more none is in
-      subst (λ (o : Option (List ℕ)). Means (company_verdict k (company_request o route k r)) means) (same_key k (is_own c k (is_post route) (is_company (digest P) c (shown_key r)) own)) read
+  addressee_reads : (version : Version) (a : Addressee) (means : Option Message) (ok : Bool) (P : List events.Event) (e : Event) (more : List Event)
+      → own_events c version a P ++ map Given (operator_events identity c (calls_of identity H) ok means P) ≡ e ∷ more
+      → MeansAt version (verdict_by (key_in H) (Some key) a) means → MeansAt version (verdict_by (key_in A) (Some key) a) means
+  addressee_reads version (to_nobody fault) means ok P e more is read = read
+  addressee_reads version (to_operator route r) means ok P e more is read = read
+  addressee_reads version (to_company route k r) means ok P e more is read =
+      let none = no_command_at version identity c (calls_of identity H) ok P k (company_request (key_in H k) route k r) means read in
+      let own = posted (is_post route && (bytes_eq k c && is_company (digest P) c (shown_key r))) version route r.body (operator_events identity c (calls_of identity H) ok means P) e more none is in
+      subst (λ (o : Option (List ℕ)). MeansAt version (company_verdict k (company_request o route k r)) means) (same_key k (is_own c k (is_post route) (is_company (digest P) c (shown_key r)) own)) read
 
   origin_reads : (x : Pair) (origin : Origin) (means : Option Message) (P : List events.Event) (e : Event) (more : List Event)
       → pair_events identity c (calls_of identity H) (record { origin = origin; answer = x.answer; means = means }) P ≡ e ∷ more
       → IsReadAs identity key (calls_of identity H) origin means → IsReadAs identity key (calls_of identity A) origin means
-  origin_reads x (from_message v) means P e more is read = addressee_reads (addressee_of v) means (is_success x.answer) P e more is read
+  origin_reads x (taken_by version v) means P e more is read = addressee_reads version (addressee_of v) means (is_success x.answer) P e more is read
   origin_reads x from_facts None P e more is read = absurd read
   origin_reads x from_facts (Some m) P e more is read = read
 

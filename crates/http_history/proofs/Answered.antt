@@ -25,7 +25,7 @@ use Rattle.http_answers.specs.Refusals.{refusal_status}
 use Rattle.http_answers.specs.Statuses.{kind_of, status_of, content_of}
 use Rattle.http_history.specs.Texts.{call_text, fault_text, is_unavailable}
 use Rattle.http_history.specs.Verdict.{Verdict, verdict_on}
-use Rattle.http_history.specs.History.{Origin, from_message, from_facts, Pair, closes, calls_of, text_in, text, IsAnswer, IsHistory}
+use Rattle.http_history.specs.History.{Origin, taken_by, from_facts, Pair, closes, calls_of, text_in, text, IsAnswer, IsHistory}
 use Rattle.http_history.specs.Laws.{AllAnswered, NoneUnavailable}
 use Rattle.http_history.proofs.Success.{response_spelled, IsRefused, refused}
 
@@ -124,7 +124,7 @@ fault_answers closes (Ok call) = none_answers
 
 in_calls : (identity : Identity) (key : List ℕ) (G : List core.Pair) (origin : Origin) (means : Option Message) → is_unavailable (text_in identity key G origin means) ≡ false
 in_calls identity key G origin (Some m) = call_answers (closes origin) m (answer_to identity G m)
-in_calls identity key G (from_message v) None = fault_answers (messages.closes v) (verdict_on (book_of identity key G) v)
+in_calls identity key G (taken_by version v) None = fault_answers (messages.closes v) (verdict_on (book_of identity key G) v)
 in_calls identity key G from_facts None = none_answers
 
 pub text_answers : (identity : Identity) (key : List ℕ) (H : List Pair) (origin : Origin) (means : Option Message) → is_unavailable (text identity key H origin means) ≡ false

@@ -5,6 +5,7 @@
 --   same_part                   Success, Asking, Parts
 --   own_text, two_worlds        Worlds
 --   calls_alone, served_alone   PartAlone, Alone
+--   first_calls                 Firsts
 pub mod Meanings
 pub mod Calls
 pub mod Success
@@ -14,3 +15,4 @@ pub mod Parts
 pub mod Worlds
 pub mod PartAlone
 pub mod Alone
+pub mod Firsts

@@ -27,15 +27,16 @@ use Rattle.http_answers.specs.declared.faults.MessageFault.TheVariants.{Denied}
 use Rattle.http_answers.specs.Statuses.{kind_of}
 use Rattle.http_history.specs.Addressee.{Addressee, to_nobody, to_company, to_operator, addressee_of, shown_key}
 use Rattle.http_history.specs.Verdict.{is_key, is_company, with_object, request_on, company_request, company_verdict, verdict_by, Means}
+use Rattle.http_history.specs.Versions.{Version, First, Present, MeansAt}
 use Rattle.http_history.specs.Texts.{is_success}
-use Rattle.http_history.specs.History.{Origin, from_message, from_facts, Pair, closes, calls_of, text, IsReadAs}
+use Rattle.http_history.specs.History.{Origin, taken_by, from_facts, Pair, closes, calls_of, text, IsReadAs}
 use Rattle.http_history.specs.Part.{Event, Posted, Given, posted_events, core_events, is_post, post_if, own_events, origin_events, operator_events, part}
 use Rattle.http_history.specs.Alone as bytes_alone
 use Rattle.http_history.specs.Alone.{with_text, with_files, with_origin}
 use Rattle.http_history.specs.Laws.{IsOwn, AreAcceptedOrOwn}
-use Rattle.http_history.proofs.Asking.{own_message}
+use Rattle.http_history.proofs.Asking.{own_message, asked_at, company_meaning, nothing_meant}
 use Rattle.http_history.proofs.Calls.{right_pair}
-use Rattle.http_history.proofs.Parts.{IsCommand, is_command, none_of_file, core_events-append, core_events-given}
+use Rattle.http_history.proofs.Parts.{IsCommand, is_command, command_meaning, none_of_file, core_events-append, core_events-given}
 use Rattle.http_history.proofs.Success.{IsSure, accepts}
 
 -- ---- whose message it is
@@ -52,43 +53,50 @@ record IsRequestWith (own : List events.Event → List Event) (m : Message) : Ty
   is : m ≡ Of company request
   made : (P : List events.Event) → core_events (own P) ≡ [] → own P ≡ []
 
-submitted : (o : Option Data) (q : Request) → with_object o (λ d. request.Submit (submission_draft_of d)) ≡ Ok q
-    → posted_events (with_object o (λ d. request.Submit (submission_draft_of d))) ++ [] ≡ [] → ⊥
-submitted None q is none = cc
-submitted (Some d) q is none = cc
+submitted : (version : Version) (o : Option Data) (q : Request) → with_object o (λ d. request.Submit (submission_draft_of d)) ≡ Ok q
+    → posted_events version (with_object o (λ d. request.Submit (submission_draft_of d))) ++ [] ≡ [] → ⊥
+submitted version None q is none = cc
+submitted First (Some d) q is none = cc
+submitted Present (Some d) q is none = cc
 
-retried : (o : Option Data) (q : Request) → with_object o (λ d. request.Retry (retry_draft_of d)) ≡ Ok q
-    → posted_events (with_object o (λ d. request.Retry (retry_draft_of d))) ++ [] ≡ [] → ⊥
-retried None q is none = cc
-retried (Some d) q is none = cc
+retried : (version : Version) (o : Option Data) (q : Request) → with_object o (λ d. request.Retry (retry_draft_of d)) ≡ Ok q
+    → posted_events version (with_object o (λ d. request.Retry (retry_draft_of d))) ++ [] ≡ [] → ⊥
+retried version None q is none = cc
+retried First (Some d) q is none = cc
+retried Present (Some d) q is none = cc
 
 -- what was posted and made a request makes an event
-post_made : (route : CompanyRoute) (r : RequestValue) (i b : Bool) (q : Request) → (if i then request_on route r else Err Denied) ≡ Ok q
-    → core_events (post_if (is_post route && b) route r.body) ≡ [] → post_if (is_post route && b) route r.body ≡ []
-post_made route r false b q is none = cc
-post_made company_routes.Submit r true true q is none = absurd (submitted (object_of r.body) q is none)
-post_made company_routes.Submit r true false q is none = refl
-post_made company_routes.Retry r true true q is none = absurd (retried (object_of r.body) q is none)
-post_made company_routes.Retry r true false q is none = refl
-post_made company_routes.LookUp r true b q is none = refl
-post_made company_routes.Returns r true b q is none = refl
-post_made company_routes.Changes r true b q is none = refl
-post_made company_routes.Statement r true b q is none = refl
-post_made company_routes.Rates r true b q is none = refl
-post_made company_routes.Exposure r true b q is none = refl
+post_made : (version : Version) (route : CompanyRoute) (r : RequestValue) (i b : Bool) (q : Request) → (if i then request_on route r else Err Denied) ≡ Ok q
+    → core_events (post_if (is_post route && b) version route r.body) ≡ [] → post_if (is_post route && b) version route r.body ≡ []
+post_made version route r false b q is none = cc
+post_made version company_routes.Submit r true true q is none = absurd (submitted version (object_of r.body) q is none)
+post_made version company_routes.Submit r true false q is none = refl
+post_made version company_routes.Retry r true true q is none = absurd (retried version (object_of r.body) q is none)
+post_made version company_routes.Retry r true false q is none = refl
+post_made version company_routes.LookUp r true b q is none = refl
+post_made version company_routes.Returns r true b q is none = refl
+post_made version company_routes.Changes r true b q is none = refl
+post_made version company_routes.Statement r true b q is none = refl
+post_made version company_routes.Rates r true b q is none = refl
+post_made version company_routes.Exposure r true b q is none = refl
 
 asked_request : (k : List ℕ) (asked : Result Request MessageFault) (m : Message) → Means (company_verdict k asked) (Some m)
     → (q : Request) × (asked ≡ Ok q) × (m ≡ Of k q)
 asked_request k (Err fault) m is = cc
 asked_request k (Ok q) m is = (q, refl, own_message k q m is)
 
+-- what a desk of each version reads was asked
+asked_before : (version : Version) (asked : Result Request MessageFault) (q : Request) → asked_at version asked ≡ Ok q → (asking : Request) × (asked ≡ Ok asking)
+asked_before version (Ok asking) q is = (asking, refl)
+asked_before version (Err fault) q is = cc
+
 -- what the company posted is one event, or none
-own_or_none : (c : List ℕ) (a : Addressee) (P : List events.Event)
-    → (own_events c a P ≡ []) ⊎ ((route : CompanyRoute) × (body : List ℕ) × (own_events c a P ≡ Posted route body ∷ []))
-own_or_none c (to_nobody fault) P = inl refl
-own_or_none c (to_operator route r) P = inl refl
-own_or_none c (to_company route k r) P = by (is_post route && (bytes_eq k c && is_company (digest P) c (shown_key r))) where
-  by : (b : Bool) → (post_if b route r.body ≡ []) ⊎ ((path : CompanyRoute) × (body : List ℕ) × (post_if b route r.body ≡ Posted path body ∷ []))
+own_or_none : (c : List ℕ) (version : Version) (a : Addressee) (P : List events.Event)
+    → (own_events c version a P ≡ []) ⊎ ((route : CompanyRoute) × (body : List ℕ) × (own_events c version a P ≡ Posted version route body ∷ []))
+own_or_none c version (to_nobody fault) P = inl refl
+own_or_none c version (to_operator route r) P = inl refl
+own_or_none c version (to_company route k r) P = by (is_post route && (bytes_eq k c && is_company (digest P) c (shown_key r))) where
+  by : (b : Bool) → (post_if b version route r.body ≡ []) ⊎ ((path : CompanyRoute) × (body : List ℕ) × (post_if b version route r.body ≡ Posted version path body ∷ []))
   by true = inr (route, r.body, refl)
   by false = inl refl
 
@@ -105,22 +113,26 @@ call_shape identity key c C origin m (e ∷ es) A none files other = other e es 
 module _ (identity : Identity) (key c : List ℕ) where
   -- ---- how it was read
 
-  read_by : (keys : List ℕ → Option (List ℕ)) (a : Addressee) (m : Message) → Means (verdict_by keys (Some key) a) (Some m)
-      → IsCommandWith (own_events c a) m ⊎ IsRequestWith (own_events c a) m
-  read_by keys (to_nobody fault) m is = cc
-  read_by keys (to_operator route r) m is = inl (record { command = is_command (is_key (Some key) (shown_key r)) route r m is; none = λ P. refl })
-  read_by keys (to_company route k r) m is =
-      let asked = asked_request k (company_request (keys k) route k r) m is in
+  read_by : (keys : List ℕ → Option (List ℕ)) (version : Version) (a : Addressee) (m : Message) → MeansAt version (verdict_by keys (Some key) a) (Some m)
+      → IsCommandWith (own_events c version a) m ⊎ IsRequestWith (own_events c version a) m
+  read_by keys version (to_nobody fault) m is = let no : Some m ≡ None = nothing_meant version fault (Some m) is in cc
+  read_by keys version (to_operator route r) m is = inl (record {
+    command = is_command (is_key (Some key) (shown_key r)) route r m (command_meaning version (is_key (Some key) (shown_key r)) route r (Some m) is);
+    none = λ P. refl;
+  })
+  read_by keys version (to_company route k r) m is =
+      let read = asked_request k (asked_at version (company_request (keys k) route k r)) m (company_meaning version k (company_request (keys k) route k r) (Some m) is) in
+      let asked = asked_before version (company_request (keys k) route k r) read.0 read.1 in
       inr (record {
         company = k;
-        request = asked.0;
-        is = asked.2;
-        made = λ P none. post_made route r (is_company (keys k) k (shown_key r)) (bytes_eq k c && is_company (digest P) c (shown_key r)) asked.0 asked.1 none;
+        request = read.0;
+        is = read.2;
+        made = λ P none. post_made version route r (is_company (keys k) k (shown_key r)) (bytes_eq k c && is_company (digest P) c (shown_key r)) asked.0 asked.1 none;
       })
 
   read_as : (G : List core.Pair) (origin : Origin) (m : Message) → IsReadAs identity key G origin (Some m)
       → IsCommandWith (origin_events c origin) m ⊎ IsRequestWith (origin_events c origin) m
-  read_as G (from_message v) m is = read_by (λ k. key_of (callers.Company k) (book_of identity key G)) (addressee_of v) m is
+  read_as G (taken_by version v) m is = read_by (λ k. key_of (callers.Company k) (book_of identity key G)) version (addressee_of v) m is
   read_as G from_facts (TakeFile file) is = inl (record { command = tt; none = λ P. refl })
   read_as G from_facts m is = absurd is
 
@@ -221,9 +233,9 @@ module _ (identity : Identity) (key c : List ℕ) where
   own_origin : (origin : Origin) (H A : List Pair) (e : Event) (rest : List Event) → part identity A c ≡ part identity H c
       → e ∷ rest ≡ origin_events c origin (core_events (part identity H c)) ++ [] → IsOwn identity c A origin
   own_origin from_facts H A e rest same is = cc
-  own_origin (from_message v) H A e rest same is = elim (own_or_none c (addressee_of v) (core_events (part identity H c))) [
+  own_origin (taken_by version v) H A e rest same is = elim (own_or_none c version (addressee_of v) (core_events (part identity H c))) [
     | inl none ↦ let no : e ∷ rest ≡ [] = is ∙ ap (λ (l : List Event). l ++ []) none in cc
-    | inr own ↦ (own.0, own.1, ap (λ (Q : List Event). own_events c (addressee_of v) (core_events Q)) same ∙ own.2)
+    | inr own ↦ (version, own.0, own.1, ap (λ (Q : List Event). own_events c version (addressee_of v) (core_events Q)) same ∙ own.2)
   ]
 
   no_request : (m : Message) → IsCommand m → IsOf c m → ⊥

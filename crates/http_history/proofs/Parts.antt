@@ -11,6 +11,7 @@ use Rattle.http_json.specs.Read.{object_of}
 use Rattle.desk_history.specs.declared.call.Call.{Call}
 use Rattle.desk_history.specs.declared.identity.Identity.{Identity}
 use Rattle.desk_history.specs.declared.sent_entry.SentEntry.{SentEntry}
+use Rattle.desk_history.specs.Authorizations.{request_without_authorization, message_without_authorization}
 use Rattle.desk_history.specs.Calls.{IsMessageOf}
 use Rattle.desk_history.specs.History as core_history
 use Rattle.desk_history.specs.History.{events_for, is_new, request_event, sent_entries}
@@ -20,6 +21,7 @@ use Rattle.desk_history.specs.Operator.{answer_to}
 use Rattle.desk_history.specs.Part as events
 use Rattle.desk_history.specs.Part.{is_registered}
 use Rattle.desk_history.specs.PartCompany.{digest, DigestOfPart}
+use Rattle.desk_history.specs.Request as request
 use Rattle.desk_history.specs.Request.{Request}
 use Rattle.desk_book.specs.declared.caller.Caller.TheVariants as callers
 use Rattle.desk_book.specs.Book.{book_of}
@@ -35,11 +37,12 @@ use Rattle.http_answers.specs.declared.faults.MessageFault.TheVariants.{Denied}
 use Rattle.http_answers.specs.Statuses.{kind_of}
 use Rattle.http_history.specs.Addressee.{Addressee, to_nobody, to_company, to_operator, addressee_of, request_path, shown_key}
 use Rattle.http_history.specs.Verdict.{is_key, is_company, with_object, look_up, submission_in, retry_in, request_on, company_request, company_verdict, file_text, operator_call, verdict_by, Means}
+use Rattle.http_history.specs.Versions.{Version, First, Present, read_at, MeansAt}
 use Rattle.http_history.specs.Texts.{is_success}
-use Rattle.http_history.specs.History.{Origin, from_message, from_facts, Pair, closes, call_pair, with_call, calls_of, text_in, text, IsReadAs, IsHistory}
+use Rattle.http_history.specs.History.{Origin, taken_by, from_facts, Pair, closes, call_pair, with_call, calls_of, text_in, text, IsReadAs, IsHistory}
 use Rattle.http_history.specs.Part.{Event, Posted, Given, posted_events, events_of_post, core_events, is_post, post_if, own_events, origin_events, operator_events, pair_events, part}
 use Rattle.http_history.specs.Laws.{SamePart}
-use Rattle.http_history.proofs.Asking.{own_message}
+use Rattle.http_history.proofs.Asking.{own_message, asked_at, asked_if, company_meaning, plain_meaning, nothing_meant}
 use Rattle.http_history.proofs.Calls.{calls_are_history, calls_of-more, calls_of-none}
 use Rattle.http_history.proofs.Success.{IsSure, same_success}
 
@@ -69,8 +72,8 @@ who_is_registered P c key is = by (digest P) refl is where
 
 pub core_events-append : (P Q : List Event) → core_events (P ++ Q) ≡ core_events P ++ core_events Q
 core_events-append [] Q = refl
-core_events-append (Posted route body ∷ P) Q =
-    ap (λ (l : List events.Event). events_of_post route body ++ l) (core_events-append P Q) ∙ sym (append_assoc (events_of_post route body) (core_events P) (core_events Q))
+core_events-append (Posted version route body ∷ P) Q =
+    ap (λ (l : List events.Event). events_of_post version route body ++ l) (core_events-append P Q) ∙ sym (append_assoc (events_of_post version route body) (core_events P) (core_events Q))
 core_events-append (Given e ∷ P) Q = ap (λ (l : List events.Event). e ∷ l) (core_events-append P Q)
 
 pub core_events-given : (es : List events.Event) → core_events (map Given es) ≡ es
@@ -84,36 +87,37 @@ abbrev asked_events : Bool → Result Request MessageFault → List events.Event
 asked_events own (Ok q) = request_event own q
 asked_events own (Err fault) = []
 
-posted_asked : (asked : Result Request MessageFault) → posted_events asked ++ [] ≡ asked_events true asked
-posted_asked (Ok q) = append-nil (request_event true q)
-posted_asked (Err fault) = refl
+posted_asked : (version : Version) (asked : Result Request MessageFault) → posted_events version asked ++ [] ≡ asked_events true (asked_at version asked)
+posted_asked version (Ok q) = append-nil (request_event true (read_at version q))
+posted_asked version (Err fault) = refl
 
-none_asked : (asked : Result Request MessageFault) → [] ≡ asked_events false asked
-none_asked (Ok q) = refl
-none_asked (Err fault) = refl
+none_asked : (version : Version) (asked : Result Request MessageFault) → [] ≡ asked_events false (asked_at version asked)
+none_asked version (Ok q) = refl
+none_asked version (Err fault) = refl
 
-none_looked_up : (b : Bool) (o : Option (List ℕ)) → [] ≡ asked_events b (look_up o)
-none_looked_up b None = refl
-none_looked_up true (Some reference) = refl
-none_looked_up false (Some reference) = refl
+-- what only asks gives nothing, however it is read
+quiet_event : (version : Version) (b : Bool) (q : Request) → request_without_authorization q ≡ q → request_event true q ≡ [] → [] ≡ request_event b (read_at version q)
+quiet_event version false q same none = refl
+quiet_event First true q same none = sym none ∙ ap (request_event true) (sym same)
+quiet_event Present true q same none = sym none
+
+none_looked_up : (version : Version) (b : Bool) (o : Option (List ℕ)) → [] ≡ asked_events b (asked_at version (look_up o))
+none_looked_up version b None = refl
+none_looked_up version b (Some reference) = quiet_event version b (request.LookUp reference) refl refl
 
 -- only what is posted gives something
-post_events : (route : CompanyRoute) (r : RequestValue) (b : Bool) → core_events (post_if (is_post route && b) route r.body) ≡ asked_events b (request_on route r)
-post_events company_routes.Submit r true = posted_asked (submission_in r.body)
-post_events company_routes.Submit r false = none_asked (submission_in r.body)
-post_events company_routes.Retry r true = posted_asked (retry_in r.body)
-post_events company_routes.Retry r false = none_asked (retry_in r.body)
-post_events company_routes.LookUp r b = none_looked_up b (result_ok (reference_of (piece_of 4 (request_path r))))
-post_events company_routes.Returns r true = refl
-post_events company_routes.Returns r false = refl
-post_events company_routes.Changes r true = refl
-post_events company_routes.Changes r false = refl
-post_events company_routes.Statement r true = refl
-post_events company_routes.Statement r false = refl
-post_events company_routes.Rates r true = refl
-post_events company_routes.Rates r false = refl
-post_events company_routes.Exposure r true = refl
-post_events company_routes.Exposure r false = refl
+post_events : (version : Version) (route : CompanyRoute) (r : RequestValue) (b : Bool)
+    → core_events (post_if (is_post route && b) version route r.body) ≡ asked_events b (asked_at version (request_on route r))
+post_events version company_routes.Submit r true = posted_asked version (submission_in r.body)
+post_events version company_routes.Submit r false = none_asked version (submission_in r.body)
+post_events version company_routes.Retry r true = posted_asked version (retry_in r.body)
+post_events version company_routes.Retry r false = none_asked version (retry_in r.body)
+post_events version company_routes.LookUp r b = none_looked_up version b (result_ok (reference_of (piece_of 4 (request_path r))))
+post_events version company_routes.Returns r b = quiet_event version b request.Returns refl refl
+post_events version company_routes.Changes r b = quiet_event version b request.Changes refl refl
+post_events version company_routes.Statement r b = quiet_event version b request.Statement refl refl
+post_events version company_routes.Rates r b = quiet_event version b request.Rates refl refl
+post_events version company_routes.Exposure r b = quiet_event version b request.Exposure refl refl
 
 -- ---- what the operator called
 
@@ -149,6 +153,25 @@ pub is_command : (b : Bool) (route : OperatorRoute) (r : RequestValue) (m : Mess
     → Means (if b then operator_call route r else Err Denied) (Some m) → IsCommand m
 is_command false route r m is = cc
 is_command true route r m is = route_command route r m is
+
+-- a command has no key to leave out
+plain_command : (m : Message) → IsCommand m → message_without_authorization m ≡ m
+plain_command (Of k r) command = absurd command
+plain_command (SetDay text) command = refl
+plain_command (SetHolidays days) command = refl
+plain_command (PutCompany d) command = refl
+plain_command (PutLimits d) command = refl
+plain_command Cut command = refl
+plain_command (TakeFile file) command = refl
+plain_command (FileText d modifier) command = refl
+plain_command Settlement command = refl
+plain_command Suspense command = refl
+plain_command Status command = refl
+
+pub command_meaning : (version : Version) (b : Bool) (route : OperatorRoute) (r : RequestValue) (means : Option Message)
+    → MeansAt version (if b then operator_call route r else Err Denied) means → Means (if b then operator_call route r else Err Denied) means
+command_meaning version b route r means is =
+    plain_meaning version (if b then operator_call route r else Err Denied) means (λ m is. plain_command m (is_command b route r m is)) is
 
 command_events : (identity : Identity) (c : List ℕ) (G : List core.Pair) (ok : Bool) (m : Message) (P : List events.Event) → IsCommand m
     → operator_events identity c G ok (Some m) P ≡ events_for identity.odfi (sent_entries identity.odfi G) (is_new G m) c ok m P
@@ -247,27 +270,30 @@ module _ (identity : Identity) (key c : List ℕ) (G : List core.Pair)
   known k okey e i =
       who_is_registered P c okey (subst (λ (j : List ℕ). is_company (digest (core_history.part identity.odfi G j)) j okey ≡ true) ((bytes_eq-Decides k c).0 e) i)
 
-  by_company : (x : Pair) (means : Option Message) (route : CompanyRoute) (k : List ℕ) (r : RequestValue)
-      → Means (company_verdict k (company_request (key_of (callers.Company k) (book_of identity key G)) route k r)) means
-      → core_events (post_if (is_post route && (bytes_eq k c && is_company (digest P) c (shown_key r))) route r.body) ++ operator_events identity c G (is_success x.answer) means P
+  by_company : (x : Pair) (means : Option Message) (version : Version) (route : CompanyRoute) (k : List ℕ) (r : RequestValue)
+      → MeansAt version (company_verdict k (company_request (key_of (callers.Company k) (book_of identity key G)) route k r)) means
+      → core_events (post_if (is_post route && (bytes_eq k c && is_company (digest P) c (shown_key r))) version route r.body) ++ operator_events identity c G (is_success x.answer) means P
       ≡ call_events identity c G x means
-  by_company x means route k r is =
+  by_company x means version route k r is =
       let i = is_company (digest (core_history.part identity.odfi G k)) k (shown_key r) in
       ap (λ (l : List events.Event). l ++ operator_events identity c G (is_success x.answer) means P)
-      (ap (λ (b : Bool). core_events (post_if (is_post route && b) route r.body)) (same_key k (shown_key r) (bytes_eq k c) refl) ∙ post_events route r (bytes_eq k c && i))
-      ∙ by_asked x means (bytes_eq k c) i (request_on route r) k refl (known k (shown_key r))
-      (subst (λ (o : Option (List ℕ)). Means (company_verdict k (company_request o route k r)) means) (keys k) is)
+      (ap (λ (b : Bool). core_events (post_if (is_post route && b) version route r.body)) (same_key k (shown_key r) (bytes_eq k c) refl) ∙ post_events version route r (bytes_eq k c && i))
+      ∙ by_asked x means (bytes_eq k c) i (asked_at version (request_on route r)) k refl (known k (shown_key r))
+      (subst (λ (asked : Result Request MessageFault). Means (company_verdict k asked) means) (asked_if version i (request_on route r) Denied)
+      (company_meaning version k (if i then request_on route r else Err Denied) means
+      (subst (λ (o : Option (List ℕ)). MeansAt version (company_verdict k (company_request o route k r)) means) (keys k) is)))
 
-  by_addressee : (x : Pair) (means : Option Message) (a : Addressee)
-      → Means (verdict_by (λ k. key_of (callers.Company k) (book_of identity key G)) (Some key) a) means → IsAlike x means
-      → core_events (own_events c a P) ++ operator_events identity c G (is_success x.answer) means P ≡ call_events identity c G x means
-  by_addressee x means (to_nobody fault) is alike = by_nobody x means is
-  by_addressee x means (to_company route k r) is alike = by_company x means route k r is
-  by_addressee x means (to_operator route r) is alike = by_operator x means (is_key (Some key) (shown_key r)) route r is alike
+  by_addressee : (x : Pair) (means : Option Message) (version : Version) (a : Addressee)
+      → MeansAt version (verdict_by (λ k. key_of (callers.Company k) (book_of identity key G)) (Some key) a) means → IsAlike x means
+      → core_events (own_events c version a P) ++ operator_events identity c G (is_success x.answer) means P ≡ call_events identity c G x means
+  by_addressee x means version (to_nobody fault) is alike = by_nobody x means (nothing_meant version fault means is)
+  by_addressee x means version (to_company route k r) is alike = by_company x means version route k r is
+  by_addressee x means version (to_operator route r) is alike =
+      by_operator x means (is_key (Some key) (shown_key r)) route r (command_meaning version (is_key (Some key) (shown_key r)) route r means is) alike
 
   by_origin : (x : Pair) (origin : Origin) (means : Option Message) → IsReadAs identity key G origin means → IsAlike x means
       → core_events (origin_events c origin P) ++ operator_events identity c G (is_success x.answer) means P ≡ call_events identity c G x means
-  by_origin x (from_message v) means is alike = by_addressee x means (addressee_of v) is alike
+  by_origin x (taken_by version v) means is alike = by_addressee x means version (addressee_of v) is alike
   by_origin x from_facts None is alike = absurd is
   by_origin x from_facts (Some (TakeFile file)) is alike = by_command x (TakeFile file) tt alike
   by_origin x from_facts (Some m) is alike = absurd is

@@ -11,13 +11,23 @@ use Rattle.desk_history.specs.Operator.{answer_to}
 use Rattle.desk_book.specs.Book.{Book, book_of}
 use Rattle.http_message.specs.Message as messages
 use Rattle.http_message.specs.Message.{MessageValue}
-use Rattle.http_history.specs.Verdict.{verdict_on, Means}
+use Rattle.http_history.specs.Verdict.{verdict_on}
+use Rattle.http_history.specs.Versions.{Version, First, Present, MeansAt}
 use Rattle.http_history.specs.Texts.{call_text, fault_text, is_success, is_unavailable}
 
--- what a pair came from: a message, or the facts of a file alone, of which no bytes were made
+-- what a pair came from: a message, with the version of the desk that took it, or the facts of a file alone, of which
+-- no bytes were made
 pub data Origin : Type 0 where
-  from_message : MessageValue → Origin
+  taken_by : Version → MessageValue → Origin
   from_facts : Origin
+
+-- a message that a desk of the present version took
+abbrev pub from_message : MessageValue → Origin
+from_message v = taken_by Present v
+
+-- a message that a desk of version 1 took
+abbrev pub from_first : MessageValue → Origin
+from_first v = taken_by First v
 
 -- what came, its answer, and the message of the history of calls that it was read as
 pub record Pair : Type 0 where
@@ -27,7 +37,7 @@ pub record Pair : Type 0 where
 
 -- whether the connection ends after the answer
 abbrev pub closes : Origin → Bool
-closes (from_message v) = messages.closes v
+closes (taken_by version v) = messages.closes v
 closes from_facts = false
 
 -- ---- the history of calls
@@ -61,7 +71,7 @@ book_behind identity key H = book_of identity key (calls_of identity H)
 -- the answer to what came, after a history of calls
 abbrev pub text_in : Identity → (key : List ℕ) → List core.Pair → Origin → Option Message → List ℕ
 text_in identity key G origin (Some m) = call_text (closes origin) m (answer_to identity G m)
-text_in identity key G (from_message v) None = fault_text (messages.closes v) (verdict_on (book_of identity key G) v)
+text_in identity key G (taken_by version v) None = fault_text (messages.closes v) (verdict_on (book_of identity key G) v)
 text_in identity key G from_facts None = []
 
 -- the answer to what came, after a history
@@ -74,7 +84,7 @@ IsFile m = ⊥
 
 -- it was read as this
 abbrev pub IsReadAs : Identity → (key : List ℕ) → List core.Pair → Origin → Option Message → Type 0
-IsReadAs identity key G (from_message v) means = Means (verdict_on (book_of identity key G) v) means
+IsReadAs identity key G (taken_by version v) means = MeansAt version (verdict_on (book_of identity key G) v) means
 IsReadAs identity key G from_facts None = ⊥
 IsReadAs identity key G from_facts (Some m) = IsFile m
 

@@ -1,18 +1,21 @@
 -- Laws of all histories over bytes.
-use Rattle.std.specs.Prelude.{◌≡◌, ◌≢◌, ◌<◌, ◌≤◌, ◌^◌, ◌⊎◌, ⊤, ℕ, true, false, List, [], ◌∷◌, length, count_by, Option}
+use Rattle.std.specs.Prelude.{◌≡◌, ◌≢◌, ◌<◌, ◌≤◌, ◌^◌, ◌⊎◌, ⊤, ℕ, true, false, List, [], ◌∷◌, ◌++◌, length, map, count_by, Option, option_to_list}
 use Rattle.desk_history.specs.declared.identity.Identity.{Identity}
 use Rattle.desk_history.specs.Alone as core_alone
 use Rattle.desk_history.specs.Alone.{is_answer}
+use Rattle.desk_history.specs.Authorizations.{without_authorizations, HaveNoAuthorizations}
 use Rattle.desk_history.specs.History as core
 use Rattle.desk_history.specs.History.{sent_entries}
+use Rattle.desk_history.specs.Message as core_messages
 use Rattle.desk_history.specs.Message.{Message}
 use Rattle.desk_history.specs.Operator as operator
 use Rattle.http_message.specs.Message.{MessageValue}
 use Rattle.http_response.specs.Response.{unavailable_text}
 use Rattle.http_routes.specs.declared.route.CompanyRoute.{CompanyRoute}
 use Rattle.http_history.specs.Verdict.{Verdict, verdict_on, Means}
+use Rattle.http_history.specs.Versions.{Version, First}
 use Rattle.http_history.specs.Texts.{is_success, is_unavailable}
-use Rattle.http_history.specs.History.{Origin, from_message, Pair, calls_of, text, IsHistory, book_behind}
+use Rattle.http_history.specs.History.{Origin, taken_by, from_message, from_first, from_facts, Pair, calls_of, text, IsReadAs, IsHistory, book_behind}
 use Rattle.http_history.specs.Part.{Posted, core_events, origin_events, part}
 use Rattle.http_history.specs.Reply.{reply, IsToCompany}
 use Rattle.http_history.specs.Alone.{alone}
@@ -71,7 +74,7 @@ CallsAlone = (identity : Identity) (key : List ℕ) (H : List Pair) (c : List �
 -- the company posted this under its key, after this history
 abbrev pub IsOwn : Identity → (company : List ℕ) → List Pair → Origin → Type 0
 IsOwn identity c H origin =
-    (route : CompanyRoute) × (body : List ℕ) × (origin_events c origin (core_events (part identity H c)) ≡ Posted route body ∷ [])
+    (version : Version) × (route : CompanyRoute) × (body : List ℕ) × (origin_events c origin (core_events (part identity H c)) ≡ Posted version route body ∷ [])
 
 -- each was accepted, or is the company's own
 abbrev pub AreAcceptedOrOwn : Identity → (company : List ℕ) → List Pair → Type 0
@@ -92,3 +95,39 @@ abbrev pub ServedAlone : Type 0
 ServedAlone = (identity : Identity) (key : List ℕ) (H : List Pair) (c : List ℕ) → IsHistory identity key H
     → length (sent_entries identity.odfi (calls_of identity H)) ≤ 9_999_999 → count_by is_answer (core_events (part identity H c)) < 10 ^ 21
     → IsServedAlone identity key H c
+
+-- ---- a desk of version 1
+
+-- a desk of version 1 took it
+abbrev pub IsOfFirst : Origin → Type 0
+IsOfFirst (taken_by First v) = ⊤
+IsOfFirst origin = ⊥
+
+abbrev pub AreOfFirst : List Pair → Type 0
+AreOfFirst [] = ⊤
+AreOfFirst (x ∷ H) = IsOfFirst x.origin × AreOfFirst H
+
+-- the same bytes, before a desk of the present version
+abbrev pub as_present : Origin → Origin
+as_present (taken_by version v) = from_message v
+as_present from_facts = from_facts
+
+-- the messages of the calls that the bytes spell, with the key `authorized`, whichever desk took them
+abbrev pub AreSpelled : Identity → (key : List ℕ) → List Pair → List Message → Type 0
+AreSpelled identity key [] ms = ms ≡ []
+AreSpelled identity key (x ∷ H) ms =
+    (spelled : Option Message) × (before : List Message) × IsReadAs identity key (calls_of identity H) (as_present x.origin) spelled
+    × AreSpelled identity key H before × (ms ≡ option_to_list spelled ++ before)
+
+-- the calls that the bytes spell, each with the answer that was given
+pub record IsSpelled (identity : Identity) (key : List ℕ) (H : List Pair) (G : List core_messages.Pair) : Type 0 where
+  pub messages : AreSpelled identity key H (map (λ x. x.message) G)
+  pub answers : map (λ x. x.answer) G ≡ map (λ x. x.answer) (calls_of identity H)
+
+-- Any messages have a history of a desk of version 1. Its calls are those that the bytes spell, without the key.
+pub record FirstCalls : Type 0 where
+  pub taken : (identity : Identity) (key : List ℕ) (vs : List MessageValue) → (H : List Pair) × IsHistory identity key H × (map (λ x. x.origin) H ≡ map from_first vs)
+  pub spelled : (identity : Identity) (key : List ℕ) (H : List Pair) → IsHistory identity key H → AreOfFirst H → (G : List core_messages.Pair) × IsSpelled identity key H G
+  pub calls : (identity : Identity) (key : List ℕ) (H : List Pair) (G : List core_messages.Pair) → IsHistory identity key H → AreOfFirst H → IsSpelled identity key H G
+      → calls_of identity H ≡ without_authorizations G
+  pub unauthorized : (identity : Identity) (key : List ℕ) (H : List Pair) → IsHistory identity key H → AreOfFirst H → HaveNoAuthorizations (calls_of identity H)

@@ -1,5 +1,6 @@
 pub mod Addressee
 pub mod Verdict
+pub mod Versions
 pub mod Texts
 pub mod History
 pub mod Part

@@ -12,28 +12,29 @@ use Rattle.http_routes.specs.declared.route.CompanyRoute.TheVariants as company_
 use Rattle.http_answers.specs.declared.faults.MessageFault.{MessageFault}
 use Rattle.http_history.specs.Addressee.{Addressee, to_nobody, to_company, to_operator, addressee_of, shown_key}
 use Rattle.http_history.specs.Verdict.{submission_in, retry_in, is_company}
+use Rattle.http_history.specs.Versions.{Version, read_at}
 use Rattle.http_history.specs.Texts.{is_success}
-use Rattle.http_history.specs.History.{Origin, from_message, from_facts, Pair, calls_of}
+use Rattle.http_history.specs.History.{Origin, taken_by, from_facts, Pair, calls_of}
 
--- what the company handed in, as it came; or what the operator did, or came back
+-- what the company handed in, as it came, to a desk of this version; or what the operator did, or came back
 pub data Event : Type 0 where
-  Posted : CompanyRoute → (body : List ℕ) → Event
+  Posted : Version → CompanyRoute → (body : List ℕ) → Event
   Given : events.Event → Event
 
 -- ---- as events of calls
 
 -- what a body makes that was posted; what is no object makes nothing
-abbrev pub posted_events : Result Request MessageFault → List events.Event
-posted_events (Ok request) = request_event true request
-posted_events (Err fault) = []
+abbrev pub posted_events : Version → Result Request MessageFault → List events.Event
+posted_events version (Ok request) = request_event true (read_at version request)
+posted_events version (Err fault) = []
 
-abbrev pub events_of_post : CompanyRoute → (body : List ℕ) → List events.Event
-events_of_post company_routes.Submit body = posted_events (submission_in body)
-events_of_post company_routes.Retry body = posted_events (retry_in body)
-events_of_post route body = []
+abbrev pub events_of_post : Version → CompanyRoute → (body : List ℕ) → List events.Event
+events_of_post version company_routes.Submit body = posted_events version (submission_in body)
+events_of_post version company_routes.Retry body = posted_events version (retry_in body)
+events_of_post version route body = []
 
 abbrev pub core_event : Event → List events.Event
-core_event (Posted route body) = events_of_post route body
+core_event (Posted version route body) = events_of_post version route body
 core_event (Given e) = e ∷ []
 
 abbrev pub core_events : List Event → List events.Event
@@ -47,18 +48,18 @@ is_post company_routes.Submit = true
 is_post company_routes.Retry = true
 is_post route = false
 
-abbrev pub post_if : Bool → CompanyRoute → List ℕ → List Event
-post_if true route body = Posted route body ∷ []
-post_if false route body = []
+abbrev pub post_if : Bool → Version → CompanyRoute → List ℕ → List Event
+post_if true version route body = Posted version route body ∷ []
+post_if false version route body = []
 
 -- what the company hands in under its key, whatever was answered; P is its part before, as events of calls
-abbrev pub own_events : (company : List ℕ) → Addressee → List events.Event → List Event
-own_events c (to_nobody fault) P = []
-own_events c (to_company route k r) P = post_if (is_post route && (bytes_eq k c && is_company (digest P) c (shown_key r))) route r.body
-own_events c (to_operator route r) P = []
+abbrev pub own_events : (company : List ℕ) → Version → Addressee → List events.Event → List Event
+own_events c version (to_nobody fault) P = []
+own_events c version (to_company route k r) P = post_if (is_post route && (bytes_eq k c && is_company (digest P) c (shown_key r))) version route r.body
+own_events c version (to_operator route r) P = []
 
 abbrev pub origin_events : (company : List ℕ) → Origin → List events.Event → List Event
-origin_events c (from_message v) P = own_events c (addressee_of v) P
+origin_events c (taken_by version v) P = own_events c version (addressee_of v) P
 origin_events c from_facts P = []
 
 -- what a command of the operator gives, where it was accepted

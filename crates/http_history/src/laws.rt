@@ -1,5 +1,5 @@
 //! The laws of all histories over bytes.
-ghost use Rattle.http_history.specs.Laws.{OneMeaning, NoneUnavailable, CallsAreHistory, SamePart, OwnText, TwoWorlds, CallsAlone, ServedAlone};
+ghost use Rattle.http_history.specs.Laws.{OneMeaning, NoneUnavailable, CallsAreHistory, SamePart, OwnText, TwoWorlds, CallsAlone, ServedAlone, FirstCalls};
 
 /// What a message comes to means one thing, and no other.
 pub fn one_meaning()
@@ -57,4 +57,14 @@ pub fn served_alone()
 {
     desk_history::digest_of_part();
     desk_history::served_alone();
+}
+
+/// Any messages have a history of a desk of version 1, which did not read the key `authorized` of a
+/// retry's body. The calls of such a history are those that the bytes of its messages spell, without
+/// that key.
+pub fn first_calls()
+    ensures { FirstCalls }
+{
+    one_meaning();
+    desk_history::authorizations_left_out();
 }
