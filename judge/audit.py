@@ -44,7 +44,7 @@ def set_day(day):
     return message("POST /ops/day", json.dumps({"day": day}))
 
 
-def handed_in(company, what):
+def submitted(company, what):
     return message(f"POST /c/{company}/{what[0]}", json.dumps(what[1]), KEYS[company])
 
 
@@ -56,8 +56,8 @@ def registered(company):
 CUT = message("POST /ops/cut", "")
 
 
-def came_back(trace, code, **other):
-    """An item of an incoming file: the entry of `DEPOSIT`, or another one."""
+def item(trace, code, **other):
+    """Returns an item of an incoming file: the entry of `DEPOSIT`, or another one."""
     entry = {"debit": True, "savings": False, "account": DEPOSIT["account"], "cents": 2500, "ident": "E1", "name": "ANN LEE"}
     return {**entry, "code": code, "trace": f"12104288{trace:07}", "dfi": "09100001", **other}
 
@@ -66,10 +66,10 @@ def returns(number, *items):
     return message("POST /ops/returns", file_of_returns(number, "PPD", items))
 
 
-def change(number, item, text):
-    """A file with one notification of change: its addenda has another type, and the corrected data."""
-    file = file_of_returns(number, "COR", [{**item, "cents": 0}])
-    head = f"799{item['code']}{item['trace']}{' ' * 6}{item['dfi']}"
+def change(number, changed, text):
+    """Returns a message with a file of one notification of change: its addenda has another type, and the corrected data."""
+    file = file_of_returns(number, "COR", [{**changed, "cents": 0}])
+    head = f"799{changed['code']}{changed['trace']}{' ' * 6}{changed['dfi']}"
     return message("POST /ops/returns", file.replace(head + " " * 29, f"798{head[3:]}{text:29}"))
 
 
@@ -77,29 +77,29 @@ def change(number, item, text):
 # one; on the 9th BAKE01's DUES-1 and then MILL01's PAY-2.
 DAYS = [
     ("before any day", [message("POST /ops/holidays", "2025-01-20\n2025-05-26\n"), registered("MILL01"), registered("BAKE01")]),
-    ("held", [set_day("2025-01-08"), handed_in("MILL01", submission("PAY-1", "credit", "2025-01-10", {})),
-              handed_in("MILL01", submission("PAY-2", "debit", "2025-01-10", {"cents": 2500})),
-              handed_in("BAKE01", submission("PAY-1", "credit", "2025-01-10", {"cents": 7}, {"cents": 0, "prenote": True, "kind": "savings", "info": "TRY 1"})),
-              handed_in("BAKE01", submission("DUES-1", "debit", "2025-01-10", {"cents": 9900, "account": "5550017"}))]),
+    ("held", [set_day("2025-01-08"), submitted("MILL01", submission("PAY-1", "credit", "2025-01-10", {})),
+              submitted("MILL01", submission("PAY-2", "debit", "2025-01-10", {"cents": 2500})),
+              submitted("BAKE01", submission("PAY-1", "credit", "2025-01-10", {"cents": 7}, {"cents": 0, "prenote": True, "kind": "savings", "info": "TRY 1"})),
+              submitted("BAKE01", submission("DUES-1", "debit", "2025-01-10", {"cents": 9900, "account": "5550017"}))]),
     ("a first cut", [CUT]),
     ("a second cut", [set_day("2025-01-09"), CUT]),
-    ("what came back", [set_day("2025-01-14"),
-                        returns(1, came_back(5, "R01"), came_back(5, "R01"), came_back(77, "R02"), came_back(4, "R01", account="5550017", cents=9900)),
-                        change(2, came_back(2, "C01", debit=False, savings=True), "987654321")]),
-    ("retries and a debit before a holiday", [handed_in("MILL01", retry("RT-1", "PAY-2", "2025-01-16")),
-                                              handed_in("MILL01", submission("PAY-3", "debit", "2025-01-17", {"cents": 100}, {"cents": 1}))]),
+    ("returns and a change", [set_day("2025-01-14"),
+                        returns(1, item(5, "R01"), item(5, "R01"), item(77, "R02"), item(4, "R01", account="5550017", cents=9900)),
+                        change(2, item(2, "C01", debit=False, savings=True), "987654321")]),
+    ("retries and a debit before a holiday", [submitted("MILL01", retry("RT-1", "PAY-2", "2025-01-16")),
+                                              submitted("MILL01", submission("PAY-3", "debit", "2025-01-17", {"cents": 100}, {"cents": 1}))]),
     ("they are sent", [set_day("2025-01-15"), CUT, set_day("2025-01-16"), CUT]),
-    ("a credit comes back before it settles", [handed_in("BAKE01", submission("PAY-4", "credit", "2025-01-21", {"cents": 30})), set_day("2025-01-17"), CUT,
-                                               returns(3, came_back(9, "R03", debit=False, cents=30))]),
+    ("a credit is returned before it settles", [submitted("BAKE01", submission("PAY-4", "credit", "2025-01-21", {"cents": 30})), set_day("2025-01-17"), CUT,
+                                               returns(3, item(9, "R03", debit=False, cents=30))]),
     ("the last day on which a debit counts", [set_day("2025-01-22")]),
-    ("the day after", [set_day("2025-01-23"), returns(4, came_back(7, "R01", cents=100))]),
-    ("returns with other deadlines", [set_day("2025-01-24"), returns(5, came_back(8, "R10", cents=1), came_back(1, "R06", debit=False, cents=7)),
-                                      returns(6, came_back(99, "R01", debit=False, cents=40)), change(7, came_back(98, "C01"), "1")]),
-    ("a retry that waits", [set_day("2025-07-01"), handed_in("BAKE01", retry("RT-1", "DUES-1", "2025-07-09"))]),
+    ("the day after", [set_day("2025-01-23"), returns(4, item(7, "R01", cents=100))]),
+    ("returns with other deadlines", [set_day("2025-01-24"), returns(5, item(8, "R10", cents=1), item(1, "R06", debit=False, cents=7)),
+                                      returns(6, item(99, "R01", debit=False, cents=40)), change(7, item(98, "C01"), "1")]),
+    ("a retry that waits", [set_day("2025-07-01"), submitted("BAKE01", retry("RT-1", "DUES-1", "2025-07-09"))]),
     ("a retry that lapses", [set_day("2025-07-09"), CUT]),
 ]
 
-# What no call tells, by hand: the banking days after each day on which debits settled. 2025-01-20 is a holiday.
+# What no call returns, by hand: the banking days after each day on which debits settled. 2025-01-20 is a holiday.
 DEBIT_DAYS = [("2025-01-10", "2025-01-13", "2025-01-14", None), ("2025-01-16", "2025-01-17", "2025-01-21", "2025-01-20"),
               ("2025-01-17", "2025-01-21", "2025-01-22", "2025-01-20")]
 
@@ -155,7 +155,7 @@ class Desk:
         self.program, self.path = program, path
 
     def ask(self, messages):
-        """The statuses and bodies of the answers."""
+        """Returns the statuses and bodies of the answers."""
         said, status = run(self.program, "stdio", self.path, given=b"".join(messages))
         if status != 0:
             sys.exit(f"a session ended with status {status}: {said[-300:]}")
@@ -164,7 +164,7 @@ class Desk:
         return [(status_of(it), body_of(it)) for it in came]
 
     def get(self, paths):
-        """The bodies of what the operator or a company asks, by path; None where it is refused."""
+        """Returns the bodies of the answers to the operator or a company, by path; None for a refusal."""
         asked = [message(f"GET {path}", key=KEYS[path.split("/")[2]] if path.startswith("/c/") else OPERATOR_KEY) for path in paths]
         return {path: body if status == 200 else None for path, (status, body) in zip(paths, self.ask(asked))}
 
@@ -191,37 +191,37 @@ class Audit:
         return [row for row in self.rows("must_hold, wrong", "audit_checks") if row[1] != 0]
 
     def close(self):
-        """Closes it, and says whether the file is as it was."""
+        """Closes the copy, and returns whether its files are as they were."""
         self.db.close()
         return self.bytes() == self.before
 
 
 def money(cents):
-    """An amount with two decimals."""
+    """Returns an amount with two decimals."""
     return f"{'-' if cents < 0 else ''}{abs(cents) // 100}.{abs(cents) % 100:02}"
 
 
 def entry_of(row):
-    """An entry as a look-up has it."""
+    """Returns an entry as a look-up has it."""
     index, cents, state, settled, code, returned, late = row
-    told = {"cents": cents, "index": index, "state": state}
+    answered = {"cents": cents, "index": index, "state": state}
     if state in ("sent", "returned"):
-        told["settled"] = settled
+        answered["settled"] = settled
     if state == "returned":
-        told.update(code=code, returned=returned, late=late == "late")
-    return told
+        answered.update(code=code, returned=returned, late=late == "late")
+    return answered
 
 
 def look_up_of(audit, row):
-    """A submission as a look-up has it."""
+    """Returns a submission as a look-up has it."""
     company, number, ref, sec, direction, asked, cents, of, index = row
     entries = audit.rows("entry, cents, state, settled, code, returned, late", "audit_entries", "company = ? AND number = ?", company, number)
-    told = {"cents": cents, "day": asked, "direction": direction, "entries": [entry_of(it) for it in entries], "order": number, "ref": ref, "sec": sec}
-    return {**told, **({} if of is None else {"of": of, "of_index": index})}
+    answered = {"cents": cents, "day": asked, "direction": direction, "entries": [entry_of(it) for it in entries], "order": number, "ref": ref, "sec": sec}
+    return {**answered, **({} if of is None else {"of": of, "of_index": index})}
 
 
 def lists_of(audit, company):
-    """Returns, changes and lines of a company, as its calls have them."""
+    """Returns the returns, changes and lines of a company, as its calls have them."""
     returned = audit.rows("code, taken, entry, info, late, ref", "audit_returns", "company = ?", company)
     changed = audit.rows("code, taken, entry, ref, text", "audit_changes", "company = ?", company)
     lines = audit.rows("cause, cents, day, entry, ref", "audit_lines", "company = ?", company)
@@ -231,7 +231,7 @@ def lists_of(audit, company):
 
 
 def records_of(text):
-    """Account, cents and trace of each entry of a file's text."""
+    """Returns account, cents and trace of each entry of a file's text."""
     return [(line[12:29].strip(), int(line[29:39]), line[79:94]) for line in text.decode().splitlines() if line.startswith("6")]
 
 
@@ -241,14 +241,14 @@ def compare_company(checks, audit, desk, company, day):
     heads = audit.rows("company, number, ref, sec, direction, asked, cents, of_ref, of_index", "audit_submissions", "company = ?", company)
     base = f"/c/{company}"
     paths = [f"{base}/submissions/{row[2]}" for row in heads]
-    told = desk.get([*paths, *(f"{base}/{what}" for what in ("returns", "changes", "statement", "exposure", "rates"))])
-    checks.that(f"{company}: submissions and entries", [look_up_of(audit, row) for row in heads], [json.loads(told[path]) for path in paths])
+    answered = desk.get([*paths, *(f"{base}/{what}" for what in ("returns", "changes", "statement", "exposure", "rates"))])
+    checks.that(f"{company}: submissions and entries", [look_up_of(audit, row) for row in heads], [json.loads(answered[path]) for path in paths])
     lists = lists_of(audit, company)
     for what in ("returns", "changes"):
-        checks.that(f"{company}: {what}", lists[what], json.loads(told[f"{base}/{what}"])[what])
+        checks.that(f"{company}: {what}", lists[what], json.loads(answered[f"{base}/{what}"])[what])
     if day is None:
         return
-    statement, exposure = json.loads(told[f"{base}/statement"]), json.loads(told[f"{base}/exposure"])
+    statement, exposure = json.loads(answered[f"{base}/statement"]), json.loads(answered[f"{base}/exposure"])
     checks.that(f"{company}: lines", lists["lines"], statement["lines"])
     checks.that(f"{company}: balance", audit.rows("name, cents, balance", "audit_balances", "company = ?", company),
                 [(NAMES[company], int(statement["balance"]), money(int(statement["balance"])))])
@@ -256,7 +256,7 @@ def compare_company(checks, audit, desk, company, day):
                 audit.rows("credit_cents, credit, credit_limit, debit_cents, debit, debit_limit", "audit_exposures", "company = ?", company),
                 [(int(exposure["credit"]), money(int(exposure["credit"])), money(exposure["credit_limit"]),
                   int(exposure["debit"]), money(int(exposure["debit"])), money(exposure["debit_limit"]))])
-    rates = json.loads(told[f"{base}/rates"])
+    rates = json.loads(answered[f"{base}/rates"])
     checks.that(f"{company}: return rates",
                 audit.rows("debits, unauthorized, unauthorized_over, administrative, administrative_over, overall, overall_over",
                            "audit_rates", "company = ?", company),
@@ -267,19 +267,19 @@ def compare_company(checks, audit, desk, company, day):
 def compare_bank(checks, audit, desk, day):
     files = audit.rows("day, file, text", "audit_files")
     paths = [f"/ops/files/{on}/{letter}" for on, letter, _ in files]
-    told = desk.get([*paths, "/ops/suspense", "/ops/settlement"])
+    answered = desk.get([*paths, "/ops/suspense", "/ops/settlement"])
     checks.that("the bank and its day", audit.rows("routing, bank, operator_routing, operator, day", "audit_desk"), [(*IDENTITY[1:8:2], day)])
     checks.that("suspense", audit.rows("cents, code, taken, file, item, trace, why", "audit_unmatched"),
-                [tuple(it[name] for name in ("cents", "code", "day", "file", "item", "trace", "why")) for it in json.loads(told["/ops/suspense"])["items"]])
-    checks.that("the texts of files", [text.encode() for _, _, text in files], [told[path] for path in paths])
+                [tuple(it[name] for name in ("cents", "code", "day", "file", "item", "trace", "why")) for it in json.loads(answered["/ops/suspense"])["items"]])
+    checks.that("the texts of files", [text.encode() for _, _, text in files], [answered[path] for path in paths])
     for on, letter, text in files:
         sent = audit.rows("e.account, e.cents, e.trace", "audit_entries e JOIN audit_submissions s USING (company, number)",
                           "s.cut_on = ? AND s.file = ? ORDER BY s.batch, e.entry", on, letter)
         checks.that(f"the traces of file {letter} of {on}", sent, records_of(text.encode()))
-    checks.that("what was sent has a trace, and nothing else has one", audit.rows("ref, entry", "audit_entries", "(trace IS NULL) = (place IS NOT NULL)"), [])
+    checks.that("each sent entry has a trace, and no other has one", audit.rows("ref, entry", "audit_entries", "(trace IS NULL) = (place IS NOT NULL)"), [])
     if day is None:
         return
-    settlement = json.loads(told["/ops/settlement"])
+    settlement = json.loads(answered["/ops/settlement"])
     checks.that("the operator's balance", audit.rows("cents", "audit_balances", "account = 'operator'"), [(int(settlement["balance"]),)])
     checks.that("the operator's days", audit.rows("day, cents, amount", "audit_daily_sums", "account = 'operator'"),
                 [(it["day"], int(it["cents"]), money(int(it["cents"]))) for it in settlement["days"]])
@@ -296,7 +296,7 @@ def compare(checks, folder, desk, what, day):
 
 
 def compare_by_hand(checks, folder, desk):
-    """What no call tells, after the last day."""
+    """Compares what no call returns, after the last day."""
     print("-- by hand")
     audit = Audit(folder, desk.path)
     checks.that("banking days after debits settled", audit.rows("settled, first, until, closed", "audit_debit_days"), DEBIT_DAYS)
@@ -329,9 +329,9 @@ def spoil(checks, folder, desk):
         db = sqlite3.connect(copy)
         changed = db.execute(statement).rowcount
         db.executescript(VIEWS)
-        told = [must for must, wrong in db.execute("SELECT must_hold, wrong FROM audit_checks") if wrong != 0]
+        answered = [must for must, wrong in db.execute("SELECT must_hold, wrong FROM audit_checks") if wrong != 0]
         db.close()
-        checks.that(f"{statement}: {check}", changed > 0 and check in told)
+        checks.that(f"{statement}: {check}", changed > 0 and check in answered)
 
 
 def main():
