@@ -144,6 +144,22 @@ Refusal Desk::within_limits(Company& company, const Submission& asked)
     return sums.credit_exposure(*day_) + asked.total() > company.limits.credit ? Refusal{kCreditLimit} : Refusal();
 }
 
+void Desk::add_entries(std::string_view company, int64_t order, const std::vector<Entry>& entries)
+{
+    size_t index = 0;
+    while (index < entries.size()) {
+        size_t count = entries.size() - index < kEntriesAtOnce ? 1 : kEntriesAtOnce;
+        Statement& statement = count == 1 ? sql_.add_entry : sql_.add_entries;
+        int place = 1;
+        for (size_t end = index + count; index < end; index++) {
+            const Entry& entry = entries[index];
+            place = statement.bind_from(place, company, order, int64_t(index + 1), entry.routing, entry.account, entry.is_savings,
+                                        entry.is_prenote, int64_t(entry.cents), entry.ident, entry.name, entry.info);
+        }
+        statement.run_bound();
+    }
+}
+
 Answer Desk::add(Company& company, const Submission& asked, const Retry* retry)
 {
     std::string_view id = company.id;
@@ -152,11 +168,7 @@ Answer Desk::add(Company& company, const Submission& asked, const Retry* retry)
     std::optional<int64_t> of_index = retry ? std::optional<int64_t>(retry->index) : std::nullopt;
     Transaction transaction = begin();
     sql_.add_submission.run(id, order, asked.ref, asked.sec, asked.is_debit ? "debit" : "credit", asked.description, asked.asked, of, of_index);
-    int64_t index = 0;
-    for (const Entry& entry : asked.entries) {
-        sql_.add_entry.run(id, order, ++index, entry.routing, entry.account, entry.is_savings, entry.is_prenote, int64_t(entry.cents),
-                           entry.ident, entry.name, entry.info);
-    }
+    add_entries(id, order, asked.entries);
     if (retry && retry->authorized) {
         sql_.add_authorization.run(id, order, *retry->authorized);
     }

@@ -16,6 +16,17 @@ Digest digest_of(std::string_view bytes)
     return digest;
 }
 
+// The text of an insertion of some entries, which are not sent yet.
+std::string insertion_of_entries(size_t count)
+{
+    std::string text = "INSERT INTO entries VALUES ";
+    for (size_t at = 0; at < count; at++) {
+        text += at == 0 ? "" : ", ";
+        text += "(?, ?, ?, ?, ?, ?, ?, ?, ?, ?, ?, NULL)";
+    }
+    return text;
+}
+
 } // namespace
 
 Answer refused(const Refusal& refusal) { return {status_of(refusal), refusal_body(refusal)}; }
@@ -28,8 +39,8 @@ Statements::Statements(const Database& db)
       add_holiday(db, "INSERT INTO holidays VALUES (?1)"), add_company(db, "INSERT INTO companies VALUES (?1, ?2, ?3, ?4, ?5, ?6)"),
       set_limits(db, "UPDATE companies SET entry_limit = ?2, credit_limit = ?3, debit_limit = ?4 WHERE id = ?1"),
       add_submission(db, "INSERT INTO submissions VALUES (?1, ?2, ?3, ?4, ?5, ?6, ?7, ?8, ?9, 0, NULL, NULL, NULL, NULL)"),
-      add_entry(db, "INSERT INTO entries VALUES (?1, ?2, ?3, ?4, ?5, ?6, ?7, ?8, ?9, ?10, ?11, NULL)"),
-      add_authorization(db, "INSERT INTO authorizations VALUES (?1, ?2, ?3)"),
+      add_entry(db, insertion_of_entries(1)),
+      add_entries(db, insertion_of_entries(kEntriesAtOnce)), add_authorization(db, "INSERT INTO authorizations VALUES (?1, ?2, ?3)"),
       last_order(db, "SELECT ord FROM submissions WHERE company = ?1 ORDER BY ord DESC LIMIT 1"),
       submission(db, "SELECT ord, sec, direction, description, asked, of_ref, of_index, lapsed, settled FROM submissions "
                      "WHERE company = ?1 AND ref = ?2"),

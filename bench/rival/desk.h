@@ -21,13 +21,16 @@ struct Answer {
 Answer refused(const Refusal& refusal);
 Answer fault(int status, std::string_view name);
 
+// So many entries are written by one statement, which costs less than one for each.
+constexpr size_t kEntriesAtOnce = 20;
+
 // The statements of the desk, each prepared once.
 struct Statements {
     explicit Statements(const Database& db);
 
     Statement begin, commit, rollback;
     Statement set_day, clear_holidays, add_holiday, add_company, set_limits;
-    Statement add_submission, add_entry, add_authorization;
+    Statement add_submission, add_entry, add_entries, add_authorization;
     Statement last_order, submission, authorization, entries, states, state, retries, settled_of;
     Statement held, held_sums, open_sums, returned_sums;
     Statement send, lapse, mark, add_number, latest_settled, add_file;
@@ -97,6 +100,7 @@ private:
     void keep_sums();
     int64_t orders_of(Company& company);
     Refusal within_limits(Company& company, const Submission& asked);
+    void add_entries(std::string_view company, int64_t order, const std::vector<Entry>& entries);
     Answer add(Company& company, const Submission& asked, const Retry* retry);
     bool find(Company& company, std::string_view ref, Head& head);
     bool is_same(Company& company, const Head& head, const Submission& asked);

@@ -3,6 +3,7 @@
 #include <algorithm>
 #include <cctype>
 #include <charconv>
+#include <cstring>
 #include <strings.h>
 #include <unistd.h>
 
@@ -11,11 +12,32 @@ namespace {
 constexpr size_t kMostOfHead = 16'384;
 constexpr size_t kMostFields = 32;
 constexpr size_t kMostOfBody = 4'194'304;
-constexpr size_t kPiece = 65'536;
 
-bool is_token(char c) { return std::isalnum(static_cast<unsigned char>(c)) || (c != 0 && std::string_view("!#$%&'*+-.^_`|~").find(c) != std::string_view::npos); }
-bool is_of_target(char c) { return static_cast<unsigned char>(c) > 0x20 && c != 0x7F; }
-bool is_of_value(char c) { return c == '\t' || (static_cast<unsigned char>(c) >= 0x20 && c != 0x7F); }
+// Which bytes names, targets and values may have.
+struct Allowed {
+    bool name[256] = {}, target[256] = {}, value[256] = {};
+
+    Allowed()
+    {
+        for (int byte = 0; byte < 256; byte++) {
+            name[byte] = byte < 0x7F && (std::isalnum(byte) || (byte > 0 && std::strchr("!#$%&'*+-.^_`|~", byte)));
+            target[byte] = byte > 0x20 && byte != 0x7F;
+            value[byte] = byte == '\t' || (byte >= 0x20 && byte != 0x7F);
+        }
+    }
+};
+
+const Allowed kAllowed;
+
+bool is_all(std::string_view text, const bool (&allowed)[256])
+{
+    for (unsigned char byte : text) {
+        if (!allowed[byte]) {
+            return false;
+        }
+    }
+    return true;
+}
 
 bool equals_in_any_case(std::string_view one, std::string_view other)
 {
@@ -55,8 +77,8 @@ bool parse_start(std::string_view line, Request& request)
     request.method = line.substr(0, first);
     request.path = target.substr(0, target.find('?'));
     request.closes = version == "HTTP/1.0";
-    return !request.method.empty() && std::all_of(request.method.begin(), request.method.end(), is_token) && !target.empty() &&
-           std::all_of(target.begin(), target.end(), is_of_target) && (version == "HTTP/1.1" || version == "HTTP/1.0");
+    return !request.method.empty() && is_all(request.method, kAllowed.name) && !target.empty() && is_all(target, kAllowed.target) &&
+           (version == "HTTP/1.1" || version == "HTTP/1.0");
 }
 
 bool parse_field(std::string_view line, Request& request)
@@ -67,7 +89,7 @@ bool parse_field(std::string_view line, Request& request)
     }
     Field field = {line.substr(0, colon), trimmed(line.substr(colon + 1))};
     request.fields.push_back(field);
-    return std::all_of(field.name.begin(), field.name.end(), is_token) && std::all_of(field.value.begin(), field.value.end(), is_of_value);
+    return is_all(field.name, kAllowed.name) && is_all(field.value, kAllowed.value);
 }
 
 // The number that digits write, or the first that is too large; none where they are not all digits.
@@ -142,26 +164,24 @@ std::optional<std::string_view> Request::value(std::string_view name) const
     return std::nullopt;
 }
 
+// Only a head is filled up here, which is shorter than the room.
 bool Unread::fill()
 {
-    if (start_ > 0) {
-        bytes_.erase(0, start_);
-        start_ = 0;
-    }
-    size_t known = bytes_.size();
-    bytes_.resize(known + kPiece);
-    ssize_t count = read(descriptor_, bytes_.data() + known, kPiece);
-    bytes_.resize(known + std::max<ssize_t>(count, 0));
+    std::memmove(room_.data(), room_.data() + start_, end_ - start_);
+    end_ -= start_;
+    start_ = 0;
+    ssize_t count = read(descriptor_, room_.data() + end_, room_.size() - end_);
     if (count < 0) {
         throw BrokenStream();
     }
+    end_ += count;
     return count > 0;
 }
 
 // A head at the start of what is unread, and how many bytes it has. A fault of a line that is whole decides at once.
 Unread::Head Unread::parse(Request& request, size_t& size)
 {
-    std::string_view all = std::string_view(bytes_).substr(start_);
+    std::string_view all = bytes();
     std::string_view rest = all, line;
     Head unfinished = all.size() < kMostOfHead ? Head::kUnfinished : Head::kBad;
     do {
@@ -186,8 +206,8 @@ Unread::Head Unread::parse(Request& request, size_t& size)
 
 bool Unread::read_body(std::string& body, size_t size)
 {
-    size_t come = std::min(size, bytes_.size() - start_);
-    body.assign(bytes_, start_, come);
+    size_t come = std::min(size, end_ - start_);
+    body.assign(bytes(), 0, come);
     body.resize(size);
     start_ += come;
     while (come < size) {
@@ -205,13 +225,13 @@ bool Unread::read_body(std::string& body, size_t size)
 
 Arrival Unread::next(Request& request)
 {
-    request = Request();
+    request.clear();
     size_t size = 0;
     Head head;
     while ((head = parse(request, size)) == Head::kUnfinished) {
-        request = Request();
+        request.clear();
         if (!fill()) {
-            return start_ == bytes_.size() ? Arrival::kEnd : Arrival::kCut;
+            return start_ == end_ ? Arrival::kEnd : Arrival::kCut;
         }
     }
     if (head == Head::kBad) {

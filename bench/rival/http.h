@@ -19,6 +19,12 @@ struct Request {
     bool closes = false;
 
     std::optional<std::string_view> value(std::string_view name) const;
+    void clear()
+    {
+        fields.clear();
+        framing = kWhole;
+        closes = false;
+    }
 };
 
 enum class Arrival { kRequest, kEnd, kCut };
@@ -32,13 +38,14 @@ public:
 private:
     enum class Head { kWhole, kUnfinished, kBad };
 
+    std::string_view bytes() const { return {room_.data() + start_, end_ - start_}; }
     bool fill();
     Head parse(Request& request, size_t& size);
     bool read_body(std::string& body, size_t size);
 
     int descriptor_;
-    std::string bytes_;
-    size_t start_ = 0;
+    std::string room_ = std::string(65'536, '\0'); // what is unread lies from start to end
+    size_t start_ = 0, end_ = 0;
 };
 
 std::string response(int status, bool is_text, bool closes, std::string_view body);

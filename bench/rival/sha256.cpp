@@ -62,16 +62,15 @@ void Sha256::feed(std::string_view bytes)
 
 Digest Sha256::finish()
 {
+    // A one, as many zeros as leave eight bytes of the last block, and the number of bits.
+    static constexpr char kPadding[64] = {'\x80'};
     uint64_t bits = length_ * 8;
-    feed(std::string_view("\x80", 1));
-    while (filled_ != 56) {
-        feed(std::string_view("\0", 1));
-    }
-    unsigned char size[8];
+    feed({kPadding, (filled_ < 56 ? 56 : 120) - filled_});
+    char size[8];
     for (int i = 0; i < 8; i++) {
         size[i] = bits >> (56 - 8 * i);
     }
-    feed({reinterpret_cast<char*>(size), sizeof size});
+    feed({size, sizeof size});
     Digest digest;
     for (int i = 0; i < 32; i++) {
         digest[i] = state_[i / 4] >> (24 - 8 * (i % 4));

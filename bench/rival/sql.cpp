@@ -39,9 +39,9 @@ std::string_view Rows::bytes(int column) const
     return {bytes, static_cast<size_t>(sqlite3_column_bytes(statement_, column))};
 }
 
-Statement::Statement(const Database& db, const char* text)
+Statement::Statement(const Database& db, const std::string& text)
 {
-    if (sqlite3_prepare_v3(db.handle(), text, -1, SQLITE_PREPARE_PERSISTENT, &statement_, nullptr) != SQLITE_OK) {
+    if (sqlite3_prepare_v3(db.handle(), text.c_str(), -1, SQLITE_PREPARE_PERSISTENT, &statement_, nullptr) != SQLITE_OK) {
         throw Unavailable();
     }
 }

@@ -50,7 +50,7 @@ private:
 
 class Statement {
 public:
-    Statement(const Database& db, const char* text);
+    Statement(const Database& db, const std::string& text);
     ~Statement() { sqlite3_finalize(statement_); }
     Statement(const Statement&) = delete;
     Statement& operator=(const Statement&) = delete;
@@ -58,7 +58,20 @@ public:
     // Runs it to its end.
     template <typename... Values> void run(const Values&... values)
     {
-        bind_all(values...);
+        bind_from(1, values...);
+        run_bound();
+    }
+
+    // Binds some values, from a place on, of a statement that has more of them, and tells the next place.
+    template <typename... Values> int bind_from(int at, const Values&... values)
+    {
+        (bind(at++, values), ...);
+        return at;
+    }
+
+    // Runs it with what is bound.
+    void run_bound()
+    {
         Rows rows(statement_);
         while (rows.next()) {
         }
@@ -67,17 +80,11 @@ public:
     // What is bound has to live as long as the rows are read.
     template <typename... Values> Rows query(const Values&... values)
     {
-        bind_all(values...);
+        bind_from(1, values...);
         return Rows(statement_);
     }
 
 private:
-    template <typename... Values> void bind_all(const Values&... values)
-    {
-        int at = 0;
-        (bind(++at, values), ...);
-    }
-
     void bind(int at, int64_t value) { sqlite3_bind_int64(statement_, at, value); }
     void bind(int at, std::string_view value) { sqlite3_bind_text(statement_, at, value.empty() ? "" : value.data(), value.size(), SQLITE_STATIC); }
     void bind(int at, const Blob& value) { sqlite3_bind_blob(statement_, at, value.bytes.data(), value.bytes.size(), SQLITE_STATIC); }

@@ -1,0 +1,237 @@
+"""Instructions and CPU time of both programs for the same calls over copies of the same file."""
+
+import datetime
+import os
+import random
+import re
+import subprocess
+import tempfile
+import threading
+import time
+from pathlib import Path
+
+from histories import FULL, OPERATOR, incoming, item, text_of
+from pair import Session, copy_desk, make_desk
+from helpers.desk_messages import keyed
+
+KEY = "a-company-key"
+FIRST, SECOND, THIRD, FOURTH = (datetime.date(2025, 1, day) for day in (8, 9, 10, 13))
+FAR = datetime.date(2025, 3, 3)
+SIZE = 1000
+RETURNS = 2000
+ENTRY = {"routing": "091000019", "account": "123456789", "kind": "checking", "cents": 2500, "id": "E1", "name": "ANN LEE"}
+
+
+def operator(what, body=b""):
+    method, path = what.split(" ")
+    return keyed(method, path, OPERATOR, body if isinstance(body, bytes) else text_of(body).encode())
+
+
+def company(name, what, body=b""):
+    method, path = what.split(" ")
+    return keyed(method, f"/c/{name}/{path}", KEY, body if isinstance(body, bytes) else text_of(body).encode())
+
+
+def submission(name, ref, entries, debit, asked):
+    return company(name, "POST submissions", {"ref": ref, "sec": "PPD", "direction": "debit" if debit else "credit", "description": "DUES", "day": str(asked),
+                                              "entries": [ENTRY] * entries})
+
+
+def set_day(day):
+    return operator("POST /ops/day", {"day": str(day)})
+
+
+def returns(number, first, count):
+    """A file that returns so many debits, from a sequence on."""
+    sent = {"savings": False, "debit": True, "cents": 2500, "dfi": "09100001", "sec": "PPD"}
+    items = [item(sent | {"trace": f"12104288{first + at:07}"}) for at in range(count)]
+    return operator("POST /ops/returns", "".join(f"{record}\n" for record in incoming(number, items)).encode())
+
+
+def base(open_entries):
+    """The messages of the file in which all is measured: OPEN has so many open entries, half of them debits that were sent and half
+    credits that are held; PAIR has some, and NONE has none."""
+    made = [set_day(FIRST)]
+    for name in ("DUE", "EACH", "NONE", "OPEN"):
+        made.append(operator("POST /ops/companies", {"id": name, "name": "MILL STREET", "key": KEY} | FULL))
+    half = max(open_entries // 2 // SIZE, 2 * RETURNS // SIZE)
+    made += [submission("OPEN", f"D{at}", SIZE, True, SECOND) for at in range(half)]
+    made += [submission("OPEN", f"C{at}", SIZE, False, FAR) for at in range(half)]
+    made += [operator("POST /ops/cut")]
+    made += [submission("DUE", f"S{at}", SIZE, True, SECOND) for at in range(10)]
+    made += [submission("EACH", f"S{at}", 1, True, SECOND) for at in range(100)]
+    return made
+
+
+def exposure(name):
+    return company(name, "GET exposure")
+
+
+# What is measured, in the order in which it is asked: a name, messages, and in how many parts their cost is divided. Without a name the
+# messages are sent and not measured.
+def calls():
+    first = lambda event: (f"first exposure after {event}, of many open entries", [exposure("OPEN")], 1)
+    next_one = lambda number, event: (f"first submission of 1 after {event}, of many open entries", [submission("OPEN", f"N{number}", 1, True, FAR)], 1)
+    return [
+        ("first exposure after a start, of many open entries", [exposure("OPEN")], 1),
+        (None, [exposure("NONE")], 1),
+        ("GET exposure", [exposure("OPEN")] * 100, 100),
+        ("submission of 1,000 entries", [submission("OPEN", f"L{at}", SIZE, False, FAR) for at in range(5)], 5),
+        ("submission of 1", [submission("OPEN", f"O{at}", 1, False, FAR) for at in range(100)], 100),
+        ("submission of 1, of a company with nothing open", [submission("NONE", "O", 1, False, FAR)], 1),
+        ("cut, an entry of submissions of 1,000 and of 1", [operator("POST /ops/cut")], 10 * SIZE + 100),
+        first("a cut"),
+        (None, [set_day(SECOND)], 1),
+        first("a new day"),
+        ("item of a returns file", [returns(1, 1, RETURNS)], RETURNS),
+        first("a returns file"),
+        (None, [operator("POST /ops/holidays", b"2025-02-17\n")], 1),
+        first("a holiday list"),
+        (None, [submission("EACH", "X", 1, True, THIRD), operator("POST /ops/cut")], 1),
+        next_one(1, "a cut"),
+        (None, [set_day(THIRD)], 1),
+        next_one(2, "a new day"),
+        (None, [returns(2, RETURNS + 1, RETURNS)], 1),
+        next_one(3, "a returns file"),
+        (None, [operator("POST /ops/holidays", b"2025-02-17\n2025-05-26\n")], 1),
+        next_one(4, "a holiday list"),
+        (f"GET returns, {2 * RETURNS:,} rows", [company("OPEN", "GET returns")] * 3, 3),
+        ("GET status", [operator("GET /ops/status")] * 5, 5),
+    ]
+
+
+OPENING = "opening the file, to the first answer"
+
+
+class Measured(Session):
+    """A session of which the cost of each part is told, by the way of its kind."""
+
+    def ask_all(self, messages):
+        """All messages at once, and then all answers."""
+        sender = threading.Thread(target=lambda: self.send(b"".join(messages)))
+        sender.start()
+        answers = [self.answer() for _ in messages]
+        sender.join()
+        for message, answer in zip(messages, answers):
+            if answer[9:11] != b"20":
+                raise SystemExit(f"{message[:300]!r} was answered {answer[:300]!r}")
+        return answers
+
+
+class Timed(Measured):
+    """CPU time in seconds, with the system's."""
+
+    def __init__(self, command):
+        self.worked = 0.0
+        super().__init__(command)
+
+    def cost(self):
+        path = Path(f"/proc/{self.process.pid}")
+        while (path / "stat").read_text().rpartition(")")[2].split()[0] != "S":
+            time.sleep(0.0002)
+        before, self.worked = self.worked, int((path / "schedstat").read_text().split()[0]) / 1e9
+        return self.worked - before
+
+    def peak(self):
+        """Its most resident memory, in KiB."""
+        return int(re.search(r"VmHWM:\s+(\d+)", Path(f"/proc/{self.process.pid}/status").read_text())[1])
+
+
+class Counted(Measured):
+    """Instructions of user code, by callgrind, which counts anew after each part."""
+
+    def __init__(self, command):
+        self.folder = tempfile.TemporaryDirectory()
+        self.parts = 0
+        super().__init__(["valgrind", "--quiet", "--tool=callgrind", f"--callgrind-out-file={self.folder.name}/out", *command])
+
+    def cost(self):
+        self.parts += 1
+        part = Path(f"{self.folder.name}/out.{self.parts}")
+        for _ in range(5):
+            subprocess.run(["callgrind_control", "-d", str(self.process.pid)], stdout=subprocess.PIPE, stderr=subprocess.STDOUT)
+            if part.exists():
+                return int(re.findall(r"^(?:totals|summary): (\d+)", part.read_text(), re.M)[-1])
+        raise SystemExit("callgrind gave no counts")
+
+
+def run(kind, command, name):
+    """The cost of each call, of a session over a file."""
+    session = kind(command)
+    costs = {}
+    session.ask_all([operator("GET /ops/settlement")])
+    costs[OPENING] = session.cost()
+    answers = []
+    for name, messages, parts in calls():
+        answers += session.ask_all(messages)
+        cost = session.cost()
+        if name is not None:
+            costs[name] = cost / parts
+    if kind is Timed:
+        costs["peak memory"] = session.peak()
+    session.end()
+    return costs, answers
+
+
+class Figures:
+    """The figures of both programs."""
+
+    def __init__(self, commands, folder, open_entries, rounds):
+        self.commands, self.folder, self.rounds = commands, folder, rounds
+        self.base = folder / "base.db"
+        self.make_base(open_entries)
+
+    def make_base(self, open_entries):
+        make_desk(self.commands[0][0], self.base)
+        session = Measured([self.commands[0][0], "stdio", str(self.base)])
+        session.ask_all(base(open_entries))
+        session.end()
+
+    def fresh(self, at):
+        path = self.folder / f"measured-{at}.db"
+        copy_desk(self.base, path)
+        os.sync()
+        program, *words = self.commands[at]
+        return [program, *(["stdio"] if at == 0 else []), str(path), *words]
+
+    def both(self, kind):
+        costs, answers = zip(*(run(kind, self.fresh(at), at) for at in (0, 1)))
+        if answers[0] != answers[1]:
+            raise SystemExit("the two programs answered differently while they were measured")
+        return costs
+
+    def times(self):
+        """The least of the rounds."""
+        best = [{}, {}]
+        for _ in range(self.rounds):
+            for at, costs in enumerate(self.both(Timed)):
+                for name, cost in costs.items():
+                    best[at][name] = min(cost, best[at].get(name, cost))
+        return best
+
+    def instructions(self):
+        return self.both(Counted)
+
+
+def seconds(value):
+    return f"{value * 1e3:.3g} ms" if value >= 1e-3 else f"{value * 1e6:.3g} µs"
+
+
+def count(value):
+    return f"{value:,.0f}"
+
+
+def table(instructions, times):
+    """The figures as a table of Markdown."""
+    rows = ["| Call | Instructions | C++ | Ratio | CPU time | C++ | Ratio |", "|---|---|---|---|---|---|---|"]
+    for name in times[0]:
+        ours, theirs = times[0][name], times[1][name]
+        if name == "peak memory":
+            rows.append(f"| {name} | | | | {ours / 1024:.0f} MB | {theirs / 1024:.0f} MB | {ours / theirs:.1f} |")
+            continue
+        counted = ["", "", ""]
+        if instructions:
+            one, other = instructions[0][name], instructions[1][name]
+            counted = [count(one), count(other), f"{one / other:.1f}"]
+        rows.append(f"| {name} | {' | '.join(counted)} | {seconds(ours)} | {seconds(theirs)} | {ours / theirs:.1f} |")
+    return "\n".join(rows)
