@@ -148,7 +148,8 @@ impl<'a> Write for Callers<'a> {
     }
 
     fn flush(&mut self) -> io::Result<()> {
-        for message in &self.messages {
+        let messages = self.messages;
+        for message in &messages {
             let mut client = TcpStream::connect(self.rt, (Ipv4Addr::LOCALHOST, self.port))?;
             client.write_all(message.as_bytes())?;
             self.clients.push(client)?;
