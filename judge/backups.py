@@ -38,14 +38,15 @@ from helpers.running import HOST, TOP, Checks, program_of
 
 SECONDS = 60  # of load with backups
 CLIENTS = 3
-LARGE = 60  # entries of a submission, so that the log fills
+PAUSE, LONG_PAUSE = 0.05, 0.5  # seconds between two submissions of a client: while backups are made, and while they are killed
+LARGE = 30  # entries of a submission, so that the log fills
 
 
 class Clients:
     """Clients that submit one after another, and remember when each submission was answered."""
 
     def __init__(self, bank):
-        self.bank, self.answered, self.is_on, self.lock = bank, [], True, threading.Lock()
+        self.bank, self.answered, self.is_on, self.lock, self.pause = bank, [], True, threading.Lock(), PAUSE
         self.threads = [threading.Thread(target=self.work, args=(at,), daemon=True) for at in range(CLIENTS)]
         for it in self.threads:
             it.start()
@@ -57,6 +58,7 @@ class Clients:
             if submit(self.bank, f"C{client}-{number}"):
                 with self.lock:
                     self.answered.append((time.time(), f"C{client}-{number}"))
+            time.sleep(self.pause)
 
     def before(self, moment):
         with self.lock:
@@ -115,9 +117,9 @@ def began(folder):
     return datetime.fromisoformat(json.loads((folder / "backup.json").read_text())["began"].replace("Z", "+00:00")).timestamp()
 
 
-def lost_of(bank, clients):
+def lost_of(paths, clients):
     """What backups lack of that which was answered before they began, by the backup's name."""
-    return {path.name: sorted(lost)[:3] for path in finished(bank) if (lost := clients.before(began(path)) - refs_in(path))}
+    return {path.name: sorted(lost)[:3] for path in paths if (lost := clients.before(began(path)) - refs_in(path))}
 
 
 # ---- under load ----
@@ -136,13 +138,15 @@ def under_load(bank, checks, every):
     for path in finished(bank):
         logs.add((path / "bank.db-wal").read_bytes()[16:24])
     checks.that(f"{len(finished(bank))} of {tries} backups under load, {len(clients.answered)} submissions answered", len(finished(bank)), tries)
-    checks.that("none lacks what was answered before it began", lost_of(bank, clients), {})
+    checks.that("none lacks what was answered before it began", lost_of(finished(bank), clients), {})
     again = sum(json.loads((path / "backup.json").read_text())["copies"] - 1 for path in finished(bank))
     print(f"        the log began again at least {len(logs) - 1} times between backups; {again} copies were made again", flush=True)
-    step, failed = 1, []
+    step, failed, tried, clients.pause = 1, [], set(finished(bank)), LONG_PAUSE
     while bank.day("backup", ACHDESK_DAY_KILL_AT=step)[0] == -9:
-        failed += [path.name for path in finished(bank) if not opens(bank.program, path / "bank.db").startswith(b"{")][-1:]
-        failed += lost_of(bank, clients)
+        new = set(finished(bank)) - tried
+        failed += [path.name for path in new if not opens(bank.program, path / "bank.db").startswith(b"{")]
+        failed += lost_of(new, clients)
+        tried |= new
         time.sleep(1)
         if bank.day("backup")[0]:
             failed.append(f"the backup after the kill at step {step}")

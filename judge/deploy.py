@@ -172,8 +172,10 @@ def desk_of_user(program, folder, name):
 
 
 def large_body():
-    """A submission of 4,194,304 bytes whose JSON takes the most memory: a list in a list in a list."""
-    return b'{"a":[' + b"[]," * ((MAX_BODY - 10) // 3) + b"[]]}"
+    """A body of almost 4,194,304 bytes whose JSON takes the most memory of those that were tried: objects of one field in
+    objects, a hundred deep, again and again."""
+    deep = b'{"":' * 100 + b"0" + b"}" * 100
+    return b'{"a":[' + (deep + b",") * ((MAX_BODY - 10) // (len(deep) + 1)) + b"0]}"
 
 
 def start(checks, program, folder):
@@ -520,7 +522,7 @@ def hostile(checks, bank):
     attack.join()
     told = {what: f"median {statistics.median(them) * 1e3:.0f} ms, worst {max(them) * 1e3:.0f} ms" for what, them in (("alone", alone), ("next to 300 hostile clients", beside))}
     print(f"        a polite client: {told}")
-    checks.that("each request of the polite client is answered within 5 seconds", (len(beside), max(beside) < 5), (100, True))
+    checks.that("each request of the polite client is answered, in 5 seconds or in ten times its worst alone", (len(beside), max(beside) < max(5, 10 * max(alone))), (100, True))
 
 
 def latencies(bank, count):
