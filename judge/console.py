@@ -388,8 +388,8 @@ def next_days(bank):
     bank.clock("2025-01-17T00:01:00")
     checks.that("a day eight days ahead is asked about, even if it is today", bank.set_day("2025-01-17", "no"),
                 ("", ["Set the day to Friday, 17 January 2025?", "It is 8 days after the desk day, Thursday, 9 January 2025.", "A desk day cannot be taken back."]))
-    bank.clock("2025-01-16T12:00:00")
-    checks.that("one seven days ahead that is not today is asked about for that alone", bank.set_day("2025-01-15", "no")[1][1:-1], ["By the clock of this machine, today is Thursday, 16 January 2025."])
+    bank.clock("2025-01-15T12:00:00")
+    checks.that("one seven days ahead that is not today is asked about for that alone", bank.set_day("2025-01-16", "no")[1][1:-1], ["By the clock of this machine, today is Wednesday, 15 January 2025."])
     bank.set_day("2025-01-14")
     item = {"debit": True, "savings": False, "account": "123456789", "ident": "E1", "name": "ANN LEE", "dfi": "09100001"}
     items = [{**item, "cents": 2500, "code": "R01", "trace": "121042880000016"}, {**item, "cents": 2500, "code": "R10", "trace": "121042880000016"},

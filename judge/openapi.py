@@ -23,7 +23,7 @@ from helpers.openapi_bounds import bounds
 from helpers.openapi_page import Page
 from helpers.page_client import PageClient, examples_of
 from helpers.refusals import CALENDAR_FAULTS, FILE_FAULTS, MESSAGE_FAULTS, ORDERS, PROXY_FAULTS, REFUSALS
-from helpers.running import HOST, Serving, built_program, make_desk
+from helpers.running import HOST, Serving, make_desk, program_of
 
 try:
     import openapi_spec_validator
@@ -413,7 +413,7 @@ def judge_client(page, program, report):
 
 
 def main():
-    program = sys.argv[1] if sys.argv[1:] else built_program()
+    program = program_of(sys.argv[1:])
     page, report = Page(TOP / "docs/openapi.yaml", TOP / "judge/openapi_scripts.yaml"), Report()
     judge_page(page, report)
     judge_names(page, report)

@@ -28,10 +28,13 @@ PHRASES = {200: "OK", 201: "Created", 400: "Bad Request", 403: "Forbidden", 404:
 
 
 def program_of(words):
-    """The program that is judged: the first word, else the built one.
+    """The program that is judged: the first word, else the built one. `--help` prints what the judge does, and ends it.
 
     The script ./achdesk stands for the built program too: judges copy the program out of its tree, or refuse it memory, neither
     of which may happen to a shell."""
+    if words[:1] in (["-h"], ["--help"]):
+        print(sys.modules["__main__"].__doc__)
+        sys.exit()
     if not words or Path(words[0]).resolve() == TOP / "achdesk":
         return built_program()
     return os.path.abspath(words[0])
