@@ -172,27 +172,55 @@ def day_module():
 
 
 def checkpoints(bank, checks):
-    """Copies a pair while submissions are accepted between the copy of the file and that of the log: until the log is moved
-    into the file, and until the log begins again, after which the pair has to be copied again."""
-    module, log = day_module(), bank.desk_file.with_name("bank.db-wal")
-    undisturbed = module.step
-    for what, seen, copies in (("a checkpoint", lambda: bank.desk_file.stat().st_mtime_ns, 1), ("a log that begins again", lambda: log.read_bytes()[:32], 2)):
-        answered, calls, folder = [f"{len(what)}-{at}" for at in range(3)], [], Path(tempfile.mkdtemp(dir=bank.folder))
-        checks.that(f"{what}: submissions before the backup", all(submit(bank, ref) for ref in answered))
+    """Copies pairs while the desk moves its log into the file, between the copy of the file and that of the log: once it is
+    stopped in the middle of that, and once the log has begun again, after which the pair has to be copied again."""
+    for what, stops, copies in (("in the middle of a checkpoint", True, 1), ("with a log that begins again", False, 2)):
+        made, failed = [], []
+        while made[-1:] != [copies] and len(made) < 20:
+            answered = [f"{len(what)}-{len(made)}-{at}" for at in range(3)]
+            failed += [ref for ref in answered if not submit(bank, ref)]
+            folder, count = copied_during(bank, f"{len(what)}-{len(made)}", stops)
+            failed += [answered] if set(answered) - refs_in(folder) else []
+            failed += [opens(bank.program, folder / "bank.db")] if not opens(bank.program, folder / "bank.db").startswith(b"{") else []
+            made.append(count)
+        checks.that(f"a pair is copied {what}, at try {len(made)}", made[-1:], [copies])
+        checks.that("each pair opens, and has what was answered before", failed, [])
 
-        def after_a_copy(what=what, seen=seen, calls=calls):
-            calls.append(what)
-            before, number = seen(), 0
-            while len(calls) == 1 and seen() == before and number < 5_000:
-                number += 1
-                submit(bank, f"{len(what)}-between-{number}")
 
-        module.step = after_a_copy
-        made = module.copy_pair(bank.desk_file, folder)
+def copied_during(bank, name, stops):
+    """Copies a pair, with submissions after the copy of the file until the log begins again or, if the desk is to be
+    stopped, until the file changes. Returns the pair's folder, and how often it was copied."""
+    module, log, desk = day_module(), bank.desk_file.with_name("bank.db-wal"), bank.desk.process
+    state = (lambda: bank.desk_file.stat().st_mtime_ns) if stops else (lambda: log.read_bytes()[:32])
+    calls, is_on, undisturbed = [], [True], module.step
+
+    def work():
+        number = 0
+        while is_on[0]:
+            number += 1
+            submit(bank, f"{name}-between-{number}")
+
+    client = threading.Thread(target=work, daemon=True)
+
+    def after_a_copy():
+        calls.append(name)
+        if len(calls) > 1:
+            return
+        before, until = state(), time.monotonic() + 120
+        client.start()
+        while state() == before and time.monotonic() < until:
+            pass
+        if stops:
+            desk.send_signal(signal.SIGSTOP)
+        is_on[0] = False
+
+    folder, module.step = Path(tempfile.mkdtemp(dir=bank.folder)), after_a_copy
+    try:
+        return folder, module.copy_pair(bank.desk_file, folder)["copies"]
+    finally:
         module.step = undisturbed
-        checks.that(f"{what} between the two copies: the pair is copied so often", made["copies"], copies)
-        checks.that(f"{what}: the pair opens", opens(bank.program, folder / "bank.db")[:1], b"{")
-        checks.that(f"{what}: it has what was answered before", sorted(set(answered) - refs_in(folder)), [])
+        desk.send_signal(signal.SIGCONT)
+        client.join()
 
 
 # ---- a full volume ----
@@ -233,6 +261,8 @@ def full_volume(bank, checks):
 def small_desk(bank):
     """A small desk's files, which nobody serves."""
     folder = bank.folder / "small-desk"
+    if folder.exists():
+        return folder / "bank.db"
     folder.mkdir()
     subprocess.run([bank.program, "init", folder / "bank.db", "--odfi", "121042882", "--odfi-name", "OUR BANK", "--destination", "061000146",
                     "--destination-name", "ACH OPERATOR", "--key", OPERATOR_KEY], check=True, stdout=subprocess.DEVNULL)
@@ -257,7 +287,7 @@ def restores(bank, checks, every):
     status, _, errors = bank.day("restore", spoiled.name, "--to", target)
     checks.that("nor one without its log", (status, "is not the file that was backed up" in errors, target.exists()), (1, True, False))
     shutil.rmtree(spoiled)
-    old = small_desk(bank) if not (bank.folder / "small-desk").exists() else bank.folder / "small-desk" / "bank.db"
+    old = small_desk(bank)
     step, failed, wanted = 1, [], opens(bank.program, newest / "bank.db")
     while True:
         shutil.rmtree(target.parent)
@@ -266,8 +296,8 @@ def restores(bank, checks, every):
         answers = {opens(bank.program, target), wanted, b"NotADesk\n"}
         if bank.day("restore", newest.name, "--to", target, ACHDESK_DAY_KILL_AT=step)[0] != -9:
             break
-        if opens(bank.program, target) not in answers:
-            failed.append((step, "the target is another desk", opens(bank.program, target)))
+        if (found := opens(bank.program, target)) not in answers:
+            failed.append((step, "the target is another desk", found))
         if bank.day("restore", newest.name, "--to", target)[0] or opens(bank.program, target) != wanted:
             failed.append((step, "the restore after it"))
         there = [bytes_of(path) for path in target.parent.iterdir() if path.is_dir()]
@@ -361,9 +391,9 @@ def main():
             bank.curl("day", "/ops/companies", {"id": "MILL01", "name": "MILL STREET", "key": DESK_KEYS["MILL01"], "entry_limit": 9999999999,
                                                 "credit_limit": 999999999999999, "debit_limit": 0})
             checkpoints(bank, checks)
+            restores(bank, checks, every)
             under_load(bank, checks, every)
             full_volume(bank, checks)
-            restores(bank, checks, every)
             takeover(bank, checks)
     checks.end()
 
