@@ -11,7 +11,7 @@ const MOST: usize = 4_194_304;
 // The text, filled to the most bytes with such a byte, which says nothing there.
 fn filled(rt: &(impl Abort + Alloc<A = Global>), text: &str, byte: char) -> String {
     let mut body = String::from_str(rt.alloc(), text).ok().expect(rt, "memory");
-    while body.len() < MOST {
+    for _ in body.len()..MOST {
         body.push(byte).ok().expect(rt, "memory");
     }
     body
