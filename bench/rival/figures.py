@@ -214,6 +214,8 @@ class Figures:
 
 
 def seconds(value):
+    if value >= 1:
+        return f"{value:.2f} s"
     return f"{value * 1e3:.3g} ms" if value >= 1e-3 else f"{value * 1e6:.3g} µs"
 
 
