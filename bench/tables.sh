@@ -1,9 +1,8 @@
 #!/bin/sh
-# The times of a desk over a database file, and in the same run those of stock SQLite (Python's `sqlite3`) with
-# the same rows: durable submissions, cuts, a file of returns, reads, the opening of a file; and the bytes of a
-# row. The first word is the number of rounds, 5 if it is left out; with `million` as the second the writes are also
-# made in a file of 1,000,000 entries. Proves and builds bench/tables/main.rt.txt beside a copy of the crates, which
-# takes long where they were not proved before.
+# The times of a desk over a database file: durable submissions, cuts, a file of returns, reads, the opening of a file; and the
+# bytes of a row, next to those in a file that stock SQLite wrote. bench/rival.py compares the times with SQLite's. The first word is the
+# number of rounds, 5 if it is left out; with `million` as the second the writes are also made in a file of 1,000,000 entries. Proves
+# and builds bench/tables/main.rt.txt next to a copy of the crates, which takes long if they were not proved before.
 set -eu
 top=$(cd "$(dirname "$0")/.." && pwd)
 work=$(mktemp -d)

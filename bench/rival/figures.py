@@ -2,7 +2,6 @@
 
 import datetime
 import os
-import random
 import re
 import subprocess
 import tempfile
@@ -19,6 +18,7 @@ FIRST, SECOND, THIRD, FOURTH = (datetime.date(2025, 1, day) for day in (8, 9, 10
 FAR = datetime.date(2025, 3, 3)
 SIZE = 1000
 RETURNS = 2000
+HELD = 20_000
 ENTRY = {"routing": "091000019", "account": "123456789", "kind": "checking", "cents": 2500, "id": "E1", "name": "ANN LEE"}
 
 
@@ -49,14 +49,12 @@ def returns(number, first, count):
 
 
 def base(open_entries):
-    """The messages of the file in which all is measured: OPEN has so many open entries, half of them debits that were sent and half
-    credits that are held; PAIR has some, and NONE has none."""
+    """The messages of the file in which all is measured. OPEN has so many open entries, debits that were sent; of DUE and EACH some are
+    due, in submissions of 1,000 and of 1."""
     made = [set_day(FIRST)]
     for name in ("DUE", "EACH", "NONE", "OPEN"):
         made.append(operator("POST /ops/companies", {"id": name, "name": "MILL STREET", "key": KEY} | FULL))
-    half = max(open_entries // 2 // SIZE, 2 * RETURNS // SIZE)
-    made += [submission("OPEN", f"D{at}", SIZE, True, SECOND) for at in range(half)]
-    made += [submission("OPEN", f"C{at}", SIZE, False, FAR) for at in range(half)]
+    made += [submission("OPEN", f"D{at}", SIZE, True, SECOND) for at in range(max(open_entries, 2 * RETURNS) // SIZE)]
     made += [operator("POST /ops/cut")]
     made += [submission("DUE", f"S{at}", SIZE, True, SECOND) for at in range(10)]
     made += [submission("EACH", f"S{at}", 1, True, SECOND) for at in range(100)]
@@ -72,31 +70,35 @@ def exposure(name):
 def calls():
     first = lambda event: (f"first exposure after {event}, of many open entries", [exposure("OPEN")], 1)
     next_one = lambda number, event: (f"first submission of 1 after {event}, of many open entries", [submission("OPEN", f"N{number}", 1, True, FAR)], 1)
+    # Where the log is copied into the file, with the commit that fills it or with the next one, differs: this takes it.
+    other = lambda number: submission("NONE", f"P{number}", 1, True, FAR)
     return [
         ("first exposure after a start, of many open entries", [exposure("OPEN")], 1),
         (None, [exposure("NONE")], 1),
         ("GET exposure", [exposure("OPEN")] * 100, 100),
+        ("cut, an entry of submissions of 1,000 and of 1", [operator("POST /ops/cut")], 10 * SIZE + 100),
+        first("a cut"),
         ("submission of 1,000 entries", [submission("OPEN", f"L{at}", SIZE, False, FAR) for at in range(5)], 5),
         ("submission of 1", [submission("OPEN", f"O{at}", 1, False, FAR) for at in range(100)], 100),
         ("submission of 1, of a company with nothing open", [submission("NONE", "O", 1, False, FAR)], 1),
-        ("cut, an entry of submissions of 1,000 and of 1", [operator("POST /ops/cut")], 10 * SIZE + 100),
-        first("a cut"),
         (None, [set_day(SECOND)], 1),
         first("a new day"),
         ("item of a returns file", [returns(1, 1, RETURNS)], RETURNS),
         first("a returns file"),
         (None, [operator("POST /ops/holidays", b"2025-02-17\n")], 1),
         first("a holiday list"),
-        (None, [submission("EACH", "X", 1, True, THIRD), operator("POST /ops/cut")], 1),
+        (None, [submission("EACH", "X", 1, True, THIRD), operator("POST /ops/cut"), other(1)], 1),
         next_one(1, "a cut"),
-        (None, [set_day(THIRD)], 1),
+        (None, [set_day(THIRD), other(2)], 1),
         next_one(2, "a new day"),
-        (None, [returns(2, RETURNS + 1, RETURNS)], 1),
+        (None, [returns(2, RETURNS + 1, RETURNS), other(3)], 1),
         next_one(3, "a returns file"),
-        (None, [operator("POST /ops/holidays", b"2025-02-17\n2025-05-26\n")], 1),
+        (None, [operator("POST /ops/holidays", b"2025-02-17\n2025-05-26\n"), other(4)], 1),
         next_one(4, "a holiday list"),
         (f"GET returns, {2 * RETURNS:,} rows", [company("OPEN", "GET returns")] * 3, 3),
-        ("GET status", [operator("GET /ops/status")] * 5, 5),
+        (None, [submission("NONE", f"H{at}", SIZE, False, FAR) for at in range(HELD // SIZE)] + [submission("EACH", "Y", 1, True, FOURTH)], 1),
+        (f"GET status, more than {HELD:,} entries held", [operator("GET /ops/status")] * 3, 3),
+        (f"cut of 1 entry, more than {HELD:,} others held", [operator("POST /ops/cut")], 1),
     ]
 
 
@@ -155,7 +157,7 @@ class Counted(Measured):
         raise SystemExit("callgrind gave no counts")
 
 
-def run(kind, command, name):
+def run(kind, command):
     """The cost of each call, of a session over a file."""
     session = kind(command)
     costs = {}
@@ -195,7 +197,7 @@ class Figures:
         return [program, *(["stdio"] if at == 0 else []), str(path), *words]
 
     def both(self, kind):
-        costs, answers = zip(*(run(kind, self.fresh(at), at) for at in (0, 1)))
+        costs, answers = zip(*(run(kind, self.fresh(at)) for at in (0, 1)))
         if answers[0] != answers[1]:
             raise SystemExit("the two programs answered differently while they were measured")
         return costs
@@ -214,6 +216,8 @@ class Figures:
 
 
 def seconds(value):
+    if value >= 1:
+        return f"{value:.2f} s"
     return f"{value * 1e3:.3g} ms" if value >= 1e-3 else f"{value * 1e6:.3g} µs"
 
 

@@ -238,7 +238,7 @@ def heads(pair):
     bank.set_day(FIRST_DAY)
     key = f"X-Desk-Key: {bank.keys['MILL01']}"
     get = lambda *fields, line="GET /c/MILL01/exposure HTTP/1.1": ("\r\n".join([line, *fields]) + "\r\n\r\n").encode()
-    wrong = [b"", b"\r\n\r\n", b"\n\n" + get(key), get(key), get(key) + get(key), get(key).replace(b"\r\n", b"\n"), get(f"x-desk-KEY:   {bank.keys['MILL01']} \t"),
+    sessions = [b"", b"\r\n\r\n", b"\n\n" + get(key), get(key), get(key) + get(key), get(key).replace(b"\r\n", b"\n"), get(f"x-desk-KEY:   {bank.keys['MILL01']} \t"),
              get(key, "Connection: close") + get(key), get(key, "connection: CLOSE"), get(key, "Connection: keep-alive", "Connection: close") + get(key),
              get(key, "Connection: close, x") + get(key), get(key, line="GET /c/MILL01/exposure HTTP/1.0") + get(key), get(key, line="GET /c/MILL01/exposure HTTP/2.0"),
              get(key, line="GET  /c/MILL01/exposure HTTP/1.1"), get(key, line="GET /c/MILL01/exposure"), get(key, line=" GET /c/MILL01/exposure HTTP/1.1"),
@@ -258,8 +258,8 @@ def heads(pair):
                  "/c/MILL01/%65xposure", "http://127.0.0.1/ops/status", "/c/UNKNOWN/exposure", "/c/TOOLONGTOBEANID/exposure", "/ops/status", "/ops/statu\xe9"):
         for method in ("GET", "POST", "PUT"):
             for who in (key, f"X-Desk-Key: {OPERATOR}"):
-                wrong.append((f"{method} {path} HTTP/1.1\r\n{who}\r\nContent-Length: 2\r\n\r\n" + "{}").encode())
-    for sent in wrong:
+                sessions.append((f"{method} {path} HTTP/1.1\r\n{who}\r\nContent-Length: 2\r\n\r\n" + "{}").encode())
+    for sent in sessions:
         pair.ask_alone(sent)
     large = b"{" + b" " * 4_194_302 + b"}"
     pair.ask_alone(keyed("POST", "/c/MILL01/submissions", bank.keys["MILL01"], large))
@@ -406,7 +406,7 @@ def lapses(pair):
         bank.take(incoming(10 + number, [item(it, code=rng.choice(["R01", "R09"])) for it in fresh if it["debit"]]))
         exposures()
         for index in (1, 2, 5):
-            retry(f"D-{number}-{index}", index, bank.day if False else datetime.date.fromisoformat(day) + datetime.timedelta(2))
+            retry(f"D-{number}-{index}", index, datetime.date.fromisoformat(day) + datetime.timedelta(2))
         exposures()
     for day in ("2025-05-14", "2025-07-01"):
         bank.set_day(day)
@@ -556,7 +556,8 @@ class Days:
                 items[-1]["cents"] = 0
             if rng.random() < 0.05:
                 items.append(dict(items[-1]))
-        items.sort(key=lambda it: it["sec"]) if rng.random() < 0.5 else None
+        if rng.random() < 0.5:
+            items.sort(key=lambda it: it["sec"])
         bank.files += 1
         bank.take(incoming(bank.files, items), rng.choice(["\n", "\r\n", ""]))
 

@@ -1,6 +1,13 @@
 // rival DB: answers the messages on standard input over a desk's file, as `achdesk stdio DB` does. The file is one that
 // `achdesk init` made, of version 2. One session of at most 1,000 messages; the status is 0, 1 if the input ends inside
 // a message, 2 for wrong words, and 3 if the file or a stream fails.
+//
+// What it leaves out shows in no answer over a good file:
+// - It does not check rows, indexes or pages when it opens a file, and the pages that it writes have no checksums. The desk
+//   does not open a file after it.
+// - If memory runs out, it ends. Interrupted reads and writes are not tried again.
+// - It does not look for days after 2100-01-31, and does not compare keys in constant time.
+// - Of CSV it reads rows of one field, and of a head it does not check that the target is UTF-8.
 
 #include "desk.h"
 #include "http.h"

@@ -13,6 +13,8 @@ LONGEST_SESSION = 1000
 
 def kind_of(answer):
     """The status of an answer, and the name of its refusal or fault."""
+    if not answer:
+        return "none"
     name = re.search(rb'"error":"([A-Za-z]+)"', answer[:400])
     return " ".join([answer[9:12].decode(), *([name[1].decode()] if name else [])])
 

@@ -1,12 +1,11 @@
 #!/usr/bin/env python3
-"""Times of a desk over a database file, and in the same run of stock SQLite with the same rows.
+"""Times of a desk over a database file.
 
 `measure.py PROGRAM [ROUNDS [million]]`: PROGRAM is bench/tables/main.rt.txt as `rt run` builds it. Each round works
-on fresh copies of the same files, the desk and then SQLite, and the best round of each counts. With `million` the
-writes are also made in a file of 1,000,000 entries, which takes some minutes more. SQLite
-is Python's `sqlite3`. It writes the rows that the desk wrote, in one transaction each, by `executemany` where
-that can be, and judges nothing. It has a log (WAL) that is synced at each commit (`synchronous=FULL`) and
-holds its lock, as the desk does. Its file must then have the same rows, or the run fails.
+on fresh copies of the same files, and the best round of each call counts. With `million` the writes are also made in a
+file of 1,000,000 entries, which takes some minutes more. At the end the bytes of a file are compared with those of a
+file in which stock SQLite (Python's `sqlite3`) wrote the same rows. How the desk compares with SQLite in time,
+`bench/rival.py` measures.
 """
 
 import datetime
@@ -27,11 +26,6 @@ SEND = ("UPDATE submissions SET settled = ?, file_day = ?, modifier = ?, batch =
         "AND settled IS NULL AND lapsed = 0")
 MARK = "UPDATE entries SET seq = ? WHERE company = ? AND ord = ? AND idx = ? AND seq IS NULL"
 BEFORE_CUT = {"submissions": lambda row: (*row[:10], None, None, None, None), "entries": lambda row: (*row[:11], None)}
-NUMBER_OF = "INSERT INTO numbers VALUES (?1, ?2) ON CONFLICT (sequence) DO UPDATE SET nth = ?2"
-BALANCE_OF = "INSERT INTO balances VALUES (?1, ?2, ?3) ON CONFLICT (account, value_day) DO UPDATE SET cents = ?3"
-HEAD = ("SELECT company, ord, ref, sec, direction, description, asked, of_ref, of_index, lapsed, settled FROM submissions "
-        "WHERE company = ?1")
-FACTS = "SELECT ref, sec, direction, settled FROM submissions WHERE company = ?1 AND ord = ?2"
 
 best = {}
 
@@ -76,14 +70,6 @@ def close(path):
     subprocess.run([program, str(path), "close"], check=True)
 
 
-def stock(path):
-    db = sqlite3.connect(path, isolation_level=None)
-    for pragma in ["locking_mode = EXCLUSIVE", "journal_mode = WAL", "synchronous = FULL", "cache_size = 2000",
-                   "wal_autocheckpoint = 1000"]:
-        db.execute(f"PRAGMA {pragma}").fetchall()
-    return db
-
-
 def reading(path):
     return closing(sqlite3.connect(path))
 
@@ -92,17 +78,6 @@ def timed(do):
     worked, start = time.process_time_ns(), time.perf_counter_ns()
     do()
     return time.perf_counter_ns() - start, time.process_time_ns() - worked
-
-
-def written(db, steps):
-    """One transaction of steps, each a statement and its rows."""
-    db.execute("BEGIN IMMEDIATE")
-    for text, rows in steps:
-        if len(rows) == 1:
-            db.execute(text, rows[0])
-        else:
-            db.executemany(text, rows)
-    db.execute("COMMIT")
 
 
 def rows_of(db, table):
@@ -123,14 +98,14 @@ def must_be_same(one, other):
                 raise SystemExit(f"{table}: the rows of the desk and of SQLite differ")
 
 
-def copies(base):
-    """Two fresh copies of a database file: the desk's and SQLite's."""
-    for name in ["desk.db", "stock.db"]:
-        for end in ["-wal", "-shm"]:
-            (work / (name + end)).unlink(missing_ok=True)
-        shutil.copyfile(base, work / name)
+def copy_of(base):
+    """A fresh copy of a database file."""
+    path = work / "desk.db"
+    for end in ["-wal", "-shm"]:
+        (work / f"desk.db{end}").unlink(missing_ok=True)
+    shutil.copyfile(base, path)
     os.sync()
-    return work / "desk.db", work / "stock.db"
+    return path
 
 
 def companies(count):
@@ -177,155 +152,51 @@ def held_beside(name, path, weeks, owners, entries):
 
 
 def submissions(what, path, weeks, owners, entries, *more):
-    """A submission of each company, one by the desk and then the same by SQLite. The first one is not counted: a
-    log begins with it."""
-    ours, theirs = copies(path)
-    desk, db = Desk(ours, "open", *more), stock(theirs)
-    asked = day(7 * weeks + 8)
-    asked_number = (asked - day(0)).days + first_number
-    for company in reversed(companies(owners)):
-        order = db.execute("SELECT max(ord) FROM submissions WHERE company = ?", (company,)).fetchone()[0] + 1
-        head = (company, order, "NEW", "PPD", "debit", "DUES", asked_number, None, None, 0, None, None, None, None)
-        rows = [(company, order, index + 1, "091000019", "123456789", 0, 0, 1, "E1", "ANN LEE", None, None)
-                for index in range(entries)]
-        ours_took = desk.ask("submit", company, "NEW", asked, entries)
-        steps = [("INSERT INTO submissions VALUES (?,?,?,?,?,?,?,?,?,?,?,?,?,?)", [head]),
-                 ("INSERT INTO entries VALUES (?,?,?,?,?,?,?,?,?,?,?,?)", rows)]
-        theirs_took = timed(lambda: written(db, steps))
-        if company != f"MILL{owners - 1}":
-            keep(what, "desk", ours_took)
-            keep(what, "SQLite", theirs_took)
+    """A submission of each company. The first one is not counted: a log begins with it."""
+    desk = Desk(copy_of(path), "open", *more)
+    first, *others = companies(owners)
+    desk.ask("submit", first, "NEW", day(7 * weeks + 8), entries)
+    for company in others:
+        keep(what, "desk", desk.ask("submit", company, "NEW", day(7 * weeks + 8), entries))
     desk.end()
-    db.close()
-    must_be_same(ours, theirs)
-
-
-def fields(names):
-    return "(" + ",".join("?" * names) + ")"
-
-
-def balances(db, before):
-    return [row for row in rows_of(db, "balances") if row not in before]
-
-
-def new_rows(db, old, table):
-    count = count_of(old, table)
-    return db.execute(f"SELECT * FROM {table} WHERE rowid > ? ORDER BY rowid", (count,)).fetchall()
 
 
 def cut(what, path):
-    ours, theirs = copies(path)
-    desk = Desk(ours)
+    desk = Desk(copy_of(path))
     keep(what, "desk", desk.ask("cut"))
     desk.end()
-    db = stock(theirs)
-    with reading(ours) as done:
-        file_day, = done.execute("SELECT day FROM desk").fetchone()
-        before, = db.execute("SELECT count(*) FROM numbers").fetchone()
-        sent = done.execute("SELECT settled, file_day, modifier, batch, company, ord FROM submissions WHERE file_day = ?",
-                            (file_day,)).fetchall()
-        marks = done.execute("SELECT seq, company, ord, idx FROM entries WHERE seq > ? ORDER BY seq", (before,)).fetchall()
-        steps = [(SEND, sent), (MARK, marks),
-                 (NUMBER_OF, new_rows(done, db, "numbers")),
-                 ("INSERT INTO postings VALUES (?,?,?,?,?,?,?)", new_rows(done, db, "postings")),
-                 (BALANCE_OF, balances(done, rows_of(db, "balances"))),
-                 ("INSERT INTO files VALUES (?,?,?)", new_rows(done, db, "files"))]
-    keep(what, "SQLite", timed(lambda: written(db, steps)))
-    db.close()
-    must_be_same(ours, theirs)
 
 
 def take(what, path, first, count):
-    ours, theirs = copies(path)
-    desk = Desk(ours)
+    copy = copy_of(path)
+    desk = Desk(copy)
     keep(what, "desk", desk.ask("take", 1030, first, count))
     desk.end()
-    db = stock(theirs)
-    with reading(ours) as done:
-        returned = new_rows(done, db, "returns")
-        if len(returned) != count:
-            raise SystemExit(f"{len(returned)} returns of {count} were taken")
-        steps = [("INSERT INTO returns VALUES (?,?,?,?,?,?,?,?)", returned),
-                 ("INSERT INTO postings VALUES (?,?,?,?,?,?,?)", new_rows(done, db, "postings")),
-                 (BALANCE_OF, balances(done, rows_of(db, "balances"))),
-                 ("INSERT INTO taken VALUES (?,?,?,?,?,?,?)", new_rows(done, db, "taken"))]
-    keep(what, "SQLite", timed(lambda: written(db, steps)))
-    db.close()
-    must_be_same(ours, theirs)
-
-
-def submission_rows(db, company, reference):
-    head = db.execute(HEAD + " AND ref = ?2 ORDER BY company, ord", (company, reference)).fetchone()
-    db.execute("SELECT idx, routing, account, savings, prenote, cents, ident, name, info FROM entries WHERE company = ?1 "
-               "AND ord = ?2 ORDER BY company, ord, idx", head[:2]).fetchall()
-    db.execute("SELECT idx, code, day, late FROM returns WHERE company = ?1 AND ord = ?2 ORDER BY no", head[:2]).fetchall()
-
-
-def all_submission_rows(db, company):
-    for head in db.execute(HEAD + " ORDER BY company, ord", (company,)).fetchall():
-        submission_rows(db, company, head[2])
-
-
-def item_rows(db, company):
-    back = db.execute("SELECT ord, idx, code, day, late, info FROM returns WHERE company = ?1 ORDER BY no", (company,)).fetchall()
-    for line in back:
-        db.execute(FACTS, (company, line[0])).fetchone()
-    db.execute("SELECT ord, idx, code, day, text FROM changes WHERE company = ?1 ORDER BY no", (company,)).fetchall()
-
-
-def traced_rows(db, sequence):
-    db.execute("SELECT odfi FROM desk").fetchone()
-    place, = db.execute("SELECT nth FROM numbers WHERE sequence = ?1", (sequence,)).fetchone()
-    entry = db.execute("SELECT company, ord, idx, routing, account, savings, prenote, cents, ident, name, info FROM entries "
-                       "WHERE seq = ?1", (place,)).fetchone()
-    db.execute(FACTS, entry[:2]).fetchone()
-    db.execute("SELECT idx, code, day, late FROM returns WHERE company = ?1 AND ord = ?2 AND idx = ?3 ORDER BY no", entry[:3]).fetchall()
-
-
-def latest_rows(db, count):
-    """When the youngest entries of the sequences up to one settled."""
-    places = [place for place, in db.execute("SELECT nth FROM numbers WHERE sequence BETWEEN 1 AND ?1 ORDER BY sequence", (count,))]
-    rows = db.execute("SELECT company, ord, seq FROM entries WHERE seq BETWEEN ?1 AND ?2 ORDER BY company, ord, idx",
-                      (places[0], places[-1])).fetchall()
-    max(db.execute(FACTS, submission).fetchone()[3] for submission in {row[:2] for row in rows})
+    with reading(copy) as done, reading(path) as before:
+        taken = count_of(done, "returns") - count_of(before, "returns")
+    if taken != count:
+        raise SystemExit(f"{taken} returns of {count} were taken")
 
 
 def reads(name, path, weeks):
-    """Reads of the first company, each some times, by the store of the desk and then by SQLite; and what its
-    messages ask of the desk."""
-    ours, theirs = copies(path)
-    desk, db = Desk(ours), stock(theirs)
+    """Reads of the first company, each some times, by the store of the desk; and what its messages ask of the desk. The
+    opening is also that of SQLite, with and without its check of the whole file."""
+    copy = copy_of(path)
+    desk = Desk(copy)
     since = day(7 * weeks + 5)
-    company = "MILL0"
-    texts = {
-        "company": "SELECT id, name, key_digest, entry_limit, credit_limit, debit_limit FROM companies WHERE id = ?1 ORDER BY id",
-        "postings": "SELECT value_day, cents, cause, ref, idx FROM postings WHERE account = 'C:' || ?1 ORDER BY no",
-        "balances": "SELECT value_day, cents FROM balances WHERE account = 'C:' || ?1 ORDER BY account, value_day",
-        "count": "SELECT ord FROM submissions WHERE company = ?1 ORDER BY company DESC, ord DESC LIMIT 1",
-        f"open {since}": HEAD + f" AND (settled >= {(since - day(0)).days + first_number} OR settled IS NULL AND lapsed = 0)"
-        " ORDER BY company, ord",
-        "retries S0": HEAD + " AND of_ref = 'S0' AND of_index = 1 ORDER BY company, ord",
-    }
-    queries = {what: (lambda text=text: db.execute(text, (company,)).fetchall()) for what, text in texts.items()}
-    queries["submission S0"] = lambda: submission_rows(db, company, "S0")
-    queries["items"] = lambda: item_rows(db, company)
-    queries["traced 60"] = lambda: traced_rows(db, 60)
-    queries["settled 1000"] = lambda: latest_rows(db, 1000)
-    queries["entries"] = lambda: all_submission_rows(db, company)
-    for what, query in queries.items():
+    for what in ["company", "postings", "balances", "count", f"open {since}", "retries S0", "submission S0", "items", "traced 60",
+                 "settled 1000", "entries"]:
         word, *rest = what.split()
         for _ in range(3 if what == "entries" else 20):
-            keep(f"read {what} of {name}", "desk", desk.ask("read", word, company, *rest))
-            keep(f"read {what} of {name}", "SQLite", timed(query))
+            keep(f"read {what} of {name}", "desk", desk.ask("read", word, "MILL0", *rest))
     for message in ["look MILL0 S0", "returns MILL0", "statement MILL0", "exposure MILL0", "rates MILL0"]:
         for _ in range(3 if message.startswith("rates") else 20):
             keep(f"call {message} of {name}", "desk", desk.ask(*message.split()))
     keep(f"open and adopt {name}", "desk", tuple(map(sum, zip(desk.opening, desk.adopting))))
     keep(f"adopt {name}", "desk", (desk.adopting[0], 0))
     desk.end()
-    db.close()
-    keep(f"open and adopt {name}", "SQLite", timed(lambda: asked(theirs, "SELECT version FROM desk")))
-    keep(f"check all of {name}", "SQLite", timed(lambda: asked(theirs, "PRAGMA integrity_check")))
+    keep(f"open and adopt {name}", "SQLite", timed(lambda: asked(copy, "SELECT version FROM desk")))
+    keep(f"check all of {name}", "SQLite", timed(lambda: asked(copy, "PRAGMA integrity_check")))
 
 
 def asked(path, text):
@@ -349,7 +220,8 @@ def sizes(path):
         db.execute(text)
     for table, values in rows.items():
         if values:
-            db.executemany(f"INSERT INTO {table} VALUES {fields(len(values[0]))}", map(BEFORE_CUT.get(table, tuple), values))
+            places = ",".join("?" * len(values[0]))
+            db.executemany(f"INSERT INTO {table} VALUES ({places})", map(BEFORE_CUT.get(table, tuple), values))
     db.executemany(SEND, [(*row[10:], *row[:2]) for row in rows["submissions"]])
     db.executemany(MARK, sorted((row[11], *row[:3]) for row in rows["entries"]))
     db.execute("COMMIT")
@@ -407,8 +279,6 @@ try:
     many_held = base("100000_held.db", 10, 0, 10, 1000)
     huge = base("1000000_entries.db", 10, 100, 10, 100, back=50) if "million" in sys.argv else None
     held_in_huge = huge and held_beside("1000_held_in_huge.db", huge, 100, 10, 100)
-    with reading(few_held) as db:
-        first_number = db.execute("SELECT day FROM desk").fetchone()[0]
     try:
         for number in range(rounds):
             one_round()
