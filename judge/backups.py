@@ -127,7 +127,7 @@ def lost_of(paths, clients):
 def under_load(bank, checks, every):
     bank.write_config(backup={"newest": 1000})
     bank.now = ""
-    clients, tries, logs = Clients(bank), 0, set()
+    clients, tries, logs, earlier = Clients(bank), 0, set(), len(finished(bank))
     until = time.monotonic() + SECONDS
     while time.monotonic() < until:
         status, printed, errors = bank.day("backup")
@@ -137,7 +137,8 @@ def under_load(bank, checks, every):
         time.sleep(1)  # a backup's name is the second in which it began
     for path in finished(bank):
         logs.add((path / "bank.db-wal").read_bytes()[16:24])
-    checks.that(f"{len(finished(bank))} of {tries} backups under load, {len(clients.answered)} submissions answered", len(finished(bank)), tries)
+    made = len(finished(bank)) - earlier
+    checks.that(f"{made} of {tries} backups under load, {len(clients.answered)} submissions answered", made, tries)
     checks.that("none lacks what was answered before it began", lost_of(finished(bank), clients), {})
     again = sum(json.loads((path / "backup.json").read_text())["copies"] - 1 for path in finished(bank))
     print(f"        the log began again at least {len(logs) - 1} times between backups; {again} copies were made again", flush=True)
