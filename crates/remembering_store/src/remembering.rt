@@ -6,9 +6,7 @@ use crate::known::Known;
 use ach_fields::{Id, Ref, Trace};
 use bank_days::{Calendar, Day};
 use desk_accounts::{Account, Posting};
-use desk_book::{
-    Caller, HeldSubmission, NamedEntry, Row, exposures_grow, rates_stay,
-};
+use desk_book::{Caller, HeldSubmission, NamedEntry, Row, exposures_grow, rates_stay};
 use desk_history::{ChangeRow, Identity, ListOf, ReturnRow, SuspenseRow, TakenFile};
 use desk_rules::{Company, Limits, Rates, Retry, RuleDay, SizedSubmission};
 use desk_store::{CutRows, IntakeRows, LastNumber, Store, StoreFault};
