@@ -1,0 +1,52 @@
+//! The two files of a desk, while no connection has them.
+ghost use Rattle.std.specs.Prelude.{◌≡◌, IsTrue};
+ghost use Rattle.sqlite_disk.specs.Memory.{memory_is_usable};
+ghost use Rattle.sqlite_wal.specs.Files.{outcomes};
+
+use sqlite_disk::{Crash, Disk, Files, Memory};
+
+/// The log and the database file of a desk, of which no sync has failed.
+#[derive(Drop)]
+pub struct KeptFiles {
+    pub log: Memory,
+    pub db: Memory,
+    ghost log_is_usable: { IsTrue (memory_is_usable log) },
+    ghost db_is_usable: { IsTrue (memory_is_usable db) },
+}
+
+impl KeptFiles {
+    ghost use Rattle.memory_files.specs.Kept.{bytes_of};
+
+    /// Keeps the files that a connection leaves. One of which a sync has failed is kept as a crash leaves it.
+    pub(crate) fn left(files: Files<Memory>) -> KeptFiles
+        ensures { outcomes ⟦<Memory as Disk>⟧ files.log files.db (bytes_of result) }
+    {
+        KeptFiles {
+            log: usable(files.log),
+            db: usable(files.db),
+        }
+    }
+
+    /// Gives the files to be opened.
+    pub(crate) fn into_files(self) -> Files<Memory>
+        ensures same { (result.log ≡ self.log) × (result.db ≡ self.db) }
+        ensures usable { IsTrue (memory_is_usable result.log) × IsTrue (memory_is_usable result.db) }
+    {
+        Files {
+            log: self.log,
+            db: self.db,
+        }
+    }
+}
+
+// A file of which a sync has failed is as a crash leaves it.
+fn usable(file: Memory) -> Memory
+    ensures left { ⟦<Memory as Disk>⟧.may_leave file (⟦<Memory as Disk>⟧.seen result) }
+    ensures usable { IsTrue (memory_is_usable result) }
+{
+    let mut file = file;
+    if !file.may_be_used() {
+        file.crash();
+    }
+    file
+}
