@@ -55,6 +55,7 @@ IN_TEXT = (
     ("achdesk-day backup --expire-only", "it is for a standby", "judge/backups.py, the rule of it"),
     ("achdesk-day begin", "a desk has it once", "judge/day.py"),
     ("achdesk-day correct", "other pages show other words of it", "judge/day.py"),
+    ("achdesk-day cut --again", "it follows an answer that was lost", "judge/day.py"),
     ("achdesk-day cut --remake", "it follows a restore", "judge/backups.py"),
     ("achdesk-day open --day", "it follows a restore", "judge/day.py"),
     ("fuser", "it only looks at processes", "none"),
