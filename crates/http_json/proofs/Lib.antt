@@ -1,4 +1,5 @@
 pub mod Acceptances
 pub mod Json
 pub mod Objects
+pub mod Parsed
 pub mod Plain

@@ -5,3 +5,4 @@ pub mod Gains
 pub mod Members
 pub mod Read
 pub mod Refusals
+pub mod View

@@ -1,21 +1,22 @@
 //! The drafts that JSON objects are. A key that is not named here is not looked at.
-ghost use Rattle.std.specs.Prelude.{◌≡◌, ◌≢◌, [], IfOk, IsSome, OnErr};
-ghost use Rattle.serde_json.specs.Find.{as_bool, as_str};
-ghost use Rattle.serde_json.specs.View.{view, items_view};
-ghost use Rattle.http_json.specs.Drafts.{value_at, text_at, number_at, given_or_wrong, optional_from, entry_draft_of, entry_drafts_of, submission_draft_of, retry_draft_of, company_draft_of, limits_draft_of, limit_drafts_of, entries_at, HasEntry, HasText, HasTextOrEntry, retry_texts, company_texts};
+ghost use Rattle.std.specs.Prelude.{◌≡◌, ◌≢◌, [], option_and_then, option_map, IfOk, IsSome, IsSomeAnd, OnErr};
+ghost use Rattle.serde_json.specs.Find.{as_array, as_bool, as_number, as_str, as_u64};
+ghost use Rattle.http_json.specs.View.{view, items_view};
+ghost use Rattle.http_json.specs.Drafts.{value_at, text_at, number_at, given_or_wrong, optional_from, entry_draft_of, entry_drafts_of, entries_in, submission_draft_of, retry_draft_of, company_draft_of, limits_draft_of, limit_drafts_of, entries_at, HasEntry, HasText, HasTextOrEntry, retry_texts, company_texts};
 
 use crate::field_keys::key_of;
+use crate::number::unsigned;
 use desk_rules::{
     CompanyDraft, Draft, DraftText, EntryDraft, EntryDrafts, Field, LimitDrafts, LimitsDraft,
     Optional, RetryDraft,
 };
-use serde_json::Value;
+use json::Value;
 use std::alloc::{AllocError, Global};
 
 /// Gives the draft of a submission that a JSON object is. Its keys are `ref`, `sec`, `direction`,
 /// `description`, `day` and `entries`. Each call here runs out of memory only where there is a text or
 /// an entry that it has to copy.
-pub fn submission_draft(alloc: Global, value: &Value) -> Result<Draft, AllocError>
+pub fn submission_draft(alloc: Global, value: &Value<'_>) -> Result<Draft, AllocError>
     ensures draft { IfOk result (λ d. d ≡ submission_draft_of (view value.now)) }
     ensures memory { OnErr result (HasTextOrEntry (view value.now)) }
 {
@@ -35,17 +36,36 @@ pub fn submission_draft(alloc: Global, value: &Value) -> Result<Draft, AllocErro
     })
 }
 
-fn entries_at(alloc: Global, value: &Value) -> Result<Option<EntryDrafts>, AllocError>
+fn entries_at(alloc: Global, value: &Value<'_>) -> Result<Option<EntryDrafts>, AllocError>
     ensures drafts { IfOk result (λ d. d ≡ entries_at (view value.now)) }
     ensures memory { OnErr result (HasEntry (view value.now)) }
 {
-    match value.get(key_of(Field::Entries)).and_then(Value::as_array) {
-        Some(values) => Ok(Some(entry_drafts(alloc, values.as_slice())?)),
+    match value.get(key_of(Field::Entries)) {
+        Some(found) => entries_in(alloc, found),
         None => Ok(None),
     }
 }
 
-fn entry_drafts(alloc: Global, values: &[Value]) -> Result<EntryDrafts, AllocError>
+fn entries_in(alloc: Global, value: &Value<'_>) -> Result<Option<EntryDrafts>, AllocError>
+    ensures drafts { IfOk result (λ d. d ≡ entries_in (view value.now)) }
+    ensures memory { OnErr result (IsSomeAnd (entries_in (view value.now)) (λ drafts. drafts ≢ [])) }
+{
+    match items_in(value) {
+        Some(values) => Ok(Some(entry_drafts(alloc, values)?)),
+        None => Ok(None),
+    }
+}
+
+fn items_in<'v, 'a>(value: &'v Value<'a>) -> Option<&'v [Value<'a>]>
+    ensures { option_map (λ values. items_view values.now) result ≡ as_array (view value.now) }
+{
+    match value {
+        Value::Array(items) => Some(items.as_slice()),
+        _ => None,
+    }
+}
+
+fn entry_drafts(alloc: Global, values: &[Value<'_>]) -> Result<EntryDrafts, AllocError>
     ensures drafts { IfOk result (λ d. d ≡ entry_drafts_of (items_view values.now)) }
     ensures memory { OnErr result (entry_drafts_of (items_view values.now) ≢ []) }
 {
@@ -57,12 +77,12 @@ fn entry_drafts(alloc: Global, values: &[Value]) -> Result<EntryDrafts, AllocErr
 }
 
 // Its keys are `routing`, `account`, `kind`, `prenote`, `cents`, `id`, `name` and `info`.
-fn entry_draft(alloc: Global, value: &Value) -> Result<Option<EntryDraft>, AllocError>
+fn entry_draft(alloc: Global, value: &Value<'_>) -> Result<Option<EntryDraft>, AllocError>
     ensures { IfOk result (λ d. d ≡ entry_draft_of (view value.now)) }
 {
-    if !value.is_object() {
+    let Value::Object(_) = value else {
         return Ok(None);
-    }
+    };
     let routing = text_at(alloc, value, Field::Routing)?;
     let account = text_at(alloc, value, Field::Account)?;
     let kind = text_at(alloc, value, Field::Kind)?;
@@ -85,7 +105,7 @@ fn entry_draft(alloc: Global, value: &Value) -> Result<Option<EntryDraft>, Alloc
 
 /// Gives the draft of a retry that a JSON object is. Its keys are `ref`, `of`, `index`, `day` and
 /// `authorized`.
-pub fn retry_draft(alloc: Global, value: &Value) -> Result<RetryDraft, AllocError>
+pub fn retry_draft(alloc: Global, value: &Value<'_>) -> Result<RetryDraft, AllocError>
     ensures draft { IfOk result (λ d. d ≡ retry_draft_of (view value.now)) }
     ensures memory { OnErr result (HasText retry_texts (view value.now)) }
 {
@@ -104,7 +124,7 @@ pub fn retry_draft(alloc: Global, value: &Value) -> Result<RetryDraft, AllocErro
 }
 
 /// Gives the draft of a desk day that a JSON object is. Its key is `day`.
-pub fn day_draft(alloc: Global, value: &Value) -> Result<Option<DraftText>, AllocError>
+pub fn day_draft(alloc: Global, value: &Value<'_>) -> Result<Option<DraftText>, AllocError>
     ensures draft { IfOk result (λ d. d ≡ text_at Field.Day (view value.now)) }
     ensures memory { OnErr result (IsSome (text_at Field.Day (view value.now))) }
 {
@@ -115,7 +135,7 @@ pub fn day_draft(alloc: Global, value: &Value) -> Result<Option<DraftText>, Allo
 /// are `id`, `name`, `key`, `entry_limit`, `credit_limit` and `debit_limit`, the limits in cents.
 pub fn company_draft(
     alloc: Global,
-    value: &Value,
+    value: &Value<'_>,
     digest: [u8; 32],
 ) -> Result<CompanyDraft, AllocError>
     ensures draft { IfOk result (λ d. d ≡ company_draft_of digest (view value.now)) }
@@ -135,7 +155,7 @@ pub fn company_draft(
 
 /// Gives the draft of a company's new limits that a JSON object is. Its keys are `id`, `entry_limit`,
 /// `credit_limit` and `debit_limit`, the limits in cents.
-pub fn limits_draft(alloc: Global, value: &Value) -> Result<LimitsDraft, AllocError>
+pub fn limits_draft(alloc: Global, value: &Value<'_>) -> Result<LimitsDraft, AllocError>
     ensures draft { IfOk result (λ d. d ≡ limits_draft_of (view value.now)) }
     ensures memory { OnErr result (IsSome (text_at Field.Id (view value.now))) }
 {
@@ -146,7 +166,7 @@ pub fn limits_draft(alloc: Global, value: &Value) -> Result<LimitsDraft, AllocEr
     })
 }
 
-fn limit_drafts(value: &Value) -> LimitDrafts
+fn limit_drafts(value: &Value<'_>) -> LimitDrafts
     ensures { result ≡ limit_drafts_of (view value.now) }
 {
     LimitDrafts {
@@ -156,23 +176,45 @@ fn limit_drafts(value: &Value) -> LimitDrafts
     }
 }
 
-fn text_at(alloc: Global, value: &Value, field: Field) -> Result<Option<DraftText>, AllocError>
+fn text_at(alloc: Global, value: &Value<'_>, field: Field) -> Result<Option<DraftText>, AllocError>
     ensures text { IfOk result (λ t. t ≡ text_at field (view value.now)) }
     ensures memory { OnErr result (IsSome (text_at field (view value.now))) }
 {
-    match value.get(key_of(field)).and_then(Value::as_str) {
+    match text_of(value, field) {
         Some(text) => Ok(Some(DraftText::from_slice(alloc, text.as_bytes())?)),
         None => Ok(None),
     }
 }
 
-fn number_at(value: &Value, field: Field) -> Option<u64>
-    ensures { result ≡ number_at field (view value.now) }
+/// Returns the text of a field, or `None` if the field is missing or not a text.
+pub fn text_of<'a>(value: &Value<'a>, field: Field) -> Option<&'a str>
+    ensures { option_map (λ t. t.now) result ≡ text_at field (view value.now) }
 {
-    value.get(key_of(field)).and_then(Value::as_u64)
+    match value.get(key_of(field)) {
+        Some(found) => found.as_str(),
+        None => None,
+    }
 }
 
-fn flag_at(value: &Value, field: Field) -> Optional<bool>
+fn number_at(value: &Value<'_>, field: Field) -> Option<u64>
+    ensures { result ≡ number_at field (view value.now) }
+{
+    match value.get(key_of(field)) {
+        Some(found) => number_in(found),
+        None => None,
+    }
+}
+
+fn number_in(value: &Value<'_>) -> Option<u64>
+    ensures { result ≡ option_and_then as_u64 (as_number (view value.now)) }
+{
+    match value.as_number() {
+        Some(text) => unsigned(text),
+        None => None,
+    }
+}
+
+fn flag_at(value: &Value<'_>, field: Field) -> Optional<bool>
     ensures { result ≡ optional_from as_bool (value_at field (view value.now)) }
 {
     match value.get(key_of(field)) {
@@ -183,7 +225,7 @@ fn flag_at(value: &Value, field: Field) -> Optional<bool>
 
 fn optional_text_at(
     alloc: Global,
-    value: &Value,
+    value: &Value<'_>,
     field: Field,
 ) -> Result<Optional<DraftText>, AllocError>
     ensures text { IfOk result (λ t. t ≡ optional_from as_str (value_at field (view value.now))) }

@@ -12,13 +12,15 @@ mod acceptance;
 mod drafts;
 mod field_keys;
 mod members;
+mod number;
 mod quoted;
+mod range;
 mod read;
 mod refusals;
 mod room;
 
 pub use acceptance::put_acceptance;
-pub use drafts::{company_draft, day_draft, limits_draft, retry_draft, submission_draft};
+pub use drafts::{company_draft, day_draft, limits_draft, retry_draft, submission_draft, text_of};
 pub use members::{put_decimal, put_flag, put_key, put_number, put_signed, put_text};
 pub use quoted::put_quoted;
 pub use read::read_object;

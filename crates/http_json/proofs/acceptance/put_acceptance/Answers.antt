@@ -1,4 +1,4 @@
-use Rattle.std.proofs.Common.{◌≡◌, append_assoc}
+use Rattle.std.proofs.Common.{append_assoc}
 use Rattle.http_json.proofs.Acceptances.{acceptance_text}
 use Rattle.http_json.proofs.acceptance.put_acceptance.Goals as goal
 

@@ -1,5 +1,5 @@
 use Rattle.std.proofs.Common.{◌≡◌, ◌++◌, drop}
-use Rattle.serde_json.specs.View.{items_view}
+use Rattle.http_json.specs.View.{items_view}
 use Rattle.http_json.specs.Drafts.{entry_drafts_of}
 use Rattle.http_json.proofs.drafts.entry_drafts.Given as goal
 

@@ -1,5 +1,5 @@
 use Rattle.std.proofs.Common.{arith, refl, rules}
-use Rattle.serde_json.specs.View.{view}
+use Rattle.http_json.specs.View.{view}
 use Rattle.desk_rules.specs.declared.refusals.refusal.Field.TheVariants as field
 use Rattle.http_json.specs.Drafts.{HasText, retry_texts}
 use Rattle.http_json.proofs.drafts.retry_draft.Goals as goal

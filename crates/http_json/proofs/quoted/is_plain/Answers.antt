@@ -1,5 +1,5 @@
-use Rattle.std.proofs.Common.{◌≡◌, ◌∷◌, ◌+◌, ℕ, List, drop, get_or, arith, drop-cons, add-one}
-use Rattle.std.proofs.Common.{rules, suc}
+use Rattle.std.proofs.Common.{◌≡◌, ◌∷◌, ◌+◌, drop, get_or, drop-cons, add-one}
+use Rattle.std.proofs.Common.{rules}
 use Rattle.http_json.proofs.Plain.{escape_from}
 use Rattle.http_json.proofs.quoted.is_plain.Goals as goal
 

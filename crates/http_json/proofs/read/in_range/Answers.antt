@@ -1,0 +1,15 @@
+use Rattle.std.proofs.Common.{◌∙◌, ap, sym, Bool, cond, Some, None}
+use Rattle.json.specs.Value.{value_view}
+use Rattle.http_json.specs.View.{data_of}
+use Rattle.http_json.proofs.Parsed.{read_data}
+use Rattle.http_json.proofs.read.in_range.Goals as goal
+
+pub returns-then-is_in_range : goal.returns-then-is_in_range
+returns-then-is_in_range c =
+    let j = value_view c.args.value in
+    sym (read_data j ∙ ap (λ (b : Bool). cond b (Some (data_of j)) None) (sym c.if-is_in_range.ensures))
+
+pub returns : goal.returns
+returns c =
+    let j = value_view c.args.value in
+    sym (read_data j ∙ ap (λ (b : Bool). cond b (Some (data_of j)) None) (sym c.if-is_in_range.ensures))
