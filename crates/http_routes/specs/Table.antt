@@ -1,13 +1,11 @@
 -- The routes of the desk: one table.
-use Rattle.std.specs.Prelude.{ℕ, ◌+◌, List, [], ◌∷◌, ◌++◌, length, map, fold, codes, Result, Ok, Err}
+use Rattle.std.specs.Prelude.{ℕ, ◌+◌, List, [], ◌∷◌, ◌++◌, length, map, fold, codes, Some, None, Result, Ok, Err}
 use Rattle.std.specs.Borrow.{Bor}
 use Rattle.matchit.specs.Rows.{RowsOf, param_token}
 use Rattle.matchit.specs.Order.{placed}
 use Rattle.matchit.specs.Router.{RouteOf, route_from}
 use Rattle.matchit.specs.Route.{Scan, parse_route}
 use Rattle.matchit.specs.declared.error.InsertError.{InsertError}
-use Rattle.http_routes.specs.declared.route.Method.{Method}
-use Rattle.http_routes.specs.declared.route.Method.TheVariants.{Get, Post}
 use Rattle.http_routes.specs.declared.route.Route.{Route}
 use Rattle.http_routes.specs.declared.route.Route.TheVariants.{Company, Operator}
 use Rattle.http_routes.specs.declared.route.CompanyRoute.TheVariants as company
@@ -19,13 +17,20 @@ pub data Piece : Type 0 where
   text : List ℕ → Piece
   any : List ℕ → Piece
 
--- a route: its path, the one method that it takes, and whose call it is
+-- a path, and the routes that it serves
 pub record Row : Type 0 where
   pub path : List Piece
   pub served : Served
 
-abbrev pub row : Method → List Piece → Route → Row
-row method path route = record { path = path; served = record { method = method; route = route } }
+-- a path that takes GET, POST, or both
+abbrev pub get : List Piece → Route → Row
+get path route = record { path = path; served = record { get = Some route; post = None } }
+
+abbrev pub post : List Piece → Route → Row
+post path route = record { path = path; served = record { get = None; post = Some route } }
+
+abbrev pub get_and_post : List Piece → (got posted : Route) → Row
+get_and_post path got posted = record { path = path; served = record { get = Some got; post = Some posted } }
 
 -- the pieces of a company's path, after its name
 abbrev pub of_company : List Piece → List Piece
@@ -34,27 +39,27 @@ of_company pieces = text (codes "c") ∷ any (codes "company") ∷ pieces
 abbrev pub of_operator : List Piece → List Piece
 of_operator pieces = text (codes "ops") ∷ pieces
 
--- each path with its method, its caller and what is called
+-- each path once, with the methods that it takes, who calls and what is called
 abbrev pub table : List Row
 table =
-    row Get (of_company (text (codes "changes") ∷ [])) (Company company.Changes)
-    ∷ row Get (of_company (text (codes "exposure") ∷ [])) (Company company.Exposure)
-    ∷ row Get (of_company (text (codes "rates") ∷ [])) (Company company.Rates)
-    ∷ row Post (of_company (text (codes "retries") ∷ [])) (Company company.Retry)
-    ∷ row Get (of_company (text (codes "returns") ∷ [])) (Company company.Returns)
-    ∷ row Get (of_company (text (codes "statement") ∷ [])) (Company company.Statement)
-    ∷ row Get (of_company (text (codes "submissions") ∷ any (codes "ref") ∷ [])) (Company company.LookUp)
-    ∷ row Post (of_company (text (codes "submissions") ∷ [])) (Company company.Submit)
-    ∷ row Post (of_operator (text (codes "companies") ∷ [])) (Operator operator.PutCompany)
-    ∷ row Post (of_operator (text (codes "cut") ∷ [])) (Operator operator.Cut)
-    ∷ row Post (of_operator (text (codes "day") ∷ [])) (Operator operator.SetDay)
-    ∷ row Get (of_operator (text (codes "files") ∷ any (codes "day") ∷ any (codes "modifier") ∷ [])) (Operator operator.FileText)
-    ∷ row Post (of_operator (text (codes "holidays") ∷ [])) (Operator operator.SetHolidays)
-    ∷ row Post (of_operator (text (codes "limits") ∷ [])) (Operator operator.PutLimits)
-    ∷ row Post (of_operator (text (codes "returns") ∷ [])) (Operator operator.TakeFile)
-    ∷ row Get (of_operator (text (codes "settlement") ∷ [])) (Operator operator.Settlement)
-    ∷ row Get (of_operator (text (codes "status") ∷ [])) (Operator operator.Status)
-    ∷ row Get (of_operator (text (codes "suspense") ∷ [])) (Operator operator.Suspense)
+    get (of_company (text (codes "changes") ∷ [])) (Company company.Changes)
+    ∷ get (of_company (text (codes "exposure") ∷ [])) (Company company.Exposure)
+    ∷ get (of_company (text (codes "rates") ∷ [])) (Company company.Rates)
+    ∷ post (of_company (text (codes "retries") ∷ [])) (Company company.Retry)
+    ∷ get (of_company (text (codes "returns") ∷ [])) (Company company.Returns)
+    ∷ get (of_company (text (codes "statement") ∷ [])) (Company company.Statement)
+    ∷ get (of_company (text (codes "submissions") ∷ any (codes "ref") ∷ [])) (Company company.LookUp)
+    ∷ post (of_company (text (codes "submissions") ∷ [])) (Company company.Submit)
+    ∷ get_and_post (of_operator (text (codes "companies") ∷ [])) (Operator operator.Companies) (Operator operator.PutCompany)
+    ∷ post (of_operator (text (codes "cut") ∷ [])) (Operator operator.Cut)
+    ∷ post (of_operator (text (codes "day") ∷ [])) (Operator operator.SetDay)
+    ∷ get (of_operator (text (codes "files") ∷ any (codes "day") ∷ any (codes "modifier") ∷ [])) (Operator operator.FileText)
+    ∷ post (of_operator (text (codes "holidays") ∷ [])) (Operator operator.SetHolidays)
+    ∷ post (of_operator (text (codes "limits") ∷ [])) (Operator operator.PutLimits)
+    ∷ post (of_operator (text (codes "returns") ∷ [])) (Operator operator.TakeFile)
+    ∷ get (of_operator (text (codes "settlement") ∷ [])) (Operator operator.Settlement)
+    ∷ get (of_operator (text (codes "status") ∷ [])) (Operator operator.Status)
+    ∷ get (of_operator (text (codes "suspense") ∷ [])) (Operator operator.Suspense)
     ∷ []
 
 -- ---- the table as the router keeps it
@@ -96,6 +101,6 @@ with_route rows route = with_read (parse_route route.0) route.1 rows
 abbrev pub with_routes : RowsOf (RouteOf Served) → List (List ℕ × Served) → RowsOf (RouteOf Served)
 with_routes = fold with_route
 
--- a route of the program, by its path
-abbrev pub route_by_path : Method × Bor (List ℕ) × Route → List ℕ × Served
-route_by_path r = (r.1.now, record { method = r.0; route = r.2 })
+-- a row of the program, by its path
+abbrev pub served_by_path : Bor (List ℕ) × Served → List ℕ × Served
+served_by_path r = (r.0.now, r.1)

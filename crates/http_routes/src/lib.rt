@@ -8,5 +8,5 @@ mod routes;
 
 pub use laws::found_by_pieces;
 pub use pieces::piece_of;
-pub use route::{CompanyRoute, Method, OperatorRoute, Route, Served};
+pub use route::{CompanyRoute, OperatorRoute, Route, Served};
 pub use routes::{RouteFault, Routes};

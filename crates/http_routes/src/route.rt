@@ -1,11 +1,4 @@
-//! A route: its method and what is called.
-
-/// The method of a route.
-#[derive(Clone, Copy, PartialEq, Eq, Debug, Drop)]
-pub enum Method {
-    Get,
-    Post,
-}
+//! A route: who calls, and what.
 
 /// What a company calls. Its identification is the path's second piece.
 #[derive(Clone, Copy, PartialEq, Eq, Debug, Drop)]
@@ -29,6 +22,8 @@ pub enum OperatorRoute {
     SetDay,
     SetHolidays,
     PutCompany,
+    /// Reads the limits, exposures and return rates of all companies.
+    Companies,
     PutLimits,
     Cut,
     /// Takes a file of returns and changes.
@@ -48,9 +43,9 @@ pub enum Route {
     Operator(OperatorRoute),
 }
 
-/// What is served at a path.
+/// The routes of a path, by the methods that it takes.
 #[derive(Clone, Copy, PartialEq, Eq, Debug, Drop)]
 pub struct Served {
-    pub method: Method,
-    pub route: Route,
+    pub get: Option<Route>,
+    pub post: Option<Route>,
 }

@@ -1,10 +1,10 @@
 //! The routes, by path.
-ghost use Rattle.std.specs.Prelude.{◌≡◌, IfOk, OnOk, Err, IsUtf8, bytes_eq, map};
-ghost use Rattle.http_routes.specs.Finding.{route_verdict, method_text, route_at};
-ghost use Rattle.http_routes.specs.Table.{route_by_path, router_rows, with_routes};
+ghost use Rattle.std.specs.Prelude.{◌≡◌, IfOk, OnOk, Err, IsUtf8, Some, map};
+ghost use Rattle.http_routes.specs.Finding.{route_verdict, route_at};
+ghost use Rattle.http_routes.specs.Table.{served_by_path, router_rows, with_routes};
 
 use crate::route::Route::{Company, Operator};
-use crate::route::{CompanyRoute, Method, OperatorRoute, Route, Served};
+use crate::route::{CompanyRoute, OperatorRoute, Route, Served};
 use matchit::{InsertError, Router};
 use std::alloc::{AllocError, Global};
 use std::str;
@@ -14,7 +14,7 @@ use std::str;
 pub enum RouteFault {
     /// No route has this path.
     NotFound,
-    /// The path's route takes another method.
+    /// The path has no route by this method.
     BadMethod,
 }
 
@@ -25,50 +25,57 @@ pub struct Routes {
     ghost all: { router ≡ router_rows },
 }
 
-/// Writes a list of routes, of each its method, its path and what is called.
+/// A path without a route, which each row of the table completes.
+const NOTHING: Served = Served {
+    get: None,
+    post: None,
+};
+
+/// Lists paths, each with the route of every method that it takes.
 macro_rules! routes {
-    ($($method:ident $path:literal => $route:expr;)*) => {
-        [$((Method::$method, $path, $route)),*]
+    ($($path:literal => $($method:ident $route:expr),+;)*) => {
+        [$(($path, Served { $($method: Some($route),)+ ..NOTHING })),*]
     };
 }
 
-/// The routes of the desk.
-const ROUTES: [(Method, &str, Route); 18] = routes! {
-    Get "/c/{company}/changes" => Company(CompanyRoute::Changes);
-    Get "/c/{company}/exposure" => Company(CompanyRoute::Exposure);
-    Get "/c/{company}/rates" => Company(CompanyRoute::Rates);
-    Post "/c/{company}/retries" => Company(CompanyRoute::Retry);
-    Get "/c/{company}/returns" => Company(CompanyRoute::Returns);
-    Get "/c/{company}/statement" => Company(CompanyRoute::Statement);
-    Get "/c/{company}/submissions/{ref}" => Company(CompanyRoute::LookUp);
-    Post "/c/{company}/submissions" => Company(CompanyRoute::Submit);
-    Post "/ops/companies" => Operator(OperatorRoute::PutCompany);
-    Post "/ops/cut" => Operator(OperatorRoute::Cut);
-    Post "/ops/day" => Operator(OperatorRoute::SetDay);
-    Get "/ops/files/{day}/{modifier}" => Operator(OperatorRoute::FileText);
-    Post "/ops/holidays" => Operator(OperatorRoute::SetHolidays);
-    Post "/ops/limits" => Operator(OperatorRoute::PutLimits);
-    Post "/ops/returns" => Operator(OperatorRoute::TakeFile);
-    Get "/ops/settlement" => Operator(OperatorRoute::Settlement);
-    Get "/ops/status" => Operator(OperatorRoute::Status);
-    Get "/ops/suspense" => Operator(OperatorRoute::Suspense);
+/// The routes of the desk, one row for each path.
+const ROUTES: [(&str, Served); 18] = routes! {
+    "/c/{company}/changes" => get Company(CompanyRoute::Changes);
+    "/c/{company}/exposure" => get Company(CompanyRoute::Exposure);
+    "/c/{company}/rates" => get Company(CompanyRoute::Rates);
+    "/c/{company}/retries" => post Company(CompanyRoute::Retry);
+    "/c/{company}/returns" => get Company(CompanyRoute::Returns);
+    "/c/{company}/statement" => get Company(CompanyRoute::Statement);
+    "/c/{company}/submissions/{ref}" => get Company(CompanyRoute::LookUp);
+    "/c/{company}/submissions" => post Company(CompanyRoute::Submit);
+    "/ops/companies" =>
+        get Operator(OperatorRoute::Companies), post Operator(OperatorRoute::PutCompany);
+    "/ops/cut" => post Operator(OperatorRoute::Cut);
+    "/ops/day" => post Operator(OperatorRoute::SetDay);
+    "/ops/files/{day}/{modifier}" => get Operator(OperatorRoute::FileText);
+    "/ops/holidays" => post Operator(OperatorRoute::SetHolidays);
+    "/ops/limits" => post Operator(OperatorRoute::PutLimits);
+    "/ops/returns" => post Operator(OperatorRoute::TakeFile);
+    "/ops/settlement" => get Operator(OperatorRoute::Settlement);
+    "/ops/status" => get Operator(OperatorRoute::Status);
+    "/ops/suspense" => get Operator(OperatorRoute::Suspense);
 };
 
-/// Adds routes to a router, one after another.
+/// Adds paths to a router, one after another.
 fn add_routes(
     router: &mut Router<Served>,
-    routes: &[(Method, &'static str, Route)],
+    routes: &[(&'static str, Served)],
 ) -> Result<(), InsertError>
-    ensures { OnOk result (router.new ≡ with_routes router.old (map route_by_path routes.now)) }
+    ensures { OnOk result (router.new ≡ with_routes router.old (map served_by_path routes.now)) }
 {
-    for served in routes {
-        let (method, path, route) = *served;
-        router.insert(path, Served { method, route })?;
+    for route in routes {
+        let (path, served) = *route;
+        router.insert(path, served)?;
     }
     Ok(())
 }
 
-/// The router of all routes.
+/// The router of all paths.
 fn build(alloc: Global) -> Result<Router<Served>, InsertError>
     ensures { IfOk result (λ router. router ≡ router_rows) }
 {
@@ -77,26 +84,19 @@ fn build(alloc: Global) -> Result<Router<Served>, InsertError>
     Ok(router)
 }
 
-/// The method as `http` names it.
-fn name_of(method: Method) -> http::Method
-    ensures { result ≡ method_text method }
-{
-    match method {
-        Method::Get => http::Method::GET,
-        Method::Post => http::Method::POST,
-    }
-}
-
-/// The route that is served, if it takes this method. A request's method is compared as a text,
+/// Returns the route that a path serves by this method. A request's method is compared as a text,
 /// since to read it may take memory.
 fn judge(method: &[u8], served: &Served) -> Result<Route, RouteFault>
     ensures { result ≡ route_verdict method.now (Some served.now) }
 {
-    if method == name_of(served.method).as_str().as_bytes() {
-        Ok(served.route)
+    let route = if method == http::Method::GET.as_str().as_bytes() {
+        served.get
+    } else if method == http::Method::POST.as_str().as_bytes() {
+        served.post
     } else {
-        Err(RouteFault::BadMethod)
-    }
+        None
+    };
+    route.ok_or(RouteFault::BadMethod)
 }
 
 impl Routes {
