@@ -1,6 +1,6 @@
 use Rattle.faulty_store.proofs.store.FaultyStoreStore.set_day.Goals as goal
 
-pub returns : goal.returns
-returns c =
+pub returns-clause-takes : goal.returns-clause-takes
+returns-clause-takes c =
     let took = rw c.in_ok-count_call.ensures.counted at c.set_day.ensures.takes in
     record { before = λ clean. clean; write = took.write; left = took.left }
