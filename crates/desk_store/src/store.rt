@@ -2,6 +2,7 @@
 ghost use Rattle.std.specs.Prelude.{◌≡◌, length, Option};
 ghost use Rattle.desk_book.specs.Book.{Book};
 ghost use Rattle.desk_book.specs.OnIntake.{traced_entries};
+ghost use Rattle.desk_book.specs.OpenSubmissions.{open_entries_of};
 ghost use Rattle.desk_book.specs.Reads.{key_of, company, submission, submission_count, open_rows_of, retries_of, waiting_of, waiting, last_sequence, sent_count, latest_settled, sent_as, items_of};
 ghost use Rattle.desk_book.specs.Steps.{set_day, set_holidays, put_company, put_limits};
 ghost use Rattle.desk_book.specs.Sums.{exposures_of, rates_of};
@@ -15,8 +16,9 @@ use ach_fields::{Id, Ref, Trace};
 use bank_days::{Calendar, Day};
 use desk_accounts::{Account, Posting};
 use desk_book::{
-    Caller, ChangedRow, FileRow, HeldSubmission, LapsedRow, NamedEntry, ReturnedRow,
-    ReturnsAndChanges, Row, SentRow, exposures_among, first_open_day, rates_among,
+    Caller, ChangedRow, FileRow, HeldSubmission, LapsedRow, NamedEntry, OpenSubmission,
+    ReturnedRow, ReturnsAndChanges, Row, SentRow, exposures_among, first_open_day,
+    open_submissions, rates_among,
 };
 use desk_history::{ChangeRow, Identity, ListOf, ReturnRow, SentEntry, SuspenseRow, TakenFile};
 use desk_rules::{Company, Limits, Rates, Retry, RuleDay, SizedSubmission};
@@ -149,6 +151,22 @@ pub trait Store {
     fn open_rows(&mut self, alloc: Global, company: Id, since: Day) -> Result<Vec<Row>, StoreFault>
         ensures { CallGivesList is_clean holds may_leave self.old self.new result
             (open_rows_of company since) };
+
+    /// Reads of the same submissions and retries only what exposures depend on: the direction, the
+    /// settlement day and the cents, without names, accounts and texts. A store without a better way
+    /// reads the whole rows.
+    fn open_entries(
+        &mut self,
+        alloc: Global,
+        company: Id,
+        since: Day,
+    ) -> Result<Vec<OpenSubmission>, StoreFault>
+        ensures { CallGivesList is_clean holds may_leave self.old self.new result
+            (open_entries_of company since) }
+    {
+        let rows = self.open_rows(alloc, company, since)?;
+        Ok(open_submissions(alloc, &rows)?)
+    }
 
     /// Reads a company's retries of the entry that has this number in the submission with this
     /// reference, by order number.

@@ -20,7 +20,8 @@ use Rattle.desk_book.specs.Standing.{row_facts, facts_in, next_row}
 use Rattle.std.specs.Cmp.Lexicographic.{same_text}
 use Rattle.std.proofs.lemmas.Slice.Eq.{bytes_eq-Decides}
 use Rattle.open_sums.specs.Kept.{in_direction, Holds}
-use Rattle.open_sums.specs.KnownRow.{KnownRow, Fits, place_of, standing_cents}
+use Rattle.desk_book.specs.OpenSubmissions.{standing_cents}
+use Rattle.open_sums.specs.KnownRow.{KnownRow, Fits, place_of}
 use Rattle.open_sums.specs.Laws.{rows_at}
 use Rattle.open_sums.specs.OpenRows.{row_in, order_in, Adds}
 use Rattle.open_sums.specs.Remembered.{AreSums, AreRows, IsKeptAs, AreNumbered, IsOf}

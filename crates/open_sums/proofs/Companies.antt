@@ -17,7 +17,7 @@ use Rattle.open_sums.specs.declared.company_key.CompanyKey.{CompanyKey}
 use Rattle.open_sums.specs.declared.known.Known.{Known}
 use Rattle.open_sums.specs.declared.remembered.Remembered.{Remembered}
 
-abbrev key : List ℕ → CompanyKey
+abbrev pub key : List ℕ → CompanyKey
 key c = record { company = c }
 
 pub company_followed : (c : List ℕ) (turn : List Row → List Row) (m n : BTreeMap CompanyKey Remembered) (v w : Remembered) (b : Book)

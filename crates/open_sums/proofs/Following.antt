@@ -14,7 +14,8 @@ use Rattle.desk_book.specs.Standing.{row_facts, facts_in, sent_row, lapsed_row}
 use Rattle.desk_book.specs.Steps.{if_order}
 use Rattle.desk_book.specs.OpenRows.{is_open_row}
 use Rattle.open_sums.specs.Kept.{in_direction, if_on, Lets, Settles}
-use Rattle.open_sums.specs.KnownRow.{KnownRow, Fits, place_of, cents_in, standing_cents}
+use Rattle.desk_book.specs.OpenSubmissions.{cents_in, standing_cents}
+use Rattle.open_sums.specs.KnownRow.{KnownRow, Fits, place_of}
 use Rattle.open_sums.specs.Laws.{in_state, rows_at}
 use Rattle.open_sums.specs.OpenRows.{row_in, order_in, Puts, SameOrders, Sends, Lapses}
 use Rattle.open_sums.specs.Remembered.{AreSums, AreRows, IsKeptAs, IsOf}

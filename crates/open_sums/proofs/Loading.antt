@@ -15,7 +15,8 @@ use Rattle.desk_book.specs.declared.row.Row.{Row}
 use Rattle.desk_book.specs.Standing.{row_facts, facts_in}
 use Rattle.open_sums.specs.OpenSums.{settles_on}
 use Rattle.open_sums.specs.Kept.{in_direction, if_on, Holds, Settles}
-use Rattle.open_sums.specs.KnownRow.{KnownRow, Fits, place_of, standing_cents, counted}
+use Rattle.desk_book.specs.OpenSubmissions.{standing_cents}
+use Rattle.open_sums.specs.KnownRow.{KnownRow, Fits, place_of, counted}
 use Rattle.open_sums.specs.Laws.{rows_at}
 use Rattle.open_sums.specs.OpenRows.{row_in, Adds}
 use Rattle.open_sums.specs.Remembered.{AreSums, AreKept, IsOf}

@@ -23,7 +23,8 @@ use Rattle.open_sums.specs.Kept.{held_in, settled_in, in_direction, if_on, Comes
 use Rattle.open_sums.specs.OpenRows.{row_in, order_in, Puts, SameOrders, Leaves, NoneUnder, Returns}
 use Rattle.open_sums.specs.declared.sums.Sums.{Sums}
 use Rattle.open_sums.specs.declared.open_rows.OpenRows.{OpenRows}
-use Rattle.open_sums.specs.KnownRow.{KnownRow, Fits, place_of, cents_in, standing_cents, cents_at, on_day, taken, once_taken, without}
+use Rattle.desk_book.specs.OpenSubmissions.{cents_in, standing_cents}
+use Rattle.open_sums.specs.KnownRow.{KnownRow, Fits, place_of, cents_at, on_day, taken, once_taken, without}
 use Rattle.open_sums.specs.Laws.{in_state, rows_at, rows_under, numbered_fact}
 use Rattle.open_sums.specs.Remembered.{settled_of, AreSince, AreSums, AreRows, IsKeptAs, IsOf}
 use Rattle.open_sums.proofs.Changed.{returned_in, returned_in_row}

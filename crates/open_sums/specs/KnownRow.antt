@@ -6,6 +6,7 @@ use Rattle.desk_rules.specs.declared.rules.entry_fact.EntryState.{EntryState}
 use Rattle.desk_rules.specs.declared.rules.entry_fact.EntryState.TheVariants.{Held, Sent, Returned, Lapsed}
 use Rattle.desk_rules.specs.LimitChecks.{is_debit}
 use Rattle.desk_book.specs.declared.row.Row.{Row}
+use Rattle.desk_book.specs.OpenSubmissions.{standing_cents}
 use Rattle.desk_book.specs.Standing.{row_facts}
 
 pub record KnownRow : Type 0 where
@@ -48,14 +49,6 @@ place_of Held = Some None
 place_of (Sent settled) = Some (Some settled)
 place_of (Returned settled code taken late) = Some (Some settled)
 place_of Lapsed = None
-
--- the cents that it counts: none once it is returned
-abbrev pub cents_in : EntryState → ℕ → ℕ
-cents_in (Returned settled code taken late) cents = 0
-cents_in _ cents = cents
-
-abbrev pub standing_cents : EntryFact → ℕ
-standing_cents f = cents_in f.state f.cents
 
 -- what is kept agrees with a submission of the book
 pub record Fits (k : KnownRow) (row : Row) : Type 0 where

@@ -48,6 +48,13 @@ impl Known {
         }
     }
 
+    /// Forgets a company.
+    pub fn forget(&mut self, company: Id)
+        ensures { (b : Book) → KnowsRight self.old b → KnowsRight self.new b }
+    {
+        self.companies.remove(&CompanyKey { company });
+    }
+
     /// Returns a company's credit and debit exposure on a day, in cents, if they are known.
     pub fn exposures(&self, company: Id, today: Day, calendar: &Calendar) -> Option<(u128, u128)>
         ensures { IfSome result (λ sums. (b : Book) → KnowsRight self.now b

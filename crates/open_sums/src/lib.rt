@@ -3,18 +3,23 @@
 //! The first time a company's exposures are asked for, [`Remembering`] reads its open submissions once.
 //! From then on it follows each write: a submission, a cut, a returns file. It keeps what is held and
 //! what settles, summed by settlement day, so that a new desk day or a new holiday list changes nothing
-//! of it: [`exposures_read_off`] says how both exposures follow from the sums. Lack of memory is not a
-//! fault: a company that cannot be followed is forgotten, and read again when it is asked for.
+//! of it: [`exposures_read_off`] says how both exposures follow from the sums. If memory for this runs out,
+//! the company is forgotten and read again at the next question; the call itself does not fail.
 //!
-//! A company costs 8 bytes for each open debit and some 200 for each open submission.
+//! A company costs 8 bytes for each open debit and some 200 for each open submission. At most 1,000,000
+//! debits and 200,000 submissions are kept of it. If more are open, each question asks the store inside.
+//! A company's open submissions are read again when the first day that counts is more than 30 days after
+//! the one on which they were read.
 #![tactic(auto)]
 
+mod caps;
 mod company_key;
 mod day_sums;
 mod first_read;
 mod keep;
 mod known;
 mod laws;
+mod left_out;
 mod open_row;
 mod open_rows;
 mod reference_key;

@@ -2,6 +2,7 @@
 ghost use Rattle.std.specs.Prelude.{◌≡◌, ℕ, None, IsTrue, IfSome};
 ghost use Rattle.open_sums.specs.OpenRows.{Adds, Lapses, Returns, Sends, row_in};
 
+use crate::caps::{MOST_DEBITS, MOST_SUBMISSIONS};
 use crate::open_row::OpenRow;
 use crate::reference_key::ReferenceKey;
 use ach_fields::Ref;
@@ -14,6 +15,8 @@ use std::collections::BTreeMap;
 pub(crate) struct OpenRows {
     rows: BTreeMap<u64, OpenRow>,
     orders: BTreeMap<ReferenceKey, u64>,
+    /// The number of debits that were added.
+    debits: usize,
 }
 
 impl OpenRows {
@@ -24,11 +27,12 @@ impl OpenRows {
         OpenRows {
             rows: BTreeMap::new(alloc),
             orders: BTreeMap::new(alloc),
+            debits: 0,
         }
     }
 
-    /// Adds a submission. Returns false if its order number or reference is already kept, or if there
-    /// is no memory.
+    /// Adds a submission. Returns false if its order number or reference is already kept, if more would
+    /// be kept than the most submissions or debits, or if there is no memory.
     pub(crate) fn add(&mut self, order: u64, row: OpenRow) -> bool
         ensures { IsTrue result → Adds order row self.old self.new }
     {
@@ -38,6 +42,11 @@ impl OpenRows {
         if self.rows.contains_key(&order) || self.orders.contains_key(&key) {
             return false;
         }
+        let debits = self.debits.saturating_add(row.cents.len());
+        if self.rows.len() >= MOST_SUBMISSIONS || debits > MOST_DEBITS {
+            return false;
+        }
+        self.debits = debits;
         if self.orders.insert(key, order).is_err() {
             return false;
         }

@@ -8,15 +8,17 @@ ghost use Rattle.desk_book.specs.Steps.{if_order, returned_row_by};
 ghost use Rattle.desk_book.specs.Sums.{exposures_on};
 ghost use Rattle.open_sums.specs.KnownRow.{Fits};
 ghost use Rattle.desk_book.specs.OpenRows.{open_rows};
+ghost use Rattle.desk_book.specs.OpenSubmissions.{open_submission};
 ghost use Rattle.open_sums.specs.Remembered.{AreKept, AreNumbered, IsOf};
 
-use crate::first_read::keep_row;
+use crate::caps::is_behind;
+use crate::first_read::keep_open;
 use crate::keep::keep;
 use crate::open_row::OpenRow;
 use crate::open_rows::OpenRows;
 use crate::sums::Sums;
 use bank_days::{Calendar, Day};
-use desk_book::{ReturnedRow, Row, first_open_day};
+use desk_book::{OpenSubmission, ReturnedRow, first_open_day};
 use desk_rules::{RuleDay, SizedSubmission};
 use std::alloc::Global;
 
@@ -64,16 +66,17 @@ impl Remembered {
         }
     }
 
-    /// Returns the memory of a company by its rows that are open since a day, or `None` if they cannot
-    /// be kept.
-    pub fn read(alloc: Global, since: Day, rows: &[Row]) -> Option<Remembered>
+    /// Returns the memory of a company by its submissions that are open since a day, or `None` if they
+    /// cannot be kept.
+    pub fn read(alloc: Global, since: Day, submissions: Vec<OpenSubmission>) -> Option<Remembered>
         ensures { IfSome result (λ m. (all : List Row) → AreNumbered all
-            → rows.now ≡ open_rows since all → IsOf m all) }
+            → submissions.items ≡ map open_submission (open_rows since all) → IsOf m all) }
     {
         let mut read = Remembered::new(alloc, since);
-        for row in rows {
-            let kept = keep_row(alloc, row)?;
-            if !read.load(row.order, kept) {
+        for submission in submissions {
+            let order = submission.order;
+            let kept = keep_open(submission)?;
+            if !read.load(order, kept) {
                 return None;
             }
         }
@@ -136,13 +139,14 @@ impl Remembered {
     }
 
     /// Returns the credit and debit exposure on a day, in cents. Returns `None` if something before
-    /// `since` counts on that day, as after a holiday list that opens an earlier settlement again.
+    /// `since` counts on that day, as after a holiday list that opens an earlier settlement again, or if
+    /// `since` is more than 30 days before the first day that counts.
     pub fn exposures(&self, today: Day, calendar: &Calendar) -> Option<(u128, u128)>
         ensures { IfSome result (λ sums. (rs : List Row) → IsOf self.now rs
             → sums ≡ exposures_on rs today calendar.now) }
     {
         let first = first_open_day(calendar, today)?;
-        if first < self.since {
+        if first < self.since || is_behind(self.since, first) {
             return None;
         }
         self.sums.exposures(today, calendar)

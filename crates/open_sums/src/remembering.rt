@@ -4,12 +4,14 @@ ghost use Rattle.desk_book.specs.Book.{Book};
 ghost use Rattle.desk_store.specs.Words.{LeavesRead};
 ghost use Rattle.open_sums.specs.Known.{HoldsKnown, KnowsRight};
 
+use crate::caps::can_be_kept;
 use crate::known::Known;
+use crate::left_out::LeftOut;
 use crate::remembered::Remembered;
 use ach_fields::{Id, Ref, Trace};
 use bank_days::{Calendar, Day};
 use desk_accounts::{Account, Posting};
-use desk_book::{Caller, HeldSubmission, NamedEntry, Row, first_open_day};
+use desk_book::{Caller, HeldSubmission, NamedEntry, OpenSubmission, Row, first_open_day};
 use desk_history::{ChangeRow, Identity, ListOf, ReturnRow, SuspenseRow, TakenFile};
 use desk_rules::{Company, Limits, Rates, Retry, RuleDay, SizedSubmission};
 use desk_store::{CutRows, IntakeRows, LastNumber, Store, StoreFault};
@@ -21,6 +23,7 @@ use std::alloc::Global;
 pub struct Remembering<S> {
     store: S,
     known: Known,
+    left_out: LeftOut,
 }
 
 impl<S> Remembering<S> {
@@ -32,6 +35,7 @@ impl<S> Remembering<S> {
         Remembering {
             store,
             known: Known::new(alloc),
+            left_out: LeftOut::new(alloc),
         }
     }
 
@@ -44,7 +48,8 @@ impl<S> Remembering<S> {
 }
 
 impl<S: Store> Remembering<S> {
-    // Reads a company's open submissions and remembers them, if that can be done.
+    // Reads a company's open submissions and remembers them. Remembers nothing if too much is open, or if
+    // they cannot be read or kept.
     fn learn(&mut self, alloc: Global, company: Id, today: Day, calendar: &Calendar)
         ensures before { S.is_clean self.new.store → S.is_clean self.old.store }
         ensures read { S.is_clean self.new.store → (b : Book)
@@ -56,10 +61,18 @@ impl<S: Store> Remembering<S> {
         let Some(since) = first_open_day(calendar, today) else {
             return;
         };
-        let Ok(rows) = self.store.open_rows(alloc, company, since) else {
+        if self.left_out.has(company, since) {
+            return;
+        }
+        self.known.forget(company);
+        let Ok(submissions) = self.store.open_entries(alloc, company, since) else {
             return;
         };
-        let Some(read) = Remembered::read(alloc, since, &rows) else {
+        if !can_be_kept(&submissions) {
+            self.left_out.add(company, since);
+            return;
+        }
+        let Some(read) = Remembered::read(alloc, since, submissions) else {
             return;
         };
         self.known.remember(company, read);
@@ -123,6 +136,15 @@ impl<S: Store> Store for Remembering<S> {
         since: Day,
     ) -> Result<Vec<Row>, StoreFault> {
         self.store.open_rows(alloc, company, since)
+    }
+
+    fn open_entries(
+        &mut self,
+        alloc: Global,
+        company: Id,
+        since: Day,
+    ) -> Result<Vec<OpenSubmission>, StoreFault> {
+        self.store.open_entries(alloc, company, since)
     }
 
     fn exposures(

@@ -2,3 +2,4 @@ pub mod Measures
 pub mod OpenHeads
 pub mod RatedHeads
 pub mod RowFacts
+pub mod OpenEntries

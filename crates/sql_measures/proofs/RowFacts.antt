@@ -18,7 +18,7 @@ use Rattle.sql_tables.specs.declared.row.submissions.SubmissionHead.{SubmissionH
 use Rattle.sql_tables.specs.Composed.{fact_among}
 use Rattle.sql_measures.specs.Counted.{IsWhole, state_alone}
 
-credit_alike : (lapsed : Bool) (settled : Option ℕ) (back : Option EntryReturn) (day : ℕ) → is_open_credit (unless_lapsed lapsed (state_with settled back)) day ≡ is_open_credit (unless_lapsed lapsed (state_with settled None)) day
+pub credit_alike : (lapsed : Bool) (settled : Option ℕ) (back : Option EntryReturn) (day : ℕ) → is_open_credit (unless_lapsed lapsed (state_with settled back)) day ≡ is_open_credit (unless_lapsed lapsed (state_with settled None)) day
 credit_alike true settled back day = refl
 credit_alike false None back day = refl
 credit_alike false (Some on) None day = refl

@@ -8,6 +8,8 @@
 mod facts;
 mod open_cents;
 mod rates;
+mod submissions;
 
 pub use open_cents::exposures;
 pub use rates::rates_of;
+pub use submissions::open_entries;

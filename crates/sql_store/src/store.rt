@@ -9,7 +9,7 @@ use crate::whole_write::write;
 use ach_fields::{Id, Ref, Trace};
 use bank_days::{Calendar, Day};
 use desk_accounts::{Account, Posting};
-use desk_book::{Caller, HeldSubmission, NamedEntry, Row};
+use desk_book::{Caller, HeldSubmission, NamedEntry, OpenSubmission, Row};
 use desk_history::{ChangeRow, Identity, ListOf, ReturnRow, SuspenseRow, TakenFile};
 use desk_rules::{Company, Limits, Rates, Retry, RuleDay, SizedSubmission};
 use desk_store::{CutRows, IntakeRows, LastNumber, Store, StoreFault};
@@ -99,6 +99,16 @@ impl<S: Alter> Store for SqlStore<S> {
     ) -> Result<Vec<Row>, StoreFault> {
         rows_of_tables();
         sql_reads::open_rows(&mut self.conn, alloc, company, since)
+    }
+
+    fn open_entries(
+        &mut self,
+        alloc: Global,
+        company: Id,
+        since: Day,
+    ) -> Result<Vec<OpenSubmission>, StoreFault> {
+        rows_of_tables();
+        sql_measures::open_entries(&mut self.conn, alloc, company, since)
     }
 
     fn retries_of(

@@ -1,28 +1,29 @@
-use Rattle.std.proofs.Common.{◌≡◌, ◌∙◌, refl, ap, sym, subst, ℕ, ◌+◌, ◌++◌, ◌∷◌, [], take}
-use Rattle.std.proofs.lemmas.List.{take_all}
+use Rattle.std.proofs.Common.{rules, ◌≡◌, ◌∙◌, refl, ap, sym, subst, List, [], map, ℕ}
+use Rattle.desk_book.specs.declared.open_submission.OpenSubmission.{OpenSubmission}
+use Rattle.desk_book.specs.declared.row.Row.{Row}
 use Rattle.desk_book.specs.OpenRows.{open_rows}
-use Rattle.open_sums.specs.Remembered.{AreKept, IsOf}
-use Rattle.open_sums.proofs.Loading.{one_longer}
+use Rattle.desk_book.specs.OpenSubmissions.{open_submission}
+use Rattle.open_sums.specs.Remembered.{IsOf}
+use Rattle.open_sums.proofs.FirstRead.{IsUpTo, begun, none_left, one_more, read_all}
 use Rattle.open_sums.proofs.Widening.{wider}
 use Rattle.open_sums.proofs.remembered.Remembered.read.Goals as goal
 
-pub loop-row-preserved : goal.loop-row-preserved
-loop-row-preserved c =
-    let rs = c.args.rows.now in
-    let i = c.loop-row.row-index in
-    let row = c.row-item.result in
-    let was = c.loop-row.invariant in
-    let both = c.if-not-load.ensures.right refl (take i rs) row was.right was.kept refl c.in_ok-kept.ensures in
-    let more : take (i + 1) rs ≡ take i rs ++ row ∷ [] = one_longer rs i row c.loop-row-test.true c.row-item.is in
+pub loop-submission-init : goal.loop-submission-init
+loop-submission-init c = record {
+  so_far = λ rs are. begun c.new-read.result _ c.new-read.ensures.of rs (c.into_iter-submission-iterator.ensures.into_iter_gives.0 ∙ are);
+  since = c.new-read.ensures.since;
+}
+
+pub loop-submission-preserved : goal.loop-submission-preserved
+loop-submission-preserved c =
+    let was = c.loop-submission.invariant in
     record {
-      right = subst (IsOf c.load.new.self) (sym more) both.0;
-      kept = subst (AreKept c.load.new.self.rows) (sym more) both.1;
+      so_far = λ rs are. one_more _ _ _ _ rs (λ done row is right kept. c.if-not-load.ensures.right refl done row right kept (ap (λ (x : OpenSubmission). x.order) (sym is)) (c.in_ok-kept.ensures row is)) (subst (λ (xs : List OpenSubmission). IsUpTo c.loop-submission.read xs rs) (search rules) (was.so_far rs are));
       since = c.load.ensures.since ∙ was.since;
     }
 
 pub returns : goal.returns
 returns c = λ all numbered same.
-    let m = c.loop-row.read in
-    let was = c.loop-row.invariant in
-    let whole : IsOf m c.args.rows.now = subst (IsOf m) (take_all c.loop-row.row-index c.args.rows.now c.loop-row-test.false) was.right in
-    wider m all numbered (subst (IsOf m) (same ∙ ap (λ (s : ℕ). open_rows s all) (sym was.since)) whole)
+    let m = c.loop-submission.read in
+    let was = c.loop-submission.invariant in
+    wider m all numbered (subst (λ (since : ℕ). IsOf m (open_rows since all)) (sym was.since) (read_all m _ (open_rows c.args.since all) (none_left _ (sym c.loop-submission.submission-iterator.rest.ok.0 ∙ c.in-None.ensures.steps.0)) (was.so_far (open_rows c.args.since all) same)))
