@@ -1,6 +1,8 @@
 -- Entries have one key exactly where they are one entry.
-use Rattle.std.proofs.Common.{◌≡◌, ◌∙◌, ap, sym, refl, ℕ, ◌-◌, List, length, take, replicate, Bool, true, false, ◌&&◌, ◌||◌, cond, arith}
-use Rattle.std.specs.Prelude.{◌==◌, bytes_eq}
+use Rattle.std.proofs.Common.{◌≡◌, ◌∙◌, ap, sym, refl, ℕ, ◌-◌, List, ◌∷◌, length, take, replicate, Bool, true, false, ◌&&◌, ◌||◌, cond, arith}
+use Rattle.std.specs.Prelude.{◌==◌, bytes_eq, if◌then◌else◌, not}
+use Rattle.std.specs.Bool.{OnFalse}
+use Rattle.std.specs.BTreeMap.{is_at}
 use Rattle.std.specs.BTreeSet.{BTreeSet, Updates, contains}
 use Rattle.std.specs.Cmp.Lexicographic.{slice_cmp}
 use Rattle.std.specs.List.{list_any}
@@ -42,20 +44,27 @@ bytes_equal s t = same_from_slice_cmp nat_cmp is_eq bytes_eq refl (λ _ _. refl)
 number_equal : (a b : ℕ) → is_eq (nat_cmp a b) ≡ (a == b)
 number_equal a b = grind (arith, nat_tests)
 
-grouped : (a b c d e : Bool) {p q r : Bool} → (a && b) ≡ p → (c && d) ≡ q → e ≡ r → (a && (b && (c && (d && e)))) ≡ (p && q && r)
+grouped : (a b c d e : Bool) {p q r : Bool} → (b && c) ≡ p → (d && e) ≡ q → a ≡ r → (a && (b && (c && (d && e)))) ≡ (p && q && r)
 grouped a b c d e x y z = regrouped a b c d e ∙ (λ i. x i && y i && z i) where
-  regrouped : (a b c d e : Bool) → (a && (b && (c && (d && e)))) ≡ ((a && b) && (c && d) && e)
-  regrouped false b c d e = refl
+  none : (p q : Bool) → false ≡ (p && q && false)
+  none false q = refl
+  none true false = refl
+  none true true = refl
+
+  regrouped : (a b c d e : Bool) → (a && (b && (c && (d && e)))) ≡ ((b && c) && (d && e) && a)
+  regrouped false b c d e = none (b && c) (d && e)
   regrouped true false c d e = refl
   regrouped true true false d e = refl
-  regrouped true true true d e = refl
+  regrouped true true true false e = refl
+  regrouped true true true true false = refl
+  regrouped true true true true true = refl
 
-keys_equal : (a b : EntryKey) → is_eq (key_cmp a b) ≡ (bytes_eq a.company b.company && ((a.company_len == b.company_len) && (bytes_eq a.reference b.reference && ((a.reference_len == b.reference_len) && (a.index == b.index)))))
+keys_equal : (a b : EntryKey) → is_eq (key_cmp a b) ≡ ((a.index == b.index) && (bytes_eq a.company b.company && ((a.company_len == b.company_len) && (bytes_eq a.reference b.reference && (a.reference_len == b.reference_len)))))
 keys_equal a b =
+    then_equal _ _ ∙ ap (λ t. is_eq (nat_cmp a.index b.index) && t) (
     then_equal _ _ ∙ ap (λ t. is_eq (slice_cmp nat_cmp a.company b.company) && t) (
-    then_equal _ _ ∙ ap (λ t. is_eq (nat_cmp a.company_len b.company_len) && t) (
-    then_equal _ _ ∙ ap (λ t. is_eq (slice_cmp nat_cmp a.reference b.reference) && t) (then_equal _ _)))
-    ∙ (λ i. bytes_equal a.company b.company i && (number_equal a.company_len b.company_len i && (bytes_equal a.reference b.reference i && (number_equal a.reference_len b.reference_len i && number_equal a.index b.index i))))
+    then_equal _ _ ∙ ap (λ t. is_eq (nat_cmp a.company_len b.company_len) && t) (then_equal _ _)))
+    ∙ (λ i. number_equal a.index b.index i && (bytes_equal a.company b.company i && (number_equal a.company_len b.company_len i && (bytes_equal a.reference b.reference i && number_equal a.reference_len b.reference_len i))))
 
 eq_back : (a b : ℕ) → (a == b) ≡ (b == a)
 eq_back a b = grind (arith, nat_tests)
@@ -63,12 +72,12 @@ eq_back a b = grind (arith, nat_tests)
 same_key : (e x : SentEntry) → is_eq (key_cmp (key_of e) (key_of x)) ≡ is_same_entry x e
 same_key e x =
     keys_equal (key_of e) (key_of x)
-    ∙ grouped (bytes_eq (with_zeros 10 e.company) (with_zeros 10 x.company)) (length e.company == length x.company)
-    (bytes_eq (with_zeros 20 e.reference) (with_zeros 20 x.reference)) (length e.reference == length x.reference) (e.index == x.index)
+    ∙ grouped (e.index == x.index) (bytes_eq (with_zeros 10 e.company) (with_zeros 10 x.company)) (length e.company == length x.company)
+    (bytes_eq (with_zeros 20 e.reference) (with_zeros 20 x.reference)) (length e.reference == length x.reference)
     (padded_same 10 e.company x.company) (padded_same 20 e.reference x.reference) (eq_back e.index x.index)
 
 -- with one key more, a set has one entry more
-pub added : (before after : BTreeSet EntryKey) (key : EntryKey) (e : SentEntry) (es : List SentEntry) → key ≡ key_of e → Updates key_cmp before after key true
+added : (before after : BTreeSet EntryKey) (key : EntryKey) (e : SentEntry) (es : List SentEntry) → key ≡ key_of e → Updates key_cmp before after key true
     → ((x : SentEntry) → contains key_cmp before (key_of x) ≡ list_any (is_same_entry x) es)
     → (x : SentEntry) → contains key_cmp after (key_of x) ≡ (is_same_entry x e || list_any (is_same_entry x) es)
 added before after key e es is updates has x =
@@ -79,3 +88,13 @@ added before after key e es is updates has x =
       either : (p q : Bool) → cond p true q ≡ (p || q)
       either true q = refl
       either false q = refl
+
+-- whether a key is new is whether its entry is, and only then there is one more
+pub adds : (before after : BTreeSet EntryKey) (key : EntryKey) (e : SentEntry) (es : List SentEntry) (is_new : Bool) → key ≡ key_of e
+    → is_new ≡ not (contains key_cmp before key) → Updates key_cmp before after key true → OnFalse is_new (after.keys ≡ before.keys)
+    → ((x : SentEntry) → contains key_cmp before (key_of x) ≡ list_any (is_same_entry x) es)
+    → (is_new ≡ not (list_any (is_same_entry e) es)) × ((x : SentEntry) → contains key_cmp after (key_of x) ≡ list_any (is_same_entry x) (if is_new then e ∷ es else es))
+adds before after key e es true is told updates same has =
+    (told ∙ ap (λ k. not (contains key_cmp before k)) is ∙ ap not (has e), added before after key e es is updates has)
+adds before after key e es false is told updates same has =
+    (told ∙ ap (λ k. not (contains key_cmp before k)) is ∙ ap not (has e), λ x. ap (λ ks. list_any (is_at (key_cmp (key_of x))) ks) same ∙ has x)

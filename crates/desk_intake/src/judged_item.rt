@@ -1,12 +1,10 @@
 //! Judges each item of a file: it matches a sent entry, or goes to suspense.
 ghost use Rattle.std.specs.Prelude.{◌≡◌, [], ◌∷◌, ◌++◌, map, IfOk, OnOk};
-ghost use Rattle.desk_book.specs.OnIntake.{entries_returned_by};
-ghost use Rattle.desk_intake.specs.ReturnedEntries.{HasMore};
-ghost use Rattle.desk_intake.specs.Resolutions.{judged_as, judged_item, judged_of, resolution_as};
+ghost use Rattle.desk_intake.specs.Resolutions.{judged_as, judged_item, judged_of};
 
 use crate::found_item::FoundItem;
 use crate::matched_item::MatchedItem;
-use crate::resolution::{is_return, resolution_after};
+use crate::resolution::resolution_after;
 use crate::returned_entries::ReturnedEntries;
 use ach_files::ItemFacts;
 use desk_history::SuspenseReason;
@@ -18,22 +16,6 @@ use std::alloc::{AllocError, Global};
 pub(crate) struct JudgedItem {
     pub item: ItemFacts,
     pub outcome: Result<MatchedItem, SuspenseReason>,
-}
-
-// Notes a returned entry for the items after it.
-fn note(
-    earlier: &mut ReturnedEntries,
-    outcome: &Result<MatchedItem, SuspenseReason>,
-) -> Result<(), AllocError>
-    ensures { OnOk result
-        (HasMore earlier.old earlier.new (entries_returned_by (resolution_as outcome.now))) }
-{
-    if let Ok(met) = outcome {
-        if is_return(met) {
-            earlier.add(&met.entry)?;
-        }
-    }
-    Ok(())
 }
 
 fn push(
@@ -62,8 +44,12 @@ pub(crate) fn judge(alloc: Global, found: &[FoundItem]) -> Result<Vec<JudgedItem
     let mut earlier = ReturnedEntries::new(alloc);
     let mut judged = Vec::new(alloc);
     for found_item in found {
-        let outcome = resolution_after(&earlier, found_item);
-        note(&mut earlier, &outcome)?;
+        let outcome = resolution_after(&mut earlier, found_item)?;
+        // The checker follows a move of a `MatchedItem` only where the types of its parts are seen.
+        if let Ok(met) = &outcome {
+            let _reaction = met.reaction;
+            let _info = met.entry.entry.info;
+        }
         push(&mut judged, &found_item.item, outcome)?;
     }
     Ok(judged)

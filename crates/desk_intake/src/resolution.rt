@@ -1,10 +1,10 @@
 //! The resolution of an item is the entry that it meets, or the first reason against it.
-ghost use Rattle.std.specs.Prelude.{◌≡◌, option_map};
+ghost use Rattle.std.specs.Prelude.{◌≡◌, option_map, IfOk, Ok};
 ghost use Rattle.desk_history.specs.declared.sent_entry.SentEntry.{SentEntry};
 ghost use Rattle.desk_history.specs.Intake.{is_returned_event};
 ghost use Rattle.desk_history.specs.Resolve.{event_of, resolve_entry};
-ghost use Rattle.desk_book.specs.OnIntake.{is_repeated_return, was_returned};
-ghost use Rattle.desk_intake.specs.ReturnedEntries.{OfEntries};
+ghost use Rattle.desk_book.specs.OnIntake.{unless_repeated, was_returned};
+ghost use Rattle.desk_intake.specs.ReturnedEntries.{Resolves};
 ghost use Rattle.desk_intake.specs.Resolutions.{event_as, found_resolution, matched_item_as, resolution_as};
 
 use crate::agreement::{agrees, is_change_code};
@@ -15,6 +15,7 @@ use ach_files::{ItemFacts, ReturnOrChange};
 use desk_book::NamedEntry;
 use desk_history::{SentEntry, SuspenseReason};
 use desk_rules::ReturnCode;
+use std::alloc::AllocError;
 
 /// Returns the effect of an item whose code is one of R01 to R29, or of C01 to C14.
 fn reaction_of(item: &ItemFacts) -> Option<Reaction>
@@ -71,8 +72,8 @@ fn was_returned(named: &Option<NamedEntry>) -> bool
     }
 }
 
-/// Reports whether its entry is returned.
-pub(crate) fn is_return(met: &MatchedItem) -> bool
+// Reports whether its entry is returned.
+fn is_return(met: &MatchedItem) -> bool
     ensures { result ≡ is_returned_event (matched_item_as met.now).event }
 {
     match met.reaction {
@@ -81,26 +82,40 @@ pub(crate) fn is_return(met: &MatchedItem) -> bool
     }
 }
 
-// Reports whether it is a return of an entry that was returned before the file, or by an earlier
-// item of it.
-fn is_repeated_return(earlier: &ReturnedEntries, before: bool, met: &MatchedItem) -> bool
-    ensures { OfEntries earlier.now
-        (λ es. result ≡ is_repeated_return es before (matched_item_as met.now)) }
+// Returns the match, unless it returns an entry again: one that was returned before the file, or by an
+// earlier item of it. An entry that is returned is added.
+fn unless_repeated(
+    earlier: &mut ReturnedEntries,
+    before: bool,
+    met: MatchedItem,
+) -> Result<Result<MatchedItem, SuspenseReason>, AllocError>
+    ensures { IfOk result (λ outcome. Resolves earlier.old earlier.new
+        (λ es. unless_repeated es before (Ok (matched_item_as met))) (resolution_as outcome)) }
 {
-    is_return(met) && (before || earlier.has(&met.entry))
+    if !is_return(&met) {
+        return Ok(Ok(met));
+    }
+    if before {
+        return Ok(Err(SuspenseReason::AlreadyReturned));
+    }
+    if earlier.add(&met.entry)? {
+        Ok(Ok(met))
+    } else {
+        Ok(Err(SuspenseReason::AlreadyReturned))
+    }
 }
 
-/// Returns the resolution of an item, after others that returned these entries.
+/// Returns the resolution of an item, after others that returned these entries. If it returns its
+/// entry, that one is added to them.
 pub(crate) fn resolution_after(
-    earlier: &ReturnedEntries,
+    earlier: &mut ReturnedEntries,
     found: &FoundItem,
-) -> Result<MatchedItem, SuspenseReason>
-    ensures { OfEntries earlier.now
-        (λ es. resolution_as result ≡ found_resolution es found.now) }
+) -> Result<Result<MatchedItem, SuspenseReason>, AllocError>
+    ensures { IfOk result (λ outcome. Resolves earlier.old earlier.new
+        (λ es. found_resolution es found.now) (resolution_as outcome)) }
 {
-    let met = resolve(entry_of(&found.named), &found.item)?;
-    if is_repeated_return(earlier, was_returned(&found.named), &met) {
-        return Err(SuspenseReason::AlreadyReturned);
+    match resolve(entry_of(&found.named), &found.item) {
+        Ok(met) => unless_repeated(earlier, was_returned(&found.named), met),
+        Err(why) => Ok(Err(why)),
     }
-    Ok(met)
 }

@@ -1,22 +1,21 @@
 //! The entries that the items of a file returned so far.
-ghost use Rattle.std.specs.Prelude.{◌≡◌, ◌≤◌, ◌-◌, ◌∷◌, [], ◌++◌, OnOk, length, replicate};
-ghost use Rattle.std.specs.List.{list_any};
-ghost use Rattle.desk_book.specs.OnIntake.{is_same_entry};
-ghost use Rattle.desk_intake.specs.ReturnedEntries.{HasEntries, HasMore, OfEntries, key_of};
+ghost use Rattle.std.specs.Prelude.{◌≡◌, ◌≤◌, ◌-◌, [], ◌++◌, IfOk, length, replicate};
+ghost use Rattle.desk_intake.specs.ReturnedEntries.{AddsEntry, HasEntries, key_of};
 
 use desk_history::SentEntry;
 use std::alloc::{AllocError, Global};
 use std::collections::BTreeSet;
 
-/// An `EntryKey` names an entry by its company, its submission and its number there. The texts have
-/// zeros after them.
+/// An `EntryKey` names an entry by its number in its submission, and by its company and reference.
+/// The texts are padded with zeros.
 #[derive(Clone, Copy, Debug, PartialEq, Eq, PartialOrd, Ord, Drop)]
 pub(crate) struct EntryKey {
+    // The number comes first, because it mostly tells two keys apart in one comparison.
+    pub index: u64,
     pub company: [u8; 10],
     pub company_len: usize,
     pub reference: [u8; 20],
     pub reference_len: usize,
-    pub index: u64,
 }
 
 fn with_zeros_after<const N: usize>(text: &[u8]) -> [u8; N]
@@ -35,11 +34,11 @@ impl EntryKey {
         let company = entry.company.bytes();
         let reference = entry.reference.bytes();
         EntryKey {
+            index: entry.index,
             company: with_zeros_after(company),
             company_len: company.len(),
             reference: with_zeros_after(reference),
             reference_len: reference.len(),
-            index: entry.index,
         }
     }
 }
@@ -60,18 +59,11 @@ impl ReturnedEntries {
         }
     }
 
-    /// Reports whether the entry is returned.
-    pub(crate) fn has(&self, entry: &SentEntry) -> bool
-        ensures { OfEntries self.now (λ es. result ≡ list_any (is_same_entry entry.now) es) }
+    /// Adds a returned entry. Returns whether it is new.
+    pub(crate) fn add(&mut self, entry: &SentEntry) -> Result<bool, AllocError>
+        ensures { IfOk result (AddsEntry self.old self.new entry.now) }
     {
-        self.keys.contains(&EntryKey::of(entry))
-    }
-
-    /// Adds a returned entry.
-    pub(crate) fn add(&mut self, entry: &SentEntry) -> Result<(), AllocError>
-        ensures { OnOk result (HasMore self.old self.new (entry.now ∷ [])) }
-    {
-        self.keys.insert(EntryKey::of(entry))?;
-        Ok(())
+        let is_new = self.keys.insert(EntryKey::of(entry))?;
+        Ok(is_new)
     }
 }
