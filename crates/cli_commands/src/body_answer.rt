@@ -1,12 +1,12 @@
 //! The answer to a submission's body, without a desk.
 ghost use Rattle.std.specs.Prelude.{◌≡◌, IfOk, Some};
-ghost use Rattle.serde_json.specs.View.{view};
+ghost use Rattle.http_json.specs.View.{view};
 ghost use Rattle.desk_rules.specs.OrNoMemory.{IsUnlessNoMemory};
 ghost use Rattle.cli_commands.specs.BodyAnswers.{submission_answer, object_answer, acceptance_text, checked_submission, IsAnswer};
 
 use desk_rules::{RuleFault, SizedSubmission, check_fields};
 use http_json::{fault_text, put_acceptance, read_object, refusal_text, submission_draft};
-use serde_json::Value;
+use json::{Scratch, Value};
 use std::alloc::{AllocError, Global};
 
 /// The body of an accepted submission has room for so many bytes.
@@ -30,13 +30,14 @@ impl From<AllocError> for NoMemory {
 pub fn submission_answer(alloc: Global, body: &[u8]) -> Result<(bool, Vec<u8>), NoMemory>
     ensures { IfOk result (IsAnswer (submission_answer body.now)) }
 {
-    match read_object(alloc, body)? {
+    let mut scratch = Scratch::new(alloc);
+    match read_object(alloc, body, &mut scratch)? {
         None => Ok((false, fault_text(alloc, "BadJson")?)),
         Some(value) => object_answer(alloc, &value),
     }
 }
 
-fn object_answer(alloc: Global, value: &Value) -> Result<(bool, Vec<u8>), NoMemory>
+fn object_answer(alloc: Global, value: &Value<'_>) -> Result<(bool, Vec<u8>), NoMemory>
     ensures { IfOk result (IsAnswer (object_answer (Some (view value.now)))) }
 {
     match checked_submission(alloc, value) {
@@ -46,7 +47,7 @@ fn object_answer(alloc: Global, value: &Value) -> Result<(bool, Vec<u8>), NoMemo
     }
 }
 
-fn checked_submission(alloc: Global, value: &Value) -> Result<SizedSubmission, RuleFault>
+fn checked_submission(alloc: Global, value: &Value<'_>) -> Result<SizedSubmission, RuleFault>
     ensures { IsUnlessNoMemory (checked_submission (view value.now)) result }
 {
     let draft = submission_draft(alloc, value)?;

@@ -1,5 +1,6 @@
 pub mod AllMessages
 pub mod BackOnBook
+pub mod CompaniesAnswers
 pub mod CutAnswers
 pub mod CutEntries
 pub mod CutFiles

@@ -7,7 +7,7 @@ use Rattle.desk_history.specs.declared.answer.Answer.{Answer}
 use Rattle.desk_history.specs.declared.answer.Answer.TheVariants as answers
 use Rattle.desk_history.specs.declared.answer.Outcome.{Outcome}
 use Rattle.desk_history.specs.declared.answer.Outcome.TheVariants as done
-use Rattle.desk_history.specs.Message.{Message, Of, SetDay, SetHolidays, PutCompany, PutLimits, Cut, TakeFile, FileText, Settlement, Suspense, Status, is_accepted}
+use Rattle.desk_history.specs.Message.{Message, Of, SetDay, SetHolidays, PutCompany, PutLimits, Cut, TakeFile, FileText, Settlement, Suspense, Status, Companies, is_accepted}
 use Rattle.desk_history.specs.Operator.{set_holidays, cut_answer}
 use Rattle.desk_history.specs.Reply.{answer_of}
 use Rattle.desk_history.specs.Request as request
@@ -59,6 +59,7 @@ unwritten b (FileText d modifier) none = refl
 unwritten b Settlement none = refl
 unwritten b Suspense none = refl
 unwritten b Status none = refl
+unwritten b Companies none = refl
 
 -- ---- who writes nothing
 
@@ -70,6 +71,7 @@ reads b (FileText d modifier) is = refl
 reads b Settlement is = refl
 reads b Suspense is = refl
 reads b Status is = refl
+reads b Companies is = refl
 reads b m is = cc
 
 -- no row is added if the answer has no receipt
@@ -105,6 +107,7 @@ quiet b (FileText d modifier) silent = refl
 quiet b Settlement silent = refl
 quiet b Suspense silent = refl
 quiet b Status silent = refl
+quiet b Companies silent = refl
 
 -- a refusal is such an answer
 refused_quiet : (a : Answer) → is_accepted a ≡ false → is_quiet a ≡ true

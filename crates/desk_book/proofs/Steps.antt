@@ -19,7 +19,7 @@ use Rattle.desk_history.specs.Part.{Event, DaySet, Registered, Limited, is_regis
 use Rattle.desk_book.specs.Book.{Book, rows, book_of}
 use Rattle.desk_history.specs.History as history
 use Rattle.desk_history.specs.History.{message_day, with_company, with_registration, with_new_limits, companies, company_event, limits_event, request_event, events_for, part}
-use Rattle.desk_history.specs.Message.{Message, Of, SetDay, SetHolidays, PutCompany, PutLimits, TakeFile, FileText, Settlement, Suspense, Status, Pair, is_accepted}
+use Rattle.desk_history.specs.Message.{Message, Of, SetDay, SetHolidays, PutCompany, PutLimits, TakeFile, FileText, Settlement, Suspense, Status, Companies, Pair, is_accepted}
 use Rattle.desk_history.specs.Operator.{answer_to, next_pair, IsHistory}
 use Rattle.desk_history.specs.Request as request
 use Rattle.desk_history.specs.Request.{Request}
@@ -64,10 +64,14 @@ refused_by identity key H m (Refused why) refused not =
     nothing_new identity key H m (Refused why) tt refl refl refl
     (λ c. ap (λ (es : List Event). es ++ part identity.odfi H c) (none_given identity.odfi _ _ c m (part identity.odfi H c) not))
 
--- the reads
+-- the reads that are refused before the first day
 settlement_read : (identity : Identity) (key : List ℕ) (H : List Pair) (a : Answer) → book_of identity key (with_answer Settlement a ∷ H) ≡ book_of identity key H
 settlement_read identity key H (Done value) = nothing_new identity key H Settlement (Done value) tt refl refl refl (λ c. refl)
 settlement_read identity key H (Refused why) = nothing_new identity key H Settlement (Refused why) tt refl refl refl (λ c. refl)
+
+companies_read : (identity : Identity) (key : List ℕ) (H : List Pair) (a : Answer) → book_of identity key (with_answer Companies a ∷ H) ≡ book_of identity key H
+companies_read identity key H (Done value) = nothing_new identity key H Companies (Done value) tt refl refl refl (λ c. refl)
+companies_read identity key H (Refused why) = nothing_new identity key H Companies (Refused why) tt refl refl refl (λ c. refl)
 
 -- ---- a request
 
@@ -185,5 +189,6 @@ module _ (same_standing : SameStanding) (steps : RowSteps) where
     settlement = λ identity key H. settlement_read identity key H (answer_to identity H Settlement);
     suspense = λ identity key H. nothing_new identity key H Suspense (answer_to identity H Suspense) tt refl refl refl (λ c. refl);
     status = λ identity key H. nothing_new identity key H Status (answer_to identity H Status) tt refl refl refl (λ c. refl);
+    companies = λ identity key H. companies_read identity key H (answer_to identity H Companies);
     file_text = λ identity key H d modifier. nothing_new identity key H (FileText d modifier) (answer_to identity H (FileText d modifier)) tt refl refl refl (λ c. refl);
   }

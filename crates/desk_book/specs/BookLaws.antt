@@ -8,7 +8,7 @@ use Rattle.desk_rules.specs.Operator.{company_of, new_limits_of}
 use Rattle.desk_history.specs.declared.identity.Identity.{Identity}
 use Rattle.desk_book.specs.Book.{book_of}
 use Rattle.desk_history.specs.History.{part, message_day}
-use Rattle.desk_history.specs.Message.{Message, Of, SetDay, SetHolidays, PutCompany, PutLimits, FileText, Settlement, Suspense, Status, Pair, is_accepted}
+use Rattle.desk_history.specs.Message.{Message, Of, SetDay, SetHolidays, PutCompany, PutLimits, FileText, Settlement, Suspense, Status, Companies, Pair, is_accepted}
 use Rattle.desk_history.specs.Operator.{answer_to, next_pair, IsHistory}
 use Rattle.desk_history.specs.Reply.{reply}
 use Rattle.desk_history.specs.Request.{Request}
@@ -46,5 +46,6 @@ pub record StepsOfMessages : Type 0 where
   pub settlement : (identity : Identity) (key : List ℕ) (H : List Pair) → book_of identity key (next_pair identity H Settlement ∷ H) ≡ book_of identity key H
   pub suspense : (identity : Identity) (key : List ℕ) (H : List Pair) → book_of identity key (next_pair identity H Suspense ∷ H) ≡ book_of identity key H
   pub status : (identity : Identity) (key : List ℕ) (H : List Pair) → book_of identity key (next_pair identity H Status ∷ H) ≡ book_of identity key H
+  pub companies : (identity : Identity) (key : List ℕ) (H : List Pair) → book_of identity key (next_pair identity H Companies ∷ H) ≡ book_of identity key H
   pub file_text : (identity : Identity) (key : List ℕ) (H : List Pair) (d modifier : ℕ)
       → book_of identity key (next_pair identity H (FileText d modifier) ∷ H) ≡ book_of identity key H

@@ -8,13 +8,16 @@ pub mod OnIntake
 pub mod OnMessages
 pub mod OnOperator
 pub mod OnStatus
+pub mod OnCompanies
 pub mod OpenRows
+pub mod OpenSubmissions
 pub mod OperatorLaws
 pub mod Reads
 pub mod Repeating
 pub mod RowLaws
 pub mod Standing
 pub mod StatusLaws
+pub mod CompaniesLaws
 pub mod Steps
 pub mod SumLaws
 pub mod Sums

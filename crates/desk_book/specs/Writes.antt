@@ -3,7 +3,7 @@ use Rattle.std.specs.Prelude.{◌≡◌, Bool, true, false, is_some}
 use Rattle.desk_history.specs.declared.answer.Answer.{Answer}
 use Rattle.desk_history.specs.declared.answer.Answer.TheVariants as answers
 use Rattle.desk_history.specs.declared.answer.Outcome.TheVariants as done
-use Rattle.desk_history.specs.Message.{Message, Of, SetDay, SetHolidays, PutCompany, PutLimits, Cut, TakeFile, FileText, Settlement, Suspense, Status, is_accepted}
+use Rattle.desk_history.specs.Message.{Message, Of, SetDay, SetHolidays, PutCompany, PutLimits, Cut, TakeFile, FileText, Settlement, Suspense, Status, Companies, is_accepted}
 use Rattle.desk_history.specs.Request as request
 use Rattle.desk_book.specs.Book.{Book}
 use Rattle.desk_book.specs.OnCut.{cut_answer_on}
@@ -21,6 +21,7 @@ is_read (FileText d modifier) = true
 is_read Settlement = true
 is_read Suspense = true
 is_read Status = true
+is_read Companies = true
 is_read m = false
 
 abbrev pub is_new_taking : Taking → Bool

@@ -7,6 +7,7 @@
 
 mod book_laws;
 mod caller;
+mod companies_laws;
 mod cut_laws;
 mod flat_rows;
 mod held_submission;
@@ -14,6 +15,7 @@ mod intake_laws;
 mod message_laws;
 mod named_entry;
 mod open_rows;
+mod open_submission;
 mod returns_and_changes;
 mod row;
 mod row_laws;
@@ -25,6 +27,7 @@ pub use book_laws::{
     steps_of_messages, steps_of_operator, tells_operator, tells_replies, unauthorized_books,
 };
 pub use caller::Caller;
+pub use companies_laws::tells_companies;
 pub use cut_laws::{entries_of_cuts, tells_cut};
 pub use flat_rows::{ChangedRow, FileRow, LapsedRow, ReturnedRow, SentRow};
 pub use held_submission::HeldSubmission;
@@ -32,6 +35,7 @@ pub use intake_laws::{entries_of_intakes, tells_intake};
 pub use message_laws::{book_tells, reads_leave, twice_acts_once};
 pub use named_entry::NamedEntry;
 pub use open_rows::{first_open_day, open_rows_suffice};
+pub use open_submission::{OpenSubmission, open_cents, open_submissions, total_of};
 pub use returns_and_changes::ReturnsAndChanges;
 pub use row::{Row, state_numbered};
 pub use row_laws::{row_steps, rows_of_part, verdicts_on_rows};

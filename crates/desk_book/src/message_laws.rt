@@ -15,6 +15,7 @@ pub fn book_tells()
     crate::cut_laws::tells_cut();
     crate::intake_laws::tells_intake();
     crate::status_laws::tells_status();
+    crate::companies_laws::tells_companies();
 }
 
 /// A message that writes nothing leaves the book unchanged. Reads write nothing, nor do messages

@@ -9,8 +9,8 @@ use bank_days::{Calendar, Day};
 use desk_rules::{EntryFact, Rates, credit_exposure, debit_exposure, rates};
 use std::alloc::{AllocError, Global};
 
-// Adds a fact for each entry of a row.
-fn push_facts(facts: &mut Vec<EntryFact>, row: &Row) -> Result<(), AllocError>
+/// Adds a fact for each entry of a row.
+pub(crate) fn push_facts(facts: &mut Vec<EntryFact>, row: &Row) -> Result<(), AllocError>
     ensures { OnOk result (facts.new.items ≡ facts.old.items ++ row_facts row.now) }
 {
     let content = row.content.submission();

@@ -21,6 +21,7 @@ read_call (calls.FileText day modifier) m is reads = tt
 read_call calls.Settlement m is reads = tt
 read_call calls.SuspenseItems m is reads = tt
 read_call calls.Status m is reads = tt
+read_call calls.Companies m is reads = tt
 read_call (calls.LookUp c reference) m is reads = tt
 read_call (calls.ReturnsOf c) m is reads = tt
 read_call (calls.ChangesOf c) m is reads = tt

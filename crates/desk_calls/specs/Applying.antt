@@ -31,6 +31,7 @@ IsReadCall (calls.FileText day modifier) = ⊤
 IsReadCall calls.Settlement = ⊤
 IsReadCall calls.SuspenseItems = ⊤
 IsReadCall calls.Status = ⊤
+IsReadCall calls.Companies = ⊤
 IsReadCall (calls.LookUp c reference) = ⊤
 IsReadCall (calls.ReturnsOf c) = ⊤
 IsReadCall (calls.ChangesOf c) = ⊤

@@ -6,4 +6,5 @@ pub mod OverStores
 pub mod Retrying
 pub mod Running
 pub mod Status
+pub mod Companies
 pub mod Telling

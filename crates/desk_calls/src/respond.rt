@@ -3,6 +3,7 @@ ghost use Rattle.desk_calls.specs.OverStores.{AnswersByBook, LeavesByBook, Leave
 
 use crate::company::reads::{changes_of, exposure_of, look_up, rates_of, returns_of, statement_of};
 use crate::company::submission::submit;
+use crate::operator::companies::companies;
 use crate::operator::cut::cut;
 use crate::operator::reads::{file_text, settlement, suspense_items};
 use crate::operator::settings::{put_company, put_limits, set_day, set_holidays};
@@ -35,6 +36,7 @@ pub(crate) fn respond<S: Store>(
         Call::Settlement => settlement(store, alloc),
         Call::SuspenseItems => suspense_items(store, alloc),
         Call::Status => status(store, alloc),
+        Call::Companies => companies(store, alloc),
         Call::Submit(company, draft) => submit(store, alloc, company, &draft),
         Call::Retry(company, draft) => retry(store, alloc, company, &draft),
         Call::LookUp(company, reference) => look_up(store, alloc, company, reference),

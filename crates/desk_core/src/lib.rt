@@ -9,19 +9,19 @@
 pub use desk_book::{
     Caller, ChangedRow, FileRow, HeldSubmission, LapsedRow, NamedEntry, ReturnedRow,
     ReturnsAndChanges, Row, SentRow, book_tells, entries_of_cuts, entries_of_intakes, reads_leave,
-    row_steps, rows_of_part, steps_of_messages, steps_of_operator, tells_cut, tells_intake,
-    tells_operator, tells_replies, tells_status, twice_acts_once, verdicts_on_rows,
+    row_steps, rows_of_part, steps_of_messages, steps_of_operator, tells_companies, tells_cut,
+    tells_intake, tells_operator, tells_replies, tells_status, twice_acts_once, verdicts_on_rows,
 };
 pub use desk_calls::{Desk, crashes_leave, desk_alone, two_desks};
 pub use desk_cut::{CutFault, CutPlan, NumberedCut, company_status, number_cut, plan_cut};
 pub use desk_history::{
-    Answer, Call, CallRefusal, ChangeRow, CompanyStatus, CutSummary, DayRates, DaySum, DeskStatus,
-    DueDay, Exposure, FilePlace, Identity, Intake, ListOf, Outcome, PartyName, Receipt,
-    ReportedEntry, RetriedEntry, ReturnRow, SentEntry, Settlement, Statement, StatementLine,
-    SubmissionReport, SuspenseReason, SuspenseRow, TakenFile, Tallies, Tally, accepted_cuts,
-    accepted_in_order, accounts_cancel, company_lines, company_of_part, digest_of_part,
-    first_answer_stands, one_message, possible_parts, sent_are_accepted, served_alone, traces_name,
-    traces_of_cuts, two_worlds,
+    Answer, Call, CallRefusal, ChangeRow, CompanyRisk, CompanyStatus, CutSummary, DayRates, DaySum,
+    DeskCompanies, DeskStatus, DueDay, Exposure, FilePlace, Identity, Intake, ListOf, Outcome,
+    PartyName, Receipt, ReportedEntry, RetriedEntry, ReturnRow, SentEntry, Settlement, Statement,
+    StatementLine, SubmissionReport, SuspenseReason, SuspenseRow, TakenFile, Tallies, Tally,
+    accepted_cuts, accepted_in_order, accounts_cancel, companies_rows, company_lines,
+    company_of_part, digest_of_part, first_answer_stands, one_message, possible_parts,
+    sent_are_accepted, served_alone, traces_name, traces_of_cuts, two_worlds,
 };
 pub use desk_intake::{FoundItem, IntakePlan, plan_intake};
 pub use desk_plan::{NumberFault, plan_numbers};

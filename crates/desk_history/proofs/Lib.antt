@@ -13,6 +13,7 @@
 -- - `company_lines`: Lines
 -- - `digest_of_part`: Lines, PartCompany
 -- - `company_of_part`: Lines, PartCompany
+-- - `companies_rows`: CompanyRows
 -- - `served_alone`: Alone
 -- - `first_answer_stands`: Repeated
 -- - `authorizations_left_out`: Unauthorized
@@ -20,6 +21,7 @@
 -- Basics has lemmas on lists and checks that several laws use.
 pub mod Basics
 mod OneMessage
+pub mod CompanyRows
 pub mod Equal
 pub mod Acceptance
 pub mod Sent

@@ -10,7 +10,7 @@ use Rattle.bank_days.specs.HolidayList.{holidays_in}
 use Rattle.desk_history.specs.declared.call.Call.{Call}
 use Rattle.desk_history.specs.declared.call.Call.TheVariants as calls
 use Rattle.desk_history.specs.Request as request
-use Rattle.desk_history.specs.Message.{Message, Of, SetDay, SetHolidays, PutCompany, PutLimits, Cut, TakeFile, FileText, Settlement, Suspense, Status}
+use Rattle.desk_history.specs.Message.{Message, Of, SetDay, SetHolidays, PutCompany, PutLimits, Cut, TakeFile, FileText, Settlement, Suspense, Status, Companies}
 use Rattle.desk_history.specs.Calls.{IsFileOf, IsMessageOf, OneMessage}
 
 -- what was read of a file: its facts, or its fault
@@ -30,6 +30,7 @@ read bytes (FileText d modifier) is = absurd is
 read bytes Settlement is = absurd is
 read bytes Suspense is = absurd is
 read bytes Status is = absurd is
+read bytes Companies is = absurd is
 
 module _ (has_none : (bytes : List ℕ) (f : File) → IsFile bytes f → fault bytes ≡ None)
     (has_file : (bytes : List ℕ) → fault bytes ≡ None → (f : File) × IsFile bytes f)
@@ -49,6 +50,7 @@ module _ (has_none : (bytes : List ℕ) (f : File) → IsFile bytes f → fault 
   some calls.Settlement = (Settlement, refl)
   some calls.SuspenseItems = (Suspense, refl)
   some calls.Status = (Status, refl)
+  some calls.Companies = (Companies, refl)
   some (calls.Submit c d) = (Of c (request.Submit d), refl)
   some (calls.Retry c d) = (Of c (request.Retry d), refl)
   some (calls.LookUp c reference) = (Of c (request.LookUp reference), refl)
@@ -82,6 +84,7 @@ module _ (has_none : (bytes : List ℕ) (f : File) → IsFile bytes f → fault 
   only calls.Settlement m n p q = p ∙ sym q
   only calls.SuspenseItems m n p q = p ∙ sym q
   only calls.Status m n p q = p ∙ sym q
+  only calls.Companies m n p q = p ∙ sym q
   only (calls.Submit c d) m n p q = p ∙ sym q
   only (calls.Retry c d) m n p q = p ∙ sym q
   only (calls.LookUp c reference) m n p q = p ∙ sym q

@@ -18,7 +18,7 @@ use Rattle.desk_rules.specs.declared.refusals.refusal.Refusal.{Refusal}
 use Rattle.desk_history.specs.Request as request
 use Rattle.desk_history.specs.Request.{Request}
 use Rattle.desk_history.specs.Part.{Event, Asked, is_registered}
-use Rattle.desk_history.specs.Message.{Message, Of, SetDay, SetHolidays, PutCompany, PutLimits, Cut, TakeFile, FileText, Settlement, Suspense, Status, Pair, is_accepted}
+use Rattle.desk_history.specs.Message.{Message, Of, SetDay, SetHolidays, PutCompany, PutLimits, Cut, TakeFile, FileText, Settlement, Suspense, Status, Companies, Pair, is_accepted}
 use Rattle.desk_history.specs.Accepted.{AcceptedSubmission}
 use Rattle.desk_history.specs.Acceptance.{submissions}
 use Rattle.desk_history.specs.Authorizations.{message_without_authorization, pair_without_authorization, without_authorizations, AsksNoAuthorization, HasNoAuthorization, HaveNoAuthorizations, IsUnauthorized, AuthorizationsLeftOut}
@@ -54,6 +54,7 @@ left_out (FileText day modifier) = tt
 left_out Settlement = tt
 left_out Suspense = tt
 left_out Status = tt
+left_out Companies = tt
 
 none : (H : List Pair) → HaveNoAuthorizations (without_authorizations H)
 none [] = All-nil (λ x. HasNoAuthorization x.message)
@@ -78,6 +79,7 @@ same_message (FileText day modifier) h = refl
 same_message Settlement h = refl
 same_message Suspense h = refl
 same_message Status h = refl
+same_message Companies h = refl
 
 same : (H : List Pair) → HaveNoAuthorizations H → without_authorizations H ≡ H
 same [] h = refl

@@ -6,7 +6,7 @@ use Rattle.bank_days.specs.HolidayList.{holidays_in}
 use Rattle.desk_history.specs.declared.call.Call.{Call}
 use Rattle.desk_history.specs.declared.call.Call.TheVariants as calls
 use Rattle.desk_history.specs.Request as request
-use Rattle.desk_history.specs.Message.{Message, Of, SetDay, SetHolidays, PutCompany, PutLimits, Cut, TakeFile, FileText, Settlement, Suspense, Status}
+use Rattle.desk_history.specs.Message.{Message, Of, SetDay, SetHolidays, PutCompany, PutLimits, Cut, TakeFile, FileText, Settlement, Suspense, Status, Companies}
 
 -- what is read from the bytes of a file: its facts, or its first fault
 abbrev pub IsFileOf : List ℕ → Message → Type 0
@@ -26,6 +26,7 @@ IsMessageOf (calls.FileText day modifier) m = m ≡ FileText day modifier
 IsMessageOf calls.Settlement m = m ≡ Settlement
 IsMessageOf calls.SuspenseItems m = m ≡ Suspense
 IsMessageOf calls.Status m = m ≡ Status
+IsMessageOf calls.Companies m = m ≡ Companies
 IsMessageOf (calls.Submit c d) m = m ≡ Of c (request.Submit d)
 IsMessageOf (calls.Retry c d) m = m ≡ Of c (request.Retry d)
 IsMessageOf (calls.LookUp c reference) m = m ≡ Of c (request.LookUp reference)

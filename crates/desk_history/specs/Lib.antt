@@ -4,6 +4,8 @@ pub mod AcceptedLaws
 pub mod Alone
 pub mod Authorizations
 pub mod Calls
+pub mod Companies
+pub mod CompanyRows
 pub mod Cutting
 pub mod DayFiles
 pub mod Facts

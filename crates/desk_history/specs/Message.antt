@@ -22,6 +22,7 @@ pub data Message : Type 0 where
   Settlement : Message
   Suspense : Message
   Status : Message
+  Companies : Message
 
 -- a message and its answer: a history is a list of these, the newest first
 pub record Pair : Type 0 where

@@ -19,7 +19,7 @@ use Rattle.desk_history.specs.declared.identity.Identity.{Identity}
 use Rattle.desk_history.specs.declared.operations.CutSummary.{CutSummary}
 use Rattle.desk_history.specs.declared.operations.Intake.{Intake}
 use Rattle.desk_history.specs.Words.{some_or, holds_or}
-use Rattle.desk_history.specs.Message.{Message, Of, SetDay, SetHolidays, PutCompany, PutLimits, Cut, TakeFile, FileText, Settlement, Suspense, Status, Pair, is_accepted}
+use Rattle.desk_history.specs.Message.{Message, Of, SetDay, SetHolidays, PutCompany, PutLimits, Cut, TakeFile, FileText, Settlement, Suspense, Status, Companies, Pair, is_accepted}
 use Rattle.desk_history.specs.Reply.{answer_of, reply}
 use Rattle.desk_history.specs.History.{day, holidays, companies, part}
 use Rattle.desk_history.specs.Files.{text_of, file_at}
@@ -27,6 +27,7 @@ use Rattle.desk_history.specs.Cutting.{cut}
 use Rattle.desk_history.specs.Intake.{take_file, suspense}
 use Rattle.desk_history.specs.Postings.{postings, settlement}
 use Rattle.desk_history.specs.Status.{status}
+use Rattle.desk_history.specs.Companies.{companies_outcome}
 
 abbrev pub has_id : List ℕ → Company → Bool
 has_id id k = bytes_eq k.id id
@@ -86,6 +87,7 @@ answer_to identity H (FileText d modifier) = answers.Done (done.File (option_map
 answer_to identity H Settlement = answer_of (settlement_outcome identity.odfi H)
 answer_to identity H Suspense = answers.Done (done.Suspense (suspense identity.odfi H))
 answer_to identity H Status = answers.Done (done.Status (status identity.odfi H))
+answer_to identity H Companies = answer_of (companies_outcome identity.odfi H)
 
 -- Each answer that accepts is the one after the pairs before it. Refusals change nothing, and are not bound.
 abbrev pub IsHistory : Identity → List Pair → Type 0

@@ -1,6 +1,6 @@
 use crate::{
-    ChangeRow, CutSummary, DayRates, DeskStatus, Exposure, Intake, ListOf, Receipt, ReturnRow,
-    Settlement, Statement, SubmissionReport, SuspenseRow,
+    ChangeRow, CutSummary, DayRates, DeskCompanies, DeskStatus, Exposure, Intake, ListOf, Receipt,
+    ReturnRow, Settlement, Statement, SubmissionReport, SuspenseRow,
 };
 use ach_fields::Id;
 use ach_files::Fault;
@@ -34,6 +34,7 @@ pub enum Outcome {
     /// The items in suspense, in the order in which they came.
     Suspense(ListOf<SuspenseRow>),
     Status(DeskStatus),
+    Companies(DeskCompanies),
 }
 
 /// A `CallRefusal` says why a call is refused.

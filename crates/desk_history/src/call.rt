@@ -27,6 +27,8 @@ pub enum Call {
     SuspenseItems,
     /// Reads the desk's status.
     Status,
+    /// Reads the exposures, limits and return rates of all companies.
+    Companies,
     /// Hands in a submission.
     Submit(Id, Draft),
     /// Asks to try a returned debit again (Nacha's reinitiation).

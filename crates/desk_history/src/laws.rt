@@ -1,5 +1,6 @@
 //! The laws of all histories.
 ghost use Rattle.desk_history.specs.Calls.{OneMessage};
+ghost use Rattle.desk_history.specs.CompanyRows.{CompaniesRows};
 ghost use Rattle.desk_history.specs.Laws.{TwoWorlds};
 ghost use Rattle.desk_history.specs.PartCompany.{CompanyOfPart, DigestOfPart};
 ghost use Rattle.desk_history.specs.Repeated.{FirstAnswerStands};
@@ -25,6 +26,13 @@ pub fn company_of_part()
 /// The digest of a company's key is that with which its part says that it was registered.
 pub fn digest_of_part()
     ensures { DigestOfPart }
+{}
+
+/// The operator's read of all companies has one row for each registered company, and in it what the
+/// company's own reads of its exposure and of its return rates are answered. It is refused before
+/// the first day.
+pub fn companies_rows()
+    ensures { CompaniesRows }
 {}
 
 /// A submission, a retry or an incoming file that was accepted is answered as it was then whenever it

@@ -11,6 +11,7 @@ mod account_laws;
 mod alone_laws;
 mod answer;
 mod call;
+mod companies;
 mod cut_laws;
 mod identity;
 mod laws;
@@ -28,9 +29,12 @@ pub use account_laws::accounts_cancel;
 pub use alone_laws::served_alone;
 pub use answer::{Answer, CallRefusal, Outcome};
 pub use call::Call;
+pub use companies::{CompanyRisk, DeskCompanies};
 pub use cut_laws::{accepted_cuts, files_of_status, traces_name, traces_of_cuts};
 pub use identity::Identity;
-pub use laws::{company_of_part, digest_of_part, first_answer_stands, one_message, two_worlds};
+pub use laws::{
+    companies_rows, company_of_part, digest_of_part, first_answer_stands, one_message, two_worlds,
+};
 pub use list_of::ListOf;
 pub use operations::{
     CutSummary, DaySum, Intake, Settlement, SuspenseReason, SuspenseRow, TakenFile,

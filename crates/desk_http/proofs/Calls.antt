@@ -52,6 +52,7 @@ quiet_is (answers.Done (outcomes.File file)) is = refl
 quiet_is (answers.Done (outcomes.Settlement settlement)) is = refl
 quiet_is (answers.Done (outcomes.Suspense rows)) is = refl
 quiet_is (answers.Done (outcomes.Status status)) is = refl
+quiet_is (answers.Done (outcomes.Companies all)) is = refl
 
 pub printed : BookTells → OneKind → (old new : Book → Type 0) (call : Call) (closes : Bool) (kind : CallKind) (a : Answer) (bytes : Vec ℕ Global)
     → kind ≡ kind_of_call call → Goes old call (Ok a) new → (FitsRoom a → bytes.items ≡ text_as kind closes a)

@@ -11,7 +11,7 @@ use Rattle.desk_rules.specs.declared.refusals.refusal.Refusal as rules
 use Rattle.desk_rules.specs.declared.refusals.refusal.Refusal.TheVariants.{NoCompany, NoDay, TracesSpent, ModifiersSpent}
 use Rattle.desk_history.specs.declared.answer.Outcome.{Outcome}
 use Rattle.desk_history.specs.declared.answer.Outcome.TheVariants as done
-use Rattle.desk_history.specs.Message.{Message, Of, SetDay, SetHolidays, PutCompany, PutLimits, Cut, TakeFile, FileText, Settlement, Suspense, Status}
+use Rattle.desk_history.specs.Message.{Message, Of, SetDay, SetHolidays, PutCompany, PutLimits, Cut, TakeFile, FileText, Settlement, Suspense, Status, Companies}
 use Rattle.desk_history.specs.Operator.{set_holidays, cut_answer}
 use Rattle.desk_history.specs.Reply.{answer_of}
 use Rattle.desk_history.specs.Request as request
@@ -92,3 +92,4 @@ short_on b (FileText d modifier) = tt
 short_on b Settlement = bind_short (some_or NoDay b.day) _ (λ d. tt)
 short_on b Suspense = tt
 short_on b Status = tt
+short_on b Companies = bind_short (some_or NoDay b.day) _ (λ d. tt)

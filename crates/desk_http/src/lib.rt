@@ -31,3 +31,4 @@ pub use http_session::{
     Answers, Connection, Ended, Listener, ServeFault, SessionFault, Tries, Unavailable, serve,
     session,
 };
+pub use json::Scratch;

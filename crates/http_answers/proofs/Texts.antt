@@ -4,6 +4,8 @@ use Rattle.serde_json.specs.Written.{compact_text}
 use Rattle.http_json.specs.Members.{last_members_text}
 use Rattle.http_json.proofs.Objects.{compact_text-object_of}
 use Rattle.desk_rules.specs.declared.rules.rate.Rate.{Rate}
+use Rattle.desk_history.specs.declared.companies.CompanyRisk.{CompanyRisk}
+use Rattle.desk_history.specs.declared.companies.DeskCompanies.{DeskCompanies}
 use Rattle.desk_history.specs.declared.operations.CutSummary.{CutSummary}
 use Rattle.desk_history.specs.declared.operations.DaySum.{DaySum}
 use Rattle.desk_history.specs.declared.operations.Intake.{Intake}
@@ -21,6 +23,7 @@ use Rattle.desk_history.specs.declared.status.DeskStatus.{DeskStatus}
 use Rattle.desk_history.specs.declared.status.DueDay.{DueDay}
 use Rattle.desk_history.specs.declared.status.Tallies.{Tallies}
 use Rattle.desk_history.specs.declared.status.Tally.{Tally}
+use Rattle.http_answers.specs.Companies.{without_day, risk_rates_body, risk_members, risk_body, companies_members, companies_body}
 use Rattle.http_answers.specs.Company.{return_members, return_body, change_members, change_body, line_members, line_body, statement_members, statement_body, rate_members, rate_body, rates_members, rates_body, exposure_members, exposure_body, report_members, report_body}
 use Rattle.http_answers.specs.Operator.{day_members, day_body, holidays_members, holidays_body, company_members, company_body, cut_members, cut_body, intake_members, intake_body, day_sum_members, day_sum_body, settlement_members, settlement_body, suspense_members, suspense_row_body}
 use Rattle.http_answers.specs.Status.{tally_members, tally_body, tallies_members, tallies_body, due_members, due_body, company_status_members, company_status_body, status_members, status_body}
@@ -112,3 +115,15 @@ company_status_text s = compact_text-object_of (company_status_members s)
 pub status_text : (s : DeskStatus) → compact_text (status_body s) ≡ 123 ∷ last_members_text false (status_members s)
 unfolding status_body
 status_text s = compact_text-object_of (status_members s)
+
+pub risk_rates_text : (r : DayRates) → compact_text (risk_rates_body r) ≡ 123 ∷ last_members_text false (without_day (rates_members r))
+unfolding risk_rates_body
+risk_rates_text r = compact_text-object_of (without_day (rates_members r))
+
+pub risk_text : (k : CompanyRisk) → compact_text (risk_body k) ≡ 123 ∷ last_members_text false (risk_members k)
+unfolding risk_body
+risk_text k = compact_text-object_of (risk_members k)
+
+pub companies_text : (all : DeskCompanies) → compact_text (companies_body all) ≡ 123 ∷ last_members_text false (companies_members all)
+unfolding companies_body
+companies_text all = compact_text-object_of (companies_members all)

@@ -9,6 +9,7 @@ use Rattle.desk_history.specs.declared.answer.Answer.TheVariants as answers
 use Rattle.desk_history.specs.declared.answer.Outcome.{Outcome}
 use Rattle.desk_history.specs.declared.answer.Outcome.TheVariants as outcomes
 use Rattle.http_answers.specs.declared.faults.MessageFault.TheVariants.{NoReference, NoFile}
+use Rattle.http_answers.specs.Companies.{companies_body}
 use Rattle.http_answers.specs.Company.{report_body, returns_body, changes_body, statement_body, rates_body, exposure_body}
 use Rattle.http_answers.specs.Faults.{message_fault_body}
 use Rattle.http_answers.specs.Operator.{day_body, holidays_body, company_body, cut_body, intake_body, settlement_body, suspense_body}
@@ -35,6 +36,7 @@ outcome_body (outcomes.File (Some text)) = text
 outcome_body (outcomes.Settlement settlement) = compact_text (settlement_body settlement)
 outcome_body (outcomes.Suspense rows) = compact_text (suspense_body rows)
 outcome_body (outcomes.Status status) = compact_text (status_body status)
+outcome_body (outcomes.Companies all) = compact_text (companies_body all)
 
 -- the bytes of the body of an answer
 abbrev pub answer_body : Answer → List ℕ

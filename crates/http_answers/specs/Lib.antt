@@ -1,5 +1,6 @@
 pub mod Lists
 pub mod Company
+pub mod Companies
 pub mod Operator
 pub mod Faults
 pub mod Refusals

@@ -9,8 +9,8 @@ use crate::company::{
 };
 use crate::faults::{MessageFault, message_fault_text};
 use crate::operator::{
-    add_settlement, add_status, add_suspense, put_company, put_cut, put_day, put_holidays,
-    put_intake,
+    add_companies, add_settlement, add_status, add_suspense, put_company, put_cut, put_day,
+    put_holidays, put_intake,
 };
 use crate::refusal::call_refusal_text;
 use desk_history::{Answer, ListOf, Outcome, Receipt, SubmissionReport};
@@ -121,6 +121,7 @@ fn add_outcome(alloc: Global, text: &mut Vec<u8>, outcome: Outcome) -> Result<()
         Outcome::Settlement(settlement) => add_settlement(text, settlement),
         Outcome::Suspense(rows) => add_suspense(text, rows),
         Outcome::Status(status) => add_status(text, status),
+        Outcome::Companies(all) => add_companies(text, all),
         _ => Ok(()),
     }
 }

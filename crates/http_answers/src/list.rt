@@ -9,7 +9,7 @@ use http_json::{put, put_comma, put_key};
 use std::alloc::AllocError;
 
 /// The room that is taken for an object of a list, or for the members around a list.
-pub(crate) const ROW_ROOM: usize = 1_024;
+pub(crate) const ROW_ROOM: usize = 2_048;
 
 /// The approximate bytes of each object in a long list.
 const ROW_LENGTH: usize = 128;
@@ -25,7 +25,7 @@ pub(crate) trait Row {
 
     /// Appends it.
     fn put(&self, text: &mut Vec<u8>)
-        requires { vec_len text.old + 1_024 ≤ vec_capacity text.old }
+        requires { vec_len text.old + 2_048 ≤ vec_capacity text.old }
         ensures { GainsValue text.old text.new (body self.now) };
 }
 

@@ -1,5 +1,6 @@
 //! The bodies of answers to the operator.
 
+mod companies;
 mod cut;
 mod intake;
 mod settings;
@@ -7,6 +8,7 @@ mod settlement;
 mod status;
 mod suspense;
 
+pub(crate) use companies::add_companies;
 pub(crate) use cut::put_cut;
 pub(crate) use intake::put_intake;
 pub(crate) use settings::{put_company, put_day, put_holidays};

@@ -9,7 +9,7 @@ use Rattle.desk_history.specs.Alone.{is_answer, file_for, with_message, IsAccept
 use Rattle.desk_history.specs.History as core_history
 use Rattle.desk_history.specs.History.{events_for, is_new, sent_entries}
 use Rattle.desk_history.specs.Message as core
-use Rattle.desk_history.specs.Message.{Message, Of, SetDay, SetHolidays, PutCompany, PutLimits, Cut, TakeFile, FileText, Settlement, Suspense, Status, is_accepted}
+use Rattle.desk_history.specs.Message.{Message, Of, SetDay, SetHolidays, PutCompany, PutLimits, Cut, TakeFile, FileText, Settlement, Suspense, Status, Companies, is_accepted}
 use Rattle.desk_history.specs.Operator.{next_pair}
 use Rattle.desk_history.specs.Part as events
 use Rattle.desk_history.specs.PartCompany.{digest, DigestOfPart}
@@ -59,6 +59,7 @@ module _ (identity : Identity) (key c : List ℕ) where
   call_calls origin Settlement (e ∷ es) A = right_pair identity key origin Settlement A
   call_calls origin Suspense (e ∷ es) A = right_pair identity key origin Suspense A
   call_calls origin Status (e ∷ es) A = right_pair identity key origin Status A
+  call_calls origin Companies (e ∷ es) A = right_pair identity key origin Companies A
 
   origin_calls : (x : Pair) (means : Option Message) (G : List core.Pair) (es : List Event) (A : List Pair)
       → core_events es ≡ call_events identity c G x means → calls_of identity A ≡ core_alone.alone identity c G
@@ -140,6 +141,7 @@ module _ (identity : Identity) (key c : List ℕ) where
   call_history origin Settlement (e ∷ es) A read is = (read, right_text identity key origin (Some Settlement) A, is)
   call_history origin Suspense (e ∷ es) A read is = (read, right_text identity key origin (Some Suspense) A, is)
   call_history origin Status (e ∷ es) A read is = (read, right_text identity key origin (Some Status) A, is)
+  call_history origin Companies (e ∷ es) A read is = (read, right_text identity key origin (Some Companies) A, is)
 
   origin_history : (origin : Origin) (means : Option Message) (es : List Event) (A : List Pair)
       → ((e : Event) (more : List Event) → es ≡ e ∷ more → IsReadAs identity key (calls_of identity A) origin means) → IsHistory identity key A

@@ -6,6 +6,7 @@
 --   own_text, two_worlds        Worlds
 --   calls_alone, served_alone   PartAlone, Alone
 --   first_calls                 Firsts
+--   companies_rows              CompanyRows
 pub mod Meanings
 pub mod Calls
 pub mod Success
@@ -16,3 +17,4 @@ pub mod Worlds
 pub mod PartAlone
 pub mod Alone
 pub mod Firsts
+pub mod CompanyRows

@@ -16,7 +16,7 @@ use Rattle.desk_history.specs.Calls.{IsMessageOf}
 use Rattle.desk_history.specs.History as core_history
 use Rattle.desk_history.specs.History.{events_for, is_new, request_event, sent_entries}
 use Rattle.desk_history.specs.Message as core
-use Rattle.desk_history.specs.Message.{Message, Of, SetDay, SetHolidays, PutCompany, PutLimits, Cut, TakeFile, FileText, Settlement, Suspense, Status, is_accepted}
+use Rattle.desk_history.specs.Message.{Message, Of, SetDay, SetHolidays, PutCompany, PutLimits, Cut, TakeFile, FileText, Settlement, Suspense, Status, Companies, is_accepted}
 use Rattle.desk_history.specs.Operator.{answer_to}
 use Rattle.desk_history.specs.Part as events
 use Rattle.desk_history.specs.Part.{is_registered}
@@ -145,6 +145,7 @@ route_command operator_routes.Cut r m is = subst IsCommand (sym is) tt
 route_command operator_routes.Settlement r m is = subst IsCommand (sym is) tt
 route_command operator_routes.Suspense r m is = subst IsCommand (sym is) tt
 route_command operator_routes.Status r m is = subst IsCommand (sym is) tt
+route_command operator_routes.Companies r m is = subst IsCommand (sym is) tt
 route_command operator_routes.FileText r m is = file_command (day_of (piece_of 3 (request_path r))) (piece_of 4 (request_path r)) m is
 route_command operator_routes.TakeFile r (Of k q) is = absurd is
 route_command operator_routes.TakeFile r m is = tt
@@ -167,6 +168,7 @@ plain_command (FileText d modifier) command = refl
 plain_command Settlement command = refl
 plain_command Suspense command = refl
 plain_command Status command = refl
+plain_command Companies command = refl
 
 pub command_meaning : (version : Version) (b : Bool) (route : OperatorRoute) (r : RequestValue) (means : Option Message)
     → MeansAt version (if b then operator_call route r else Err Denied) means → Means (if b then operator_call route r else Err Denied) means
@@ -186,6 +188,7 @@ command_events identity c G ok (FileText d modifier) P command = refl
 command_events identity c G ok Settlement P command = refl
 command_events identity c G ok Suspense P command = refl
 command_events identity c G ok Status P command = refl
+command_events identity c G ok Companies P command = refl
 
 pub none_of_file : (odfi : List ℕ) (es : List SentEntry) (c : List ℕ) (ok : Bool) (d modifier : ℕ) (P : List events.Event) → events_for odfi es true c ok (FileText d modifier) P ≡ []
 none_of_file odfi es c true d modifier P = refl
@@ -227,6 +230,7 @@ module _ (identity : Identity) (key c : List ℕ) (G : List core.Pair)
   by_command x Settlement command alike = sure_command x Settlement tt tt alike
   by_command x Suspense command alike = sure_command x Suspense tt tt alike
   by_command x Status command alike = sure_command x Status tt tt alike
+  by_command x Companies command alike = sure_command x Companies tt tt alike
 
   by_operator : (x : Pair) (means : Option Message) (b : Bool) (route : OperatorRoute) (r : RequestValue)
       → Means (if b then operator_call route r else Err Denied) means → IsAlike x means

@@ -7,3 +7,4 @@ pub mod Part
 pub mod Reply
 pub mod Alone
 pub mod Laws
+pub mod CompanyRows

@@ -123,6 +123,7 @@ operator_call operator_routes.TakeFile r = Ok (calls.TakeFile r.body)
 operator_call operator_routes.FileText r = file_text (day_of (piece_of 3 (request_path r))) (piece_of 4 (request_path r))
 operator_call operator_routes.Settlement r = Ok calls.Settlement
 operator_call operator_routes.Status r = Ok calls.Status
+operator_call operator_routes.Companies r = Ok calls.Companies
 operator_call operator_routes.Suspense r = Ok calls.SuspenseItems
 
 -- without the operator's key it is denied

@@ -1,4 +1,5 @@
 //! The laws of all histories over bytes.
+ghost use Rattle.http_history.specs.CompanyRows.{CompaniesRows};
 ghost use Rattle.http_history.specs.Laws.{OneMeaning, NoneUnavailable, CallsAreHistory, SamePart, OwnText, TwoWorlds, CallsAlone, ServedAlone, FirstCalls};
 
 /// What a message comes to means one thing, and no other.
@@ -38,6 +39,16 @@ pub fn two_worlds()
     ensures { TwoWorlds }
 {
     desk_history::digest_of_part();
+}
+
+/// The operator's read of all companies is answered 200 with one row for each registered company. A
+/// row has what the company's own reads of its exposure and of its return rates are answered, on the
+/// routes of the company under its right key. Before the first day the read is refused.
+pub fn companies_rows()
+    ensures { CompaniesRows }
+{
+    desk_history::digest_of_part();
+    desk_history::companies_rows();
 }
 
 /// The calls of the history of a desk that serves a company alone are those that `desk_history` tells such

@@ -9,6 +9,6 @@
 mod laws;
 
 pub use laws::{
-    calls_alone, calls_are_history, first_calls, none_unavailable, one_meaning, own_text,
-    same_part, served_alone, two_worlds,
+    calls_alone, calls_are_history, companies_rows, first_calls, none_unavailable, one_meaning,
+    own_text, same_part, served_alone, two_worlds,
 };

@@ -1,16 +1,16 @@
 //! The calls that the JSON objects of bodies make.
 ghost use Rattle.std.specs.Prelude.{◌≡◌, IfOk};
-ghost use Rattle.serde_json.specs.View.{view};
+ghost use Rattle.http_json.specs.View.{view};
 ghost use Rattle.http_history.specs.Verdict.{submission_in, retry_in, company_verdict, company_with_digest, day_in, company_in, limits_in};
 
 use ach_fields::Id;
 use desk_history::Call;
-use desk_rules::CompanyDraft;
+use desk_rules::{CompanyDraft, Field};
 use http_answers::MessageFault;
 use http_json::{
-    company_draft, day_draft, limits_draft, read_object, retry_draft, submission_draft,
+    company_draft, day_draft, limits_draft, read_object, retry_draft, submission_draft, text_of,
 };
-use serde_json::Value;
+use json::{Scratch, Value};
 use sha2::{Digest, Sha256};
 use std::alloc::{AllocError, Global};
 
@@ -21,7 +21,8 @@ pub(crate) fn submission_call(
 ) -> Result<Result<Call, MessageFault>, AllocError>
     ensures { IfOk result (λ v. v ≡ company_verdict id (submission_in body.now)) }
 {
-    match read_object(alloc, body)? {
+    let mut scratch = Scratch::new(alloc);
+    match read_object(alloc, body, &mut scratch)? {
         Some(object) => Ok(Ok(Call::Submit(id, submission_draft(alloc, &object)?))),
         None => Ok(Err(MessageFault::BadJson)),
     }
@@ -34,7 +35,8 @@ pub(crate) fn retry_call(
 ) -> Result<Result<Call, MessageFault>, AllocError>
     ensures { IfOk result (λ v. v ≡ company_verdict id (retry_in body.now)) }
 {
-    match read_object(alloc, body)? {
+    let mut scratch = Scratch::new(alloc);
+    match read_object(alloc, body, &mut scratch)? {
         Some(object) => Ok(Ok(Call::Retry(id, retry_draft(alloc, &object)?))),
         None => Ok(Err(MessageFault::BadJson)),
     }
@@ -43,7 +45,8 @@ pub(crate) fn retry_call(
 pub(crate) fn day_call(alloc: Global, body: &[u8]) -> Result<Result<Call, MessageFault>, AllocError>
     ensures { IfOk result (λ v. v ≡ day_in body.now) }
 {
-    match read_object(alloc, body)? {
+    let mut scratch = Scratch::new(alloc);
+    match read_object(alloc, body, &mut scratch)? {
         Some(object) => Ok(Ok(Call::SetDay(day_draft(alloc, &object)?))),
         None => Ok(Err(MessageFault::BadJson)),
     }
@@ -55,17 +58,18 @@ pub(crate) fn company_call(
 ) -> Result<Result<Call, MessageFault>, AllocError>
     ensures { IfOk result (λ v. v ≡ company_in body.now) }
 {
-    match read_object(alloc, body)? {
+    let mut scratch = Scratch::new(alloc);
+    match read_object(alloc, body, &mut scratch)? {
         Some(object) => Ok(Ok(Call::PutCompany(draft_with_digest(alloc, &object)?))),
         None => Ok(Err(MessageFault::BadJson)),
     }
 }
 
 // The company that an object is, with the digest of its key; of no bytes where it has none.
-fn draft_with_digest(alloc: Global, object: &Value) -> Result<CompanyDraft, AllocError>
+fn draft_with_digest(alloc: Global, object: &Value<'_>) -> Result<CompanyDraft, AllocError>
     ensures { IfOk result (λ draft. draft ≡ company_with_digest (view object.now)) }
 {
-    let digest = match object.get("key").and_then(Value::as_str) {
+    let digest = match text_of(object, Field::Key) {
         Some(key) => Sha256::digest(key.as_bytes()),
         None => Sha256::digest(b""),
     };
@@ -78,7 +82,8 @@ pub(crate) fn limits_call(
 ) -> Result<Result<Call, MessageFault>, AllocError>
     ensures { IfOk result (λ v. v ≡ limits_in body.now) }
 {
-    match read_object(alloc, body)? {
+    let mut scratch = Scratch::new(alloc);
+    match read_object(alloc, body, &mut scratch)? {
         Some(object) => Ok(Ok(Call::PutLimits(limits_draft(alloc, &object)?))),
         None => Ok(Err(MessageFault::BadJson)),
     }

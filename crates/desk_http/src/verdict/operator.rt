@@ -60,6 +60,7 @@ fn route_call(
         OperatorRoute::FileText => Ok(file_call(path_of(request.target))),
         OperatorRoute::Settlement => Ok(Ok(Call::Settlement)),
         OperatorRoute::Status => Ok(Ok(Call::Status)),
+        OperatorRoute::Companies => Ok(Ok(Call::Companies)),
         OperatorRoute::Suspense => Ok(Ok(Call::SuspenseItems)),
     }
 }

@@ -23,9 +23,9 @@ pub(crate) fn add_rates(text: &mut Vec<u8>, rates: &DayRates) -> Result<(), Allo
     Ok(())
 }
 
-// A member whose value is a rate.
+/// Writes a member whose value is a rate.
 #[tactic(auto, unfolding(http_json::specs::Members::member_text))]
-fn put_rate(text: &mut Vec<u8>, later: bool, key: &[u8], rate: &Rate)
+pub(crate) fn put_rate(text: &mut Vec<u8>, later: bool, key: &[u8], rate: &Rate)
     requires { vec_len text.old + (6 * length key.now + 104) ≤ vec_capacity text.old }
     ensures items { GainsMember text.old text.new later key.now (rate_body rate.now) }
     ensures len { vec_len text.new ≤ vec_len text.old + (6 * length key.now + 104) }
