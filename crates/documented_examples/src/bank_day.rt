@@ -4,7 +4,7 @@ use cli_commands::answer_messages;
 use std::{fs, io};
 
 /// The files of messages, in the order in which they are sent.
-const FILES: [&str; 16] = [
+const FILES: [&str; 17] = [
     "01_holidays",
     "02_company",
     "03_day",
@@ -21,6 +21,7 @@ const FILES: [&str; 16] = [
     "14_statement",
     "15_settlement",
     "16_status",
+    "17_companies",
 ];
 
 /// Prints how many messages are answered as they have to be, or the answers if they differ.

@@ -9,7 +9,7 @@ use desk_rules::{
 use http_json::{
     company_draft, day_draft, fault_text, limits_draft, read_object, refusal_text, retry_draft,
 };
-use serde_json::Value;
+use json::{Scratch, Value};
 use std::alloc::{AllocError, Global};
 
 /// The digest that a company's key is given: the fields do not depend on it.
@@ -75,7 +75,8 @@ fn holidays_answer(alloc: Global, list: &str) -> Result<Vec<u8>, AllocError> {
 }
 
 fn object_answer(alloc: Global, words: &str, body: &str) -> Result<Vec<u8>, AllocError> {
-    let Some(value) = read_object(alloc, body.as_bytes())? else {
+    let mut scratch = Scratch::new(alloc);
+    let Some(value) = read_object(alloc, body.as_bytes(), &mut scratch)? else {
         return fault_text(alloc, "BadJson");
     };
     match refusal_of(alloc, words, &value)? {
@@ -85,7 +86,11 @@ fn object_answer(alloc: Global, words: &str, body: &str) -> Result<Vec<u8>, Allo
 }
 
 // Why the body of an object is refused, if it is.
-fn refusal_of(alloc: Global, words: &str, value: &Value) -> Result<Option<Refusal>, AllocError> {
+fn refusal_of(
+    alloc: Global,
+    words: &str,
+    value: &Value<'_>,
+) -> Result<Option<Refusal>, AllocError> {
     match words {
         "json retry" => retry_refusal(alloc, value),
         "json day" => Ok(check_day_field(&day_draft(alloc, value)?).err()),
@@ -95,7 +100,7 @@ fn refusal_of(alloc: Global, words: &str, value: &Value) -> Result<Option<Refusa
 }
 
 // A `match` in the place of `err`, which the gate's prover does not follow over a retry.
-fn retry_refusal(alloc: Global, value: &Value) -> Result<Option<Refusal>, AllocError> {
+fn retry_refusal(alloc: Global, value: &Value<'_>) -> Result<Option<Refusal>, AllocError> {
     match check_retry_fields(&retry_draft(alloc, value)?) {
         Ok(_) => Ok(None),
         Err(refusal) => Ok(Some(refusal)),

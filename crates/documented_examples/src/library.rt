@@ -2,7 +2,7 @@
 use ach_fields::{FieldFault, Id, Routing};
 use desk_core::{Answer, Call, Desk, Identity, ListStore, Outcome, PartyName, StoreFault};
 use http_json::{company_draft, day_draft, read_object, submission_draft};
-use serde_json::Value;
+use json::{Scratch, Value};
 use std::alloc::{AllocError, Global};
 use std::io;
 
@@ -15,12 +15,20 @@ const COMPANY: &[u8] =
 
 const DAY: &[u8] = b"{\"day\":\"2025-01-08\"}";
 
-/// What the desk is asked: JSON objects.
+/// What the desk is asked: JSON objects, which borrow their texts.
 #[derive(Drop)]
-struct Bodies {
-    company: Value,
-    day: Value,
-    pay: Value,
+struct Bodies<'a> {
+    company: Value<'a>,
+    day: Value<'a>,
+    pay: Value<'a>,
+}
+
+/// The memory for the texts of three bodies that have escapes.
+#[derive(Drop)]
+struct Scratches {
+    company: Scratch,
+    day: Scratch,
+    pay: Scratch,
 }
 
 /// Prints what the cut sent that comes after the pay run with this body.
@@ -28,7 +36,12 @@ pub(crate) fn show(rt: &HostRuntime, pay: &[u8]) -> io::Result<()> {
     let (Ok(identity), Ok(mill)) = (sample_identity(), Id::new(b"MILL01")) else {
         return println!(rt; "the sample has no identity");
     };
-    let Some(bodies) = bodies_with(rt.alloc(), pay)? else {
+    let mut scratches = Scratches {
+        company: Scratch::new(rt.alloc()),
+        day: Scratch::new(rt.alloc()),
+        pay: Scratch::new(rt.alloc()),
+    };
+    let Some(bodies) = bodies_with(rt.alloc(), pay, &mut scratches)? else {
         return println!(rt; "a body is no object");
     };
     match send_pay_run(rt.alloc(), identity, mill, &bodies) {
@@ -38,10 +51,14 @@ pub(crate) fn show(rt: &HostRuntime, pay: &[u8]) -> io::Result<()> {
     }
 }
 
-fn bodies_with(alloc: Global, pay: &[u8]) -> Result<Option<Bodies>, AllocError> {
-    let company = read_object(alloc, COMPANY)?;
-    let day = read_object(alloc, DAY)?;
-    let pay = read_object(alloc, pay)?;
+fn bodies_with<'a>(
+    alloc: Global,
+    pay: &'a [u8],
+    scratches: &'a mut Scratches,
+) -> Result<Option<Bodies<'a>>, AllocError> {
+    let company = read_object(alloc, COMPANY, &mut scratches.company)?;
+    let day = read_object(alloc, DAY, &mut scratches.day)?;
+    let pay = read_object(alloc, pay, &mut scratches.pay)?;
     match (company, day, pay) {
         (Some(company), Some(day), Some(pay)) => Ok(Some(Bodies { company, day, pay })),
         _ => Ok(None),
@@ -62,7 +79,7 @@ fn send_pay_run(
     alloc: Global,
     identity: Identity,
     mill: Id,
-    bodies: &Bodies,
+    bodies: &Bodies<'_>,
 ) -> Result<Answer, StoreFault> {
     let store = ListStore::new(alloc, identity, OPERATOR_DIGEST);
     let mut desk = Desk::new(store);

@@ -1,19 +1,16 @@
 //! The tests of everything that needs no file: of a desk, of its parts, and of its messages.
 //!
-//! Its parts: fields, records and files of the ACH format (`formats`); days (`days`), the numbers
-//! of a cut (`numbers`), postings (`accounts`), the rules (`rules`), plans of cuts (`cut`) and of
-//! incoming files (`intake`), and the stores in memory (`lists`).
+//! Its parts: postings (`accounts`), the rules (`rules`), plans of cuts (`cut`) and of incoming files
+//! (`intake`), and the stores in memory (`lists`).
 //!
 //! Calls: days of calls with their expected answers, over each store (`calls`).
 //!
-//! Messages: JSON bodies that are read and written (`json`, `members`); known bodies of answers,
-//! byte by byte, with their statuses (`bodies`); lists of entries as companies write them, each
-//! with the expected message or fault (`submit`); bytes of readers with the bytes that a session
-//! must write for them (`sessions`); and the same with a desk that answers (`desks`).
+//! Messages: JSON bodies that are read and written (`json_bodies`, `members`); known bodies of answers, byte by byte,
+//! with their statuses (`bodies`); lists of entries as companies write them, each with the expected message or
+//! fault (`submit`); bytes of readers with the bytes that a session must write for them (`sessions`); and the
+//! same with a desk that answers (`desks`).
 //!
-//! The tests have a crate of their own so that none of the tested crates is proved a second time
-//! with them, and one crate, because such a program takes long to load and to build, whatever it
-//! tests.
+//! The tests are a crate of their own so that none of the tested crates is proved a second time with them.
 #![tactic(auto)]
 
 #[cfg(test)]
@@ -25,21 +22,15 @@ mod calls;
 #[cfg(test)]
 mod cut;
 #[cfg(test)]
-mod days;
-#[cfg(test)]
 mod desks;
-#[cfg(test)]
-mod formats;
 #[cfg(test)]
 mod intake;
 #[cfg(test)]
-mod json;
+mod json_bodies;
 #[cfg(test)]
 mod lists;
 #[cfg(test)]
 mod members;
-#[cfg(test)]
-mod numbers;
 #[cfg(test)]
 mod rules;
 #[cfg(test)]

@@ -2,9 +2,10 @@
 use super::{cents, day, list, says};
 use ach_fields::{Id, ShortText};
 use desk_history::{
-    CompanyStatus, DaySum, DeskStatus, DueDay, ListOf, Outcome, Settlement, SuspenseReason,
-    SuspenseRow, Tallies, Tally,
+    CompanyRisk, CompanyStatus, DayRates, DaySum, DeskCompanies, DeskStatus, DueDay, Exposure,
+    ListOf, Outcome, Settlement, SuspenseReason, SuspenseRow, Tallies, Tally,
 };
+use desk_rules::{Limits, Rate, Rates};
 use std::alloc::Global;
 use std::process::Abort;
 
@@ -121,4 +122,98 @@ fn how_a_new_desk_stands(rt: HostRuntime) {
     let body =
         b">{\"companies\":[],\"day\":null,\"files\":[],\"holidays\":0,\"sent\":0,\"suspense\":0}";
     says(&rt, Outcome::Status(status), body);
+}
+
+const NONE: Rate = Rate {
+    n: 0,
+    d: 0,
+    over: false,
+};
+
+/// A company of which each value is another.
+fn lake(rt: &impl Abort) -> CompanyRisk {
+    let today = day(rt, b"2025-01-14");
+    CompanyRisk {
+        exposure: Exposure {
+            credit: u128::MAX,
+            debit: 2,
+            day: today,
+            limits: Limits {
+                entry: 9_999_999_999,
+                credit: 3,
+                debit: 999_999_999_999_999,
+            },
+        },
+        id: Id::new(b"LAKE07").expect(rt, "LAKE07"),
+        name: ShortText::new(b"LAKE \"7\"").expect(rt, "LAKE"),
+        rates: DayRates {
+            day: today,
+            rates: Rates {
+                unauthorized: Rate {
+                    n: 2,
+                    d: 399,
+                    over: true,
+                },
+                administrative: Rate {
+                    n: 4,
+                    d: 398,
+                    over: false,
+                },
+                overall: Rate {
+                    n: u64::MAX,
+                    d: 397,
+                    over: true,
+                },
+            },
+        },
+    }
+}
+
+/// A company with nothing.
+fn acre(rt: &impl Abort) -> CompanyRisk {
+    let today = day(rt, b"2025-01-14");
+    CompanyRisk {
+        exposure: Exposure {
+            credit: 0,
+            debit: 0,
+            day: today,
+            limits: Limits {
+                entry: 0,
+                credit: 0,
+                debit: 0,
+            },
+        },
+        id: Id::new(b"A").expect(rt, "A"),
+        name: ShortText::new(b"ACRE").expect(rt, "ACRE"),
+        rates: DayRates {
+            day: today,
+            rates: Rates {
+                unauthorized: NONE,
+                administrative: NONE,
+                overall: NONE,
+            },
+        },
+    }
+}
+
+// The exposures are texts, and the limits numbers. A quote in a name is written as \".
+#[test]
+fn all_companies(rt: HostRuntime) {
+    let all = DeskCompanies {
+        companies: list(&rt, &[acre(&rt), lake(&rt)]),
+        day: day(&rt, b"2025-01-14"),
+    };
+    let body =
+        b">{\"companies\":[{\"credit\":\"0\",\"credit_limit\":0,\"debit\":\"0\",\"debit_limit\":0,\"entry_limit\":0,\"id\":\"A\",\"name\":\"ACRE\",\"rates\":{\"administrative\":{\"d\":0,\"n\":0,\"over\":false},\"overall\":{\"d\":0,\"n\":0,\"over\":false},\"unauthorized\":{\"d\":0,\"n\":0,\"over\":false}}},{\"credit\":\"340282366920938463463374607431768211455\",\"credit_limit\":3,\"debit\":\"2\",\"debit_limit\":999999999999999,\"entry_limit\":9999999999,\"id\":\"LAKE07\",\"name\":\"LAKE \\\"7\\\"\",\"rates\":{\"administrative\":{\"d\":398,\"n\":4,\"over\":false},\"overall\":{\"d\":397,\"n\":18446744073709551615,\"over\":true},\"unauthorized\":{\"d\":399,\"n\":2,\"over\":true}}}],\"day\":\"2025-01-14\"}";
+    says(&rt, Outcome::Companies(all), body);
+}
+
+#[test]
+fn no_companies(rt: HostRuntime) {
+    let all = DeskCompanies {
+        companies: list(&rt, &[]),
+        day: day(&rt, b"2000-01-01"),
+    };
+    let body = b">{\"companies\":[],\"day\":\"2000-01-01\"}";
+    says(&rt, Outcome::Companies(all), body);
 }

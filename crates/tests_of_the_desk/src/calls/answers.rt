@@ -2,9 +2,9 @@
 use ach_fields::Ref;
 use bank_days::Day;
 use desk_core::{
-    Answer, CallRefusal, ChangeRow, CompanyStatus, CutSummary, DayRates, DeskStatus, Exposure,
-    Intake, ListOf, Outcome, Receipt, ReturnRow, Settlement, Statement, SubmissionReport,
-    SuspenseRow, Tallies, Tally,
+    Answer, CallRefusal, ChangeRow, CompanyRisk, CompanyStatus, CutSummary, DayRates,
+    DeskCompanies, DeskStatus, Exposure, Intake, ListOf, Outcome, Receipt, ReturnRow, Settlement,
+    Statement, SubmissionReport, SuspenseRow, Tallies, Tally,
 };
 use desk_rules::{EntryState, Rate};
 use std::alloc::Global;
@@ -216,6 +216,25 @@ fn status(rt: &impl Abort, out: &mut String, s: &DeskStatus) {
     }
 }
 
+fn company_risk(rt: &impl Abort, out: &mut String, risk: &CompanyRisk) {
+    put(rt, out, "; ");
+    put_bytes(rt, out, risk.id.bytes());
+    put(rt, out, " ");
+    put_bytes(rt, out, risk.name.bytes());
+    put_number(rt, out, ", entry ", &risk.exposure.limits.entry);
+    put(rt, out, ", ");
+    exposure(rt, out, &risk.exposure);
+    put(rt, out, ", ");
+    rates(rt, out, &risk.rates);
+}
+
+fn companies(rt: &impl Abort, out: &mut String, all: &DeskCompanies) {
+    put_day(rt, out, all.day);
+    for risk in all.companies.as_slice() {
+        company_risk(rt, out, risk);
+    }
+}
+
 fn company_done(rt: &impl Abort, out: &mut String, done: &Outcome) {
     match done {
         Outcome::Submitted(made) => receipt(rt, out, made),
@@ -240,6 +259,7 @@ fn operator_done(rt: &impl Abort, out: &mut String, done: &Outcome) {
         Outcome::Settlement(made) => settlement(rt, out, made),
         Outcome::Suspense(rows) => suspense(rt, out, rows),
         Outcome::Status(made) => status(rt, out, made),
+        Outcome::Companies(made) => companies(rt, out, made),
         _ => put(rt, out, "none"),
     }
 }

@@ -189,6 +189,7 @@ fn operator_call(rt: &(impl Abort + Alloc<A = Global>), line: &str) -> Call {
         "file" => file(rt, line),
         "settlement" => Call::Settlement,
         "status" => Call::Status,
+        "companies" => Call::Companies,
         _ => Call::SuspenseItems,
     }
 }

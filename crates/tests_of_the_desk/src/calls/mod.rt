@@ -1,5 +1,6 @@
 //! Worked scripts are calls with their answers, over tables and over lists in memory, and with each
 //! call of the store refused in turn; and over the same where they remember.
+mod all_companies;
 mod answers;
 mod calls;
 mod companies;

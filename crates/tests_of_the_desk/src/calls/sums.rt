@@ -1,7 +1,14 @@
 //! This script asks for exposures and return rates before and after all that may change them.
 use super::script::{
     BAKE, CUT_9, DAY, HOLIDAYS, MILL, NINTH, PAY_1, PAY_2_SECOND, Script, holds, holds_remembering,
+    new_lists,
 };
+use ach_fields::Id;
+use bank_days::Day;
+use desk_core::{FaultyStore, Store};
+use open_sums::Remembering;
+use std::alloc::Global;
+use std::process::Abort;
 
 const NOTHING: &str = "credit 0 of 999999999999999, debit 0 of 999999999999999";
 
@@ -76,4 +83,83 @@ const DAYS: Script = &[
 fn sums_follow_what_happens(rt: HostRuntime) {
     holds(&rt, DAYS);
     holds_remembering(&rt, DAYS);
+}
+
+// Reports whether a company's exposures on a day are answered.
+fn is_answered(
+    rt: &(impl Abort + Alloc<A = Global>),
+    store: &mut Remembering<FaultyStore>,
+    day: &str,
+) -> bool {
+    let company = Id::new(b"MILL01").ok().expect(rt, "a company");
+    let today = Day::read(day.as_bytes()).expect(rt, "a day");
+    store.exposures(rt.alloc(), company, today).is_ok()
+}
+
+// The call of the inner store that is refused, and three days, of which each is answered or not. A
+// question reads the holidays. The first one also reads the open submissions from 2025-01-06 on. They
+// are read again when the first open day is after 2025-02-05.
+const QUESTIONS: &[(u64, [(&str, bool); 3])] = &[
+    (
+        1,
+        [
+            ("2025-01-08", false),
+            ("2025-01-08", true),
+            ("2025-01-08", true),
+        ],
+    ),
+    (
+        2,
+        [
+            ("2025-01-08", true),
+            ("2025-01-08", true),
+            ("2025-01-08", true),
+        ],
+    ),
+    (
+        3,
+        [
+            ("2025-01-08", true),
+            ("2025-01-08", false),
+            ("2025-01-08", true),
+        ],
+    ),
+    (
+        4,
+        [
+            ("2025-01-08", true),
+            ("2025-01-09", true),
+            ("2025-01-10", false),
+        ],
+    ),
+    (
+        4,
+        [
+            ("2025-01-08", true),
+            ("2025-02-07", true),
+            ("2025-02-07", false),
+        ],
+    ),
+    (
+        4,
+        [
+            ("2025-01-08", true),
+            ("2025-02-10", true),
+            ("2025-02-10", true),
+        ],
+    ),
+];
+
+#[test]
+fn open_submissions_are_read_once(rt: HostRuntime) {
+    for (refused, days) in QUESTIONS {
+        let lists = FaultyStore::new(new_lists(&rt), *refused);
+        let mut store = Remembering::new(rt.alloc(), lists);
+        for (day, answered) in days {
+            assert!(&rt;
+                is_answered(&rt, &mut store, day) == *answered,
+                "{refused} {day}"
+            );
+        }
+    }
 }

@@ -174,6 +174,11 @@ const HEADS: &[(&str, &[u8], &[u8])] = &[
         b"HTTP/1.1 403 Forbidden\r\nContent-Type: application/json\r\nContent-Length: 18\r\nConnection: close\r\n\r\n{\"error\":\"Denied\"}",
     ),
     (
+        "no key for what the operator alone reads",
+        b"GET /ops/companies HTTP/1.1\r\nConnection: close\r\n\r\n",
+        b"HTTP/1.1 403 Forbidden\r\nContent-Type: application/json\r\nContent-Length: 18\r\nConnection: close\r\n\r\n{\"error\":\"Denied\"}",
+    ),
+    (
         "the first of two keys, whose name has no case",
         b"GET /ops/suspense?all HTTP/1.0\r\nx-desk-KEY:  operator-key \r\nX-Desk-Key: other-key\r\n\r\n",
         b"HTTP/1.1 200 OK\r\nContent-Type: application/json\r\nContent-Length: 12\r\nConnection: close\r\n\r\n{\"items\":[]}",

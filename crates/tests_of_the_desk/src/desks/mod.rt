@@ -1,5 +1,6 @@
 //! Worked sessions with a desk: messages with the bytes that must answer them, over lists, over tables,
 //! and with each call of the store refused.
+mod all_companies;
 mod companies;
 mod connections;
 mod cut_answers;

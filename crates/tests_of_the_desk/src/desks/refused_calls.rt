@@ -47,8 +47,8 @@ fn a_message_that_was_refused_may_come_again(rt: HostRuntime) {
     for call in 1..MOST_CALLS {
         let refused = refused_messages(&rt, call);
         if refused == 0 {
-            // Each of the 13 messages asks the store for a key at least.
-            assert!(rt; call > 13);
+            // Each of the 14 messages asks the store for a key at least.
+            assert!(rt; call > 14);
             return;
         }
         assert!(rt; refused == 1);

@@ -5,7 +5,7 @@ use super::samples::{
 };
 
 /// The return of the second entry that the desk sent.
-const RETURN_2: &str = concat!(
+pub(super) const RETURN_2: &str = concat!(
     "101 121042882 0610001462501140930A094101OUR BANK               ACH OPERATOR                   \n",
     "5225MILL STREET                         MILL01    PPDDUES            2501140141091000010000001\n",
     "626121042882123456789        0000002500E2             BOB RAY                 1091000010000007\n",
@@ -66,6 +66,12 @@ pub(super) const DAYS: &[Exchange] = &[
         "",
         "200 OK",
         r#"{"balance":"150000","day":"2025-01-14","days":[{"cents":"147500","day":"2025-01-10"},{"cents":"2500","day":"2025-01-14"}]}"#,
+    ),
+    (
+        "desk GET /ops/companies",
+        "",
+        "200 OK",
+        r#"{"companies":[{"credit":"0","credit_limit":999999999999999,"debit":"0","debit_limit":999999999999999,"entry_limit":9999999999,"id":"MILL01","name":"MILL STREET","rates":{"administrative":{"d":1,"n":0,"over":false},"overall":{"d":1,"n":1,"over":true},"unauthorized":{"d":1,"n":0,"over":false}}}],"day":"2025-01-14"}"#,
     ),
 ];
 

@@ -8,6 +8,7 @@ use http_json::{
     company_draft, day_draft, fault_text, limits_draft, put_acceptance, read_object, refusal_text,
     retry_draft, submission_draft,
 };
+use json::Scratch;
 use std::alloc::Global;
 use std::process::Abort;
 
@@ -53,27 +54,32 @@ fn acceptances_are_written_after_what_stands(rt: HostRuntime) {
 }
 
 fn day_in(rt: &(impl Abort + Alloc<A = Global>), body: &[u8]) -> Option<DraftText> {
-    let body = read_object(rt.alloc(), body).expect(rt, "memory");
+    let mut scratch = Scratch::new(rt.alloc());
+    let body = read_object(rt.alloc(), body, &mut scratch).expect(rt, "memory");
     day_draft(rt.alloc(), &body.expect(rt, "an object")).expect(rt, "memory")
 }
 
 fn retry_in(rt: &(impl Abort + Alloc<A = Global>), body: &[u8]) -> RetryDraft {
-    let body = read_object(rt.alloc(), body).expect(rt, "memory");
+    let mut scratch = Scratch::new(rt.alloc());
+    let body = read_object(rt.alloc(), body, &mut scratch).expect(rt, "memory");
     retry_draft(rt.alloc(), &body.expect(rt, "an object")).expect(rt, "memory")
 }
 
 fn limits_in(rt: &(impl Abort + Alloc<A = Global>), body: &[u8]) -> LimitsDraft {
-    let body = read_object(rt.alloc(), body).expect(rt, "memory");
+    let mut scratch = Scratch::new(rt.alloc());
+    let body = read_object(rt.alloc(), body, &mut scratch).expect(rt, "memory");
     limits_draft(rt.alloc(), &body.expect(rt, "an object")).expect(rt, "memory")
 }
 
 fn company_in(rt: &(impl Abort + Alloc<A = Global>), body: &[u8]) -> CompanyDraft {
-    let body = read_object(rt.alloc(), body).expect(rt, "memory");
+    let mut scratch = Scratch::new(rt.alloc());
+    let body = read_object(rt.alloc(), body, &mut scratch).expect(rt, "memory");
     company_draft(rt.alloc(), &body.expect(rt, "an object"), [7; 32]).expect(rt, "memory")
 }
 
 fn submission_in(rt: &(impl Abort + Alloc<A = Global>), body: &[u8]) -> Draft {
-    let body = read_object(rt.alloc(), body).expect(rt, "memory");
+    let mut scratch = Scratch::new(rt.alloc());
+    let body = read_object(rt.alloc(), body, &mut scratch).expect(rt, "memory");
     submission_draft(rt.alloc(), &body.expect(rt, "an object")).expect(rt, "memory")
 }
 
@@ -127,6 +133,7 @@ fn optional_keys(rt: HostRuntime) {
     assert!(rt; matches!(&wrong, Optional::Wrong));
     let absent = retry_in(&rt, b"{}").authorized;
     assert!(rt; matches!(&absent, Optional::Absent));
-    let list = read_object(rt.alloc(), b"[]").expect(&rt, "memory");
+    let mut scratch = Scratch::new(rt.alloc());
+    let list = read_object(rt.alloc(), b"[]", &mut scratch).expect(&rt, "memory");
     assert!(rt; list.is_none());
 }

@@ -2,7 +2,7 @@
 ghost use Rattle.std.specs.Prelude.{⊤};
 ghost use Rattle.sql_statements.specs.Edits.{no_edit};
 ghost use Rattle.sql_statements.specs.Promises.{Runs};
-ghost use Rattle.tests_of_the_program.specs.Untold.{untold};
+ghost use Rattle.tests_of_the_tables.specs.Untold.{untold};
 
 use sql_statements::{
     RowBody, TransactionBody, execute, execute_one, number, query_first_inside, query_inside,
