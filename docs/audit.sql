@@ -206,6 +206,18 @@ SELECT c.id AS company, c.name, coalesce(k.debits, 0) AS debits,
        coalesce(k.overall, 0) AS overall, coalesce(k.overall * 100 > k.debits * 15, 0) AS overall_over
 FROM companies c LEFT JOIN counts k ON k.company = c.id ORDER BY c.id;
 
+-- Each company's limits, exposures and return rates on the desk day, as GET /ops/companies has them.
+CREATE TEMP VIEW audit_risks AS
+SELECT c.id AS company, c.name, c.entry_limit AS entry_limit_cents, k.entry_limit,
+       e.credit_cents, e.credit, c.credit_limit AS credit_limit_cents, e.credit_limit,
+       e.debit_cents, e.debit, c.debit_limit AS debit_limit_cents, e.debit_limit,
+       r.debits, r.unauthorized, r.unauthorized_over, r.administrative, r.administrative_over, r.overall, r.overall_over
+FROM companies c
+JOIN audit_companies k ON k.company = c.id
+JOIN audit_exposures e ON e.company = c.id
+JOIN audit_rates r ON r.company = c.id
+ORDER BY c.id;
+
 -- ---- accounts
 
 -- Each line of each account, in the order in which they were posted. It counts from its day on.

@@ -139,6 +139,10 @@ step "Its return rates: one of one debit came back, which is over Nacha's overal
     "$(mill "$desk/c/MILL01/rates")" \
     '{"administrative":{"d":1,"n":0,"over":false},"day":"2025-01-14","overall":{"d":1,"n":1,"over":true},"unauthorized":{"d":1,"n":0,"over":false}}'
 
+step "The bank sees the limits, exposures and return rates of all companies:" \
+    "$(operator "$desk/ops/companies")" \
+    '{"companies":[{"credit":"0","credit_limit":20000000,"debit":"0","debit_limit":5000000,"entry_limit":9999999999,"id":"MILL01","name":"MILL STREET","rates":{"administrative":{"d":1,"n":0,"over":false},"overall":{"d":1,"n":1,"over":true},"unauthorized":{"d":1,"n":0,"over":false}}}],"day":"2025-01-14"}'
+
 step "The bank settles with the ACH operator by these days:" \
     "$(operator "$desk/ops/settlement")" \
     '{"balance":"150000","day":"2025-01-14","days":[{"cents":"147500","day":"2025-01-10"},{"cents":"2500","day":"2025-01-14"}]}'

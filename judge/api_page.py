@@ -17,8 +17,8 @@ TOP = Path(__file__).resolve().parents[1]
 SOURCE = TOP / "docs" / "openapi.yaml"
 PAGE = TOP / "docs" / "integrate" / "api.md"
 METHODS = ("get", "post")
-# An answer that no operation of the description has, since each path has one method.
-BAD_METHOD = ("`BadMethod`", "405", "The path takes another method.")
+# No operation of the description has this answer: it is for methods that the path does not take.
+BAD_METHOD = ("`BadMethod`", "405", "The path does not take this method.")
 # The words of the blocks that crates/documented_examples runs, by operation.
 RUN_AS = {"submit": "json submission", "retry": "json retry", "setDay": "json day", "registerCompany": "json company",
           "setLimits": "json limits"}

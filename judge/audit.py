@@ -264,6 +264,20 @@ def compare_company(checks, audit, desk, company, day):
                                            for value in (rates[kind]["n"], int(rates[kind]["over"]))))])
 
 
+def risk_of(company):
+    """Returns a company of `GET /ops/companies` as a row of the view."""
+    cents = [company["entry_limit"], int(company["credit"]), company["credit_limit"], int(company["debit"]), company["debit_limit"]]
+    rates = [company["rates"][kind] for kind in ("unauthorized", "administrative", "overall")]
+    (debits,) = {it["d"] for it in rates}  # of all three the same
+    return (company["id"], company["name"], *(value for it in cents for value in (it, money(it))), debits,
+            *(value for it in rates for value in (it["n"], int(it["over"]))))
+
+
+def compare_companies(checks, audit, desk):
+    answered = json.loads(desk.get(["/ops/companies"])["/ops/companies"])["companies"]
+    checks.that("all companies: limits, exposures and return rates", audit.rows("*", "audit_risks"), [risk_of(it) for it in answered])
+
+
 def compare_bank(checks, audit, desk, day):
     files = audit.rows("day, file, text", "audit_files")
     paths = [f"/ops/files/{on}/{letter}" for on, letter, _ in files]
@@ -279,6 +293,7 @@ def compare_bank(checks, audit, desk, day):
     checks.that("each sent entry has a trace, and no other has one", audit.rows("ref, entry", "audit_entries", "(trace IS NULL) = (place IS NOT NULL)"), [])
     if day is None:
         return
+    compare_companies(checks, audit, desk)
     settlement = json.loads(answered["/ops/settlement"])
     checks.that("the operator's balance", audit.rows("cents", "audit_balances", "account = 'operator'"), [(int(settlement["balance"]),)])
     checks.that("the operator's days", audit.rows("day, cents, amount", "audit_daily_sums", "account = 'operator'"),

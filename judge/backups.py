@@ -11,6 +11,8 @@ PROGRAM is ./achdesk if it is left out. EVERY is 1 if it is left out: with 5 onl
 - A backup with a changed byte, or without its log, is not restored. A restore is killed at each of its steps: the
   target has the old desk, the restored one, or none that starts, and the old files are never lost.
 - The rule by which backups expire, on days that are worked out by hand.
+- A backup of a stopped desk, and a copy of its files by the commands of docs/operate/backup.md, which is restored by its path;
+  a copy without its log or with a damaged file is not.
 - A standby is given the backups by rsync over SSH, which is killed at each step, and takes over in another folder by the
   commands of docs/operate/backup.md.
 
@@ -31,6 +33,7 @@ import sys
 import tempfile
 import threading
 import time
+from datetime import datetime, timedelta
 from pathlib import Path
 
 from helpers.bank import DAY, DESK_KEYS, OPERATOR_KEY, Bank, bytes_of, end_if_missing
@@ -113,7 +116,6 @@ def finished(bank):
 
 
 def began(folder):
-    from datetime import datetime
     return datetime.fromisoformat(json.loads((folder / "backup.json").read_text())["began"].replace("Z", "+00:00")).timestamp()
 
 
@@ -310,6 +312,34 @@ def restores(bank, checks, every):
     bank.desk.start()
 
 
+# ---- copies that achdesk-day did not make ----
+
+def stopped_desk(bank, checks):
+    """Backs up a stopped desk, by achdesk-day and by hand, and restores both."""
+    bank.desk.stop()
+    wanted, folder, target = opens(bank.program, bank.desk_file), bank.folder / "stopped", bank.folder / "from-a-path" / "bank.db"
+    target.parent.mkdir()
+    bank.now = "2025-01-14T09:10:00-05:00"
+    checks.that("a stopped desk is backed up", (bank.day("backup")[0], opens(bank.program, finished(bank)[-1] / "bank.db")), (0, wanted))
+    text = commands_of_page("## Back up", {"/var/lib/achdesk-day/stopped": folder, "/var/lib/achdesk": bank.desk_file.parent})
+    checks.that("the page's commands copy it", (subprocess.run(["sh", "-ec", text]).returncode, sorted(bytes_of(folder)) if folder.is_dir() else []), (0, ["bank.db", "bank.db-wal"]))
+    written = max(path.stat().st_mtime for path in (bank.desk_file, bank.desk_file.with_name("bank.db-wal")))
+    status, printed, _ = bank.day("restore", folder, "--to", target)
+    checks.that("the copy is restored by its path", (status, opens(bank.program, target)), (0, wanted))
+    checks.that("and taken as of the time at which it was written", f"{datetime.utcfromtimestamp(written):%Y-%m-%dT%H:%M:%S}" in printed)
+    status, _, errors = bank.day("restore", bank.folder / "nowhere", "--to", target)
+    checks.that("a folder that is not there is not restored", (status, "there is no folder" in errors), (2, True))
+    damaged = bytearray((folder / "bank.db").read_bytes())
+    damaged[len(damaged) // 2:] = bytes(len(damaged) - len(damaged) // 2)
+    (folder / "bank.db").write_bytes(damaged)
+    status, _, errors = bank.day("restore", folder, "--to", target)
+    checks.that("a damaged copy is not restored", (status, "does not open" in errors, opens(bank.program, target)), (1, True, wanted))
+    (folder / "bank.db-wal").unlink()
+    status, _, errors = bank.day("restore", folder, "--to", target)
+    checks.that("nor one without its log", (status, "it has no bank.db-wal" in errors, opens(bank.program, target)), (2, True, wanted))
+    bank.desk.start()
+
+
 # ---- the rule ----
 
 def rule(checks):
@@ -317,26 +347,45 @@ def rule(checks):
     # 2025-01-13 is a Monday. Two backups on each of these days, at 06:00 and 18:00.
     days = ["2024-10-31", "2024-11-30", "2024-12-29", "2024-12-30", "2025-01-05", "2025-01-06", "2025-01-10", "2025-01-13", "2025-01-14"]
     names = [f"{day}T{hour}0000Z" for day in days for hour in ("06", "18")]
-    for numbers, wanted in (((1, 0, 0, 0), ["2025-01-14T18"]), ((0, 3, 0, 0), ["2025-01-10T18", "2025-01-13T18", "2025-01-14T18"]),
-                            ((0, 0, 3, 0), ["2025-01-05T18", "2025-01-10T18", "2025-01-14T18"]),
-                            ((0, 0, 0, 3), ["2024-11-30T18", "2024-12-30T18", "2025-01-14T18"]),
-                            ((2, 1, 2, 2), ["2024-12-30T18", "2025-01-10T18", "2025-01-14T06", "2025-01-14T18"])):
+    for numbers, wanted in (((1, 0, 0, 0, 0), ["2025-01-14T18"]), ((0, 3, 0, 0, 0), ["2025-01-13T18", "2025-01-14T06", "2025-01-14T18"]),
+                            ((0, 0, 3, 0, 0), ["2025-01-10T18", "2025-01-13T18", "2025-01-14T18"]),
+                            ((0, 0, 0, 3, 0), ["2025-01-05T18", "2025-01-10T18", "2025-01-14T18"]),
+                            ((0, 0, 0, 0, 3), ["2024-11-30T18", "2024-12-30T18", "2025-01-14T18"]),
+                            ((2, 0, 1, 2, 2), ["2024-12-30T18", "2025-01-10T18", "2025-01-14T06", "2025-01-14T18"])):
         kept = sorted(it[:13] for it in module.kept_backups(names, *numbers))
-        checks.that(f"the newest {numbers[0]}, {numbers[1]} days, {numbers[2]} weeks and {numbers[3]} months", kept, wanted)
+        checks.that("the newest {}, {} hours, {} days, {} weeks and {} months".format(*numbers), kept, wanted)
+    every_ten_minutes(checks, module)
     observed = {2025: "01-01 01-20 02-17 05-26 06-19 07-04 09-01 10-13 11-11 11-27 12-25", 2026: "01-01 01-19 02-16 05-25 06-19 09-07 10-12 11-11 11-26 12-25",
                 2022: "01-17 02-21 05-30 06-20 07-04 09-05 10-10 11-11 11-24 12-26", 2027: "01-01 01-18 02-15 05-31 07-05 09-06 10-11 11-11 11-25"}
     for year, listed in observed.items():
         checks.that(f"the Federal Reserve's holidays of {year}", [f"{it:%m-%d}" for it in module.federal_reserve_holidays(year)], listed.split())
 
 
+def every_ten_minutes(checks, module):
+    """What the default rule keeps of backups that the timer makes for six weeks, and that expire after each one."""
+    defaults = [int(module.DEFAULTS["backup"][it]) for it in ("newest", "hours", "days", "weeks", "months")]
+    moment, until, kept = datetime(2024, 12, 1), datetime(2025, 1, 14, 12, 0), []
+    while moment <= until:
+        kept.append(f"{moment:%Y-%m-%dT%H%M%SZ}")
+        kept = sorted(module.kept_backups(kept, *defaults))
+        moment += timedelta(minutes=10)
+    newest = {f"2025-01-14T{it}" for it in ("1110", "1120", "1130", "1140", "1150", "1200")}
+    hours = {f"2025-01-14T{hour:02}50" for hour in range(12)} | {f"2025-01-13T{hour}50" for hour in range(13, 24)}
+    days = {f"2025-01-{day:02}T2350" for day in range(8, 14)}
+    weeks = {f"{day}T2350" for day in ("2025-01-12", "2025-01-05", "2024-12-29", "2024-12-22")}  # Sundays
+    months = {"2024-12-31T2350"}
+    checks.that("a backup every ten minutes: the last hour, each hour of a day, each day of a week, five weeks, and months",
+                [it[:15] for it in kept], sorted(newest | hours | days | weeks | months))
+
+
 # ---- the standby ----
 
-def commands_of_page(heading, **places):
+def commands_of_page(heading, places):
     """The sh block of docs/operate/backup.md below a heading, with other paths."""
     part = (TOP / "docs/operate/backup.md").read_text().partition(f"\n{heading}\n")[2]
     text = re.search(r"```sh\n(.*?)```", part, re.S)[1]
     for old, new in places.items():
-        text = text.replace(f"/var/lib/{old.replace('_', '-')}", str(new))
+        text = text.replace(old, str(new))
     return text
 
 
@@ -362,7 +411,7 @@ def takeover(bank, checks):
     desk_file, state = bank.folder / "second" / "bank.db", bank.folder / "second-day"
     desk_file.parent.mkdir()
     state.mkdir(mode=0o700)
-    text = commands_of_page("To take over:", achdesk_standby=standby, achdesk_day=state)
+    text = commands_of_page("To take over:", {"/var/lib/achdesk-standby": standby, "/var/lib/achdesk-day": state})
     checks.that("the page's command takes the copies over", subprocess.run(["sh", "-ec", text]).returncode, 0)
     bank.write_config(config, folders={"state": state, "backups": state / "backups"}, files={"desk": desk_file, "proxy_logs": f"{standby}/proxy-logs/*"})
     status, printed, errors = bank.day("restore", "newest", config=config)
@@ -393,6 +442,7 @@ def main():
                                                 "credit_limit": 999999999999999, "debit_limit": 0})
             checkpoints(bank, checks)
             restores(bank, checks, every)
+            stopped_desk(bank, checks)
             under_load(bank, checks, every)
             full_volume(bank, checks)
             takeover(bank, checks)

@@ -63,6 +63,7 @@ def days(bank, before=lambda: None):
     call("pay again", lambda: mill.submit([ANN], ref="PAY-1", day=day("01-10"), **PAY))
     call("held", lambda: mill.look_up("PAY-1"))
     call("exposure", mill.exposure)
+    call("companies with a held payroll", op.companies)
     told["cut"] = op.cut()
     call("file", lambda: op.file(day("01-08"), "A"))
     call("dues", lambda: mill.submit([BOB], ref="PAY-2", day=day("01-10"), **DUES))
@@ -77,12 +78,21 @@ def days(bank, before=lambda: None):
     call("changes", mill.changes)
     call("statement", mill.statement)
     call("rates", mill.rates)
+    call("companies after a return", op.companies)
     call("retry", lambda: mill.retry(ref="RT-1", of="PAY-2", index=1, day=day("01-16"), authorized=day("01-14")))
     call("retry again", lambda: mill.retry(ref="RT-1", of="PAY-2", index=1, day=day("01-16"), authorized=day("01-14")))
     call("settlement", op.settlement)
     call("suspense", op.suspense)
     call("status", op.status)
     return told
+
+
+def companies_of(on, credit, debits, returned):
+    """The only company, with its credit exposure and how many of its debits settled and were returned (R01)."""
+    none, overall = achdesk.Rate(0, debits, False), achdesk.Rate(returned, debits, returned > 0)
+    rates = achdesk.CompanyRates(unauthorized=none, administrative=none, overall=overall)
+    row = achdesk.CompanyRisk("MILL01", "MILL STREET", credit, 30000000, 0, 5000000, 9999999999, rates)
+    return achdesk.Companies(on, (row,))
 
 
 def worked(checks, told):
@@ -143,6 +153,8 @@ def worked(checks, told):
             ),
         ),
         "rates": achdesk.Rates(on, achdesk.Rate(0, 1, False), achdesk.Rate(0, 1, False), achdesk.Rate(1, 1, True)),
+        "companies with a held payroll": companies_of(day("01-08"), 150000, 0, 0),
+        "companies after a return": companies_of(on, 0, 1, 1),
         "settlement": achdesk.Settlement(on, 150000, (achdesk.DaySum(day("01-10"), 147500), achdesk.DaySum(on, 2500))),
         "suspense": (),
         "status": achdesk.Status(on, (achdesk.CompanyStatus("MILL01", "MILL STREET", held, (), 0),), (), 2, 2, 0),

@@ -4,9 +4,10 @@
 PROGRAM is ./achdesk if it is left out. It serves a desk behind nginx with deploy/nginx.conf, but without TLS. Chromium
 without a window opens console/index.html there, types the operator's key, replaces the holidays, registers companies, sets
 days, cuts, fetches files and posts files of returns, with refusals of each kind on the way. After each step what the page
-shows is compared with what the calls answer. A company's name has `<script>` in it and must stay text, and a script that
-is put into the page must not run. Everything is reachable at 360 pixels and by keyboard, the page shows when the desk is
-gone, and locks after fifteen minutes without use. PICTURE is where a picture is written; the company then has a plain name.
+shows is compared with what the calls answer. Limits are edited in their table: well, badly, after somebody else changed
+them, and with a lost answer. A company's name has `<script>` in it and must stay text, and a script that is put into the
+page must not run. Everything is reachable at 360 pixels and by keyboard, the page shows when the desk is gone, and locks
+after fifteen minutes without use. PICTURE is where a picture is written; the company then has a plain name.
 
 It takes Debian's packages chromium, chromium-driver and nginx: if one is missing it says so and ends with status 2, which
 is not a pass. The last line counts the checks; the status is 1 if one failed.
@@ -34,7 +35,8 @@ PAGE = (TOP / "console" / "index.html").read_text()
 BAKERY = "CITY BAKERY" if sys.argv[2:] else "<script>hit=1//"
 NAMES = {"BAKE01": BAKERY, "MILL01": "MILL STREET"}
 KEYS = {"BAKE01": "bakery-key", "MILL01": MILL_KEY}
-LEVELS = {"overall": "15%", "administrative": "3%", "unauthorized": "0.5%"}
+LEVELS = {"unauthorized": 0.5, "administrative": 3, "overall": 15}  # in percent
+LIMITS = ("entry_limit", "credit_limit", "debit_limit")
 REASONS = {"NoTrace": "No sent entry has this trace number.", "AlreadyReturned": "The entry was returned before."}
 FILES = 36
 
@@ -114,10 +116,10 @@ class Bank:
     def open(self, path="/console/"):
         """Opens the page, and the desk with the operator's key."""
         self.browser.go(f"http://{HOST}:{self.proxy.port}{path}")
-        self.directions = {}
         return self.unlock()
 
     def unlock(self):
+        self.directions = {}  # a locked page forgets what it has read
         self.browser.type("#open [name=key]", OPERATOR_KEY)
         self.browser.press("Enter")
         return self.browser.wait("return !document.getElementById('desk').hidden")
@@ -195,14 +197,25 @@ def sums(status, way):
 
 # ---- comparisons
 
+def is_over(company):
+    return any(it["over"] for it in company["rates"].values())
+
+
+def companies_of(bank):
+    """The companies as the page lists them: those over a level first. There are none before the first day."""
+    told = bank.told("/ops/companies")
+    return sorted(told["companies"], key=is_over, reverse=True) if "companies" in told else []
+
+
 def compare_status(bank, what):
-    status = bank.told("/ops/status")
+    status, over = bank.told("/ops/status"), sum(map(is_over, companies_of(bank)))
     bank.checks.that(f"{what}: the day", bank.lines("#day"), [[long_day(status["day"]) if status["day"] else "No day is set"]])
     held = {way: sum(int(it["held"][way]["cents"]) for it in status["companies"]) for way in ("credits", "debits")}
     tiles = [["Credits due", dollars(sums(status, "credits")[0]), f"of {dollars(held['credits'])} held"],
              ["Debits due", dollars(sums(status, "debits")[0]), f"of {dollars(held['debits'])} held"],
              ["Files today", str(len(status["files"])), "; ".join([*([" ".join(status["files"])] if status["files"] else []), f"{FILES - len(status['files'])} left"])],
              ["In suspense", str(status["suspense"]), "check each" if status["suspense"] else "none"],
+             ["Over a level", str(over), "check their return rates" if over else "no company"],
              ["Entries sent", f"{status['sent']:,}", "put into files so far"],
              ["Holidays", str(status["holidays"]), "in the list" if status["holidays"] else "no list yet"]]
     bank.checks.that(f"{what}: the sums", bank.lines("#tiles > div"), tiles)
@@ -212,7 +225,36 @@ def compare_status(bank, what):
     due = sum(sums(status, way)[1] for way in ("credits", "debits"))
     needed = [f"Needs at least 1 file; {FILES - len(status['files'])} of 36 are left today."] if 0 < due <= 1000 else []
     bank.checks.that(f"{what}: how many files are needed", bank.lines("#due p")[1], needed)
+    compare_risks(bank, what)
     return status
+
+
+def compare_risks(bank, what):
+    companies = companies_of(bank)
+    rows = [[f"{it['name']}|{it['id']}", dollars(it["entry_limit"]), *(exposure_cell(it, way)[0] for way in ("credit", "debit")),
+             *(rate_cell(it, kind)[0] for kind in LEVELS), "Edit limits"] for it in companies]
+    bank.checks.that(f"{what}: limits, exposures and return rates", bank.rows("#risks"), rows)
+    bars = [cell(it, name)[1] for it in companies for cell, name in ((exposure_cell, "credit"), (exposure_cell, "debit"), *((rate_cell, kind) for kind in LEVELS))]
+    found = bank.browser.run("return [...document.querySelectorAll('#risks .gauge i')].map(it => parseFloat(it.style.width))")
+    bank.checks.that(f"{what}: their bars", [round(it, 1) for it in found], bars)
+    marked = bank.browser.run("return [...document.querySelectorAll('#risks td > span > .over')].map(it => it.innerText.split('\\n')[0])")
+    bank.checks.that(f"{what}: what is marked as over", sorted(marked), sorted(it.split("|")[0] for row in rows for it in row if "over" in it))
+
+
+def exposure_cell(company, way):
+    """What is shown of an exposure, and how long its bar is, in percent of the limit."""
+    cents, limit = int(company[way]), company[f"{way}_limit"]
+    if cents > limit:
+        return f"{dollars(cents)}|over the limit of {dollars(limit)}", 100
+    percent = cents * 1000 // limit / 10 if limit else 0
+    return f"{dollars(cents)}|{percent:g}% of {dollars(limit)}", percent
+
+
+def rate_cell(company, kind):
+    """What is shown of a return rate, and how long its bar is, of which the level is the middle."""
+    n, d, over = (company["rates"][kind][it] for it in ("n", "d", "over"))
+    shown = f"{n * 100 / d:.3f}%" if d else "no debits"
+    return f"{shown}|{n:,} of {d:,}{', over' if over else ''}", round(min(100, n * 100 / d / LEVELS[kind] * 50), 1) if d else 100 if n else 0
 
 
 def compare_money(bank, what):
@@ -229,18 +271,10 @@ def compare_money(bank, what):
     bank.checks.that(f"{what}: suspense", bank.rows("#suspense"), rows)
 
 
-def rate_lines(name, rate):
-    shown = f"{rate['n'] * 100 / rate['d']:.3f}%" if rate["d"] else "none" if rate["n"] == 0 else "over all"
-    level = f"over Nacha’s level of {LEVELS[name]}" if rate["over"] else f"level {LEVELS[name]}"
-    return [name.capitalize(), shown, f"{rate['n']} of {many(rate['d'], 'debit')}; {level}"]
-
-
 def compare_company(bank, company):
     bank.checks.that(f"{company}: nothing is said against its key", bank.do("look", id=company, key=KEYS[company]), "")
-    rates, statement = (bank.told(f"/c/{company}/{it}", KEYS[company]) for it in ("rates", "statement"))
+    statement = bank.told(f"/c/{company}/statement", KEYS[company])
     bank.checks.that(f"{company}: its name", bank.lines("#company h3"), [[f"{NAMES[company]} ({company})"]])
-    bank.checks.that(f"{company}: its rates", bank.lines("#company [data-rate]"), [rate_lines(it, rates[it]) for it in LEVELS])
-    bank.checks.that(f"{company}: which are over", bank.browser.run("return [...document.querySelectorAll('#company .over')].map(it => it.dataset.rate)"), [it for it in LEVELS if rates[it]["over"]])
     bank.checks.that(f"{company}: its balance", bank.lines("#company .balance"), [[f"Balance on {short_day(statement['day'])}: {dollars(statement['balance'])}"]])
     lines = [[short_day(it["day"]), "Sent" if it["cause"] == "cut" else f"Return of entry {it['index']}", it["ref"], dollars(it["cents"])] for it in reversed(statement["lines"])]
     bank.checks.that(f"{company}: the newest of its statement", bank.rows("#company"), lines[:12])
@@ -302,7 +336,8 @@ def before_any_day(bank):
     new_keys(bank, limits)
     exposure = bank.told("/c/MILL01/exposure", MILL_KEY)
     checks.that("before a day nobody has an exposure", exposure, {"error": "NoDay", "number": 1})
-    checks.that("nor a rate", bank.do("look", id="MILL01", key=MILL_KEY), "No desk day is set yet. Set the day first. NoDay")
+    checks.that("nor a statement", bank.do("look", id="MILL01", key=MILL_KEY), "No desk day is set yet. Set the day first. NoDay")
+    checks.that("and the page says that no day is set", bank.lines("#risks"), [["No day is set yet."]])
     compare_status(bank, "with three companies")
 
 
@@ -427,6 +462,61 @@ def next_days(bank):
     compare_company(bank, "MILL01")
 
 
+def limits(bank):
+    """Limits are edited in their table, with the present ones in the fields."""
+    checks, browser = bank.checks, bank.browser
+    present = lambda: next(tuple(it[name] for name in LIMITS) for it in companies_of(bank) if it["id"] == "MILL01")
+    fields = lambda: browser.run("return [...document.querySelectorAll('.limits input')].map(it => it.value)")
+    wanted = [9999999999, 20000000, 5000050]
+    checks.that("the companies over a level are first", [row[0].split("|")[1] for row in bank.rows("#risks")], ["BAKE01", "MILL01", "ELM01", "OAK01"])
+    begin_edit(bank)
+    checks.that("the fields have the present limits", fields(), [dollars(it)[1:] for it in wanted])
+    checks.that("and the first one has the focus", browser.run("return document.activeElement.name"), "entry_limit")
+    checks.that("the form is in the row below its company", [len(row) for row in bank.rows("#risks")], [8, 8, 1, 8, 8])
+    checks.that("a limit that is no amount", save_limits(bank, credit_limit="much"), "The limit of credit exposure must be 0 to 9,999,999,999,999.99 dollars. BadField credit_limit")
+    checks.that("a limit that is too high", save_limits(bank, credit_limit="200,000", entry_limit="100000000"), "The limit for one entry must be 0 to 99,999,999.99 dollars. BadField entry_limit")
+    checks.that("nothing is changed", list(present()), wanted)
+    browser.type(".limits [name=entry_limit]", "5000")
+    bank.refresh()
+    checks.that("what is typed stays when the page is drawn again", fields(), ["5000", "200,000", "50,000.50"])
+    checks.that("one limit is changed", (save_limits(bank), bank.said("limits")), (None, "The limits of MILL01 are $5,000.00 for one entry, $200,000.00 of credits and $50,000.50 of debits."))
+    wanted[0] = 500000
+    checks.that("and no other", list(present()), wanted)
+    compare_status(bank, "with another limit")
+    begin_edit(bank)
+    bank.ask("POST", "/ops/limits", json.dumps({"id": "MILL01", **dict(zip(LIMITS, (500000, 20000000, 6000000)))}))
+    checks.that("limits that somebody else has changed", save_limits(bank, entry_limit="6000"), "Nothing was saved: somebody changed the limits in the meantime. The fields now have the present ones.")
+    checks.that("are then in the fields", fields(), ["5,000.00", "200,000.00", "60,000.00"])
+    checks.that("and can be changed", (save_limits(bank, credit_limit="100"), present()), (None, (500000, 10000, 6000000)))
+    compare_status(bank, "with a limit below the exposure")
+    begin_edit(bank)
+    bank.spoils.plans.extend([("pass",), ("cut", 0)])
+    checks.that("limits whose answer is lost", save_limits(bank, credit_limit="200000"), "No answer came. The desk may have done it nevertheless: refresh and look before you do it again.")
+    checks.that("may be changed, and saved again", (present(), save_limits(bank)), ((500000, 20000000, 6000000), "Nothing was saved: somebody changed the limits in the meantime. The fields now have the present ones."))
+    browser.click(".limits button[type=button]")
+    checks.that("`Cancel` closes the form", fields(), [])
+    bank.ask("POST", "/ops/limits", json.dumps({"id": "MILL01", **dict(zip(LIMITS, (9999999999, 20000000, 5000050)))}))
+    begin_edit(bank)
+    browser.click("#lock")
+    checks.that("a locked page has no form of limits", fields(), [])
+    bank.unlock()
+    checks.that("nor after it is opened again", fields(), [])
+
+
+def begin_edit(bank, company="MILL01"):
+    bank.browser.click(f"[aria-label='Edit limits of {company}']")
+    bank.settled()
+
+
+def save_limits(bank, **limits):
+    """Types limits and saves them; gives what is said in the form, or None if it is closed."""
+    for name, text in limits.items():
+        bank.browser.type(f".limits [name={name}]", text)
+    bank.browser.click(".limits .deed")
+    bank.settled()
+    return bank.browser.run("return document.querySelector('.limits .said')?.innerText ?? null")
+
+
 def lapse(bank):
     checks = bank.checks
     bank.set_day("2025-07-01")
@@ -446,15 +536,23 @@ def lapse(bank):
 
 def text_and_memory(bank):
     checks, browser = bank.checks, bank.browser
-    checks.that("the company's name is text", (browser.run("return typeof hit"), browser.run("return document.scripts.length"), BAKERY in browser.text("#companies")), ("undefined", 1, True))
+    shown = [BAKERY in browser.text(it) for it in ("#companies", "#risks")]
+    checks.that("the company's name is text", (browser.run("return typeof hit"), browser.run("return document.scripts.length"), shown), ("undefined", 1, [True, True]))
     kept = browser.run("return [localStorage.length, sessionStorage.length, document.cookie]")
     checks.that("nothing is kept outside of the page", kept, [0, 0, ""])
     asked = {line.split('"')[1].split()[1] for line in bank.proxy.log.read_text().splitlines() if "Chrome" in line}
     checks.that("the page asks for itself and for the desk's paths", sorted(it for it in asked if not it.startswith(("/ops/", "/c/"))), ["/console/"])
 
 
+def without_timers(bank):
+    """Opens the page again and stops what it asks for by itself: the answers that are made up are for the requests of a click."""
+    bank.open()
+    bank.browser.run("for (let it = setInterval(() => {}, 1e9); it > 0; it--) clearInterval(it)")
+
+
 def too_many_files(bank):
     """A status with more due than the day's files hold, which is made up here."""
+    without_timers(bank)
     tally = lambda submissions, cents: {"submissions": submissions, "cents": str(cents)}
     for what, credits, debits, files, wanted in (
             ("a thousand and one submissions", (600, 1), (401, 1), 0, "Needs at least 2 files; 36 of 36 are left today."),
@@ -463,12 +561,38 @@ def too_many_files(bank):
             ("a submission more", (1, 0), (36_000, 5), 0, "Needs at least 37 files; 36 of 36 are left today. A cut would be refused.")):
         due = {"credits": tally(*credits), "day": "2025-07-10", "debits": tally(*debits)}
         company = {"due": [due], "held": {"credits": tally(*credits), "debits": tally(*debits)}, "id": "MILL01", "lapsing": 0, "name": "MILL STREET"}
-        body = json.dumps({"companies": [company], "day": "2025-07-09", "files": list("ABC"[:files]), "holidays": 0, "sent": 0, "suspense": 0}).encode()
-        head = f"HTTP/1.1 200 OK\r\nContent-Type: application/json\r\nContent-Length: {len(body)}\r\nConnection: close\r\n\r\n"
-        bank.spoils.plans.append(("answer", head.encode() + body))
+        status = {"companies": [company], "day": "2025-07-09", "files": list("ABC"[:files]), "holidays": 0, "sent": 0, "suspense": 0}
+        bank.spoils.plans.append(("answer", answer_of(status)))
         bank.refresh()
         bank.checks.that(f"{what} due: {wanted}", bank.lines("#due p")[1], [wanted])
     bank.refresh()
+
+
+def many_companies(bank):
+    """A list of forty companies, of which two are over a level, which is made up here."""
+    checks, browser = bank.checks, bank.browser
+    rate = lambda n: {"d": 10, "n": n, "over": n > 1}
+
+    def told(exposure):
+        companies = [{"credit": str(exposure), "credit_limit": 100, "debit": "0", "debit_limit": 0, "entry_limit": 1, "id": f"C{number}", "name": f"COMPANY {number}",
+                      "rates": {"administrative": rate(0), "overall": rate(5 if number in (33, 44) else 1), "unauthorized": rate(0)}} for number in range(10, 50)]
+        bank.spoils.plans.extend([("pass",), ("answer", answer_of({"companies": companies, "day": "2025-07-09"}))])
+        bank.refresh()
+        return [row[0].split("|")[1] for row in bank.rows("#risks")]
+
+    others = [f"C{number}" for number in range(10, 50) if number not in (33, 44)]
+    checks.that("the first twelve companies are shown, with those over a level first", told(1), ["C33", "C44", *others[:10]])
+    browser.click("#risks table + button")
+    checks.that("and all on demand", len(bank.rows("#risks")), 40)
+    checks.that("also when the table is drawn again", told(99), ["C33", "C44", *others])
+    bank.refresh()
+    compare_risks(bank, "after the made-up list")
+
+
+def answer_of(value):
+    """The bytes of an answer of the desk."""
+    body = json.dumps(value).encode()
+    return f"HTTP/1.1 200 OK\r\nContent-Type: application/json\r\nContent-Length: {len(body)}\r\nConnection: close\r\n\r\n".encode() + body
 
 
 def without_use(bank):
@@ -526,6 +650,7 @@ def injected(bank):
 
 
 def narrow(bank):
+    begin_edit(bank)
     for width in (360, 640, 1000, 1280):
         bank.browser.size(width, 800)
         bank.checks.that(f"at {width} pixels nothing stands beyond the edge", bank.browser.run("return document.documentElement.scrollWidth"), width)
@@ -533,6 +658,8 @@ def narrow(bank):
     bank.begin_cut()
     box = bank.browser.run("const it = document.querySelector('dialog').getBoundingClientRect(); return it.left >= 0 && it.right <= 360 && document.querySelector('dialog').scrollWidth <= 360")
     bank.checks.that("nor does the question", box)
+    beyond = "return [...document.querySelectorAll('.limits input, .limits button')].filter(it => it.getBoundingClientRect().right > 360).length"
+    bank.checks.that("nor a field of limits", bank.browser.run(beyond), 0)
     bank.browser.press("Escape")
     bank.settled()
     bank.browser.size(1280, 900)
@@ -546,6 +673,7 @@ def by_keyboard(bank):
     bank.browser.press(*["Tab"] * (count * 3))
     left = bank.browser.run(f"return {mine}.filter(it => !window.seen.has(it)).map(it => it.outerHTML.slice(0, 80))")
     bank.checks.that(f"Tab comes to all {count} fields and buttons", (count > 20, left), (True, []))
+    bank.browser.click(".limits button[type=button]")
 
 
 def without_a_desk(bank, serving, program, path):
@@ -566,18 +694,20 @@ def without_a_desk(bank, serving, program, path):
 
 
 def photograph(bank, path):
-    """A picture of the whole page, opened anew, with a company's rates and statement."""
+    """A picture of the whole page, opened again, with a company's statement and a form of limits."""
     browser = bank.browser
     bank.open()
     bank.do("directions", file=str(bank.folder / "returns.ach"))
     bank.directions = bank.in_files
     say_nothing = "document.querySelectorAll('.said').forEach(it => { it.textContent = ''; });"
     bank.do("look", id="MILL01", key=MILL_KEY)
+    begin_edit(bank)
     browser.run(say_nothing)
     browser.run("document.querySelectorAll('details').forEach(it => { it.open = false; }); document.activeElement.blur(); window.scrollTo(0, 0)")
     browser.size(1280, browser.run("return document.documentElement.scrollHeight"))
     browser.picture(path)
     browser.size(1280, 900)
+    browser.click(".limits button[type=button]")
 
 
 def sentences(checks):
@@ -610,7 +740,7 @@ def main():
                     step(bank)
                 if sys.argv[2:]:
                     photograph(bank, Path(sys.argv[2]))
-                for step in (lapse, text_and_memory, too_many_files, without_use, injected, narrow, by_keyboard):
+                for step in (limits, lapse, text_and_memory, too_many_files, many_companies, without_use, injected, narrow, by_keyboard):
                     step(bank)
                 without_a_desk(bank, serving, program, path)
     checks.end()

@@ -1,24 +1,23 @@
 #!/usr/bin/env python3
-"""What calls cost if much is open, or much is old: `python3 judge/costs.py [PROGRAM] [ROUNDS] [PART]`.
+"""Bounds what calls cost if much is open or old: `python3 judge/costs.py [PROGRAM] [ROUNDS] [PART]`.
 
-PROGRAM is the built program and ROUNDS 5 if they are left out; with a PART above 1 the sizes are divided by it, for a first try.
+PROGRAM is the built program and ROUNDS is 5 by default. A PART above 1 divides the sizes by it, for a first try.
 
-`achdesk serve` over a file is asked over HTTP, and each figure is the time that a processor worked for it (the first number
-of /proc/PID/schedstat), the best of the rounds. In each round a new desk gets 100 submissions of 1,000 entries. The last of
-these desks is filled up: one company has 100,000 open credits in submissions of 1,000, one as many debits, and one 5,000
-open debits that were handed in one by one. Each round then begins with a new day, so that nothing is remembered, looks at
-exposures, cuts what is due, which is nothing, and hands in submissions: of these companies, and of new ones that have
-nothing open. At the end all of it is cut, and the first submission after that is told. A second desk gets 1,000,000 debits,
-50 weeks of them, of which 20,000 came back, and then 10,000 in a week beside 10,000 of another company that has no others;
-each round asks for the rates of both on a new day. On a third desk it is asked how the desk stands, where 1,000 entries
-were sent, where 100,000 more were, and where then 20,000 items that name no entry stand in suspense.
+The judge asks `achdesk serve` over a file by HTTP. A figure is the CPU time of one call (the first number of
+/proc/PID/schedstat), the least of all rounds. There are four desks:
 
-No bound is in seconds, so that they hold on a slow machine too. A figure is bounded by another of the same run: by the same
-call without what is open or old, or by the measure, which is what Python and stock SQLite take to read 1,000 entries as JSON
-and to store them; the best of the rounds, measured between those of the desk.
+- one has a company with 100,000 open credits and one with 100,000 open debits, in submissions of 1,000, and one with 5,000 open
+  debits in submissions of 1. A cut, a new day, a holiday list or a returns file comes before each first exposure and each first
+  submission that is measured, and the desk is started again before others;
+- one has 1,000,000 old debits of a company, of which 20,000 were returned, and 10,000 in the window of the return rates;
+- one is asked for its status after 1,000 sent entries, after 100,000 more, and with 20,000 items in suspense;
+- one has 1,000 companies of 100 open entries, which the operator asks for in one call.
 
-It prints a table with a line for each figure: what it is without and with what is open or old, and whether that is within
-its bound. The status is 1 if one is not. Three rounds took a little over a minute.
+No bound is in seconds, so that all hold on a slow machine. A figure is compared with another one of the same run: with the same
+call of a company with nothing open or old, or with the measure, which is the time that Python and stock SQLite take to read 1,000
+entries as JSON and to store them.
+
+It prints a table with a line for each figure. The status is 1 if a figure is not within its bound. Three rounds take two minutes.
 """
 
 import datetime
@@ -34,14 +33,19 @@ from helpers.running import Serving, body_of, connect, make_desk, message, progr
 
 KEY = "a-company-key"
 SIZE = 1_000
-OPEN, EACH = 100, 5_000  # submissions of 1,000 entries, and of one
-WEEKS, WEEKLY, RECENT, BACK = 50, 20, 10, 20_000  # weeks, submissions of 1,000 in each, those in the window, entries that came back
-STRAYS, NEVER_SENT = 20_000, 5_000_001  # items that name no entry, and the first sequence that they name
+OPEN, EACH = 100, 5_000  # submissions of 1,000 entries, and of 1
+RETURNED = 2_000  # entries of a company in a returns file
+WEEKS, WEEKLY, RECENT, BACK = 50, 20, 10, 20_000  # weeks, submissions of 1,000 in each, those in the window, returned entries
+STRAYS, NEVER_SENT = 20_000, 5_000_001  # items that match no entry, and the first sequence that they name
+COMPANIES, OF_EACH = 1_000, 100  # companies of one desk, and the open entries of each
 ENTRY = '{"routing":"091000019","account":"123456789","kind":"checking","cents":100,"id":"E1","name":"ANN LEE"}'
 LIMITS = {"entry_limit": 9_999_999_999, "credit_limit": 999_999_999_999_999, "debit_limit": 999_999_999_999_999}
-CALLS = 20  # of a kind that is measured together, if one is short
+CALLS = 20  # short calls of one kind that are measured together
+AGAIN = 3  # how often an event and the first call after it are measured in a round
 MEASURED = 50  # submissions of 1,000 entries that the measure reads and stores
 FIRST_DAY, ASKED, LAST_DAY = datetime.date(2025, 1, 8), datetime.date(2025, 3, 3), datetime.date(2025, 2, 28)
+HOLIDAYS = [datetime.date(2099, 1, 1) + datetime.timedelta(at) for at in range(300)]  # they change no settlement of this desk
+KINDS = {"PAY": "credits", "DUES": "debits", "EACH": "single debits"}
 
 
 def next_day(day):
@@ -58,12 +62,16 @@ def submission(company, reference, entries, debit, asked):
 
 
 class Desk:
-    """A served desk, its client, and what calls cost."""
+    """A served desk, its client, and the cost of calls."""
 
     def __init__(self, program, path):
         make_desk(program, path)
-        self.serving = Serving(program, path, 1_000_000).listen()
-        self.day, self.count, self.references, self.companies = None, 0, 0, 0
+        self.program, self.path = program, path
+        self.day, self.count, self.references, self.companies, self.lists, self.files = None, 0, 0, 0, 0, 0
+        self.start()
+
+    def start(self):
+        self.serving = Serving(self.program, self.path, 1_000_000).listen()
         self.open()
 
     def open(self):
@@ -80,8 +88,12 @@ class Desk:
         with self.serving:
             pass
 
+    def restart(self):
+        self.end()
+        self.start()
+
     def ask(self, *messages):
-        """The body of the last answer. Each has to be 200 or 201."""
+        """Returns the body of the last answer. Each status must be 200 or 201."""
         if self.count + len(messages) > 900:
             self.close()
             self.open()
@@ -94,15 +106,15 @@ class Desk:
         return body_of(came)
 
     def worked(self):
-        """The seconds that a processor has worked for it, once it waits for a message."""
+        """Returns the process's CPU time in seconds, once it waits for a message."""
         process = Path(f"/proc/{self.serving.process.pid}")
         while (process / "stat").read_text().rpartition(")")[2].split()[0] != "S":
             time.sleep(0.000_1)
         return int((process / "schedstat").read_text().split()[0]) / 1e9
 
     def cost(self, *messages):
-        """The seconds that a processor works for one of the messages, which go over one connection."""
-        self.ask(message("GET /ops/settlement"))
+        """Returns the CPU time of one of these messages, which go over one connection, in seconds."""
+        self.ask(message("GET /ops/suspense"))
         before = self.worked()
         self.ask(*messages)
         return (self.worked() - before) / len(messages)
@@ -124,9 +136,32 @@ class Desk:
         self.references += count
         return [submission(company, f"R{self.references - at}", entries, debit, asked) for at in range(count)]
 
+    # ---- events
+
+    def cut_some(self):
+        """Cuts one small submission of each company with much open."""
+        for company in KINDS:
+            self.ask(*self.submissions(1, company, 1, company != "PAY", next_day(self.day)))
+        self.cut()
+
+    def turn_day(self):
+        self.set_day(next_day(self.day))
+
+    def list_holidays(self):
+        """Sets a list with one day more or less. No settlement that was closed counts again."""
+        self.lists += 1
+        self.ask(message("POST /ops/holidays", "".join(f"{day}\n" for day in HOLIDAYS[self.lists % 2:])))
+
+    def give_back(self, *ranges):
+        """Takes a file that returns entries: of each range the direction, the first sequence and how many."""
+        self.files += 1
+        items = [dict(debit=debit, savings=False, account="123456789", cents=100, ident="E1", name="ANN LEE", code="R01",
+                      trace=f"12104288{sequence:07}", dfi="09100001") for debit, first, count in ranges for sequence in range(first, first + count)]
+        self.ask(message("POST /ops/returns", file_of_returns(self.files, "PPD", items)))
+
 
 def measure(folder):
-    """The seconds that a processor works for it when Python reads a submission of 1,000 entries and stock SQLite stores them."""
+    """Returns the CPU time in which Python reads a submission of 1,000 entries and stock SQLite stores them."""
     body = f'{{"entries":[{",".join([ENTRY] * SIZE)}]}}'
     with tempfile.TemporaryDirectory(dir=folder) as place:
         store = sqlite3.connect(f"{place}/measure.db", isolation_level=None)
@@ -146,7 +181,7 @@ def measure(folder):
 
 
 class Figures:
-    """The best of each figure, and the bounds of those that have one."""
+    """The least of each figure, and the lines of the table."""
 
     def __init__(self, folder):
         self.folder, self.best, self.lines, self.failed = folder, {}, [], 0
@@ -157,21 +192,25 @@ class Figures:
     def keep(self, what, seconds):
         self.best[what] = min(seconds, self.best.get(what, seconds))
 
-    def tell(self, what, without, seconds, told, is_within=None):
+    def report(self, what, without, seconds, bound, is_within=None):
         self.failed += is_within is False
-        self.lines.append(f"| {what} | {shown(without)} | {shown(seconds)} | {told} | {'' if is_within is None else 'within' if is_within else 'NOT WITHIN'} |")
+        self.lines.append(f"| {what} | {shown(without)} | {shown(seconds)} | {bound} | {'' if is_within is None else 'within' if is_within else 'NOT WITHIN'} |")
 
     def times(self, what, without, found, most):
-        """Tells how many times one figure is the other."""
+        """Bounds the ratio of two figures."""
         ratio = self.best[found] / self.best[without]
-        self.tell(what, self.best[without], self.best[found], f"{ratio:.2f} times, at most {most}", ratio <= most)
+        self.report(what, self.best[without], self.best[found], f"{ratio:.2f} times, at most {most}", ratio <= most)
+
+    def compare(self, what, without, found):
+        """Reports the ratio of two figures, which has no bound."""
+        ratio = self.best[found] / self.best[without]
+        self.report(what, self.best[without], self.best[found], f"{ratio:.2f} times")
 
     def of_measure(self, what, without, found, entries, most):
-        """Tells how many times the measure of as many entries a figure is, or the part of it that passes another figure."""
+        """Bounds a figure, or its part above another figure, by the measure of as many entries."""
         seconds = self.best[found] - self.best.get(without, 0)
         ratio = seconds / entries * SIZE / self.best["measure"]
-        told = f"{ratio:.3f} of the measure, at most {most}, {seconds / entries * 1e6:.2f} µs each"
-        self.tell(what, self.best.get(without), self.best[found], told, ratio <= most)
+        self.report(what, self.best.get(without), self.best[found], f"{ratio:.3f} of the measure, at most {most}, {seconds / entries * 1e6:.2f} µs each", ratio <= most)
 
 
 def shown(seconds):
@@ -188,8 +227,10 @@ def rates(company):
     return message(f"GET /c/{company}/rates", key=KEY)
 
 
+# ---- much that is open
+
 def filled(program, folder, figures, rounds, part):
-    """A desk with much that is open. In each round a new one gets 100 submissions of 1,000."""
+    """Returns a desk with much that is open. In each round a new one gets 100 submissions of 1,000."""
     for number in range(rounds):
         desk = Desk(program, folder / f"open{number}.db")
         desk.set_day(FIRST_DAY)
@@ -200,65 +241,82 @@ def filled(program, folder, figures, rounds, part):
             desk.end()
     desk.company("DUES")
     desk.company("EACH")
+    desk.company("IDLE")
     desk.ask(*desk.submissions(OPEN // part, "DUES", SIZE, True))
     for _ in range(EACH // part // 100):
         desk.ask(*desk.submissions(100, "EACH", 1, True))
     return desk
 
 
-def look(desk, figures):
-    """Looks at exposures on a new day, on which nothing is remembered, and again."""
-    for company, kind in [(desk.company(), "nothing"), ("PAY", "credits"), ("DUES", "debits"), ("EACH", "single debits")]:
-        figures.keep(f"first exposure of {kind}", desk.cost(exposure(company)))
-        figures.keep(f"exposure of {kind}", desk.cost(*[exposure(company)] * CALLS))
+def first_calls(desk, figures, event, happen, asked=ASKED):
+    """Measures the first exposure and the first submission of each company after an event, and those of companies with nothing open."""
+    for company in ("IDLE", *KINDS):
+        for _ in range(AGAIN):
+            desk.ask(exposure(company))
+            happen()
+            figures.keep(f"exposure of {company} after {event}", desk.cost(exposure(company)))
+    for company in KINDS:
+        new = desk.company()
+        desk.ask(exposure(new))
+        desk.ask(exposure(company))
+        happen()
+        entries, debit = 1 if company == "EACH" else SIZE, company != "PAY"
+        figures.keep(f"submission of {company} after {event}", desk.cost(*desk.submissions(1, company, entries, debit, asked)))
+        figures.keep(f"submission next to {company} after {event}", desk.cost(*desk.submissions(1, new, entries, debit, asked)))
 
 
-def hand_in(desk, figures):
-    """Hands in submissions after a cut: the first of a company that has much open, others, and those of companies that have nothing."""
-    for company, debit in [("PAY", False), ("DUES", True)]:
-        figures.keep(f"first of 1,000 of {company}", desk.cost(*desk.submissions(1, company, SIZE, debit)))
-        for _ in range(3):
-            figures.keep(f"1,000 of {company}", desk.cost(*desk.submissions(1, company, SIZE, debit)))
-            figures.keep(f"1,000 beside {company}", desk.cost(*desk.submissions(1, desk.company(), SIZE, debit)))
-    figures.keep("first of 1", desk.cost(*desk.submissions(1, "EACH", 1, True)))
-    figures.keep("1", desk.cost(*desk.submissions(CALLS, "EACH", 1, True)))
-    new = [desk.submissions(1, desk.company(), 1, True)[0] for _ in range(CALLS)]
-    figures.keep("1 beside", desk.cost(*new))
+def starts(desk, figures):
+    """Measures the first exposure of each company after a start, and the same one again."""
+    for company in ("IDLE", *KINDS):
+        desk.restart()
+        desk.ask(message("GET /c/IDLE/returns", key=KEY))
+        figures.keep(f"exposure of {company} after a start", desk.cost(exposure(company)))
+        figures.keep(f"exposure of {company}", desk.cost(*[exposure(company)] * CALLS))
 
 
-def cut_all(desk, figures):
-    """Cuts all that is held, and hands in the first submissions after that."""
+def steady(desk, figures):
+    """Measures submissions of companies with much open, and of new ones."""
+    for company in KINDS:
+        entries, debit, count = (1, True, CALLS) if company == "EACH" else (SIZE, company == "DUES", 3)
+        figures.keep(f"submission of {company}", desk.cost(*desk.submissions(count, company, entries, debit)))
+        new = [desk.submissions(1, desk.company(), entries, debit)[0] for _ in range(count)]
+        figures.keep(f"submission next to {company}", desk.cost(*new))
+
+
+def send_all(desk, part):
+    """Cuts all that is held. Returns the first sequence of the credits and of the debits with much open."""
     desk.set_day(LAST_DAY)
+    before = json.loads(desk.ask(message("GET /ops/status")))["sent"]
     sent = desk.cut()["entries"]
-    asked = next_day(ASKED)
-    for company, debit in [("PAY", False), ("DUES", True)]:
-        figures.keep(f"first of 1,000 of {company}, all sent", desk.cost(*desk.submissions(1, company, SIZE, debit, asked)))
-    figures.keep("first of 1, all sent", desk.cost(*desk.submissions(1, "EACH", 1, True, asked)))
-    print(f"the last cut sent {sent} entries", flush=True)
+    print(f"the last cut sent {sent:,} entries", flush=True)
+    return {"DUES": before + 1, "PAY": before + sent - OPEN // part * SIZE + 1}
 
 
 def measure_open(program, folder, figures, rounds, part):
     desk = filled(program, folder, figures, rounds, part)
     for number in range(rounds):
-        desk.set_day(next_day(desk.day))
         figures.measure()
-        look(desk, figures)
-        desk.cut()
-        hand_in(desk, figures)
+        starts(desk, figures)
+        first_calls(desk, figures, "a cut", desk.cut_some)
+        first_calls(desk, figures, "a holiday list", desk.list_holidays)
+        steady(desk, figures)
         print(f"round {number + 1} of {rounds} over what is open is done", flush=True)
-    cut_all(desk, figures)
+    first_calls(desk, figures, "a new day", desk.turn_day)
+    first = send_all(desk, part)
+    count = RETURNED // part
+
+    def returned():
+        desk.give_back((True, first["DUES"], count), (False, first["PAY"], count))
+        first.update({company: sequence + count for company, sequence in first.items()})
+
+    first_calls(desk, figures, "a returns file", returned, next_day(ASKED))
     desk.end()
 
 
-def give_back(desk, number, first, count):
-    """Takes a file that returns so many entries from a sequence on."""
-    items = [dict(debit=True, savings=False, account="123456789", cents=100, ident="E1", name="ANN LEE", code="R01",
-                  trace=f"12104288{sequence:07}", dfi="09100001") for sequence in range(first, first + count)]
-    desk.ask(message("POST /ops/returns", file_of_returns(number, "PPD", items)))
-
+# ---- much that is old
 
 def aged(program, path, part):
-    """A desk of which one company has many old entries, and as many in the window as another."""
+    """Returns a desk of which one company has many old entries, and as many in the window as another."""
     desk, weekly = Desk(program, path), max(WEEKLY // part, 1)
     desk.company("AGED")
     desk.company("YOUNG")
@@ -268,15 +326,15 @@ def aged(program, path, part):
         desk.cut()
         desk.set_day(desk.day + datetime.timedelta(7))
         if week == 0:
-            give_back(desk, 1, 1, min(BACK, weekly * SIZE))
+            desk.give_back((True, 1, min(BACK, weekly * SIZE)))
     old = WEEKS * weekly * SIZE
     desk.set_day(desk.day + datetime.timedelta(63))
     for company in ("AGED", "YOUNG"):
         desk.ask(*desk.submissions(RECENT, company, SIZE, True, next_day(desk.day)))
     desk.cut()
     desk.set_day(desk.day + datetime.timedelta(7))
-    for number, first in enumerate([old + 1, old + RECENT * SIZE + 1]):
-        give_back(desk, 2 + number, first, 200)
+    for first in (old + 1, old + RECENT * SIZE + 1):
+        desk.give_back((True, first, 200))
     return desk
 
 
@@ -289,14 +347,20 @@ def measure_old(program, folder, figures, rounds, part):
         for company in ("AGED", "YOUNG"):
             figures.keep(f"first rates of {company}", desk.cost(rates(company)))
             figures.keep(f"rates of {company}", desk.cost(*[rates(company)] * 5))
+            for event, happen in [("a cut", desk.cut), ("a holiday list", desk.list_holidays)]:
+                happen()
+                figures.keep(f"rates of {company} after {event}", desk.cost(rates(company)))
+                figures.keep("one call of rates", desk.cost(rates(company)))
         if desk.ask(rates("AGED")) != desk.ask(rates("YOUNG")):
             sys.exit("the two companies have other rates")
     print(f"rates over all codes: {json.loads(desk.ask(rates('AGED')))['overall']}", flush=True)
     desk.end()
 
 
+# ---- the operator's reads
+
 def measure_status(program, folder, figures, rounds, part):
-    """Asks how the desk stands where 1,000 entries were sent, where 100,000 more were, and with items in suspense, with as much held."""
+    """Measures the status after 1,000 sent entries, after 100,000 more, and with items in suspense. As much is held each time."""
     desk = Desk(program, folder / "status.db")
     desk.set_day(FIRST_DAY)
     desk.company("SENT")
@@ -307,42 +371,74 @@ def measure_status(program, folder, figures, rounds, part):
         desk.cut()
         desk.set_day(next_day(desk.day))
         ask_status(desk, figures, what, rounds, 0)
-    give_back(desk, 1, NEVER_SENT, STRAYS // part)
+    desk.give_back((True, NEVER_SENT, STRAYS // part))
     ask_status(desk, figures, "with suspense", rounds, STRAYS // part)
     desk.end()
 
 
 def ask_status(desk, figures, what, rounds, suspense):
-    """Asks how the desk stands, which has to have so many items in suspense."""
+    """Measures the status, which must count these items in suspense."""
     for _ in range(rounds):
         figures.keep(f"status, {what}", desk.cost(*[message("GET /ops/status")] * CALLS))
     told = json.loads(desk.ask(message("GET /ops/status")))["suspense"]
     if told != suspense:
-        sys.exit(f"{told} items in suspense were told, and {suspense} came")
+        sys.exit(f"{told} items in suspense were reported, and {suspense} were taken")
 
 
-def tell(figures, part):
+def measure_companies(program, folder, figures, rounds, part):
+    """Measures the operator's call for 1,000 companies with open entries, and the first one after each event."""
+    desk, asks = Desk(program, folder / "companies.db"), message("GET /ops/companies")
+    desk.set_day(FIRST_DAY)
+    names = [desk.company() for _ in range(COMPANIES // part)]
+    for at, name in enumerate(names):
+        desk.ask(*desk.submissions(1, name, OF_EACH, at % 2 == 0))
+    for _ in range(rounds):
+        desk.restart()
+        figures.keep("companies after a start", desk.cost(asks))
+        for event, happen in [("a cut", desk.cut), ("a holiday list", desk.list_holidays), ("a new day", desk.turn_day)]:
+            happen()
+            figures.keep(f"companies after {event}", desk.cost(asks))
+            figures.keep("companies", desk.cost(*[asks] * 3))
+    desk.restart()
+    figures.keep("their own calls", desk.cost(*[ask(name) for name in names[:400] for ask in (exposure, rates)]) * 2 * len(names))
+    if len(json.loads(desk.ask(asks))["companies"]) != len(names):
+        sys.exit("companies are missing")
+    desk.end()
+
+
+# ---- the table
+
+def report_open(figures, part):
     large, each = OPEN // part * SIZE, EACH // part // 100 * 100
-    figures.tell("the measure: 1,000 entries read by Python and stored by stock SQLite", None, figures.best["measure"], "")
+    sizes = {"PAY": f"1,000 credits, {large:,} open", "DUES": f"1,000 debits, {large:,} open", "EACH": f"one debit, {each:,} open"}
     figures.of_measure(f"{OPEN // part} submissions of 1,000 on a new desk", None, "100 submissions", large, 2.2)
-    for company, kind in [("PAY", "credits"), ("DUES", "debits")]:
-        figures.times(f"a submission of 1,000 {kind}, {large:,} open", f"1,000 beside {company}", f"1,000 of {company}", 1.2)
-    figures.times(f"a submission of one debit, {each:,} open", "1 beside", "1", 1.2)
-    for kind, count in [("credits", large), ("debits", large), ("single debits", each)]:
-        figures.times(f"exposure, {count:,} open {kind}", "exposure of nothing", f"exposure of {kind}", 1.2)
-    for kind, count, most in [("credits", large, 0.13), ("debits", large, 0.13), ("single debits", each, 1.2)]:
-        figures.of_measure(f"exposure with nothing remembered, {count:,} open {kind}", "first exposure of nothing", f"first exposure of {kind}", count, most)
-    for what, first, without in [("of 1,000 credits", "1,000 of PAY", "1,000 beside PAY"), ("of 1,000 debits", "1,000 of DUES", "1,000 beside DUES"), ("of one debit", "1", "1 beside")]:
-        figures.tell(f"the first submission {what} after a cut that sent none of its company", figures.best[without], figures.best[f"first of {first}"], "said")
-        figures.tell(f"the first submission {what} after a cut that sent all", figures.best[without], figures.best[f"first of {first}, all sent"], "said")
+    for company, what in sizes.items():
+        figures.times(f"a submission of {what}", f"submission next to {company}", f"submission of {company}", 1.2)
+    for company, kind in KINDS.items():
+        count, most = (each, 1.2) if company == "EACH" else (large, 0.13)
+        figures.times(f"exposure, {count:,} open {kind}", "exposure of IDLE", f"exposure of {company}", 1.2)
+        figures.of_measure(f"the first exposure after a start, {count:,} open {kind}", "exposure of IDLE after a start", f"exposure of {company} after a start", count, most)
+    for event in ("a cut", "a new day", "a holiday list", "a returns file"):
+        for company, what in sizes.items():
+            figures.times(f"the first exposure after {event}, {KINDS[company]}", f"exposure of IDLE after {event}", f"exposure of {company} after {event}", 1.2)
+            figures.times(f"the first submission after {event}, {what}", f"submission next to {company} after {event}", f"submission of {company} after {event}", 1.2)
+
+
+def report_others(figures, part):
     old = WEEKS * max(WEEKLY // part, 1) * SIZE
-    figures.times(f"rates with nothing remembered, {old:,} older", "first rates of YOUNG", "first rates of AGED", 1.2)
-    figures.times(f"rates, {old:,} older", "rates of YOUNG", "rates of AGED", 1.2)
-    figures.times("how the desk stands, 1,000 and 100,000 entries sent", "status, 1,000 sent", "status, 100,000 more sent", 1.2)
-    figures.times(f"how the desk stands, none and {STRAYS // part:,} items in suspense", "status, 100,000 more sent", "status, with suspense", 1.2)
-    print("| What | Without | With | Told | Bound |\n|---|---|---|---|---|")
-    print("\n".join(figures.lines))
-    print(f"{len(figures.lines)} figures, {figures.failed} not within their bounds")
+    figures.times(f"the first rates of a day, {old:,} older entries", "first rates of YOUNG", "first rates of AGED", 1.2)
+    figures.times(f"rates, {old:,} older entries", "rates of YOUNG", "rates of AGED", 1.2)
+    # Return rates are forgotten by a cut and a holiday list, so these have no bound.
+    for event in ("a cut", "a holiday list"):
+        figures.compare(f"the first rates after {event}", "one call of rates", f"rates of AGED after {event}")
+    figures.times("the status, 1,000 and 100,000 entries sent", "status, 1,000 sent", "status, 100,000 more sent", 1.2)
+    figures.times(f"the status, no and {STRAYS // part:,} items in suspense", "status, 100,000 more sent", "status, with suspense", 1.2)
+    count = COMPANIES // part
+    figures.of_measure(f"all {count:,} companies", None, "companies", count, 1.0)
+    for event in ("a cut", "a holiday list"):
+        figures.compare(f"all {count:,} companies, the first time after {event}", "companies", f"companies after {event}")
+    for event in ("a new day", "a start"):
+        figures.times(f"all {count:,} companies, the first time after {event}, next to their own calls", "their own calls", f"companies after {event}", 1.0)
 
 
 def main():
@@ -354,7 +450,13 @@ def main():
         measure_open(program, Path(name), figures, rounds, part)
         measure_old(program, Path(name), figures, rounds, part)
         measure_status(program, Path(name), figures, rounds, part)
-    tell(figures, part)
+        measure_companies(program, Path(name), figures, rounds, part)
+    figures.report("the measure: 1,000 entries read by Python and stored by stock SQLite", None, figures.best["measure"], "")
+    report_open(figures, part)
+    report_others(figures, part)
+    print("| What | Without | With | Ratio | Bound |\n|---|---|---|---|---|")
+    print("\n".join(figures.lines))
+    print(f"{len(figures.lines)} figures, {figures.failed} not within their bounds")
     sys.exit(1 if figures.failed else 0)
 
 

@@ -2,14 +2,16 @@
 """Runs a bank's week by deploy/achdesk-day, against the real parts on loopback: `python3 judge/day.py [PROGRAM] [EVERY]`.
 
 PROGRAM is ./achdesk if it is left out. EVERY is 1 if it is left out: with 5 only each fifth step of a command is tried,
-which is quicker with a program that was built without proofs and takes seconds to open a file. The parts are `achdesk serve`, nginx with deploy/nginx.conf and TLS, an
-OpenSSH server for SFTP that is not root, and two companies that use curl. The week has returns and changes, refused
-files, a company's and the bank's key rotated on Thursday, a holiday, and a restore of the desk on Friday. On Wednesday
+which is quicker with a program that was built without proofs and takes seconds to open a file. The parts are `achdesk
+serve`, nginx with deploy/nginx.conf and TLS, an OpenSSH server for SFTP that is not root, and two companies that use
+curl. The week has returns and changes, refused files, a company's and the bank's key rotated on Thursday, a holiday, and a restore of the desk on Friday. On Wednesday
 each command is killed at each of its steps, and so is the desk, from the same state each time; the command is run again
 as a person would, and everything has to be as if nothing had been killed. On the Tuesday after it files are transmitted by
 hand, one of them without a wrong payroll, and one is withheld; these commands are killed as well. At the end the archive
 has each transmitted file once, byte for byte as the desk has it, the ACH operator has each once, and the reports have the
-figures that are worked out by hand below.
+figures that are worked out by hand below. On the last two days a file is left untransmitted, for which an alarm of
+docs/operate/monitoring.md has to hold, the ACH operator rejects a file and a batch of another, and the desk day is set
+too late.
 
 The status is 1 if a check failed, and 2 if Debian packages are missing, which are named; that is not a pass.
 """
@@ -30,31 +32,58 @@ from pathlib import Path
 
 from helpers.bank import DESK_KEYS, Bank, bytes_of, digest, end_if_missing
 from helpers.returned import file_of_returns
-from helpers.running import Checks, program_of
+from helpers.running import TOP, Checks, program_of
 
-MON, TUE, WED, THU, FRI, HOLIDAY, NEXT, AFTER = (f"2025-01-{day}" for day in (13, 14, 15, 16, 17, 20, 21, 22))
+MON, TUE, WED, THU, FRI, HOLIDAY, NEXT, AFTER, LAST = (f"2025-01-{day}" for day in (13, 14, 15, 16, 17, 20, 21, 22, 23))
 DFI = "09100001"
 
 # What is worked out by hand, for each day: its files (batches, records, debits, credits), returns and changes by code
-# (count, debits, credits), late returns, items in suspense, the settlement by value day, and the balance of the day.
+# (count, debits, credits), late returns (code, debits, credits, entry), items in suspense, the return rates over a level
+# (company, rate, returns, debits that settled), the settlement by value day, and the balances at its end: the ACH
+# operator's, suspense, BAKE01's and MILL01's.
 # Traces are numbered in the order of cuts, and in a cut by company and order: Monday BAKE01 1, MILL01 PAY-1 2 to 4,
 # DUES-1 5 to 7, then DUES-2 8; Tuesday 9 and 10; Wednesday 11 and 12; Thursday 13; Friday 14; on the Tuesday after it
-# BAKE01 15, MILL01 PAY-3 16 and 17, PAY-4 18, then BAKE01 19, then MILL01 20. PAY-4 and PAY-5, 18 and 20, are wrong.
+# BAKE01 15, MILL01 PAY-3 16 and 17, PAY-4 18, then BAKE01 19, then MILL01 20. PAY-4 and PAY-5, 18 and 20, are wrong. On the
+# Wednesday after it BAKE01 21, MILL01 PAY-6 22 and 23, then PAY-7 24.
 FIGURES = {
-    MON: dict(files={"A": (3, 7, 2500 + 4900 + 3100, 99999 + 150000 + 120000 + 80050), "B": (1, 1, 7700, 0)}, codes={}, late=0, suspense=[],
-              settlement={TUE: 99999 - 10500 - 7700, WED: 350050}, balance=0),
-    TUE: dict(files={"A": (1, 2, 40000 + 21000, 0)}, codes={"R01": (1, 2500, 0), "C01": (1, 0, 0)}, late=0, suspense=[],
-              settlement={TUE: 81799 + 2500, WED: 350050 - 61000}, balance=84299),
-    WED: dict(files={"A": (1, 1, 0, 200000), "B": (1, 1, 0, 33300)}, codes={"R03": (1, 21000, 0)}, late=0, suspense=[("R01", 500, 0)],
-              settlement={WED: 289050 + 21000 + 500, THU: 33300, FRI: 200000}, balance=84299 + 310550),
-    THU: dict(files={"A": (1, 1, 2500, 0)}, codes={}, late=0, suspense=[], settlement={THU: 33300, FRI: 200000 - 2500}, balance=394849 + 33300),
-    FRI: dict(files={"A": (1, 1, 5000, 0)}, codes={"R01": (1, 4900, 0), "R10": (1, 3100, 0)}, late=1, suspense=[],
-              settlement={FRI: 197500 + 4900 + 3100, NEXT: -5000}, balance=428149 + 205500),
-    NEXT: dict(files={"A": (3, 4, 0, 5000 + 100000 + 10000), "B": (1, 1, 0, 7000), "C": (1, 1, 0, 900)}, codes={"R06": (2, 0, 10900)}, late=0, suspense=[],
-               settlement={NEXT: -5000 - 10900, AFTER: 115000 + 7000 + 900}, balance=633649 - 5000 - 10900),
+    MON: dict(over=[],
+              files={"A": (3, 7, 2500 + 4900 + 3100, 99999 + 150000 + 120000 + 80050), "B": (1, 1, 7700, 0)}, codes={}, late=[], suspense=[],
+              settlement={TUE: 99999 - 10500 - 7700, WED: 350050}, balances=(0, 0, 0, 0)),
+    TUE: dict(over=[("MILL01", "overall", 1, 4)],
+              files={"A": (1, 2, 40000 + 21000, 0)}, codes={"R01": (1, 2500, 0), "C01": (1, 0, 0)}, late=[], suspense=[],
+              settlement={TUE: 81799 + 2500, WED: 350050 - 61000}, balances=(84299, 0, -99999, 10500 + 7700 - 2500)),
+    WED: dict(over=[("BAKE01", "administrative", 1, 2), ("BAKE01", "overall", 1, 2), ("MILL01", "overall", 1, 4)],
+              files={"A": (1, 1, 0, 200000), "B": (1, 1, 0, 33300)}, codes={"R03": (1, 21000, 0)}, late=[], suspense=[("R01", 500, 0)],
+              settlement={WED: 289050 + 21000 + 500, THU: 33300, FRI: 200000},
+              balances=(84299 + 310550, -500, -99999 + 61000 - 21000, 15700 - 350050)),
+    THU: dict(over=[("BAKE01", "administrative", 1, 2), ("BAKE01", "overall", 1, 2), ("MILL01", "overall", 1, 4)],
+              files={"A": (1, 1, 2500, 0)}, codes={}, late=[], suspense=[], settlement={THU: 33300, FRI: 200000 - 2500},
+              balances=(394849 + 33300, -500, -59999 - 33300, -334350)),
+    FRI: dict(over=[("BAKE01", "administrative", 1, 2), ("BAKE01", "overall", 1, 2), ("MILL01", "unauthorized", 1, 5), ("MILL01", "overall", 3, 5)],
+              files={"A": (1, 1, 5000, 0)}, codes={"R01": (1, 4900, 0), "R10": (1, 3100, 0)}, suspense=[],
+              late=[("R01", 4900, 0, "MILL01 DUES-1 entry 2, trace 121042880000006, settled 2025-01-14")],
+              settlement={FRI: 197500 + 4900 + 3100, NEXT: -5000}, balances=(428149 + 205500, -500, -93299, -334350 - 197500 - 8000)),
+    NEXT: dict(over=[("BAKE01", "administrative", 1, 3), ("BAKE01", "overall", 1, 3), ("MILL01", "unauthorized", 1, 5), ("MILL01", "overall", 3, 5)],
+               files={"A": (3, 4, 0, 5000 + 100000 + 10000), "B": (1, 1, 0, 7000), "C": (1, 1, 0, 900)}, codes={"R06": (2, 0, 10900)}, late=[], suspense=[],
+               settlement={NEXT: -5000 - 10900, AFTER: 115000 + 7000 + 900}, balances=(633649 - 5000 - 10900, -500, -93299 + 5000, -539850 + 10900)),
+    AFTER: dict(over=[("BAKE01", "administrative", 1, 3), ("BAKE01", "overall", 1, 3), ("MILL01", "unauthorized", 1, 5), ("MILL01", "overall", 3, 5)],
+                files={"A": (2, 3, 0, 30000 + 20000 + 15000), "B": (1, 1, 0, 12500)}, codes={}, late=[], suspense=[],
+                settlement={AFTER: 122900, LAST: 65000 + 12500}, balances=(617749 + 122900, -500, -88299 - 12000, -528950 - 110900)),
+    LAST: dict(over=[("BAKE01", "administrative", 1, 3), ("BAKE01", "overall", 1, 3), ("MILL01", "unauthorized", 1, 5), ("MILL01", "overall", 3, 5)],
+               files={}, codes={"R06": (3, 0, 35000 + 12500)}, late=[], suspense=[],
+               settlement={LAST: 77500 - 47500}, balances=(740649 + 30000, -500, -100299 - 30000, -639850 - 47500 + 47500)),
 }
 CORRECTED = (2, 3, 0, 105000)  # what was transmitted in place of the file A of NEXT
 WITHHELD = f"{NEXT}-C"
+NAMES = {"MILL01": "MILL STREET", "BAKE01": "BAKERY"}
+LEVELS = {"unauthorized": "0.5", "administrative": "3", "overall": "15"}
+
+# On Thursday evening, by company: the exposures (credits, debits), the debits that settled, and of these the returned ones
+# (unauthorized, administrative, overall). PAY-1 has settled; PAY-2 settles on Friday, or on this day. Of the debits that
+# settled on Tuesday, 4900, 3100 and 7700 still count, since Thursday is the second banking day after it, and 2500 was
+# returned; it is collected again on Friday. BAKE01's 40000 settled on Wednesday, and 21000 was returned.
+RISKS = {"BAKE01": ((33300, 40000), 2, (0, 1, 1)), "MILL01": ((200000, 4900 + 3100 + 7700 + 2500), 4, (0, 0, 1))}
+LIMITS = {"entry_limit": 9999999999, "credit_limit": 999999999999, "debit_limit": 999999999998}
 
 
 # ---- submissions, returns and changes ----
@@ -284,15 +313,76 @@ class Week:
         found = dict(
             files={row["name"][11]: (int(row["note"].split()[0]), *number(row, "count", "debits", "credits")) for row in of("file")},
             codes={row["name"]: number(row, "count", "debits", "credits") for row in of("return") + of("change")},
-            late=int(of("late returns")[0]["count"]),
+            late=[(row["name"], *number(row, "debits", "credits"), row["note"]) for row in of("late return")],
             suspense=[(row["name"], *number(row, "debits", "credits")) for row in of("suspense")],
+            over=[self.rate_over(row) for row in of("return rates over a level") if row["count"] != "0"],
             settlement={row["day"]: int(row["net"]) for row in of("settlement")},
-            balance=int(of("balance")[0]["net"]))
+            balances=tuple(number(row, "net")[0] for name in ("ACH operator", "suspense", "BAKE01", "MILL01")
+                           for row in of("balance") if row["name"] == name))
         self.checks.that(f"{day} the report has the figures worked out by hand", found, FIGURES[day])
+        desk_day = self.bank.curl("day", "/ops/status")["day"]
+        self.checks.that(f"{day} the report has the rates of the desk day", {row["day"] for row in of("return rates over a level")}, {desk_day})
+        self.checks.that(f"{day} it counts the late returns, and the balances sum to zero",
+                         (int(of("late returns")[0]["count"]), number(of("all balances")[0], "count", "net")), (len(FIGURES[day]["late"]), (4, 0)))
         pays = {True: "the bank pays the ACH operator", False: "the ACH operator pays the bank"}
         self.checks.that(f"{day} the report says who pays", [row["note"] for row in of("settlement")], [pays[int(row["net"]) > 0] for row in of("settlement")])
         text = (self.bank.state / "reports" / f"{day}.txt").read_text()
+        told = "  " if desk_day == day else f"  {desk_day}  "
+        lines = [f"{told}{company}  {n}  {NAMES[company]}, {kind}: {n} of {d} debits, level {LEVELS[kind]} percent" for company, kind, n, d in FIGURES[day]["over"]]
+        shown = text.partition("\nReturn rates over a level\n")[2].partition("\n\n")[0].split("\n")
+        self.checks.that(f"{day} the report names the companies over a level", shown, lines or [f"{told}0"])
         self.checks.that(f"{day} the report says that nothing is left", "NOT TRANSMITTED" in text, False)
+
+    # -- metrics and the alarms of docs/operate/monitoring.md --
+
+    def untransmitted(self, wanted):
+        """Compares the metric of files that are not transmitted with the numbers by day, and the page's alarm with them."""
+        printed = self.run("metrics", "--key-file", self.bank.folder / "keys" / "watcher", says="achdesk_up 1")
+        found = {day: int(value) for day, value in re.findall(r'^achdesk_untransmitted_files\{day="(.*?)"\} (\d+)$', printed, re.M)}
+        self.checks.that(f"{self.bank.now[:10]} the metric has the files that are not transmitted", found, wanted)
+        self.checks.that("the page has an alarm for them, which holds if there are any", "achdesk_untransmitted_files > 0" in alarms_for(printed), any(wanted.values()))
+
+    @staticmethod
+    def rate_over(row):
+        company, kind, n, d = row["name"], *re.fullmatch(r"[A-Z ]+, (\w+): (\d+) of (\d+) debits, level [\d.]+ percent", row["note"]).groups()
+        return (company, kind, int(n), int(d)) if n == row["count"] else row
+
+    # -- metrics --
+
+    def measured(self):
+        """Compares the metrics of companies with what is worked out by hand, and the form of all with Prometheus's."""
+        printed = self.run("metrics", says="achdesk_up 1")
+        metrics = {}
+        for part in re.split(r"(?m)^(?=# HELP )", printed)[1:]:
+            head = re.match(r"# HELP (\w+) [A-Z].*\.\n# TYPE \1 (gauge|counter)\n", part)
+            samples = re.findall(r"(?m)^(\w+)(?:\{(.*)\})? (-?\d+)$", part)
+            is_whole = head and {it[0] for it in samples} == {head[1]} and len(samples) == len(part.splitlines()) - 2
+            self.checks.that(f"{part.split()[2]} has its help, its type and then its values", bool(is_whole))
+            metrics.update({(name, labels): int(value) for name, labels, value in samples})
+        wanted = {}
+        for company, (exposures, debits, returned) in RISKS.items():
+            for way, cents in zip(("credit", "debit"), exposures):
+                wanted["exposure_cents", f'company="{company}",direction="{way}s"'] = cents
+                wanted["exposure_limit_cents", f'company="{company}",direction="{way}s"'] = LIMITS[f"{way}_limit"]
+            wanted["entry_limit_cents", f'company="{company}"'] = LIMITS["entry_limit"]
+            wanted["return_rate_debits", f'company="{company}"'] = debits
+            for kind, count in zip(LEVELS, returned):
+                wanted["return_rate_returns", f'company="{company}",rate="{kind}"'] = count
+                wanted["return_rate_over_level", f'company="{company}",rate="{kind}"'] = int(count > 0)
+        found = {(name.removeprefix("achdesk_"), labels): value for (name, labels), value in metrics.items()}
+        names = {name for name, _ in wanted}
+        self.checks.that("the metrics have the exposures, limits and rates worked out by hand", {it: value for it, value in found.items() if it[0] in names}, wanted)
+        single = {"files_today": 1, "files_left": 35, "files_needed_at_least": 0, "suspense_items": 1, "entries_sent_total": 13, "up": 1, "day_age_days": 0}
+        self.checks.that("and the counts of the day", {name: found.get((name, "")) for name in single}, single)
+
+
+def alarms_for(printed):
+    """The alarms of docs/operate/monitoring.md, of those that compare a metric with a number, that hold for these metrics."""
+    page = (TOP / "docs/operate/monitoring.md").read_text()
+    holds = {">": lambda it, number: it > number, "<": lambda it, number: it < number, "==": lambda it, number: it == number}
+    values = re.findall(r"^(achdesk_\w+)(?:\{.*\})? (-?\d+)$", printed, re.M)
+    return [f"{name} {sign} {number}" for name, sign, number in re.findall(r"^\| `(achdesk_\w+) (>|<|==) (\d+)`", page, re.M)
+            if any(it == name and holds[sign](int(value), int(number)) for it, value in values)]
 
 
 def copied(source, target, but=""):
@@ -312,16 +402,18 @@ def monday(week):
     week.at(MON)
     week.run("open", says="2025-01-13")
     week.run("holidays", "2025", "2026", says="21 holidays")
-    for company, name in (("MILL01", "MILL STREET"), ("BAKE01", "BAKERY")):
-        week.bank.curl("day", "/ops/companies", {"id": company, "name": name, "key": DESK_KEYS[company], "entry_limit": 9999999999,
-                                                 "credit_limit": 999999999999, "debit_limit": 999999999999})
+    for company, name in NAMES.items():
+        week.bank.curl("day", "/ops/companies", {"id": company, "name": name, "key": DESK_KEYS[company], **LIMITS})
     week.submit("MILL01", submission("PAY-1", "credit", WED, 150000, 120000, 80050))
     week.submit("MILL01", submission("DUES-1", "debit", TUE, 2500, 4900, 3100))
     week.submit("BAKE01", submission("PAY-1", "credit", TUE, 99999))
     week.at(MON, "15:00")
     week.run("cut", "--dry-run", says="3,500.50")
+    week.untransmitted({MON: 0})
     week.run("cut", says="7 entries in files A")
+    week.untransmitted({MON: 1})
     week.run("send", says="sent 2025-01-13-A: 3 batches, 7 records, debits 105.00, credits 4,500.49")
+    week.untransmitted({MON: 0})
     week.submit("MILL01", submission("DUES-2", "debit", TUE, 7700))
     week.at(MON, "16:30")
     week.run("cut", status=1, says="past the cut-off time 16:30")
@@ -352,6 +444,7 @@ def tuesday(week):
     shorter = bank.folder / "holidays.csv"
     shorter.write_text("2025-02-17\n2025-05-26\n")
     week.run("holidays", shorter, status=1, says="drops days within 60 days of today: 2025-01-01 2025-01-20")
+    week.run("holidays", "-", given=shorter.read_text(), status=1, says="drops days within 60 days of today: 2025-01-01 2025-01-20")
     bank.curl("day", "/ops/status")
     subprocess.run(["curl", "-s", "--cacert", bank.proxy.certificate, "-H", f"@{bank.folder}/keys/day", "--data-binary", f"@{shorter}",
                     f"https://127.0.0.1:{bank.proxy.port}/ops/holidays"], check=True, stdout=subprocess.DEVNULL)
@@ -424,7 +517,7 @@ def thursday(week):
     print(f"        a day (open, returns, cut, backup, send, report) took {seconds:.1f} s, {worked:.1f} s of CPU and {asked} requests", flush=True)
     bank.write_key("watcher")
     week.run("metrics", "--key-file", bank.folder / "keys" / "watcher", says="achdesk_up 1")
-    week.run("metrics", says="achdesk_files_today 1\nachdesk_files_left 35\nachdesk_files_needed_at_least 0\nachdesk_suspense_items 1\nachdesk_entries_sent_total 13")
+    week.measured()
     week.run("cut", "--key-file", bank.folder / "keys" / "MILL01", status=2, says="is not accepted")
     (bank.folder / "keys" / "day").chmod(0o644)
     week.run("send", status=2, says="can be read by others")
@@ -496,7 +589,7 @@ def holiday_and_after(week):
     week.run("open", says="is not a banking day")
     week.run("cut", says="is not a banking day; nothing is cut")
     week.at(NEXT)
-    week.run("cut", status=1, says="run achdesk-day open")
+    week.run("cut", status=1, says="Run achdesk-day open")
     week.run("open", says="the desk day is 2025-01-21")
     week.run("cut", says="nothing is due")
     week.run("send", says="nothing")
@@ -521,6 +614,8 @@ def by_hand(week):
     week.killed_at_each_step(*words)
     week.sent_after_a_kill(f"{NEXT}-A", *words)
     week.run(*words, says="already")
+    week.run("mark", f"{NEXT}-A", "--transmitted-as", "-", given=copy.read_text(), says="already")
+    week.untransmitted({NEXT: 0})
     week.run("mark", f"{NEXT}-A", "--withheld", status=1, says="it was transmitted")
     week.run("send", says="nothing")
     week.run("send", "--again", f"{NEXT}-A", status=1, says="another file was transmitted in its place")
@@ -538,9 +633,11 @@ def by_hand(week):
     week.sent_after_a_kill(f"{NEXT}-B", *words)
     week.submit("MILL01", submission("PAY-5", "credit", AFTER, 900))
     week.run("cut", says="1 entries in files C")
+    week.untransmitted({NEXT: 1})
     words = ("mark", f"{NEXT}-C", "--withheld")
     week.killed_at_each_step(*words)
     week.sent_after_a_kill(f"{NEXT}-C", *words)
+    week.untransmitted({NEXT: 0})
     week.run("send", says="nothing")
     week.run("correct", f"{NEXT}-C", says="1 entries, debits 0.00, credits 9.00")
     week.killed_at_each_step("returns")
@@ -554,6 +651,69 @@ def by_hand(week):
     week.run("ack", path, status=1, says=f"acknowledged {NEXT}-A: 2 batches, 3 records, debits 0.00, credits 1,050.00")
     path.write_text(rows + f"{WITHHELD},1,1,0,900\n")
     week.run("ack", path, status=1, says=f"has {WITHHELD}, which was withheld")
+
+
+def left_untransmitted(week):
+    """A file that is left untransmitted past the end of its day."""
+    week.at(AFTER)
+    week.run("open", says="the desk day is 2025-01-22")
+    week.submit("BAKE01", submission("PAY-6", "credit", LAST, 30000))
+    week.submit("MILL01", submission("PAY-6", "credit", LAST, 20000, 15000))
+    week.run("cut", says="3 entries in files A")
+    week.run("send", says="sent 2025-01-22-A")
+    week.submit("MILL01", submission("PAY-7", "credit", LAST, 12500))
+    week.run("cut", says="1 entries in files B")
+    week.untransmitted({AFTER: 1})
+    week.at(LAST)
+    week.run("open", status=1, says="not transmitted: 2025-01-22-B")
+    week.run("open", "--leave-unsent", says="the desk day is 2025-01-23")
+    week.run("open", status=1, says="not transmitted: 2025-01-22-B")
+    week.untransmitted({AFTER: 1, LAST: 0})
+    week.run("send", says="sent 2025-01-22-B")
+    week.untransmitted({LAST: 0})
+    week.run("open", says="the desk day is 2025-01-23 already")
+    week.reported(AFTER)
+
+
+def rejected(week):
+    """A file and a batch that the ACH operator rejects, and a file that is transmitted a second time."""
+    bank, path = week.bank, week.bank.folder / "ack.csv"
+    rows = lambda *them: path.write_text("\n".join(["file,batches,entries,debits,credits", *them, ""]))
+    week.run("ack", "-", given=week.ack_of([f"{TUE}-A"]).read_text(), says="acknowledged 2025-01-14-A")
+    rows(f"{AFTER}-A,1,1,0,30000")
+    week.run("ack", path, status=1, says="was transmitted with 2 batches, 3 records, debits 0.00, credits 650.00, and acknowledged with 1 batches, 1 records")
+    week.run("correct", f"{AFTER}-A", "--batch", "2", says="2 entries, debits 0.00, credits 350.00")
+    week.run("ack", path, status=1, says=f"not acknowledged: {AFTER}-B")
+    week.checks.that("a file is acknowledged without its corrected batch", f'"did": "acknowledged", "file": "{AFTER}-A"' in (bank.state / "day.journal").read_text())
+    rows(f"{AFTER}-A,1,1,0,20000")
+    week.run("ack", path, status=1, says=f"{AFTER}-A was transmitted with")
+    week.run("ack", week.ack_of([f"{AFTER}-A"]), status=1, says=f"not acknowledged: {AFTER}-B")
+    week.run("correct", f"{AFTER}-B", "--all", says="1 entries, debits 0.00, credits 125.00")
+    week.run("ack", week.ack_of([f"{AFTER}-A"]), says=f"acknowledged {AFTER}-A")
+    week.run("ack", week.ack_of([f"{AFTER}-B"]), status=1, says=f"the acknowledgement has {AFTER}-B, of which achdesk-day correct has returned every entry")
+    week.killed_at_each_step("returns")
+    week.reported(LAST)
+    week.run("report", AFTER)
+    text = (bank.state / "reports" / f"{AFTER}.txt").read_text()
+    week.checks.that("the report says what was corrected, and misses no acknowledgement of it",
+                     (f"{AFTER}-A" in text, "2 entries corrected, acknowledged" in text, "1 entries corrected\n" in text, "not acknowledged" in text), (True, True, True, False))
+    (bank.sftp.inbox / f"{THU}-A.ach").unlink()
+    week.run("send", "--again", f"{THU}-A", says=f"sent {THU}-A")
+    week.run("ack", week.ack_of([f"{AFTER}-A"]), status=1, says=f"not acknowledged: {THU}-A")
+    week.run("ack", week.ack_of([f"{THU}-A"]), says=f"acknowledged {THU}-A")
+
+
+def too_late(week):
+    """A desk day that was set too late, by hand."""
+    wrong = "2025-01-24"
+    week.bank.curl("day", "/ops/day", {"day": wrong})
+    week.run("open", status=1, says=f"the desk day is {wrong}, which is after today, {LAST}")
+    week.run("open", "--day", AFTER, status=1, says=f"the desk day is {wrong}, which is after {AFTER}")
+    week.run("cut", status=1, says="A desk day cannot be taken back")
+    printed = week.run("metrics", says="achdesk_day_age_days -1")
+    week.checks.that("the page has an alarm for it", "achdesk_day_age_days < 0" in alarms_for(printed))
+    week.at(wrong)
+    week.run("open", says=f"the desk day is {wrong} already")
 
 
 def at_the_end(week):
@@ -580,7 +740,7 @@ def main():
         Path(folder).chmod(0o755)
         with Bank(program, folder) as bank:
             week = Week(bank, checks, int((sys.argv[2:] or ["1"])[0]))
-            for day in (monday, tuesday, wednesday, thursday, friday, holiday_and_after, by_hand, at_the_end):
+            for day in (monday, tuesday, wednesday, thursday, friday, holiday_and_after, by_hand, left_untransmitted, rejected, too_late, at_the_end):
                 day(week)
     print(f"        {time.monotonic() - began:.0f} s in all", flush=True)
     checks.end()

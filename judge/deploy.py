@@ -290,6 +290,9 @@ def answers(checks, ask):
     """Who may ask what."""
     cases = [
         ("an operator", "GET", "/ops/status", ALICE, 200), ("a monitor", "GET", "/ops/status", WATCHER, 200), ("a company", "GET", "/c/MILL01/returns", PAYROLL, 200),
+        ("a monitor and the companies", "GET", "/ops/companies", WATCHER, 200), ("a monitor that registers one", "POST", "/ops/companies", WATCHER, 403),
+        ("a monitor and a longer path", "GET", "/ops/companies/x", WATCHER, 403), ("an operator and the companies", "GET", "/ops/companies", ALICE, 200),
+        ("a company and the companies", "GET", "/ops/companies", PAYROLL, 403),
         ("a monitor and a query", "GET", "/ops/status?x=1", WATCHER, 403), ("a monitor elsewhere", "GET", "/ops/suspense", WATCHER, 403),
         ("a monitor that posts", "POST", "/ops/status", WATCHER, 403), ("a monitor that cuts", "POST", "/ops/cut", WATCHER, 403),
         ("a monitor by another path", "GET", "/ops/suspense/../status", WATCHER, 403), ("a monitor and a company", "GET", "/c/MILL01/returns", WATCHER, 403),

@@ -18,7 +18,7 @@ from helpers.first_version import write_copy, write_version_1
 from helpers.running import MILL_KEY, TOP, Checks, free_port, make_desk, message, program_of, run
 
 COMPANY = ["returns", "changes", "statement", "rates", "exposure", "submissions/PAY-1", "submissions/PAY-2", "submissions/PAY-3"]
-OPERATOR = ["settlement", "suspense", "files/2025-01-08/A", "files/2025-01-09/A", "files/2025-01-09/B"]
+OPERATOR = ["settlement", "suspense", "companies", "files/2025-01-08/A", "files/2025-01-09/A", "files/2025-01-09/B"]
 
 
 def days():

@@ -35,7 +35,7 @@ TOP = Path(__file__).resolve().parent.parent
 MOST_DATA = 2 << 20
 PREPARED = ("companyRegistered", "daySet")
 
-# No path of the page has it, since each has its own method.
+# No operation of the page has it: it answers methods that the path does not take.
 BAD_METHOD = {"badMethod": {"error": "BadMethod"}}
 
 
@@ -123,7 +123,8 @@ def closed_answers(page):
 
 def differing_routes(page):
     source = (TOP / "crates/http_routes/src/routes.rt").read_text()
-    routes = {(method.upper(), path) for method, path in re.findall(r'\b(Get|Post) "(/[^"]*)" =>', source)}
+    rows = re.findall(r'"(/[^"]*)" =>([^;]*);', source)
+    routes = {(method.upper(), path) for path, served in rows for method in re.findall(r"\b(get|post) ", served)}
     shown = {(it.method, it.path) for it in page.operations.values()}
     return [f"{method} {path} is in one of the two alone" for method, path in sorted(routes ^ shown)]
 
@@ -154,8 +155,8 @@ def wrong_refusals(page):
 
 
 def wrong_faults(page):
-    """The faults of messages that have another status, or are in the page or in the table alone. 405 is in none of
-    the page's paths, since each has its own method."""
+    """The faults of messages that have another status, or are in the page or in the table alone. No operation of the
+    page has a 405, which answers methods that the path does not take."""
     wanted = {**MESSAGE_FAULTS, **PROXY_FAULTS}
     shown = {(it.value["error"], it.status) for it in page.examples.values() if it.status == 404}
     for operation in page.operations.values():

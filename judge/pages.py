@@ -57,6 +57,7 @@ IN_TEXT = (
     ("achdesk-day correct", "other pages show other words of it", "judge/day.py"),
     ("achdesk-day cut --again", "it follows an answer that was lost", "judge/day.py"),
     ("achdesk-day cut --remake", "it follows a restore", "judge/backups.py"),
+    ("achdesk-day holidays -", "the page shows it for years", "judge/day.py"),
     ("achdesk-day open --day", "it follows a restore", "judge/day.py"),
     ("fuser", "it only looks at processes", "none"),
     ("journalctl", "it needs systemd", "none"),

@@ -25,7 +25,7 @@ PATHS = f"{os.environ.get('PATH', '')}:/usr/sbin:/sbin"
 # What judges need, and what has it: Debian's packages, but for the toolchain. A module of Python is named with a dot.
 NEEDS = {"chromedriver": "chromium-driver", "chromium": "chromium", "curl": "curl", "gcc": "gcc", "ip": "iproute2", "logrotate": "logrotate", "make": "make", "man": "man-db",
          "nft": "nftables", "nginx": "nginx", "openssl": "openssl", "rsync": "rsync", "rt": "the Rattle toolchain", "sftp": "openssh-client", "sqlite3": "sqlite3", "ss": "iproute2", "sshd": "openssh-server",
-         "strace": "strace", ".yaml": "python3-yaml"}
+         "strace": "strace", "valgrind": "valgrind", ".yaml": "python3-yaml"}
 
 
 @dataclass(frozen=True)
@@ -53,6 +53,7 @@ JUDGES = (
     Judge("migrated"),
     Judge("kill_nine", ("200",)),
     Judge("soak"),
+    Judge("histories"),
     Judge("audit"),
     Judge("patience"),
     Judge("facts"),
@@ -67,6 +68,7 @@ JUDGES = (
     Judge("deploy", (), ("nginx", "openssl", "logrotate", "nft", "ip", "man", "make", "strace")),
     Judge("day", (), ("nginx", "openssl", "sshd", "sftp", "curl", "rsync")),
     Judge("backups", (), ("nginx", "openssl", "sshd", "sftp", "curl", "rsync")),
+    Judge("timing", (), ("nginx", "openssl", "valgrind")),
     Judge("clients_kit", (), ("nginx", "openssl")),
     Judge("console", (), ("chromium", "chromedriver", "nginx")),
     Judge("openapi", (), (".yaml",)),

@@ -97,7 +97,7 @@ class Messages:
         if kind == 5:
             return message("POST /ops/holidays", "2099-01-02\n")
         if kind == 6:
-            return message(chance.choice(["GET /ops/settlement", "GET /ops/suspense"]))
+            return message(chance.choice(["GET /ops/settlement", "GET /ops/suspense", "GET /ops/companies"]))
         if kind == 7:
             return message(f"GET /ops/files/{chance.choice(self.cuts or [self.day])}/{chance.choice('AB')}")
         if kind == 8:

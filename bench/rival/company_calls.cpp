@@ -361,11 +361,9 @@ Answer Desk::statement(Company& company)
     return {200, body.close(']').close('}').take()};
 }
 
-Answer Desk::rates(Company& company)
+// The three rates, with the desk day between them if it is asked for.
+void Desk::put_rates(JsonText& body, Company& company, bool has_day)
 {
-    if (!day_) {
-        return refused({kNoDay});
-    }
     Rate administrative{0, 0, 100, 3}, overall{0, 0, 100, 15}, unauthorized{0, 0, 1000, 5};
     Day first = *day_ - kWindow + 1;
     Rows count = sql_.settled_debits.query(std::string_view(company.id), first, *day_);
@@ -377,13 +375,24 @@ Answer Desk::rates(Company& company)
         administrative.n += is_one_of(code, {"R02", "R03", "R04"});
         unauthorized.n += is_one_of(code, {"R05", "R07", "R10", "R11", "R29"});
     }
-    JsonText body;
     body.open('{');
     administrative.put(body, "administrative");
-    body.key("day").day(*day_);
+    if (has_day) {
+        body.key("day").day(*day_);
+    }
     overall.put(body, "overall");
     unauthorized.put(body, "unauthorized");
-    return {200, body.close('}').take()};
+    body.close('}');
+}
+
+Answer Desk::rates(Company& company)
+{
+    if (!day_) {
+        return refused({kNoDay});
+    }
+    JsonText body;
+    put_rates(body, company, true);
+    return {200, body.take()};
 }
 
 Answer Desk::exposure(Company& company)
@@ -396,4 +405,22 @@ Answer Desk::exposure(Company& company)
     body.open('{').key("credit").decimal(sums.credit_exposure(*day_)).key("credit_limit").number(company.limits.credit);
     body.key("day").day(*day_).key("debit").decimal(sums.debit_exposure(open_since_)).key("debit_limit").number(company.limits.debit);
     return {200, body.key("entry_limit").number(company.limits.entry).close('}').take()};
+}
+
+Answer Desk::companies()
+{
+    if (!day_) {
+        return refused({kNoDay});
+    }
+    JsonText body(4096);
+    body.open('{').key("companies").open('[');
+    for (auto& [id, company] : companies_) {
+        const OpenSums& sums = sums_of(company);
+        body.item().open('{').key("credit").decimal(sums.credit_exposure(*day_)).key("credit_limit").number(company.limits.credit);
+        body.key("debit").decimal(sums.debit_exposure(open_since_)).key("debit_limit").number(company.limits.debit);
+        body.key("entry_limit").number(company.limits.entry).key("id").text(id).key("name").text(company.name).key("rates");
+        put_rates(body, company, false);
+        body.close('}');
+    }
+    return {200, body.close(']').key("day").day(*day_).close('}').take()};
 }

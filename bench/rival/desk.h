@@ -75,6 +75,7 @@ public:
     Answer set_day(const JsonValue& object);
     Answer set_holidays(std::string_view text);
     Answer put_company(const JsonValue& object);
+    Answer companies();
     Answer put_limits(const JsonValue& object);
     Answer cut();
     Answer take_file(std::string_view bytes);
@@ -98,6 +99,7 @@ private:
 
     OpenSums& sums_of(Company& company);
     void keep_sums();
+    void put_rates(JsonText& body, Company& company, bool has_day);
     int64_t orders_of(Company& company);
     Refusal within_limits(Company& company, const Submission& asked);
     void add_entries(std::string_view company, int64_t order, const std::vector<Entry>& entries);

@@ -154,7 +154,7 @@ class Bank:
                 self.company(name, f"GET {what}")
         for name, body in self.rng.sample(self.accepted, min(refs, len(self.accepted))):
             self.company(name, f"GET submissions/{body['ref']}")
-        for what in ("settlement", "suspense", "status"):
+        for what in ("settlement", "suspense", "status", "companies"):
             self.operator(f"GET /ops/{what}")
 
 
@@ -276,7 +276,7 @@ def refusals(pair, seed, spoils):
     bank.register("MILL01")
     for what in ("returns", "changes", "statement", "rates", "exposure", "submissions/PAY-1"):
         bank.company("MILL01", f"GET {what}")
-    for what in ("POST /ops/cut", "GET /ops/settlement", "GET /ops/suspense", "GET /ops/status"):
+    for what in ("POST /ops/cut", "GET /ops/settlement", "GET /ops/suspense", "GET /ops/status", "GET /ops/companies", "PUT /ops/companies", "DELETE /ops/limits"):
         bank.operator(what)
     bank.submit("MILL01", pay)
     bank.submit("MILL01", {"ref": 1})
@@ -380,7 +380,7 @@ def lapses(pair):
     bank.submit("MILL01", body | {"entries": [it | {"prenote": False, "cents": 2500} for it in body["entries"][:5]] + [body["entries"][5] | {"prenote": True, "cents": 0}]})
     bank.submit("MILL01", submission(rng, 2, 2, FIRST_DAY + datetime.timedelta(2), debit=False))
     retry = lambda ref, index, day, **more: bank.company("MILL01", "POST retries", {"ref": ref, "of": "S-1", "index": index, "day": str(day)} | more)
-    exposures = lambda: (bank.company("MILL01", "GET exposure"), bank.operator("GET /ops/status"))
+    exposures = lambda: (bank.company("MILL01", "GET exposure"), bank.operator("GET /ops/status"), bank.operator("GET /ops/companies"))
     bank.set_day("2025-01-09")
     bank.cut()
     bank.set_day("2025-01-14")
@@ -487,7 +487,7 @@ class Days:
             name = self.rng.choice(list(bank.keys))
             bank.company(name, f"GET {self.rng.choice(['returns', 'changes', 'statement', 'rates'])}")
         if self.rng.random() < 0.2:
-            bank.operator(f"GET /ops/{self.rng.choice(['settlement', 'suspense', 'status', 'status'])}")
+            bank.operator(f"GET /ops/{self.rng.choice(['settlement', 'suspense', 'status', 'status', 'companies', 'companies'])}")
         if bank.accepted and self.rng.random() < 0.2:
             name, body = self.rng.choice(bank.accepted)
             bank.company(name, f"GET submissions/{body['ref']}")

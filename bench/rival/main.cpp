@@ -53,6 +53,7 @@ using Pieces = std::vector<std::string_view>;
 constexpr OperatorRoute kOperatorRoutes[] = {
     {"day", 2, true, true, [](Desk& desk, const JsonValue& object, const Pieces&, std::string_view) { return desk.set_day(object); }},
     {"companies", 2, true, true, [](Desk& desk, const JsonValue& object, const Pieces&, std::string_view) { return desk.put_company(object); }},
+    {"companies", 2, false, false, [](Desk& desk, const JsonValue&, const Pieces&, std::string_view) { return desk.companies(); }},
     {"limits", 2, true, true, [](Desk& desk, const JsonValue& object, const Pieces&, std::string_view) { return desk.put_limits(object); }},
     {"holidays", 2, true, false, [](Desk& desk, const JsonValue&, const Pieces&, std::string_view body) { return desk.set_holidays(body); }},
     {"cut", 2, true, false, [](Desk& desk, const JsonValue&, const Pieces&, std::string_view) { return desk.cut(); }},
@@ -78,14 +79,19 @@ Pieces pieces_of(std::string_view path)
     return pieces;
 }
 
-template <typename Route, size_t N> const Route* find_route(const Route (&routes)[N], std::string_view name, size_t pieces)
+template <typename Route> std::string_view method_of(const Route& route) { return route.is_post ? "POST" : "GET"; }
+
+// The route of a path by this method; else one by the other method, if the path has it.
+template <typename Route, size_t N>
+const Route* find_route(const Route (&routes)[N], std::string_view name, size_t pieces, std::string_view method)
 {
+    const Route* found = nullptr;
     for (const Route& route : routes) {
-        if (route.name == name && route.pieces == pieces) {
-            return &route;
+        if (route.name == name && route.pieces == pieces && (found == nullptr || method_of(route) == method)) {
+            found = &route;
         }
     }
-    return nullptr;
+    return found;
 }
 
 Digest key_of(const Request& request)
@@ -123,7 +129,7 @@ template <typename Route, typename Call> Answer answer_route(const Route* route,
     if (route == nullptr) {
         return fault(404, "NotFound");
     }
-    return request.method == (route->is_post ? "POST" : "GET") ? call(*route) : fault(405, "BadMethod");
+    return request.method == method_of(*route) ? call(*route) : fault(405, "BadMethod");
 }
 
 Answer answer(Desk& desk, Request& request)
@@ -135,10 +141,11 @@ Answer answer(Desk& desk, Request& request)
     }
     Pieces pieces = pieces_of(request.path);
     if (pieces.size() >= 3 && pieces[0] == "c") {
-        const CompanyRoute* route = find_route(kCompanyRoutes, pieces[2], pieces.size());
+        const CompanyRoute* route = find_route(kCompanyRoutes, pieces[2], pieces.size(), request.method);
         return answer_route(route, request, [&](const CompanyRoute& it) { return answer_company(desk, it, pieces, request); });
     }
-    const OperatorRoute* route = pieces.size() >= 2 && pieces[0] == "ops" ? find_route(kOperatorRoutes, pieces[1], pieces.size()) : nullptr;
+    bool is_operator = pieces.size() >= 2 && pieces[0] == "ops";
+    const OperatorRoute* route = is_operator ? find_route(kOperatorRoutes, pieces[1], pieces.size(), request.method) : nullptr;
     return answer_route(route, request, [&](const OperatorRoute& it) { return answer_operator(desk, it, pieces, request); });
 }
 

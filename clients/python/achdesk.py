@@ -52,10 +52,11 @@ from typing import (
 )
 
 __all__ = [
-    "Accepted", "Change", "Company", "CompanyStatus", "CutMade", "DaySum", "DeskError", "DueDay",
-    "Entry", "Exposure", "ForeignAnswer", "Found", "FoundEntry", "Held", "InputFault", "Line",
-    "NoAnswer", "Operator", "Rate", "Rates", "Refused", "Return", "ReturnsTaken", "Settings",
-    "Settlement", "Statement", "Status", "SuspenseItem", "Tally", "entries_of_csv",
+    "Accepted", "Change", "Companies", "Company", "CompanyRates", "CompanyRisk", "CompanyStatus",
+    "CutMade", "DaySum", "DeskError", "DueDay", "Entry", "Exposure", "ForeignAnswer", "Found",
+    "FoundEntry", "Held", "InputFault", "Line", "NoAnswer", "Operator", "Rate", "Rates", "Refused",
+    "Return", "ReturnsTaken", "Settings", "Settlement", "Statement", "Status", "SuspenseItem",
+    "Tally", "entries_of_csv",
 ]
 
 LARGEST_BODY = 4_194_304
@@ -401,6 +402,44 @@ class Exposure:
 
 
 # ---- answers to the operator
+
+
+@dataclass(frozen=True)
+class CompanyRates:
+    """A company's three return rates."""
+
+    unauthorized: Rate
+    administrative: Rate
+    overall: Rate
+
+
+@dataclass(frozen=True)
+class CompanyRisk:
+    """A company's limits, its exposures and its return rates."""
+
+    id: str
+    name: str
+    credit: int
+    credit_limit: int
+    debit: int
+    debit_limit: int
+    entry_limit: int
+    rates: CompanyRates
+
+
+@dataclass(frozen=True)
+class Companies:
+    """All companies, in the order of their identifications.
+
+    Exposures are those of the desk day, and rates those of the 60 days that end on it.
+    """
+
+    day: datetime.date
+    companies: Tuple[CompanyRisk, ...]
+
+    def company(self, id: str) -> Optional[CompanyRisk]:
+        """Returns the company with this identification, or None."""
+        return next((it for it in self.companies if it.id == id), None)
 
 
 @dataclass(frozen=True)
@@ -974,6 +1013,13 @@ class Operator(_Caller):
     def status(self) -> Status:
         """Returns the desk's status: its day, and what each company has held and due."""
         return self._read(_get("/ops/status"), Status)
+
+    def companies(self) -> Companies:
+        """Returns every company with its limits, exposures and return rates.
+
+        Raises `Refused` with `NoDay` before the first desk day.
+        """
+        return self._read(_get("/ops/companies"), Companies)
 
     def set_day(self, day: datetime.date) -> datetime.date:
         """Sets the desk day, which cannot be taken back, and returns it.

@@ -71,6 +71,9 @@ OTHER_ROUTES = [
     ("desk", "GET /ops/status", "", "200 OK",
      '{"companies":[{"due":[],"held":' + NOTHING_HELD + ',"id":"MILL01","lapsing":0,"name":"MILL STREET"}],"day":"2025-01-14","files":[],"holidays":1,'
      '"sent":2,"suspense":0}'),
+    ("desk", "GET /ops/companies", "", "200 OK",
+     '{"companies":[{"credit":"0","credit_limit":999999999999999,"debit":"0","debit_limit":999999999999999,"entry_limit":9999999999,"id":"MILL01","name":"MILL STREET",'
+     '"rates":{"administrative":{"d":1,"n":0,"over":false},"overall":{"d":1,"n":1,"over":true},"unauthorized":{"d":1,"n":0,"over":false}}}],"day":"2025-01-14"}'),
     ("desk", "POST /ops/limits", LIMITS, "200 OK", '{"id":"MILL01"}'),
     ("MILL01", "POST /c/MILL01/retries", '{"ref":"RT-1","of":"PAY-2","index":1,"day":"2025-01-16"}', "201 Created",
      '{"cents":2500,"entries":1,"order":3,"ref":"RT-1"}'),

@@ -183,17 +183,18 @@ class Bank:
         text = "".join(f"[{name}]\n" + "".join(f"{key} = {value}\n" for key, value in settings.items()) for name, settings in sections.items())
         (path or self.config).write_text(text)
 
-    def day(self, *words, config=None, seconds=None, **environment):
-        """Runs achdesk-day; gives the status, what it printed, and its errors. It is killed after so many seconds."""
+    def day(self, *words, config=None, seconds=None, given=None, **environment):
+        """Runs achdesk-day, with a text on its standard input if one is given; returns the status, what it printed, and its
+        errors. It is killed after so many seconds."""
         known = os.environ | {"ACHDESK_DAY_NOW": self.now} | {key: str(value) for key, value in environment.items()}
         it = subprocess.Popen([sys.executable, DAY, "--config", config or self.config, *words], env=known, stdout=subprocess.PIPE,
-                              stderr=subprocess.PIPE, text=True)
+                              stdin=None if given is None else subprocess.PIPE, stderr=subprocess.PIPE, text=True)
         if seconds is not None:
             try:
                 it.wait(seconds)
             except subprocess.TimeoutExpired:
                 it.kill()
-        printed, errors = it.communicate(timeout=600)
+        printed, errors = it.communicate(given, timeout=600)
         return it.returncode, printed, errors
 
     def curl(self, name, path, body=None):

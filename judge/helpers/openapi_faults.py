@@ -48,9 +48,9 @@ def not_found(operation):
 
 
 def bad_methods(operation):
-    """Under a wrong key, since the method is looked at first."""
+    """Under a wrong key, since the method is checked first."""
     for method in OTHER_METHODS:
-        if method != operation.method:
+        if method not in operation.path_methods:
             yield keyed(method, operation.target({}), "wrong-key")
 
 

@@ -19,6 +19,7 @@ class Operation:
     name: str
     method: str
     path: str
+    path_methods: list  # all methods that the path takes
     parameters: dict  # each name with its example
     key: str
     tree: dict
@@ -75,9 +76,10 @@ class Page:
         schemes = self.tree["components"]["securitySchemes"]
         for path, item in self.tree["paths"].items():
             parameters = {it["name"]: it["example"] for it in map(self.at, item.get("parameters", []))}
+            methods = [key.upper() for key in item if key in METHODS]
             for method, tree in ((key, it) for key, it in item.items() if key in METHODS):
                 (scheme,) = tree["security"][0]
-                yield Operation(tree["operationId"], method.upper(), path, parameters, schemes[scheme]["x-key"], tree)
+                yield Operation(tree["operationId"], method.upper(), path, methods, parameters, schemes[scheme]["x-key"], tree)
 
     def read_examples(self):
         """The examples that stand in an operation's answers themselves."""

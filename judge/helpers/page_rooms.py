@@ -73,10 +73,11 @@ def ask(room, messages):
 
 
 def make_inbox(room):
-    """Three files in the inbox: one with a return, one with a return of a stranger, and one that was spoiled."""
+    """A file with a return, which is to be delivered, and two in the inbox: one with a return of a stranger, and one that was
+    spoiled."""
     inbox = room.folder / "var/lib/achdesk-day/inbox"
     inbox.mkdir(exist_ok=True)
-    shutil.copy(EXAMPLES / "return-1.ach", inbox / "r-0114a.ach")
+    shutil.copy(EXAMPLES / "return-1.ach", room.folder / "r-0114a.ach")
     stranger = {"debit": True, "savings": False, "account": "5550017", "cents": 4900, "ident": "E9", "name": "CAL DOE",
                 "code": "R03", "trace": "121042880000009", "dfi": "09100001"}
     (inbox / "r-0114b.ach").write_text(file_of_returns(7, "PPD", [stranger]))

@@ -39,6 +39,7 @@ ORDERS = {
     "exposure": (1,),
     "setDay": (2, 20, 21),
     "setHolidays": (28,),
+    "companies": (1,),
     "registerCompany": (2, 22),
     "setLimits": (2, 23),
     "cut": (1, 24, 25),
