@@ -42,7 +42,7 @@ new_total debit (e ∷ es) =
     sum_by-cons (λ f. f.cents) (entry_fact debit (e, Held)) (map (entry_fact debit) (zip es (replicate (length es) Held)))
     ∙ ap (λ (n : ℕ). e.cents + n) (new_total debit es) ∙ sym (sum_by-cons (λ (x : Entry). x.cents) e es)
 
-new_held : (debit : Bool) (es : List Entry) → AllByRecursion (λ f. place_of f.state ≡ Some None) (map (entry_fact debit) (zip es (replicate (length es) Held)))
+pub new_held : (debit : Bool) (es : List Entry) → AllByRecursion (λ f. place_of f.state ≡ Some None) (map (entry_fact debit) (zip es (replicate (length es) Held)))
 new_held debit [] = tt
 new_held debit (e ∷ es) = (refl, new_held debit es)
 

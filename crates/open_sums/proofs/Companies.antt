@@ -12,58 +12,63 @@ use Rattle.desk_book.specs.declared.flat_rows.FileRow.{FileRow}
 use Rattle.desk_book.specs.Steps.{put_change, put_file}
 use Rattle.open_sums.specs.CompanyKeys.{company_cmp}
 use Rattle.open_sums.specs.Known.{KnowsRight, Follows}
-use Rattle.open_sums.specs.Remembered.{IsOf}
+use Rattle.open_sums.specs.KnownCompany.{AgreesWith}
 use Rattle.open_sums.specs.declared.company_key.CompanyKey.{CompanyKey}
 use Rattle.open_sums.specs.declared.known.Known.{Known}
-use Rattle.open_sums.specs.declared.remembered.Remembered.{Remembered}
+use Rattle.open_sums.specs.declared.known_company.KnownCompany.{KnownCompany}
 
 abbrev pub key : List ℕ → CompanyKey
 key c = record { company = c }
 
-pub company_followed : (c : List ℕ) (turn : List Row → List Row) (m n : BTreeMap CompanyKey Remembered) (v w : Remembered) (b : Book)
+-- what is known of a company agrees with its rows
+pub company_found : (c : List ℕ) (m : BTreeMap CompanyKey KnownCompany) (v : KnownCompany) (b : Book) → Some v ≡ get company_cmp m (key c)
+    → ((q : CompanyKey) → IfSome (get company_cmp m q) (λ x. AgreesWith x (b.rows q.company))) → AgreesWith v (b.rows c)
+company_found c m v b found all = subst (λ (o : Option KnownCompany). IfSome o (λ x. AgreesWith x (b.rows c))) (sym found) (all (key c))
+
+pub company_followed : (c : List ℕ) (turn : List Row → List Row) (m n : BTreeMap CompanyKey KnownCompany) (v w : KnownCompany) (b : Book)
     → Some v ≡ get company_cmp m (key c)
     → ((q : CompanyKey) → get company_cmp n q ≡ cond (is_at (company_cmp (key c)) q) (Some w) (get company_cmp m q))
-    → ((rs : List Row) → IsOf v rs → IsOf w (turn rs))
-    → ((q : CompanyKey) → IfSome (get company_cmp m q) (λ x. IsOf x (b.rows q.company)))
-    → (q : CompanyKey) → IfSome (get company_cmp n q) (λ x. IsOf x (if bytes_eq c q.company then turn (b.rows q.company) else b.rows q.company))
+    → ((rs : List Row) → AgreesWith v rs → AgreesWith w (turn rs))
+    → ((q : CompanyKey) → IfSome (get company_cmp m q) (λ x. AgreesWith x (b.rows q.company)))
+    → (q : CompanyKey) → IfSome (get company_cmp n q) (λ x. AgreesWith x (if bytes_eq c q.company then turn (b.rows q.company) else b.rows q.company))
 company_followed c turn m n v w b found puts follows all q =
-    subst (λ (o : Option Remembered). IfSome o (λ x. IsOf x (if bytes_eq c q.company then turn (b.rows q.company) else b.rows q.company))) (sym (puts q)) (by (is_at (company_cmp (key c)) q) (texts_ties c q.company)) where
-      by : (t : Bool) → bytes_eq c q.company ≡ t → IfSome (cond t (Some w) (get company_cmp m q)) (λ x. IsOf x (if bytes_eq c q.company then turn (b.rows q.company) else b.rows q.company))
+    subst (λ (o : Option KnownCompany). IfSome o (λ x. AgreesWith x (if bytes_eq c q.company then turn (b.rows q.company) else b.rows q.company))) (sym (puts q)) (by (is_at (company_cmp (key c)) q) (texts_ties c q.company)) where
+      by : (t : Bool) → bytes_eq c q.company ≡ t → IfSome (cond t (Some w) (get company_cmp m q)) (λ x. AgreesWith x (if bytes_eq c q.company then turn (b.rows q.company) else b.rows q.company))
       by true e =
-          let was : IsOf v (b.rows c) = subst (λ (o : Option Remembered). IfSome o (λ x. IsOf x (b.rows c))) (sym found) (all (key c)) in
-          let here : IsOf v (b.rows q.company) = subst (λ (k : List ℕ). IsOf v (b.rows k)) (same_text c q.company (sym e)) was in
-          subst (λ (t : Bool). IsOf w (if t then turn (b.rows q.company) else b.rows q.company)) (sym e) (follows (b.rows q.company) here)
-      by false e = subst (λ (t : Bool). IfSome (get company_cmp m q) (λ x. IsOf x (if t then turn (b.rows q.company) else b.rows q.company))) (sym e) (all q)
+          let was : AgreesWith v (b.rows c) = company_found c m v b found all in
+          let here : AgreesWith v (b.rows q.company) = subst (λ (k : List ℕ). AgreesWith v (b.rows k)) (same_text c q.company (sym e)) was in
+          subst (λ (t : Bool). AgreesWith w (if t then turn (b.rows q.company) else b.rows q.company)) (sym e) (follows (b.rows q.company) here)
+      by false e = subst (λ (t : Bool). IfSome (get company_cmp m q) (λ x. AgreesWith x (if t then turn (b.rows q.company) else b.rows q.company))) (sym e) (all q)
 
 -- the same, where the step is followed of the rows that the company has
-pub company_followed_there : (c : List ℕ) (turn : List Row → List Row) (m n : BTreeMap CompanyKey Remembered) (v w : Remembered) (b : Book)
+pub company_followed_there : (c : List ℕ) (turn : List Row → List Row) (m n : BTreeMap CompanyKey KnownCompany) (v w : KnownCompany) (b : Book)
     → Some v ≡ get company_cmp m (key c)
     → ((q : CompanyKey) → get company_cmp n q ≡ cond (is_at (company_cmp (key c)) q) (Some w) (get company_cmp m q))
-    → (IsOf v (b.rows c) → IsOf w (turn (b.rows c)))
-    → ((q : CompanyKey) → IfSome (get company_cmp m q) (λ x. IsOf x (b.rows q.company)))
-    → (q : CompanyKey) → IfSome (get company_cmp n q) (λ x. IsOf x (if bytes_eq c q.company then turn (b.rows q.company) else b.rows q.company))
+    → (AgreesWith v (b.rows c) → AgreesWith w (turn (b.rows c)))
+    → ((q : CompanyKey) → IfSome (get company_cmp m q) (λ x. AgreesWith x (b.rows q.company)))
+    → (q : CompanyKey) → IfSome (get company_cmp n q) (λ x. AgreesWith x (if bytes_eq c q.company then turn (b.rows q.company) else b.rows q.company))
 company_followed_there c turn m n v w b found puts follows all q =
-    subst (λ (o : Option Remembered). IfSome o (λ x. IsOf x (if bytes_eq c q.company then turn (b.rows q.company) else b.rows q.company))) (sym (puts q)) (by (is_at (company_cmp (key c)) q) (texts_ties c q.company)) where
-      by : (t : Bool) → bytes_eq c q.company ≡ t → IfSome (cond t (Some w) (get company_cmp m q)) (λ x. IsOf x (if bytes_eq c q.company then turn (b.rows q.company) else b.rows q.company))
+    subst (λ (o : Option KnownCompany). IfSome o (λ x. AgreesWith x (if bytes_eq c q.company then turn (b.rows q.company) else b.rows q.company))) (sym (puts q)) (by (is_at (company_cmp (key c)) q) (texts_ties c q.company)) where
+      by : (t : Bool) → bytes_eq c q.company ≡ t → IfSome (cond t (Some w) (get company_cmp m q)) (λ x. AgreesWith x (if bytes_eq c q.company then turn (b.rows q.company) else b.rows q.company))
       by true e =
-          let was : IsOf v (b.rows c) = subst (λ (o : Option Remembered). IfSome o (λ x. IsOf x (b.rows c))) (sym found) (all (key c)) in
-          let here : IsOf w (turn (b.rows q.company)) = subst (λ (k : List ℕ). IsOf w (turn (b.rows k))) (same_text c q.company (sym e)) (follows was) in
-          subst (λ (t : Bool). IsOf w (if t then turn (b.rows q.company) else b.rows q.company)) (sym e) here
-      by false e = subst (λ (t : Bool). IfSome (get company_cmp m q) (λ x. IsOf x (if t then turn (b.rows q.company) else b.rows q.company))) (sym e) (all q)
+          let was : AgreesWith v (b.rows c) = company_found c m v b found all in
+          let here : AgreesWith w (turn (b.rows q.company)) = subst (λ (k : List ℕ). AgreesWith w (turn (b.rows k))) (same_text c q.company (sym e)) (follows was) in
+          subst (λ (t : Bool). AgreesWith w (if t then turn (b.rows q.company) else b.rows q.company)) (sym e) here
+      by false e = subst (λ (t : Bool). IfSome (get company_cmp m q) (λ x. AgreesWith x (if t then turn (b.rows q.company) else b.rows q.company))) (sym e) (all q)
 
 -- a company is put in
-pub company_put : (c : List ℕ) (m n : BTreeMap CompanyKey Remembered) (w : Remembered) (b : Book)
-    → ((q : CompanyKey) → get company_cmp n q ≡ cond (is_at (company_cmp (key c)) q) (Some w) (get company_cmp m q)) → IsOf w (b.rows c)
-    → ((q : CompanyKey) → IfSome (get company_cmp m q) (λ x. IsOf x (b.rows q.company))) → (q : CompanyKey) → IfSome (get company_cmp n q) (λ x. IsOf x (b.rows q.company))
-company_put c m n w b puts is all q = subst (λ (o : Option Remembered). IfSome o (λ x. IsOf x (b.rows q.company))) (sym (puts q)) (by (is_at (company_cmp (key c)) q) (texts_ties c q.company)) where
-  by : (t : Bool) → bytes_eq c q.company ≡ t → IfSome (cond t (Some w) (get company_cmp m q)) (λ x. IsOf x (b.rows q.company))
-  by true e = subst (λ (k : List ℕ). IsOf w (b.rows k)) (same_text c q.company (sym e)) is
+pub company_put : (c : List ℕ) (m n : BTreeMap CompanyKey KnownCompany) (w : KnownCompany) (b : Book)
+    → ((q : CompanyKey) → get company_cmp n q ≡ cond (is_at (company_cmp (key c)) q) (Some w) (get company_cmp m q)) → AgreesWith w (b.rows c)
+    → ((q : CompanyKey) → IfSome (get company_cmp m q) (λ x. AgreesWith x (b.rows q.company))) → (q : CompanyKey) → IfSome (get company_cmp n q) (λ x. AgreesWith x (b.rows q.company))
+company_put c m n w b puts is all q = subst (λ (o : Option KnownCompany). IfSome o (λ x. AgreesWith x (b.rows q.company))) (sym (puts q)) (by (is_at (company_cmp (key c)) q) (texts_ties c q.company)) where
+  by : (t : Bool) → bytes_eq c q.company ≡ t → IfSome (cond t (Some w) (get company_cmp m q)) (λ x. AgreesWith x (b.rows q.company))
+  by true e = subst (λ (k : List ℕ). AgreesWith w (b.rows k)) (same_text c q.company (sym e)) is
   by false e = all q
 
 -- ---- what a cut and a file write beside rows
 
 pub same_rows : (m : Known) (b after : Book) → after.rows ≡ b.rows → KnowsRight m b → KnowsRight m after
-same_rows m b after same right k = subst (λ (rows : List ℕ → List Row). IfSome (get company_cmp m.companies k) (λ x. IsOf x (rows k.company))) (sym same) (right k)
+same_rows m b after same right k = subst (λ (rows : List ℕ → List Row). IfSome (get company_cmp m.companies k) (λ x. AgreesWith x (rows k.company))) (sym same) (right k)
 
 pub files_keep_rows : (fs : List FileRow) (b : Book) → (fold put_file b fs).rows ≡ b.rows
 files_keep_rows [] b = refl

@@ -47,7 +47,7 @@ held_one of debit prenote cents (Sent settled) is = absurd cc
 held_one of debit prenote cents (Returned settled code taken late) is = absurd cc
 held_one of debit prenote cents Lapsed is = absurd cc
 
-and_not : (x : Bool) → (x && false) ≡ false
+pub and_not : (x : Bool) → (x && false) ≡ false
 and_not true = refl
 and_not false = refl
 

@@ -1,7 +1,6 @@
 -- What is kept of a submission, and when it agrees with the book.
 use Rattle.std.specs.Prelude.{◌≡◌, ℕ, ◌-◌, ◌==◌, Bool, true, if◌then◌else◌, List, map, Option, Some, None, sum, sum_by, slice_get}
 use Rattle.std.specs.List.{slice_set, AllByRecursion}
-use Rattle.desk_rules.specs.declared.rules.entry_fact.EntryFact.{EntryFact}
 use Rattle.desk_rules.specs.declared.rules.entry_fact.EntryState.{EntryState}
 use Rattle.desk_rules.specs.declared.rules.entry_fact.EntryState.TheVariants.{Held, Sent, Returned, Lapsed}
 use Rattle.desk_rules.specs.LimitChecks.{is_debit}

@@ -5,6 +5,7 @@ use Rattle.desk_book.specs.declared.row.Row.{Row}
 use Rattle.desk_book.specs.Standing.{facts_in}
 use Rattle.desk_book.specs.OpenRows.{is_open_row}
 use Rattle.desk_rules.specs.declared.rules.entry_fact.EntryFact.{EntryFact}
+use Rattle.desk_rules.specs.declared.rules.entry_fact.EntryState.TheVariants.{Held}
 use Rattle.open_sums.specs.OpenSums.{held_credits, held_debits, credits_on, debits_on}
 use Rattle.open_sums.specs.Kept.{held_in, settled_in}
 use Rattle.open_sums.specs.KnownRow.{KnownRow, Fits}
@@ -52,6 +53,10 @@ AreNumbered rs = map (λ row. row.order) rs ≡ range_with_len 1 (length rs)
 -- something is kept of each row
 abbrev pub AreKept : OpenRows → List Row → Type 0
 AreKept m rs = AllByRecursion (λ row. is_some (row_in row.order m) ≡ true) rs
+
+-- the entries of the rows with this order number are all held
+abbrev pub AreHeld : (order : ℕ) → List Row → Type 0
+AreHeld order rs = AllByRecursion (λ f. f.state ≡ Held) (facts_in (rows_at order rs))
 
 -- what is remembered agrees with a company's rows
 pub record IsOf (m : Remembered) (rs : List Row) : Type 0 where

@@ -3,25 +3,26 @@ ghost use Rattle.std.specs.Prelude.{◌≡◌, ◌+◌, Option, IfSome, length};
 ghost use Rattle.desk_rules.specs.declared.bodies.submission.Retry.{Retry};
 ghost use Rattle.desk_book.specs.Book.{Book};
 ghost use Rattle.desk_book.specs.Steps.{add_submission, put_lapsed_row, put_return, put_sent_row};
-ghost use Rattle.desk_book.specs.Sums.{exposures_on};
+ghost use Rattle.desk_book.specs.Sums.{exposures_on, rates_of};
 ghost use Rattle.desk_store.specs.Written.{cut_step, intake_step};
-ghost use Rattle.open_sums.specs.Known.{Follows, IsNumbered, KnowsRight};
+ghost use Rattle.open_sums.specs.Known.{Follows, IsNumbered, KnowsRight, is_known};
 ghost use Rattle.open_sums.specs.Remembered.{IsOf};
 
 use crate::company_key::CompanyKey;
+use crate::known_company::KnownCompany;
 use crate::remembered::Remembered;
 use ach_fields::Id;
 use bank_days::{Calendar, Day};
 use desk_book::{LapsedRow, ReturnedRow, SentRow};
-use desk_rules::SizedSubmission;
+use desk_rules::{Rates, SizedSubmission};
 use desk_store::{CutRows, IntakeRows};
 use std::alloc::Global;
 use std::collections::BTreeMap;
 
-/// The open submissions of the companies that were asked about.
+/// The open submissions and the return rates of the companies that were asked about.
 #[derive(Drop)]
 pub struct Known {
-    companies: BTreeMap<CompanyKey, Remembered>,
+    companies: BTreeMap<CompanyKey, KnownCompany>,
 }
 
 impl Known {
@@ -34,14 +35,14 @@ impl Known {
         }
     }
 
-    /// Remembers a company. Without memory for it, all companies are forgotten.
+    /// Remembers a company's open submissions. Without memory for them, all companies are forgotten.
     pub fn remember(&mut self, company: Id, remembered: Remembered)
         ensures { (b : Book) → KnowsRight self.old b → IsOf remembered (b.rows company)
             → KnowsRight self.new b }
     {
         if self
             .companies
-            .insert(CompanyKey { company }, remembered)
+            .insert(CompanyKey { company }, KnownCompany::new(remembered))
             .is_err()
         {
             self.companies.clear();
@@ -55,6 +56,13 @@ impl Known {
         self.companies.remove(&CompanyKey { company });
     }
 
+    /// Reports whether a company is remembered.
+    pub fn has(&self, company: Id) -> bool
+        ensures { result ≡ is_known company self.now }
+    {
+        self.companies.contains_key(&CompanyKey { company })
+    }
+
     /// Returns a company's credit and debit exposure on a day, in cents, if they are known.
     pub fn exposures(&self, company: Id, today: Day, calendar: &Calendar) -> Option<(u128, u128)>
         ensures { IfSome result (λ sums. (b : Book) → KnowsRight self.now b
@@ -63,6 +71,25 @@ impl Known {
         self.companies
             .get(&CompanyKey { company })?
             .exposures(today, calendar)
+    }
+
+    /// Returns a company's return rates on a day, if they are known.
+    pub fn rates(&self, company: Id, today: Day) -> Option<Rates>
+        ensures { IfSome result (λ found. (b : Book) → KnowsRight self.now b
+            → found ≡ rates_of company today b) }
+    {
+        self.companies.get(&CompanyKey { company })?.rates(today)
+    }
+
+    /// Remembers a company's return rates on a day, if the company is remembered.
+    pub fn remember_rates(&mut self, company: Id, today: Day, found: Rates)
+        ensures { (b : Book) → found ≡ rates_of company today b → KnowsRight self.old b
+            → KnowsRight self.new b }
+    {
+        let Some(known) = self.companies.get_mut(&CompanyKey { company }) else {
+            return;
+        };
+        known.remember_rates(today, found);
     }
 
     /// Follows an accepted submission.

@@ -1,10 +1,16 @@
-//! A store around a store that remembers the open submissions of companies.
+//! A store around a store that remembers the open submissions and the return rates of companies.
 //!
-//! The first time a company's exposures are asked for, [`Remembering`] reads its open submissions once.
-//! From then on it follows each write: a submission, a cut, a returns file. It keeps what is held and
-//! what settles, summed by settlement day, so that a new desk day or a new holiday list changes nothing
-//! of it: [`exposures_read_off`] says how both exposures follow from the sums. If memory for this runs out,
-//! the company is forgotten and read again at the next question; the call itself does not fail.
+//! The first time a company's exposures or return rates are asked for, [`Remembering`] reads its open
+//! submissions once. From then on it follows each write: a submission, a cut, a returns file. It keeps
+//! what is held and what settles, summed by settlement day, so that a new desk day or a new holiday list
+//! changes nothing of it: [`exposures_read_off`] says how both exposures follow from the sums. If memory
+//! for this runs out, the company is forgotten and read again at the next question; the call itself does
+//! not fail.
+//!
+//! Return rates are read from the store inside and kept with the day for which they were asked, one day
+//! for each company. They are forgotten if a file returns an entry of the company, or if a cut sends a
+//! submission of it that settles on or before that day. Accepted submissions, lapsed retries and other
+//! cuts leave them unchanged.
 //!
 //! A company costs 8 bytes for each open debit and some 200 for each open submission. At most 1,000,000
 //! debits and 200,000 submissions are kept of it. If more are open, each question asks the store inside.
@@ -18,6 +24,7 @@ mod day_sums;
 mod first_read;
 mod keep;
 mod known;
+mod known_company;
 mod laws;
 mod left_out;
 mod open_row;
@@ -28,6 +35,7 @@ mod remembering;
 mod sums;
 
 pub use known::Known;
+pub use known_company::KnownCompany;
 pub use laws::{
     added_are_held, exposures_read_off, lapsed_lapse, numbered_books, rates_read_off,
     returned_come_back, sent_settle,

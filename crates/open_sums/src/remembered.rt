@@ -9,7 +9,7 @@ ghost use Rattle.desk_book.specs.Sums.{exposures_on};
 ghost use Rattle.open_sums.specs.KnownRow.{Fits};
 ghost use Rattle.desk_book.specs.OpenRows.{open_rows};
 ghost use Rattle.desk_book.specs.OpenSubmissions.{open_submission};
-ghost use Rattle.open_sums.specs.Remembered.{AreKept, AreNumbered, IsOf};
+ghost use Rattle.open_sums.specs.Remembered.{AreHeld, AreKept, AreNumbered, IsOf};
 
 use crate::caps::is_behind;
 use crate::first_read::keep_open;
@@ -102,8 +102,9 @@ impl Remembered {
 
     /// Follows a submission that is sent, by its order number. Returns false if it cannot.
     pub fn send(&mut self, order: u64, day: RuleDay) -> bool
-        ensures { IsTrue result → (rs : List Row) → IsOf self.old rs
+        ensures follows { IsTrue result → (rs : List Row) → IsOf self.old rs
             → IsOf self.new (map (if_order order (sent_row day)) rs) }
+        ensures held { IsTrue result → (rs : List Row) → IsOf self.old rs → AreHeld order rs }
     {
         let Some((debit, cents)) = self.rows.send(order, day) else {
             return false;
@@ -116,8 +117,9 @@ impl Remembered {
 
     /// Follows a retry that lapses, by its order number. Returns false if it cannot.
     pub fn lapse(&mut self, order: u64) -> bool
-        ensures { IsTrue result → (rs : List Row) → IsOf self.old rs
+        ensures follows { IsTrue result → (rs : List Row) → IsOf self.old rs
             → IsOf self.new (map (if_order order lapsed_row) rs) }
+        ensures held { IsTrue result → (rs : List Row) → IsOf self.old rs → AreHeld order rs }
     {
         let Some((debit, cents)) = self.rows.lapse(order) else {
             return false;

@@ -17,8 +17,8 @@ use desk_rules::{Company, Limits, Rates, Retry, RuleDay, SizedSubmission};
 use desk_store::{CutRows, IntakeRows, LastNumber, Store, StoreFault};
 use std::alloc::Global;
 
-/// A store that remembers the open submissions of the companies that were asked about, and hands every
-/// call on to the store inside.
+/// A store that remembers the open submissions and the return rates of the companies that were asked
+/// about, and asks the store inside for everything else.
 #[derive(Drop)]
 pub struct Remembering<S> {
     store: S,
@@ -76,6 +76,23 @@ impl<S: Store> Remembering<S> {
             return;
         };
         self.known.remember(company, read);
+    }
+
+    // Learns a company that is not known yet. Returns the fault if the holidays cannot be read.
+    fn learn_new(&mut self, alloc: Global, company: Id, today: Day) -> Result<(), StoreFault>
+        ensures before { S.is_clean self.new.store → S.is_clean self.old.store }
+        ensures read { S.is_clean self.new.store → (b : Book)
+            → HoldsKnown (S.holds self.old.store) self.old.known b
+            → HoldsKnown (S.holds self.new.store) self.new.known b }
+        ensures left { S.is_clean self.new.store
+            → LeavesRead (S.may_leave self.old.store) (S.may_leave self.new.store) }
+    {
+        if self.known.has(company) {
+            return Ok(());
+        }
+        let calendar = self.store.calendar(alloc)?;
+        self.learn(alloc, company, today, &calendar);
+        Ok(())
     }
 }
 
@@ -165,7 +182,17 @@ impl<S: Store> Store for Remembering<S> {
     }
 
     fn rates(&mut self, alloc: Global, company: Id, today: Day) -> Result<Rates, StoreFault> {
-        self.store.rates(alloc, company, today)
+        if let Some(rates) = self.known.rates(company, today) {
+            return Ok(rates);
+        }
+        self.learn_new(alloc, company, today)?;
+        match self.store.rates(alloc, company, today) {
+            Ok(rates) => {
+                self.known.remember_rates(company, today, rates);
+                Ok(rates)
+            }
+            Err(fault) => Err(fault),
+        }
     }
 
     fn retries_of(

@@ -16,6 +16,10 @@ const A_DEBIT: &str = "credit 0 of 999999999999999, debit 2500 of 99999999999999
 
 const BOTH: &str = "credit 150000 of 999999999999999, debit 2500 of 999999999999999";
 
+const NO_RATES: &str = "unauthorized 0 of 0, administrative 0 of 0, overall 0 of 0";
+
+const SETTLED: &str = "unauthorized 0 of 1, administrative 0 of 1, overall 0 of 1";
+
 const RETURNED: &str = "unauthorized 0 of 1, administrative 0 of 1, overall 1 of 1 over";
 
 const DAYS: Script = &[
@@ -24,10 +28,7 @@ const DAYS: Script = &[
     HOLIDAYS,
     DAY,
     ("MILL01 exposure", NOTHING),
-    (
-        "MILL01 rates",
-        "unauthorized 0 of 0, administrative 0 of 0, overall 0 of 0",
-    ),
+    ("MILL01 rates", NO_RATES),
     ("BAKE01 exposure", NOTHING),
     // Two submissions.
     PAY_1,
@@ -40,19 +41,20 @@ const DAYS: Script = &[
     ("BAKE01 exposure", NOTHING),
     // Two cuts.
     ("desk cut", "2025-01-08 sent 1 in [A], lapsed 0"),
+    ("MILL01 rates", NO_RATES),
     NINTH,
+    ("MILL01 rates", NO_RATES),
     CUT_9,
     ("MILL01 exposure", BOTH),
+    ("MILL01 rates", NO_RATES),
     // A day.
     ("desk day 2025-01-15", "2025-01-15"),
     ("MILL01 exposure", NOTHING),
+    ("MILL01 rates", SETTLED),
     // A holiday list: the second banking day after 2025-01-10 is a day later.
     ("desk holidays 2025-01-13\n2025-01-20", "holidays 2"),
     ("MILL01 exposure", A_DEBIT),
-    (
-        "MILL01 rates",
-        "unauthorized 0 of 1, administrative 0 of 1, overall 0 of 1",
-    ),
+    ("MILL01 rates", SETTLED),
     // A file.
     (
         "desk items A PPD R01/2/2500/26",
@@ -158,6 +160,82 @@ fn open_submissions_are_read_once(rt: HostRuntime) {
         for (day, answered) in days {
             assert!(&rt;
                 is_answered(&rt, &mut store, day) == *answered,
+                "{refused} {day}"
+            );
+        }
+    }
+}
+
+// Reports whether a company's return rates on a day are answered.
+fn has_rates(
+    rt: &(impl Abort + Alloc<A = Global>),
+    store: &mut Remembering<FaultyStore>,
+    day: &str,
+) -> bool {
+    let company = Id::new(b"MILL01").ok().expect(rt, "a company");
+    let today = Day::read(day.as_bytes()).expect(rt, "a day");
+    store.rates(rt.alloc(), company, today).is_ok()
+}
+
+// The same for return rates. The first question reads the holidays, the open submissions and the rates.
+// A later one of the same day reads nothing, and one of another day reads the rates alone. Rates are not
+// kept if the open submissions could not be read.
+const RATES: &[(u64, [(&str, bool); 4])] = &[
+    (
+        1,
+        [
+            ("2025-01-08", false),
+            ("2025-01-08", true),
+            ("2025-01-08", true),
+            ("2025-01-08", true),
+        ],
+    ),
+    (
+        2,
+        [
+            ("2025-01-08", true),
+            ("2025-01-08", true),
+            ("2025-01-08", true),
+            ("2025-01-08", true),
+        ],
+    ),
+    (
+        3,
+        [
+            ("2025-01-08", false),
+            ("2025-01-08", true),
+            ("2025-01-08", true),
+            ("2025-01-08", true),
+        ],
+    ),
+    (
+        4,
+        [
+            ("2025-01-08", true),
+            ("2025-01-08", true),
+            ("2025-01-09", false),
+            ("2025-01-09", true),
+        ],
+    ),
+    (
+        5,
+        [
+            ("2025-01-08", true),
+            ("2025-01-09", true),
+            ("2025-01-09", true),
+            ("2025-01-08", false),
+        ],
+    ),
+];
+
+#[test]
+fn rates_are_read_once_a_day(rt: HostRuntime) {
+    for (refused, days) in RATES {
+        let lists = FaultyStore::new(new_lists(&rt), *refused);
+        let mut store = Remembering::new(rt.alloc(), lists);
+        for (day, answered) in days {
+            assert!(&rt;
+                has_rates(&rt, &mut store, day) == *answered,
                 "{refused} {day}"
             );
         }

@@ -1,8 +1,6 @@
-use Rattle.std.proofs.Common.{rules, ◌≡◌, ◌∙◌, refl, ap, sym, subst, List, [], map, ℕ}
+use Rattle.std.proofs.Common.{rules, ◌∙◌, refl, ap, sym, subst, List, ℕ}
 use Rattle.desk_book.specs.declared.open_submission.OpenSubmission.{OpenSubmission}
-use Rattle.desk_book.specs.declared.row.Row.{Row}
 use Rattle.desk_book.specs.OpenRows.{open_rows}
-use Rattle.desk_book.specs.OpenSubmissions.{open_submission}
 use Rattle.open_sums.specs.Remembered.{IsOf}
 use Rattle.open_sums.proofs.FirstRead.{IsUpTo, begun, none_left, one_more, read_all}
 use Rattle.open_sums.proofs.Widening.{wider}
