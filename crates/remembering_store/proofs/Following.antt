@@ -1,5 +1,5 @@
 -- What is remembered agrees with the book after each step.
-use Rattle.std.proofs.Common.{◌≡◌, ◌∙◌, refl, ap, sym, subst, ℕ, ◌+◌, Bool, true, false, List, [], ◌∷◌, ◌++◌, map, length, Option, Some, None}
+use Rattle.std.proofs.Common.{◌≡◌, ◌∙◌, refl, ap, sym, subst, ℕ, ◌+◌, Bool, true, false, List, [], ◌∷◌, ◌++◌, map, length, Option, Some}
 use Rattle.std.specs.Prelude.{if◌then◌else◌, IfSome, fold, bytes_eq, Result, Ok, Err}
 use Rattle.std.proofs.lemmas.List.{length-map, length-append}
 use Rattle.std.proofs.lemmas.Slice.Eq.{bytes_eq-Decides}
@@ -69,13 +69,21 @@ as_many false g rs = refl
 
 sent_same : (b : Book) (s : SentRow) → HasSame b (put_sent_row b s)
 sent_same b s = record {
-  identity = refl; operator_key = refl; day = refl; holidays = refl; companies = refl;
+  identity = refl;
+  operator_key = refl;
+  day = refl;
+  holidays = refl;
+  companies = refl;
   counts = λ c. as_many (bytes_eq s.company c) (if_order s.order (sent_row s.settled)) (b.rows c);
 }
 
 lapsed_same : (b : Book) (l : LapsedRow) → HasSame b (put_lapsed_row b l)
 lapsed_same b l = record {
-  identity = refl; operator_key = refl; day = refl; holidays = refl; companies = refl;
+  identity = refl;
+  operator_key = refl;
+  day = refl;
+  holidays = refl;
+  companies = refl;
   counts = λ c. as_many (bytes_eq l.company c) (if_order l.order lapsed_row) (b.rows c);
 }
 
@@ -84,7 +92,11 @@ file_same b f = record { identity = refl; operator_key = refl; day = refl; holid
 
 returned_same : (b : Book) (x : ReturnedRow) → HasSame b (put_return b x)
 returned_same b x = record {
-  identity = refl; operator_key = refl; day = refl; holidays = refl; companies = refl;
+  identity = refl;
+  operator_key = refl;
+  day = refl;
+  holidays = refl;
+  companies = refl;
   counts = λ c. as_many (bytes_eq x.company c) (returned_row_by x) (b.rows c);
 }
 

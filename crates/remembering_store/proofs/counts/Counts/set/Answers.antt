@@ -1,8 +1,4 @@
-use Rattle.std.proofs.Common.{◌≡◌, ◌∙◌, sym, false, ℕ, List, Some}
-use Rattle.std.specs.Prelude.{Result, Ok, Err, OnOk, is_err}
-use Rattle.std.specs.BTreeMap.{BTreeMap, Updates}
-use Rattle.remembering_store.specs.CompanyKeys.{company_cmp}
-use Rattle.remembering_store.specs.declared.company_key.CompanyKey.{CompanyKey}
+use Rattle.std.proofs.Common.{◌∙◌, sym}
 use Rattle.remembering_store.proofs.Registering.{count_set, updated}
 use Rattle.remembering_store.proofs.counts.Counts.set.Goals as goal
 

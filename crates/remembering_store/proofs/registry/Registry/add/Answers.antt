@@ -1,4 +1,4 @@
-use Rattle.std.proofs.Common.{◌≡◌, ◌∙◌, sym, true, ℕ, List, Some}
+use Rattle.std.proofs.Common.{◌∙◌, sym}
 use Rattle.remembering_store.proofs.Registering.{company_put, inserted}
 use Rattle.remembering_store.proofs.registry.Registry.add.Goals as goal
 

@@ -1,4 +1,4 @@
-use Rattle.std.proofs.Common.{sym, ◌∙◌}
+use Rattle.std.proofs.Common.{◌∙◌}
 use Rattle.remembering_store.proofs.registry.Registry.company.Goals as goal
 
 pub returns : goal.returns
