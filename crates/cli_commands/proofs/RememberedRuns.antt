@@ -22,6 +22,6 @@ stands_following numbered holds known none h is =
     }
 
 -- what it remembers is no part of what the store stands for
-pub stands_within : (holds : Book → Type 0) (below : followed.Known) (known : Known) (h : DeskHistory)
-    → StandsBehind (HoldsKnown (follows.HoldsKnown holds below) known) h → StandsBehind holds h
-stands_within holds below known h is = record { history = is.history; book = is.book.0.held }
+pub stands_within : (holds : Book → Type 0) (below : Known) (known : followed.Known) (h : DeskHistory)
+    → StandsBehind (follows.HoldsKnown (HoldsKnown holds below) known) h → StandsBehind holds h
+stands_within holds below known h is = record { history = is.history; book = is.book.held.0 }

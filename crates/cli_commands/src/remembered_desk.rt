@@ -1,5 +1,5 @@
-//! The desk of a store that remembers: return rates by day, and the open submissions of the companies that
-//! were asked about, which are followed through cuts, files, days and holiday lists.
+//! The desk of a store that remembers: the companies, the keys, the day and the holidays, and the open
+//! submissions of the companies that were asked about.
 ghost use Rattle.cli_commands.specs.ServedRuns.{TellsPort, IsServedBy};
 ghost use Rattle.cli_commands.specs.StoreRuns.{StoreAnswers};
 
@@ -10,11 +10,11 @@ use cli_words::ServeOptions;
 use desk_store::Store;
 use http_session::Network;
 use io_retries::{Sink, Source};
-use remembering_store::Remembering;
+use open_sums::Remembering;
 use std::alloc::Global;
 
-/// Serves the desk of a store as `serve_by_store` does, and remembers the exposures and the return
-/// rates of its companies until it returns.
+/// Serves the desk of a store as `serve_by_store` does, and remembers what calls ask most until it
+/// returns.
 pub fn serve_remembering<N: Network, S: Store + Drop, W: Sink>(
     alloc: Global,
     network: &N,
@@ -28,15 +28,15 @@ pub fn serve_remembering<N: Network, S: Store + Drop, W: Sink>(
         (IsServedBy S.Store store result.1) writer.old writer.new result.0 }
 {
     open_sums::numbered_books();
-    let follows = open_sums::Remembering::new(alloc, store);
-    let store = Remembering::new(alloc, follows);
+    let known = remembering_store::Remembering::new(alloc, store);
+    let store = Remembering::new(alloc, known);
     let (status, store) = serve_by_store(alloc, network, store, options, writer);
-    let follows = store.into_inner();
-    (status, follows.into_inner())
+    let known = store.into_inner();
+    (status, known.into_inner())
 }
 
-/// Answers messages by the desk of a store as `answer_by_store` does, and remembers the exposures and
-/// the return rates of its companies until it returns.
+/// Answers messages by the desk of a store as `answer_by_store` does, and remembers what calls ask most
+/// until it returns.
 pub fn answer_remembering<S: Store + Drop, R: Source + Drop, W: Sink>(
     alloc: Global,
     store: S,
@@ -46,9 +46,9 @@ pub fn answer_remembering<S: Store + Drop, R: Source + Drop, W: Sink>(
     ensures { StoreAnswers S.Store store R.Source reader W.Sink writer.old writer.new result }
 {
     open_sums::numbered_books();
-    let follows = open_sums::Remembering::new(alloc, store);
-    let store = Remembering::new(alloc, follows);
+    let known = remembering_store::Remembering::new(alloc, store);
+    let store = Remembering::new(alloc, known);
     let (status, store) = answer_by_store(alloc, store, reader, writer);
-    let follows = store.into_inner();
-    (status, follows.into_inner())
+    let known = store.into_inner();
+    (status, known.into_inner())
 }

@@ -65,32 +65,26 @@ module _ {T : Type 0} (g : Ghosts T) (numbered : NumberedBooks) (over : FirstOve
         record {
           stands = record {
             history = tt;
-            book = (
-              record {
-                held = subst (λ (G : List core.Pair). Sees (state g s.store.store.conn) (book_of identity key G)) none desk.sees;
-                numbered = numbered identity key calls;
-                known = begins.0 (book_of identity key calls);
-              },
-              begins.1 (book_of identity key calls),
-            );
+            book = record {
+              held = (subst (λ (G : List core.Pair). Sees (state g s.store.store.conn) (book_of identity key G)) none desk.sees, begins.1 (book_of identity key calls));
+              numbered = numbered identity key calls;
+              known = begins.0 (book_of identity key calls);
+            };
           };
           left = λ k left. (subst (λ (G : List core.Pair). Keeps k (book_of identity key G)) none (desk.keeps k left), numbered identity key calls);
         };
     adopted = λ was s desk begins.
         record {
-          held = λ b kept. (record { held = desk.sees b kept.0; numbered = kept.1; known = begins.0 b }, begins.1 b);
+          held = λ b kept. record { held = (desk.sees b kept.0, begins.1 b); numbered = kept.1; known = begins.0 b };
           left = λ b k kept left. subst (λ (trees : Trees). keeps trees b) (sym (settled s.store.store.conn.store k desk.unchanged.0.is_open left ∙ ap (λ (d : Database). d.trees) desk.unchanged.0.committed_is)) kept;
         };
     migrated = λ was s desk begins.
         record {
-          held = λ h is has. (
-            record {
-              held = (over.migrated was s.store.store.conn h desk is has).sees.book;
-              numbered = numbered h.identity h.key (calls_of h.identity h.pairs);
-              known = begins.0 (book_after h);
-            },
-            begins.1 (book_after h),
-          );
+          held = λ h is has. record {
+            held = ((over.migrated was s.store.store.conn h desk is has).sees.book, begins.1 (book_after h));
+            numbered = numbered h.identity h.key (calls_of h.identity h.pairs);
+            known = begins.0 (book_after h);
+          };
           left = λ h k is has left. (
             ((over.migrated was s.store.store.conn h desk is has).keeps k left).book,
             numbered h.identity h.key (calls_of h.identity h.pairs),

@@ -1,13 +1,18 @@
-//! A store around a store: it remembers the exposures and the return rates of the companies that
-//! were asked about, and hands every other call on.
+//! A store around a store that remembers what almost every call asks: the identity of the desk, the
+//! operator's key, the desk day, the holidays, all registered companies, and how many submissions a
+//! company has. It hands every other call on.
 //!
-//! It holds what the inner store holds, and the remembered sums are always those of the present
-//! book: a new submission adds its cents, and a write that may change more forgets first. Lack of
-//! memory is not a fault: sums without room are not remembered.
+//! [`Remembering`] holds the book that the store inside holds. It reads each of these once. A new desk
+//! day and a new holiday list are read again at the next question; a registration, new limits and a
+//! submission are followed; a cut and a returns file change none of this. Because all companies are
+//! remembered, an unknown identification is answered without the store inside too. If memory runs out,
+//! what does not fit is forgotten and read again.
 #![tactic(auto)]
 
 mod company_key;
+mod counts;
 mod known;
+mod registry;
 mod remembering;
 
 pub use remembering::Remembering;

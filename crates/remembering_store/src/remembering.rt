@@ -1,18 +1,25 @@
-//! A store remembers what companies are asked about most.
+//! The store around a store.
 ghost use Rattle.std.specs.Prelude.{◌≡◌};
-ghost use Rattle.remembering_store.specs.Remembered.{KnowsNothing};
+ghost use Rattle.desk_book.specs.Book.{Book};
+ghost use Rattle.desk_book.specs.Reads.{key_of};
+ghost use Rattle.desk_book.specs.declared.caller.Caller.TheVariants.{Operator};
+ghost use Rattle.desk_store.specs.Promises.{CallGives};
+ghost use Rattle.desk_store.specs.Words.{LeavesRead};
+ghost use Rattle.remembering_store.specs.Remembered.{HoldsKnown, KnowsNothing};
 
 use crate::known::Known;
+use crate::registry::Registry;
 use ach_fields::{Id, Ref, Trace};
 use bank_days::{Calendar, Day};
 use desk_accounts::{Account, Posting};
-use desk_book::{Caller, HeldSubmission, NamedEntry, Row, exposures_grow, rates_stay};
+use desk_book::{Caller, HeldSubmission, NamedEntry, OpenSubmission, Row};
 use desk_history::{ChangeRow, Identity, ListOf, ReturnRow, SuspenseRow, TakenFile};
 use desk_rules::{Company, Limits, Rates, Retry, RuleDay, SizedSubmission};
 use desk_store::{CutRows, IntakeRows, LastNumber, Store, StoreFault};
 use std::alloc::Global;
 
-/// A `Remembering` is a store that remembers the exposures and the return rates of companies.
+/// A store that remembers the desk's identity, key, day, holidays, companies and counts of submissions,
+/// and hands every other call on to the store inside.
 #[derive(Drop)]
 pub struct Remembering<S> {
     store: S,
@@ -20,7 +27,7 @@ pub struct Remembering<S> {
 }
 
 impl<S> Remembering<S> {
-    /// Remembers nothing yet of a store.
+    /// Returns a store around `store` that remembers nothing yet.
     pub fn new(alloc: Global, store: S) -> Remembering<S>
         ensures store { result.store ≡ store }
         ensures known { KnowsNothing result.known }
@@ -31,11 +38,44 @@ impl<S> Remembering<S> {
         }
     }
 
-    /// Gives the store.
+    /// Returns the store inside.
     pub fn into_inner(self) -> S
         ensures { result ≡ self.store }
     {
         self.store
+    }
+}
+
+impl<S: Store> Remembering<S> {
+    // Reads all companies, unless they are remembered. If they cannot be read or kept, nothing changes.
+    fn learn_companies(&mut self, alloc: Global)
+        ensures before { S.is_clean self.new.store → S.is_clean self.old.store }
+        ensures read { S.is_clean self.new.store → (b : Book)
+            → HoldsKnown (S.holds self.old.store) self.old.known b
+            → HoldsKnown (S.holds self.new.store) self.new.known b }
+        ensures left { S.is_clean self.new.store
+            → LeavesRead (S.may_leave self.old.store) (S.may_leave self.new.store) }
+    {
+        if self.known.companies.is_some() {
+            return;
+        }
+        if let Ok(companies) = self.store.companies(alloc) {
+            self.known.companies = Registry::of(alloc, &companies);
+        }
+    }
+
+    // Reads the digest of the operator's key.
+    fn operator_key(&mut self, alloc: Global) -> Result<Option<[u8; 32]>, StoreFault>
+        ensures { CallGives (λ r. S.is_clean r.store)
+            (λ r. HoldsKnown (S.holds r.store) r.known) (λ r. S.may_leave r.store)
+            self.old self.new result (key_of Operator) }
+    {
+        if let Some(digest) = self.known.operator_key {
+            return Ok(Some(digest));
+        }
+        let digest = self.store.key_of(alloc, Caller::Operator)?;
+        self.known.operator_key = digest;
+        Ok(digest)
     }
 }
 
@@ -53,22 +93,47 @@ impl<S: Store> Store for Remembering<S> {
     ghost is_clean = { λ r. S.is_clean r.store };
 
     fn identity(&mut self, alloc: Global) -> Result<Identity, StoreFault> {
-        self.store.identity(alloc)
+        if let Some(identity) = &self.known.identity {
+            return Ok(*identity);
+        }
+        let identity = &self.store.identity(alloc)?;
+        self.known.identity = Some(*identity);
+        Ok(*identity)
     }
 
     fn key_of(&mut self, alloc: Global, caller: Caller) -> Result<Option<[u8; 32]>, StoreFault> {
-        self.store.key_of(alloc, caller)
+        let Caller::Company(id) = caller else {
+            return self.operator_key(alloc);
+        };
+        match self.company(alloc, id)? {
+            Some(company) => Ok(Some(company.digest)),
+            None => Ok(None),
+        }
     }
 
     fn day(&mut self, alloc: Global) -> Result<Option<RuleDay>, StoreFault> {
-        self.store.day(alloc)
+        if let Some(day) = &self.known.day {
+            return Ok(Some(*day));
+        }
+        let day = &self.store.day(alloc)?;
+        self.known.day = *day;
+        Ok(*day)
     }
 
     fn calendar(&mut self, alloc: Global) -> Result<Calendar, StoreFault> {
-        self.store.calendar(alloc)
+        if let Some(holidays) = &self.known.holidays {
+            return Ok(holidays.try_clone(alloc)?);
+        }
+        let holidays = self.store.calendar(alloc)?;
+        self.known.holidays = holidays.try_clone(alloc).ok();
+        Ok(holidays)
     }
 
     fn company(&mut self, alloc: Global, id: Id) -> Result<Option<Company>, StoreFault> {
+        self.learn_companies(alloc);
+        if let Some(companies) = &self.known.companies {
+            return Ok(companies.company(id));
+        }
         self.store.company(alloc, id)
     }
 
@@ -86,7 +151,12 @@ impl<S: Store> Store for Remembering<S> {
     }
 
     fn submission_count(&mut self, alloc: Global, company: Id) -> Result<u64, StoreFault> {
-        self.store.submission_count(alloc, company)
+        if let Some(count) = self.known.counts.count(company) {
+            return Ok(count);
+        }
+        let count = self.store.submission_count(alloc, company)?;
+        self.known.remember_count(company, count);
+        Ok(count)
     }
 
     fn open_rows(
@@ -98,27 +168,26 @@ impl<S: Store> Store for Remembering<S> {
         self.store.open_rows(alloc, company, since)
     }
 
+    fn open_entries(
+        &mut self,
+        alloc: Global,
+        company: Id,
+        since: Day,
+    ) -> Result<Vec<OpenSubmission>, StoreFault> {
+        self.store.open_entries(alloc, company, since)
+    }
+
     fn exposures(
         &mut self,
         alloc: Global,
         company: Id,
         today: Day,
     ) -> Result<(u128, u128), StoreFault> {
-        if let Some(exposures) = self.known.exposures(company, today) {
-            return Ok(exposures);
-        }
-        let exposures = self.store.exposures(alloc, company, today)?;
-        self.known.remember_exposures(company, today, exposures);
-        Ok(exposures)
+        self.store.exposures(alloc, company, today)
     }
 
     fn rates(&mut self, alloc: Global, company: Id, today: Day) -> Result<Rates, StoreFault> {
-        if let Some(rates) = self.known.rates(company, today) {
-            return Ok(rates);
-        }
-        let rates = self.store.rates(alloc, company, today)?;
-        self.known.remember_rates(company, today, rates);
-        Ok(rates)
+        self.store.rates(alloc, company, today)
     }
 
     fn retries_of(
@@ -214,21 +283,26 @@ impl<S: Store> Store for Remembering<S> {
     }
 
     fn set_day(&mut self, alloc: Global, day: RuleDay) -> Result<(), StoreFault> {
-        self.known.forget(); // what is known is of a day that is over
+        self.known.day = None;
         self.store.set_day(alloc, day)
     }
 
     fn set_holidays(&mut self, alloc: Global, holidays: Calendar) -> Result<(), StoreFault> {
-        self.known.forget(); // banking days are others
+        self.known.holidays = None;
         self.store.set_holidays(alloc, holidays)
     }
 
     fn put_company(&mut self, alloc: Global, company: Company) -> Result<(), StoreFault> {
-        self.store.put_company(alloc, company)
+        let company = &company;
+        self.store.put_company(alloc, *company)?;
+        self.known.register(*company);
+        Ok(())
     }
 
     fn put_limits(&mut self, alloc: Global, company: Id, limits: Limits) -> Result<(), StoreFault> {
-        self.store.put_limits(alloc, company, limits)
+        self.store.put_limits(alloc, company, limits)?;
+        self.known.limit(company, limits);
+        Ok(())
     }
 
     fn add_submission(
@@ -239,23 +313,17 @@ impl<S: Store> Store for Remembering<S> {
         content: &SizedSubmission,
         retry: Option<Retry>,
     ) -> Result<(), StoreFault> {
-        exposures_grow();
-        rates_stay();
         self.store
             .add_submission(alloc, company, order, content, retry)?;
-        let debit = content.submission().direction.is_debit();
-        let cents = u128::from(content.total().get());
-        self.known.grow(company, debit, cents);
+        self.known.add(company, order);
         Ok(())
     }
 
     fn commit_cut(&mut self, alloc: Global, cut: &CutRows<'_>) -> Result<(), StoreFault> {
-        self.known.forget(); // what was held settles or lapses
         self.store.commit_cut(alloc, cut)
     }
 
     fn commit_intake(&mut self, alloc: Global, intake: &IntakeRows<'_>) -> Result<(), StoreFault> {
-        self.known.forget(); // what was sent comes back
         self.store.commit_intake(alloc, intake)
     }
 }

@@ -12,6 +12,7 @@ mod money;
 mod names;
 mod old_cut;
 mod rates;
+mod remembered;
 mod script;
 mod sequences;
 mod status;

@@ -4,7 +4,7 @@ use super::calls::call_of;
 use super::old_cut::put_old_cut;
 use ach_fields::Routing;
 use desk_core::{Desk, FaultyStore, Identity, ListStore, PartyName, Store};
-use remembering_store::Remembering;
+use open_sums::Remembering;
 use sql_store::SqlStore;
 use sqlite::MemStore;
 use std::alloc::Global;
@@ -59,6 +59,9 @@ pub(super) const PAY_2_SECOND: (&str, &str) = (
 
 /// A script makes fewer calls of the store.
 pub(super) const MOST_CALLS: u64 = 1_000;
+
+// Fewer calls than these fill the memory one after another.
+const MOST_UNSEEN: u64 = 5;
 
 fn name(rt: &impl Abort, text: &[u8]) -> PartyName {
     PartyName::new(text).ok().expect(rt, "a name")
@@ -134,12 +137,13 @@ pub(super) fn after<S: Store>(
     store
 }
 
-// A store that remembers.
+// A store that remembers, as the program's desks have it.
 fn remembering<S: Store>(
     rt: &(impl Abort + Alloc<A = Global>),
     store: S,
-) -> Remembering<open_sums::Remembering<S>> {
-    Remembering::new(rt.alloc(), open_sums::Remembering::new(rt.alloc(), store))
+) -> Remembering<remembering_store::Remembering<S>> {
+    let store = remembering_store::Remembering::new(rt.alloc(), store);
+    Remembering::new(rt.alloc(), store)
 }
 
 // Runs a script over a store: was a call asked once more?
@@ -176,12 +180,15 @@ pub(super) fn holds_after(
     assert!(rt; false, "the script makes more calls of the store");
 }
 
-/// Runs a script over a store that remembers, with each call of the inner store refused in turn,
-/// until none is.
+/// Runs a script over a store that remembers, with each call of the inner store refused in turn. It
+/// ends after some runs in which no call was made again: no caller sees a refused call that only fills
+/// the memory.
 pub(super) fn holds_remembering(rt: &(impl Abort + Alloc<A = Global>), script: Script) {
+    let mut unseen = 0;
     for call in 1..MOST_CALLS {
         let store = remembering(rt, FaultyStore::new(new_lists(rt), call));
-        if !run(rt, store, script) {
+        unseen = if run(rt, store, script) { 0 } else { unseen + 1 };
+        if unseen == MOST_UNSEEN {
             return;
         }
     }

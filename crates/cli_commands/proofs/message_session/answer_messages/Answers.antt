@@ -15,10 +15,10 @@ use Rattle.cli_commands.proofs.message_session.answer_messages.Goals as goal
 
 -- the store of the sample desk, and the books that it holds
 abbrev Sample : Type 0
-Sample = Remembering (following.Remembering ListStore)
+Sample = following.Remembering (Remembering ListStore)
 
 abbrev held : Sample → Book → Type 0
-held s = HoldsKnown (follows.HoldsKnown (IsHeld s.store.store) s.store.known) s.known
+held s = follows.HoldsKnown (HoldsKnown (IsHeld s.store.store) s.store.known) s.known
 
 pub returns-clause-answered : goal.returns-clause-answered
 returns-clause-answered g c = λ fine.

@@ -1,10 +1,13 @@
-use Rattle.desk_store.specs.Written.{commit_cut_after, cut_rows}
-use Rattle.remembering_store.proofs.Keeping.{forgotten, left_known}
+use Rattle.desk_store.specs.Written.{cut_rows, cut_step}
+use Rattle.remembering_store.proofs.Following.{written, left_known, stays_right, cut_same}
 use Rattle.remembering_store.proofs.remembering.RememberingStore.commit_cut.Goals as goal
 
 pub returns : goal.returns
-returns g c = record {
-  before = c.commit_cut.ensures.before;
-  write = λ clean. forgotten _ _ c.args.self.now.known c.forget.new.self c.commit_cut.result _ c.forget.ensures (c.commit_cut.ensures.write clean);
-  left = λ clean. left_known g.S.Store.keeps _ c.args.self.now.known _ _ c.commit_cut.result (commit_cut_after c.args.cut.now.before (cut_rows c.args.cut.now)) (c.commit_cut.ensures.left clean);
-}
+returns g c =
+    let step = cut_step c.args.cut.now in
+    let m = c.args.self.now.known in
+    record {
+      before = c.commit_cut.ensures.before;
+      write = λ clean. written _ _ m m c.commit_cut.result step (λ b right. right) (λ b. stays_right m b (step.after b) (cut_same (cut_rows c.args.cut.now) b)) (c.commit_cut.ensures.write clean);
+      left = λ clean. left_known g.S.Store.keeps _ m _ _ c.commit_cut.result step (c.commit_cut.ensures.left clean);
+    }

@@ -1,11 +1,13 @@
-use Rattle.desk_book.specs.Steps.{commit_intake}
-use Rattle.desk_store.specs.Written.{intake_rows}
-use Rattle.remembering_store.proofs.Keeping.{forgotten, left_known}
+use Rattle.desk_store.specs.Written.{intake_rows, intake_step}
+use Rattle.remembering_store.proofs.Following.{written, left_known, stays_right, intake_same}
 use Rattle.remembering_store.proofs.remembering.RememberingStore.commit_intake.Goals as goal
 
 pub returns : goal.returns
-returns g c = record {
-  before = c.commit_intake.ensures.before;
-  write = λ clean. forgotten _ _ c.args.self.now.known c.forget.new.self c.commit_intake.result _ c.forget.ensures (c.commit_intake.ensures.write clean);
-  left = λ clean. left_known g.S.Store.keeps _ c.args.self.now.known _ _ c.commit_intake.result (commit_intake (intake_rows c.args.intake.now)) (c.commit_intake.ensures.left clean);
-}
+returns g c =
+    let step = intake_step c.args.intake.now in
+    let m = c.args.self.now.known in
+    record {
+      before = c.commit_intake.ensures.before;
+      write = λ clean. written _ _ m m c.commit_intake.result step (λ b right. right) (λ b. stays_right m b (step.after b) (intake_same (intake_rows c.args.intake.now) b)) (c.commit_intake.ensures.write clean);
+      left = λ clean. left_known g.S.Store.keeps _ m _ _ c.commit_intake.result step (c.commit_intake.ensures.left clean);
+    }
