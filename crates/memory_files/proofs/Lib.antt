@@ -1,3 +1,2 @@
 pub mod Keeping
-mod Openings
 mod Taking

@@ -1,7 +1,11 @@
 -- What files in memory hold, by their paths.
-use Rattle.std.specs.Prelude.{◌≡◌, ◌==◌, ℕ, zero, suc, Bool, cond, true, false, List, [], ◌∷◌, length, Option, Some, None, string_bytes}
+use Rattle.std.specs.Prelude.{◌≡◌, ◌==◌, ℕ, zero, suc, Bool, cond, true, false, List, [], ◌∷◌, length, Option, Some, None, IsTrue, string_bytes}
 use Rattle.std.specs.Str.{bytes_eq}
-use Rattle.sqlite_disk.specs.Memory.{memory_bytes}
+use Rattle.sqlite_disk.specs.Memory.{memory_bytes, memory_is_usable}
+use Rattle.sqlite_disk.specs.declared.Disk as disk
+use Rattle.sqlite_disk.specs.declared.Files.{Files}
+use Rattle.sqlite_disk.specs.declared.memory.Memory.{Memory}
+use Rattle.sqlite_wal.specs.Files.{outcomes}
 use Rattle.sqlite_wal.specs.Recovery.{Image}
 use Rattle.sql_files.specs.declared.presence.Presence.{Presence}
 use Rattle.sql_files.specs.declared.presence.Presence.TheVariants.{File, Nothing}
@@ -32,6 +36,16 @@ with_files (place ∷ places) (suc at) files = place ∷ with_files places at fi
 -- the bytes of the two files
 abbrev pub bytes_of : KeptFiles → Image
 bytes_of kept = record { log = memory_bytes kept.log; db = memory_bytes kept.db }
+
+-- no sync of the file has failed
+abbrev pub IsUsable : Memory → Type 0
+IsUsable file = IsTrue (memory_is_usable file)
+
+-- These files are kept: each as it is, and if a sync of it has failed, as a crash leaves it. `d` says what a file in memory does.
+pub record IsKeptOf (d : disk.Ghosts Memory) (files : Files Memory) (kept : KeptFiles) : Type 0 where
+  pub log : IsUsable files.log → kept.log ≡ files.log
+  pub db : IsUsable files.db → kept.db ≡ files.db
+  pub left : outcomes d files.log files.db (bytes_of kept)
 
 -- the bytes that a path has, which are none where there are no files
 abbrev pub bytes_at : Option KeptFiles → Image

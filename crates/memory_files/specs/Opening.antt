@@ -1,26 +1,24 @@
 -- What a call made of files in memory. `d` says what a file in memory does.
-use Rattle.std.specs.Prelude.{◌≡◌, ◌≢◌, ◌⊎◌, ℕ, List, [], Option, Some, None, IsSome, IsTrue, MatchOption, Result, Ok, Err, find}
+use Rattle.std.specs.Prelude.{◌≡◌, ◌≢◌, ℕ, List, [], Option, Some, None, IsSome, MatchOption, Result, Ok, Err, find}
 use Rattle.std.specs.Str.{bytes_eq}
-use Rattle.sqlite_disk.specs.Memory.{memory_bytes, memory_is_usable}
+use Rattle.sqlite_disk.specs.Memory.{memory_bytes}
 use Rattle.sqlite_disk.specs.declared.Disk as disk
 use Rattle.sqlite_disk.specs.declared.Files.{Files}
 use Rattle.sqlite_disk.specs.declared.memory.Memory.{Memory}
 use Rattle.sqlite_store.specs.declared.store.FileStore.{FileStore}
-use Rattle.sqlite_store.specs.FileStore as store
-use Rattle.sqlite_wal.specs.Files.{outcomes}
 use Rattle.sqlite_wal.specs.Recovery.{Image}
-use Rattle.sqlite.specs.Closing.{IsCopied}
-use Rattle.sqlite.specs.Files.{FailsToOpenFiles, IsCleanLeft, IsClosed, LeavesFiles}
+use Rattle.sqlite.specs.Files.{FailsToOpenFiles, IsCleanLeft, LeavesFiles}
 use Rattle.sqlite.specs.Held.{Held}
 use Rattle.sqlite.specs.declared.error.Error.{Error}
 use Rattle.sqlite.specs.declared.file.Leftover.{Leftover}
+use Rattle.sql_files.specs.Closing.{HasFiles, IsLeftBy}
 use Rattle.sql_files.specs.Opened.{IfCleanFiles, IsFoundIn, IsMadeIn, IsMigratedIn}
 use Rattle.sql_files.specs.declared.presence.Presence.{Presence}
 use Rattle.sql_files.specs.declared.presence.Presence.TheVariants.{File}
 use Rattle.sql_files.specs.declared.refusal.Refusal.{Refusal}
 use Rattle.sql_files.specs.declared.refusal.Refusal.TheVariants.{Refused, NoFile, Unopened}
 use Rattle.desk_history.specs.declared.identity.Identity.{Identity}
-use Rattle.memory_files.specs.Kept.{bytes_at, bytes_of, kept_in, with_files, IsPlaceOf}
+use Rattle.memory_files.specs.Kept.{bytes_at, kept_in, with_files, IsKeptOf, IsPlaceOf, IsUsable}
 use Rattle.memory_files.specs.declared.kept_files.KeptFiles.{KeptFiles}
 use Rattle.memory_files.specs.declared.memory_files.MemoryFiles.{MemoryFiles}
 use Rattle.memory_files.specs.declared.memory_files.OtherFile.{OtherFile}
@@ -40,10 +38,6 @@ other_in others path = find (λ other. bytes_eq other.path.now path) others
 
 abbrev pub other_at : MemoryFiles → (path : List ℕ) → Option OtherFile
 other_at m = other_in m.others.now
-
--- a disk in memory is opened while it can be used
-abbrev pub IsUsable : Memory → Type 0
-IsUsable file = IsTrue (memory_is_usable file)
 
 -- every path has what it had
 pub record IsSame (old new : MemoryFiles) : Type 0 where
@@ -110,20 +104,16 @@ module _ (d : disk.Ghosts Memory) where
 
   -- ---- files come back
 
-  -- what is kept was left so, as it was closed or as a crash leaves it
-  abbrev pub IsLeftBy : Held (FileStore Memory d) → KeptFiles → Type 0
-  IsLeftBy c kept =
-      IsCopied c (record { log = kept.log; db = kept.db })
-      ⊎ ((last : FileStore Memory d) × IsClosed c last × outcomes d (store.files last).0 (store.files last).1 (bytes_of kept))
-
-  -- files came back to the place that they were given out of
-  abbrev pub PutsBack : (old : MemoryFiles) → KeptFiles → (new : MemoryFiles) → Type 0
-  PutsBack old kept new =
+  -- they were put at the place that was given out last
+  abbrev pub PutsBack : (old : MemoryFiles) → Files Memory → (new : MemoryFiles) → Type 0
+  PutsBack old files new =
       MatchOption old.opened (new ≡ old) (λ at.
-      (new.places.items ≡ with_files old.places.items at (Some kept)) × (new.opened ≡ None) × (new.others ≡ old.others))
+      (kept : KeptFiles) × IsKeptOf d files kept
+      × (new.places.items ≡ with_files old.places.items at (Some kept)) × (new.opened ≡ None) × (new.others ≡ old.others))
 
-  -- What a connection had of the files came back. What a refusal has is dropped with it, and then there are no files at its path.
+  -- What a connection or a refusal had of the files came back. A refusal with no files changes nothing.
   abbrev pub ComesBack : (old : MemoryFiles) → Option (Result (Held (FileStore Memory d)) (Refusal Memory d)) → (new : MemoryFiles) → Type 0
   ComesBack old None new = new ≡ old
-  ComesBack old (Some (Ok c)) new = (kept : KeptFiles) × IsLeftBy c kept × PutsBack old kept new
-  ComesBack old (Some (Err why)) new = new ≡ old
+  ComesBack old (Some (Ok c)) new = (files : Files Memory) × IsLeftBy c files × PutsBack old files new
+  ComesBack old (Some (Err why)) new =
+      (files : Option (Files Memory)) × HasFiles why files × MatchOption files (new ≡ old) (λ those. PutsBack old those new)

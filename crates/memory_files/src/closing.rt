@@ -1,35 +1,23 @@
-//! What was opened of files in memory is closed, and comes back to them.
-ghost use Rattle.memory_files.specs.Opening.{IsLeftBy, PutsBack};
+//! What was opened of files in memory is closed, and its files come back to the place that they were given
+//! out of.
+ghost use Rattle.memory_files.specs.Opening.{PutsBack};
 
 use crate::kept_files::KeptFiles;
 use crate::memory_files::MemoryFiles;
 use crate::places::exchange;
-use sql_files::{Closes, Connection, FileStore, Opened};
-use sqlite_disk::{Disk, Memory};
-
-// Closes a connection, and gives the files that it leaves.
-fn closed(conn: Connection<FileStore<Memory>>) -> KeptFiles
-    ensures { IsLeftBy ⟦<Memory as Disk>⟧ conn result }
-{
-    let files = match conn.close_files() {
-        Ok(files) => files,
-        Err((_error, store)) => return KeptFiles::left(store.close()),
-    };
-    KeptFiles {
-        log: files.log,
-        db: files.db,
-    }
-}
+use sql_files::{Closes, Opened, close_files};
+use sqlite_disk::{Disk, Files, Memory};
 
 impl MemoryFiles<'_> {
-    // Puts files back to the place that they were given out of.
-    fn put_back(&mut self, kept: KeptFiles)
-        ensures { PutsBack ⟦<Memory as Disk>⟧ self.old kept self.new }
+    // Puts files back to the place that was given out last.
+    fn put_back(&mut self, files: Files<Memory>)
+        ensures { PutsBack ⟦<Memory as Disk>⟧ self.old files self.new }
     {
         let Some(at) = self.opened else {
             return;
         };
         self.opened = None;
+        let kept = KeptFiles::left(files);
         if at < self.places.len() {
             let _before = exchange(&mut self.places, at, Some(kept));
         }
@@ -42,8 +30,14 @@ impl Closes<Opened<Memory>> for MemoryFiles<'_> {
     ghost closes = { ComesBack ⟦<Memory as Disk>⟧ };
 
     fn close(&mut self, opened: Opened<Memory>) {
-        if let Some(Ok(conn)) = opened {
-            self.put_back(closed(conn));
+        match opened {
+            None => {}
+            Some(Ok(conn)) => self.put_back(close_files(conn)),
+            Some(Err(why)) => {
+                if let Some(files) = why.into_files() {
+                    self.put_back(files);
+                }
+            }
         }
     }
 }

@@ -1,7 +1,6 @@
 //! The two files of a desk, while no connection has them.
 ghost use Rattle.std.specs.Prelude.{◌≡◌, IsTrue};
 ghost use Rattle.sqlite_disk.specs.Memory.{memory_is_usable};
-ghost use Rattle.sqlite_wal.specs.Files.{outcomes};
 
 use sqlite_disk::{Crash, Disk, Files, Memory};
 
@@ -15,11 +14,11 @@ pub struct KeptFiles {
 }
 
 impl KeptFiles {
-    ghost use Rattle.memory_files.specs.Kept.{bytes_of};
+    ghost use Rattle.memory_files.specs.Kept.{IsKeptOf};
 
-    /// Keeps the files that a connection leaves. One of which a sync has failed is kept as a crash leaves it.
+    /// Keeps files that were closed. One of which a sync has failed is kept as a crash leaves it.
     pub(crate) fn left(files: Files<Memory>) -> KeptFiles
-        ensures { outcomes ⟦<Memory as Disk>⟧ files.log files.db (bytes_of result) }
+        ensures { IsKeptOf ⟦<Memory as Disk>⟧ files result }
     {
         KeptFiles {
             log: usable(files.log),
@@ -41,6 +40,7 @@ impl KeptFiles {
 
 // A file of which a sync has failed is as a crash leaves it.
 fn usable(file: Memory) -> Memory
+    ensures same { IsTrue (memory_is_usable file) → result ≡ file }
     ensures left { ⟦<Memory as Disk>⟧.may_leave file (⟦<Memory as Disk>⟧.seen result) }
     ensures usable { IsTrue (memory_is_usable result) }
 {

@@ -5,7 +5,6 @@
 //! command reads, and which it leaves.
 #![tactic(auto)]
 
-mod checked;
 mod closing;
 mod kept_files;
 mod memory_files;

@@ -6,11 +6,13 @@ ghost use Rattle.sqlite_disk.specs.Memory.{memory_is_usable};
 ghost use Rattle.sql_files.specs.Opened.{IfCleanFiles};
 ghost use Rattle.memory_files.specs.Opening.{kept_at, other_in, IsSame, TakesOut};
 
-use crate::checked::{with_desk, with_new_desk, with_second_version};
 use crate::memory_files::{MemoryFiles, OtherFile};
 use crate::places::{add_place, exchange, place_of};
 use desk_history::Identity;
-use sql_files::{Connection, DeskFiles, FileStore, Leftover, OpenFault, Presence, Refusal};
+use sql_files::{
+    Connection, DeskFiles, FileStore, Leftover, OpenFault, Presence, Refusal, with_desk,
+    with_new_desk, with_second_version,
+};
 use sqlite::{Error, ErrorCode, Options};
 use sqlite_disk::{Disk, Files, Memory};
 use std::alloc::{AllocError, Global};
@@ -77,8 +79,8 @@ impl MemoryFiles<'_> {
 
 impl<'a> DeskFiles for MemoryFiles<'a> {
     ghost use Rattle.std.specs.Prelude.{◌≡◌, None, IsSomeAnd};
-    ghost use Rattle.memory_files.specs.Kept.{presence_of};
-    ghost use Rattle.memory_files.specs.Opening.{image_at, kept_at, other_at, FailsAt, FailsToMake, IsUsable, Makes, Migrates, Opens};
+    ghost use Rattle.memory_files.specs.Kept.{presence_of, IsUsable};
+    ghost use Rattle.memory_files.specs.Opening.{image_at, kept_at, other_at, FailsAt, FailsToMake, Makes, Migrates, Opens};
 
     type Device = Memory;
 

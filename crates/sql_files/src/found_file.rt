@@ -1,20 +1,15 @@
 //! The desk in the file at a path is opened.
-ghost use Rattle.std.specs.Prelude.{◌≡◌, ◌≢◌, IfOk, IfErr, OnOk};
+ghost use Rattle.std.specs.Prelude.{◌≡◌, IfOk, IfErr, OnOk};
 ghost use Rattle.sqlite_std_file.specs.File.{IsFresh};
 ghost use Rattle.sqlite_wal.specs.Files.{image_at};
-ghost use Rattle.sql_tables.specs.DeskTables.{version};
-ghost use Rattle.sql_setup.specs.Checked.{IsDesk};
-ghost use Rattle.sql_setup.specs.Refusals.{IsGivenBack};
-ghost use Rattle.sql_files.specs.Connections.{IfClean, WasClean};
 ghost use Rattle.sql_files.specs.Opened.{IfCleanFiles, IsFoundIn};
 ghost use Rattle.sql_files.specs.Refusals.{RefusesDesk};
 
+use crate::checked::with_desk;
 use crate::connect::connect;
 use crate::presence::Presence;
 use crate::refusal::Refusal;
-use sql_setup::{DeskFault, OpenFault, check_desk};
-use sqlite::{Alter, Connection, FileFrom, FileStore, Start};
-use std::alloc::Global;
+use sqlite::{Connection, FileFrom, FileStore, Start};
 
 /// Opens the desk in the database file at a path, of which the file system said this. The connection
 /// then sees each book that the file and its log keep, whatever moment a crash left them at.
@@ -45,24 +40,5 @@ pub fn open<S: Start>(
             Err((why, conn)) => Err(Refusal::Refused(why, conn)),
         },
         Err((error, left)) => Err(Refusal::Unopened(error, left)),
-    }
-}
-
-// Checks a connection, and gives it back. Which files it is to is left out here, as in the functions
-// beside it, so that the prover does not compare calls with so long a type.
-fn with_desk<P: Alter>(
-    alloc: Global,
-    conn: Connection<P>,
-) -> Result<Connection<P>, (DeskFault, Connection<P>)>
-    ensures before { IfOk result (IfClean P.Store WasClean conn) }
-    ensures desk { IfOk result (IfClean P.Store IsDesk conn) }
-    ensures refused { IfErr result
-        (λ why. IsGivenBack P.Store version (λ _. ⊥) conn why.1 why.0) }
-    ensures otherwise { IfErr result (λ why. why.0 ≢ DeskFault.Told OpenFault.Exists) }
-{
-    let mut conn = conn;
-    match check_desk(alloc, &mut conn) {
-        Ok(()) => Ok(conn),
-        Err(why) => Err((why, conn)),
     }
 }

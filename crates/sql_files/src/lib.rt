@@ -5,6 +5,8 @@
 //! alone, so the two are kept together.
 #![tactic(auto)]
 
+mod checked;
+mod closing;
 mod connect;
 mod desk_files;
 mod found_file;
@@ -15,6 +17,8 @@ mod presence;
 mod private_file;
 mod refusal;
 
+pub use checked::{with_desk, with_new_desk, with_second_version};
+pub use closing::close_files;
 pub use desk_files::{Closes, DeskFiles, Opened};
 pub use found_file::open;
 pub use host_files::{HostFiles, HostStart};

@@ -1,22 +1,15 @@
 //! The desk of version 1 in the file at a path becomes one of version 2.
-ghost use Rattle.std.specs.Prelude.{◌≡◌, ◌≢◌, IfOk, IfErr, OnOk};
-ghost use Rattle.sqlite.specs.Held.{state};
+ghost use Rattle.std.specs.Prelude.{◌≡◌, IfOk, IfErr, OnOk};
 ghost use Rattle.sqlite_std_file.specs.File.{IsFresh};
 ghost use Rattle.sqlite_wal.specs.Files.{image_at};
-ghost use Rattle.sql_setup.specs.Refusals.{IsGivenBack};
-ghost use Rattle.sql_migration.specs.FirstVersion.{first_version};
-ghost use Rattle.sql_migration.specs.Migration.{HasMigrated};
-ghost use Rattle.sql_files.specs.Connections.{IfClean, WasClean, WasFirst};
-ghost use Rattle.sql_files.specs.Opened.{IfCleanFiles, IsMigratedIn, leaves_migrated};
+ghost use Rattle.sql_files.specs.Opened.{IfCleanFiles, IsMigratedIn};
 ghost use Rattle.sql_files.specs.Refusals.{RefusesFirst};
 
+use crate::checked::with_second_version;
 use crate::connect::connect;
 use crate::presence::Presence;
 use crate::refusal::Refusal;
-use sql_migration::migrate;
-use sql_setup::{DeskFault, OpenFault};
-use sqlite::{Alter, Connection, FileFrom, FileStore, Start};
-use std::alloc::Global;
+use sqlite::{Connection, FileFrom, FileStore, Start};
 
 /// Makes the desk of version 1 in the database file at a path one of version 2, in one transaction, and
 /// gives the connection. Each book that the file and its log kept is kept, whatever moment a crash left
@@ -46,24 +39,5 @@ pub fn migrate_file<S: Start>(
             Err((why, conn)) => Err(Refusal::Refused(why, conn)),
         },
         Err((error, left)) => Err(Refusal::Unopened(error, left)),
-    }
-}
-
-// Migrates the tables of a connection, and gives the connection back.
-fn with_second_version<P: Alter>(
-    alloc: Global,
-    conn: Connection<P>,
-) -> Result<Connection<P>, (DeskFault, Connection<P>)>
-    ensures before { IfOk result (IfClean P.Store WasClean conn) }
-    ensures migrated { IfOk result (IfClean P.Store HasMigrated conn) }
-    ensures first { IfOk result (IfClean P.Store WasFirst conn) }
-    ensures refused { IfErr result (λ why.
-        IsGivenBack P.Store first_version (leaves_migrated (state P.Store conn)) conn why.1 why.0) }
-    ensures otherwise { IfErr result (λ why. why.0 ≢ DeskFault.Told OpenFault.Exists) }
-{
-    let mut conn = conn;
-    match migrate(alloc, &mut conn) {
-        Ok(()) => Ok(conn),
-        Err(why) => Err((why, conn)),
     }
 }

@@ -2,18 +2,16 @@
 ghost use Rattle.std.specs.Prelude.{◌≡◌, codes, IfOk, IfErr, IsErrAnd};
 ghost use Rattle.sqlite_std_file.specs.File.{IsFresh};
 ghost use Rattle.sqlite_wal.specs.Files.{image_at};
-ghost use Rattle.sql_setup.specs.Refusals.{IsLeftUnmade};
-ghost use Rattle.sql_setup.specs.Setup.{HasNewDesk};
-ghost use Rattle.sql_files.specs.Connections.{IfClean, WasClean};
 ghost use Rattle.sql_files.specs.Opened.{IfCleanFiles, IsMadeIn, leaves_new};
 ghost use Rattle.sql_files.specs.Refusals.{RefusesNew, fault_of};
 
+use crate::checked::with_new_desk;
 use crate::connect::connect;
 use crate::private_file::make_private;
 use crate::refusal::Refusal;
 use desk_history::Identity;
-use sql_setup::{DeskFault, OpenFault, make_desk};
-use sqlite::{Alter, Connection, FileFrom, FileStore, Start};
+use sql_setup::OpenFault;
+use sqlite::{Connection, FileFrom, FileStore, Start};
 
 /// Makes a new desk in the database file at a path, with the SHA-256 digest of the operator's key. A
 /// file that is missing is made, and its log beside it, and only their owner reads them. The connection
@@ -45,23 +43,5 @@ pub fn create<S: Start>(
             Err((why, conn)) => Err(Refusal::Refused(why, conn)),
         },
         Err((error, left)) => Err(Refusal::Unopened(error, left)),
-    }
-}
-
-// Makes a new desk on a connection, and gives the connection back.
-fn with_new_desk<P: Alter>(
-    conn: Connection<P>,
-    identity: Identity,
-    operator_key: [u8; 32],
-) -> Result<Connection<P>, (DeskFault, Connection<P>)>
-    ensures before { IfOk result (IfClean P.Store WasClean conn) }
-    ensures desk { IfOk result (IfClean P.Store (HasNewDesk identity operator_key) conn) }
-    ensures unmade { IfErr result
-        (λ why. IsLeftUnmade P.Store (leaves_new identity operator_key) conn why.1 why.0) }
-{
-    let mut conn = conn;
-    match make_desk(&mut conn, identity, operator_key) {
-        Ok(()) => Ok(conn),
-        Err(why) => Err((why, conn)),
     }
 }

@@ -1,10 +1,12 @@
 //! Why there is no desk in a file, with what is left of the file.
 ghost use Rattle.std.specs.Prelude.{◌≡◌};
+ghost use Rattle.sql_files.specs.Closing.{HasFiles};
 ghost use Rattle.sql_files.specs.Refusals.{fault_of};
 
+use crate::closing::close_files;
 use sql_setup::{DeskFault, OpenFault};
 use sqlite::{Connection, Error, FileStore, Leftover};
-use sqlite_disk::Disk;
+use sqlite_disk::{Disk, Files};
 
 /// A `Refusal` says why a call found, made or migrated no desk in a file. It has what is left of the
 /// file, so that a contract can say of that why the call refused.
@@ -27,6 +29,20 @@ impl<D: Disk> Refusal<D> {
             Refusal::NoFile(fault) => *fault,
             Refusal::Unopened(_, _) => OpenFault::Unavailable,
             Refusal::Refused(why, _) => why.told(),
+        }
+    }
+}
+
+impl<D: Disk + Drop> Refusal<D> {
+    /// Closes what was opened and returns the files: those of the connection, or what is left of them if
+    /// none could be opened. If no file was opened there are none.
+    pub fn into_files(self) -> Option<Files<D>>
+        ensures { HasFiles self result }
+    {
+        match self {
+            Refusal::NoFile(_) | Refusal::Unopened(_, None) => None,
+            Refusal::Unopened(_, Some(left)) => Some(left.into_files()),
+            Refusal::Refused(_, conn) => Some(close_files(conn)),
         }
     }
 }

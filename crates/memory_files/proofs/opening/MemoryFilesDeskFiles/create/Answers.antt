@@ -2,8 +2,9 @@ use Rattle.std.proofs.Common.{refl}
 use Rattle.sqlite_disk.specs.contracts.memory.MemoryDisk.TheImpl as disk
 use Rattle.sqlite.specs.Files.{file_state}
 use Rattle.sql_files.specs.Opened.{leaves_new}
-use Rattle.memory_files.specs.Opening.{image_at, kept_at, IsUsable}
-use Rattle.memory_files.proofs.Openings.{made_on, unmade_on}
+use Rattle.memory_files.specs.Kept.{IsUsable}
+use Rattle.memory_files.specs.Opening.{image_at, kept_at}
+use Rattle.sql_files.proofs.Openings.{made_on, unmade_on}
 use Rattle.memory_files.proofs.Taking.{found_bytes}
 use Rattle.memory_files.proofs.opening.MemoryFilesDeskFiles.create.Goals as goal
 

@@ -3,8 +3,9 @@ use Rattle.sqlite_disk.specs.contracts.memory.MemoryDisk.TheImpl as disk
 use Rattle.sqlite.specs.Files.{file_state}
 use Rattle.sql_migration.specs.FirstVersion.{first_version}
 use Rattle.sql_files.specs.Opened.{leaves_migrated}
-use Rattle.memory_files.specs.Opening.{image_at, kept_at, IsUsable}
-use Rattle.memory_files.proofs.Openings.{is_file, refused_on, migrated_on}
+use Rattle.memory_files.specs.Kept.{IsUsable}
+use Rattle.memory_files.specs.Opening.{image_at, kept_at}
+use Rattle.sql_files.proofs.Openings.{is_file, refused_on, migrated_on}
 use Rattle.memory_files.proofs.Taking.{found_bytes}
 use Rattle.memory_files.proofs.opening.MemoryFilesDeskFiles.migrate.Goals as goal
 

@@ -1,6 +1,7 @@
-//! A connection that was opened is made one to a desk, as it is on the host: its tables are checked, made
-//! or migrated. Which files it is to is left out here, so that the prover does not compare calls with so
-//! long a type.
+//! A connection that was opened becomes one to a desk: its tables are checked, made or migrated.
+//!
+//! Each call takes the connection and returns it, whether it is refused or not. Which files it is to is
+//! left out here, so that the prover does not compare calls with so long a type.
 ghost use Rattle.std.specs.Prelude.{◌≢◌, IfOk, IfErr};
 ghost use Rattle.sqlite.specs.Held.{state};
 ghost use Rattle.sql_tables.specs.DeskTables.{version};
@@ -13,13 +14,17 @@ ghost use Rattle.sql_files.specs.Connections.{IfClean, WasClean, WasFirst};
 ghost use Rattle.sql_files.specs.Opened.{leaves_migrated, leaves_new};
 
 use desk_history::Identity;
-use sql_files::{DeskFault, OpenFault, migrate};
-use sql_setup::{check_desk, make_desk};
+use sql_migration::migrate;
+use sql_setup::{DeskFault, OpenFault, check_desk, make_desk};
 use sqlite::{Alter, Connection};
 use std::alloc::Global;
 
-/// Checks a connection, and gives it back.
-pub(crate) fn with_desk<P: Alter>(
+/// Checks that a connection sees a desk's tables, as `check_desk` does.
+///
+/// # Errors
+///
+/// That of `check_desk`, with the connection, which is unchanged.
+pub fn with_desk<P: Alter>(
     alloc: Global,
     conn: Connection<P>,
 ) -> Result<Connection<P>, (DeskFault, Connection<P>)>
@@ -36,8 +41,13 @@ pub(crate) fn with_desk<P: Alter>(
     }
 }
 
-/// Makes a new desk on a connection, and gives the connection back.
-pub(crate) fn with_new_desk<P: Alter>(
+/// Makes the tables of a new desk on a connection, with the SHA-256 digest of the operator's key, as
+/// `make_desk` does.
+///
+/// # Errors
+///
+/// That of `make_desk`, with the connection, on which no desk was made.
+pub fn with_new_desk<P: Alter>(
     conn: Connection<P>,
     identity: Identity,
     operator_key: [u8; 32],
@@ -54,8 +64,12 @@ pub(crate) fn with_new_desk<P: Alter>(
     }
 }
 
-/// Migrates the tables of a connection, and gives the connection back.
-pub(crate) fn with_second_version<P: Alter>(
+/// Migrates the tables of version 1 that a connection sees, as `migrate` does.
+///
+/// # Errors
+///
+/// That of `migrate`, with the connection, whose tables were not migrated.
+pub fn with_second_version<P: Alter>(
     alloc: Global,
     conn: Connection<P>,
 ) -> Result<Connection<P>, (DeskFault, Connection<P>)>

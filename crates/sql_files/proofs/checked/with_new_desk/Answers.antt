@@ -1,4 +1,4 @@
-use Rattle.memory_files.proofs.checked.with_new_desk.Goals as goal
+use Rattle.sql_files.proofs.checked.with_new_desk.Goals as goal
 
 pub returns-in-Err-clause-unmade : goal.returns-in-Err-clause-unmade
 returns-in-Err-clause-unmade g c = record {
