@@ -66,6 +66,7 @@ JUDGES = (
     Judge("pages", (), ("curl", "ss", "openssl", "sqlite3", "sftp")),
     Judge("growths_in_files", ("20",), ("gcc",)),
     Judge("deploy", (), ("nginx", "openssl", "logrotate", "nft", "ip", "man", "make", "strace")),
+    Judge("syncs", (), ("strace",)),
     Judge("day", (), ("nginx", "openssl", "sshd", "sftp", "curl", "rsync")),
     Judge("backups", (), ("nginx", "openssl", "sshd", "sftp", "curl", "rsync")),
     Judge("timing", (), ("nginx", "openssl", "valgrind")),

@@ -94,11 +94,11 @@ def connect(port):
 class Serving:
     """`achdesk serve` over a file, on a port of its own."""
 
-    def __init__(self, program, path, connections=None, port=None, patience=None, environment=None):
+    def __init__(self, program, path, connections=None, port=None, patience=None, environment=None, options=()):
         self.port = port or free_port()
         limits = [] if connections is None else ["--connections", str(connections)]
         limits += [] if patience is None else ["--patience", str(patience)]
-        self.process = subprocess.Popen([program, "serve", str(path), str(self.port), *limits], bufsize=0,
+        self.process = subprocess.Popen([program, "serve", str(path), str(self.port), *limits, *options], bufsize=0,
                                         env=os.environ | (environment or {}),
                                         stdin=subprocess.DEVNULL, stdout=subprocess.PIPE, stderr=subprocess.PIPE)
         self.line = b""

@@ -1,11 +1,11 @@
 -- The command that words name, by a parse with `clap`'s rules.
-use Rattle.std.proofs.Common.{ℕ, ◌≤◌, ◌≡◌, ◌≢◌, Bool, true, false, Bor, map, List, Result, Ok, Err, IfOk, OnErr, refl, sym, ap, ◌∙◌, subst, inl, inr, [], ◌∷◌, Some, None, Option, codes, unwrap_or, slice_get}
+use Rattle.std.proofs.Common.{ℕ, ◌≤◌, ◌≡◌, ◌≢◌, Bool, true, false, Bor, map, List, Result, Ok, Err, IfOk, IsErrAnd, OnErr, refl, sym, ap, ◌∙◌, subst, inl, inr, [], ◌∷◌, Some, None, Option, codes, unwrap_or, slice_get}
 use Rattle.std.specs.Str.{bytes_eq}
-use Rattle.std.specs.Prelude.{if◌then◌else◌}
+use Rattle.std.specs.Prelude.{◌&&◌, if◌then◌else◌}
 use Rattle.std.proofs.lemmas.Bool.{and_parts, cases_Bool, le-leb}
 use Rattle.std.proofs.lemmas.Slice.Eq.{bytes_eq-Decides}
 use Rattle.clap.specs.Kinds.{Kinds, HasKind, IsAmong, FailsBy}
-use Rattle.clap.specs.Words.{App, Row, Rule, Text, HasMatchesOf, app_of, fault_of, is_simple, is_simple_and_free, kind_of, first_value, found_of, rows_of, with_rule}
+use Rattle.clap.specs.Words.{App, Row, Rule, Text, HasMatchesOf, app_of, fault_of, is_simple, is_simple_and_free, kind_of, first_value, found_of, matches_of, rows_of, with_rule}
 use Rattle.clap.specs.declared.builder.command.Command.{Command as ClapCommand}
 use Rattle.clap.specs.declared.error.kind.ErrorKind.{ErrorKind}
 use Rattle.clap.specs.declared.error.kind.ErrorKind.TheVariants as kind
@@ -14,10 +14,12 @@ use Rattle.clap.specs.declared.parser.matches.ArgMatches.{ArgMatches}
 use Rattle.clap.proofs.OnLiterals.{clap_on_literals}
 use Rattle.clap.proofs.WalkLemmas.{first_value-rows}
 use Rattle.cli_words.specs.Arguments.{check_app, init_app, init_rules, migrate_app, program_app, serve_app, serve_rules, stdio_app, submit_app, submit_rules}
-use Rattle.cli_words.specs.CommandLine.{Form, Gives, GivesBy, GivesIn, HasConnections, HasNumber, HasPatience, HasPort, IsFaultAmong, IsFaultOf, NamedCommand, Parses, Serve, form_of, has_no_kind, is_between, kinds_at, named_by, named_command, number_in, number_of, program, serve, server, text_in}
+use Rattle.cli_words.specs.CommandLine.{Form, Gives, GivesBy, GivesIn, HasConnections, HasNumber, HasPatience, HasPort, IsFaultAmong, IsFaultOf, NamedCommand, Parses, Serve, form_of, has_no_kind, is_between, kinds_at, named_by, named_command, number_in, number_of, program, serve, server, session_with, stdio, sync_word, text_in}
+use Rattle.cli_words.specs.SyncWords.{syncs_by}
 use Rattle.cli_words.specs.declared.command.Command.{Command}
 use Rattle.cli_words.specs.declared.command.LineFault.{LineFault}
 use Rattle.cli_words.specs.declared.command.LineFault.TheVariants.{Help, Version, Usage, NoMemory}
+use Rattle.cli_words.specs.declared.syncs.Syncs.{Syncs}
 
 -- the rules of each form are some that `clap` follows
 pub check_free : is_simple_and_free check_app ≡ true
@@ -73,6 +75,27 @@ pub given : (form : Form) (words : List Text) (m : ArgMatches) (c : NamedCommand
 unfolding named_by
 given form words m c h is = rw h.0 (ap form.names (sym h.1) ∙ is)
 
+-- what is given by the matches of a form is what the words give
+pub given_by_matches : (form : Form) (words : List Text) (m : ArgMatches) (r : Result Command LineFault) → Parses form.app words (Ok m)
+    → Gives (form.names (rows_of (found_of m))) [] r → GivesIn form words r
+unfolding named_by
+given_by_matches form words m r h gives =
+    subst (λ (kinds : Kinds). Gives (if has_no_kind kinds then form.names (matches_of form.app words) else None) kinds r) (sym h.0)
+    (subst (λ (rows : List Row). Gives (form.names rows) [] r) h.1 gives)
+
+-- what `stdio` is given by the path and the word of `--sync` that were found
+pub session_given : (words : List Text) (m : ArgMatches) (path word : Option Text) (r : Result Command LineFault) → Parses stdio.app words (Ok m)
+    → path ≡ first_value (found_of m) (codes "DB") → word ≡ first_value (found_of m) (codes "WHEN") → Gives (session_with path word) [] r → GivesIn stdio words r
+session_given words m path word r h is_path is_word gives =
+    given_by_matches stdio words m r h
+    (subst (λ (o : Option Text). Gives (session_with o (sync_word (rows_of (found_of m)))) [] r) (is_path ∙ first_value-rows (found_of m) (codes "DB"))
+    (subst (λ (o : Option Text). Gives (session_with path o) [] r) (is_word ∙ first_value-rows (found_of m) (codes "WHEN")) gives))
+
+-- how often a commit syncs, by the word of `--sync` that was found
+pub synced_by : (m : ArgMatches) (word : Option Text) (o : Option Syncs) → word ≡ first_value (found_of m) (codes "WHEN") → syncs_by word ≡ o
+    → syncs_by (sync_word (rows_of (found_of m))) ≡ o
+synced_by m word o is said = subst (λ (w : Option Text). syncs_by w ≡ o) (is ∙ first_value-rows (found_of m) (codes "WHEN")) said
+
 lies_between : (low high n : ℕ) → low ≤ n → n ≤ high → is_between low high n ≡ true
 lies_between low high n least most = rw (le-leb low n least, le-leb n high most) refl
 
@@ -80,18 +103,36 @@ number_between : (low high : ℕ) (id : Text) (rows : List Row) → HasNumber lo
 number_between low high id rows h =
     subst (λ (o : Option Text). is_between low high (number_of (unwrap_or o [])) ≡ true) (sym h.1) (lies_between low high (number_of h.0) h.2.2 h.2.3)
 
-is_server : (path : Text) (port connections patience : ℕ) → is_between 1 65535 port ≡ true → is_between 1 1000000 connections ≡ true → is_between 1 3600 patience ≡ true
-    → server path port connections patience ≡ Some (Serve path port connections patience)
-is_server path port connections patience a b c = rw (a, b, c) refl
+is_server : (path : Text) (port connections patience : ℕ) (syncs : Syncs) → is_between 1 65535 port ≡ true → is_between 1 1000000 connections ≡ true
+    → is_between 1 3600 patience ≡ true → server path port connections patience (Some syncs) ≡ Some (Serve path port connections patience syncs)
+is_server path port connections patience syncs a b c = rw (a, b, c) refl
 
-pub server_given : (rows : List Row) (path : Text) (port connections patience : ℕ) → HasPort rows → HasConnections rows → HasPatience rows
+pub server_given : (rows : List Row) (path : Text) (port connections patience : ℕ) (syncs : Syncs) → HasPort rows → HasConnections rows → HasPatience rows
     → path ≡ text_in (codes "DB") rows → port ≡ number_in (codes "PORT") rows → connections ≡ number_in (codes "N") rows → patience ≡ number_in (codes "SECONDS") rows
-    → serve.names rows ≡ Some (Serve path port connections patience)
-server_given rows path port connections patience has_port has_connections has_patience e f g i =
-    rw (e, f, g, i)
-    (is_server (text_in (codes "DB") rows) (number_in (codes "PORT") rows) (number_in (codes "N") rows) (number_in (codes "SECONDS") rows)
+    → syncs_by (sync_word rows) ≡ Some syncs → serve.names rows ≡ Some (Serve path port connections patience syncs)
+server_given rows path port connections patience syncs has_port has_connections has_patience e f g i word =
+    rw (e, f, g, i, word)
+    (is_server (text_in (codes "DB") rows) (number_in (codes "PORT") rows) (number_in (codes "N") rows) (number_in (codes "SECONDS") rows) syncs
     (number_between 1 65535 (codes "PORT") rows has_port) (number_between 1 1000000 (codes "N") rows has_connections)
     (number_between 1 3600 (codes "SECONDS") rows has_patience))
+
+either_way : (b : Bool) (none : Option NamedCommand) → (if b then none else none) ≡ none
+either_way true none = refl
+either_way false none = refl
+
+no_server : (rows : List Row) → syncs_by (sync_word rows) ≡ None → serve.names rows ≡ None
+no_server rows none =
+    rw none
+    (either_way (is_between 1 65535 (number_in (codes "PORT") rows) && is_between 1 1000000 (number_in (codes "N") rows) && is_between 1 3600 (number_in (codes "SECONDS") rows))
+    None)
+
+-- what `serve` is given if `--sync` does not take the word that was found
+pub server_refused : (words : List Text) (m : ArgMatches) (fault : LineFault) (r : Result Command LineFault) → Parses serve.app words (Ok m)
+    → syncs_by (sync_word (rows_of (found_of m))) ≡ None → IsFaultAmong [] fault → IsErrAnd r (λ e. e ≡ fault) → GivesIn serve words r
+server_refused words m fault (Ok c) h none among is = absurd is
+server_refused words m fault (Err e) h none among is =
+    subst (λ (f : LineFault). GivesIn serve words (Err f)) (sym is)
+    (given_by_matches serve words m (Err fault) h (inr (no_server (rows_of (found_of m)) none), among))
 
 help_for_memory : (k : ErrorKind) → k ≡ kind.OutOfMemory → k ≡ kind.DisplayHelp → ⊥
 help_for_memory k memory help = cc
@@ -178,10 +219,6 @@ is_not word x name same apart =
       | inl equal ↦ absurd (apart (same ∙ (bytes_eq-Decides x word).0 equal))
       | inr other ↦ other
     ]
-
-either_way : (b : Bool) (none : Option NamedCommand) → (if b then none else none) ≡ none
-either_way true none = refl
-either_way false none = refl
 
 pub program_names_none : (words : List Text) → named_by program words ≡ None
 unfolding named_by

@@ -5,6 +5,7 @@ use Rattle.clap.specs.declared.error.kind.ErrorKind.TheVariants as kind
 use Rattle.clap.proofs.OnLiterals.{clap_on_literals}
 use Rattle.cli_words.specs.Arguments.{init_rules, serve_rules, submit_rules}
 use Rattle.cli_words.specs.CommandLine.{AnswerByFile, AnswerMessages, AnswerSubmission, Check, Init, Migrate, NamedCommand, Serve, Submit, kinds_at, named_by, named_command, spelled_out}
+use Rattle.cli_words.specs.declared.syncs.Syncs.TheVariants.{Once, Twice}
 
 no_words : named_command [] ≡ Some AnswerSubmission
 no_words = refl
@@ -83,9 +84,30 @@ stdio_alone : named_command (codes "stdio" ∷ []) ≡ Some AnswerMessages
 unfolding clap_on_literals named_by
 stdio_alone = refl
 
-stdio_with_a_path : named_command (codes "stdio" ∷ codes "desk.db" ∷ []) ≡ Some (AnswerByFile (codes "desk.db"))
+stdio_with_a_path : named_command (codes "stdio" ∷ codes "desk.db" ∷ []) ≡ Some (AnswerByFile (codes "desk.db") Twice)
 unfolding clap_on_literals named_by
 stdio_with_a_path = refl
+
+stdio_that_syncs_once : named_command (codes "stdio" ∷ codes "--sync" ∷ codes "once" ∷ codes "desk.db" ∷ []) ≡ Some (AnswerByFile (codes "desk.db") Once)
+unfolding clap_on_literals named_by
+stdio_that_syncs_once = refl
+
+stdio_that_syncs_twice : named_command (codes "stdio" ∷ codes "desk.db" ∷ codes "--sync=twice" ∷ []) ≡ Some (AnswerByFile (codes "desk.db") Twice)
+unfolding clap_on_literals named_by
+stdio_that_syncs_twice = refl
+
+-- a desk in memory has no file to sync
+stdio_that_syncs_no_file : named_command (codes "stdio" ∷ codes "--sync" ∷ codes "once" ∷ []) ≡ None
+unfolding clap_on_literals named_by
+stdio_that_syncs_no_file = refl
+
+stdio_that_syncs_thrice : named_command (codes "stdio" ∷ codes "desk.db" ∷ codes "--sync" ∷ codes "thrice" ∷ []) ≡ None
+unfolding clap_on_literals named_by
+stdio_that_syncs_thrice = refl
+
+no_word_of_sync : kinds_at (codes "stdio" ∷ codes "desk.db" ∷ codes "--sync" ∷ []) ≡ kind.InvalidValue ∷ []
+unfolding clap_on_literals kinds_at
+no_word_of_sync = refl
 
 stdio_with_two_paths : kinds_at (codes "stdio" ∷ codes "desk.db" ∷ codes "more.db" ∷ []) ≡ kind.UnknownArgument ∷ []
 unfolding clap_on_literals kinds_at
@@ -142,15 +164,15 @@ unfolding clap_on_literals named_by init_rules bank_options bank
 init_of_a_path = refl
 
 -- a server takes a thousand connections and waits for 30 seconds where the words say no other number
-serve_by_default : named_command (codes "serve" ∷ codes "desk.db" ∷ codes "8080" ∷ []) ≡ Some (Serve (codes "desk.db") 8080 1000 30)
+serve_by_default : named_command (codes "serve" ∷ codes "desk.db" ∷ codes "8080" ∷ []) ≡ Some (Serve (codes "desk.db") 8080 1000 30 Twice)
 unfolding clap_on_literals named_by serve_rules
 serve_by_default = refl
 
-serve_so_many : named_command (codes "serve" ∷ codes "desk.db" ∷ codes "65535" ∷ codes "--connections" ∷ codes "1000000" ∷ []) ≡ Some (Serve (codes "desk.db") 65535 1000000 30)
+serve_so_many : named_command (codes "serve" ∷ codes "desk.db" ∷ codes "65535" ∷ codes "--connections" ∷ codes "1000000" ∷ []) ≡ Some (Serve (codes "desk.db") 65535 1000000 30 Twice)
 unfolding clap_on_literals named_by serve_rules
 serve_so_many = refl
 
-serve_one : named_command (codes "serve" ∷ codes "--connections=1" ∷ codes "desk.db" ∷ codes "1" ∷ []) ≡ Some (Serve (codes "desk.db") 1 1 30)
+serve_one : named_command (codes "serve" ∷ codes "--connections=1" ∷ codes "desk.db" ∷ codes "1" ∷ []) ≡ Some (Serve (codes "desk.db") 1 1 30 Twice)
 unfolding clap_on_literals named_by serve_rules
 serve_one = refl
 
@@ -182,7 +204,7 @@ too_many_connections : kinds_at (codes "serve" ∷ codes "desk.db" ∷ codes "80
 unfolding clap_on_literals kinds_at serve_rules
 too_many_connections = refl
 
-serve_patiently : named_command (codes "serve" ∷ codes "desk.db" ∷ codes "8080" ∷ codes "--patience" ∷ codes "3600" ∷ []) ≡ Some (Serve (codes "desk.db") 8080 1000 3600)
+serve_patiently : named_command (codes "serve" ∷ codes "desk.db" ∷ codes "8080" ∷ codes "--patience" ∷ codes "3600" ∷ []) ≡ Some (Serve (codes "desk.db") 8080 1000 3600 Twice)
 unfolding clap_on_literals named_by serve_rules
 serve_patiently = refl
 
@@ -193,6 +215,23 @@ no_patience = refl
 too_much_patience : kinds_at (codes "serve" ∷ codes "desk.db" ∷ codes "8080" ∷ codes "--patience" ∷ codes "3601" ∷ []) ≡ kind.ValueValidation ∷ []
 unfolding clap_on_literals kinds_at serve_rules
 too_much_patience = refl
+
+serve_that_syncs_once : named_command (codes "serve" ∷ codes "desk.db" ∷ codes "8080" ∷ codes "--sync=once" ∷ []) ≡ Some (Serve (codes "desk.db") 8080 1000 30 Once)
+unfolding clap_on_literals named_by serve_rules
+serve_that_syncs_once = refl
+
+serve_that_syncs_twice : named_command (codes "serve" ∷ codes "desk.db" ∷ codes "8080" ∷ codes "--sync" ∷ codes "twice" ∷ []) ≡ Some (Serve (codes "desk.db") 8080 1000 30 Twice)
+unfolding clap_on_literals named_by serve_rules
+serve_that_syncs_twice = refl
+
+serve_that_never_syncs : named_command (codes "serve" ∷ codes "desk.db" ∷ codes "8080" ∷ codes "--sync" ∷ codes "never" ∷ []) ≡ None
+unfolding clap_on_literals named_by serve_rules
+serve_that_never_syncs = refl
+
+-- `migrate` has no such option: it syncs twice
+migrate_that_syncs_once : kinds_at (codes "migrate" ∷ codes "desk.db" ∷ codes "--sync=once" ∷ []) ≡ kind.UnknownArgument ∷ []
+unfolding clap_on_literals kinds_at
+migrate_that_syncs_once = refl
 
 migrate_of_a_path : named_command (codes "migrate" ∷ codes "desk.db" ∷ []) ≡ Some (Migrate (codes "desk.db"))
 unfolding clap_on_literals named_by serve_rules

@@ -44,6 +44,10 @@ patience_rule = record (argument (codes "SECONDS")) {
   defaults = codes "30" ∷ [];
 }
 
+-- how often a commit syncs: a word, which `clap` does not test
+abbrev pub sync_rule : Rule
+sync_rule = record (argument (codes "WHEN")) { long = Some (codes "sync") }
+
 -- a command with these arguments
 abbrev pub app_with : (name : Text) → List Rule → App
 app_with name rules = record { top = record (new_shape name) { rules = rules }; subs = [] }
@@ -72,6 +76,10 @@ submit_rules =
     ∷ required_option (codes "TEXT") (codes "description")
     ∷ required_option (codes "DAY") (codes "day") ∷ []
 
+-- the arguments of `stdio`
+abbrev pub stdio_rules : List Rule
+stdio_rules = argument (codes "DB") ∷ sync_rule ∷ []
+
 -- the arguments of `init`
 unfoldable pub init_rules : List Rule
 init_rules =
@@ -84,7 +92,7 @@ init_rules =
 
 -- the arguments of `serve`
 unfoldable pub serve_rules : List Rule
-serve_rules = required_argument (codes "DB") ∷ port_rule ∷ connections_rule ∷ patience_rule ∷ []
+serve_rules = required_argument (codes "DB") ∷ port_rule ∷ connections_rule ∷ patience_rule ∷ sync_rule ∷ []
 
 -- the commands
 abbrev pub check_app : App
@@ -94,7 +102,7 @@ abbrev pub submit_app : App
 submit_app = app_with (codes "achdesk submit") submit_rules
 
 abbrev pub stdio_app : App
-stdio_app = app_with (codes "achdesk stdio") (argument (codes "DB") ∷ [])
+stdio_app = app_with (codes "achdesk stdio") stdio_rules
 
 abbrev pub init_app : App
 init_app = app_with (codes "achdesk init") init_rules

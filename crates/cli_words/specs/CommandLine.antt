@@ -1,5 +1,5 @@
 -- The command that words name, by `clap`'s rules for the command's arguments, or why they name none.
-use Rattle.std.specs.Prelude.{◌≡◌, ◌≢◌, ◌⊎◌, ◌&&◌, ℕ, nat_le, not, Bool, true, false, if◌then◌else◌, List, [], ◌∷◌, find, Option, Some, None, codes, unwrap_or, Result, Ok, Err, OnErr}
+use Rattle.std.specs.Prelude.{◌≡◌, ◌≢◌, ◌⊎◌, ◌&&◌, ℕ, nat_le, not, Bool, true, false, if◌then◌else◌, List, [], ◌∷◌, find, Option, Some, None, option_map, codes, unwrap_or, Result, Ok, Err, OnErr}
 use Rattle.std.specs.Option.{option_map_or}
 use Rattle.std.specs.Str.{bytes_eq}
 use Rattle.std.specs.Str.Parse.{digits_value, without_leading_plus}
@@ -12,10 +12,12 @@ use Rattle.clap.specs.declared.parser.matches.ArgMatches.{ArgMatches}
 use Rattle.cli_submit.specs.Options.{OptionTexts, texts_of}
 use Rattle.cli_words.specs.Arguments.{check_app, init_app, migrate_app, program_app, serve_app, stdio_app, submit_app}
 use Rattle.cli_words.specs.InitOptions.{InitTexts, init_texts_of}
+use Rattle.cli_words.specs.SyncWords.{syncs_by}
 use Rattle.cli_words.specs.declared.command.Command.{Command}
 use Rattle.cli_words.specs.declared.command.Command.TheVariants as command
 use Rattle.cli_words.specs.declared.command.LineFault.{LineFault}
 use Rattle.cli_words.specs.declared.command.LineFault.TheVariants.{Help, Version, Usage, NoMemory}
+use Rattle.cli_words.specs.declared.syncs.Syncs.{Syncs}
 
 -- the word that asks for help
 abbrev pub is_help : (word : Text) → Bool
@@ -52,6 +54,10 @@ HasConnections rows = HasNumber 1 1000000 (codes "N") rows
 abbrev pub HasPatience : List Row → Type 0
 HasPatience rows = HasNumber 1 3600 (codes "SECONDS") rows
 
+-- the word of `--sync`
+abbrev pub sync_word : List Row → Option Text
+sync_word = first_of (codes "WHEN")
+
 -- the options of a message
 abbrev pub options_in : List Row → OptionTexts
 options_in rows = record {
@@ -80,25 +86,27 @@ pub data NamedCommand : Type 0 where
   Check : (file : Text) → NamedCommand
   Submit : (list : Text) → OptionTexts → NamedCommand
   AnswerMessages : NamedCommand
-  AnswerByFile : (path : Text) → NamedCommand
+  AnswerByFile : (path : Text) → Syncs → NamedCommand
   Init : (path : Text) → InitTexts → NamedCommand
-  Serve : (path : Text) → (port connections patience : ℕ) → NamedCommand
+  Serve : (path : Text) → (port connections patience : ℕ) → Syncs → NamedCommand
   Migrate : (path : Text) → NamedCommand
 
--- a session with the desk in the file that is named, or with a new one
-abbrev pub session_with : (path : Option Text) → NamedCommand
-session_with (Some path) = AnswerByFile path
-session_with None = AnswerMessages
+-- a session with the desk in the file that is named, or with a new one, which has no file to sync
+abbrev pub session_with : (path word : Option Text) → Option NamedCommand
+session_with (Some path) word = option_map (AnswerByFile path) (syncs_by word)
+session_with None None = Some AnswerMessages
+session_with None (Some word) = None
 
 -- a number from low to high
 abbrev pub is_between : (low high n : ℕ) → Bool
 is_between low high n = nat_le low n && nat_le n high
 
--- a server, if its port is 1 to 65,535, its connections are 1 to 1,000,000, and its patience is 1 to 3,600
-abbrev pub server : (path : Text) (port connections patience : ℕ) → Option NamedCommand
-server path port connections patience =
+-- a server, if its port is 1 to 65,535, its connections are 1 to 1,000,000, its patience is 1 to 3,600, and the words say how
+-- often it syncs
+abbrev pub server : (path : Text) (port connections patience : ℕ) → Option Syncs → Option NamedCommand
+server path port connections patience syncs =
     if is_between 1 65535 port && is_between 1 1000000 connections && is_between 1 3600 patience
-    then Some (Serve path port connections patience) else None
+    then option_map (Serve path port connections patience) syncs else None
 
 -- ---- the forms of the commands
 
@@ -115,7 +123,7 @@ abbrev pub submit : Form
 submit = record { word = codes "submit"; app = submit_app; names = λ rows. Some (Submit (text_in (codes "FILE") rows) (options_in rows)) }
 
 abbrev pub stdio : Form
-stdio = record { word = codes "stdio"; app = stdio_app; names = λ rows. Some (session_with (first_of (codes "DB") rows)) }
+stdio = record { word = codes "stdio"; app = stdio_app; names = λ rows. session_with (first_of (codes "DB") rows) (sync_word rows) }
 
 abbrev pub init : Form
 init = record { word = codes "init"; app = init_app; names = λ rows. Some (Init (text_in (codes "DB") rows) (init_texts_in rows)) }
@@ -124,7 +132,7 @@ abbrev pub serve : Form
 serve = record {
   word = codes "serve";
   app = serve_app;
-  names = λ rows. server (text_in (codes "DB") rows) (number_in (codes "PORT") rows) (number_in (codes "N") rows) (number_in (codes "SECONDS") rows);
+  names = λ rows. server (text_in (codes "DB") rows) (number_in (codes "PORT") rows) (number_in (codes "N") rows) (number_in (codes "SECONDS") rows) (syncs_by (sync_word rows));
 }
 
 abbrev pub migrate : Form
@@ -167,9 +175,9 @@ command_value command.AnswerSubmission = AnswerSubmission
 command_value (command.Check file) = Check file.now
 command_value (command.Submit list options) = Submit list.now (texts_of options)
 command_value command.AnswerMessages = AnswerMessages
-command_value (command.AnswerByFile path) = AnswerByFile path.now
+command_value (command.AnswerByFile path syncs) = AnswerByFile path.now syncs
 command_value (command.Init path options) = Init path.now (init_texts_of options)
-command_value (command.Serve path options) = Serve path.now options.port options.connections options.patience
+command_value (command.Serve path options) = Serve path.now options.port options.connections options.patience options.syncs
 command_value (command.Migrate path) = Migrate path.now
 
 -- the fault is help or the version where `clap`'s error is that, and usage where it is another
@@ -191,6 +199,11 @@ IsFaultAmong kinds NoMemory = Unit {0}
 abbrev pub Gives : (wanted : Option NamedCommand) → Kinds → Result Command LineFault → Type 0
 Gives wanted kinds (Ok c) = wanted ≡ Some (command_value c)
 Gives wanted kinds (Err fault) = ((fault ≡ NoMemory) ⊎ (wanted ≡ None)) × IsFaultAmong kinds fault
+
+-- How often a commit syncs, as is wanted; or nothing is, or memory ran out, and the fault is usage.
+abbrev pub GivesSyncs : (wanted : Option Syncs) → Result Syncs LineFault → Type 0
+GivesSyncs wanted (Ok syncs) = wanted ≡ Some syncs
+GivesSyncs wanted (Err fault) = (wanted ≡ None) × IsFaultAmong [] fault
 
 -- what words in this form give
 abbrev pub GivesIn : Form → (words : List Text) → Result Command LineFault → Type 0

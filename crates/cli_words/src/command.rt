@@ -4,6 +4,7 @@ ghost use Rattle.clap.specs.Words.{fault_of, found_of, kind_of, rows_of};
 ghost use Rattle.cli_submit.specs.Options.{texts_of};
 ghost use Rattle.cli_words.specs.Arguments.{program_app};
 ghost use Rattle.cli_words.specs.CommandLine.{GivesAt, GivesBy, GivesIn, IsFaultAmong, IsFaultOf, NamesNone, check, options_in, submit};
+ghost use Rattle.cli_words.specs.SyncWords.{syncs_of};
 
 use crate::file_commands::{init_command, migrate_command, serve_command, stdio_command};
 use crate::given_values::argument_text;
@@ -12,6 +13,7 @@ use crate::init_options::InitOptions;
 use crate::plain_arguments::{check_matches, submit_matches};
 use crate::program_arguments::program_matches;
 use crate::serve_options::ServeOptions;
+use crate::syncs::Syncs;
 use clap::error::ErrorKind;
 use clap::{ArgMatches, Error};
 use cli_submit::SubmitOptions;
@@ -28,8 +30,9 @@ pub enum Command<'a> {
     Submit(&'a str, SubmitOptions<'a>),
     /// The program answers the messages of one session, by a new desk of the sample bank.
     AnswerMessages,
-    /// The program answers the messages of one session, by the desk in the file at this path.
-    AnswerByFile(&'a str),
+    /// The program answers the messages of one session, by the desk in the file at this path, which
+    /// syncs so often.
+    AnswerByFile(&'a str, Syncs),
     /// The program makes a new desk in the file at this path, with these options.
     Init(&'a str, InitOptions<'a>),
     /// The program answers the messages of connections, by the desk in the file at this path, with
@@ -37,6 +40,20 @@ pub enum Command<'a> {
     Serve(&'a str, ServeOptions),
     /// The program brings the desk in the file at this path to the tables of today.
     Migrate(&'a str),
+}
+
+impl Command<'_> {
+    /// Returns how often a commit of the command syncs: as its option says, and twice for a command that
+    /// has no such option.
+    pub fn syncs(&self) -> Syncs
+        ensures { result ≡ syncs_of self.now }
+    {
+        match *self {
+            Command::AnswerByFile(_, syncs) => syncs,
+            Command::Serve(_, options) => options.syncs,
+            _ => Syncs::Twice,
+        }
+    }
 }
 
 /// A fault says why the words name no command.

@@ -6,6 +6,7 @@ ghost use Rattle.cli_words.specs.CommandLine.{HasConnections, HasPatience, HasPo
 
 use crate::plain_arguments::{HELP_REQUIRED, add_argument, add_options, new_command};
 use crate::serve_arguments::{connections_option, patience_option, port_argument};
+use crate::sync_arguments::sync_option;
 use clap::{ArgMatches, Command as ClapCommand, Error};
 use std::alloc::{AllocError, Global};
 
@@ -81,6 +82,7 @@ fn serve_command<'a>(alloc: Global) -> Result<ClapCommand<'a>, AllocError>
     let command = command.arg(port_argument(alloc))?;
     let command = command.arg(connections_option(alloc))?;
     let command = command.arg(patience_option(alloc))?;
+    let command = command.arg(sync_option(alloc))?;
     Ok(command)
 }
 

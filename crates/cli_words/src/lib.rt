@@ -15,9 +15,12 @@ mod plain_arguments;
 mod program_arguments;
 mod serve_arguments;
 mod serve_options;
+mod sync_arguments;
+mod syncs;
 mod version_line;
 
 pub use command::{Command, LineFault, command_of};
 pub use init_options::InitOptions;
 pub use serve_options::ServeOptions;
+pub use syncs::Syncs;
 pub use version_line::VERSION_LINE;

@@ -5,6 +5,7 @@ ghost use Rattle.clap.specs.Words.{app_of, new_app, with_rule};
 ghost use Rattle.cli_words.specs.Arguments.{check_app, option_texts, required_argument, required_option, stdio_app, submit_app, with_options, IsApp};
 ghost use Rattle.cli_words.specs.CommandLine.{Parses};
 
+use crate::sync_arguments::sync_option;
 use clap::{Arg, ArgAction, ArgMatches, Command as ClapCommand, Error};
 use std::alloc::{AllocError, Global};
 
@@ -70,7 +71,7 @@ pub fn submit_matches<'a>(alloc: Global, words: &'a [&'a str]) -> Result<ArgMatc
     command.try_get_matches_from(words)
 }
 
-/// Parses the words of `stdio [DB]`.
+/// Parses the words of `stdio [DB]` with its option.
 pub fn stdio_matches<'a>(alloc: Global, words: &'a [&'a str]) -> Result<ArgMatches<'a>, Error>
     ensures { Parses stdio_app (map (λ w. w.now) words.now) result }
 {
@@ -93,6 +94,7 @@ fn stdio_command<'a>(alloc: Global) -> Result<ClapCommand<'a>, AllocError>
         .action(ArgAction::Set)
         .help(HELP_DESK_OR_NONE);
     let command = command.arg(path)?;
+    let command = command.arg(sync_option(alloc))?;
     Ok(command)
 }
 

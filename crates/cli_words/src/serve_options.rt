@@ -1,6 +1,7 @@
 //! The options of a server.
+use crate::syncs::Syncs;
 
-/// The options say where a server listens, how long, and how long it waits for a client.
+/// The options say where a server listens, how long, how long it waits for a client, and how often it syncs.
 #[derive(Clone, Copy, Debug, PartialEq, Eq)]
 pub struct ServeOptions {
     /// The port on which the server listens: 1 to 65,535.
@@ -9,4 +10,6 @@ pub struct ServeOptions {
     pub connections: u32,
     /// How many seconds each read and each write waits for a client at most: 1 to 3,600.
     pub patience: u16,
+    /// How often a commit syncs the desk's files.
+    pub syncs: Syncs,
 }

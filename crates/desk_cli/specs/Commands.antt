@@ -10,10 +10,13 @@ use Rattle.http_session.specs.declared.network.Network as network
 use Rattle.sql_files.specs.declared.desk_files.Closes as closing
 use Rattle.sql_files.specs.declared.desk_files.DeskFiles as files
 use Rattle.cli_words.specs.InitOptions.{init_texts_of}
+use Rattle.cli_words.specs.SyncWords.{syncs_of}
 use Rattle.cli_words.specs.declared.command.Command.{Command}
 use Rattle.cli_words.specs.declared.command.Command.TheVariants.{AnswerByFile, AnswerMessages, AnswerSubmission, Check, Init, Migrate, Serve, Submit}
 use Rattle.cli_words.specs.declared.command.LineFault.{LineFault}
 use Rattle.cli_words.specs.declared.command.LineFault.TheVariants.{Help, Version, Usage, NoMemory}
+use Rattle.cli_words.specs.declared.syncs.Syncs.{Syncs}
+use Rattle.cli_words.specs.declared.syncs.Syncs.TheVariants.{Once, Twice}
 use Rattle.cli_words.specs.declared.version_line.TheConstants.{VERSION_LINE}
 use Rattle.cli_commands.specs.InputRuns.{HasAnswered, IsFailedRun}
 use Rattle.cli_commands.specs.MessageRuns.{HasAnsweredMessages, HasBrokenOff}
@@ -36,7 +39,7 @@ TellsOfFile f d old AnswerSubmission opened new = (opened ≡ None) × (new ≡ 
 TellsOfFile f d old (Check path) opened new = (opened ≡ None) × (new ≡ old)
 TellsOfFile f d old (Submit list options) opened new = (opened ≡ None) × (new ≡ old)
 TellsOfFile f d old AnswerMessages opened new = (opened ≡ None) × (new ≡ old)
-TellsOfFile f d old (AnswerByFile path) opened new = IsSomeAnd opened (λ given. IsOpenedAt f d old path.now given new)
+TellsOfFile f d old (AnswerByFile path syncs) opened new = IsSomeAnd opened (λ given. IsOpenedAt f d old path.now given new)
 TellsOfFile f d old (Init path options) opened new = IsOfOptions f d old path.now (init_texts_of options) opened new
 TellsOfFile f d old (Serve path options) opened new = IsSomeAnd opened (λ given. IsOpenedAt f d old path.now given new)
 TellsOfFile f d old (Migrate path) opened new = IsSomeAnd opened (λ given. IsMigratedAt f d old path.now given new)
@@ -52,7 +55,7 @@ module _ {F D Q N L S R W : Type 0} (f : files.Ghosts F D Q) (d : disk.Ghosts D)
   CarriesOut (Check path) opened old new status = ChecksAt f q files path.now w old new status
   CarriesOut (Submit list options) opened old new status = SubmitsAt f q files list.now w old new options status
   CarriesOut AnswerMessages opened old new status = HasAnsweredMessages r reader w old new status
-  CarriesOut (AnswerByFile path) opened old new status =
+  CarriesOut (AnswerByFile path syncs) opened old new status =
       IsSomeAnd opened (λ given. FileAnswers r reader w old new (f.holds files path.now) given status)
   CarriesOut (Init path options) opened old new status = SaysWhetherCreated (init_texts_of options) opened w old new status
   CarriesOut (Serve path options) opened old new status =
@@ -65,7 +68,7 @@ module _ {F D Q N L S R W : Type 0} (f : files.Ghosts F D Q) (d : disk.Ghosts D)
   FailsToCarryOut (Check path) opened old new = FailsToCheckAt f q files path.now w old new
   FailsToCarryOut (Submit list options) opened old new = FailsToSubmitAt f q files list.now w old new options
   FailsToCarryOut AnswerMessages opened old new = HasBrokenOff r reader w old new
-  FailsToCarryOut (AnswerByFile path) opened old new =
+  FailsToCarryOut (AnswerByFile path syncs) opened old new =
       IsSomeAnd opened (λ given. FileBreaksOff r reader w old new (f.holds files path.now) given)
   FailsToCarryOut (Init path options) opened old new = FailsToSayWhetherCreated (init_texts_of options) opened w old new
   FailsToCarryOut (Serve path options) opened old new =
@@ -93,6 +96,21 @@ abbrev pub RunsHere : {F D Q N L S R W : Type 0} → files.Ghosts F D Q → (d :
     → Command → (old new : W) → Status → Type 0
 RunsHere {F = F} f d q n l c s t k r w network reader command old new status =
     (files : F) × (after : F) × RunsBy f d q n l c s t r w files network reader k after command old new status
+
+-- the first for a command that syncs once, the second for one that syncs twice
+abbrev pub OnSyncs : Syncs → (once twice : Type 0) → Type 0
+OnSyncs Once once twice = once
+OnSyncs Twice once twice = twice
+
+-- The same over the files that the command's syncs ask for: `f`, `d` and `k` are of files that sync once, `g`, `e` and `j` of
+-- files that sync twice.
+abbrev pub RunsSynced : {F G D E Q N L S R W : Type 0} → files.Ghosts F D Q → (d : disk.Ghosts D) → closing.Ghosts F (Option (Given d))
+    → files.Ghosts G E Q → (e : disk.Ghosts E) → closing.Ghosts G (Option (Given e)) → source.Ghosts Q
+    → network.Ghosts N L S → listener.Ghosts L S → connection.Ghosts S → source.Ghosts S → sink.Ghosts S
+    → source.Ghosts R → sink.Ghosts W → (network : N) → (reader : R) → Command → (old new : W) → Status → Type 0
+RunsSynced f d k g e j q n l c s t r w network reader command old new status =
+    OnSyncs (syncs_of command) (RunsHere f d q n l c s t k r w network reader command old new status)
+    (RunsHere g e q n l c s t j r w network reader command old new status)
 
 -- ---- line faults
 

@@ -68,7 +68,7 @@ pub fn run_from<F: DeskFiles, N: Network, R: Source + Drop, W: Sink>(
         Command::Submit(path, options) => (submit_at(alloc, files, path, &options, writer), None),
         Command::AnswerMessages => (answer_messages(alloc, reader, writer), None),
         Command::Init(path, options) => make_desk(alloc, files, path, &options, writer),
-        Command::AnswerByFile(path) => {
+        Command::AnswerByFile(path, _) => {
             let (status, opened) = answer_by_file(alloc, files, path, reader, writer);
             (status, Some(opened))
         }

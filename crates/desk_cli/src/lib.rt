@@ -16,7 +16,9 @@ pub use cli_commands::{
     NoMemory, Status, answer_messages, check_file, first_run, submission_answer, submit_list,
 };
 pub use cli_submit::{InputFault, RowFault, SubmitFault, SubmitOptions, submit_message};
-pub use cli_words::{Command, InitOptions, LineFault, ServeOptions, VERSION_LINE, command_of};
+pub use cli_words::{
+    Command, InitOptions, LineFault, ServeOptions, Syncs, VERSION_LINE, command_of,
+};
 pub use dispatch::{print_line_fault, run_from, run_over};
 pub use init_desk::make_desk;
 pub use kept_session::answer_by_file;

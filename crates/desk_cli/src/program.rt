@@ -1,15 +1,15 @@
 //! The program: the words that it was started with, and what they ask for.
 ghost use Rattle.std.specs.Prelude.{◌≡◌, ◌≢◌, ◌≤◌, [], drop, map, IfOk, IfErr, OnErr, string_bytes};
 ghost use Rattle.std.specs.Vec.Iter.{into_iter_items};
-ghost use Rattle.desk_cli.specs.Commands.{RunsHere};
+ghost use Rattle.desk_cli.specs.Commands.{RunsHere, RunsSynced};
 ghost use Rattle.desk_cli.specs.Programs.{words_in, GivesStarted, IsNotTextFault, RunsStarted, RunsWords};
 
 use crate::dispatch::{print_line_fault, run_over};
 use cli_commands::Status;
-use cli_words::{Command, LineFault, command_of};
+use cli_words::{Command, LineFault, Syncs, command_of};
 use http_session::{Listener, Network};
 use io_retries::{Sink, Source};
-use sql_files::{Closes, DeskFiles, FileFrom, HostFiles, Opened, Wary};
+use sql_files::{Closes, DeskFiles, FileFrom, HostFiles, HostStart, Opened, Unknown, Wary};
 use sqlite_disk::Disk;
 use std::alloc::{AllocError, Global};
 use std::env::Args;
@@ -18,8 +18,11 @@ use std::io::ErrorKind;
 use std::net::{TcpListener, TcpStream};
 use std::{env, io};
 
-/// Carries out a command as `run_over` does, over the files and the network of the host. A desk's file is
-/// opened as `Wary`, which supposes nothing of a torn write.
+/// Carries out a command as `run_over` does, over the files and the network of the host.
+///
+/// A desk's file is opened as the command's syncs ask. `Wary` syncs each commit twice and assumes nothing of
+/// a write that a power failure cuts off. `Unknown` syncs it once and assumes that each byte of such a write
+/// is the old one or the new one.
 ///
 /// No contract knows what the host's files hold, and the facts of its files and its network say nothing. What
 /// is promised for all files and networks is the contract of `run_over`.
@@ -29,15 +32,38 @@ pub fn run<R: Source + Drop, W: Sink>(
     reader: R,
     writer: &mut W,
 ) -> Status
-    ensures { RunsHere ⟦<HostFiles<'static, Wary> as DeskFiles>⟧ ⟦<FileFrom<Wary> as Disk>⟧
+    ensures { RunsSynced
+        ⟦<HostFiles<'static, Unknown> as DeskFiles>⟧ ⟦<FileFrom<Unknown> as Disk>⟧
+        ⟦<HostFiles<'static, Unknown> as Closes<Opened<FileFrom<Unknown>>>>⟧
+        ⟦<HostFiles<'static, Wary> as DeskFiles>⟧ ⟦<FileFrom<Wary> as Disk>⟧
+        ⟦<HostFiles<'static, Wary> as Closes<Opened<FileFrom<Wary>>>>⟧
         ⟦<File as Source>⟧ ⟦<HostRuntime as Network>⟧ ⟦<TcpListener as Listener>⟧
         ⟦<TcpStream as http_session::Connection>⟧ ⟦<TcpStream as Source>⟧ ⟦<TcpStream as Sink>⟧
-        ⟦<HostFiles<'static, Wary> as Closes<Opened<FileFrom<Wary>>>>⟧
+        R.Source W.Sink rt.now reader command.now writer.old writer.new result }
+{
+    match command.syncs() {
+        Syncs::Once => run_here(rt, Unknown, command, reader, writer),
+        Syncs::Twice => run_here(rt, Wary, command, reader, writer),
+    }
+}
+
+// Carries out a command over the host's files, which are opened as this start says.
+fn run_here<S: HostStart, R: Source + Drop, W: Sink>(
+    rt: &HostRuntime,
+    start: S,
+    command: &Command<'_>,
+    reader: R,
+    writer: &mut W,
+) -> Status
+    ensures { RunsHere ⟦<HostFiles<'static, S> as DeskFiles>⟧ ⟦<FileFrom<S> as Disk>⟧
+        ⟦<File as Source>⟧ ⟦<HostRuntime as Network>⟧ ⟦<TcpListener as Listener>⟧
+        ⟦<TcpStream as http_session::Connection>⟧ ⟦<TcpStream as Source>⟧ ⟦<TcpStream as Sink>⟧
+        ⟦<HostFiles<'static, S> as Closes<Opened<FileFrom<S>>>>⟧
         R.Source W.Sink rt.now reader command.now writer.old writer.new result }
 {
     run_over(
         rt.alloc(),
-        &mut HostFiles::new(rt, Wary),
+        &mut HostFiles::new(rt, start),
         rt,
         command,
         reader,
@@ -53,10 +79,13 @@ pub fn run_words<R: Source + Drop, W: Sink>(
     reader: R,
     writer: &mut W,
 ) -> u8
-    ensures runs { RunsWords W.Sink (RunsHere ⟦<HostFiles<'static, Wary> as DeskFiles>⟧ ⟦<FileFrom<Wary> as Disk>⟧
+    ensures runs { RunsWords W.Sink (RunsSynced
+        ⟦<HostFiles<'static, Unknown> as DeskFiles>⟧ ⟦<FileFrom<Unknown> as Disk>⟧
+        ⟦<HostFiles<'static, Unknown> as Closes<Opened<FileFrom<Unknown>>>>⟧
+        ⟦<HostFiles<'static, Wary> as DeskFiles>⟧ ⟦<FileFrom<Wary> as Disk>⟧
+        ⟦<HostFiles<'static, Wary> as Closes<Opened<FileFrom<Wary>>>>⟧
         ⟦<File as Source>⟧ ⟦<HostRuntime as Network>⟧ ⟦<TcpListener as Listener>⟧
         ⟦<TcpStream as http_session::Connection>⟧ ⟦<TcpStream as Source>⟧ ⟦<TcpStream as Sink>⟧
-        ⟦<HostFiles<'static, Wary> as Closes<Opened<FileFrom<Wary>>>>⟧
         R.Source W.Sink rt.now reader)
         writer.old writer.new (words_in words.now) result }
     ensures status { result ≤ 3 }
@@ -76,10 +105,13 @@ pub fn run_started<R: Source + Drop, W: Sink>(
     reader: R,
     writer: &mut W,
 ) -> u8
-    ensures runs { RunsStarted W.Sink (RunsHere ⟦<HostFiles<'static, Wary> as DeskFiles>⟧ ⟦<FileFrom<Wary> as Disk>⟧
+    ensures runs { RunsStarted W.Sink (RunsSynced
+        ⟦<HostFiles<'static, Unknown> as DeskFiles>⟧ ⟦<FileFrom<Unknown> as Disk>⟧
+        ⟦<HostFiles<'static, Unknown> as Closes<Opened<FileFrom<Unknown>>>>⟧
+        ⟦<HostFiles<'static, Wary> as DeskFiles>⟧ ⟦<FileFrom<Wary> as Disk>⟧
+        ⟦<HostFiles<'static, Wary> as Closes<Opened<FileFrom<Wary>>>>⟧
         ⟦<File as Source>⟧ ⟦<HostRuntime as Network>⟧ ⟦<TcpListener as Listener>⟧
         ⟦<TcpStream as http_session::Connection>⟧ ⟦<TcpStream as Source>⟧ ⟦<TcpStream as Sink>⟧
-        ⟦<HostFiles<'static, Wary> as Closes<Opened<FileFrom<Wary>>>>⟧
         R.Source W.Sink rt.now reader)
         writer.old writer.new started result }
     ensures status { result ≤ 3 }

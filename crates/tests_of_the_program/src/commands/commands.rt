@@ -45,6 +45,8 @@ const WORDS: &[(&[&str], u8, &str)] = &[
     (&["stdio"], 1, ""),
     (&["stdio", "--help"], 0, "Answers HTTP/1.1 requests"),
     (&["stdio", "no such desk"], 1, "NotADesk\n"),
+    (&["stdio", "no such desk", "--sync=once"], 1, "NotADesk\n"),
+    (&["stdio", "no such desk", "--sync=never"], 2, "error: "),
     (
         &["init", "--help"],
         0,
@@ -79,7 +81,17 @@ const WORDS: &[(&[&str], u8, &str)] = &[
         2,
         "error: ",
     ),
+    (
+        &["serve", "no such desk", "8080", "--sync", "never"],
+        2,
+        "error: invalid value 'never' for '--sync <WHEN>'",
+    ),
     (&["serve", "no such desk", "8080"], 1, "NotADesk\n"),
+    (
+        &["serve", "no such desk", "8080", "--sync=once"],
+        1,
+        "NotADesk\n",
+    ),
 ];
 
 /// The whole text of help.
@@ -109,6 +121,38 @@ const USAGE: &str = "error: unrecognized subcommand 'bogus'
 
 Usage: achdesk < SUBMISSION
        achdesk <COMMAND>
+
+For more information, try '--help'.
+";
+
+/// The whole help of a command that may sync once.
+const STDIO_HELP: &str =
+    "Answers HTTP/1.1 requests on standard input, from a desk's file or a sample desk in memory
+
+Usage: achdesk stdio [OPTIONS] [DB]
+
+Arguments:
+  [DB]  Path of the desk's database file [default: none, a sample desk in memory]
+
+Options:
+      --sync <WHEN>  How often a commit syncs its files: twice or once [default: twice].
+                     'twice' assumes nothing of a write that a power failure cuts off.
+                     'once' assumes that each byte of such a write is the old one or the new one.
+  -h, --help         Print help
+";
+
+/// The whole text for `--sync` without a desk's file.
+const NO_FILE: &str = "error: the following required arguments were not provided:
+  <DB>
+
+Usage: achdesk stdio --sync <WHEN> <DB>
+
+For more information, try '--help'.
+";
+
+/// The whole text for a word that `--sync` does not take.
+const NO_SYNC: &str = "error: invalid value 'thrice' for '--sync <WHEN>'
+  [possible values: once, twice]
 
 For more information, try '--help'.
 ";
@@ -165,6 +209,10 @@ fn words_and_their_exit_status(rt: HostRuntime) {
 fn whole_texts(rt: HostRuntime) {
     assert!(rt; says(&rt, &["--help"], 0, HELP));
     assert!(rt; says(&rt, &["bogus"], 2, USAGE));
+    assert!(rt; says(&rt, &["stdio", "--help"], 0, STDIO_HELP));
+    assert!(rt; says(&rt, &["stdio", "--sync=once"], 2, NO_FILE));
+    let words = &["stdio", "desk.db", "--sync=thrice"];
+    assert!(rt; says(&rt, words, 2, NO_SYNC));
 }
 
 #[test]

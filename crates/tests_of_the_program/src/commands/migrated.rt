@@ -4,7 +4,7 @@ use super::{NOBODY, prints};
 use crate::crashes::exchanges::{add, add_answers, add_requests};
 use crate::crashes::scripts::DAYS;
 use crate::files::paths::change_database;
-use desk_cli::{Command, Status, run};
+use desk_cli::{Command, Status, Syncs, run};
 use std::fs;
 use std::process::Abort;
 use std::test::Fail;
@@ -34,7 +34,7 @@ fn answers_days(host: &HostRuntime, rt: &impl Abort, path: &str) -> bool {
     add_requests(rt, &mut input, DAYS.messages);
     let mut wanted = Vec::new(host.alloc());
     add_answers(rt, &mut wanted, DAYS.messages);
-    let command = Command::AnswerByFile(path);
+    let command = Command::AnswerByFile(path, Syncs::Twice);
     prints(host, &command, &input, Status::Done, &wanted)
 }
 
@@ -49,7 +49,7 @@ fn told(host: &HostRuntime, rt: &impl Abort, path: &str) -> Result<Vec<u8>, Fail
     let mut told = Vec::new(host.alloc());
     let ended = run(
         host,
-        &Command::AnswerByFile(path),
+        &Command::AnswerByFile(path, Syncs::Twice),
         input.as_slice(),
         &mut told,
     );
@@ -68,7 +68,7 @@ fn a_desk_of_version_1_is_migrated_and_answers_as_before(rt: HostRuntime) -> Res
     assert!(rt; answers_days(&rt, &rt, path));
     let before = told(&rt, &rt, path)?;
     change_database(&rt, &rt, path, TO_VERSION_1)?;
-    let stdio = Command::AnswerByFile(path);
+    let stdio = Command::AnswerByFile(path, Syncs::Twice);
     assert!(rt; prints(&rt, &stdio, NOBODY, Status::Refused, b"WrongVersion 1\n"));
     let migrate = Command::Migrate(path);
     assert!(rt; prints(&rt, &migrate, NOBODY, Status::Done, b"migrated 1 to 2\n"));

@@ -2,7 +2,7 @@
 //! What a desk answers that is served, clients of other make show (`judge/clients.py`).
 use super::desks::{SAMPLE_BANK, clear, is_absent, is_made};
 use super::{NOBODY, prints};
-use desk_cli::{Command, InitOptions, ServeOptions, Status, run};
+use desk_cli::{Command, InitOptions, ServeOptions, Status, Syncs, run};
 use std::io::{Read, Write};
 use std::net::{Ipv4Addr, OpenListener, TcpListener, TcpStream};
 use std::test::Fail;
@@ -14,6 +14,7 @@ fn serve(path: &str, port: u16, connections: u32) -> Command<'_> {
         port,
         connections,
         patience: 1,
+        syncs: Syncs::Twice,
     };
     Command::Serve(path, options)
 }
@@ -194,7 +195,7 @@ fn a_desk_is_served_from_its_own_file(rt: HostRuntime) -> Result<(), Fail> {
     assert!(rt; answers_two(&rt, path, [REGISTERS, ASKS], [REGISTERED, NO_RETURNS])?);
     // Another run finds in the file what this one left there, and so does a session.
     assert!(rt; answers_two(&rt, path, [ASKS, ASKS], [NO_RETURNS, NO_RETURNS])?);
-    let session = Command::AnswerByFile(path);
+    let session = Command::AnswerByFile(path, Syncs::Twice);
     assert!(rt;
         prints(
             &rt,

@@ -2,7 +2,7 @@
 use super::desks::SAMPLE_BANK;
 use super::lists::OPTIONS;
 use cli_submit::SubmitOptions;
-use desk_cli::{Command, LineFault, ServeOptions, command_of};
+use desk_cli::{Command, LineFault, ServeOptions, Syncs, command_of};
 use std::alloc::Global;
 
 /// Options without values.
@@ -73,7 +73,18 @@ const COMMANDS: &[(&[&str], Command<'static>)] = &[
     (&["check", ""], Command::Check("")),
     (&["check", "--", "-"], Command::Check("-")),
     (&["stdio"], Command::AnswerMessages),
-    (&["stdio", "desk.db"], Command::AnswerByFile("desk.db")),
+    (
+        &["stdio", "desk.db"],
+        Command::AnswerByFile("desk.db", Syncs::Twice),
+    ),
+    (
+        &["stdio", "--sync", "once", "desk.db"],
+        Command::AnswerByFile("desk.db", Syncs::Once),
+    ),
+    (
+        &["stdio", "desk.db", "--sync=twice"],
+        Command::AnswerByFile("desk.db", Syncs::Twice),
+    ),
     (&["migrate", "desk.db"], Command::Migrate("desk.db")),
     (
         &["serve", "desk.db", "1"],
@@ -83,6 +94,7 @@ const COMMANDS: &[(&[&str], Command<'static>)] = &[
                 port: 1,
                 connections: 1_000,
                 patience: 30,
+                syncs: Syncs::Twice,
             },
         ),
     ),
@@ -101,6 +113,19 @@ const COMMANDS: &[(&[&str], Command<'static>)] = &[
                 port: 65_535,
                 connections: 1,
                 patience: 3_600,
+                syncs: Syncs::Twice,
+            },
+        ),
+    ),
+    (
+        &["serve", "desk.db", "8080", "--sync=once"],
+        Command::Serve(
+            "desk.db",
+            ServeOptions {
+                port: 8080,
+                connections: 1_000,
+                patience: 30,
+                syncs: Syncs::Once,
             },
         ),
     ),
@@ -112,6 +137,7 @@ const COMMANDS: &[(&[&str], Command<'static>)] = &[
                 port: 8080,
                 connections: 1_000_000,
                 patience: 30,
+                syncs: Syncs::Twice,
             },
         ),
     ),
@@ -151,6 +177,8 @@ const HELP: &[(&[&str], &str)] = &[
     (&["init", "--help"], "--odfi-name <ODFI_NAME>"),
     (&["--help"], "serve"),
     (&["serve", "--help"], "--connections"),
+    (&["serve", "--help"], "--sync <WHEN>"),
+    (&["stdio", "--help"], "--sync <WHEN>"),
     (&["--help"], "migrate"),
     (&["migrate", "--help"], "Usage: achdesk migrate <DB>"),
 ];
@@ -175,6 +203,21 @@ const USAGE: &[(&[&str], &str)] = &[
     (&["check", "--fast", "a"], "'--fast'"),
     (&["stdio", "desk.db", "more.db"], "'more.db'"),
     (&["--fast"], "'--fast'"),
+    (
+        &["stdio", "desk.db", "--sync", "thrice"],
+        "invalid value 'thrice' for '--sync <WHEN>'",
+    ),
+    (&["stdio", "desk.db", "--sync="], "'--sync <WHEN>'"),
+    (&["stdio", "desk.db", "--sync"], "'--sync <WHEN>'"),
+    (
+        &["stdio", "desk.db", "--sync=once", "--sync=once"],
+        "'--sync <WHEN>'",
+    ),
+    (&["stdio", "--sync", "once"], "<DB>"),
+    (&["stdio", "--sync=twice"], "<DB>"),
+    (&["serve", "desk.db", "8080", "--sync", "Once"], "'Once'"),
+    (&["init", "desk.db", "--sync", "once"], "'--sync'"),
+    (&["migrate", "desk.db", "--sync", "once"], "'--sync'"),
     (
         &["init", "desk.db", "--odfi", "121042882"],
         "--destination-name <DESTINATION_NAME>",

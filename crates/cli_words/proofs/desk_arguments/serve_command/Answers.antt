@@ -15,5 +15,8 @@ returns c =
     let connections =
     with_more _ _ _ _ port
     (c.in_ok-command-4.ensures.shape c.connections_option.ensures.local ∙ ap (λ (r : Rule). with_rule (app_of c.in_ok-command-3.command) r) c.connections_option.ensures.rule) in
+    let patience =
     with_more _ _ _ _ connections
-    (c.in_ok-command-5.ensures.shape c.patience_option.ensures.local ∙ ap (λ (r : Rule). with_rule (app_of c.in_ok-command-4.command) r) c.patience_option.ensures.rule)
+    (c.in_ok-command-5.ensures.shape c.patience_option.ensures.local ∙ ap (λ (r : Rule). with_rule (app_of c.in_ok-command-4.command) r) c.patience_option.ensures.rule) in
+    with_more _ _ _ _ patience
+    (c.in_ok-command-6.ensures.shape c.sync_option.ensures.local ∙ ap (λ (r : Rule). with_rule (app_of c.in_ok-command-5.command) r) c.sync_option.ensures.rule)
