@@ -1,5 +1,5 @@
 -- A session with a new desk of the sample bank.
-use Rattle.std.specs.Prelude.{◌≡◌, ◌⊎◌, ⊤, ℕ, List, [], Option, Result, Ok, Err, codes}
+use Rattle.std.specs.Prelude.{◌≡◌, ◌⊎◌, ⊤, ℕ, List, [], Result, Ok, Err, codes}
 use Rattle.sha2.specs.Sha256.{sha256}
 use Rattle.io_retries.specs.declared.sink.Sink as sink
 use Rattle.io_retries.specs.declared.source.Source as source

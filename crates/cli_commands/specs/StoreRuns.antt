@@ -1,5 +1,5 @@
 -- A session with the desk of a store, for each history for which the store stands.
-use Rattle.std.specs.Prelude.{◌≡◌, ◌≢◌, ◌⊎◌, ℕ, List, Option, Result, Err}
+use Rattle.std.specs.Prelude.{◌≡◌, ◌≢◌, ◌⊎◌, Result, Err}
 use Rattle.desk_store.specs.declared.store.Store as store
 use Rattle.io_retries.specs.declared.sink.Sink as sink
 use Rattle.io_retries.specs.declared.source.Source as source
