@@ -200,7 +200,7 @@ abbrev pub Gives : (wanted : Option NamedCommand) → Kinds → Result Command L
 Gives wanted kinds (Ok c) = wanted ≡ Some (command_value c)
 Gives wanted kinds (Err fault) = ((fault ≡ NoMemory) ⊎ (wanted ≡ None)) × IsFaultAmong kinds fault
 
--- How often a commit syncs, as is wanted; or nothing is, or memory ran out, and the fault is usage.
+-- how often a commit syncs, as is wanted; or nothing is, and the fault is usage, or that memory ran out
 abbrev pub GivesSyncs : (wanted : Option Syncs) → Result Syncs LineFault → Type 0
 GivesSyncs wanted (Ok syncs) = wanted ≡ Some syncs
 GivesSyncs wanted (Err fault) = (wanted ≡ None) × IsFaultAmong [] fault
