@@ -2,7 +2,6 @@
 use Rattle.std.proofs.Common.{◌≡◌, ◌≢◌, ◌≤◌, ◌∙◌, ◌==◌, arith, ℕ, zero, suc, ◌+◌, cond, Bool, true, false, List, [], ◌∷◌, ◌++◌, length, Option, Some, None, refl, sym, ap, subst, slice_index_or, slice_set, string_bytes}
 use Rattle.std.proofs.lemmas.Slice.Eq.{bytes_eq-Decides}
 use Rattle.std.specs.List.{position_from}
-use Rattle.std.specs.Str.{bytes_eq}
 use Rattle.sqlite_disk.specs.Memory.{memory_bytes}
 use Rattle.sql_files.specs.declared.presence.Presence.TheVariants.{File, Nothing}
 use Rattle.memory_files.specs.Kept.{has_path, kept_in, presence_of, with_files, IsPlaceOf}

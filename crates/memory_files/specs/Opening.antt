@@ -18,7 +18,7 @@ use Rattle.sql_files.specs.declared.presence.Presence.TheVariants.{File}
 use Rattle.sql_files.specs.declared.refusal.Refusal.{Refusal}
 use Rattle.sql_files.specs.declared.refusal.Refusal.TheVariants.{Refused, NoFile, Unopened}
 use Rattle.desk_history.specs.declared.identity.Identity.{Identity}
-use Rattle.memory_files.specs.Kept.{bytes_at, kept_in, with_files, IsKeptOf, IsPlaceOf, IsUsable}
+use Rattle.memory_files.specs.Kept.{bytes_at, kept_in, with_files, IsKeptOf, IsPlaceOf}
 use Rattle.memory_files.specs.declared.kept_files.KeptFiles.{KeptFiles}
 use Rattle.memory_files.specs.declared.memory_files.MemoryFiles.{MemoryFiles}
 use Rattle.memory_files.specs.declared.memory_files.OtherFile.{OtherFile}

@@ -1,4 +1,4 @@
-use Rattle.std.proofs.Common.{◌≡◌, ◌∙◌, None, Some, refl, sym, ap, subst, IsSome}
+use Rattle.std.proofs.Common.{◌≡◌, ◌∙◌, Some, refl, sym, ap, subst, IsSome}
 use Rattle.std.specs.List.{position_from}
 use Rattle.memory_files.specs.Kept.{has_path}
 use Rattle.memory_files.specs.Opening.{kept_at, AreThose}
