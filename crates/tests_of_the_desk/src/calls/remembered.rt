@@ -83,15 +83,9 @@ fn a_question_is_asked_once(rt: HostRuntime) {
 // A company is registered after the store said that there is none, and has new limits.
 const COMPANIES: Script = &[
     DAY,
-    (
-        "BAKE01 submit B credit 2025-01-10 091000019 1",
-        "NoCompany",
-    ),
+    ("BAKE01 submit B credit 2025-01-10 091000019 1", "NoCompany"),
     MILL,
-    (
-        "BAKE01 submit B credit 2025-01-10 091000019 1",
-        "NoCompany",
-    ),
+    ("BAKE01 submit B credit 2025-01-10 091000019 1", "NoCompany"),
     BAKE,
     (
         "BAKE01 submit B credit 2025-01-10 091000019 1",

@@ -187,7 +187,11 @@ pub(super) fn holds_remembering(rt: &(impl Abort + Alloc<A = Global>), script: S
     let mut unseen = 0;
     for call in 1..MOST_CALLS {
         let store = remembering(rt, FaultyStore::new(new_lists(rt), call));
-        unseen = if run(rt, store, script) { 0 } else { unseen + 1 };
+        unseen = if run(rt, store, script) {
+            0
+        } else {
+            unseen + 1
+        };
         if unseen == MOST_UNSEEN {
             return;
         }

@@ -101,10 +101,10 @@ fn is_answered(
 // The call of the inner store that is refused, and three days, of which each is answered or not. A
 // question reads the holidays. The first one also reads the open submissions from 2025-01-06 on. They
 // are read again when the first open day is after 2025-02-05.
-const QUESTIONS: &[(u64, [(&str, bool); 3])] = &[
+const QUESTIONS: &[(u64, &[(&str, bool)])] = &[
     (
         1,
-        [
+        &[
             ("2025-01-08", false),
             ("2025-01-08", true),
             ("2025-01-08", true),
@@ -112,7 +112,7 @@ const QUESTIONS: &[(u64, [(&str, bool); 3])] = &[
     ),
     (
         2,
-        [
+        &[
             ("2025-01-08", true),
             ("2025-01-08", true),
             ("2025-01-08", true),
@@ -120,7 +120,7 @@ const QUESTIONS: &[(u64, [(&str, bool); 3])] = &[
     ),
     (
         3,
-        [
+        &[
             ("2025-01-08", true),
             ("2025-01-08", false),
             ("2025-01-08", true),
@@ -128,7 +128,7 @@ const QUESTIONS: &[(u64, [(&str, bool); 3])] = &[
     ),
     (
         4,
-        [
+        &[
             ("2025-01-08", true),
             ("2025-01-09", true),
             ("2025-01-10", false),
@@ -136,7 +136,7 @@ const QUESTIONS: &[(u64, [(&str, bool); 3])] = &[
     ),
     (
         4,
-        [
+        &[
             ("2025-01-08", true),
             ("2025-02-07", true),
             ("2025-02-07", false),
@@ -144,7 +144,7 @@ const QUESTIONS: &[(u64, [(&str, bool); 3])] = &[
     ),
     (
         4,
-        [
+        &[
             ("2025-01-08", true),
             ("2025-02-10", true),
             ("2025-02-10", true),
@@ -157,7 +157,7 @@ fn open_submissions_are_read_once(rt: HostRuntime) {
     for (refused, days) in QUESTIONS {
         let lists = FaultyStore::new(new_lists(&rt), *refused);
         let mut store = Remembering::new(rt.alloc(), lists);
-        for (day, answered) in days {
+        for (day, answered) in *days {
             assert!(&rt;
                 is_answered(&rt, &mut store, day) == *answered,
                 "{refused} {day}"
@@ -180,10 +180,10 @@ fn has_rates(
 // The same for return rates. The first question reads the holidays, the open submissions and the rates.
 // A later one of the same day reads nothing, and one of another day reads the rates alone. Rates are not
 // kept if the open submissions could not be read.
-const RATES: &[(u64, [(&str, bool); 4])] = &[
+const RATES: &[(u64, &[(&str, bool)])] = &[
     (
         1,
-        [
+        &[
             ("2025-01-08", false),
             ("2025-01-08", true),
             ("2025-01-08", true),
@@ -192,7 +192,7 @@ const RATES: &[(u64, [(&str, bool); 4])] = &[
     ),
     (
         2,
-        [
+        &[
             ("2025-01-08", true),
             ("2025-01-08", true),
             ("2025-01-08", true),
@@ -201,7 +201,7 @@ const RATES: &[(u64, [(&str, bool); 4])] = &[
     ),
     (
         3,
-        [
+        &[
             ("2025-01-08", false),
             ("2025-01-08", true),
             ("2025-01-08", true),
@@ -210,7 +210,7 @@ const RATES: &[(u64, [(&str, bool); 4])] = &[
     ),
     (
         4,
-        [
+        &[
             ("2025-01-08", true),
             ("2025-01-08", true),
             ("2025-01-09", false),
@@ -219,7 +219,7 @@ const RATES: &[(u64, [(&str, bool); 4])] = &[
     ),
     (
         5,
-        [
+        &[
             ("2025-01-08", true),
             ("2025-01-09", true),
             ("2025-01-09", true),
@@ -233,7 +233,7 @@ fn rates_are_read_once_a_day(rt: HostRuntime) {
     for (refused, days) in RATES {
         let lists = FaultyStore::new(new_lists(&rt), *refused);
         let mut store = Remembering::new(rt.alloc(), lists);
-        for (day, answered) in days {
+        for (day, answered) in *days {
             assert!(&rt;
                 has_rates(&rt, &mut store, day) == *answered,
                 "{refused} {day}"
