@@ -19,6 +19,7 @@ The status is 1 if a check failed, and 2 if Debian packages are missing, which a
 import csv
 import io
 import json
+import os
 import re
 import resource
 import shutil
@@ -518,11 +519,47 @@ def thursday(week):
     bank.write_key("watcher")
     week.run("metrics", "--key-file", bank.folder / "keys" / "watcher", says="achdesk_up 1")
     week.measured()
+    metrics_in_a_file(week)
     week.run("cut", "--key-file", bank.folder / "keys" / "MILL01", status=2, says="is not accepted")
     (bank.folder / "keys" / "day").chmod(0o644)
     week.run("send", status=2, says="can be read by others")
     (bank.folder / "keys" / "day").chmod(0o600)
     restored_elsewhere(week)
+
+
+def metrics_in_a_file(week):
+    """The metrics as the unit of the timer writes them. Whoever reads the file finds whole metrics, also while the command
+    is killed at its steps and while several write at once."""
+    bank, path = week.bank, week.bank.folder / "textfile" / "achdesk.prom"
+    path.parent.mkdir()
+    bank.write_config(metrics={"file": path})
+    words = re.search(r"(?m)^ExecStart=/usr/bin/achdesk-day (.*)$", (TOP / "deploy/achdesk-day-metrics.service").read_text())[1].split()
+    week.run(*words)
+    wrong, is_on, step = [], [True], 1
+
+    def read():
+        while is_on[0]:
+            with open(path) as file:
+                mode, text = os.fstat(file.fileno()).st_mode & 0o777, file.read()
+            if mode != 0o644 or not (text.startswith("# HELP achdesk_up ") and re.search(r"\nachdesk_quarantined_files \d+\n$", text)):
+                wrong.append((oct(mode), text[-80:]))
+
+    reader = threading.Thread(target=read, daemon=True)
+    reader.start()
+    while bank.day(*words, ACHDESK_DAY_KILL_AT=step)[0] == -9:
+        step += 1
+    ends = [it.wait() for it in [bank.begun_day(*words) for _ in range(6)]]
+    is_on[0] = False
+    reader.join()
+    week.checks.that(f"the metrics in a file are whole, with the command killed at each of {step - 1} steps", wrong[:2], [])
+    week.checks.that("and there were steps", step > 5)
+    week.checks.that("several commands write them at once, and leave nothing else", (ends, [it.name for it in path.parent.iterdir()]), ([0] * 6, [path.name]))
+    bank.desk.stop()
+    week.run(*words, says="502")
+    bank.desk.start()
+    week.checks.that("if the desk is down, the file says so", "\nachdesk_up 0\n" in path.read_text())
+    week.run("metrics", "--output", bank.folder / "nowhere" / "achdesk.prom", status=3, says="cannot be written")
+    bank.write_config()
 
 
 def cpu_of_children():
