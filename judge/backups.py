@@ -10,6 +10,7 @@ PROGRAM is ./achdesk if it is left out. EVERY is 1 if it is left out: with 5 onl
 - On a full volume no backup is made, and the one before it stays.
 - A backup with a changed byte, or without its log, is not restored. A restore is killed at each of its steps: the
   target has the old desk, the restored one, or none that starts, and the old files are never lost.
+- A backup waits while a restore tries a copy, and a restore while a backup is made; what a killed one leaves is removed.
 - The rule by which backups expire, on days that are worked out by hand.
 - A backup of a stopped desk, and a copy of its files by the commands of docs/operate/backup.md, which is restored by its path;
   a copy without its log or with a damaged file is not.
@@ -312,6 +313,44 @@ def restores(bank, checks, every):
     bank.desk.start()
 
 
+def side_by_side(bank, checks):
+    """Stops a restore in the middle of its trial and makes a backup, and the other way around."""
+    target = bank.folder / "beside" / "bank.db"
+    target.parent.mkdir()
+    bank.day("backup")
+    restore = ("restore", "newest", "--to", target)
+    for first, second in ((restore, ("backup",)), (("backup",), restore)):
+        time.sleep(1)  # a backup's name is the second in which it began
+        held, there = stopped_half_way(bank, *first)
+        other = bank.begun_day(*second)
+        time.sleep(3)
+        checks.that(f"a {second[0]} waits while a {first[0]} is half-way, and leaves its folder", (other.poll(), there.is_dir()), (None, True))
+        held.send_signal(signal.SIGCONT)
+        ends = [(it.communicate(timeout=120)[1], it.returncode) for it in (held, other)]
+        checks.that(f"then the {first[0]} and the {second[0]} are done", ends, [("", 0), ("", 0)])
+        checks.that("and the restored desk opens", opens(bank.program, target).startswith(b"{"))
+    held, there = stopped_half_way(bank, *restore)
+    held.kill()
+    held.wait()
+    time.sleep(1)
+    checks.that("a killed restore leaves its folder, which the next backup removes", (there.is_dir(), bank.day("backup")[0], list(bank.backups.glob(".*"))), (True, 0, []))
+
+
+def stopped_half_way(bank, *words):
+    """Starts a command and stops it while it has a folder of its own among the backups. Returns its process and that folder."""
+    for _ in range(50):
+        it = bank.begun_day(*words)
+        while it.poll() is None and not (found := list(bank.backups.glob(".*"))):
+            pass
+        it.send_signal(signal.SIGSTOP)
+        if it.poll() is None and found and found[0].is_dir():
+            return it, found[0]
+        it.send_signal(signal.SIGCONT)
+        it.communicate()
+        time.sleep(1)
+    sys.exit(f"achdesk-day {words[0]} is never half-way")
+
+
 # ---- copies that achdesk-day did not make ----
 
 def stopped_desk(bank, checks):
@@ -444,6 +483,7 @@ def main():
             restores(bank, checks, every)
             stopped_desk(bank, checks)
             under_load(bank, checks, every)
+            side_by_side(bank, checks)
             full_volume(bank, checks)
             takeover(bank, checks)
     checks.end()

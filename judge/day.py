@@ -11,7 +11,7 @@ hand, one of them without a wrong payroll, and one is withheld; these commands a
 has each transmitted file once, byte for byte as the desk has it, the ACH operator has each once, and the reports have the
 figures that are worked out by hand below. On the last two days a file is left untransmitted, for which an alarm of
 docs/operate/monitoring.md has to hold, the ACH operator rejects a file and a batch of another, and the desk day is set
-too late.
+too late. In a bank of its own a desk is restored that makes a withheld file again.
 
 The status is 1 if a check failed, and 2 if Debian packages are missing, which are named; that is not a pass.
 """
@@ -19,6 +19,7 @@ The status is 1 if a check failed, and 2 if Debian packages are missing, which a
 import csv
 import io
 import json
+import os
 import re
 import resource
 import shutil
@@ -518,11 +519,47 @@ def thursday(week):
     bank.write_key("watcher")
     week.run("metrics", "--key-file", bank.folder / "keys" / "watcher", says="achdesk_up 1")
     week.measured()
+    metrics_in_a_file(week)
     week.run("cut", "--key-file", bank.folder / "keys" / "MILL01", status=2, says="is not accepted")
     (bank.folder / "keys" / "day").chmod(0o644)
     week.run("send", status=2, says="can be read by others")
     (bank.folder / "keys" / "day").chmod(0o600)
     restored_elsewhere(week)
+
+
+def metrics_in_a_file(week):
+    """The metrics as the unit of the timer writes them. Whoever reads the file finds whole metrics, also while the command
+    is killed at its steps and while several write at once."""
+    bank, path = week.bank, week.bank.folder / "textfile" / "achdesk.prom"
+    path.parent.mkdir()
+    bank.write_config(metrics={"file": path})
+    words = re.search(r"(?m)^ExecStart=/usr/bin/achdesk-day (.*)$", (TOP / "deploy/achdesk-day-metrics.service").read_text())[1].split()
+    week.run(*words)
+    wrong, is_on, step = [], [True], 1
+
+    def read():
+        while is_on[0]:
+            with open(path) as file:
+                mode, text = os.fstat(file.fileno()).st_mode & 0o777, file.read()
+            if mode != 0o644 or not (text.startswith("# HELP achdesk_up ") and re.search(r"\nachdesk_quarantined_files \d+\n$", text)):
+                wrong.append((oct(mode), text[-80:]))
+
+    reader = threading.Thread(target=read, daemon=True)
+    reader.start()
+    while bank.day(*words, ACHDESK_DAY_KILL_AT=step)[0] == -9:
+        step += 1
+    ends = [it.wait() for it in [bank.begun_day(*words) for _ in range(6)]]
+    is_on[0] = False
+    reader.join()
+    week.checks.that(f"the metrics in a file are whole, with the command killed at each of {step - 1} steps", wrong[:2], [])
+    week.checks.that("and there were steps", step > 5)
+    week.checks.that("several commands write them at once, and leave nothing else", (ends, [it.name for it in path.parent.iterdir()]), ([0] * 6, [path.name]))
+    bank.desk.stop()
+    week.run(*words, says="502")
+    bank.desk.start()
+    week.checks.that("if the desk is down, the file says so", "\nachdesk_up 0\n" in path.read_text())
+    week.run("metrics", "--output", bank.folder / "nowhere" / "achdesk.prom", status=3, says="cannot be written")
+    bank.write_config()
 
 
 def cpu_of_children():
@@ -716,6 +753,116 @@ def too_late(week):
     week.run("open", says=f"the desk day is {wrong} already")
 
 
+# ---- a withheld file, and a desk that is restored to a backup from before it ----
+
+def withheld_and_restored(checks, program, folder):
+    """A file is withheld, and a desk that was restored makes it again: byte for byte, and with other bytes. Nothing of it may be
+    transmitted until a person says so."""
+    with Bank(program, folder) as bank:
+        week = Week(bank, checks, 1)
+        week.at(MON)
+        week.run("open", says=MON)
+        week.run("holidays", "2025", "2026", says="21 holidays")
+        for company, name in NAMES.items():
+            bank.curl("day", "/ops/companies", {"id": company, "name": name, "key": DESK_KEYS[company], **LIMITS})
+        week.run("backup", says="backed up")
+        pay(week, "MILL01", PAY_1=1000, PAY_2=2000)
+        week.run("cut", says="2 entries in files A")
+        week.run("mark", f"{MON}-A", "--withheld", "--why", "PAY-2 is wrong", says=f"withheld {MON}-A")
+        first = returned_by_correct(week, f"{MON}-A", "debits 0.00, credits 30.00")
+        made_again_alike(week)
+        made_again_and_withheld(week, first)
+        made_again_and_transmitted(week)
+
+
+def pay(week, company, **cents):
+    for ref, amount in cents.items():
+        week.submit(company, submission(ref.replace("_", "-"), "credit", WED, amount))
+
+
+def restored_newest(week):
+    week.bank.desk.stop()
+    week.run("restore", "newest", says="restored")
+    week.bank.desk.start()
+
+
+def returned_by_correct(week, name, says):
+    """Corrects all entries of a file, posts the returns, and gives the name of their file."""
+    printed = week.run("correct", name, says=says)
+    week.run("returns", says="2 returns, 0 changes, 0 late, 0 suspense")
+    return re.search(r"R06-[\w-]+\.ach", printed)[0]
+
+
+def move_archived(week, folder):
+    """Moves the incoming files of Monday out of the archive."""
+    folder.mkdir(exist_ok=True)
+    for path in (week.bank.state / "incoming" / MON).glob("*.ach"):
+        path.rename(folder / path.name[17:])
+        path.with_name(f"{path.name}.json").unlink()
+
+
+def made_again_alike(week):
+    restored_newest(week)
+    pay(week, "MILL01", PAY_1=1000, PAY_2=2000)
+    week.run("cut", says=f"{MON}-A is the file that was withheld, byte for byte; send leaves it out")
+    week.run("send", says="to transmit: nothing")
+    week.untransmitted({MON: 0})
+    move_archived(week, week.bank.state / "inbox")
+    week.run("returns", says="2 returns, 0 changes, 0 late, 0 suspense")
+
+
+def made_again_and_withheld(week, first):
+    bank, name = week.bank, f"{MON}-A"
+    restored_newest(week)
+    pay(week, "MILL01", PAY_1=1000, PAY_3=3000)
+    week.run("cut", status=1, says=f"ALARM: {name} was withheld, and made again with other bytes")
+    week.checks.that("the alarm command is told of a withheld file that was made again", any(f"{name} was withheld, and made again" in it for it in bank.alarms()))
+    week.untransmitted({MON: 1})
+    week.run("send", "--dry-run", status=1, says=f"{name} was withheld, and made again with other bytes")
+    step = 1
+    while bank.day("send", ACHDESK_DAY_KILL_AT=step)[0] == -9:
+        step += 1
+    week.checks.that(f"send is killed at its steps, up to step {step - 1}, and there were some", step > 3)
+    pay(week, "BAKE01", PAY_1=500)
+    week.run("cut", says="1 entries in files B")
+    week.run("send", status=1, says=f"achdesk-day send --again {name}, or achdesk-day mark {name} --withheld")
+    week.checks.that("nothing is transmitted, also no file after it", list(bank.sftp.inbox.iterdir()), [])
+    week.run("correct", name, status=1, says="is neither transmitted nor withheld")
+    move_archived(week, bank.folder / "elsewhere")
+    week.run("report")
+    text = (bank.state / "reports" / f"{MON}.txt").read_text()
+    week.checks.that("the report says of both files that they are not transmitted", text.count("NOT TRANSMITTED"), 2)
+    week.at(TUE)
+    week.run("open", status=1, says=f"not transmitted: {name} {MON}-B")
+    week.at(MON)
+    week.run("mark", name, "--withheld", says=f"withheld {name}")
+    week.run("mark", name, "--withheld", says="already")
+    week.untransmitted({MON: 1})
+    week.run("send", says=f"sent {MON}-B")
+    week.untransmitted({MON: 0})
+    week.checks.that("both files that were withheld are kept", len(list((bank.state / "withheld").iterdir())), 2)
+    second = returned_by_correct(week, name, "debits 0.00, credits 40.00")
+    week.checks.that("the returns of other entries are another file", second != first)
+
+
+def made_again_and_transmitted(week):
+    bank, name = week.bank, f"{MON}-A"
+    restored_newest(week)
+    pay(week, "MILL01", PAY_1=1000, PAY_4=4000)
+    week.run("cut", status=1, says="would pay twice")
+    week.run("cut", "--remake", status=1, says=f"ALARM: {name} was withheld, and made again with other bytes")
+    week.run("send", status=1, says="transmitting would pay twice")
+    pay(week, "BAKE01", PAY_1=500)
+    week.run("cut", "--remake", says=f"{MON}-B is the file that was transmitted, byte for byte; it is not sent again")
+    week.run("send", status=1, says=f"{name} was withheld, and made again with other bytes")
+    week.run("send", "--again", name, says=f"sent {name}: 2 batches, 2 records, debits 0.00, credits 50.00")
+    week.run("send", says="to transmit: nothing")
+    week.untransmitted({MON: 0})
+    desk = {f"{MON}-{it}.ach": bank.curl("day", f"/ops/files/{MON}/{it}").encode() for it in "AB"}
+    week.checks.that("the ACH operator has each file once, as the desk has it", week.operator.received(), {it: [text] for it, text in desk.items()})
+    week.run("ack", "-", given=f"file,batches,entries,debits,credits\n{name},2,2,0,5000\n{MON}-B,1,1,0,500\n", says=f"acknowledged {name}: 2 batches, 2 records")
+
+
 def at_the_end(week):
     """Each file once in the archive and once at the ACH operator, byte for byte as the desk has it."""
     bank = week.bank
@@ -742,6 +889,7 @@ def main():
             week = Week(bank, checks, int((sys.argv[2:] or ["1"])[0]))
             for day in (monday, tuesday, wednesday, thursday, friday, holiday_and_after, by_hand, left_untransmitted, rejected, too_late, at_the_end):
                 day(week)
+        withheld_and_restored(checks, program, Path(folder) / "restored")
     print(f"        {time.monotonic() - began:.0f} s in all", flush=True)
     checks.end()
 

@@ -724,6 +724,26 @@ def day_keys(checks, at, user, group):
     checks.that("the user reads no list of keys, and does not list the folder", [as_user(*words)[1] for words in (("cat", keys / "people.map"), ("ls", keys))], [1, 2])
     other = said("setpriv", f"--reuid={OTHER}", f"--regid={OTHER}", "--clear-groups", "cat", keys / "day")
     checks.that("another user does not read the key", (other[1], "Permission denied" in other[0]), (1, True))
+    metrics_file(checks, at, group, config, as_user)
+
+
+def metrics_file(checks, at, group, config, as_user):
+    """The commands of docs/operate/monitoring.md, after which the service's user writes the metrics by the words of the unit."""
+    folder = at / "var/lib/prometheus/node-exporter"
+    folder.mkdir(parents=True)
+    (folder / "other.prom").touch()
+    config.write_text(re.sub(r"(?m)^#?(file) = (/.*)$", rf"\1 = {at}\2", config.read_text()))
+    words = [it.replace("/usr/bin/achdesk-day", str(at / "usr/bin/achdesk-day")) for it in unit("achdesk-day-metrics.service")["ExecStart"][0].split()]
+    write = ("/usr/bin/python3", words[0], "--config", config, *words[1:])
+    printed, status = as_user(*write)
+    checks.that("without the page's commands the metrics are not written", (status, "achdesk.prom cannot be written: Permission denied" in printed), (3, True))
+    text = "\n".join(re.findall(r"^\$ sudo (chgrp .*|chmod .*)$", (TOP / "docs/operate/monitoring.md").read_text(), re.M))
+    checks.that("the page's commands", said("sh", "-ec", text.replace("chgrp achdesk", f"chgrp {group}").replace("/var/lib", f"{at}/var/lib")), ("", 0))
+    checks.that("the service's user writes the metrics", as_user(*write)[1], 0)
+    checks.that("which every user may read", (mode_of(folder / "achdesk.prom"), "\nachdesk_up 0\n" in (folder / "achdesk.prom").read_text()), ("0o644", True))
+    checks.that("and nothing else is there", sorted(it.name for it in folder.iterdir()), ["achdesk.prom", "other.prom"])
+    checks.that("it cannot remove the files of others there", (as_user("rm", "-f", folder / "other.prom")[1], (folder / "other.prom").exists()), (1, True))
+    checks.that("the unit may write that folder", unit("achdesk-day-metrics.service")["ReadWritePaths"], ["-/var/lib/prometheus/node-exporter"])
 
 
 def installed(checks, program, folder):
@@ -736,6 +756,7 @@ def installed(checks, program, folder):
     checks.that("and has its help", said(root / "usr/bin/achdesk", "--help")[1], 0)
     checks.that("the company's program finds its module", company(root, "--help")[1], 0)
     for name in ("usr/bin/achdesk-day", "usr/lib/systemd/system/achdesk.service", "usr/lib/systemd/system/achdesk@.service", "usr/lib/systemd/system/achdesk-restart.timer",
+                 "usr/lib/systemd/system/achdesk-day-metrics.service", "usr/lib/systemd/system/achdesk-day-metrics.timer",
                  "usr/share/achdesk/console/index.html", "usr/share/achdesk/audit.sql", "usr/share/doc/achdesk/audit.sql", "usr/bin/achdesk-company",
                  "usr/lib/python3/dist-packages/achdesk.py", "usr/share/man/man1/achdesk.1.gz", "usr/share/man/man1/achdesk-day.1.gz", "usr/share/man/man1/achdesk-company.1.gz", "etc/nginx/sites-available/achdesk", "etc/logrotate.d/achdesk"):
         checks.that(f"it installs {name}", (root / name).is_file())

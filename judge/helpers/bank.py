@@ -183,12 +183,16 @@ class Bank:
         text = "".join(f"[{name}]\n" + "".join(f"{key} = {value}\n" for key, value in settings.items()) for name, settings in sections.items())
         (path or self.config).write_text(text)
 
+    def begun_day(self, *words, config=None, given=None, **environment):
+        """Starts achdesk-day, with a pipe to its standard input if a text is given, and returns its process."""
+        known = os.environ | {"ACHDESK_DAY_NOW": self.now} | {key: str(value) for key, value in environment.items()}
+        return subprocess.Popen([sys.executable, DAY, "--config", config or self.config, *words], env=known, stdout=subprocess.PIPE,
+                                stdin=None if given is None else subprocess.PIPE, stderr=subprocess.PIPE, text=True)
+
     def day(self, *words, config=None, seconds=None, given=None, **environment):
         """Runs achdesk-day, with a text on its standard input if one is given; returns the status, what it printed, and its
         errors. It is killed after so many seconds."""
-        known = os.environ | {"ACHDESK_DAY_NOW": self.now} | {key: str(value) for key, value in environment.items()}
-        it = subprocess.Popen([sys.executable, DAY, "--config", config or self.config, *words], env=known, stdout=subprocess.PIPE,
-                              stdin=None if given is None else subprocess.PIPE, stderr=subprocess.PIPE, text=True)
+        it = self.begun_day(*words, config=config, given=given, **environment)
         if seconds is not None:
             try:
                 it.wait(seconds)
