@@ -5,11 +5,10 @@ use super::script::{
     BAKE, DAY, HOLIDAYS, MILL, NINTH, PAY_1, Script, follow, holds, holds_remembering, new_lists,
 };
 use ach_fields::Id;
-use desk_core::{Caller, Desk, FaultyStore, Store};
+use desk_core::{Caller, Desk, FaultyStore, ListStore, Store};
 use remembering_store::Remembering;
 use std::alloc::Global;
 use std::process::Abort;
-use std::test::Fail;
 
 /// A question to a store.
 #[derive(Clone, Copy, Debug)]
@@ -141,17 +140,23 @@ fn days_and_holidays_change(rt: HostRuntime) {
     holds_remembering(&rt, DAYS);
 }
 
-/// The unknown company is registered so.
+// Reports whether the desk lets the company in with its key.
+fn is_let_in(
+    rt: &(impl Abort + Alloc<A = Global>),
+    desk: &mut Desk<Remembering<ListStore>>,
+) -> bool {
+    let bakery = Caller::Company(id(rt, b"BAKE01"));
+    desk.allow(rt.alloc(), bakery, COMPANY_DIGEST)
+        .ok()
+        .expect(rt, "an answer")
+}
+
 const REGISTERED: Script = &[BAKE];
 
 #[test]
-fn an_unknown_company_is_let_in_once_registered(rt: HostRuntime) -> Result<(), Fail> {
+fn an_unknown_company_is_let_in_once_registered(rt: HostRuntime) {
     let mut desk = Desk::new(Remembering::new(rt.alloc(), new_lists(&rt)));
-    let bake = Caller::Company(id(&rt, b"BAKE01"));
-    let before = desk.allow(rt.alloc(), bake, COMPANY_DIGEST)?;
-    assert!(rt; !before);
+    assert!(rt; !is_let_in(&rt, &mut desk));
     assert!(rt; !follow(&rt, &mut desk, REGISTERED));
-    let after = desk.allow(rt.alloc(), bake, COMPANY_DIGEST)?;
-    assert!(rt; after);
-    Ok(())
+    assert!(rt; is_let_in(&rt, &mut desk));
 }
