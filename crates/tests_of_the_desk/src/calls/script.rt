@@ -184,15 +184,13 @@ pub(super) fn holds_after(
 /// ends after some runs in which no call was made again: no caller sees a refused call that only fills
 /// the memory.
 pub(super) fn holds_remembering(rt: &(impl Abort + Alloc<A = Global>), script: Script) {
-    let mut unseen = 0;
+    let mut seen = 0;
     for call in 1..MOST_CALLS {
         let store = remembering(rt, FaultyStore::new(new_lists(rt), call));
-        unseen = if run(rt, store, script) {
-            0
-        } else {
-            unseen + 1
-        };
-        if unseen == MOST_UNSEEN {
+        if run(rt, store, script) {
+            seen = call;
+        }
+        if call.saturating_sub(seen) == MOST_UNSEEN {
             return;
         }
     }
