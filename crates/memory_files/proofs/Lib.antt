@@ -1,2 +1,4 @@
 pub mod Keeping
+mod Returning
+mod Runs
 mod Taking

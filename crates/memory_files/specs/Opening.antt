@@ -45,6 +45,10 @@ pub record IsSame (old new : MemoryFiles) : Type 0 where
   pub opened : new.opened ≡ old.opened
   pub others : new.others ≡ old.others
 
+-- every path that had files has files
+abbrev pub LosesNone : (old new : MemoryFiles) → Type 0
+LosesNone old new = (path : List ℕ) → IsSome (kept_at old path) → IsSome (kept_at new path)
+
 -- ---- files are given out
 
 -- these are the kept files, or new ones where there were none

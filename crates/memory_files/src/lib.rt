@@ -10,7 +10,11 @@ mod kept_files;
 mod memory_files;
 mod opening;
 mod places;
+mod running;
+#[cfg(test)]
+mod tests;
 
 pub use kept_files::KeptFiles;
 pub use memory_files::{MemoryFiles, OtherFile};
 pub use places::Place;
+pub use running::run_in_memory;
