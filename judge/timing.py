@@ -178,7 +178,7 @@ class Proxied:
 def check_guesses(checks, program, desk, folder, trials):
     checks.that("a guesser by times that differ is right, and by times that do not in half of the trials",
                 [right_guesses([(at % 2 == 0, 1.0 + at % 2 * by) for at in range(100)]) for by in (0.1, 0.0)], [1.0, 0.5])
-    with Serving(program, desk).listen() as serving:
+    with Serving(program, desk, connections=3 * trials).listen() as serving:  # nginx connects for each request
         companies = {"own-key-at-the-proxy": f"{known(0)}:erp"}
         with Proxy(folder, serving.port, {}, companies, {"operator": OPERATOR_KEY, known(0): OWN_KEY}) as proxy:
             serving_directly = Directly(serving.port)
