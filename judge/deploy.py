@@ -152,6 +152,10 @@ class Started:
     def field(self, name, file="status"):
         return next((line[len(name):].lstrip(":").split() for line in Path(f"/proc/{self.process.pid}/{file}").read_text().splitlines() if line.startswith(name)), [])
 
+    def largest_size(self):
+        """The most bytes of address space that it has had."""
+        return int(self.field("VmPeak")[0]) << 10
+
     def __enter__(self):
         return self
 
@@ -172,10 +176,15 @@ def desk_of_user(program, folder, name):
 
 
 def large_body():
-    """A body of almost 4,194,304 bytes whose JSON takes the most memory of those that were tried: objects of one field in
-    objects, a hundred deep, again and again."""
-    deep = b'{"":' * 100 + b"0" + b"}" * 100
+    """A body of almost 4,194,304 bytes whose JSON takes the most memory of those that were tried: arrays of one value in
+    arrays, as deep as the desk reads them, again and again."""
+    deep = b"[" * 125 + b"0" + b"]" * 125
     return b'{"a":[' + (deep + b",") * ((MAX_BODY - 10) // (len(deep) + 1)) + b"0]}"
+
+
+def memory_of_a_body():
+    """The bytes that a body takes at most, by docs/operate/capacity.md."""
+    return int(re.search(r"(\d+) MB for 4 MiB", (TOP / "docs" / "operate" / "capacity.md").read_text())[1]) * 1_000_000
 
 
 def start(checks, program, folder):
@@ -197,14 +206,18 @@ def start(checks, program, folder):
         writable = [line for line in Path(f"/proc/{desk.process.pid}/maps").read_text().splitlines() if re.match(r"\S+ .wx", line)]
         checks.that("no memory is both written and executed", writable, [])
         checks.that("it answers", desk.ask(message("GET /ops/status")).split(b"\r\n")[0], b"HTTP/1.1 200 OK")
+        before = desk.largest_size()
         checks.that("the largest body is answered within the limit", desk.ask(message("POST /ops/day", large_body())).split(b"\r\n")[0],
                     b"HTTP/1.1 422 Unprocessable Entity")
+        took, said_to_take = desk.largest_size() - before, memory_of_a_body()
+        checks.that("and takes what docs/operate/capacity.md says, or up to a tenth less",
+                    (took, 0.9 * said_to_take <= took <= said_to_take), (took, True))
         checks.that("its files are its own", [mode_of(f"{path}{end}") for end in ("", "-wal")], ["0o600"] * 2)
     bind = f"import socket; s = socket.socket(); s.setsockopt(1, 2, 1); s.bind(('{HOST}', {port}))"
     printed, status = said("setpriv", f"--reuid={OTHER}", "--clear-groups", "--inh-caps=-all", "--ambient-caps=-all", "--bounding-set=-all", sys.executable, "-c", bind)
     checks.that("while it is down, another user cannot have its port", (status, "PermissionError" in printed), (1, True))
-    with Started(command_of(program, path, port, limit=300 << 20), port) as desk:
-        checks.that("with 300 MiB the largest body is 503", desk.ask(message("POST /ops/day", large_body())).split(b"\r\n")[0],
+    with Started(command_of(program, path, port, limit=200 << 20), port) as desk:
+        checks.that("with 200 MiB the largest body is 503", desk.ask(message("POST /ops/day", large_body())).split(b"\r\n")[0],
                     b"HTTP/1.1 503 Service Unavailable")
         checks.that("and the next request is answered", desk.ask(message("GET /ops/status")).split(b"\r\n")[0], b"HTTP/1.1 200 OK")
     calls(checks, program, folder, path)
