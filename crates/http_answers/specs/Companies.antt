@@ -1,5 +1,5 @@
 -- The body of all companies' exposures, limits and return rates, with its keys in byte order.
-use Rattle.std.specs.Prelude.{ℕ, Bool, not, List, [], ◌∷◌, ◌++◌, filter, bytes_eq, codes}
+use Rattle.std.specs.Prelude.{ℕ, not, List, [], ◌∷◌, ◌++◌, filter, bytes_eq, codes}
 use Rattle.serde_json.specs.Data.{Data, string}
 use Rattle.bank_days.specs.Day.{day_text}
 use Rattle.http_json.specs.Members.{object_of}

@@ -21,7 +21,7 @@ mod room;
 
 pub use acceptance::put_acceptance;
 pub use drafts::{company_draft, day_draft, limits_draft, retry_draft, submission_draft, text_of};
-pub use members::{put_decimal, put_flag, put_key, put_number, put_signed, put_text};
+pub use members::{put_decimal, put_flag, put_key, put_number, put_signed, put_text, put_whole};
 pub use quoted::put_quoted;
 pub use read::read_object;
 pub use refusals::{fault_text, refusal_text};

@@ -4,11 +4,11 @@ ghost use Rattle.json.specs.Print.{quoted};
 ghost use Rattle.serde_json.specs.Data.{number, unsigned, string, boolean};
 ghost use Rattle.serde_json.specs.Find.{of_integer};
 ghost use Rattle.serde_json.specs.Written.{comma_if};
-ghost use Rattle.http_json.specs.Gains.{Gains, GainsMember};
+ghost use Rattle.http_json.specs.Gains.{Gains, GainsMember, GainsValue};
 ghost use Rattle.http_json.specs.Members.{text_member_bound};
 
-use crate::quoted::put_quoted;
-use crate::room::{put, put_comma};
+use crate::quoted::{put_escaped, put_quoted};
+use crate::room::put;
 use itoa::{Buffer, Integer};
 
 /// Appends the key of a member with its colon, after a comma where it is not the first.
@@ -18,9 +18,13 @@ pub fn put_key(text: &mut Vec<u8>, later: bool, key: &[u8])
     ensures len { vec_len text.new ≤ vec_len text.old + (6 * length key.now + 4) }
     ensures capacity { vec_capacity text.old ≤ vec_capacity text.new }
 {
-    put_comma(text, later);
-    put_quoted(text, key);
-    put(text, b":");
+    if later {
+        put(text, b",\"");
+    } else {
+        put(text, b"\"");
+    }
+    put_escaped(text, key);
+    put(text, b"\":");
 }
 
 /// Appends a member whose value is a text.
@@ -44,6 +48,16 @@ pub fn put_number(text: &mut Vec<u8>, later: bool, key: &[u8], value: u64)
     ensures capacity { vec_capacity text.old ≤ vec_capacity text.new }
 {
     put_key(text, later, key);
+    put_whole(text, value);
+}
+
+/// Appends a whole number.
+pub fn put_whole(text: &mut Vec<u8>, value: u64)
+    requires { vec_len text.old + 20 ≤ vec_capacity text.old }
+    ensures items { GainsValue text.old text.new (number (unsigned value)) }
+    ensures len { vec_len text.new ≤ vec_len text.old + 20 }
+    ensures capacity { vec_capacity text.old ≤ vec_capacity text.new }
+{
     let mut digits = Buffer::new();
     put(text, digits.format(value).as_bytes());
 }

@@ -18,8 +18,9 @@ pub fn put_quoted(text: &mut Vec<u8>, value: &[u8])
     put(text, b"\"");
 }
 
-// Most texts have nothing to escape, and are copied whole.
-fn put_escaped(text: &mut Vec<u8>, value: &[u8])
+/// Appends a text with its escapes, without quotes. Most texts have nothing to escape, and are copied
+/// whole.
+pub(crate) fn put_escaped(text: &mut Vec<u8>, value: &[u8])
     requires { vec_len text.old + 6 * length value.now ≤ vec_capacity text.old }
     ensures items { Gains text.old text.new (escape value.now) }
     ensures len { vec_len text.new ≤ vec_len text.old + 6 * length value.now }

@@ -128,6 +128,7 @@ stays_right m before after same right = record {
   day = subst (λ z. IfSome m.day (λ x. Some x ≡ z)) (sym same.day) right.day;
   holidays = subst (λ z. IfSome m.holidays (λ x. x ≡ z)) (sym same.holidays) right.holidays;
   companies = subst (λ z. IfSome m.companies (λ x. IsRegistryOf x z)) (sym same.companies) right.companies;
+  listed = subst (λ z. IfSome m.listed (λ x. x.items ≡ z)) (sym same.companies) right.listed;
   counts = λ k. subst (λ z. IfSome (get company_cmp m.counts.counts k) (λ x. x ≡ z)) (sym (same.counts k.company)) (right.counts k);
 }
 
@@ -154,6 +155,7 @@ count_added c order s retry b m counts next right set = record {
   day = right.day;
   holidays = right.holidays;
   companies = right.companies;
+  listed = right.listed;
   counts = set (λ of. length (b.rows of)) (λ of. length (((add_submission c order s retry).after b).rows of))
       (own_count c order (b.rows c) (next_row (b.rows c) s retry) next)
       (λ of other. other_stays c (λ rs. rs ++ next_row rs s retry ∷ []) b.rows of other)

@@ -26,6 +26,7 @@ pub record KnowsRight (m : Known) (b : Book) : Type 0 where
   pub day : IfSome m.day (λ day. Some day ≡ b.day)
   pub holidays : IfSome m.holidays (λ holidays. holidays ≡ b.holidays)
   pub companies : IfSome m.companies (λ registry. IsRegistryOf registry b.companies)
+  pub listed : IfSome m.listed (λ listed. listed.items ≡ b.companies)
   pub counts : CountsRight m.counts (λ c. submission_count c b)
 
 -- it agrees with every book

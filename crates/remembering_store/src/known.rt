@@ -23,6 +23,7 @@ pub(crate) struct Known {
     pub(crate) day: Option<RuleDay>,
     pub(crate) holidays: Option<Calendar>,
     pub(crate) companies: Option<Registry>,
+    pub(crate) listed: Option<Vec<Company>>,
     pub(crate) counts: Counts,
 }
 
@@ -37,15 +38,18 @@ impl Known {
             day: None,
             holidays: None,
             companies: None,
+            listed: None,
             counts: Counts::new(alloc),
         }
     }
 
-    /// Follows a registration. If there is no memory for the company, all companies are forgotten.
+    /// Follows a registration. The list of companies is forgotten, and so is the registry if there is no
+    /// memory for the company.
     pub(crate) fn register(&mut self, company: Company)
         ensures { (b : Book) → (put_company company).Admits b → KnowsRight self.old b
             → KnowsRight self.new ((put_company company).after b) }
     {
+        self.listed = None;
         let Some(registry) = &mut self.companies else {
             return;
         };
@@ -54,11 +58,12 @@ impl Known {
         }
     }
 
-    /// Follows new limits of a company.
+    /// Follows new limits of a company. The list of companies is forgotten.
     pub(crate) fn limit(&mut self, company: Id, limits: Limits)
         ensures { (b : Book) → KnowsRight self.old b
             → KnowsRight self.new ((put_limits company limits).after b) }
     {
+        self.listed = None;
         if let Some(registry) = &mut self.companies {
             registry.limit(company, limits);
         }

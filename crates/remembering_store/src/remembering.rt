@@ -1,5 +1,5 @@
 //! The store around a store.
-ghost use Rattle.std.specs.Prelude.{◌≡◌};
+ghost use Rattle.std.specs.Prelude.{◌≡◌, IfOk};
 ghost use Rattle.desk_book.specs.Book.{Book};
 ghost use Rattle.desk_book.specs.Reads.{key_of};
 ghost use Rattle.desk_book.specs.declared.caller.Caller.TheVariants.{Operator};
@@ -16,7 +16,7 @@ use desk_book::{Caller, HeldSubmission, NamedEntry, OpenSubmission, Row};
 use desk_history::{ChangeRow, Identity, ListOf, ReturnRow, SuspenseRow, TakenFile};
 use desk_rules::{Company, Limits, Rates, Retry, RuleDay, SizedSubmission};
 use desk_store::{CutRows, IntakeRows, LastNumber, Store, StoreFault};
-use std::alloc::Global;
+use std::alloc::{AllocError, Global};
 
 /// A store that remembers the desk's identity, key, day, holidays, companies and counts of submissions,
 /// and hands every other call on to the store inside.
@@ -24,6 +24,15 @@ use std::alloc::Global;
 pub struct Remembering<S> {
     store: S,
     known: Known,
+}
+
+// Copies a list of companies.
+fn copy_of(alloc: Global, companies: &[Company]) -> Result<Vec<Company>, AllocError>
+    ensures { IfOk result (λ copy. copy.items ≡ companies.now) }
+{
+    let mut copy = Vec::new(alloc);
+    copy.extend_from_slice(companies)?;
+    Ok(copy)
 }
 
 impl<S> Remembering<S> {
@@ -138,7 +147,12 @@ impl<S: Store> Store for Remembering<S> {
     }
 
     fn companies(&mut self, alloc: Global) -> Result<Vec<Company>, StoreFault> {
-        self.store.companies(alloc)
+        if let Some(listed) = &self.known.listed {
+            return Ok(copy_of(alloc, listed)?);
+        }
+        let companies = self.store.companies(alloc)?;
+        self.known.listed = copy_of(alloc, &companies).ok();
+        Ok(companies)
     }
 
     fn submission(

@@ -6,7 +6,7 @@ ghost use Rattle.http_answers.specs.Company.{rate_body, rates_body};
 use crate::list::ROW_ROOM;
 use desk_history::DayRates;
 use desk_rules::Rate;
-use http_json::{put, put_flag, put_key, put_number, put_text};
+use http_json::{put, put_key, put_text, put_whole};
 use std::alloc::AllocError;
 
 /// Appends the body of a company's return rates.
@@ -41,9 +41,13 @@ fn put_rate_object(text: &mut Vec<u8>, rate: &Rate)
     ensures len { vec_len text.new ≤ vec_len text.old + 100 }
     ensures capacity { vec_capacity text.old ≤ vec_capacity text.new }
 {
-    put(text, b"{");
-    put_number(text, false, b"d", rate.d);
-    put_number(text, true, b"n", rate.n);
-    put_flag(text, true, b"over", rate.over);
-    put(text, b"}");
+    put(text, b"{\"d\":");
+    put_whole(text, rate.d);
+    put(text, b",\"n\":");
+    put_whole(text, rate.n);
+    if rate.over {
+        put(text, b",\"over\":true}");
+    } else {
+        put(text, b",\"over\":false}");
+    }
 }

@@ -8,5 +8,6 @@ returns c = λ b is right. record {
   day = right.day;
   holidays = right.holidays;
   companies = right.companies;
+  listed = right.listed;
   counts = c.set.ensures (λ of. length (b.rows of)) (λ of. length (b.rows of)) is (λ of other. refl) right.counts;
 }
