@@ -11,8 +11,6 @@ mod memory_files;
 mod opening;
 mod places;
 mod running;
-#[cfg(test)]
-mod tests;
 
 pub use kept_files::KeptFiles;
 pub use memory_files::{MemoryFiles, OtherFile};

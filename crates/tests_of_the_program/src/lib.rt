@@ -6,7 +6,7 @@
 //! their writes, find no room for it, or lost or changed what was written (`crashes`).
 //!
 //! Commands: runs over bodies as companies send them, over lists, incoming files, messages and desks in files,
-//! and over readers and writers that fail (`commands`).
+//! over files in memory, and over readers and writers that fail (`commands`).
 //!
 //! A connection to files takes long to prove, so few functions pass one on: all others use the bytes of files,
 //! and the findings.

@@ -4,6 +4,7 @@ mod commands;
 mod desks;
 mod failing;
 mod files;
+mod in_memory;
 mod kept;
 mod large;
 pub(crate) mod lists;
