@@ -34,7 +34,7 @@ module _ {W : Type 0} (w : sink.Ghosts W) (Runs : Command → (old new : W) → 
   RunsWords words code = (read : Result Command LineFault) × GivesAt words read × DoesRead read code
 
   -- The words that the program was started with are its name, which asks for nothing, and those that are run. If they could
-  -- not be had, why is printed.
+  -- not be read, the fault is printed, or a write of it failed.
   abbrev pub RunsStarted : Result (Vec (String Global) Global) LineFault → (code : ℕ) → Type 0
   RunsStarted (Ok words) code = RunsWords (map string_bytes (drop 1 words.items)) code
   RunsStarted (Err fault) code = PrintsLineFault fault w old new code

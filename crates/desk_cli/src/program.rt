@@ -97,8 +97,8 @@ pub fn run_words<R: Source + Drop, W: Sink>(
 }
 
 /// Does what the words that the program was started with ask for, over this reader and writer, and
-/// gives the exit status. The first word is the program's name, and asks for nothing. Where the words
-/// could not be had, why is printed.
+/// gives the exit status. The first word is the program's name, and asks for nothing. If the words
+/// could not be read, it prints the fault, or a write of it failed and the status is 3.
 pub fn run_started<R: Source + Drop, W: Sink>(
     rt: &HostRuntime,
     started: Result<Vec<String>, LineFault>,
