@@ -32,6 +32,8 @@ mod lists;
 #[cfg(test)]
 mod members;
 #[cfg(test)]
+mod remembering;
+#[cfg(test)]
 mod rules;
 #[cfg(test)]
 mod samples;

@@ -146,10 +146,19 @@ fn limits(rt: &impl Abort, line: &str) -> LimitDrafts {
     }
 }
 
+// The name of a company.
+fn name(company: &str) -> &str {
+    match company {
+        "MILL01" => "MILL STREET",
+        "BAKE01" => "BAKERY",
+        _ => "ABLE TOOLS",
+    }
+}
+
 fn company(rt: &(impl Abort + Alloc<A = Global>), line: &str) -> CompanyDraft {
     CompanyDraft {
         id: text(rt, word(line, 2)),
-        name: text(rt, "MILL STREET"),
+        name: text(rt, name(word(line, 2))),
         key: text(rt, "mill-street-key"),
         limits: limits(rt, line),
         digest: COMPANY_DIGEST,

@@ -2,9 +2,9 @@
 use super::answers::words_of;
 use super::calls::call_of;
 use super::old_cut::put_old_cut;
+use crate::remembering::remembering;
 use ach_fields::Routing;
 use desk_core::{Desk, FaultyStore, Identity, ListStore, PartyName, Store};
-use open_sums::Remembering;
 use sql_store::SqlStore;
 use sqlite::MemStore;
 use std::alloc::Global;
@@ -92,9 +92,9 @@ pub(super) fn new_tables(rt: &(impl Abort + Alloc<A = Global>)) -> SqlStore<MemS
         .expect(rt, "tables")
 }
 
-// Returns the answer to a line's call, in words, and whether the store failed first: then the call
-// is made again.
-fn words_for<S: Store>(
+/// Returns the answer to a line's call, in words, and whether the store failed first: then the call
+/// is made again.
+pub(super) fn words_for<S: Store>(
     rt: &(impl Abort + Alloc<A = Global>),
     desk: &mut Desk<S>,
     line: &str,
@@ -135,15 +135,6 @@ pub(super) fn after<S: Store>(
         put_old_cut(rt, &mut store, sequences);
     }
     store
-}
-
-// A store that remembers, as the program's desks have it.
-fn remembering<S: Store>(
-    rt: &(impl Abort + Alloc<A = Global>),
-    store: S,
-) -> Remembering<remembering_store::Remembering<S>> {
-    let store = remembering_store::Remembering::new(rt.alloc(), store);
-    Remembering::new(rt.alloc(), store)
 }
 
 // Runs a script over a store: was a call asked once more?

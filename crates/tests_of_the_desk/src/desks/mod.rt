@@ -8,6 +8,7 @@ mod exchanges;
 mod faults;
 mod isolation;
 mod large_bodies;
+mod own_rows;
 mod refused_calls;
 mod samples;
 mod settlements;
