@@ -18,7 +18,6 @@ Debian packages are missing, which are named; that is not a pass.
 import http.client
 import json
 import random
-import re
 import shutil
 import statistics
 import subprocess
@@ -27,6 +26,7 @@ import tempfile
 import time
 from pathlib import Path
 
+from helpers.instructions import Callgrind
 from helpers.proxy import Proxy
 from helpers.running import HOST, OPERATOR_KEY, Checks, Serving, connect, found, make_desk, message, program_of, read_answer, run, status_of
 
@@ -74,13 +74,11 @@ def instructions(program, desk, given):
     with tempfile.TemporaryDirectory() as folder:
         for path in (desk, desk.with_name(desk.name + "-wal")):
             shutil.copy(path, folder)
-        out = Path(folder) / "out"
-        done = subprocess.run(["valgrind", "--quiet", "--tool=callgrind", f"--callgrind-out-file={out}", program, "stdio", Path(folder) / desk.name],
-                              input=given, stdout=subprocess.PIPE, stderr=subprocess.PIPE)
-        counts = re.findall(r"^(?:totals|summary): (\d+)", out.read_text() if out.exists() else "", re.M)
-        if not counts or done.returncode:
+        callgrind = Callgrind()
+        done = subprocess.run([*callgrind.words, program, "stdio", Path(folder) / desk.name], input=given, stdout=subprocess.PIPE, stderr=subprocess.PIPE)
+        if (count := callgrind.whole()) is None or done.returncode:
             sys.exit(f"callgrind does not run the program: {done.stderr[-300:].decode(errors='replace')}")
-        return int(counts[-1]), done.stdout
+        return count, done.stdout
 
 
 def cost_of_refusal(program, desk, companies, kind):

@@ -78,6 +78,13 @@ def make_desk(program, path):
         sys.exit(f"no desk was made: {said}")
 
 
+def copy_desk(source, target):
+    """Copies a desk's file with its log, which no program has open."""
+    for end in ("", "-wal"):
+        if Path(f"{source}{end}").exists():
+            shutil.copyfile(f"{source}{end}", f"{target}{end}")
+
+
 def free_port():
     """A port that nobody listens on."""
     with socket.socket() as it:
@@ -94,11 +101,12 @@ def connect(port):
 class Serving:
     """`achdesk serve` over a file, on a port of its own."""
 
-    def __init__(self, program, path, connections=None, port=None, patience=None, environment=None, options=()):
+    def __init__(self, program, path, connections=None, port=None, patience=None, environment=None, options=(), under=()):
+        """`under` has the words of a command that runs the program, if it does not run by itself."""
         self.port = port or free_port()
         limits = [] if connections is None else ["--connections", str(connections)]
         limits += [] if patience is None else ["--patience", str(patience)]
-        self.process = subprocess.Popen([program, "serve", str(path), str(self.port), *limits, *options], bufsize=0,
+        self.process = subprocess.Popen([*under, program, "serve", str(path), str(self.port), *limits, *options], bufsize=0,
                                         env=os.environ | (environment or {}),
                                         stdin=subprocess.DEVNULL, stdout=subprocess.PIPE, stderr=subprocess.PIPE)
         self.line = b""
@@ -115,9 +123,9 @@ class Serving:
             self.line += piece
         return self.line
 
-    def listen(self):
+    def listen(self, seconds=SECONDS):
         """Waits until it listens."""
-        if self.wait_for_line() != f"listening on {HOST}:{self.port}\n".encode():
+        if self.wait_for_line(seconds) != f"listening on {HOST}:{self.port}\n".encode():
             self.stop()
             sys.exit(f"it does not listen: {self.line} {self.process.stderr.read()}")
         return self
@@ -191,9 +199,7 @@ def rows_of(path):
     """All rows of a desk's file, by stock SQLite."""
     with tempfile.TemporaryDirectory() as folder:
         copy = Path(folder) / "copy.db"
-        for end in ("", "-wal"):
-            if Path(f"{path}{end}").exists():
-                shutil.copyfile(f"{path}{end}", f"{copy}{end}")
+        copy_desk(path, copy)
         db = sqlite3.connect(copy)
         tables = [name for (name,) in db.execute("SELECT name FROM sqlite_master WHERE type = 'table' ORDER BY name")]
         rows = {name: sorted(map(repr, db.execute(f"SELECT * FROM {name}"))) for name in tables}
