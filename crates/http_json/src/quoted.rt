@@ -20,6 +20,7 @@ pub fn put_quoted(text: &mut Vec<u8>, value: &[u8])
 
 /// Appends a text with its escapes, without quotes. Most texts have nothing to escape, and are copied
 /// whole.
+#[inline(always)]
 pub(crate) fn put_escaped(text: &mut Vec<u8>, value: &[u8])
     requires { vec_len text.old + 6 * length value.now ≤ vec_capacity text.old }
     ensures items { Gains text.old text.new (escape value.now) }
@@ -64,6 +65,7 @@ fn put_byte(text: &mut Vec<u8>, byte: u8)
 }
 
 // Reports whether no byte needs an escape.
+#[inline(always)]
 fn is_plain(value: &[u8]) -> bool
     ensures { result ≡ true → escape value.now ≡ value.now }
 {

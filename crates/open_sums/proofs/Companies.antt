@@ -3,14 +3,14 @@ use Rattle.std.proofs.Common.{◌≡◌, ◌∙◌, refl, ap, sym, subst, ℕ, �
 use Rattle.std.proofs.lemmas.List.{take_all}
 use Rattle.std.proofs.lemmas.List.Sums.{fold_more}
 use Rattle.std.specs.Prelude.{if◌then◌else◌, IfSome, bytes_eq, fold}
-use Rattle.std.specs.BTreeMap.{BTreeMap, get, is_at}
-use Rattle.std.specs.Cmp.Lexicographic.{texts_ties, same_text}
+use Rattle.std.specs.HashMap.{HashMap, get}
+use Rattle.std.specs.Cmp.Lexicographic.{same_text}
 use Rattle.desk_book.specs.Book.{Book}
 use Rattle.desk_book.specs.declared.row.Row.{Row}
 use Rattle.desk_book.specs.declared.flat_rows.ChangedRow.{ChangedRow}
 use Rattle.desk_book.specs.declared.flat_rows.FileRow.{FileRow}
 use Rattle.desk_book.specs.Steps.{put_change, put_file}
-use Rattle.open_sums.specs.CompanyKeys.{company_cmp}
+use Rattle.open_sums.specs.CompanyKeys.{is_same_company}
 use Rattle.open_sums.specs.Known.{KnowsRight, Follows}
 use Rattle.open_sums.specs.KnownCompany.{AgreesWith}
 use Rattle.open_sums.specs.declared.company_key.CompanyKey.{CompanyKey}
@@ -21,54 +21,54 @@ abbrev pub key : List ℕ → CompanyKey
 key c = record { company = c }
 
 -- what is known of a company agrees with its rows
-pub company_found : (c : List ℕ) (m : BTreeMap CompanyKey KnownCompany) (v : KnownCompany) (b : Book) → Some v ≡ get company_cmp m (key c)
-    → ((q : CompanyKey) → IfSome (get company_cmp m q) (λ x. AgreesWith x (b.rows q.company))) → AgreesWith v (b.rows c)
+pub company_found : {S : Type 0} (c : List ℕ) (m : HashMap CompanyKey KnownCompany S) (v : KnownCompany) (b : Book) → Some v ≡ get is_same_company m (key c)
+    → ((q : CompanyKey) → IfSome (get is_same_company m q) (λ x. AgreesWith x (b.rows q.company))) → AgreesWith v (b.rows c)
 company_found c m v b found all = subst (λ (o : Option KnownCompany). IfSome o (λ x. AgreesWith x (b.rows c))) (sym found) (all (key c))
 
-pub company_followed : (c : List ℕ) (turn : List Row → List Row) (m n : BTreeMap CompanyKey KnownCompany) (v w : KnownCompany) (b : Book)
-    → Some v ≡ get company_cmp m (key c)
-    → ((q : CompanyKey) → get company_cmp n q ≡ cond (is_at (company_cmp (key c)) q) (Some w) (get company_cmp m q))
+pub company_followed : {S : Type 0} (c : List ℕ) (turn : List Row → List Row) (m n : HashMap CompanyKey KnownCompany S) (v w : KnownCompany) (b : Book)
+    → Some v ≡ get is_same_company m (key c)
+    → ((q : CompanyKey) → get is_same_company n q ≡ cond (is_same_company (key c) q) (Some w) (get is_same_company m q))
     → ((rs : List Row) → AgreesWith v rs → AgreesWith w (turn rs))
-    → ((q : CompanyKey) → IfSome (get company_cmp m q) (λ x. AgreesWith x (b.rows q.company)))
-    → (q : CompanyKey) → IfSome (get company_cmp n q) (λ x. AgreesWith x (if bytes_eq c q.company then turn (b.rows q.company) else b.rows q.company))
+    → ((q : CompanyKey) → IfSome (get is_same_company m q) (λ x. AgreesWith x (b.rows q.company)))
+    → (q : CompanyKey) → IfSome (get is_same_company n q) (λ x. AgreesWith x (if bytes_eq c q.company then turn (b.rows q.company) else b.rows q.company))
 company_followed c turn m n v w b found puts follows all q =
-    subst (λ (o : Option KnownCompany). IfSome o (λ x. AgreesWith x (if bytes_eq c q.company then turn (b.rows q.company) else b.rows q.company))) (sym (puts q)) (by (is_at (company_cmp (key c)) q) (texts_ties c q.company)) where
-      by : (t : Bool) → bytes_eq c q.company ≡ t → IfSome (cond t (Some w) (get company_cmp m q)) (λ x. AgreesWith x (if bytes_eq c q.company then turn (b.rows q.company) else b.rows q.company))
+    subst (λ (o : Option KnownCompany). IfSome o (λ x. AgreesWith x (if bytes_eq c q.company then turn (b.rows q.company) else b.rows q.company))) (sym (puts q)) (by (is_same_company (key c) q) refl) where
+      by : (t : Bool) → bytes_eq c q.company ≡ t → IfSome (cond t (Some w) (get is_same_company m q)) (λ x. AgreesWith x (if bytes_eq c q.company then turn (b.rows q.company) else b.rows q.company))
       by true e =
           let was : AgreesWith v (b.rows c) = company_found c m v b found all in
           let here : AgreesWith v (b.rows q.company) = subst (λ (k : List ℕ). AgreesWith v (b.rows k)) (same_text c q.company (sym e)) was in
           subst (λ (t : Bool). AgreesWith w (if t then turn (b.rows q.company) else b.rows q.company)) (sym e) (follows (b.rows q.company) here)
-      by false e = subst (λ (t : Bool). IfSome (get company_cmp m q) (λ x. AgreesWith x (if t then turn (b.rows q.company) else b.rows q.company))) (sym e) (all q)
+      by false e = subst (λ (t : Bool). IfSome (get is_same_company m q) (λ x. AgreesWith x (if t then turn (b.rows q.company) else b.rows q.company))) (sym e) (all q)
 
 -- the same, where the step is followed of the rows that the company has
-pub company_followed_there : (c : List ℕ) (turn : List Row → List Row) (m n : BTreeMap CompanyKey KnownCompany) (v w : KnownCompany) (b : Book)
-    → Some v ≡ get company_cmp m (key c)
-    → ((q : CompanyKey) → get company_cmp n q ≡ cond (is_at (company_cmp (key c)) q) (Some w) (get company_cmp m q))
+pub company_followed_there : {S : Type 0} (c : List ℕ) (turn : List Row → List Row) (m n : HashMap CompanyKey KnownCompany S) (v w : KnownCompany) (b : Book)
+    → Some v ≡ get is_same_company m (key c)
+    → ((q : CompanyKey) → get is_same_company n q ≡ cond (is_same_company (key c) q) (Some w) (get is_same_company m q))
     → (AgreesWith v (b.rows c) → AgreesWith w (turn (b.rows c)))
-    → ((q : CompanyKey) → IfSome (get company_cmp m q) (λ x. AgreesWith x (b.rows q.company)))
-    → (q : CompanyKey) → IfSome (get company_cmp n q) (λ x. AgreesWith x (if bytes_eq c q.company then turn (b.rows q.company) else b.rows q.company))
+    → ((q : CompanyKey) → IfSome (get is_same_company m q) (λ x. AgreesWith x (b.rows q.company)))
+    → (q : CompanyKey) → IfSome (get is_same_company n q) (λ x. AgreesWith x (if bytes_eq c q.company then turn (b.rows q.company) else b.rows q.company))
 company_followed_there c turn m n v w b found puts follows all q =
-    subst (λ (o : Option KnownCompany). IfSome o (λ x. AgreesWith x (if bytes_eq c q.company then turn (b.rows q.company) else b.rows q.company))) (sym (puts q)) (by (is_at (company_cmp (key c)) q) (texts_ties c q.company)) where
-      by : (t : Bool) → bytes_eq c q.company ≡ t → IfSome (cond t (Some w) (get company_cmp m q)) (λ x. AgreesWith x (if bytes_eq c q.company then turn (b.rows q.company) else b.rows q.company))
+    subst (λ (o : Option KnownCompany). IfSome o (λ x. AgreesWith x (if bytes_eq c q.company then turn (b.rows q.company) else b.rows q.company))) (sym (puts q)) (by (is_same_company (key c) q) refl) where
+      by : (t : Bool) → bytes_eq c q.company ≡ t → IfSome (cond t (Some w) (get is_same_company m q)) (λ x. AgreesWith x (if bytes_eq c q.company then turn (b.rows q.company) else b.rows q.company))
       by true e =
           let was : AgreesWith v (b.rows c) = company_found c m v b found all in
           let here : AgreesWith w (turn (b.rows q.company)) = subst (λ (k : List ℕ). AgreesWith w (turn (b.rows k))) (same_text c q.company (sym e)) (follows was) in
           subst (λ (t : Bool). AgreesWith w (if t then turn (b.rows q.company) else b.rows q.company)) (sym e) here
-      by false e = subst (λ (t : Bool). IfSome (get company_cmp m q) (λ x. AgreesWith x (if t then turn (b.rows q.company) else b.rows q.company))) (sym e) (all q)
+      by false e = subst (λ (t : Bool). IfSome (get is_same_company m q) (λ x. AgreesWith x (if t then turn (b.rows q.company) else b.rows q.company))) (sym e) (all q)
 
 -- a company is put in
-pub company_put : (c : List ℕ) (m n : BTreeMap CompanyKey KnownCompany) (w : KnownCompany) (b : Book)
-    → ((q : CompanyKey) → get company_cmp n q ≡ cond (is_at (company_cmp (key c)) q) (Some w) (get company_cmp m q)) → AgreesWith w (b.rows c)
-    → ((q : CompanyKey) → IfSome (get company_cmp m q) (λ x. AgreesWith x (b.rows q.company))) → (q : CompanyKey) → IfSome (get company_cmp n q) (λ x. AgreesWith x (b.rows q.company))
-company_put c m n w b puts is all q = subst (λ (o : Option KnownCompany). IfSome o (λ x. AgreesWith x (b.rows q.company))) (sym (puts q)) (by (is_at (company_cmp (key c)) q) (texts_ties c q.company)) where
-  by : (t : Bool) → bytes_eq c q.company ≡ t → IfSome (cond t (Some w) (get company_cmp m q)) (λ x. AgreesWith x (b.rows q.company))
+pub company_put : {S : Type 0} (c : List ℕ) (m n : HashMap CompanyKey KnownCompany S) (w : KnownCompany) (b : Book)
+    → ((q : CompanyKey) → get is_same_company n q ≡ cond (is_same_company (key c) q) (Some w) (get is_same_company m q)) → AgreesWith w (b.rows c)
+    → ((q : CompanyKey) → IfSome (get is_same_company m q) (λ x. AgreesWith x (b.rows q.company))) → (q : CompanyKey) → IfSome (get is_same_company n q) (λ x. AgreesWith x (b.rows q.company))
+company_put c m n w b puts is all q = subst (λ (o : Option KnownCompany). IfSome o (λ x. AgreesWith x (b.rows q.company))) (sym (puts q)) (by (is_same_company (key c) q) refl) where
+  by : (t : Bool) → bytes_eq c q.company ≡ t → IfSome (cond t (Some w) (get is_same_company m q)) (λ x. AgreesWith x (b.rows q.company))
   by true e = subst (λ (k : List ℕ). AgreesWith w (b.rows k)) (same_text c q.company (sym e)) is
   by false e = all q
 
 -- ---- what a cut and a file write beside rows
 
 pub same_rows : (m : Known) (b after : Book) → after.rows ≡ b.rows → KnowsRight m b → KnowsRight m after
-same_rows m b after same right k = subst (λ (rows : List ℕ → List Row). IfSome (get company_cmp m.companies k) (λ x. AgreesWith x (rows k.company))) (sym same) (right k)
+same_rows m b after same right k = subst (λ (rows : List ℕ → List Row). IfSome (get is_same_company m.companies k) (λ x. AgreesWith x (rows k.company))) (sym same) (right k)
 
 pub files_keep_rows : (fs : List FileRow) (b : Book) → (fold put_file b fs).rows ≡ b.rows
 files_keep_rows [] b = refl

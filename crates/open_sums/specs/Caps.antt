@@ -1,8 +1,8 @@
 -- The most that is kept of one company.
 use Rattle.std.specs.Prelude.{ℕ, ◌+◌, Bool, false, not, ◌&&◌, nat_le, List, length, sum_by, Option, None, Some}
-use Rattle.std.specs.BTreeMap.{get}
+use Rattle.std.specs.HashMap.{get}
 use Rattle.desk_book.specs.declared.open_submission.OpenSubmission.{OpenSubmission}
-use Rattle.open_sums.specs.CompanyKeys.{company_cmp}
+use Rattle.open_sums.specs.CompanyKeys.{is_same_company}
 use Rattle.open_sums.specs.declared.left_out.LeftOut.{LeftOut}
 
 -- at most 200,000 submissions and 1,000,000 debits
@@ -19,4 +19,4 @@ is_recent (Some since) first = not (is_behind since first)
 
 -- a company of which too much was open on a first open day not long ago
 abbrev pub is_left_out : (company : List ℕ) → (first : ℕ) → LeftOut → Bool
-is_left_out c first m = is_recent (get company_cmp m.since (record { company = c })) first
+is_left_out c first m = is_recent (get is_same_company m.since (record { company = c })) first

@@ -1,19 +1,19 @@
 -- What is remembered of companies, and when it agrees with a book.
 use Rattle.std.specs.Prelude.{ℕ, Bool, List, IfSome, is_some}
-use Rattle.std.specs.BTreeMap.{get}
+use Rattle.std.specs.HashMap.{get}
 use Rattle.desk_book.specs.Book.{Book}
-use Rattle.open_sums.specs.CompanyKeys.{company_cmp}
+use Rattle.open_sums.specs.CompanyKeys.{is_same_company}
 use Rattle.open_sums.specs.KnownCompany.{AgreesWith}
 use Rattle.open_sums.specs.Remembered.{AreNumbered}
 use Rattle.open_sums.specs.declared.company_key.CompanyKey.{CompanyKey}
 use Rattle.open_sums.specs.declared.known.Known.{Known}
 
 abbrev pub KnowsRight : Known → Book → Type 0
-KnowsRight m b = (k : CompanyKey) → IfSome (get company_cmp m.companies k) (λ x. AgreesWith x (b.rows k.company))
+KnowsRight m b = (k : CompanyKey) → IfSome (get is_same_company m.companies k) (λ x. AgreesWith x (b.rows k.company))
 
 -- something is remembered of a company
 abbrev pub is_known : (company : List ℕ) → Known → Bool
-is_known c m = is_some (get company_cmp m.companies (record { company = c }))
+is_known c m = is_some (get is_same_company m.companies (record { company = c }))
 
 -- what agreed with a book agrees with the one after a step
 abbrev pub Follows : (old new : Known) → (Book → Book) → Type 0

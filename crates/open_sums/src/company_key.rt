@@ -1,14 +1,13 @@
-//! The order of companies: the byte order of their identifications.
-ghost use Rattle.std.specs.Prelude.{◌≡◌, refl, bytes_eq};
-ghost use Rattle.std.specs.Cmp.{partial_equiv_from_equiv, partial_order_from_agreeing_total};
-ghost use Rattle.std.specs.Cmp.Lexicographic.{texts_ties};
-ghost use Rattle.std.specs.Ordering.{as_partial_cmp};
-ghost use Rattle.open_sums.specs.CompanyKeys.{is_same_company, company_cmp, same_company_equiv, company_cmp_total, company_cmp_ties};
+//! Companies as keys: two are equal if their identifications are.
+ghost use Rattle.std.specs.Prelude.{◌≡◌, bytes_eq};
+ghost use Rattle.std.specs.Cmp.{partial_equiv_from_equiv};
+ghost use Rattle.std.specs.Hash as fed;
+ghost use Rattle.open_sums.specs.CompanyKeys.{is_same_company, same_company_equiv, same_company_hash};
 
 use ach_fields::Id;
-use std::cmp::Ordering;
+use std::hash::{Hash, Hasher};
 
-/// A company's identification, ordered by its bytes.
+/// A company's identification.
 #[derive(Clone, Copy, Drop)]
 pub(crate) struct CompanyKey {
     pub(crate) company: Id,
@@ -28,26 +27,12 @@ impl Eq for CompanyKey {
     ghost laws = { same_company_equiv };
 }
 
-impl PartialOrd for CompanyKey {
-    ghost partial_cmp = { as_partial_cmp company_cmp };
+impl Hash for CompanyKey {
+    ghost hash_input = { λ k. fed.slice fed.u8 k.company };
 
-    ghost laws = { partial_order_from_agreeing_total company_cmp company_cmp_total (λ x y. refl) company_cmp_ties };
+    ghost respects_eq = { same_company_hash };
 
-    fn partial_cmp(&self, other: &CompanyKey) -> Option<Ordering> {
-        Some(self.cmp(other))
-    }
-}
-
-impl Ord for CompanyKey {
-    ghost cmp = { company_cmp };
-
-    ghost total = { company_cmp_total };
-
-    ghost matches_partial_cmp = { λ x y. refl };
-
-    ghost matches_eq = { company_cmp_ties };
-
-    fn cmp(&self, other: &CompanyKey) -> Ordering {
-        self.company.bytes().cmp(other.company.bytes())
+    fn hash<H: Hasher>(&self, state: &mut H) {
+        self.company.bytes().hash(state);
     }
 }

@@ -17,12 +17,12 @@ use desk_book::{LapsedRow, ReturnedRow, SentRow};
 use desk_rules::{Rates, SizedSubmission};
 use desk_store::{CutRows, IntakeRows};
 use std::alloc::Global;
-use std::collections::BTreeMap;
+use std::collections::HashMap;
 
 /// The open submissions and the return rates of the companies that were asked about.
 #[derive(Drop)]
 pub struct Known {
-    companies: BTreeMap<CompanyKey, KnownCompany>,
+    companies: HashMap<CompanyKey, KnownCompany>,
 }
 
 impl Known {
@@ -31,7 +31,7 @@ impl Known {
         ensures { (b : Book) → KnowsRight result b }
     {
         Known {
-            companies: BTreeMap::new(alloc),
+            companies: HashMap::new(alloc),
         }
     }
 

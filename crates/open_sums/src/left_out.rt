@@ -7,13 +7,13 @@ use crate::company_key::CompanyKey;
 use ach_fields::Id;
 use bank_days::Day;
 use std::alloc::Global;
-use std::collections::BTreeMap;
+use std::collections::HashMap;
 
 /// The companies of which too much was open to be kept, each with the first open day on which it was
 /// read.
 #[derive(Drop)]
 pub(crate) struct LeftOut {
-    since: BTreeMap<CompanyKey, Day>,
+    since: HashMap<CompanyKey, Day>,
 }
 
 impl LeftOut {
@@ -22,7 +22,7 @@ impl LeftOut {
         ensures { (company : List ℕ) (first : ℕ) → is_left_out company first result ≡ false }
     {
         LeftOut {
-            since: BTreeMap::new(alloc),
+            since: HashMap::new(alloc),
         }
     }
 
