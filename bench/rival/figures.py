@@ -3,15 +3,14 @@
 import datetime
 import os
 import re
-import subprocess
-import tempfile
 import threading
-import time
 from pathlib import Path
 
 from histories import FULL, OPERATOR, incoming, item, text_of
-from pair import Session, copy_desk, make_desk
+from pair import Session
 from helpers.desk_messages import keyed
+from helpers.instructions import Callgrind, wait_until_idle
+from helpers.running import copy_desk, make_desk
 
 KEY = "a-company-key"
 FIRST, SECOND, THIRD, FOURTH = (datetime.date(2025, 1, day) for day in (8, 9, 10, 13))
@@ -128,10 +127,8 @@ class Timed(Measured):
         super().__init__(command)
 
     def cost(self):
-        path = Path(f"/proc/{self.process.pid}")
-        while (path / "stat").read_text().rpartition(")")[2].split()[0] != "S":
-            time.sleep(0.0002)
-        before, self.worked = self.worked, int((path / "schedstat").read_text().split()[0]) / 1e9
+        wait_until_idle(self.process)
+        before, self.worked = self.worked, int(Path(f"/proc/{self.process.pid}/schedstat").read_text().split()[0]) / 1e9
         return self.worked - before
 
     def peak(self):
@@ -143,18 +140,11 @@ class Counted(Measured):
     """Instructions of user code, by callgrind, which counts anew after each part."""
 
     def __init__(self, command):
-        self.folder = tempfile.TemporaryDirectory()
-        self.parts = 0
-        super().__init__(["valgrind", "--quiet", "--tool=callgrind", f"--callgrind-out-file={self.folder.name}/out", *command])
+        self.callgrind = Callgrind()
+        super().__init__([*self.callgrind.words, *command])
 
     def cost(self):
-        self.parts += 1
-        part = Path(f"{self.folder.name}/out.{self.parts}")
-        for _ in range(5):
-            subprocess.run(["callgrind_control", "-d", str(self.process.pid)], stdout=subprocess.PIPE, stderr=subprocess.STDOUT)
-            if part.exists():
-                return int(re.findall(r"^(?:totals|summary): (\d+)", part.read_text(), re.M)[-1])
-        raise SystemExit("callgrind gave no counts")
+        return self.callgrind.part(self.process)
 
 
 def run(kind, command):

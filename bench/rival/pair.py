@@ -2,11 +2,9 @@
 
 import re
 import subprocess
-import sys
 from collections import Counter
-from pathlib import Path
 
-from helpers.running import IDENTITY, read_answer, rows_of
+from helpers.running import copy_desk, make_desk, read_answer, rows_of
 
 LONGEST_SESSION = 1000
 
@@ -17,22 +15,6 @@ def kind_of(answer):
         return "none"
     name = re.search(rb'"error":"([A-Za-z]+)"', answer[:400])
     return " ".join([answer[9:12].decode(), *([name[1].decode()] if name else [])])
-
-
-def make_desk(program, path):
-    """A new desk in a file, made by the desk's program for both."""
-    done = subprocess.run([program, "init", str(path), *IDENTITY], stdout=subprocess.PIPE)
-    if done.stdout != b"created\n":
-        sys.exit(f"no desk was made: {done.stdout} {done.returncode}")
-
-
-def files_of(path):
-    return [(Path(f"{path}{end}"), end) for end in ("", "-wal") if Path(f"{path}{end}").exists()]
-
-
-def copy_desk(source, target):
-    for path, end in files_of(source):
-        Path(f"{target}{end}").write_bytes(path.read_bytes())
 
 
 class Session:
