@@ -18,6 +18,7 @@ FAR = datetime.date(2025, 3, 3)
 SIZE = 1000
 RETURNS = 2000
 HELD = 20_000
+MORE = 300
 ENTRY = {"routing": "091000019", "account": "123456789", "kind": "checking", "cents": 2500, "id": "E1", "name": "ANN LEE"}
 
 
@@ -51,13 +52,21 @@ def base(open_entries):
     """The messages of the file in which all is measured. OPEN has so many open entries, debits that were sent; of DUE and EACH some are
     due, in submissions of 1,000 and of 1."""
     made = [set_day(FIRST)]
-    for name in ("DUE", "EACH", "NONE", "OPEN"):
-        made.append(operator("POST /ops/companies", {"id": name, "name": "MILL STREET", "key": KEY} | FULL))
+    made += [registered(name) for name in ("DUE", "EACH", "NONE", "OPEN")]
     made += [submission("OPEN", f"D{at}", SIZE, True, SECOND) for at in range(max(open_entries, 2 * RETURNS) // SIZE)]
     made += [operator("POST /ops/cut")]
     made += [submission("DUE", f"S{at}", SIZE, True, SECOND) for at in range(10)]
     made += [submission("EACH", f"S{at}", 1, True, SECOND) for at in range(100)]
     return made
+
+
+def registered(name):
+    return operator("POST /ops/companies", {"id": name, "name": "MILL STREET", "key": KEY} | FULL)
+
+
+def one_more(name):
+    """A company with an open entry."""
+    return [registered(name), submission(name, "M", 1, True, FAR)]
 
 
 def exposure(name):
@@ -98,6 +107,8 @@ def calls():
         (None, [submission("NONE", f"H{at}", SIZE, False, FAR) for at in range(HELD // SIZE)] + [submission("EACH", "Y", 1, True, FOURTH)], 1),
         (f"GET status, more than {HELD:,} entries held", [operator("GET /ops/status")] * 3, 3),
         (f"cut of 1 entry, more than {HELD:,} others held", [operator("POST /ops/cut")], 1),
+        (None, [message for at in range(MORE) for message in one_more(f"MORE{at:03}")] + [operator("GET /ops/companies")], 1),
+        (f"GET companies, one of {MORE}", [operator("GET /ops/companies")] * 3, 3 * MORE),
     ]
 
 

@@ -1,6 +1,6 @@
-//! The public names of the desk, each from the crate in which whoever builds on the desk looks for it, and
-//! each method once. Where a crate no longer passes one on, this does not compile. Other tests take their
-//! calls from here, and what none of them calls is called below.
+//! The public names of the desk, each from the crate in which a programmer looks for it, and each method
+//! once. If a crate no longer exports one, this does not compile. Other tests import their names from here;
+//! names that no other test uses are used below.
 use crate::commands::PAY_1;
 use crate::commands::PAY_1_LINE;
 use crate::commands::lists::OPTIONS;

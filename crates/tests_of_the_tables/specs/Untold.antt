@@ -1,4 +1,4 @@
--- A layout for which no body has to say what it makes, so that the tests alone show it.
+-- A layout whose bodies promise nothing about their writes: only the tests check them.
 use Rattle.std.specs.Prelude.{[]}
 use Rattle.sql_statements.specs.Layouts.{Layout}
 

@@ -130,7 +130,7 @@ const NONE: Rate = Rate {
     over: false,
 };
 
-/// A company of which each value is another.
+/// A company whose values are all different.
 fn lake(rt: &impl Abort) -> CompanyRisk {
     let today = day(rt, b"2025-01-14");
     CompanyRisk {

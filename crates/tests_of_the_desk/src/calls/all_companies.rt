@@ -56,8 +56,8 @@ fn holds_always(rt: &(impl Abort + Alloc<A = Global>), script: Script) {
     holds_restarted(rt, script);
 }
 
-// Two companies, of which the desk was asked about one. What is sent has not settled yet, and counts
-// in no rate, until the 17th.
+// Two companies; the desk was asked about one of them. Sent entries settle on the 17th, and count in no
+// rate before.
 const HELD_AND_SENT: Script = &[
     ("desk companies", "NoDay"),
     HOLIDAYS,
@@ -99,8 +99,8 @@ fn all_companies_with_what_is_sent(rt: HostRuntime) {
     holds_always(&rt, HELD_AND_SENT);
 }
 
-// A returned credit counts in no rate. What settled on the 17th is exposed through the 17th if it is a
-// credit, and through the 22nd if it is a debit, or the 23rd if the 22nd is a holiday too.
+// A returned credit counts in no rate. A credit that settled on the 17th is exposed through the 17th, and
+// a debit through the 22nd, or the 23rd if the 22nd is a holiday too.
 const RETURNED: Script = &[
     HOLIDAYS,
     MILL,
@@ -198,7 +198,7 @@ fn all_companies_after_a_retry_lapsed(rt: HostRuntime) {
 }
 
 // The 60 days that end on March 13 begin on January 13, and those that end on March 14 on the 14th:
-// what settled or came back on the 13th no longer counts then.
+// entries that settled or were returned on the 13th no longer count then.
 const WINDOW: Script = &[
     MILL,
     BAKE,
@@ -341,6 +341,6 @@ const ONE_ASKED: Script = &[
 ];
 
 #[test]
-fn all_companies_where_one_was_asked(rt: HostRuntime) {
+fn all_companies_after_one_was_asked_about(rt: HostRuntime) {
     holds_always(&rt, ONE_ASKED);
 }

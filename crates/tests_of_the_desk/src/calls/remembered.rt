@@ -1,5 +1,5 @@
-//! What a store remembers: each question is asked of the store inside once, and the next question after
-//! a write sees what it wrote.
+//! Stores that remember: they ask the inner store each question once, and the next question after a write
+//! sees the new value.
 use super::calls::COMPANY_DIGEST;
 use super::script::{
     BAKE, DAY, HOLIDAYS, MILL, NINTH, PAY_1, Script, follow, holds, holds_remembering, new_lists,
@@ -79,7 +79,7 @@ fn a_question_is_asked_once(rt: HostRuntime) {
     }
 }
 
-// A company is registered after the store said that there is none, and has new limits.
+// A company is registered after the store answered that it does not exist, and gets new limits.
 const COMPANIES: Script = &[
     DAY,
     ("BAKE01 submit B credit 2025-01-10 091000019 1", "NoCompany"),

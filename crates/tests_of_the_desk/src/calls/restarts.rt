@@ -6,8 +6,8 @@ use desk_core::{Desk, Store};
 use std::alloc::Global;
 use std::process::Abort;
 
-// Follows a script over a store that remembers. Before the line at this place, that store is made anew
-// around the same store inside, and remembers nothing.
+// Follows a script over a store that remembers. Before the line at this place, it is replaced by a new
+// one around the same inner store, which remembers nothing.
 fn follow_restarted<S: Store + Drop>(
     rt: &(impl Abort + Alloc<A = Global>),
     store: S,

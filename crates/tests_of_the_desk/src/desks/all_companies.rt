@@ -1,4 +1,4 @@
-//! What the operator reads of all companies.
+//! The operator's list of all companies, over HTTP.
 use super::exchanges::{all_hold, follow, http_desk};
 use super::own_rows::{body_of, own_list};
 use super::samples::{

@@ -17,7 +17,7 @@ fn patience() -> Duration {
     Duration::from_millis(100)
 }
 
-// How a service of so many connections ends.
+// Serves this number of connections, and returns how that ends.
 fn serve_all<S: Store, L: Listener + Drop>(
     rt: &impl Alloc<A = Global>,
     desk: &mut HttpDesk<S>,
@@ -74,7 +74,7 @@ fn answer_of(rt: &(impl Abort + Alloc<A = Global>), client: TcpStream) -> Vec<u8
     out
 }
 
-// A desk of one company serves so many connections.
+// A desk of one company serves this number of connections.
 fn serve_mill(rt: &(impl Abort + Alloc<A = Global>), listener: TcpListener, connections: u64) {
     let mut desk = http_desk(rt, new_lists(rt));
     follow(rt, &mut desk, "a company", COMPANY);
@@ -194,7 +194,7 @@ impl<'a> OpenListener for BareListener<'a> {
     }
 }
 
-// What a client gets that sends nothing over a bare connection.
+// Returns the bytes that a client gets if it connects and sends nothing.
 fn answer_over(
     rt: &(impl Abort + Alloc<A = Global> + Net<Listener = TcpListener, Stream = TcpStream>),
     waits_at_most: bool,

@@ -15,7 +15,7 @@ const LOOK_UP_1: Exchange = (
     r#"{"cents":150000,"day":"2025-01-10","direction":"credit","entries":[{"cents":150000,"index":1,"state":"held"}],"order":1,"ref":"PAY-1","sec":"PPD"}"#,
 );
 
-// A new desk is sent a submission, and so many bytes of the answer are taken.
+// Sends a submission to a new desk, and takes this number of bytes of the answer.
 fn is_done_and_answered_again(
     rt: &(impl Abort + Alloc<A = Global>),
     input: &[u8],

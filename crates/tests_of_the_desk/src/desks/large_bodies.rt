@@ -8,7 +8,7 @@ use std::process::Abort;
 
 const MOST: usize = 4_194_304;
 
-// The text, filled to the most bytes with such a byte, which says nothing there.
+// Fills a text to the largest allowed size with a byte that has no meaning there.
 fn filled(rt: &(impl Abort + Alloc<A = Global>), text: &str, byte: char) -> String {
     let mut body = String::from_str(rt.alloc(), text).ok().expect(rt, "memory");
     for _ in body.len()..MOST {

@@ -29,7 +29,7 @@ const CASES: &[(&[u8], &[&[u8]])] = &[
 ];
 
 #[test]
-fn ends_where_a_message_asks_for_it(rt: HostRuntime) {
+fn ends_if_a_message_asks_for_it(rt: HostRuntime) {
     for &(head, answers) in CASES {
         let texts: [&[u8]; 4] = [b"GET /ops/suspense?close ", head, b"\r\n", GET];
         ends_over_pieces(&rt, &texts, usize::MAX, Ended::Closed, answers);

@@ -207,8 +207,8 @@ impl Run {
     }
 }
 
-/// Interruptions of the reader and of the writer, and the text that a failing run prints; if there
-/// is none, the run gives its answer.
+/// Interruptions of the reader and of the writer, and the text that a failing run prints; without
+/// one, the run gives its answer.
 const INTERRUPTIONS: &[(u32, u32, Option<&str>)] = &[
     (0, 0, None),
     (1_000, 0, None),

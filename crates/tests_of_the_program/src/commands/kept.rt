@@ -54,7 +54,7 @@ fn a_submission_is_taken_once_over_sessions_that_sync_once(rt: HostRuntime) -> R
             "{messages:?}"
         );
     }
-    // What they leave, a session that syncs twice finds.
+    // A session that syncs twice finds what they left.
     assert!(rt;
         answers(
             &rt,

@@ -38,7 +38,7 @@ fn answers_days(host: &HostRuntime, rt: &impl Abort, path: &str) -> bool {
     prints(host, &command, &input, Status::Done, &wanted)
 }
 
-// What the desk in this file tells, where all is told.
+// Returns the answers of the desk in this file.
 fn told(host: &HostRuntime, rt: &impl Abort, path: &str) -> Result<Vec<u8>, Fail> {
     let mut input = Vec::new(host.alloc());
     let reads = DAYS.messages.len().saturating_sub(2);

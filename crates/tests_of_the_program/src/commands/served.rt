@@ -1,5 +1,5 @@
-//! A desk that is served on loopback alone, and desks that cannot be served, each told as the command says.
-//! What a desk answers that is served, clients of other make show (`judge/clients.py`).
+//! A desk that is served on the loopback address only, and desks that cannot be served, with the messages of
+//! the command. `judge/clients.py` tests the answers of a served desk by other clients.
 use super::desks::{SAMPLE_BANK, clear, is_absent, is_made};
 use super::{NOBODY, prints};
 use desk_cli::{Command, InitOptions, ServeOptions, Status, Syncs, run};
@@ -8,7 +8,7 @@ use std::net::{Ipv4Addr, OpenListener, TcpListener, TcpStream};
 use std::test::Fail;
 use std::{fs, io};
 
-// `serve` of this file on this port, for so many connections.
+// `serve` of this file on this port, for this number of connections.
 fn serve(path: &str, port: u16, connections: u32) -> Command<'_> {
     let options = ServeOptions {
         port,
@@ -59,7 +59,7 @@ const ASKED: &[u8] = b"GET /nowhere HTTP/1.1\r\nConnection: close\r\n\r\n";
 const NOT_FOUND: &[u8] =
     b"HTTP/1.1 404 Not Found\r\nContent-Type: application/json\r\nContent-Length: 20\r\nConnection: close\r\n\r\n{\"error\":\"NotFound\"}";
 
-// Standard output of which somebody reads where the desk listens, and calls it there.
+// Standard output whose reader learns there where the desk listens, and connects to it.
 #[derive(Drop)]
 struct Caller<'a> {
     rt: &'a HostRuntime,
@@ -134,7 +134,8 @@ const ASKS: &str =
 const NO_RETURNS: &str =
     "HTTP/1.1 200 OK\r\nContent-Type: application/json\r\nContent-Length: 14\r\nConnection: close\r\n\r\n{\"returns\":[]}";
 
-// Standard output of which two clients read where the desk listens, and call it there, one after the other.
+// Standard output whose reader learns there where the desk listens. Two clients then connect to it, one
+// after the other.
 #[derive(Drop)]
 struct Callers<'a> {
     rt: &'a HostRuntime,

@@ -43,7 +43,7 @@ pub(super) enum Which {
 pub(super) enum Harm {
     /// Its machine stops after a number of calls.
     Stops,
-    /// After a number of writes there is no room for this many.
+    /// After a number of writes, this many find no room.
     HasNoRoom(u64),
 }
 

@@ -13,7 +13,7 @@ use std::fs;
 use std::process::Abort;
 use std::test::Fail;
 
-/// What is done with the file at a path.
+/// How the file at a path is opened.
 #[derive(Clone, Copy)]
 pub(crate) enum Way {
     Create,

@@ -4,7 +4,7 @@ use sqlite::{Connection, Row};
 use std::alloc::{AllocError, Global};
 use std::test::Fail;
 
-// The query of these columns, one of which has another value.
+// A query for these columns, one of which has a different value.
 fn query(
     alloc: Global,
     columns: &[&str],
