@@ -1,4 +1,4 @@
--- What each answer keeps true of a history is true of each history that may be found.
+-- If each answer keeps a property of a history, each history that may be found has it.
 use Rattle.std.proofs.Common.{◌≡◌, sym, subst, ℕ, List, [], ◌∷◌, inl, inr}
 use Rattle.std.specs.Prelude.{◌⊎◌, Option, Some, None}
 use Rattle.desk_history.specs.Message.{Message}

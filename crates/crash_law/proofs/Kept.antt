@@ -1,4 +1,4 @@
--- What was answered stands in each history that may be found.
+-- Each history that may be found has the answered messages.
 use Rattle.std.proofs.Common.{◌≡◌, refl, sym, subst, ℕ, suc, List, [], ◌∷◌, arith}
 use Rattle.std.specs.Prelude.{Any, Option}
 use Rattle.std.specs.List.{AllByRecursion}

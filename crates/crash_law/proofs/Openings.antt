@@ -1,4 +1,4 @@
--- A new desk, and one that was adopted or migrated, begin as the laws of crashes presume.
+-- New, adopted and migrated desks begin as the laws of crashes require.
 use Rattle.std.proofs.Common.{◌≡◌, ◌∙◌, sym, ap, subst, List, [], IsTrue}
 use Rattle.std.proofs.Math.Logic.{∥∥₁_map}
 use Rattle.sqlite_disk.specs.declared.Disk as disk

@@ -1,4 +1,4 @@
--- What a desk stands for after messages, and what a crash may leave then.
+-- Which history a desk represents after messages, and what a crash may leave then.
 use Rattle.std.proofs.Common.{◌≡◌, ◌∙◌, refl, sym, ap, subst, ℕ, List, [], ◌∷◌, inl, inr}
 use Rattle.std.specs.Prelude.{◌⊎◌, IsFalse, Option, Some, None, option_map, Result, Ok, Err, Vec}
 use Rattle.std.specs.declared.alloc.Global.{Global}
@@ -33,7 +33,7 @@ module _ {Kept : Type 0} (keeps : Kept → Book → Type 0) (version : Version) 
   found_one h after xs k is (inr more) = (more.0, (after, is, inr more.1), more.2)
 
   module _ (tells : BookTells) (leave : ReadsLeave) (are : CallsAreHistory) where
-    -- where the book stays, so does what keeps it
+    -- if the book stays the same, so does what keeps it
     still : (h now : DeskHistory) (P Q : MessageValue → Type 0) (k : Kept) → book_after now ≡ book_after h → ((v : MessageValue) → P v → Q v) → KeepsOne h P k → KeepsOne now Q k
     still h now P Q k same weaker (inl kept) = inl (subst (keeps k) (sym same) kept)
     still h now P Q k same weaker (inr more) =

@@ -1,4 +1,4 @@
--- What a crash leaves of the store of a desk that took messages, and what stands after it is opened again or migrated.
+-- What a crash leaves of a desk's store, and which history the store represents after it is opened again or migrated.
 use Rattle.std.specs.Prelude.{◌≡◌, ◌⊎◌, ℕ, List, [], ◌∷◌, Option, Some, None, Result, Ok, Err, Vec, IsFalse}
 use Rattle.std.specs.declared.alloc.Global.{Global}
 use Rattle.desk_history.specs.Message.{Message}
@@ -14,7 +14,7 @@ use Rattle.http_history.specs.Versions.{Version, First, Present, MeansAt}
 use Rattle.desk_http.specs.Answering.{DeskHistory, StandsBehind, GoesBytes, LeavesBytes, reads, writes}
 use Rattle.crash_law.specs.Runs.{book_after, with_taken, IsAfter, MayBeFound, MayBeFoundLater}
 
--- the bytes of an answer, where there is one
+-- the bytes of an answer, if there is one
 abbrev pub answer_in : Result (Vec ℕ Global) Unavailable → Option (List ℕ)
 answer_in (Ok bytes) = Some bytes.items
 answer_in (Err fault) = None
@@ -53,7 +53,7 @@ module _ {S Kept : Type 0} (holds : S → Book → Type 0) (keeps : Kept → Boo
   TakesBy First = TakesFirst
   TakesBy Present = Takes
 
-  -- and messages do so one after another, of which the newest stands first
+  -- messages do so one after another; the newest comes first
   abbrev pub TakesAll : Version → (start : S) → List Exchange → (end : S) → Type 0
   TakesAll version start [] end = start ≡ end
   TakesAll version start (x ∷ xs) end = (before : S) × TakesAll version start xs before × TakesBy version before x end
@@ -81,7 +81,7 @@ module _ {S Kept : Type 0} (holds : S → Book → Type 0) (keeps : Kept → Boo
     pub held : (b : Book) → keeps k b → holds s b
     pub left : (b : Book) (j : Kept) → keeps k b → may_leave s j → keeps j b
 
-  -- the store stands for the history of what was answered, or for that with one pending message more
+  -- the store represents the history of the answered messages, or that history with one pending message more
   abbrev pub StandsAfterCrash : Type 0
   StandsAfterCrash =
       (version : Version) (h : DeskHistory) (start end now : S) (xs : List Exchange) (k : Kept) → IsSettled h start → TakesAll version start xs end → may_leave end k → IsReopened k now
@@ -109,7 +109,7 @@ pub record IsFirstHistory (h : DeskHistory) : Type 0 where
 module _ {F FirstKept S Kept : Type 0}
     (first_holds : F → Book → Type 0) (first_keeps : FirstKept → Book → Type 0) (first_may_leave : F → FirstKept → Type 0)
     (holds : S → Book → Type 0) (keeps : Kept → Book → Type 0) (may_leave : S → Kept → Type 0) where
-  -- a store was migrated from what a desk of version 1 left: it holds the book of each history of such a desk that this
+  -- a store was migrated from what a desk of version 1 left: it holds the book of each history of version 1 that this
   -- keeps, and so does what the next crash leaves
   pub record IsMigrated (k : FirstKept) (s : S) : Type 0 where
     pub held : (h : DeskHistory) → IsFirstHistory h → first_keeps k (book_after h) → holds s (book_after h)
@@ -122,8 +122,8 @@ module _ {F FirstKept S Kept : Type 0}
       × Lives first_holds first_keeps first_may_leave First start earlier begun × TakesAll first_holds first_keeps first_may_leave First begun last end × first_may_leave end k
       × IsMigrated k migrated × Lives holds keeps may_leave Present migrated lives now
 
-  -- The store stands for the history of what was answered over all lives, with at most one pending message more for each
-  -- crash: those before the migration as a desk of version 1 read them.
+  -- The store represents the history of the messages answered in all lives, with at most one pending message more for each
+  -- crash. Messages before the migration are as a desk of version 1 read them.
   abbrev pub StandsAfterMigration : Type 0
   StandsAfterMigration =
       (h : DeskHistory) (start : F) (now : S) (earlier : List (List Exchange)) (last : List Exchange) (lives : List (List Exchange))

@@ -13,7 +13,7 @@ use Rattle.desk_http.specs.Answering.{DeskHistory, IsAnswered, reads, writes}
 abbrev pub book_after : DeskHistory → Book
 book_after h = book_behind h.identity h.key h.pairs
 
--- ---- what was answered
+-- ---- answered messages
 
 -- the history with a message more, which a desk of this version took
 abbrev pub with_taken : Version → DeskHistory → MessageValue → (answer : List ℕ) → Option Message → DeskHistory
@@ -32,12 +32,12 @@ abbrev pub IsAnsweredBy : Version → DeskHistory → MessageValue → (bytes : 
 IsAnsweredBy First = IsFirstAnswered
 IsAnsweredBy Present = IsAnswered
 
--- the history with those messages that were answered; 503 is no answer
+-- the history with the answered messages; 503 does not count as an answer
 abbrev pub IsAfter : Version → DeskHistory → List Exchange → DeskHistory → Type 0
 IsAfter version h [] after = after ≡ h
 IsAfter version h (x ∷ xs) after = (before : DeskHistory) × IsAfter version h xs before × StepsWith (IsAnsweredBy version) before x.message x.answer after
 
--- ---- what was not
+-- ---- messages without an answer
 
 -- what comes after this history is a message that writes nothing, or is not answered
 abbrev pub WritesNothing : Version → DeskHistory → MessageValue → (answer : Option (List ℕ)) → Type 0
@@ -48,20 +48,20 @@ WritesNothing version h v (Some answer) = (means : Option Message) × MeansAt ve
 abbrev pub IsNoRead : Version → DeskHistory → MessageValue → Type 0
 IsNoRead version h v = (means : Option Message) × MeansAt version (verdict_on (book_after h) v) means × IsFalse (reads means)
 
--- a message is pending: it is no read and was not answered, and none that was answered since wrote
+-- a message is pending: it is not a read, it was not answered, and no message answered after it wrote anything
 abbrev pub IsPending : Version → DeskHistory → List Exchange → MessageValue → Type 0
 IsPending version h [] v = ⊥
 IsPending version h (x ∷ xs) v =
     ((x.message ≡ v) × (x.answer ≡ None) × (before : DeskHistory) × IsAfter version h xs before × IsNoRead version before v)
     ⊎ (IsPending version h xs v × (before : DeskHistory) × IsAfter version h xs before × WritesNothing version before x.message x.answer)
 
--- ---- what may be found after a crash
+-- ---- after a crash
 
 -- the history with one message more, as if that had been answered
 abbrev pub IsOneMore : Version → DeskHistory → (Pending : MessageValue → Type 0) → DeskHistory → Type 0
 IsOneMore version h Pending more = (v : MessageValue) × (answer : List ℕ) × Pending v × IsAnsweredBy version h v answer more
 
--- the history of what was answered, or that with one pending message more
+-- the history of the answered messages, or that history with one pending message more
 abbrev pub MayBeFound : Version → DeskHistory → List Exchange → DeskHistory → Type 0
 MayBeFound version h xs found = (after : DeskHistory) × IsAfter version h xs after × ((found ≡ after) ⊎ IsOneMore version after (IsPending version h xs) found)
 
@@ -70,13 +70,13 @@ abbrev pub MayBeFoundLater : Version → DeskHistory → List (List Exchange) �
 MayBeFoundLater version h [] found = found ≡ h
 MayBeFoundLater version h (xs ∷ lives) found = (begun : DeskHistory) × MayBeFoundLater version h lives begun × MayBeFound version begun xs found
 
--- ---- what is not lost
+-- ---- nothing is lost
 
--- a message that was answered stands in the history with its answer
+-- the history has an answered message with its answer
 abbrev pub IsKept : Version → DeskHistory → Exchange → Type 0
 IsKept version h x = (answer : List ℕ) → x.answer ≡ Some answer → Any (λ p. (p.origin ≡ taken_by version x.message) × (p.answer ≡ answer)) h.pairs
 
--- whatever may be found later, each message of each life does, and what stood in the history before these lives does
+-- so it has each message of each life, whatever is found later, and it keeps what it had before these lives
 pub record NothingIsLost : Type 0 where
   pub stands : (version : Version) (h found : DeskHistory) (lives : List (List Exchange)) → MayBeFoundLater version h lives found → AllByRecursion (AllByRecursion (IsKept version found)) lives
   pub stays : (version later : Version) (h found : DeskHistory) (lives : List (List Exchange)) (x : Exchange) → IsKept version h x → MayBeFoundLater later h lives found → IsKept version found x

@@ -1,9 +1,9 @@
-//! What a crash leaves of a desk: the history of the messages that were answered, or that with one
-//! message more. It is a law over the clauses of `desk_http::answer`, and has no code.
+//! After a crash a desk represents the history of the messages that it answered, or that history with one
+//! message more. This crate has laws over the clauses of `desk_http::answer`, and no code.
 //!
-//! A message is pending that is no read and was not answered, or answered 503, and since which no
-//! message that was answered wrote. A crash may come at any moment, also in the middle of a message: that
-//! one was then not answered. What is opened after it stands for all that was answered, or for that with
+//! A message is pending if it is not a read, it was not answered or was answered 503, and no message
+//! answered after it wrote anything. A crash may come at any moment, also in the middle of a message, which
+//! was then not answered. The desk that is opened afterwards represents all answered messages, or these and
 //! one pending message, as if it had been answered.
 #![tactic(auto)]
 
