@@ -1,4 +1,4 @@
--- What each command makes of the files that it is given, what it prints, and how it ends.
+-- What each command does with its files, what it prints, and how it ends.
 use Rattle.std.specs.Prelude.{◌≡◌, ◌≢◌, ◌⊎◌, ℕ, List, Option, None, IsSomeAnd, string_bytes}
 use Rattle.sqlite_disk.specs.declared.Disk as disk
 use Rattle.io_retries.specs.Written.{IsCutOff, IsWritten}
@@ -31,7 +31,7 @@ use Rattle.desk_cli.specs.Paths.{IsMigratedAt, IsOfOptions, IsOpenedAt}
 use Rattle.desk_cli.specs.ReadFiles.{ChecksAt, FailsToCheckAt, FailsToSubmitAt, SubmitsAt}
 use Rattle.desk_cli.specs.ServedFiles.{FailsToServeFile, FileServes}
 
--- What was asked of the files, from `old` to `new`: of the command's own path, and of no other. A command that asks for no
+-- What was asked of the files, from `old` to `new`: of the command's own path, and of no other. A command that needs no
 -- desk's file opened none.
 abbrev pub TellsOfFile : {F D Q : Type 0} → files.Ghosts F D Q → (d : disk.Ghosts D) → (old : F) → Command
     → (opened : Option (Given d)) → (new : F) → Type 0
@@ -45,7 +45,8 @@ TellsOfFile f d old (Serve path options) opened new = IsSomeAnd opened (λ given
 TellsOfFile f d old (Migrate path) opened new = IsSomeAnd opened (λ given. IsMigratedAt f d old path.now given new)
 
 -- What a command prints and how it ends, over these files, this network, this reader and this writer: `f`, `n`, `r` and `w`
--- say what each does, `q` what a file does that is read, and `l`, `c`, `s` and `t` what is bound and accepted on the network.
+-- have the facts of each, `q` those of a file that is read, and `l`, `c`, `s` and `t` those of what is bound and accepted on
+-- the network.
 module _ {F D Q N L S R W : Type 0} (f : files.Ghosts F D Q) (d : disk.Ghosts D) (q : source.Ghosts Q)
     (n : network.Ghosts N L S) (l : listener.Ghosts L S) (c : connection.Ghosts S) (s : source.Ghosts S) (t : sink.Ghosts S)
     (r : source.Ghosts R) (w : sink.Ghosts W) (files : F) (network : N) (reader : R) where

@@ -1,4 +1,4 @@
--- What the command prints that makes a new desk.
+-- What `init` prints.
 use Rattle.std.specs.Prelude.{◌≡◌, ℕ, Bool, true, false, List, codes, Option, MatchOption, MatchResult, Err}
 use Rattle.sqlite_disk.specs.declared.Disk.{Ghosts}
 use Rattle.io_retries.specs.Written.{IsCutOff}

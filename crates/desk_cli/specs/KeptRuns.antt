@@ -21,17 +21,17 @@ use Rattle.desk_cli.specs.OpenFaults.{FailsToSayFault, SaysFault}
 abbrev pub IsKeptIn : (held : Image) → DeskHistory → Type 0
 IsKeptIn held h = (db : Trees) × HoldsDatabase held db × StandsBehind (Keeps db) h
 
--- a connection sees the tables of a desk that stands for this history
+-- a connection sees the tables of a desk that represents this history
 abbrev pub StandsInTables : (now : State) → DeskHistory → Type 0
 StandsInTables now = StandsBehind (Sees now)
 
--- what a call gives that opens files: the connection, or why there is none
+-- the result of a call that opens files: the connection, or the refusal
 abbrev pub Given : {D : Type 0} → disk.Ghosts D → Type 0
 Given {D} g = Result (Held (FileStore D g)) (Refusal D g)
 
 module _ {R W : Type 0} (r : source.Ghosts R) (reader : R) (w : sink.Ghosts W) (old new : W) where
-  -- The desk answered from each of the histories for which it stood. Its tables then stand for that history with the
-  -- messages that were answered, if the disk is clean.
+  -- The desk answered from each of the histories that it represented. If the disk is clean, its tables then represent that
+  -- history with the answered messages.
   abbrev pub TablesAnswer : (stood : DeskHistory → Type 0) → (now : State) → Status → Type 0
   TablesAnswer stood now status = HasAnsweredFrom (HasCleanDisk now) stood (StandsInTables now) r reader w old new status
 

@@ -1,4 +1,4 @@
--- What the command prints that makes a desk's file of version 1 one of version 2.
+-- What `migrate` prints.
 use Rattle.std.specs.Prelude.{ℕ, Bool, true, List, codes, MatchResult}
 use Rattle.sqlite_disk.specs.declared.Disk.{Ghosts}
 use Rattle.io_retries.specs.Written.{IsCutOff}

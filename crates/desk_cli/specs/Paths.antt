@@ -1,5 +1,5 @@
--- What a command asked of the files, told of its path. `f` has the facts of the files' calls, and `d` says what a desk's file
--- does once it is open. From `old` to `new` the files were asked for this, and for nothing else.
+-- What a command asked of the files, by its path. `f` has the facts of the files' calls, and `d` those of an open desk's file.
+-- From `old` to `new` the files were asked for this, and for nothing else.
 use Rattle.std.specs.Prelude.{◌≡◌, ℕ, List, Option, MatchOption, MatchResult, Ok, Err}
 use Rattle.sha2.specs.Sha256.{sha256}
 use Rattle.sqlite.specs.Files.{file_state}
@@ -19,12 +19,12 @@ use Rattle.cli_commands.specs.declared.new_identity.OptionFault.{OptionFault}
 use Rattle.desk_cli.specs.KeptRuns.{Given}
 
 module _ {F D Q : Type 0} (f : files.Ghosts F D Q) (d : disk.Ghosts D) where
-  -- the desk at this path was opened, of which that was said, and its connection is left so
+  -- the desk at this path, for which that was reported, was opened, and its connection is left so
   abbrev pub ComesOf : (old : F) → (path : List ℕ) → Presence → (left : Held (FileStore D d)) → (new : F) → Type 0
   ComesOf old path presence left new =
       (was : Held (FileStore D d)) × f.opens old path presence d was new × (HasCleanDisk (file_state left) → HasCleanDisk (file_state was))
 
-  -- the desk at this path was refused, of which that was said
+  -- the desk at this path, for which that was reported, was refused
   abbrev pub IsRefusedAt : (old : F) → (path : List ℕ) → Presence → (why : Refusal D d) → (new : F) → Type 0
   IsRefusedAt old path presence why new =
       f.fails_to_open old path presence d why new × RefusesDesk f.is_fresh (f.holds old path) presence why
@@ -41,8 +41,7 @@ module _ {F D Q : Type 0} (f : files.Ghosts F D Q) (d : disk.Ghosts D) where
       MatchResult given (λ c. f.creates old path identity key d c new × IfCleanFiles (IsMadeIn (f.holds old path) identity key) c)
       (λ why. f.fails_to_create old path identity key d why new × RefusesNew f.is_fresh (f.holds old path) (leaves_new identity key) why)
 
-  -- Where the options are good, a desk was asked for of the bank and with the digest of the key that they say; where one is
-  -- bad, nothing was.
+  -- If the options are good, a desk was asked for with their bank and the digest of their key; if one is bad, nothing was.
   abbrev pub IsOfOptions : (old : F) → (path : List ℕ) → InitTexts → Option (Given d) → (new : F) → Type 0
   IsOfOptions old path t given new =
       MatchOption given ((fault : OptionFault) × (identity_of t ≡ Err fault) × (new ≡ old))

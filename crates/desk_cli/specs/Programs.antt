@@ -1,4 +1,4 @@
--- What the program does by its words.
+-- What the program's words make it do.
 use Rattle.std.specs.Prelude.{◌≡◌, ◌≢◌, ℕ, ⊤, List, drop, map, Result, Ok, Err, Vec, String, codes, string_bytes}
 use Rattle.std.specs.Borrow.{Bor}
 use Rattle.std.specs.IoError.{error_kind}
@@ -22,9 +22,9 @@ use Rattle.desk_cli.specs.Commands.{PrintsLineFault}
 abbrev pub words_in : List (Bor (List ℕ)) → List Text
 words_in words = map (λ w. w.now) words
 
--- `Runs` says what a command does that is run and ends so
+-- `Runs` has what a command does that ends with this status
 module _ {W : Type 0} (w : sink.Ghosts W) (Runs : Command → (old new : W) → Status → Type 0) (old new : W) where
-  -- the command that the words give is run, and the exit status says how it ended; or why they give none is printed
+  -- the command that the words give is run, and the exit status is that of its end; or the reason why they give none is printed
   abbrev pub DoesRead : Result Command LineFault → (code : ℕ) → Type 0
   DoesRead (Ok command) code = (status : Status) × (code ≡ code_of status) × Runs command old new status
   DoesRead (Err fault) code = PrintsLineFault fault w old new code
@@ -33,29 +33,29 @@ module _ {W : Type 0} (w : sink.Ghosts W) (Runs : Command → (old new : W) → 
   abbrev pub RunsWords : (words : List Text) → (code : ℕ) → Type 0
   RunsWords words code = (read : Result Command LineFault) × GivesAt words read × DoesRead read code
 
-  -- The words that the program was started with are its name, which asks for nothing, and those that are run. If they could
-  -- not be read, the fault is printed, or a write of it failed.
+  -- The words that the program was started with are its name and those that are run. If they could not be read, the fault is
+  -- printed, or the write of it failed.
   abbrev pub RunsStarted : Result (Vec (String Global) Global) LineFault → (code : ℕ) → Type 0
   RunsStarted (Ok words) code = RunsWords (map string_bytes (drop 1 words.items)) code
   RunsStarted (Err fault) code = PrintsLineFault fault w old new code
 
 -- ---- the words that the program was started with
 
--- what is told where a word is not UTF-8
+-- the fault if a word is not UTF-8
 abbrev pub not_text : List ℕ
 not_text = codes "error: a word of the command line is not UTF-8\n"
 
--- usage that tells it, or memory ran out
+-- that fault of usage, or memory ran out
 abbrev pub IsNotTextFault : LineFault → Type 0
 IsNotTextFault (Usage text) = string_bytes text ≡ not_text
 IsNotTextFault NoMemory = ⊤
 IsNotTextFault _ = ⊥
 
--- where the system gives no words, a word is not UTF-8 exactly where it says that data are invalid
+-- if the system gives no words, a word is not UTF-8 exactly if the system reports invalid data
 abbrev pub IsFaultOfWords : ErrorKind → LineFault → Type 0
 IsFaultOfWords kind fault = (kind ≡ InvalidData → IsNotTextFault fault) × (kind ≢ InvalidData → fault ≡ NoMemory)
 
--- the words are those that the system gives, in their order; or why they could not be had
+-- the words are those that the system gives, in their order; or the reason why there are none
 abbrev pub GivesStarted : Result (IntoIter (String Global) Global) Error → Result (Vec (String Global) Global) LineFault → Type 0
 GivesStarted (Ok words) (Ok found) = found.items ≡ into_iter_items words
 GivesStarted (Ok words) (Err fault) = fault ≡ NoMemory

@@ -1,4 +1,4 @@
--- The commands that read a file which is no desk's: it was opened at this path, or could not be.
+-- The commands that read a file which is not a desk's: it was opened at this path, or could not be opened.
 use Rattle.std.specs.Prelude.{◌⊎◌, ℕ, List}
 use Rattle.sql_files.specs.declared.desk_files.DeskFiles as files
 use Rattle.io_retries.specs.declared.sink.Sink as sink

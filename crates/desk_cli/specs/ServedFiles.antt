@@ -19,7 +19,7 @@ use Rattle.cli_commands.specs.declared.status.Status.TheVariants.{Failed}
 use Rattle.desk_cli.specs.KeptRuns.{Given, IsKeptIn, StandsInTables}
 use Rattle.desk_cli.specs.OpenFaults.{FailsToSayFault, SaysFault}
 
--- The tables of a desk stand for each of these histories with the messages that were answered since, if the disk is clean.
+-- If the disk is clean, the tables of a desk represent each of these histories with the messages that were answered since.
 abbrev pub AreServedTables : (stood : DeskHistory → Type 0) → (now : State) → List Exchange → Type 0
 AreServedTables stood now exchanges = StandsAfter IsAnswered (HasCleanDisk now) stood (StandsInTables now) exchanges
 

@@ -14,11 +14,11 @@ use io_retries::{Sink, Source, Tries};
 use sql_files::{Closes, DeskFiles, Opened};
 use std::alloc::Global;
 
-/// Carries out a command, which reads what it needs of the reader and prints to the writer, over files and a
-/// network, and closes what it opened.
+/// Carries out a command over files and a network, and closes what it opened. The command reads from the
+/// reader and prints to the writer.
 ///
-/// If a file cannot be opened or read, it prints `unavailable`. A session prints its answers alone. By the
-/// clause the promise is that of `run_from`, of what was then given back to the files.
+/// If a file cannot be opened or read, it prints `unavailable`. A session prints only its answers. The clause
+/// is that of `run_from`, for the connection or refusal whose files were then closed.
 pub fn run_over<F, N: Network, R: Source + Drop, W: Sink>(
     alloc: Global,
     files: &mut F,
@@ -39,13 +39,12 @@ where
     status
 }
 
-/// Carries out a command over files and a network, and gives what it opened: the connection, or the refusal.
-/// This is the theorem of the program.
+/// Carries out a command over files and a network, and returns what it opened: the connection, or the
+/// refusal. Its contract is the theorem of the program.
 ///
-/// By the clause `file` the command's own path was looked at, and the desk there opened, made or migrated, as
-/// the command says, and nothing else was asked of the files. By `answered` and `failed` what was printed is
-/// by that connection, or it is the fault of that refusal; and `serve` bound its port, and accepted as many
-/// connections as it says.
+/// By the clause `file` the command looked at its own path, opened, made or migrated the desk there, and asked
+/// nothing else of the files. By `answered` and `failed` that connection gave what was printed, or what was
+/// printed is the fault of that refusal; `serve` bound its port, and accepted the given number of connections.
 pub fn run_from<F: DeskFiles, N: Network, R: Source + Drop, W: Sink>(
     alloc: Global,
     files: &mut F,

@@ -14,14 +14,14 @@ use sha2::{Digest, Sha256};
 use sql_files::{Connection, DeskFiles, FileStore, Opened, Refusal};
 use std::alloc::Global;
 
-/// This line is printed of a new desk.
+/// The line that is printed after a new desk was made.
 const CREATED: &[u8; 8] = b"created\n";
 
-/// Makes a new desk in the file at a path, prints `created`, and gives the connection.
+/// Makes a new desk in the file at a path, prints `created`, and returns the connection.
 ///
-/// If the file has a table `desk` already, it prints `Exists`; if the file cannot be opened or has something
-/// else in it, or memory runs out, `unavailable`. That is the fault of the refusal that it gives. If an option
-/// is bad, it prints the first, as `bad odfi`, and asks for no file.
+/// It prints `Exists` if the file already has a table `desk`, and `unavailable` if the file cannot be opened or
+/// has other contents, or if memory runs out; this is the fault of the refusal that it returns. If an option is
+/// bad, it prints the first bad one, as `bad odfi`, and opens no file.
 pub fn make_desk<F: DeskFiles, W: Sink>(
     alloc: Global,
     files: &mut F,

@@ -13,16 +13,15 @@ use sql_store::SqlStore;
 use sqlite::Alter;
 use std::alloc::Global;
 
-/// Answers the messages that a reader's bytes spell, in one session, by the desk in the file at a path,
-/// and gives the connection to it, or why there is none.
+/// Answers the messages that a reader's bytes spell, in one session, by the desk in the file at a path.
+/// Returns the connection to the file, or the refusal of the file.
 ///
-/// The command ends as `answer_messages` says. If the file is not opened as a desk, it prints `NotADesk`,
-/// `WrongVersion 9` or `unavailable`, which is the fault of the refusal that it gives, and there is no
-/// session.
+/// The command ends as `answer_messages` says. If the file is not opened as a desk, it prints the fault of
+/// the refusal that it returns, `NotADesk`, `WrongVersion 9` or `unavailable`, and has no session.
 ///
 /// By the clauses each answer is the text of its message after those before it, for every history whose
-/// book the file kept. The tables that the connection sees then stand for that history with these messages
-/// and no other, if its disk is clean.
+/// book the file kept. If the disk is clean, the tables that the connection then sees represent that history
+/// with these messages and no other.
 pub fn answer_by_file<F: DeskFiles, R: Source + Drop, W: Sink>(
     alloc: Global,
     files: &mut F,
@@ -49,8 +48,8 @@ pub fn answer_by_file<F: DeskFiles, R: Source + Drop, W: Sink>(
     }
 }
 
-// The same by the desk in the tables of a connection. That they are those of files is left out here, so
-// that the prover does not compare the store's calls with those of so long a type.
+// The same by the desk in the tables of a connection, over any storage, so that the prover does not
+// compare the store's calls at the long type of a store in files.
 fn answer_by_tables<P: Alter + Drop, R: Source + Drop, W: Sink>(
     alloc: Global,
     conn: Connection<P>,

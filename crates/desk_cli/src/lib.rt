@@ -1,6 +1,5 @@
-//! This crate is the program `achdesk`: which command its words ask for, how a desk that a file keeps is
-//! made, answers messages, is served on a port and is brought from one version to the next, and the exit
-//! status.
+//! This crate is the program `achdesk`: the command that its words name, desks in files that are made,
+//! answer messages, are served on a port and are migrated to the next version, and the exit status.
 #![tactic(auto)]
 
 mod dispatch;

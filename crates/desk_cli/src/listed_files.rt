@@ -1,4 +1,4 @@
-//! The commands that read a file that is no desk's.
+//! The commands that read a file which is not a desk's.
 ghost use Rattle.cli_commands.specs.Endings.{IfAnswered, IfFailed};
 ghost use Rattle.desk_cli.specs.ReadFiles.{ChecksAt, FailsToCheckAt, FailsToSubmitAt, SubmitsAt};
 
@@ -8,7 +8,7 @@ use io_retries::{Sink, Tries};
 use sql_files::DeskFiles;
 use std::alloc::Global;
 
-/// Checks the incoming file at a path. Where it cannot be opened, `unavailable` is printed.
+/// Checks the incoming file at a path. If it cannot be opened, `unavailable` is printed.
 pub(crate) fn check_at<F: DeskFiles, W: Sink>(
     alloc: Global,
     files: &F,
@@ -26,7 +26,7 @@ pub(crate) fn check_at<F: DeskFiles, W: Sink>(
     }
 }
 
-/// Makes the message of the list at a path. Where it cannot be opened, `unavailable` is printed.
+/// Makes the message of the list at a path. If it cannot be opened, `unavailable` is printed.
 pub(crate) fn submit_at<F: DeskFiles, W: Sink>(
     alloc: Global,
     files: &F,

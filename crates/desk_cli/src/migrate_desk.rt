@@ -1,4 +1,4 @@
-//! The command that makes a desk's file of version 1 one of version 2.
+//! The command that migrates a desk's file from version 1 to version 2.
 ghost use Rattle.cli_commands.specs.Endings.{IfAnswered, IfFailed};
 ghost use Rattle.desk_cli.specs.MigrationRuns.{FailsToSayWhetherMigrated, SaysWhetherMigrated};
 ghost use Rattle.desk_cli.specs.Paths.{IsMigratedAt};
@@ -9,14 +9,14 @@ use io_retries::Sink;
 use sql_files::{Connection, DeskFiles, FileStore, Refusal};
 use std::alloc::Global;
 
-/// This line is printed of a file that was migrated.
+/// The line that is printed after a migration.
 const MIGRATED: &[u8; 16] = b"migrated 1 to 2\n";
 
-/// Makes the desk's file of version 1 at a path one of version 2, prints `migrated 1 to 2`, and gives the
+/// Migrates the desk's file at a path from version 1 to version 2, prints `migrated 1 to 2`, and returns the
 /// connection.
 ///
-/// If the file is no desk's of version 1, it prints `NotADesk`, `WrongVersion 2` or `unavailable`, which is
-/// the fault of the refusal that it gives.
+/// If the file is not that of a desk of version 1, it prints the fault of the refusal that it returns:
+/// `NotADesk`, `WrongVersion 2` or `unavailable`.
 pub fn migrate_by_file<F: DeskFiles, W: Sink>(
     alloc: Global,
     files: &mut F,

@@ -1,4 +1,4 @@
-//! The line that is printed of a file that is not opened as a desk.
+//! The line that is printed if a file is not opened as a desk.
 ghost use Rattle.std.specs.Prelude.{◌≡◌, IfOk, IfSome, Some, string_bytes};
 ghost use Rattle.cli_commands.specs.Endings.{IfAnswered, IfFailed};
 ghost use Rattle.desk_cli.specs.OpenFaults.{fault_text, IsFaultAnswer, SaysFault, FailsToSayFault};
@@ -9,7 +9,7 @@ use sql_files::OpenFault;
 use std::alloc::{AllocError, Global};
 
 /// Prints why a file is not opened as a desk: `NotADesk`, `WrongVersion 9`, `Exists` or `unavailable`.
-/// Where memory for the line runs out, it prints `unavailable`.
+/// Without memory for the line it prints `unavailable`.
 pub fn print_open_fault<W: Sink>(alloc: Global, writer: &mut W, fault: OpenFault) -> Status
     ensures answered { IfAnswered result W.Sink writer.old writer.new (SaysFault fault) }
     ensures failed { IfFailed result W.Sink writer.old writer.new (FailsToSayFault fault) }
@@ -17,7 +17,7 @@ pub fn print_open_fault<W: Sink>(alloc: Global, writer: &mut W, fault: OpenFault
     print_answer(writer, &fault_answer(alloc, fault), Tries::new())
 }
 
-// The line of a fault that has one, if there is memory for it.
+// The line of a fault, if it has one and there is memory for it.
 fn fault_answer(alloc: Global, fault: OpenFault) -> Option<(bool, Vec<u8>)>
     ensures { IfSome result (IsFaultAnswer fault) }
 {

@@ -1,4 +1,4 @@
-//! The program: the words that it was started with, and what they ask for.
+//! The program: its words, and the commands that they name.
 ghost use Rattle.std.specs.Prelude.{◌≡◌, ◌≢◌, ◌≤◌, [], drop, map, IfOk, IfErr, OnErr, string_bytes};
 ghost use Rattle.std.specs.Vec.Iter.{into_iter_items};
 ghost use Rattle.desk_cli.specs.Commands.{RunsHere, RunsSynced};
@@ -20,12 +20,12 @@ use std::{env, io};
 
 /// Carries out a command as `run_over` does, over the files and the network of the host.
 ///
-/// A desk's file is opened as the command's syncs ask. `Wary` syncs each commit twice and assumes nothing of
-/// a write that a power failure cuts off. `Unknown` syncs it once and assumes that each byte of such a write
-/// is the old one or the new one.
+/// The command's `Syncs` say how a desk's file is opened. `Wary` syncs each commit twice and assumes nothing
+/// about a write that a power failure interrupts. `Unknown` syncs once and assumes that each byte of such a
+/// write is the old one or the new one.
 ///
-/// No contract knows what the host's files hold, and the facts of its files and its network say nothing. What
-/// is promised for all files and networks is the contract of `run_over`.
+/// No contract knows the contents of the host's files, and the facts of its files and its network are empty.
+/// The contract of `run_over` states the promise for all files and networks.
 pub fn run<R: Source + Drop, W: Sink>(
     rt: &HostRuntime,
     command: &Command<'_>,
@@ -47,7 +47,7 @@ pub fn run<R: Source + Drop, W: Sink>(
     }
 }
 
-// Carries out a command over the host's files, which are opened as this start says.
+// Carries out a command over the host's files, which are opened by this start.
 fn run_here<S: HostStart, R: Source + Drop, W: Sink>(
     rt: &HostRuntime,
     start: S,
@@ -71,8 +71,8 @@ fn run_here<S: HostStart, R: Source + Drop, W: Sink>(
     )
 }
 
-/// Does what the words after the program's name ask for, over this reader and writer, and gives the
-/// exit status.
+/// Carries out the command that the words after the program's name give, over this reader and writer, and
+/// returns the exit status.
 pub fn run_words<R: Source + Drop, W: Sink>(
     rt: &HostRuntime,
     words: &[&str],
@@ -96,9 +96,9 @@ pub fn run_words<R: Source + Drop, W: Sink>(
     }
 }
 
-/// Does what the words that the program was started with ask for, over this reader and writer, and
-/// gives the exit status. The first word is the program's name, and asks for nothing. If the words
-/// could not be read, it prints the fault, or a write of it failed and the status is 3.
+/// Carries out the command that the program's words give, over this reader and writer, and returns the exit
+/// status. The first word is the program's name. If the words could not be read, it prints the fault, or the
+/// write of it failed and the status is 3.
 pub fn run_started<R: Source + Drop, W: Sink>(
     rt: &HostRuntime,
     started: Result<Vec<String>, LineFault>,
@@ -126,7 +126,7 @@ pub fn run_started<R: Source + Drop, W: Sink>(
     }
 }
 
-// The texts of all words but the first. No such words take no memory.
+// The texts of all words but the first. If there are none, this takes no memory.
 fn texts_after_name<'a>(alloc: Global, words: &'a [String]) -> Result<Vec<&'a str>, AllocError>
     ensures texts { IfOk result
         (λ texts. words_in texts.items ≡ map string_bytes (drop 1 words.now)) }
@@ -142,10 +142,10 @@ fn texts_after_name<'a>(alloc: Global, words: &'a [String]) -> Result<Vec<&'a st
     Ok(texts)
 }
 
-/// Does what the program's own words ask for, over standard input and output, and gives the exit
-/// status.
+/// Carries out the command that the program's own words give, over standard input and output, and returns
+/// the exit status.
 ///
-/// No contract knows the words, nor what the two hold: what is done with them is the promise of
+/// No contract knows the words, or what standard input and output have. The promises are those of
 /// `started_words` and `run_started`, which this function joins.
 pub fn run_program(rt: &HostRuntime) -> u8
     ensures { result ≤ 3 }
@@ -154,9 +154,9 @@ pub fn run_program(rt: &HostRuntime) -> u8
     run_started(rt, started, rt.reader(), &mut io::writer(rt))
 }
 
-/// Gives the words that the program was started with, its name first, where the system gave them.
+/// Returns the words that the program was started with, its name first.
 ///
-/// The words cannot be had where one is not UTF-8, which is wrong usage, or where memory runs out.
+/// There is an error if a word is not UTF-8, which is wrong usage, or if memory runs out.
 pub fn started_words(alloc: Global, given: io::Result<Args>) -> Result<Vec<String>, LineFault>
     ensures { GivesStarted given result }
 {

@@ -17,16 +17,16 @@ use sql_store::SqlStore;
 use sqlite::Alter;
 use std::alloc::Global;
 
-/// Serves the desk in the file at a path on a port of 127.0.0.1, one connection after another, each a
-/// session of its own, and gives the connection to the file, or why there is none.
+/// Serves the desk in the file at a path on a port of 127.0.0.1: one connection after another, each with a
+/// session of its own. Returns the connection to the file, or the refusal of the file.
 ///
-/// Once it listens it prints `listening on 127.0.0.1:8080`. It is done after as many connections as the
-/// options say. If the file is not opened as a desk, it prints `NotADesk`, `WrongVersion 9` or
-/// `unavailable`, which is the fault of the refusal that it gives. If the port cannot be had, or a
-/// connection cannot be accepted, it prints `unavailable`.
+/// When it listens it prints `listening on 127.0.0.1:8080`. It ends after the number of connections in the
+/// options. If the file is not opened as a desk, it prints the fault of the refusal that it returns:
+/// `NotADesk`, `WrongVersion 9` or `unavailable`. If the port cannot be bound, or a connection cannot be
+/// accepted, it prints `unavailable`.
 ///
-/// By the clauses the tables that the connection sees stand for each history whose book the file kept, with
-/// the messages that were answered since, each by its text, if its disk is clean.
+/// By the clauses, if the disk is clean, the tables that the connection then sees represent each history
+/// whose book the file kept, with the messages that were answered since, each by its text.
 pub fn serve_by_file<F: DeskFiles, N: Network, W: Sink>(
     alloc: Global,
     files: &mut F,
@@ -56,7 +56,7 @@ pub fn serve_by_file<F: DeskFiles, N: Network, W: Sink>(
     }
 }
 
-// The same by the desk in the tables of a connection, whichever files they are in.
+// The same by the desk in the tables of a connection, over any files.
 fn serve_by_tables<N: Network, P: Alter + Drop, W: Sink>(
     alloc: Global,
     network: &N,

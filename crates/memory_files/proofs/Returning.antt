@@ -1,4 +1,4 @@
--- Files that were given out come back to their path.
+-- Files that were given out are put back at their path.
 use Rattle.std.proofs.Common.{◌≡◌, ◌≢◌, ◌∙◌, ℕ, Bool, true, false, List, Option, Some, None, IsSome, IsSomeAnd, MatchOption, Result, Ok, Err, refl, sym, ap, subst}
 use Rattle.std.proofs.lemmas.Slice.Eq.{bytes_eq-Decides}
 use Rattle.std.specs.Str.{bytes_eq}

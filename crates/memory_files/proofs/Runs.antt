@@ -1,4 +1,4 @@
--- What a command was given of files in memory comes back.
+-- The files in memory that a command was given are put back.
 use Rattle.std.proofs.Common.{◌≡◌, List, ℕ, Option, Some, None, IsSomeAnd, Ok, Err, refl}
 use Rattle.sqlite_disk.specs.contracts.memory.MemoryDisk.TheImpl as disk
 use Rattle.cli_words.specs.InitOptions.{init_texts_of, InitTexts}

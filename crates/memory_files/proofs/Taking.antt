@@ -1,4 +1,4 @@
--- What is taken out of files in memory, and what a connection to it finds.
+-- Files that are taken out of memory, and what a connection to them finds.
 use Rattle.std.proofs.Common.{◌≡◌, ◌∙◌, ℕ, List, [], Option, Some, None, Result, Ok, Err, IfOk, IfErr, sym, ap, subst}
 use Rattle.sqlite_disk.specs.Memory.{memory_bytes}
 use Rattle.sqlite_disk.specs.declared.Disk as disk

@@ -1,4 +1,4 @@
--- What files in memory hold, by their paths.
+-- The bytes of files in memory, by their paths.
 use Rattle.std.specs.Prelude.{◌≡◌, ◌==◌, ℕ, zero, suc, Bool, cond, true, false, List, [], ◌∷◌, length, Option, Some, None, IsTrue, string_bytes}
 use Rattle.std.specs.Str.{bytes_eq}
 use Rattle.sqlite_disk.specs.Memory.{memory_bytes, memory_is_usable}
@@ -41,18 +41,18 @@ bytes_of kept = record { log = memory_bytes kept.log; db = memory_bytes kept.db 
 abbrev pub IsUsable : Memory → Type 0
 IsUsable file = IsTrue (memory_is_usable file)
 
--- These files are kept: each as it is, and if a sync of it has failed, as a crash leaves it. `d` says what a file in memory does.
+-- These files are kept: each as it is, or as a crash leaves it if a sync of it has failed. `d` has the facts of a file in memory.
 pub record IsKeptOf (d : disk.Ghosts Memory) (files : Files Memory) (kept : KeptFiles) : Type 0 where
   pub log : IsUsable files.log → kept.log ≡ files.log
   pub db : IsUsable files.db → kept.db ≡ files.db
   pub left : outcomes d files.log files.db (bytes_of kept)
 
--- the bytes that a path has, which are none where there are no files
+-- the bytes at a path, if there are files
 abbrev pub bytes_at : Option KeptFiles → Image
 bytes_at None = record { log = []; db = [] }
 bytes_at (Some kept) = bytes_of kept
 
--- what is said of a path: there is a file that is not empty, or nothing
+-- the report on a path: there is a file that is not empty, or nothing
 abbrev pub presence_of : Option KeptFiles → Presence
 presence_of None = Nothing
 presence_of (Some kept) = cond (length (memory_bytes kept.db) == 0) Nothing File

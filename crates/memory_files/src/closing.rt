@@ -1,5 +1,4 @@
-//! What was opened of files in memory is closed, and its files come back to the place that they were given
-//! out of.
+//! A connection to files in memory is closed, and its files return to the place that they were taken from.
 ghost use Rattle.memory_files.specs.Opening.{PutsBack};
 
 use crate::kept_files::KeptFiles;

@@ -4,7 +4,7 @@ ghost use Rattle.sqlite_disk.specs.Memory.{memory_is_usable};
 
 use sqlite_disk::{Crash, Disk, Files, Memory};
 
-/// The log and the database file of a desk, of which no sync has failed.
+/// The log and the database file of a desk. No sync of them has failed.
 #[derive(Drop)]
 pub struct KeptFiles {
     pub log: Memory,
@@ -16,7 +16,7 @@ pub struct KeptFiles {
 impl KeptFiles {
     ghost use Rattle.memory_files.specs.Kept.{IsKeptOf};
 
-    /// Keeps files that were closed. One of which a sync has failed is kept as a crash leaves it.
+    /// Keeps files that were closed. If a sync of one has failed, it is kept as a crash leaves it.
     pub(crate) fn left(files: Files<Memory>) -> KeptFiles
         ensures { IsKeptOf ⟦<Memory as Disk>⟧ files result }
     {
@@ -38,7 +38,7 @@ impl KeptFiles {
     }
 }
 
-// A file of which a sync has failed is as a crash leaves it.
+// A file as a crash leaves it, if a sync of it has failed.
 fn usable(file: Memory) -> Memory
     ensures same { IsTrue (memory_is_usable file) → result ≡ file }
     ensures left { ⟦<Memory as Disk>⟧.may_leave file (⟦<Memory as Disk>⟧.seen result) }

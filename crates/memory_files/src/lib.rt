@@ -1,7 +1,7 @@
-//! Files in memory. What they hold are known bytes: those of the desks, by their paths, and those of the
-//! files that are only read.
+//! Files in memory, whose bytes are known: those of desks, by their paths, and those of files that are only
+//! read.
 //!
-//! It shows that what the program promises of all files is not empty: of these it says which bytes a
+//! They show that the program's promise for all files is not empty: for these files it states which bytes a
 //! command reads, and which it leaves.
 #![tactic(auto)]
 

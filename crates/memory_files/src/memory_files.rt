@@ -17,14 +17,14 @@ pub struct MemoryFiles<'a> {
     pub others: &'a [OtherFile<'a>],
     /// The files of desks.
     pub places: Vec<Place>,
-    /// The place whose files were given out last, and did not come back.
+    /// The place whose files were given out last and are not back.
     pub opened: Option<usize>,
 }
 
 impl<'a> MemoryFiles<'a> {
     ghost use Rattle.std.specs.Prelude.{◌≡◌, [], None};
 
-    /// Gives files in memory with no desk, where these others can be read.
+    /// Returns files in memory without a desk; these other files can be read.
     pub fn new(alloc: Global, others: &'a [OtherFile<'a>]) -> MemoryFiles<'a>
         ensures others { result.others ≡ others.entry }
         ensures places { result.places.items ≡ [] }

@@ -1,4 +1,4 @@
-//! Files in memory have desks.
+//! Desks in files in memory are opened, made and migrated.
 ghost use Rattle.std.specs.Prelude.{◌≡◌, IsSome, IsTrue, IfOk, IfErr, IfSome, MatchOption, MatchResult, None, option_copied};
 ghost use Rattle.sqlite.specs.Files.{file_state, image_of, FailsToOpenFiles, IsCleanLeft, IsOpened, LeavesFiles};
 ghost use Rattle.sqlite.specs.Start.{FindsIn};
@@ -57,7 +57,7 @@ impl MemoryFiles<'_> {
         Some(kept.into_files())
     }
 
-    // Gives out the files at a path, or new ones where there are none.
+    // Gives out the files at a path, or new ones if there are none.
     fn take_or_make(&mut self, path: &str) -> Result<Files<Memory>, AllocError>
         ensures taken { MatchResult result
             (λ files. TakesOut self.old path.now files self.new)

@@ -37,7 +37,7 @@ pub(crate) fn exchange(
     mem::replace(&mut places[at].files, files)
 }
 
-/// Gives the place of a path. Where there is none, one with no files is added.
+/// Returns the place of a path, after adding one without files if there is none.
 pub(crate) fn add_place(
     alloc: Global,
     places: &mut Vec<Place>,

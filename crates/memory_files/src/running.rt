@@ -12,9 +12,9 @@ use std::alloc::Global;
 
 /// Carries out a command over files in memory, as `run_over` does, and returns its status.
 ///
-/// The facts of these files are their bytes. So the clause `runs` says which bytes a command found at its
-/// path, and which are there afterwards: those that the close of its connection left, or if it was refused,
-/// those of the refusal. By `kept` no path loses its files, whatever the command and its status.
+/// The facts of these files are their bytes. The clause `runs` states which bytes a command found at its path,
+/// and which are there afterwards: those that the close of its connection left, or those of the refusal. By
+/// `kept` no path loses its files, whatever the command and its status.
 pub fn run_in_memory<N: Network, R: Source + Drop, W: Sink>(
     alloc: Global,
     files: &mut MemoryFiles<'_>,
