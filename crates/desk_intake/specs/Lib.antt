@@ -1,3 +1,4 @@
+pub mod EntryKeys
 pub mod OverStores
 pub mod Plans
 pub mod Resolutions

@@ -1,61 +1,65 @@
 //! The entries that the items of a file returned so far.
-ghost use Rattle.std.specs.Prelude.{◌≡◌, ◌≤◌, ◌-◌, [], ◌++◌, IfOk, length, replicate};
+ghost use Rattle.std.specs.Prelude.{◌≡◌, ◌++◌, [], IfOk};
+ghost use Rattle.std.specs.Cmp.{partial_equiv_from_equiv};
+ghost use Rattle.std.specs.Hash as fed;
+ghost use Rattle.desk_intake.specs.EntryKeys.{is_same_key, same_key_equiv, same_key_hash};
 ghost use Rattle.desk_intake.specs.ReturnedEntries.{AddsEntry, HasEntries, key_of};
 
+use ach_fields::{Id, Ref};
 use desk_history::SentEntry;
 use std::alloc::{AllocError, Global};
-use std::collections::BTreeSet;
+use std::collections::HashSet;
+use std::hash::{Hash, Hasher};
 
-/// An `EntryKey` names an entry by its number in its submission, and by its company and reference.
-/// The texts are padded with zeros.
-#[derive(Clone, Copy, Debug, PartialEq, Eq, PartialOrd, Ord, Drop)]
+/// An entry by its company, its submission's reference and its number in the submission.
+#[derive(Clone, Copy, Drop)]
 pub(crate) struct EntryKey {
-    // The number comes first, because it mostly tells two keys apart in one comparison.
+    pub company: Id,
+    pub reference: Ref,
     pub index: u64,
-    pub company: [u8; 10],
-    pub company_len: usize,
-    pub reference: [u8; 20],
-    pub reference_len: usize,
 }
 
-fn with_zeros_after<const N: usize>(text: &[u8]) -> [u8; N]
-    requires { length text.now ≤ N }
-    ensures { result ≡ text.now ++ replicate (N - length text.now) 0 }
-{
-    let mut cells = [0; N];
-    cells[..text.len()].copy_from_slice(text);
-    cells
+impl PartialEq for EntryKey {
+    ghost eq = { is_same_key };
+
+    ghost laws = { partial_equiv_from_equiv same_key_equiv };
+
+    fn eq(&self, other: &EntryKey) -> bool {
+        self.company.bytes() == other.company.bytes()
+            && self.reference.bytes() == other.reference.bytes()
+            && self.index == other.index
+    }
 }
 
-impl EntryKey {
-    fn of(entry: &SentEntry) -> EntryKey
-        ensures { result ≡ key_of entry.now }
-    {
-        let company = entry.company.bytes();
-        let reference = entry.reference.bytes();
-        EntryKey {
-            index: entry.index,
-            company: with_zeros_after(company),
-            company_len: company.len(),
-            reference: with_zeros_after(reference),
-            reference_len: reference.len(),
-        }
+impl Eq for EntryKey {
+    ghost laws = { same_key_equiv };
+}
+
+impl Hash for EntryKey {
+    ghost hash_input = { λ k. fed.slice fed.u8 k.company ++ fed.slice fed.u8 k.reference ++ fed.u64 k.index };
+
+    ghost respects_eq = { same_key_hash };
+
+    fn hash<H: Hasher>(&self, state: &mut H) {
+        self.company.bytes().hash(state);
+        self.reference.bytes().hash(state);
+        state.write_u64(self.index);
     }
 }
 
 /// Returned entries.
 #[derive(Drop)]
 pub(crate) struct ReturnedEntries {
-    keys: BTreeSet<EntryKey>,
+    keys: HashSet<EntryKey>,
 }
 
 impl ReturnedEntries {
-    /// Makes a list of none.
+    /// Returns a list of none.
     pub(crate) fn new(alloc: Global) -> ReturnedEntries
         ensures { HasEntries result [] }
     {
         ReturnedEntries {
-            keys: BTreeSet::new(alloc),
+            keys: HashSet::new(alloc),
         }
     }
 
@@ -63,7 +67,11 @@ impl ReturnedEntries {
     pub(crate) fn add(&mut self, entry: &SentEntry) -> Result<bool, AllocError>
         ensures { IfOk result (AddsEntry self.old self.new entry.now) }
     {
-        let is_new = self.keys.insert(EntryKey::of(entry))?;
+        let is_new = self.keys.insert(EntryKey {
+            company: entry.company,
+            reference: entry.reference,
+            index: entry.index,
+        })?;
         Ok(is_new)
     }
 }

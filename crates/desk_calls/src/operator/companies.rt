@@ -43,7 +43,7 @@ fn risks_of<S: Store>(
 ) -> Result<Vec<CompanyRisk>, StoreFault>
     ensures { GivesList S.Store store.old store.new result (risks day companies.now) }
 {
-    let mut found = Vec::new(alloc);
+    let mut found = Vec::with_capacity(alloc, companies.len())?;
     for company in companies {
         let risk = risk_of(store, alloc, day, company)?;
         found.push(risk)?;

@@ -46,7 +46,17 @@ returns-in_err-risk g c =
     record {
       before = λ clean. c.loop-company.invariant.before (c.risk_of.ensures.before clean);
       read = λ clean.
-          let p = err_from_is_err_and c.from_residual.result c.from_residual.ensures.1 in
+          let p = err_from_is_err_and c.from_residual-in_err-risk.result c.from_residual-in_err-risk.ensures.1 in
           rw p.1 (λ b held. c.in_err-risk.ensures.read clean b (c.loop-company.invariant.read (c.risk_of.ensures.before clean) b held).1);
       left = λ clean kept may. c.loop-company.invariant.left (c.risk_of.ensures.before clean) kept (c.risk_of.ensures.left clean kept may);
+    }
+
+pub returns-in_err-found : goal.returns-in_err-found
+returns-in_err-found g c =
+    record {
+      before = λ clean. clean;
+      read = λ clean.
+          let p = err_from_is_err_and c.from_residual.result c.from_residual.ensures.1 in
+          rw p.1 (λ b held. held);
+      left = λ clean kept may. may;
     }
