@@ -1,4 +1,4 @@
--- The answer to a submission's body, without a desk: whether it is accepted, and the text that says so.
+-- The answer to a submission's body, without a desk: whether it is accepted, and the text.
 use Rattle.std.specs.Prelude.{◌≡◌, ℕ, Bool, true, false, List, length, codes, Option, Some, None, Result, Ok, Err, Vec}
 use Rattle.std.specs.declared.alloc.Global.{Global}
 use Rattle.serde_json.specs.Data.{Data}

@@ -1,4 +1,4 @@
--- What holds of a command that answered, and of one that failed, by its writer before and after.
+-- A command that answered, and one that failed, by its writer before and after.
 use Rattle.std.specs.Prelude.{◌≡◌, ◌≢◌}
 use Rattle.io_retries.specs.declared.sink.Sink as sink
 use Rattle.cli_commands.specs.declared.status.Status.{Status}

@@ -1,4 +1,4 @@
--- What the reader of files has taken when its pieces end, or why they stop.
+-- The state of the reader of files after the last piece of an input, or the reason why reading stopped.
 use Rattle.std.specs.Prelude.{◌≡◌, ℕ, List, ◌++◌, Option, Result, Ok, Err}
 use Rattle.ach_files.specs.Has.{HasRead}
 use Rattle.ach_files.specs.FirstFault.{fault, Tells}

@@ -1,4 +1,4 @@
--- The answer to an incoming file: whether it has no fault, and the line that says what it has.
+-- The answer to an incoming file: whether it has no fault, and the line with its counts or its fault.
 use Rattle.std.specs.Prelude.{◌≡◌, ◌⊎◌, ℕ, Bool, true, false, not, List, ◌++◌, count_by, decimal, Option, Some, codes, Vec}
 use Rattle.std.specs.declared.alloc.Global.{Global}
 use Rattle.ach_files.specs.Facts.{FileFacts}
@@ -31,7 +31,7 @@ change_count items = count_by (λ i. is_change i.return_or_change) items
 abbrev pub return_count : List ItemFacts → ℕ
 return_count items = count_by (λ i. not (is_change i.return_or_change)) items
 
--- The bytes are a file with so many returns and changes, or have this fault. No bytes have two verdicts.
+-- The bytes are a file with these numbers of returns and changes, or have this fault. No bytes have two verdicts.
 abbrev pub IsVerdict : (bytes : List ℕ) → Verdict → Type 0
 IsVerdict bytes (Fine r c) = (facts : FileFacts) × IsReadAs bytes facts × (r ≡ return_count facts.items) × (c ≡ change_count facts.items)
 IsVerdict bytes (Faulty f) = fault bytes ≡ Some f

@@ -1,4 +1,4 @@
--- What a command prints of its answer, and the status that it ends with.
+-- How a command prints its answer, and the status with which it ends.
 use Rattle.std.specs.Prelude.{◌≡◌, Option, None, Some, ℕ, Bool, List, [], ◌∷◌, ◌++◌, if◌then◌else◌, codes, Vec}
 use Rattle.std.specs.declared.alloc.Global.{Global}
 use Rattle.io_retries.specs.Written.{IsCutOff, IsWritten, IsWrittenOrCutOff}

@@ -1,5 +1,5 @@
--- What a command says that serves on a port: what was bound, how many connections were served, and what was printed. `n`
--- says what a network bound, `p` what is printed to; the others are those of `http_session.specs.Serving`.
+-- The promises of a command that serves on a port: what was bound, how many connections were served, and what was printed.
+-- `n` has the facts of a network's listeners, `p` those of the writer; the others are those of `http_session.specs.Serving`.
 use Rattle.std.specs.Prelude.{◌≡◌, ◌⊎◌, ℕ, Bool, true, ◌*◌, List, [], ◌++◌, codes, Result, Ok, Err}
 use Rattle.std.specs.Duration.{as_nanos}
 use Rattle.std.specs.Fmt.{decimal}
@@ -30,8 +30,8 @@ listening_answer port = with_line_feed (true, listening_text port)
 
 module _ {L S : Type 0} (l : listener.Ghosts L S) (c : connection.Ghosts S) (r : source.Ghosts S) (w : sink.Ghosts S)
     {P : Type 0} (p : sink.Ghosts P) (options : ServeOptions) (Stands : List Exchange → Type 0) where
-  -- As many connections were served as the options say, with their patience, or fewer until one could not be accepted. What
-  -- answers stands for all messages of these sessions.
+  -- The number of connections in the options was served, with their patience, or fewer until one could not be accepted. The
+  -- answerer represents all messages of these sessions.
   pub record ServesAsTold (old new : L) (result : Result (Unit {0}) ServeFault) : Type 0 where
     pub patience : Duration
     pub sessions : List (List Exchange)
@@ -39,8 +39,8 @@ module _ {L S : Type 0} (l : listener.Ghosts L S) (c : connection.Ghosts S) (r :
     pub serves : ServesAll l c r w patience options.connections old new result sessions
     pub stands : Stands (all_messages sessions)
 
-  -- How a bound port was served, as the status says. The line that tells where it listens was printed first; if a write of
-  -- it failed, no connection was asked for.
+  -- How a bound port was served, by the status. The line with its address was printed first; if a write of it failed, no
+  -- connection was accepted.
   abbrev pub TellsServed : (line : List ℕ) → (old new : L) → (was printed : P) → Status → Type 0
   TellsServed line old new was printed Done = IsWritten line p was printed × ServesAsTold old new (Ok tt)
   TellsServed line old new was printed Refused = ⊥
@@ -63,7 +63,7 @@ module _ {N L S : Type 0} (n : network.Ghosts N L S) (l : listener.Ghosts L S) (
   TellsPort was printed status =
       ServesPort was printed status ⊎ ((status ≡ Failed) × SaysUnavailable p was printed × Stands [])
 
--- the store that was given back stands for each history for which it stood, with these messages, if it is clean
+-- if the returned store is clean, it represents each history that it represented before, with these messages
 abbrev pub IsServedBy : {S : Type 0} → (g : store.Ghosts S) → (store back : S) → List Exchange → Type 0
 IsServedBy g store back exchanges =
     StandsAfter IsAnswered (g.is_clean back) (StandsBehind (g.holds store)) (StandsBehind (g.holds back)) exchanges

@@ -1,4 +1,4 @@
--- A session with the desk of a store, for each history for which the store stands.
+-- A session with the desk of a store, for each history that the store represents.
 use Rattle.std.specs.Prelude.{◌≡◌, ◌≢◌, ◌⊎◌, Result, Err}
 use Rattle.desk_store.specs.declared.store.Store as store
 use Rattle.io_retries.specs.declared.sink.Sink as sink
@@ -13,14 +13,14 @@ use Rattle.cli_commands.specs.Printing.{SaysUnavailable}
 use Rattle.cli_commands.specs.declared.status.Status.{Status}
 use Rattle.cli_commands.specs.declared.status.Status.TheVariants.{Failed}
 
--- the desk stands for what it stood for, if it is clean
+-- the desk represents what it represented before, if it is clean
 abbrev pub StandsStill : (is_clean : Type 0) → (stood stands : DeskHistory → Type 0) → Type 0
 StandsStill is_clean stood stands = is_clean → (h : DeskHistory) → stood h → stands h
 
 module _ (is_clean : Type 0) (stood stands : DeskHistory → Type 0) {R W : Type 0} (r : source.Ghosts R) (reader : R)
     (w : sink.Ghosts W) (old new : W) where
-  -- A session answered what the reader's bytes spell: for each history for which the desk stood, each answer is the text of
-  -- its message after those before it, and the desk stands for that history with these messages, and no other, if it is clean.
+  -- A session answered the messages of the reader's bytes: for each history that the desk represented, each answer is the text
+  -- of its message after those before it. If the desk is clean, it represents that history with these messages and no other.
   abbrev pub RanFrom : Result Ended SessionFault → Type 0
   RanFrom ended =
       (after : R) × Leaves r w ended after old new

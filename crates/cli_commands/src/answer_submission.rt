@@ -38,7 +38,7 @@ fn input_answer<R: Source + Drop>(alloc: Global, reader: R) -> (Option<(bool, Ve
     (answer_line(alloc, body.as_slice()), tries)
 }
 
-// Whether a body is accepted, and the line that says so.
+// Whether a body is accepted, and the line of its answer.
 fn answer_line(alloc: Global, body: &[u8]) -> Option<(bool, Vec<u8>)>
     ensures { IfSome result (IsAnswer (first_run_line body.now)) }
 {

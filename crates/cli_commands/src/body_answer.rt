@@ -9,7 +9,7 @@ use http_json::{fault_text, put_acceptance, read_object, refusal_text, submissio
 use json::{Scratch, Value};
 use std::alloc::{AllocError, Global};
 
-/// The body of an accepted submission has room for so many bytes.
+/// The most bytes of the answer to an accepted submission.
 const ROOM: usize = 1_024;
 
 /// This error says that the program is out of memory.
@@ -22,11 +22,11 @@ impl From<AllocError> for NoMemory {
     }
 }
 
-/// Tells whether a submission's body is accepted as the first order of a desk with no limits, and
-/// gives the line that says so, without its end.
+/// Returns whether a submission's body is accepted as the first order of a desk with no limits, and the
+/// line of its answer, without its end.
 ///
-/// The body is refused as the first of these: no JSON object (`BadJson`), its first bad field, more than
-/// 1,000 entries, a total of more than 999,999,999,999 cents.
+/// The body is refused for the first of these reasons: it is not a JSON object (`BadJson`), a bad field, more
+/// than 1,000 entries, a total of more than 999,999,999,999 cents.
 pub fn submission_answer(alloc: Global, body: &[u8]) -> Result<(bool, Vec<u8>), NoMemory>
     ensures { IfOk result (IsAnswer (submission_answer body.now)) }
 {

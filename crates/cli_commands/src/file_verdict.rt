@@ -11,20 +11,20 @@ use ach_files::{Fault, FileFault, ItemFacts, Reader, ReturnOrChange};
 use std::alloc::{AllocError, Global};
 use std::io::{Read, Take};
 
-/// At most so many bytes are read at once.
+/// The most bytes that are read at once.
 const PIECE: usize = 65_536;
 
-/// A verdict says what an incoming file has.
+/// The verdict on an incoming file.
 #[derive(Clone, Copy, Debug, PartialEq, Eq)]
 pub enum Verdict {
-    /// The file has so many returns and changes.
+    /// The file has these numbers of returns and changes.
     Fine { returns: usize, changes: usize },
     /// The file has this fault.
     Faulty(Fault),
 }
 
-/// Reads an input to its end, or to the first fault of the file that it should be. It gives `None`
-/// where a read failed or memory ran out.
+/// Reads an input to its end, or to the first fault of the file that it should be. Returns `None` if a read
+/// failed or memory ran out.
 pub fn verdict_of<R: Read>(alloc: Global, input: &mut Take<R>) -> Option<Verdict>
     ensures { IfSome result (IsVerdictOn (take_remaining R.remaining input.old)) }
 {

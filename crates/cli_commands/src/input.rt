@@ -1,4 +1,4 @@
-//! The input of a command, of which no more is read than decides.
+//! The input of a command, which is read no further than the answer needs.
 ghost use Rattle.std.specs.Prelude.{◌≡◌, IfSome};
 ghost use Rattle.std.specs.Io.Take.{take_inner, take_limit};
 ghost use Rattle.cli_commands.specs.Inputs.{bounded, most_read, MayHave};
@@ -7,11 +7,11 @@ use io_retries::{RetryingReader, Source, Tries};
 use std::alloc::Global;
 use std::io::{Read, Take};
 
-/// A body, a list and a file have at most so many bytes.
+/// The most bytes of a body, a list or a file.
 pub const MOST_INPUT: u64 = 4_194_304;
 
-/// Reads an input to its end, or to one byte more than it may have, and gives the tries that are left.
-/// It gives no bytes where a read failed or memory ran out.
+/// Reads an input to its end, or to one byte more than it may have. Returns its bytes, or none if a read
+/// failed or memory ran out, and the tries that are left.
 pub fn read_input<R: Source + Drop>(alloc: Global, reader: R) -> (Option<Vec<u8>>, Tries)
     ensures { IfSome result.0 (λ bytes. MayHave (bounded (R.remaining reader)) bytes.items) }
 {
@@ -25,8 +25,8 @@ pub fn read_input<R: Source + Drop>(alloc: Global, reader: R) -> (Option<Vec<u8>
     }
 }
 
-/// Gives an input of which at most 4,194,305 bytes are read, one more than it may have, and whose
-/// interrupted reads are made again by the tries of a new run.
+/// Returns an input that is read up to 4,194,305 bytes, one more than it may have, and whose interrupted
+/// reads are repeated by the tries of a new run.
 pub fn bounded_input<R: Source>(reader: R) -> Take<RetryingReader<R>>
     ensures inner { (take_inner result).inner ≡ reader }
     ensures limit { take_limit result ≡ most_read }

@@ -14,10 +14,10 @@ use std::alloc::Global;
 
 /// Answers the messages that a reader's bytes spell, in one session, by a new desk of the sample bank.
 ///
-/// The command is done where the input ends between messages, where a message closes the session, and
-/// after 1,000 messages; it is refused where the input ends inside a message, and has failed where a
-/// read or a write fails. A session prints its answers alone. Where memory runs out before it begins,
-/// `unavailable` is printed, and the command has failed.
+/// The command is done if the input ends between messages, if a message closes the session, and after 1,000
+/// messages. It is refused if the input ends inside a message, and has failed if a read or a write fails. A
+/// session prints only its answers. If memory runs out before it begins, it prints `unavailable`, and the
+/// command has failed.
 pub fn answer_messages<R: Source + Drop, W: Sink>(
     alloc: Global,
     reader: R,
@@ -36,7 +36,7 @@ pub fn answer_messages<R: Source + Drop, W: Sink>(
     status_of_session(session(alloc, &mut desk, &mut reader, writer, &mut Tries::new()))
 }
 
-/// Gives how a session ends the command.
+/// Returns how the command ends after a session.
 pub fn status_of_session(ended: Result<Ended, SessionFault>) -> Status
     ensures { result ≡ status_of_session ended }
 {

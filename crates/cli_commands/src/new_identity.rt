@@ -1,4 +1,4 @@
-//! Whose desk a new one is to be, as the options of `init` say.
+//! The bank of a new desk, from the options of `init`.
 ghost use Rattle.std.specs.Prelude.{◌≡◌};
 ghost use Rattle.cli_words.specs.InitOptions.{init_texts_of};
 ghost use Rattle.cli_commands.specs.NewIdentities.{fault_line, identity_of};
@@ -8,23 +8,23 @@ use cli_words::InitOptions;
 use desk_history::{Identity, PartyName};
 use desk_rules::is_key;
 
-/// A fault says which option of a new desk is bad.
+/// The bad option of a new desk.
 #[derive(Clone, Copy, Debug, PartialEq, Eq)]
 pub enum OptionFault {
-    /// The bank's routing number is none.
+    /// The bank's routing number is invalid.
     Odfi,
-    /// The bank's name is none.
+    /// The bank's name is invalid.
     OdfiName,
-    /// The operator's routing number is none.
+    /// The operator's routing number is invalid.
     Destination,
-    /// The operator's name is none.
+    /// The operator's name is invalid.
     DestinationName,
-    /// The key is none.
+    /// The key is invalid.
     Key,
 }
 
 impl OptionFault {
-    /// Gives the line that tells it.
+    /// Returns the line that is printed for it.
     pub fn line(self) -> &'static [u8]
         ensures { result.now ≡ fault_line self }
     {
@@ -38,7 +38,7 @@ impl OptionFault {
     }
 }
 
-/// Gives whose desk it is to be, or the first option that is bad.
+/// Returns the identity of the desk, or the first bad option.
 pub fn identity_of(options: &InitOptions<'_>) -> Result<Identity, OptionFault>
     ensures { result ≡ identity_of (init_texts_of options.now) }
 {

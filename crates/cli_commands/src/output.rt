@@ -12,8 +12,8 @@ use std::io;
 /// This line is printed if a read failed or memory ran out.
 const UNAVAILABLE: &[u8; 12] = b"unavailable\n";
 
-/// Ends the line of an answer, which is whether the input is accepted, and its text. It gives `None`
-/// where memory runs out.
+/// Ends the line of an answer: whether the input is accepted, and the text. Returns `None` if memory runs
+/// out.
 pub fn end_line(is_accepted: bool, mut line: Vec<u8>) -> Option<(bool, Vec<u8>)>
     ensures { IfSome result (IsAnswer (with_line_feed (is_accepted, line.items))) }
 {
@@ -42,8 +42,8 @@ pub fn print_unavailable<W: Sink>(writer: &mut W, tries: Tries) -> Status
     Status::Failed
 }
 
-/// Prints a command's answer, which is whether the input is accepted, and its text; or, where there is
-/// no answer, that a read failed or memory ran out.
+/// Prints a command's answer: whether the input is accepted, and the text. Without an answer, it prints that
+/// a read failed or memory ran out.
 pub fn print_answer<W: Sink>(
     writer: &mut W,
     answer: &Option<(bool, Vec<u8>)>,
@@ -61,7 +61,7 @@ pub fn print_answer<W: Sink>(
     }
 }
 
-/// Prints a line that is known, which says whether the input is accepted.
+/// Prints a line that was given, with whether the input is accepted.
 pub fn print_line<W: Sink>(writer: &mut W, is_accepted: bool, line: &[u8]) -> Status
     ensures printed { IfAnswered result W.Sink writer.old writer.new
         (PrintsAnswer (is_accepted, line.now)) }

@@ -1,4 +1,4 @@
-//! Anything that answers messages is served on a port.
+//! An answerer of messages is served on a port.
 ghost use Rattle.std.specs.Prelude.{IfSome};
 ghost use Rattle.http_session.specs.Sides.{StandsOn};
 ghost use Rattle.cli_commands.specs.BodyAnswers.{IsAnswer};
@@ -12,7 +12,7 @@ use io_retries::{Sink, Tries, write_all_with_retries};
 use std::alloc::Global;
 use std::time::Duration;
 
-/// Serves what answers messages on a port of 127.0.0.1, one connection after another.
+/// Serves an answerer of messages on a port of 127.0.0.1, one connection after another.
 pub(crate) fn serve_on_port<N: Network, D: Answers, W: Sink>(
     alloc: Global,
     network: &N,
@@ -35,7 +35,7 @@ pub(crate) fn serve_on_port<N: Network, D: Answers, W: Sink>(
     serve_and_tell(alloc, desk, &mut listener, options, line.as_slice(), writer)
 }
 
-// Prints the line that tells where the desk listens, and serves its connections.
+// Prints where the desk listens, and serves its connections.
 fn serve_and_tell<D: Answers, L: Listener, W: Sink>(
     alloc: Global,
     desk: &mut D,
@@ -61,7 +61,7 @@ fn serve_and_tell<D: Answers, L: Listener, W: Sink>(
     }
 }
 
-// The line that tells where the desk listens, if there is memory for it.
+// The line with the address on which the desk listens, if there is memory for it.
 fn listening_line(alloc: Global, port: u16) -> Option<(bool, Vec<u8>)>
     ensures { IfSome result (IsAnswer (listening_answer port)) }
 {

@@ -13,15 +13,15 @@ use http_session::Network;
 use io_retries::{Sink, Tries};
 use std::alloc::Global;
 
-/// Serves the desk of a store on a port of 127.0.0.1, one connection after another, each a session of its
-/// own, and returns the store.
+/// Serves the desk of a store on a port of 127.0.0.1: one connection after another, each with a session of its
+/// own. Returns the store.
 ///
-/// Once it listens it prints `listening on 127.0.0.1:8080`. It is done after as many connections as the
-/// options say, and waits no longer for a client than they say. It prints `unavailable` if the port cannot
-/// be had or a connection cannot be accepted.
+/// When it listens it prints `listening on 127.0.0.1:8080`. It ends after the number of connections in the
+/// options, and waits for a client as long as they allow. It prints `unavailable` if the port cannot be bound
+/// or a connection cannot be accepted.
 ///
-/// By `told` the store stands for each history for which it stood, with the messages of the connections
-/// that were accepted, each answered by its text, if it is clean in the end.
+/// By `told`, if the store is clean at the end, it represents each history that it represented before, with the
+/// messages of the accepted connections, each answered by its text.
 pub fn serve_by_store<N: Network, S: Store + Drop, W: Sink>(
     alloc: Global,
     network: &N,

@@ -1,10 +1,10 @@
 //! How a command ends.
 ghost use Rattle.std.specs.Prelude.{◌≡◌};
 
-/// A status says how a command ended.
+/// How a command ended.
 #[derive(Clone, Copy, Debug, PartialEq, Eq, Drop)]
 pub enum Status {
-    /// All is done.
+    /// It did everything.
     Done,
     /// The input was refused, or had a fault.
     Refused,
@@ -15,7 +15,7 @@ pub enum Status {
 impl Status {
     ghost use Rattle.cli_commands.specs.ExitCodes.{code_of};
 
-    /// Gives the exit status of the process: 0, 1 or 3. (2 is for wrong words.)
+    /// Returns the exit status of the process: 0, 1 or 3. (2 is for wrong words.)
     pub fn code(self) -> u8
         ensures { result ≡ code_of self }
     {

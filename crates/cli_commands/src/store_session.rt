@@ -12,12 +12,12 @@ use http_session::session;
 use io_retries::{Sink, Source, Tries};
 use std::alloc::Global;
 
-/// Answers the messages that a reader's bytes spell, in one session, by the desk of a store, and gives the
-/// store back.
+/// Answers the messages that a reader's bytes spell, in one session, by the desk of a store. Returns the
+/// store.
 ///
 /// The command ends as `answer_messages` says. By the clauses each answer is the text of its message after
-/// those before it, for every history for which the store stood, and the store given back stands for that
-/// history with these messages and no other, where it is clean in the end.
+/// those before it, for every history that the store represented. If the returned store is clean, it represents
+/// that history with these messages and no other.
 pub fn answer_by_store<S: Store + Drop, R: Source + Drop, W: Sink>(
     alloc: Global,
     store: S,

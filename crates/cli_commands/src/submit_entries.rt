@@ -12,8 +12,8 @@ use cli_submit::{InputFault, SubmitFault, SubmitOptions, submit_message};
 use io_retries::{Sink, Source, Tries};
 use std::alloc::Global;
 
-/// Reads a list of entries in CSV, and prints the message that hands it to a desk, with nothing after
-/// it; or the line of the first fault of the options and the list, as `row 3: bad cents`.
+/// Reads a list of entries in CSV, and prints the message that submits it to a desk, with nothing after it;
+/// or the line of the first fault of the options and the list, as `row 3: bad cents`.
 ///
 /// At most 4,194,304 bytes are read; one more is `too large`. If a read fails or memory runs out, it prints
 /// `unavailable`; if a write fails, nothing more is printed.
@@ -32,7 +32,7 @@ pub fn submit_list<R: Source + Drop, W: Sink>(
     print_answer(writer, &answer, tries)
 }
 
-// What is to be printed of an input, if it could be had, and the tries that are left.
+// The answer to print for an input, if it could be read, and the tries that are left.
 fn input_answer<R: Source + Drop>(
     alloc: Global,
     options: &SubmitOptions<'_>,

@@ -1,4 +1,4 @@
--- To whom a request goes, as the program tells it step by step.
+-- To whom a request goes, step by step as the program decides it.
 use Rattle.std.specs.Prelude.{◌≡◌, Result, Ok, Err}
 use Rattle.http_message.specs.Message.{RequestValue, asked}
 use Rattle.http_message.specs.declared.framing.Framing.TheVariants.{Body}
@@ -13,7 +13,7 @@ use Rattle.http_answers.specs.declared.faults.MessageFault.{MessageFault}
 use Rattle.http_history.specs.Addressee.{Addressee, to_nobody, addressee_of, addressee_by_framing, addressee_by_route, request_path}
 use Rattle.http_history.specs.Verdict.{Verdict, company_verdict, company_request, operator_verdict, verdict_on}
 
--- the addressee of a request with this route, or with the fault that its head alone tells
+-- the addressee of a request with this route, or with the fault that follows from its head alone
 abbrev pub addressee_with : RequestValue → Result Route MessageFault → Addressee
 addressee_with r (Ok route) = addressee_by_route r (Ok route)
 addressee_with r (Err fault) = to_nobody fault
@@ -31,7 +31,7 @@ request_verdict r = λ b. verdict_on b (asked r)
 abbrev pub operator_route_verdict : OperatorRoute → RequestValue → Book → Verdict
 operator_route_verdict route r = λ b. operator_verdict (key_of callers.Operator b) route r
 
--- the route of a request, or the fault that its head alone tells, tells its addressee
+-- the addressee of a request follows from its route, or from the fault of its head alone
 abbrev pub TellsAddressee : RequestValue → Result Route MessageFault → Type 0
 TellsAddressee r found = addressee_of (asked r) ≡ addressee_with r found
 

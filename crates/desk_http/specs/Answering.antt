@@ -1,4 +1,4 @@
--- The answer to a message in bytes: what it is, what the desk then stands for, what a crash leaves.
+-- The answer to a message in bytes: which bytes, the history that the desk then represents, and what a crash leaves.
 use Rattle.std.specs.Prelude.{◌≡◌, ◌⊎◌, ⊤, ℕ, Bool, true, false, IsFalse, List, ◌∷◌, Option, Some, None, Result, Ok, Err, Vec}
 use Rattle.std.specs.declared.alloc.Global.{Global}
 use Rattle.desk_history.specs.declared.identity.Identity.{Identity}
@@ -13,7 +13,7 @@ use Rattle.http_history.specs.History.{from_message, Pair, text, book_behind, St
 use Rattle.http_history.specs.Part.{part}
 use Rattle.http_history.specs.Reply.{reply, IsToCompany}
 
--- a history over bytes for which the desk stands, and what a message means after it
+-- a history over bytes that the desk represents, and what a message means after it
 pub record IsAsked (holds : Book → Type 0) (identity : Identity) (key : List ℕ) (H : List Pair) (v : MessageValue) (means : Option Message) : Type 0 where
   pub stands : StandsFor holds identity key H
   pub read : Means (verdict_on (book_behind identity key H) v) means
@@ -28,8 +28,8 @@ history_with identity key H v means = answered_pair v (text identity key H (from
 
 -- ---- what is answered
 
--- The bytes are the text of the message after the history, and the desk then stands for the history with
--- this pair; or it could not act, and stands for the same history.
+-- The bytes are the text of the message after the history, and the desk then represents the history with this pair; or it
+-- could not act, and represents the same history.
 abbrev pub GoesOn : Identity → (key : List ℕ) → List Pair → MessageValue → Option Message → Result (Vec ℕ Global) Unavailable → (new : Book → Type 0) → Type 0
 GoesOn identity key H v means (Ok bytes) new =
     (bytes.items ≡ text identity key H (from_message v) means) × StandsFor new identity key (answered_pair v bytes.items means ∷ H)
@@ -65,9 +65,8 @@ LeavesOn keeps old identity key H v means (Ok bytes) k =
 LeavesOn keeps old identity key H v means (Err fault) k =
     old k ⊎ (IsFalse (reads means) × keeps k (book_behind identity key (history_with identity key H v means)))
 
--- A crash after the message leaves what keeps the book of the history with it, where it wrote, and what it
--- could leave before, where it wrote nothing; where the desk could not act, either, but a read changes nothing
--- that a crash may leave.
+-- A crash after the message leaves what keeps the book of the history with it if it wrote, and what it could leave before if
+-- it wrote nothing. If the desk could not act, it leaves either; a read changes nothing that a crash may leave.
 abbrev pub LeavesBytes : {Kept : Type 0} → (keeps : Kept → Book → Type 0) → (holds : Book → Type 0) → (old : Kept → Type 0) → MessageValue → Result (Vec ℕ Global) Unavailable → (new : Kept → Type 0) → Type 0
 LeavesBytes {Kept} keeps holds old v result new =
     (identity : Identity) (key : List ℕ) (H : List Pair) (means : Option Message) (k : Kept)
@@ -75,7 +74,7 @@ LeavesBytes {Kept} keeps holds old v result new =
 
 -- ---- of a session
 
--- what stands behind a desk that a session asks: who runs it, and the messages with their answers
+-- what a desk in a session represents: who runs it, and the messages with their answers
 pub record DeskHistory : Type 0 where
   pub identity : Identity
   pub key : List ℕ

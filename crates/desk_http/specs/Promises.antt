@@ -1,5 +1,5 @@
--- What the desk of a store promises of a message and of a call, if the store is clean as it ends. `g` says which
--- books a store holds and what a crash leaves of it.
+-- The promises of a store's desk for a message and for a call, if the store is clean at the end. `g` has the facts of the
+-- store: which books it holds, and what a crash leaves of it.
 use Rattle.std.specs.Prelude.{ℕ, Bool, Result, Vec}
 use Rattle.std.specs.declared.alloc.Global.{Global}
 use Rattle.desk_history.specs.declared.call.Call.{Call}

@@ -12,19 +12,19 @@ use http_routes::Routes;
 use http_session::Unavailable;
 use std::alloc::Global;
 
-/// Answers a message, with the one call of the desk that it makes: gives the bytes of the answer, from
-/// its status line to the end of its body.
+/// Answers a message by the one call of the desk that it makes. Returns the bytes of the answer, from its
+/// status line to the end of its body.
 ///
-/// The error `Unavailable` says that memory is refused or the store could not act. The store then holds
-/// the book that it held, and the message may come again.
+/// The error `Unavailable` means that memory was refused or the store could not act. The store then holds the
+/// same book as before, and the message may be sent again.
 ///
-/// By the clause `goes` the bytes are those of the definitions, for every history over bytes whose book
-/// the store holds, and the store then holds the book of the history with this message. By `replies`
-/// what a company gets is made of its own part of the history and its message alone. By `left` a crash
-/// leaves what stood before the message or after it, and where it was answered and wrote, what stood
-/// after it; a read, answered or not, changes nothing that a crash may leave.
+/// By the clause `goes` the bytes are those of the definitions, for every history over bytes whose book the
+/// store holds, and the store then holds the book of the history with this message. By `replies` a company's
+/// answer follows from its own part of the history and its message alone. By `left` a crash leaves the state
+/// before the message or after it, and the state after it if the message was answered and wrote; a read,
+/// answered or not, changes nothing that a crash may leave.
 ///
-/// The routes are its caller's, as those of an `HttpDesk`: none is built for a message.
+/// The caller passes the routes, as an `HttpDesk` does, so that none are built for a message.
 pub fn answer<S: Store>(
     alloc: Global,
     desk: &mut Desk<S>,

@@ -10,7 +10,7 @@ use http_routes::Routes;
 use http_session::{Answers, Unavailable};
 use std::alloc::Global;
 
-/// An `HttpDesk` is a desk with the routes by which it answers messages.
+/// A desk with the routes of its messages.
 #[derive(Drop)]
 pub struct HttpDesk<S> {
     desk: Desk<S>,
@@ -18,14 +18,14 @@ pub struct HttpDesk<S> {
 }
 
 impl<S> HttpDesk<S> {
-    /// Makes a desk answer messages by these routes.
+    /// Returns a desk that answers messages by these routes.
     pub fn new(desk: Desk<S>, routes: Routes) -> HttpDesk<S>
         ensures { result.desk ≡ desk }
     {
         HttpDesk { desk, routes }
     }
 
-    /// Gives its desk.
+    /// Returns its desk.
     pub fn into_desk(self) -> Desk<S>
         ensures { result ≡ self.desk }
     {
@@ -33,7 +33,7 @@ impl<S> HttpDesk<S> {
     }
 }
 
-/// What stands behind it is the history of the messages with their answers.
+/// It represents the history of the messages with their answers.
 impl<S: Store> Answers for HttpDesk<S> {
     ghost Behind = { DeskHistory };
 

@@ -15,8 +15,8 @@ use http_response::{Content, ROOM, Response, print_response, put_response, wrap_
 use http_session::Unavailable;
 use std::alloc::{AllocError, Global};
 
-/// Gives the bytes of the answer to a call of this kind. What a command did is printed into the room
-/// that was taken before it: only a read's answer or a refusal takes memory.
+/// Returns the bytes of the answer to a call of this kind. The answer to an accepted command is printed into
+/// room that was taken before the call: only the answer to a read or a refusal takes memory.
 pub(crate) fn print_answer(
     alloc: Global,
     body: Vec<u8>,
@@ -43,7 +43,7 @@ pub(crate) fn print_answer(
     }
 }
 
-// What a command did, in the room that was taken before it.
+// The answer to an accepted command, in the room that was taken before the call.
 fn print_command(
     alloc: Global,
     mut body: Vec<u8>,
@@ -88,7 +88,7 @@ fn read_body(alloc: Global, mut body: Vec<u8>, answer: Answer) -> Result<Vec<u8>
     }
 }
 
-/// Gives the bytes of the answer where there is no call.
+/// Returns the bytes of the answer to a message that makes no call.
 pub(crate) fn answer_fault(
     alloc: Global,
     fault: MessageFault,

@@ -1,4 +1,4 @@
-//! What a message comes to: a call of the desk, or a fault.
+//! The verdict on a message: a call of the desk, or a fault.
 ghost use Rattle.std.specs.Prelude.{◌≡◌};
 ghost use Rattle.http_message.specs.Message.{message_value, request_value};
 ghost use Rattle.desk_admission.specs.OverStores.{Gives};
@@ -20,9 +20,8 @@ use http_routes::{Route, RouteFault, Routes};
 use operator::operator_verdict;
 use std::alloc::Global;
 
-/// Gives the call that a message makes of the desk, or the fault that is answered in its place. The
-/// desk tells who has which key, and nothing else is read of it. A file or a holiday list is the body
-/// itself, and no copy of it.
+/// Returns the call that a message makes, or the fault that is the answer without a call. Of the desk it
+/// reads only the keys. A file or a holiday list is the body itself, not a copy.
 pub(crate) fn verdict_of<S: Store>(
     alloc: Global,
     desk: &mut Desk<S>,
@@ -54,7 +53,7 @@ fn request_verdict<S: Store>(
     }
 }
 
-// The route of a request, or the fault that its head alone tells.
+// The route of a request, or the fault that follows from its head alone.
 fn route_of(routes: &Routes, request: &Request<'_>) -> Result<Route, MessageFault>
     ensures { TellsAddressee (request_value request.now) result }
 {

@@ -1,4 +1,4 @@
-//! What a company asks.
+//! Requests of companies.
 ghost use Rattle.std.specs.Prelude.{◌≡◌, IfOk};
 ghost use Rattle.std.specs.Result.{result_ok};
 ghost use Rattle.ach_fields.specs.Names.{reference_of};
@@ -20,8 +20,8 @@ use http_routes::{CompanyRoute, piece_of};
 use sha2::{Digest, Sha256};
 use std::alloc::{AllocError, Global};
 
-/// Gives the call of a company's request under its key, or the fault. A path whose company is no
-/// identification is denied, as an unknown company is.
+/// Returns the call of a company's request under its key, or the fault. A path whose company is not a valid
+/// identification is denied in the same way as an unknown company.
 pub(crate) fn company_verdict<S: Store>(
     alloc: Global,
     desk: &mut Desk<S>,

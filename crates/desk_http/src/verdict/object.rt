@@ -65,7 +65,7 @@ pub(crate) fn company_call(
     }
 }
 
-// The company that an object is, with the digest of its key; of no bytes where it has none.
+// The company that an object is, with the digest of its key; of no bytes if it has none.
 fn draft_with_digest(alloc: Global, object: &Value<'_>) -> Result<CompanyDraft, AllocError>
     ensures { IfOk result (λ draft. draft ≡ company_with_digest (view object.now)) }
 {

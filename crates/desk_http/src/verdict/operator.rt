@@ -1,4 +1,4 @@
-//! What the operator asks.
+//! Requests of the operator.
 ghost use Rattle.std.specs.Prelude.{◌≡◌, IfOk};
 ghost use Rattle.bank_days.specs.Day.{day_of};
 ghost use Rattle.http_routes.specs.Finding.{piece_of};
@@ -19,7 +19,7 @@ use http_routes::{OperatorRoute, piece_of};
 use sha2::{Digest, Sha256};
 use std::alloc::{AllocError, Global};
 
-/// Gives the call of the operator's request under its key, or the fault.
+/// Returns the call of the operator's request under its key, or the fault.
 pub(crate) fn operator_verdict<S: Store>(
     alloc: Global,
     desk: &mut Desk<S>,
