@@ -199,6 +199,7 @@ def filled(program, folder, figures, part):
         desk.ask(*desk.submissions(100, "EACH", 1, True))
     desk.ask(*desk.submissions(OPEN // part - LAST, "PAY", SIZE, False))
     desk.restart()
+    desk.ask(exposure("PAY"))
     figures.keep("submissions of 1,000", desk.cost(*desk.submissions(LAST, "PAY", SIZE, False)))
     return desk
 
@@ -213,12 +214,10 @@ def first_calls(desk, figures, event, happen, asked=ASKED):
     for company in KINDS:
         entries, debit = 1 if company == "EACH" else SIZE, company != "PAY"
         for _ in range(AGAIN):
-            new = desk.company()
-            desk.ask(exposure(new))
-            desk.ask(exposure(company))
-            happen()
-            figures.keep(f"submission of {company} after {event}", desk.cost(*desk.submissions(1, company, entries, debit, asked)))
-            figures.keep(f"submission next to {company} after {event}", desk.cost(*desk.submissions(1, new, entries, debit, asked)))
+            for what, name in ((f"of {company}", company), (f"next to {company}", desk.company())):
+                desk.ask(exposure(name))
+                happen()
+                figures.keep(f"submission {what} after {event}", desk.cost(*desk.submissions(1, name, entries, debit, asked)))
 
 
 def starts(desk, figures):
@@ -234,9 +233,10 @@ def steady(desk, figures):
     """Measures submissions of companies with much open, and of new ones."""
     for company in KINDS:
         entries, debit, count = (1, True, CALLS) if company == "EACH" else (SIZE, company == "DUES", 3)
-        figures.keep(f"submission of {company}", desk.cost(*desk.submissions(count, company, entries, debit)))
-        new = [desk.submissions(1, desk.company(), entries, debit)[0] for _ in range(count)]
-        figures.keep(f"submission next to {company}", desk.cost(*new))
+        for _ in range(AGAIN):
+            figures.keep(f"submission of {company}", desk.cost(*desk.submissions(count, company, entries, debit)))
+            new = [desk.submissions(1, desk.company(), entries, debit)[0] for _ in range(count)]
+            figures.keep(f"submission next to {company}", desk.cost(*new))
 
 
 def send_all(desk, part):
@@ -372,7 +372,9 @@ def report_open(figures, part):
         figures.at_most(f"the first exposure after a start, {count:,} open {kind}", f"exposure of {company} after a start", most, count)
     for event in ("a cut", "a new day", "a holiday list", "a returns file"):
         for company, what in sizes.items():
-            figures.at_most(f"the first exposure after {event}, {KINDS[company]}", f"exposure of {company} after {event}", 40_000)
+            figures.times(f"the first exposure after {event}, {KINDS[company]}", f"exposure of IDLE after {event}", f"exposure of {company} after {event}", 1.2)
+            if event != "a holiday list":  # which reads the list, of 300 holidays
+                figures.at_most(f"the first exposure after {event}, {KINDS[company]}", f"exposure of {company} after {event}", 40_000)
             figures.times(f"the first submission after {event}, {what}", f"submission next to {company} after {event}", f"submission of {company} after {event}", 1.2)
 
 

@@ -226,6 +226,10 @@ def count(value):
     return f"{value:,.0f}"
 
 
+def ratio(ours, theirs):
+    return f"{ours / theirs:.1f}" if ours > 0.1 * theirs else f"{ours / theirs:.3f}"
+
+
 def table(instructions, times):
     """The figures as a table of Markdown."""
     rows = ["| Call | Instructions | C++ | Ratio | CPU time | C++ | Ratio |", "|---|---|---|---|---|---|---|"]
@@ -237,6 +241,6 @@ def table(instructions, times):
         counted = ["", "", ""]
         if instructions:
             one, other = instructions[0][name], instructions[1][name]
-            counted = [count(one), count(other), f"{one / other:.1f}"]
-        rows.append(f"| {name} | {' | '.join(counted)} | {seconds(ours)} | {seconds(theirs)} | {ours / theirs:.1f} |")
+            counted = [count(one), count(other), ratio(one, other)]
+        rows.append(f"| {name} | {' | '.join(counted)} | {seconds(ours)} | {seconds(theirs)} | {ratio(ours, theirs)} |")
     return "\n".join(rows)
