@@ -99,6 +99,7 @@ class Desk:
             self.close()
             self.open()
         self.count += len(messages)
+        came = b""
         for sent in messages:
             self.socket.sendall(sent)
             came = read_answer(self.reader)
