@@ -16,7 +16,7 @@ busy or slow machine gives the same ones. There are four desks:
 A bound is a number of instructions, or a ratio to the same call of a company with nothing open or old.
 
 It prints a table with a line for each figure. The status is 1 if a figure is not within its bound, and 2 if Debian's valgrind is
-missing. A run takes some ten minutes.
+missing. A run takes a quarter of an hour.
 """
 
 import datetime
