@@ -77,7 +77,7 @@ JUDGES = (
     Judge("growths", (), ("rt", "gcc"), takes_program=False),
     Judge("refused", (), ("rt",), takes_program=False),
     Judge("big_day", (), ("rt",)),
-    Judge("costs", is_long=True),
+    Judge("costs", (), ("valgrind",), is_long=True),
     Judge("peaks", is_long=True),
     Judge("opening", is_long=True),
 )
