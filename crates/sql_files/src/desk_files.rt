@@ -1,7 +1,9 @@
 //! A file system that has desks, by their paths.
 //!
 //! It has facts that its calls alone give: this was found at that path, this connection was opened there.
-//! Code that is generic in its `DeskFiles` can show such a fact by making the call and by nothing else.
+//! Code that is generic in its `DeskFiles` can show such a fact by making the call and by nothing else. Each
+//! call, also one that only looks or reads, takes the file system from one state to the next. A clause that
+//! leads from one state to another therefore allows no further call.
 use crate::presence::Presence;
 use crate::refusal::Refusal;
 use desk_history::Identity;
@@ -16,7 +18,7 @@ pub type Opened<D> = Option<Result<Connection<FileStore<D>>, Refusal<D>>>;
 
 /// A `DeskFiles` opens, makes and migrates the desks that it has, by their paths, and reads other files.
 pub trait DeskFiles {
-    ghost use Rattle.std.specs.Prelude.{ℕ, Bool, List, IfErr, IfOk, MatchResult};
+    ghost use Rattle.std.specs.Prelude.{◌≡◌, ℕ, Bool, List, IfErr, IfOk, MatchResult};
     ghost use Rattle.sqlite.specs.Held.{Held};
     ghost use Rattle.sqlite_disk.specs.declared.Disk as disk;
     ghost use Rattle.sqlite_store.specs.declared.store.FileStore.{FileStore};
@@ -40,13 +42,13 @@ pub trait DeskFiles {
     ghost is_fresh: { Bool → Self.Device → Type 0 };
 
     /// It opened the file at a path to be read.
-    ghost reads: { Self → (path : List ℕ) → Self.Input → Type 0 };
+    ghost reads: { Self → (path : List ℕ) → Self.Input → Self → Type 0 };
 
     /// It could not open the file at a path to be read.
-    ghost fails_to_read: { Self → (path : List ℕ) → Type 0 };
+    ghost fails_to_read: { Self → (path : List ℕ) → Self → Type 0 };
 
     /// It said this of a path.
-    ghost finds: { Self → (path : List ℕ) → Presence → Type 0 };
+    ghost finds: { Self → (path : List ℕ) → Presence → Self → Type 0 };
 
     /// It opened the desk at a path, of which it had said this, and gave this connection.
     ghost opens: { Self → (path : List ℕ) → Presence → (d : disk.Ghosts Self.Device) → Held (FileStore Self.Device d) → Self → Type 0 };
@@ -67,14 +69,15 @@ pub trait DeskFiles {
     ghost fails_to_migrate: { Self → (path : List ℕ) → Presence → (d : disk.Ghosts Self.Device) → Refusal Self.Device d → Self → Type 0 };
 
     /// Opens the file at a path to be read.
-    fn read(&self, path: &str) -> io::Result<Self::Input>
+    fn read(&mut self, path: &str) -> io::Result<Self::Input>
         ensures { MatchResult result
-            (λ input. reads self.now path.now input)
-            (λ _. fails_to_read self.now path.now) };
+            (λ input. reads self.old path.now input self.new)
+            (λ _. fails_to_read self.old path.now self.new) };
 
-    /// Says what is at a path.
-    fn look(&self, path: &str) -> Presence
-        ensures { finds self.now path.now result };
+    /// Reports what is at a path. What the files hold stays the same.
+    fn look(&mut self, path: &str) -> Presence
+        ensures found { finds self.old path.now result self.new }
+        ensures stays { holds self.new ≡ holds self.old };
 
     /// Opens the desk at a path, as `open` of this crate does.
     fn open(

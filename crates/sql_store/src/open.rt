@@ -1,5 +1,5 @@
 //! A store over tables begins with a new desk, or with one that is there.
-ghost use Rattle.std.specs.Prelude.{◌≡◌, ◌≢◌, [], IfOk, IfErr, IsErrAnd, IsTrue};
+ghost use Rattle.std.specs.Prelude.{◌≡◌, ◌≢◌, [], Err, IfOk, IfErr, IsErrAnd, IsTrue};
 ghost use Rattle.sqlite.specs.Held.{state};
 ghost use Rattle.sqlite.specs.State.{HasCleanDisk};
 ghost use Rattle.sqlite.specs.Steps.{over_memory};
@@ -53,13 +53,9 @@ impl<S: Alter> SqlStore<S> {
         }
     }
 
-    /// Takes over the desk that is in a database: the store holds each book that the tables keep.
-    ///
-    /// Where there is no table `desk`, or no row in it, it is `OpenFault::NotADesk`. Where its row says
-    /// another version it is `OpenFault::WrongVersion`, whatever else the schema is. Every other schema,
-    /// a database that failed, and a connection that is inside a transaction, are
-    /// `OpenFault::Unavailable`. A refused call changes nothing, and gives the connection back.
-    pub fn adopt(
+    /// Takes over the desk that is in a database, as `adopt` does. A refused call gives the connection back,
+    /// with the error of the engine if there was one.
+    pub fn adopt_or_give_back(
         alloc: Global,
         conn: Connection<S>,
     ) -> Result<SqlStore<S>, (DeskFault, Connection<S>)>
@@ -84,6 +80,27 @@ impl<S: Alter> SqlStore<S> {
         ensures { result ≡ self.conn }
     {
         self.conn
+    }
+}
+
+impl<S: Alter + Drop> SqlStore<S> {
+    /// Takes over the desk that is in a database: the store holds each book that the tables keep.
+    ///
+    /// If there is no table `desk`, or no row in it, the fault is `OpenFault::NotADesk`. If its row has
+    /// another version, it is `OpenFault::WrongVersion`, whatever else the schema is. Every other schema,
+    /// a database that failed, and a connection that is inside a transaction, are
+    /// `OpenFault::Unavailable`. A refused call changes nothing, and drops the connection.
+    pub fn adopt(alloc: Global, conn: Connection<S>) -> Result<SqlStore<S>, OpenFault>
+        ensures before { IfOk result
+            (λ s. EndsIn S.Store conn s.conn (λ before _. HasCleanDisk before)) }
+        ensures adopted { IfOk result (λ s. EndsIn S.Store conn s.conn IsDesk) }
+        ensures inside { IsTrue conn.in_transaction → result ≡ Err OpenFault.Unavailable }
+        ensures otherwise { IfErr result (λ fault. fault ≢ OpenFault.Exists) }
+    {
+        match SqlStore::adopt_or_give_back(alloc, conn) {
+            Ok(store) => Ok(store),
+            Err((why, _conn)) => Err(why.told()),
+        }
     }
 }
 

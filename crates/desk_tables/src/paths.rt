@@ -1,0 +1,55 @@
+//! The store of a desk is made, opened or migrated in the file at a path, with the start that supposes the least of
+//! a write that a crash interrupts. A refused call closes what it opened.
+ghost use Rattle.std.specs.Prelude.{◌≡◌, codes, Err, IfOk};
+ghost use Rattle.sqlite_wal.specs.Files.{image_at};
+ghost use Rattle.sql_files.specs.Opened.{IfCleanFiles, IsFoundIn, IsMadeIn, IsMigratedIn};
+
+use crate::files::{create_from, migrate_file_from, open_from};
+use desk_history::Identity;
+use sql_files::{FileFrom, FileStore, OpenFault, Start, Wary, look};
+use sql_store::SqlStore;
+
+/// Makes a new desk in the file at a path, with the SHA-256 digest of the operator's key, as `create_from` does.
+/// The store holds the book of the empty history, which is all that a crash leaves.
+pub fn create(
+    rt: &HostRuntime,
+    path: &str,
+    identity: Identity,
+    operator_key: [u8; 32],
+) -> Result<SqlStore<FileStore<FileFrom<Wary>>>, OpenFault>
+    ensures created { IfOk result
+        (λ s. IfCleanFiles (IsMadeIn (image_at ⟦<Wary as Start>⟧) identity operator_key) s.conn) }
+    ensures memory { path.now ≡ codes ":memory:" → result ≡ Err OpenFault.Unavailable }
+{
+    match create_from(rt, path, Wary, identity, operator_key) {
+        Ok(store) => Ok(store),
+        Err(why) => Err(why.fault()),
+    }
+}
+
+/// Opens the desk in the file at a path, as `open_from` does, after a look at the path. The store holds each book
+/// that the file and its log keep, whatever moment a crash left them at.
+pub fn open(rt: &HostRuntime, path: &str) -> Result<SqlStore<FileStore<FileFrom<Wary>>>, OpenFault>
+    ensures { IfOk result
+        (λ s. IfCleanFiles (IsFoundIn (image_at ⟦<Wary as Start>⟧)) s.conn) }
+{
+    match open_from(rt, path, Wary, look(rt, path)) {
+        Ok(store) => Ok(store),
+        Err(why) => Err(why.fault()),
+    }
+}
+
+/// Makes the desk of version 1 in the file at a path one of version 2, as `migrate_file_from` does, after a look
+/// at the path. The store holds each book that the file and its log kept.
+pub fn migrate_file(
+    rt: &HostRuntime,
+    path: &str,
+) -> Result<SqlStore<FileStore<FileFrom<Wary>>>, OpenFault>
+    ensures { IfOk result
+        (λ s. IfCleanFiles (IsMigratedIn (image_at ⟦<Wary as Start>⟧)) s.conn) }
+{
+    match migrate_file_from(rt, path, Wary, look(rt, path)) {
+        Ok(store) => Ok(store),
+        Err(why) => Err(why.fault()),
+    }
+}
