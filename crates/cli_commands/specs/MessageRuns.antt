@@ -10,7 +10,8 @@ use Rattle.http_session.specs.Sides.{Leaves}
 use Rattle.http_session.specs.declared.sessions.Ended.{Ended}
 use Rattle.http_session.specs.declared.sessions.Ended.TheVariants.{Closed, Cut, Full}
 use Rattle.http_session.specs.declared.sessions.SessionFault.{SessionFault}
-use Rattle.desk_http.specs.Answering.{DeskHistory, IsAnswered}
+use Rattle.desk_http.specs.Answering.{DeskHistory}
+use Rattle.desk_http.specs.Keeping.{settled, KeptHistory, Takes}
 use Rattle.cli_commands.specs.Printing.{SaysUnavailable}
 use Rattle.cli_commands.specs.declared.status.Status.{Status}
 use Rattle.cli_commands.specs.declared.status.Status.TheVariants.{Done, Refused, Failed}
@@ -32,6 +33,9 @@ operator_digest = sha256 (codes "operator-key")
 abbrev pub new_history : DeskHistory
 new_history = record { identity = sample_identity; key = operator_digest; pairs = [] }
 
+abbrev pub new_desk : KeptHistory
+new_desk = settled new_history
+
 abbrev pub new_book : Book
 new_book = book_of sample_identity operator_digest []
 
@@ -46,7 +50,7 @@ status_of_session (Err fault) = Failed
 abbrev pub HasRun : {R W : Type 0} → source.Ghosts R → (reader : R) → sink.Ghosts W → (old new : W) → Result Ended SessionFault → Type 0
 HasRun {R} r reader w old new ended =
     (after : R) × Leaves r w ended after old new
-    × SessionRan IsAnswered ⊤ (λ (h : DeskHistory). h ≡ new_history) (λ h. ⊤)
+    × SessionRan Takes ⊤ (λ (b : KeptHistory). b ≡ new_desk) (λ b. ⊤)
     (r.remaining reader) (r.remaining after) (w.contents old) (w.contents new) ended
 
 -- the session ended as the status says

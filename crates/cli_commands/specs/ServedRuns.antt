@@ -15,7 +15,7 @@ use Rattle.http_session.specs.declared.listener.Listener as listener
 use Rattle.http_session.specs.declared.network.Network as network
 use Rattle.http_session.specs.declared.serving.ServeFault.{ServeFault}
 use Rattle.http_session.specs.declared.serving.ServeFault.TheVariants.{Accept}
-use Rattle.desk_http.specs.Answering.{IsAnswered, StandsBehind}
+use Rattle.desk_http.specs.Keeping.{StandsIn, Takes}
 use Rattle.cli_words.specs.declared.serve_options.ServeOptions.{ServeOptions}
 use Rattle.cli_commands.specs.Printing.{unavailable, with_line_feed, SaysUnavailable}
 use Rattle.cli_commands.specs.declared.status.Status.{Status}
@@ -50,20 +50,24 @@ module _ {L S : Type 0} (l : listener.Ghosts L S) (c : connection.Ghosts S) (r :
 
 module _ {N L S : Type 0} (n : network.Ghosts N L S) (l : listener.Ghosts L S) (c : connection.Ghosts S)
     (r : source.Ghosts S) (w : sink.Ghosts S) {P : Type 0} (p : sink.Ghosts P)
-    (network : N) (options : ServeOptions) (Stands : List Exchange → Type 0) where
-  -- the port of the options was bound, and served so
-  pub record ServesPort (was printed : P) (status : Status) : Type 0 where
-    pub old : L
-    pub new : L
-    pub bound : n.binds network options.port old
-    pub told : TellsServed l c r w p options Stands (listening_answer options.port).1 old new was printed status
+    (options : ServeOptions) (Stands : List Exchange → Type 0) where
+  -- the port of the options was bound, served so, and given back as that left it
+  pub record ServesPort (old new : N) (was printed : P) (status : Status) : Type 0 where
+    pub mid : N
+    pub bound : L
+    pub left : L
+    pub binds : n.binds old options.port bound mid
+    pub told : TellsServed l c r w p options Stands (listening_answer options.port).1 bound left was printed status
+    pub unbinds : n.unbinds mid left new
 
-  -- That was so; or the port could not be had or memory was refused before, and nothing was served.
-  abbrev pub TellsPort : (was printed : P) → Status → Type 0
-  TellsPort was printed status =
-      ServesPort was printed status ⊎ ((status ≡ Failed) × SaysUnavailable p was printed × Stands [])
+  -- That was so; or the port could not be had or memory was refused before, and nothing was bound or served.
+  abbrev pub TellsPort : (old new : N) → (was printed : P) → Status → Type 0
+  TellsPort old new was printed status =
+      ServesPort old new was printed status
+      ⊎ ((status ≡ Failed) × SaysUnavailable p was printed × ((new ≡ old) ⊎ n.cannot_bind old options.port new) × Stands [])
 
--- if the returned store is clean, it represents each history that it represented before, with these messages
+-- If the returned store is clean, it represents each history that it represented before, with these messages. Whatever a crash
+-- then leaves keeps its book, or its book with one message more that was not answered since it last wrote.
 abbrev pub IsServedBy : {S : Type 0} → (g : store.Ghosts S) → (store back : S) → List Exchange → Type 0
 IsServedBy g store back exchanges =
-    StandsAfter IsAnswered (g.is_clean back) (StandsBehind (g.holds store)) (StandsBehind (g.holds back)) exchanges
+    StandsAfter Takes (g.is_clean back) (StandsIn g store) (StandsIn g back) exchanges

@@ -7,24 +7,24 @@ use Rattle.http_session.specs.Session.{SessionRan}
 use Rattle.http_session.specs.Sides.{Leaves}
 use Rattle.http_session.specs.declared.sessions.Ended.{Ended}
 use Rattle.http_session.specs.declared.sessions.SessionFault.{SessionFault}
-use Rattle.desk_http.specs.Answering.{DeskHistory, IsAnswered, StandsBehind}
+use Rattle.desk_http.specs.Keeping.{KeptHistory, StandsIn, Takes}
 use Rattle.cli_commands.specs.MessageRuns.{status_of_session}
 use Rattle.cli_commands.specs.Printing.{SaysUnavailable}
 use Rattle.cli_commands.specs.declared.status.Status.{Status}
 use Rattle.cli_commands.specs.declared.status.Status.TheVariants.{Failed}
 
 -- the desk represents what it represented before, if it is clean
-abbrev pub StandsStill : (is_clean : Type 0) → (stood stands : DeskHistory → Type 0) → Type 0
-StandsStill is_clean stood stands = is_clean → (h : DeskHistory) → stood h → stands h
+abbrev pub StandsStill : (is_clean : Type 0) → (stood stands : KeptHistory → Type 0) → Type 0
+StandsStill is_clean stood stands = is_clean → (b : KeptHistory) → stood b → stands b
 
-module _ (is_clean : Type 0) (stood stands : DeskHistory → Type 0) {R W : Type 0} (r : source.Ghosts R) (reader : R)
+module _ (is_clean : Type 0) (stood stands : KeptHistory → Type 0) {R W : Type 0} (r : source.Ghosts R) (reader : R)
     (w : sink.Ghosts W) (old new : W) where
   -- A session answered the messages of the reader's bytes: for each history that the desk represented, each answer is the text
   -- of its message after those before it. If the desk is clean, it represents that history with these messages and no other.
   abbrev pub RanFrom : Result Ended SessionFault → Type 0
   RanFrom ended =
       (after : R) × Leaves r w ended after old new
-      × SessionRan IsAnswered is_clean stood stands
+      × SessionRan Takes is_clean stood stands
       (r.remaining reader) (r.remaining after) (w.contents old) (w.contents new) ended
 
   -- the session ended as the status says
@@ -41,8 +41,8 @@ module _ (is_clean : Type 0) (stood stands : DeskHistory → Type 0) {R W : Type
 pub record AnswersBy {S R W : Type 0} (g : store.Ghosts S) (store back : S) (r : source.Ghosts R) (reader : R)
     (w : sink.Ghosts W) (old new : W) (status : Status) : Type 0 where
   pub before : g.is_clean back → g.is_clean store
-  pub answered : status ≢ Failed → HasAnsweredFrom (g.is_clean back) (StandsBehind (g.holds store)) (StandsBehind (g.holds back)) r reader w old new status
-  pub failed : status ≡ Failed → BreaksOffFrom (g.is_clean back) (StandsBehind (g.holds store)) (StandsBehind (g.holds back)) r reader w old new
+  pub answered : status ≢ Failed → HasAnsweredFrom (g.is_clean back) (StandsIn g store) (StandsIn g back) r reader w old new status
+  pub failed : status ≡ Failed → BreaksOffFrom (g.is_clean back) (StandsIn g store) (StandsIn g back) r reader w old new
 
 -- a session was answered by the desk of a store, and its status and the store were given back
 abbrev pub StoreAnswers : {S R W : Type 0} → (g : store.Ghosts S) → (store : S) → source.Ghosts R → (reader : R)

@@ -33,7 +33,7 @@ pub fn answer_messages<R: Source + Drop, W: Sink>(
     };
     let mut reader = reader;
     let mut desk = HttpDesk::new(sample_desk(alloc), routes);
-    status_of_session(session(alloc, &mut desk, &mut reader, writer, &mut Tries::new()))
+    status_of_session(session(alloc, &mut desk, &mut reader, writer))
 }
 
 /// Returns how the command ends after a session.

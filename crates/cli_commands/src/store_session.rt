@@ -32,7 +32,6 @@ pub fn answer_by_store<S: Store + Drop, R: Source + Drop, W: Sink>(
     };
     let mut reader = reader;
     let mut desk = HttpDesk::new(Desk::new(store), routes);
-    let mut tries = Tries::new();
-    let status = status_of_session(session(alloc, &mut desk, &mut reader, writer, &mut tries));
+    let status = status_of_session(session(alloc, &mut desk, &mut reader, writer));
     (status, desk.into_desk().into_store())
 }

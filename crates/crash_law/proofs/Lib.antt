@@ -1,5 +1,3 @@
-mod Books
-mod Growing
 mod Kept
 mod Openings
 mod Runs

@@ -1,5 +1,5 @@
 -- New, adopted and migrated desks begin as the laws of crashes require.
-use Rattle.std.proofs.Common.{◌≡◌, ◌∙◌, sym, ap, subst, List, [], IsTrue}
+use Rattle.std.proofs.Common.{◌≡◌, ◌∙◌, refl, sym, ap, subst, inl, ℕ, List, [], IsTrue}
 use Rattle.std.proofs.Math.Logic.{∥∥₁_map}
 use Rattle.sqlite_disk.specs.declared.Disk as disk
 use Rattle.sqlite_trees.specs.Tree.{Trees}
@@ -21,11 +21,11 @@ use Rattle.sql_migration.specs.FirstHistory.{FirstStandsFor}
 use Rattle.sql_migration.specs.FirstVersion.{HasFirstTables}
 use Rattle.sql_migration.specs.Migration.{HasMigrated}
 use Rattle.sqlite.specs.State.{State}
-use Rattle.desk_http.specs.Answering.{DeskHistory}
+use Rattle.desk_http.specs.Answering.{DeskHistory, StandsBehind}
 use Rattle.crash_law.specs.Crashes.{IsFirstHistory, StandsAfterCrash}
-use Rattle.crash_law.specs.Runs.{book_after}
+use Rattle.desk_http.specs.Keeping.{book_after}
 use Rattle.open_sums.specs.Laws.{NumberedBooks}
-use Rattle.crash_law.specs.Openings.{holds, keeps, may_leave, StandsMigrated, FirstOverBytes, Tables, InFiles, FilesSurvive}
+use Rattle.crash_law.specs.Openings.{holds, keeps, may_leave, new_history, StandsMigrated, FirstOverBytes, InMemory, Tables, InFiles, FilesSurvive}
 
 module _ (first : FirstCalls) (are : CallsAreHistory) where
   -- without the key the calls are those of the history over bytes
@@ -56,7 +56,14 @@ module _ (first : FirstCalls) (are : CallsAreHistory) where
   pub first_over_bytes : {T : Type 0} (g : Ghosts T) → FirstOverBytes g
   first_over_bytes g = record { bytes = over_bytes; calls = over_calls; migrated = λ was now h desk is has. migrated (state g was) (state g now) h desk is has }
 
-module _ {T : Type 0} (g : Ghosts T) (numbered : NumberedBooks) (over : FirstOverBytes g) (settled : (s : T) (db : Trees) → IsTrue (g.view s).is_open → g.recovers s db → db ≡ (g.view s).committed) where
+pub in_memory : InMemory
+unfolding calls_of
+in_memory identity key s held = record {
+  stands = record { history = tt; book = held };
+  left = λ k leaves. (new_history identity key, inl refl, leaves ∙ sym held.book);
+}
+
+module _ {T : Type 0} (g : Ghosts T) (numbered : NumberedBooks) (over : FirstOverBytes g) (committed : (s : T) (db : Trees) → IsTrue (g.view s).is_open → g.recovers s db → db ≡ (g.view s).committed) where
   pub in_tables : Tables g
   in_tables = record {
     made = λ identity key was s desk begins.
@@ -71,24 +78,32 @@ module _ {T : Type 0} (g : Ghosts T) (numbered : NumberedBooks) (over : FirstOve
               known = begins.0 (book_of identity key calls);
             };
           };
-          left = λ k left. (subst (λ (G : List core.Pair). Keeps k (book_of identity key G)) none (desk.keeps k left), numbered identity key calls);
-        };
-    adopted = λ was s desk begins.
-        record {
-          held = λ b kept. record { held = (desk.sees b kept.0, begins.1 b); numbered = kept.1; known = begins.0 b };
-          left = λ b k kept left. subst (λ (trees : Trees). keeps trees b) (sym (settled s.store.store.conn.store k desk.unchanged.0.is_open left ∙ ap (λ (d : Database). d.trees) desk.unchanged.0.committed_is)) kept;
-        };
-    migrated = λ was s desk begins.
-        record {
-          held = λ h is has. record {
-            held = ((over.migrated was s.store.store.conn h desk is has).sees.book, begins.1 (book_after h));
-            numbered = numbered h.identity h.key (calls_of h.identity h.pairs);
-            known = begins.0 (book_after h);
-          };
-          left = λ h k is has left. (
-            ((over.migrated was s.store.store.conn h desk is has).keeps k left).book,
-            numbered h.identity h.key (calls_of h.identity h.pairs),
+          left = λ k left. (
+            new_history identity key,
+            inl refl,
+            (subst (λ (G : List core.Pair). Keeps k (book_of identity key G)) none (desk.keeps k left), numbered identity key calls),
           );
+        };
+    adopted = λ was s desk begins version h kept.
+        let b = book_after h in record {
+          stands = record {
+            history = kept.history;
+            book = record { held = (desk.sees b kept.book.0, begins.1 b); numbered = kept.book.1; known = begins.0 b };
+          };
+          left = λ k left. (
+            h,
+            inl refl,
+            subst (λ (trees : Trees). keeps trees b) (sym (committed s.store.store.conn.store k desk.unchanged.0.is_open left ∙ ap (λ (d : Database). d.trees) desk.unchanged.0.committed_is)) kept.book,
+          );
+        };
+    migrated = λ was s desk begins h is has.
+        let moved = over.migrated was s.store.store.conn h desk is has in
+        let order = numbered h.identity h.key (calls_of h.identity h.pairs) in record {
+          stands = record {
+            history = is.history;
+            book = record { held = (moved.sees.book, begins.1 (book_after h)); numbered = order; known = begins.0 (book_after h) };
+          };
+          left = λ k left. (h, inl refl, ((moved.keeps k left).book, order));
         };
   }
 
@@ -98,18 +113,10 @@ module _ {D : Type 0} (g : disk.Ghosts D) (tables : Tables (over_files {g = g}))
     made = λ held identity key s made begins. tables.made identity key made.was s made.desk begins;
     found = λ held k s found begins is_held.
         let same = found.opened.found.holds k is_held in
-        let it = tables.adopted found.was s found.desk begins in
-        record {
-          held = λ b kept. it.held b (subst (λ (trees : Trees). keeps trees b) (sym same) kept);
-          left = λ b j kept left. it.left b j (subst (λ (trees : Trees). keeps trees b) (sym same) kept) left;
-        };
+        λ version h kept. tables.adopted found.was s found.desk begins version h (subst (λ (trees : Trees). StandsBehind (keeps trees) h) (sym same) kept);
     migrated = λ held k s moved begins is_held.
         let same = moved.opened.found.holds k is_held in
-        let it = tables.migrated moved.was s moved.desk begins in
-        record {
-          held = λ h is has. it.held h is (subst (λ (trees : Trees). HasFirstTables trees (book_after h)) (sym same) has);
-          left = λ h j is has left. it.left h j is (subst (λ (trees : Trees). HasFirstTables trees (book_after h)) (sym same) has) left;
-        };
+        λ h is has. tables.migrated moved.was s moved.desk begins h is (subst (λ (trees : Trees). HasFirstTables trees (book_after h)) (sym same) has);
   }
 
   pub files_survive : StandsAfterCrash (holds (over_files {g = g})) keeps (may_leave over_files) → FilesSurvive g

@@ -11,6 +11,7 @@ mod files;
 mod laws;
 
 pub use files::{
-    desks_in_files, desks_in_tables, files_survive, first_over_bytes, stands_after_migration,
+    desks_in_files, desks_in_memory, desks_in_tables, files_survive, first_over_bytes,
+    stands_after_migration,
 };
 pub use laws::{answers_survive, nothing_is_lost, stands_after_crash, stands_after_lives};

@@ -12,16 +12,20 @@ use Rattle.cli_commands.specs.declared.status.Status.{Status}
 module _ {F D Q W : Type 0} (f : files.Ghosts F D Q) (q : source.Ghosts Q) (files : F) (path : List ℕ) (w : sink.Ghosts W) (old new : W) where
   -- the file at this path could not be opened, and `unavailable` was printed
   abbrev pub FailsUnread : Type 0
-  FailsUnread = f.fails_to_read files path × SaysUnavailable w old new
+  FailsUnread = (after : F) × f.fails_to_read files path after × SaysUnavailable w old new
 
   abbrev pub ChecksAt : Status → Type 0
-  ChecksAt status = (input : Q) × f.reads files path input × HasChecked (q.remaining input) w old new status
+  ChecksAt status = (input : Q) × (after : F) × f.reads files path input after × HasChecked (q.remaining input) w old new status
 
   abbrev pub FailsToCheckAt : Type 0
-  FailsToCheckAt = ((input : Q) × f.reads files path input × IsFailedCheck (q.remaining input) w old new) ⊎ FailsUnread
+  FailsToCheckAt = ((input : Q) × (after : F) × f.reads files path input after × IsFailedCheck (q.remaining input) w old new) ⊎ FailsUnread
 
   abbrev pub SubmitsAt : SubmitOptions → Status → Type 0
-  SubmitsAt options status = (input : Q) × f.reads files path input × HasSubmitted options (q.remaining input) w old new status
+  SubmitsAt options status = (input : Q) × (after : F) × f.reads files path input after × HasSubmitted options (q.remaining input) w old new status
 
   abbrev pub FailsToSubmitAt : SubmitOptions → Type 0
-  FailsToSubmitAt options = ((input : Q) × f.reads files path input × IsFailedSubmit options (q.remaining input) w old new) ⊎ FailsUnread
+  FailsToSubmitAt options = ((input : Q) × (after : F) × f.reads files path input after × IsFailedSubmit options (q.remaining input) w old new) ⊎ FailsUnread
+
+-- the file at this path was opened to be read, or could not be, and nothing else was asked of the files
+abbrev pub IsReadAt : {F D Q : Type 0} → files.Ghosts F D Q → (old : F) → (path : List ℕ) → (new : F) → Type 0
+IsReadAt {Q = Q} f old path new = ((input : Q) × f.reads old path input new) ⊎ f.fails_to_read old path new

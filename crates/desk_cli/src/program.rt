@@ -7,7 +7,7 @@ ghost use Rattle.desk_cli.specs.Programs.{words_in, GivesStarted, IsNotTextFault
 use crate::dispatch::{print_line_fault, run_over};
 use cli_commands::Status;
 use cli_words::{Command, LineFault, Syncs, command_of};
-use http_session::{Listener, Network};
+use http_session::{HostNetwork, Listener, Network};
 use io_retries::{Sink, Source};
 use sql_files::{Closes, DeskFiles, FileFrom, HostFiles, HostStart, Opened, Unknown, Wary};
 use sqlite_disk::Disk;
@@ -20,9 +20,9 @@ use std::{env, io};
 
 /// Carries out a command as `run_over` does, over the files and the network of the host.
 ///
-/// The command's `Syncs` say how a desk's file is opened. `Wary` syncs each commit twice and assumes nothing
-/// about a write that a power failure interrupts. `Unknown` syncs once and assumes that each byte of such a
-/// write is the old one or the new one.
+/// The command's `Syncs` say how a desk's file is opened. Both starts assume that a write that a power failure
+/// interrupts changes no byte outside of it. `Wary` syncs each commit twice and assumes nothing about the bytes
+/// of the write. `Unknown` syncs once and assumes that each of them is the old one or the new one.
 ///
 /// No contract knows the contents of the host's files, and the facts of its files and its network are empty.
 /// The contract of `run_over` states the promise for all files and networks.
@@ -37,9 +37,9 @@ pub fn run<R: Source + Drop, W: Sink>(
         ⟦<HostFiles<'static, Unknown> as Closes<Opened<FileFrom<Unknown>>>>⟧
         ⟦<HostFiles<'static, Wary> as DeskFiles>⟧ ⟦<FileFrom<Wary> as Disk>⟧
         ⟦<HostFiles<'static, Wary> as Closes<Opened<FileFrom<Wary>>>>⟧
-        ⟦<File as Source>⟧ ⟦<HostRuntime as Network>⟧ ⟦<TcpListener as Listener>⟧
+        ⟦<File as Source>⟧ ⟦<HostNetwork<'static, HostRuntime> as Network>⟧ ⟦<TcpListener as Listener>⟧
         ⟦<TcpStream as http_session::Connection>⟧ ⟦<TcpStream as Source>⟧ ⟦<TcpStream as Sink>⟧
-        R.Source W.Sink rt.now reader command.now writer.old writer.new result }
+        R.Source W.Sink reader command.now writer.old writer.new result }
 {
     match command.syncs() {
         Syncs::Once => run_here(rt, Unknown, command, reader, writer),
@@ -56,15 +56,15 @@ fn run_here<S: HostStart, R: Source + Drop, W: Sink>(
     writer: &mut W,
 ) -> Status
     ensures { RunsHere ⟦<HostFiles<'static, S> as DeskFiles>⟧ ⟦<FileFrom<S> as Disk>⟧
-        ⟦<File as Source>⟧ ⟦<HostRuntime as Network>⟧ ⟦<TcpListener as Listener>⟧
+        ⟦<File as Source>⟧ ⟦<HostNetwork<'static, HostRuntime> as Network>⟧ ⟦<TcpListener as Listener>⟧
         ⟦<TcpStream as http_session::Connection>⟧ ⟦<TcpStream as Source>⟧ ⟦<TcpStream as Sink>⟧
         ⟦<HostFiles<'static, S> as Closes<Opened<FileFrom<S>>>>⟧
-        R.Source W.Sink rt.now reader command.now writer.old writer.new result }
+        R.Source W.Sink reader command.now writer.old writer.new result }
 {
     run_over(
         rt.alloc(),
         &mut HostFiles::new(rt, start),
-        rt,
+        &mut HostNetwork::new(rt),
         command,
         reader,
         writer,
@@ -84,9 +84,9 @@ pub fn run_words<R: Source + Drop, W: Sink>(
         ⟦<HostFiles<'static, Unknown> as Closes<Opened<FileFrom<Unknown>>>>⟧
         ⟦<HostFiles<'static, Wary> as DeskFiles>⟧ ⟦<FileFrom<Wary> as Disk>⟧
         ⟦<HostFiles<'static, Wary> as Closes<Opened<FileFrom<Wary>>>>⟧
-        ⟦<File as Source>⟧ ⟦<HostRuntime as Network>⟧ ⟦<TcpListener as Listener>⟧
+        ⟦<File as Source>⟧ ⟦<HostNetwork<'static, HostRuntime> as Network>⟧ ⟦<TcpListener as Listener>⟧
         ⟦<TcpStream as http_session::Connection>⟧ ⟦<TcpStream as Source>⟧ ⟦<TcpStream as Sink>⟧
-        R.Source W.Sink rt.now reader)
+        R.Source W.Sink reader)
         writer.old writer.new (words_in words.now) result }
     ensures status { result ≤ 3 }
 {
@@ -110,9 +110,9 @@ pub fn run_started<R: Source + Drop, W: Sink>(
         ⟦<HostFiles<'static, Unknown> as Closes<Opened<FileFrom<Unknown>>>>⟧
         ⟦<HostFiles<'static, Wary> as DeskFiles>⟧ ⟦<FileFrom<Wary> as Disk>⟧
         ⟦<HostFiles<'static, Wary> as Closes<Opened<FileFrom<Wary>>>>⟧
-        ⟦<File as Source>⟧ ⟦<HostRuntime as Network>⟧ ⟦<TcpListener as Listener>⟧
+        ⟦<File as Source>⟧ ⟦<HostNetwork<'static, HostRuntime> as Network>⟧ ⟦<TcpListener as Listener>⟧
         ⟦<TcpStream as http_session::Connection>⟧ ⟦<TcpStream as Source>⟧ ⟦<TcpStream as Sink>⟧
-        R.Source W.Sink rt.now reader)
+        R.Source W.Sink reader)
         writer.old writer.new started result }
     ensures status { result ≤ 3 }
 {

@@ -3,3 +3,6 @@ pub mod Short
 pub mod Calls
 pub mod Messages
 pub mod Steps
+pub mod Growing
+pub mod KeptBooks
+pub mod Receipts

@@ -1,25 +1,59 @@
--- An answer is a step of what stands behind the desk.
-use Rattle.std.proofs.Common.{ℕ, ◌∷◌, refl}
-use Rattle.std.specs.Prelude.{Ok, Err, Result, Vec}
+-- A message more is a step of what a desk represents, and of what a crash may leave of it.
+use Rattle.std.proofs.Common.{ℕ, List, ◌∷◌, refl, sym, subst}
+use Rattle.std.specs.Prelude.{Ok, Err, Option, Some, None, Result, Vec}
 use Rattle.std.specs.declared.alloc.Global.{Global}
+use Rattle.desk_history.specs.Message.{Message}
+use Rattle.desk_admission.specs.Answering.{IsLeft}
 use Rattle.desk_book.specs.Book.{Book}
+use Rattle.desk_book.specs.OnMessages.{BookTells}
+use Rattle.desk_book.specs.Writes.{ReadsLeave}
 use Rattle.http_message.specs.Message.{MessageValue}
 use Rattle.http_session.specs.declared.answers.Unavailable.{Unavailable}
 use Rattle.http_session.specs.Exchanges.{Answered}
+use Rattle.http_history.specs.Laws.{CallsAreHistory, OneMeaning}
 use Rattle.http_history.specs.Verdict.{verdict_on}
-use Rattle.http_history.specs.History.{book_behind}
-use Rattle.http_history.specs.Laws.{OneMeaning}
-use Rattle.desk_http.specs.Answering.{answered_pair, GoesBytes, DeskHistory, StandsBehind, IsAnswered}
+use Rattle.http_history.specs.Versions.{MeansAt, Present, Version}
+use Rattle.desk_http.specs.Answering.{GoesBytes, IsAsked, LeavesBytes, writes}
+use Rattle.desk_http.specs.Keeping.{book_after, pending_after, with_taken, GoesBy, IsAnsweredBy, KeptHistory, LeavesBy, StandsKept, StandsKeptBy, Takes, TakesBy}
+use Rattle.desk_http.proofs.KeptBooks.{answered_left, unanswered_left}
 
-pub step : OneMeaning → (old new : Book → Type 0) (v : MessageValue) (result : Result (Vec ℕ Global) Unavailable) → GoesBytes old v result new
-    → (h : DeskHistory) → StandsBehind old h → Answered IsAnswered h v (StandsBehind new) result
-step one old new v (Ok bytes) goes h stands =
-    let m = one.some (verdict_on (book_behind h.identity h.key h.pairs) v) in
-    let on = goes h.identity h.key h.pairs m.0 (record { stands = stands; read = m.1 }) in (
-      record { identity = h.identity; key = h.key; pairs = answered_pair v bytes.items m.0 ∷ h.pairs },
-      record { means = m.0; read = m.1; said = on.0; more = refl },
-      on.1,
-    )
-step one old new v (Err fault) goes h stands =
-    let m = one.some (verdict_on (book_behind h.identity h.key h.pairs) v) in
-    goes h.identity h.key h.pairs m.0 (record { stands = stands; read = m.1 })
+module _ (tells : BookTells) (leave : ReadsLeave) (are : CallsAreHistory) {Kept : Type 0} (keeps : Kept → Book → Type 0) (old new : Book → Type 0) (left_before left_after : Kept → Type 0) where
+  pub step_by : (version : Version) (b : KeptHistory) (v : MessageValue) (means : Option Message) (answer : Option (List ℕ))
+      → MeansAt version (verdict_on (book_after b.history) v) means → StandsKeptBy old keeps left_before version b → GoesBy version b.history v means answer new
+      → ((k : Kept) → left_after k → LeavesBy keeps left_before version b.history v means answer k)
+      → (after : KeptHistory) × TakesBy version b v answer after × StandsKeptBy new keeps left_after version after
+  step_by version b v means (Some bytes) read is goes left =
+      let h = b.history in
+      let now = with_taken version h v bytes means in
+      let a : IsAnsweredBy version h v bytes now = record { means = means; read = read; said = goes.0; more = refl } in
+      let Left : Kept → List ℕ → Type 0 = λ k said. IsLeft (writes (book_after h) means) (keeps k (book_after (with_taken version h v said means))) (left_before k) in (
+        record { history = now; pending = pending_after (writes (book_after h) means) b.pending },
+        record { answered = a; pending = refl },
+        record {
+          stands = goes.1;
+          left = λ k leaves. answered_left tells leave are version keeps b v bytes now left_before k a (is.left k) (subst (Left k) (sym goes.0) (left k leaves));
+        },
+      )
+  step_by version b v means None read is goes left = (
+    record { history = b.history; pending = v ∷ b.pending },
+    refl,
+    record {
+      stands = goes;
+      left = λ k leaves. unanswered_left tells leave are version keeps b v means left_before k read (is.left k) (left k leaves);
+    },
+  )
+
+  -- as `answer` has it
+  pub step : OneMeaning → (v : MessageValue) (result : Result (Vec ℕ Global) Unavailable)
+      → GoesBytes old v result new → LeavesBytes keeps old left_before v result left_after
+      → (b : KeptHistory) → StandsKept old keeps left_before b → Answered Takes b v (StandsKept new keeps left_after) result
+  step one v (Ok bytes) goes left b is =
+      let h = b.history in
+      let m = one.some (verdict_on (book_after h) v) in
+      let asked : IsAsked old h.identity h.key h.pairs v m.0 = record { stands = is.stands; read = m.1 } in
+      step_by Present b v m.0 (Some bytes.items) m.1 is (goes h.identity h.key h.pairs m.0 asked) (λ k leaves. left h.identity h.key h.pairs m.0 k asked leaves)
+  step one v (Err fault) goes left b is =
+      let h = b.history in
+      let m = one.some (verdict_on (book_after h) v) in
+      let asked : IsAsked old h.identity h.key h.pairs v m.0 = record { stands = is.stands; read = m.1 } in
+      step_by Present b v m.0 None m.1 is (goes h.identity h.key h.pairs m.0 asked) (λ k leaves. left h.identity h.key h.pairs m.0 k asked leaves)

@@ -82,10 +82,3 @@ pub record DeskHistory : Type 0 where
 
 abbrev pub StandsBehind : (holds : Book → Type 0) → DeskHistory → Type 0
 StandsBehind holds h = StandsFor holds h.identity h.key h.pairs
-
--- The bytes are the text of the message after the history, and the history has this pair more.
-pub record IsAnswered (h : DeskHistory) (v : MessageValue) (bytes : List ℕ) (after : DeskHistory) : Type 0 where
-  pub means : Option Message
-  pub read : Means (verdict_on (book_behind h.identity h.key h.pairs) v) means
-  pub said : bytes ≡ text h.identity h.key h.pairs (from_message v) means
-  pub more : after ≡ record { identity = h.identity; key = h.key; pairs = answered_pair v bytes means ∷ h.pairs }

@@ -30,31 +30,25 @@ ends_after message answer = is_none answer || closes message
 abbrev pub GoesOn : Exchange → Type 0
 GoesOn x = IsFalse (ends_after x.message x.answer)
 
--- What stands behind an answerer makes a step with the answer; without one it stays.
-abbrev pub StepsWith : {B : Type 0} → (B → MessageValue → List ℕ → B → Type 0) → B → MessageValue → Option (List ℕ) → B → Type 0
-StepsWith step before message None after = after ≡ before
-StepsWith step before message (Some answer) after = step before message answer after
-
--- what stands behind an answerer makes the steps of the exchanges, in their order
-abbrev pub Follows : {B : Type 0} → (B → MessageValue → List ℕ → B → Type 0) → B → List Exchange → B → Type 0
+-- the steps of these exchanges, in their order, lead from one thing that an answerer represents to another
+abbrev pub Follows : {B : Type 0} → (B → MessageValue → Option (List ℕ) → B → Type 0) → B → List Exchange → B → Type 0
 Follows step before [] after = after ≡ before
-Follows {B} step before (x ∷ xs) after = (mid : B) × StepsWith step before x.message x.answer mid × Follows step mid xs after
+Follows {B} step before (x ∷ xs) after = (mid : B) × step before x.message x.answer mid × Follows step mid xs after
 
 -- If it is clean, the answerer stands for what these messages with their answers make of whatever it stood for.
-abbrev pub StandsAfter : {B : Type 0} → (B → MessageValue → List ℕ → B → Type 0) → (is_clean : Type 0) → (stood stands : B → Type 0)
+abbrev pub StandsAfter : {B : Type 0} → (B → MessageValue → Option (List ℕ) → B → Type 0) → (is_clean : Type 0) → (stood stands : B → Type 0)
     → List Exchange → Type 0
 StandsAfter {B} step is_clean stood stands exchanges =
     is_clean → (w : B) → stood w → (v : B) × Follows step w exchanges v × stands v
 
--- The answer is a step from what stands behind the answerer, and it then stands for what is after; or it
--- could not answer, and stands for what it stood for.
-abbrev pub Answered : {B : Type 0} → (B → MessageValue → List ℕ → B → Type 0) → B → MessageValue → (B → Type 0) → Result (Vec ℕ Global) Unavailable → Type 0
-Answered {B} step before message stands (Ok bytes) = (after : B) × step before message bytes.items after × stands after
-Answered step before message stands (Err fault) = stands before
+-- The answer, or that there was none, is a step from what the answerer represented to what it represents afterwards.
+abbrev pub Answered : {B : Type 0} → (B → MessageValue → Option (List ℕ) → B → Type 0) → B → MessageValue → (B → Type 0) → Result (Vec ℕ Global) Unavailable → Type 0
+Answered {B} step before message stands (Ok bytes) = (after : B) × step before message (Some bytes.items) after × stands after
+Answered {B} step before message stands (Err fault) = (after : B) × step before message None after × stands after
 
 -- If the answerer is clean, it answers so whatever stood behind it.
 abbrev pub AnswersAs : {D B : Type 0} → (is_clean : D → Type 0) → (stands_for : D → B → Type 0)
-    → (step : B → MessageValue → List ℕ → B → Type 0) → (old new : D)
+    → (step : B → MessageValue → Option (List ℕ) → B → Type 0) → (old new : D)
     → Message → Result (Vec ℕ Global) Unavailable → Type 0
 AnswersAs {D} {B} is_clean stands_for step old new message result =
     is_clean new → (w : B) → stands_for old w → Answered step w (message_value message) (stands_for new) result

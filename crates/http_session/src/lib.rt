@@ -16,6 +16,6 @@ pub use connection::Connection;
 pub use io_retries::Tries;
 pub use lingering::{MAX_DROPPED, drop_rest};
 pub use listener::Listener;
-pub use network::Network;
+pub use network::{HostNetwork, Network};
 pub use serving::{ServeFault, serve};
-pub use sessions::{Ended, SessionFault, session};
+pub use sessions::{Ended, SessionFault, session, session_with_tries};

@@ -118,7 +118,7 @@ fn converse<D: Answers, S: Connection + Source + Sink>(
         reader.old reader.new writer.old writer.new exchanges
         × StandsOn D.Answers desk.old desk.new exchanges }
 {
-    match session(alloc, desk, reader, writer, &mut Tries::new()) {
+    match session(alloc, desk, reader, writer) {
         Ok(_) => linger(reader),
         Err(_) => {}
     }

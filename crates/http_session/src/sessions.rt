@@ -1,7 +1,7 @@
 //! Sessions.
 ghost use Rattle.std.specs.Prelude.{◌≡◌, ◌<◌, length};
 ghost use Rattle.io_retries.specs.Tries.{IsUnused};
-ghost use Rattle.http_session.specs.Sides.{Faults, Flushes, Runs, Turns};
+ghost use Rattle.http_session.specs.Sides.{Faults, Flushes, Leaves, Runs, Turns};
 ghost use Rattle.http_session.specs.Turns.{turn_of};
 
 use crate::answers::Answers;
@@ -103,13 +103,29 @@ fn turn<D: Answers, R: Source, W: Sink>(
 /// At most 1,000 messages are answered. A message that the answerer cannot answer, and one for whose body
 /// there is no room, is answered by the constant text with status 503, and the session ends. An interrupted
 /// read or write is tried again, at most 1,000 times in the session. No more is kept than one head, one
-/// body, and one answer.
-///
-/// The tries are those of a new run. Each answer is flushed once it is written.
+/// body, and one answer. Each answer is flushed once it is written.
 ///
 /// # Errors
-/// `Read` or `Write` only if a read of this reader or a write of this writer failed: the clause `fault`.
+/// `Read` or `Write` only if a read of this reader or a write of this writer failed: the clause `left`.
 pub fn session<D: Answers, R: Source, W: Sink>(
+    alloc: Global,
+    desk: &mut D,
+    reader: &mut R,
+    writer: &mut W,
+) -> Result<Ended, SessionFault>
+    ensures before { D.is_clean desk.new → D.is_clean desk.old }
+    ensures ran { Runs D.Answers R.Source W.Sink desk.old desk.new
+        reader.old reader.new writer.old writer.new result }
+    ensures left { Leaves R.Source W.Sink result reader.new writer.old writer.new }
+{
+    session_with_tries(alloc, desk, reader, writer, &mut Tries::new())
+}
+
+/// Does the same with tries of the caller, who then knows how many are left. They have to be those of a new run.
+///
+/// # Errors
+/// Those of `session`. By the clause `fault` a call that was interrupted is reported only if no try was left.
+pub fn session_with_tries<D: Answers, R: Source, W: Sink>(
     alloc: Global,
     desk: &mut D,
     reader: &mut R,

@@ -1,17 +1,15 @@
 use Rattle.std.proofs.Common.{rules, sym, ◌∙◌, subst}
-use Rattle.desk_http.specs.Answering.{StandsBehind}
-use Rattle.http_session.proofs.FaultLemmas.{leaves}
+use Rattle.desk_http.specs.Keeping.{StandsIn}
 use Rattle.cli_commands.specs.StoreRuns.{RanFrom}
 use Rattle.cli_commands.proofs.SessionRuns.{broken_off_from}
 use Rattle.cli_commands.proofs.store_session.answer_by_store.Goals as goal
 
 pub returns : goal.returns
 returns g c =
-    let behind = λ (s : g.row.S.Denot). StandsBehind (g.S.Store.holds s) in
+    let behind = λ (s : g.row.S.Denot). StandsIn g.S.Store s in
     let Ran = λ (was now : g.row.S.Denot). RanFrom (g.S.Store.is_clean now) (behind was) (behind now)
     g.R.Source c.args.reader g.W.Sink c.args.writer.now c.session.new.writer c.session.result in
-    let ended = leaves g.R.Source g.W.Sink _ _ _ _ _ c.session.ensures.fault c.session.ensures.flushed in
-    let ran : Ran c.new-desk.result.desk c.session.new.desk.desk = (c.session.new.reader, ended, c.session.ensures.ran) in
+    let ran : Ran c.new-desk.result.desk c.session.new.desk.desk = (c.session.new.reader, c.session.ensures.left, c.session.ensures.ran) in
     let here : Ran c.args.store c.session.new.desk.desk = subst (λ s. Ran s c.session.new.desk.desk) (c.new-desk.ensures ∙ c.new-2.ensures) ran in
     let given : Ran c.args.store c.into_store.result = subst (λ s. Ran c.args.store s) (sym (c.into_store.ensures ∙ c.into_desk.ensures)) here in record {
       before = search rules;

@@ -1,5 +1,4 @@
 use Rattle.std.proofs.Common.{Ok, Err, refl}
-use Rattle.http_session.proofs.FaultLemmas.{leaves}
 use Rattle.http_session.proofs.serving.converse.Goals as goal
 
 pub returns-in-Ok-clause-converses : goal.returns-in-Ok-clause-converses
@@ -10,7 +9,7 @@ returns-in-Ok-clause-converses g c =
         after = c.session.new.reader;
         ended = Ok c.in-Ok.field-0;
         spoke = spoke;
-        leaves = leaves g.S.Source g.S.Sink _ _ _ _ c.session.new.tries tt c.in-Ok.ensures.flushed;
+        leaves = c.in-Ok.ensures.left;
         lingers = c.linger.ensures;
         breaks = tt;
       },
@@ -25,7 +24,7 @@ returns-in-Err-clause-converses g c =
         after = c.session.new.reader;
         ended = Err c.in-Err.field-0;
         spoke = spoke;
-        leaves = leaves g.S.Source g.S.Sink _ _ _ _ c.session.new.tries c.in-Err.ensures.fault c.in-Err.ensures.flushed;
+        leaves = c.in-Err.ensures.left;
         lingers = tt;
         breaks = refl;
       },

@@ -1,10 +1,6 @@
-use Rattle.std.proofs.Common.{refl}
+use Rattle.http_session.proofs.FaultLemmas.{leaves}
 use Rattle.http_session.proofs.sessions.session.Goals as goal
 
-pub returns-in-Ok-Some-clause-ran : goal.returns-in-Ok-Some-clause-ran
-returns-in-Ok-Some-clause-ran g c =
-    let turned = rw c.in-Ok-Some.field-0-is at c.in-Ok-Some.ensures.turned in
-    turned c.args.desk.now _ _ c.loop-count.count refl c.loop-count.invariant.so_far
-
-pub returns-in-Err-clause-ran : goal.returns-in-Err-clause-ran
-returns-in-Err-clause-ran g c = c.in-Err.ensures.turned c.args.desk.now _ _ c.loop-count.count refl c.loop-count.invariant.so_far
+pub returns-clause-left : goal.returns-clause-left
+returns-clause-left g c =
+    leaves g.R.Source g.W.Sink _ _ _ _ _ c.session_with_tries.ensures.fault c.session_with_tries.ensures.flushed

@@ -1,6 +1,6 @@
 use Rattle.std.proofs.Common.{◌≡◌, ◌⊎◌, length}
 use Rattle.http_session.specs.Turns.{SoFar}
-use Rattle.http_session.proofs.sessions.session.Given as goal
+use Rattle.http_session.proofs.sessions.session_with_tries.Given as goal
 
 abbrev pub invariant-loop-count : goal.invariant-loop-count
 invariant-loop-count g l = record {
