@@ -10,7 +10,8 @@ use std::alloc::Global;
 const HELP_PORT: &str = "Port on 127.0.0.1, 1 to 65535";
 
 /// The help says this of the number of connections.
-const HELP_CONNECTIONS: &str = "Number of connections to serve before it exits, 1 to 1000000";
+const HELP_CONNECTIONS: &str =
+    "Number of connections to serve before it exits, 1 to 1000000.\nWithout this option it exits after 1000";
 
 /// The help says this of the patience.
 const HELP_PATIENCE: &str = "Seconds that a client may keep the desk waiting, 1 to 3600";

@@ -12,7 +12,7 @@ use std::alloc::{AllocError, Global};
 
 /// The help says this of the option.
 const HELP_SYNC: &str =
-    "How often a commit syncs its files: twice or once [default: twice].\n'twice' assumes nothing of a write that a power failure cuts off.\n'once' assumes that each byte of such a write is the old one or the new one.";
+    "How often a commit syncs its files: twice or once [default: twice].\nBoth assume that a write that a power failure cuts off changes no byte outside of it.\n'once' also assumes that each of its bytes is the old one or the new one.\nA disk that finishes each sector it began does both, as NVMe disks have to.";
 
 /// Returns the option `--sync WHEN`, which may be left out.
 pub fn sync_option<'a>(alloc: Global) -> Arg<'a>
