@@ -2,8 +2,8 @@
 use super::script::{
     BAKE, DAY, HOLIDAYS, MILL, NINTH, Script, after, follow, holds_after, new_lists, new_tables,
 };
-use crate::samples::{day, id, reference};
 use ach_fields::{Id, Ref, Trace};
+use bank_days::Day;
 use desk_core::{Desk, Store};
 use std::alloc::Global;
 use std::process::Abort;
@@ -111,7 +111,7 @@ fn settle_in_turn<S: Store + Drop>(rt: &(impl Abort + Alloc<A = Global>), store:
     let mut store = desk.into_store();
     for (from, to, text) in SETTLED {
         let wanted = match text {
-            Some(text) => Some(day(rt, text)),
+            Some(text) => Some(Day::read(text).expect(rt, "a day")),
             None => None,
         };
         assert!(rt;
@@ -173,7 +173,10 @@ fn entry_named<S: Store>(
 
 fn wanted_entry(rt: &impl Abort, named: Option<Named>) -> Option<(Id, Ref, u64)> {
     match named {
-        Some((company, name, index)) => Some((id(rt, company), reference(rt, name), index)),
+        Some((company, name, index)) => {
+            let id = Id::new(company).ok().expect(rt, "an identification");
+            Some((id, Ref::new(name).ok().expect(rt, "a reference"), index))
+        }
         None => None,
     }
 }

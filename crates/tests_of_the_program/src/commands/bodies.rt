@@ -1,6 +1,6 @@
 //! Bodies that are refused, and bodies that are accepted at the edge.
 use super::{PAY_1, PAY_1_LINE, PREFIX, answers};
-use desk_cli::Status;
+use desk_cli::{Status, submission_answer};
 use std::alloc::{AllocError, Global};
 use std::test::Fail;
 
@@ -136,6 +136,14 @@ fn is_answered(alloc: Global, entry: &str, wanted: Result<u64, &str>) -> Result<
     let line = line_of(alloc, wanted)?;
     let body = format!(in alloc; "{PREFIX}{entry}]}}")?;
     Ok(answers(alloc, body.as_bytes(), status, line.as_str()))
+}
+
+#[test]
+fn the_answer_to_a_body(rt: HostRuntime) -> Result<(), Fail> {
+    let (accepted, mut line) = submission_answer(rt.alloc(), PAY_1).ok().ok_or("memory")?;
+    line.push(b'\n')?;
+    assert!(rt; accepted && line.as_slice() == PAY_1_LINE.as_bytes());
+    Ok(())
 }
 
 #[test]

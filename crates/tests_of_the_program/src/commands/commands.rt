@@ -1,6 +1,6 @@
 //! Commands that are carried out, and words that name none.
-use super::{NOBODY, PAY_1, PAY_1_LINE, prints};
-use desk_cli::{Command, LineFault, Status, VERSION_LINE, print_line_fault, run_words};
+use super::{NOBODY, PAY_1, PAY_1_LINE, carry_out_words, prints};
+use desk_cli::{Command, LineFault, Status, VERSION_LINE, print_line_fault};
 use std::alloc::Global;
 use std::test::Fail;
 
@@ -136,9 +136,30 @@ Arguments:
 
 Options:
       --sync <WHEN>  How often a commit syncs its files: twice or once [default: twice].
-                     'twice' assumes nothing of a write that a power failure cuts off.
-                     'once' assumes that each byte of such a write is the old one or the new one.
+                     Both assume that a write that a power failure cuts off changes no byte outside of it.
+                     'once' also assumes that each of its bytes is the old one or the new one.
+                     A disk that finishes each sector it began does both, as NVMe disks have to.
   -h, --help         Print help
+";
+
+/// The whole help of the command that serves.
+const SERVE_HELP: &str = "Serves a desk over HTTP/1.1 on a port of 127.0.0.1
+
+Usage: achdesk serve [OPTIONS] <DB> <PORT>
+
+Arguments:
+  <DB>    Path of the desk's database file
+  <PORT>  Port on 127.0.0.1, 1 to 65535
+
+Options:
+      --connections <N>     Number of connections to serve before it exits, 1 to 1000000.
+                            Without this option it exits after 1000 [default: 1000]
+      --patience <SECONDS>  Seconds that a client may keep the desk waiting, 1 to 3600 [default: 30]
+      --sync <WHEN>         How often a commit syncs its files: twice or once [default: twice].
+                            Both assume that a write that a power failure cuts off changes no byte outside of it.
+                            'once' also assumes that each of its bytes is the old one or the new one.
+                            A disk that finishes each sector it began does both, as NVMe disks have to.
+  -h, --help                Print help
 ";
 
 /// The whole text for `--sync` without a desk's file.
@@ -163,14 +184,14 @@ const COMMANDS: &[&str] = &["check", "submit", "stdio", "init", "serve", "migrat
 // Do these words give this exit status, and does what is printed begin so?
 fn begins(rt: &HostRuntime, words: &[&str], code: u8, start: &str) -> bool {
     let mut output = Vec::new(rt.alloc());
-    let given = run_words(rt, words, PAY_1, &mut output);
+    let given = carry_out_words(rt, words, PAY_1, &mut output);
     given == code && output.as_slice().starts_with(start.as_bytes())
 }
 
 // Do these words give this exit status, and is this printed?
 fn says(rt: &HostRuntime, words: &[&str], code: u8, text: &str) -> bool {
     let mut output = Vec::new(rt.alloc());
-    let given = run_words(rt, words, NOBODY, &mut output);
+    let given = carry_out_words(rt, words, NOBODY, &mut output);
     given == code && output.as_slice() == text.as_bytes()
 }
 
@@ -178,8 +199,8 @@ fn says(rt: &HostRuntime, words: &[&str], code: u8, text: &str) -> bool {
 fn has_one_help(rt: &HostRuntime, command: &str) -> bool {
     let mut before = Vec::new(rt.alloc());
     let mut after = Vec::new(rt.alloc());
-    let first = run_words(rt, &["help", command], NOBODY, &mut before);
-    let second = run_words(rt, &[command, "--help"], NOBODY, &mut after);
+    let first = carry_out_words(rt, &["help", command], NOBODY, &mut before);
+    let second = carry_out_words(rt, &[command, "--help"], NOBODY, &mut after);
     first == 0 && second == 0 && before.as_slice() == after.as_slice()
 }
 
@@ -210,6 +231,7 @@ fn whole_texts(rt: HostRuntime) {
     assert!(rt; says(&rt, &["--help"], 0, HELP));
     assert!(rt; says(&rt, &["bogus"], 2, USAGE));
     assert!(rt; says(&rt, &["stdio", "--help"], 0, STDIO_HELP));
+    assert!(rt; says(&rt, &["serve", "--help"], 0, SERVE_HELP));
     assert!(rt; says(&rt, &["stdio", "--sync=once"], 2, NO_FILE));
     let words = &["stdio", "desk.db", "--sync=thrice"];
     assert!(rt; says(&rt, words, 2, NO_SYNC));

@@ -1,6 +1,6 @@
 //! Desks in files: they are made once, and faults of an option or a file are reported.
-use super::{NOBODY, prints};
-use desk_cli::{Command, InitOptions, Status, run_words};
+use super::{NOBODY, carry_out_words, prints};
+use desk_cli::{Command, InitOptions, Status};
 use std::fs;
 use std::os::unix::fs::MetadataExt;
 use std::test::Fail;
@@ -226,8 +226,8 @@ fn the_words_of_a_new_desk(rt: HostRuntime) -> Result<(), Fail> {
     let path = "words.db";
     clear(&rt, path)?;
     let mut printed = Vec::new(rt.alloc());
-    assert!(rt; run_words(&rt, WORDS, NOBODY, &mut printed) == 0);
-    assert!(rt; run_words(&rt, WORDS, NOBODY, &mut printed) == 1);
+    assert!(rt; carry_out_words(&rt, WORDS, NOBODY, &mut printed) == 0);
+    assert!(rt; carry_out_words(&rt, WORDS, NOBODY, &mut printed) == 1);
     assert!(rt; printed.as_slice() == b"created\nExists\n".as_slice());
     clear(&rt, path)
 }

@@ -1,6 +1,6 @@
 //! Incoming files: the printed lines for files that are read from a reader and from a path.
-use super::NOBODY;
-use desk_cli::{Command, Status, check_file, run};
+use super::{NOBODY, carry_out};
+use desk_cli::{Command, Status, check_file};
 use std::alloc::{AllocError, Global};
 use std::fs;
 use std::test::Fail;
@@ -99,7 +99,7 @@ fn answers(rt: &HostRuntime, file: &[u8], status: Status, line: &str) -> Result<
     let read = check_file(rt.alloc(), file, &mut from_reader);
     let path = "incoming.ach";
     fs::write(rt, path, file)?;
-    let opened = run(rt, &Command::Check(path), NOBODY, &mut from_path);
+    let opened = carry_out(rt, &Command::Check(path), NOBODY, &mut from_path);
     fs::remove_file(rt, path)?;
     Ok(
         read == status

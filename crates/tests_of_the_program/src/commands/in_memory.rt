@@ -5,6 +5,7 @@ use super::files::{LINE, RECORDS};
 use super::lists::PAY_MESSAGE;
 use super::messages::{DAY_SET, PAY_TAKEN, REGISTER, REGISTERED, SET_DAY, join};
 use desk_cli::{Command, Status, Syncs};
+use http_session::HostNetwork;
 use memory_files::{MemoryFiles, OtherFile, run_in_memory};
 use std::test::Fail;
 
@@ -21,7 +22,15 @@ fn prints(
     text: &[u8],
 ) -> bool {
     let mut printed = Vec::new(rt.alloc());
-    let ended = run_in_memory(rt.alloc(), files, rt, command, input, &mut printed);
+    let mut network = HostNetwork::new(rt);
+    let ended = run_in_memory(
+        rt.alloc(),
+        files,
+        &mut network,
+        command,
+        input,
+        &mut printed,
+    );
     ended == status && printed.as_slice() == text
 }
 

@@ -1,8 +1,8 @@
 //! Lists of entries: the message, or the line of the fault, for lists that are read from a reader
 //! and from a path.
-use super::{NOBODY, prints};
+use super::{NOBODY, carry_out, prints};
 use cli_submit::SubmitOptions;
-use desk_cli::{Command, Status, run, submit_list};
+use desk_cli::{Command, Status, submit_list, submit_message};
 use std::alloc::{AllocError, Global};
 use std::fs;
 use std::test::Fail;
@@ -126,7 +126,7 @@ fn outcome(
     let mut from_path = Vec::new(rt.alloc());
     let read = submit_list(rt.alloc(), &options, list, &mut from_reader);
     fs::write(rt, PATH, list)?;
-    let opened = run(rt, &Command::Submit(PATH, options), NOBODY, &mut from_path);
+    let opened = carry_out(rt, &Command::Submit(PATH, options), NOBODY, &mut from_path);
     fs::remove_file(rt, PATH)?;
     if read != opened || from_reader.as_slice() != from_path.as_slice() {
         return Err(Fail::from("a reader and a path differ"));
@@ -166,6 +166,15 @@ fn with_blank_lines(alloc: Global, len: usize) -> Result<Vec<u8>, AllocError> {
     let mut list = Vec::from_slice(alloc, HEADER)?;
     list.resize(len, b'\n')?;
     Ok(list)
+}
+
+#[test]
+fn the_message_of_a_list(rt: HostRuntime) -> Result<(), Fail> {
+    let message = submit_message(rt.alloc(), &OPTIONS, PAY_LIST)
+        .ok()
+        .ok_or("memory")?;
+    assert!(rt; message.as_slice() == PAY_MESSAGE.as_bytes());
+    Ok(())
 }
 
 #[test]

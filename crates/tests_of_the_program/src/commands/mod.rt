@@ -9,12 +9,12 @@ mod kept;
 mod large;
 pub(crate) mod lists;
 mod messages;
-mod migrated;
 mod served;
 mod words;
 
-use desk_cli::{Command, Status, first_run, run};
+use desk_cli::{Command, Status, first_run, run, run_words};
 use std::alloc::Global;
+use std::io::Write;
 
 /// A credit of 1500.00 to a checking account.
 pub(crate) const PAY_1: &[u8] =
@@ -38,6 +38,21 @@ fn answers(alloc: Global, body: &[u8], status: Status, line: &str) -> bool {
     ended == status && output.as_slice() == line.as_bytes()
 }
 
+// These two have no clause, and they alone name the calls: what those promise is long, and no test carries it.
+
+fn carry_out<W: Write>(
+    rt: &HostRuntime,
+    command: &Command<'_>,
+    input: &[u8],
+    writer: &mut W,
+) -> Status {
+    run(rt, command, input, writer)
+}
+
+fn carry_out_words(rt: &HostRuntime, words: &[&str], input: &[u8], output: &mut Vec<u8>) -> u8 {
+    run_words(rt, words, input, output)
+}
+
 // Is the command carried out over this input so, and is this printed?
 fn prints(
     rt: &HostRuntime,
@@ -47,6 +62,6 @@ fn prints(
     text: &[u8],
 ) -> bool {
     let mut printed = Vec::new(rt.alloc());
-    let ended = run(rt, command, input, &mut printed);
+    let ended = carry_out(rt, command, input, &mut printed);
     ended == status && printed.as_slice() == text
 }

@@ -1,8 +1,8 @@
 //! A desk that is served on the loopback address only, and desks that cannot be served, with the messages of
 //! the command. `judge/clients.py` tests the answers of a served desk by other clients.
 use super::desks::{SAMPLE_BANK, clear, is_absent, is_made};
-use super::{NOBODY, prints};
-use desk_cli::{Command, InitOptions, ServeOptions, Status, Syncs, run};
+use super::{NOBODY, carry_out, prints};
+use desk_cli::{Command, InitOptions, ServeOptions, Status, Syncs};
 use std::io::{Read, Write};
 use std::net::{Ipv4Addr, OpenListener, TcpListener, TcpStream};
 use std::test::Fail;
@@ -110,7 +110,7 @@ fn a_desk_is_reached_on_loopback_alone(rt: HostRuntime) -> Result<(), Fail> {
         client: None,
         is_reached_elsewhere: false,
     };
-    let ended = run(&rt, &serve(path, port, 1), NOBODY, &mut caller);
+    let ended = carry_out(&rt, &serve(path, port, 1), NOBODY, &mut caller);
     assert!(rt; ended == Status::Done);
     assert!(rt; !caller.is_reached_elsewhere);
     assert!(rt; is_listening(&rt, port, caller.printed.as_slice())?);
@@ -175,7 +175,7 @@ fn answers_two(
         messages,
         clients: Vec::new(rt.alloc()),
     };
-    let mut are_sent = run(rt, &serve(path, port, 2), NOBODY, &mut callers) == Status::Done;
+    let mut are_sent = carry_out(rt, &serve(path, port, 2), NOBODY, &mut callers) == Status::Done;
     for (client, answer) in callers.clients.into_iter().zip(wanted) {
         are_sent &= is_sent(rt, Some(client), answer.as_bytes())?;
     }

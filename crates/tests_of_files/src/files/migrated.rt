@@ -1,10 +1,8 @@
 //! A desk's file of version 1 is migrated, and the desk answers as before. Other files are not migrated.
-use super::desks::{clear, is_absent, is_made};
-use super::{NOBODY, prints};
+use super::paths::{change_database, clear};
 use crate::crashes::exchanges::{add, add_answers, add_requests};
 use crate::crashes::scripts::DAYS;
-use crate::files::paths::change_database;
-use desk_cli::{Command, Status, Syncs, run};
+use desk_cli::run_words;
 use std::fs;
 use std::process::Abort;
 use std::test::Fail;
@@ -14,7 +12,7 @@ const TO_VERSION_1: &str =
     "DROP TABLE numbers; DROP TABLE authorizations; UPDATE desk SET version = 1";
 
 /// After the bank's days come the reads of all else that a company and the operator may ask.
-const READS: [&str; 10] = [
+const READS: [&str; 11] = [
     "GET /c/MILL01/returns HTTP/1.1\r\nX-Desk-Key: mill-street-key\r\n\r\n",
     "GET /c/MILL01/changes HTTP/1.1\r\nX-Desk-Key: mill-street-key\r\n\r\n",
     "GET /c/MILL01/rates HTTP/1.1\r\nX-Desk-Key: mill-street-key\r\n\r\n",
@@ -25,7 +23,45 @@ const READS: [&str; 10] = [
     "GET /ops/files/2025-01-09/A HTTP/1.1\r\nX-Desk-Key: operator-key\r\n\r\n",
     "GET /ops/suspense HTTP/1.1\r\nX-Desk-Key: operator-key\r\n\r\n",
     "GET /ops/status HTTP/1.1\r\nX-Desk-Key: operator-key\r\n\r\n",
+    "GET /ops/companies HTTP/1.1\r\nX-Desk-Key: operator-key\r\n\r\n",
 ];
+
+/// The words that make a desk of the sample bank, but for its path.
+const BANK: [&str; 5] = [
+    "--odfi=121042882",
+    "--odfi-name=OUR BANK",
+    "--destination=061000146",
+    "--destination-name=ACH OPERATOR",
+    "--key=operator-key",
+];
+
+// It has no clause, so that no test carries what the call promises.
+fn carry_out(host: &HostRuntime, words: &[&str], input: &[u8], output: &mut Vec<u8>) -> u8 {
+    run_words(host, words, input, output)
+}
+
+// Does the command of these words end with this exit status over this input, and print this?
+fn prints(host: &HostRuntime, words: &[&str], input: &[u8], code: u8, text: &[u8]) -> bool {
+    let mut printed = Vec::new(host.alloc());
+    let given = carry_out(host, words, input, &mut printed);
+    given == code && printed.as_slice() == text
+}
+
+// Is a desk made at this path, after an earlier one is removed?
+fn is_made(host: &HostRuntime, path: &str) -> Result<bool, Fail> {
+    clear(host, path)?;
+    let [odfi, odfi_name, destination, destination_name, key] = BANK;
+    let words = [
+        "init",
+        path,
+        odfi,
+        odfi_name,
+        destination,
+        destination_name,
+        key,
+    ];
+    Ok(prints(host, &words, b"", 0, b"created\n"))
+}
 
 // Does a session with the desk in this file answer a bank's days as it has to? The statement and the
 // settlement are the last that is asked.
@@ -34,8 +70,7 @@ fn answers_days(host: &HostRuntime, rt: &impl Abort, path: &str) -> bool {
     add_requests(rt, &mut input, DAYS.messages);
     let mut wanted = Vec::new(host.alloc());
     add_answers(rt, &mut wanted, DAYS.messages);
-    let command = Command::AnswerByFile(path, Syncs::Twice);
-    prints(host, &command, &input, Status::Done, &wanted)
+    prints(host, &["stdio", path], &input, 0, &wanted)
 }
 
 // Returns the answers of the desk in this file.
@@ -47,13 +82,7 @@ fn told(host: &HostRuntime, rt: &impl Abort, path: &str) -> Result<Vec<u8>, Fail
         add(rt, &mut input, read.as_bytes());
     }
     let mut told = Vec::new(host.alloc());
-    let ended = run(
-        host,
-        &Command::AnswerByFile(path, Syncs::Twice),
-        input.as_slice(),
-        &mut told,
-    );
-    assert!(rt; ended == Status::Done);
+    assert!(rt; carry_out(host, &["stdio", path], input.as_slice(), &mut told) == 0);
     let answers = str::from_utf8(&told)?
         .matches("HTTP/1.1 200 OK\r\n")
         .count();
@@ -68,10 +97,8 @@ fn a_desk_of_version_1_is_migrated_and_answers_as_before(rt: HostRuntime) -> Res
     assert!(rt; answers_days(&rt, &rt, path));
     let before = told(&rt, &rt, path)?;
     change_database(&rt, &rt, path, TO_VERSION_1)?;
-    let stdio = Command::AnswerByFile(path, Syncs::Twice);
-    assert!(rt; prints(&rt, &stdio, NOBODY, Status::Refused, b"WrongVersion 1\n"));
-    let migrate = Command::Migrate(path);
-    assert!(rt; prints(&rt, &migrate, NOBODY, Status::Done, b"migrated 1 to 2\n"));
+    assert!(rt; prints(&rt, &["stdio", path], b"", 1, b"WrongVersion 1\n"));
+    assert!(rt; prints(&rt, &["migrate", path], b"", 0, b"migrated 1 to 2\n"));
     assert!(rt; told(&rt, &rt, path)? == before);
     assert!(rt; is_refused(&rt, path, "WrongVersion 2\n"));
     clear(&rt, path)
@@ -79,8 +106,7 @@ fn a_desk_of_version_1_is_migrated_and_answers_as_before(rt: HostRuntime) -> Res
 
 // Is this file refused by `migrate`, with this line?
 fn is_refused(rt: &HostRuntime, path: &str, line: &str) -> bool {
-    let command = Command::Migrate(path);
-    prints(rt, &command, NOBODY, Status::Refused, line.as_bytes())
+    prints(rt, &["migrate", path], b"", 1, line.as_bytes())
 }
 
 #[test]
@@ -88,7 +114,7 @@ fn what_is_no_desk_is_not_migrated(rt: HostRuntime) -> Result<(), Fail> {
     let path = "no_desk.db";
     clear(&rt, path)?;
     assert!(rt; is_refused(&rt, path, "NotADesk\n"));
-    assert!(rt; is_absent(&rt, path));
+    assert!(rt; !fs::exists(&rt, path)?);
     fs::write(&rt, path, b"")?;
     assert!(rt; is_refused(&rt, path, "NotADesk\n"));
     clear(&rt, path)

@@ -1,6 +1,6 @@
 //! Connections to a desk.
-use super::exchanges::{LENGTH_REQUIRED, UNAVAILABLE, follow, http_desk};
-use super::samples::{Exchange, MILL, new_lists};
+use crate::exchanges::{LENGTH_REQUIRED, UNAVAILABLE, follow, http_desk};
+use crate::samples::{Exchange, MILL, new_lists};
 use desk_core::Store;
 use desk_http::HttpDesk;
 use http_session::{Listener, ServeFault, serve};
@@ -87,6 +87,11 @@ fn a_connection_is_answered(rt: HostRuntime) {
     let client = client_sent(&rt, &listener, ASKED);
     serve_mill(&rt, listener, 1);
     assert!(rt; answer_of(&rt, client).as_slice() == NO_DAY);
+}
+
+#[test]
+fn no_connection_is_awaited(rt: HostRuntime) {
+    serve_mill(&rt, listening(&rt), 0);
 }
 
 #[test]

@@ -1,10 +1,11 @@
 //! Answers that are cut off, since the writer fails inside one: the command is done, and the same message
 //! sent again to the same desk is answered as it would have been.
-use super::exchanges::{add_request, add_response, follow, http_desk};
-use super::samples::{DAY_8, Exchange, HOLIDAYS, MILL, SUBMIT_1, new_lists};
-use crate::sessions::texts::sink;
-use http_session::{SessionFault, Tries, session};
+use crate::exchanges::{add_request, add_response, follow, http_desk};
+use crate::samples::{DAY_8, Exchange, HOLIDAYS, MILL, SUBMIT_1, new_lists};
+use http_session::{SessionFault, session};
 use std::alloc::Global;
+use std::io;
+use std::io::{ErrorKind, Write};
 use std::process::Abort;
 
 /// The submission is held.
@@ -14,6 +15,31 @@ const LOOK_UP_1: Exchange = (
     "200 OK",
     r#"{"cents":150000,"day":"2025-01-10","direction":"credit","entries":[{"cents":150000,"index":1,"state":"held"}],"order":1,"ref":"PAY-1","sec":"PPD"}"#,
 );
+
+// A writer that fails once it has no room.
+#[derive(Drop)]
+struct Narrow {
+    taken: Vec<u8>,
+    room: usize,
+}
+
+impl Write for Narrow {
+    fn write(&mut self, buf: &[u8]) -> io::Result<usize> {
+        let count = buf.len().min(self.room);
+        if count == 0 && !buf.is_empty() {
+            return Err(ErrorKind::BrokenPipe.into());
+        }
+        if self.taken.extend_from_slice(&buf[..count]).is_err() {
+            return Err(ErrorKind::OutOfMemory.into());
+        }
+        self.room -= count;
+        Ok(count)
+    }
+
+    fn flush(&mut self) -> io::Result<()> {
+        Ok(())
+    }
+}
 
 // Sends a submission to a new desk, and takes this number of bytes of the answer.
 fn is_done_and_answered_again(
@@ -25,15 +51,11 @@ fn is_done_and_answered_again(
     let mut desk = http_desk(rt, new_lists(rt));
     follow(rt, &mut desk, "before", &[HOLIDAYS, MILL, DAY_8]);
     let mut reader = input;
-    let mut writer = sink(rt);
-    writer.room = room;
-    let ended = session(
-        rt.alloc(),
-        &mut desk,
-        &mut reader,
-        &mut writer,
-        &mut Tries::new(),
-    );
+    let mut writer = Narrow {
+        taken: Vec::new(rt.alloc()),
+        room,
+    };
+    let ended = session(rt.alloc(), &mut desk, &mut reader, &mut writer);
     assert!(rt; ended == Err(SessionFault::Write), "{room}");
     assert!(rt;
         Some(writer.taken.as_slice()) == answer.get(..room),

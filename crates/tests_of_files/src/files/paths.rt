@@ -3,9 +3,7 @@ use super::bank::{OPERATOR_DIGEST, identity};
 use super::commands::{ACCEPTED, COMMANDS, give, is_done};
 use crate::tables::add_tables;
 use desk_core::{Desk, Store};
-use desk_tables::{
-    FileStore, OpenFault, Refusal, SqlStore, Wary, create, look, migrate_file, open,
-};
+use desk_tables::{FileStore, OpenFault, SqlStore, create, migrate_file, open};
 use sqlite::{Alter, Connection, Error};
 use sqlite_disk::Disk;
 use std::alloc::Global;
@@ -37,13 +35,13 @@ fn change<D: Disk + Drop>(
 }
 
 fn connection<D: Disk + Drop>(
-    opened: Result<SqlStore<FileStore<D>>, Refusal<D>>,
+    opened: Result<SqlStore<FileStore<D>>, OpenFault>,
 ) -> Option<Connection<FileStore<D>>> {
     Some(opened.ok()?.into_connection())
 }
 
-fn fault<D: Disk + Drop>(opened: Result<SqlStore<FileStore<D>>, Refusal<D>>) -> Option<OpenFault> {
-    Some(opened.err()?.fault())
+fn fault<D: Disk + Drop>(opened: Result<SqlStore<FileStore<D>>, OpenFault>) -> Option<OpenFault> {
+    opened.err()
 }
 
 // Gives the commands from this number on, and once more what is accepted again.
@@ -84,7 +82,7 @@ pub(super) fn go_on_with_new(
 ) -> Result<Vec<u8>, Error> {
     go_on(
         rt,
-        create(host, path, Wary, identity(rt), OPERATOR_DIGEST).ok(),
+        create(host, path, identity(rt), OPERATOR_DIGEST).ok(),
         0,
     )
 }
@@ -94,7 +92,7 @@ fn go_on_with_found(
     rt: &(impl Abort + Alloc<A = Global>),
     path: &str,
 ) -> Result<Vec<u8>, Error> {
-    go_on(rt, open(host, path, Wary, look(host, path)).ok(), COMMANDS)
+    go_on(rt, open(host, path).ok(), COMMANDS)
 }
 
 /// Opens a desk, runs these statements, and closes it.
@@ -104,11 +102,7 @@ pub(super) fn change_desk(
     path: &str,
     sql: &str,
 ) -> Result<(), Error> {
-    change(
-        rt,
-        connection(open(host, path, Wary, look(host, path))),
-        sql,
-    )
+    change(rt, connection(open(host, path)), sql)
 }
 
 /// Runs these statements over a database, and closes it.
@@ -129,16 +123,16 @@ pub(crate) fn fault_of(
     way: Way,
 ) -> Option<OpenFault> {
     let opened = match way {
-        Way::Create => create(host, path, Wary, identity(rt), OPERATOR_DIGEST),
-        Way::Migrate => migrate_file(host, path, Wary, look(host, path)),
-        Way::Open => open(host, path, Wary, look(host, path)),
+        Way::Create => create(host, path, identity(rt), OPERATOR_DIGEST),
+        Way::Migrate => migrate_file(host, path),
+        Way::Open => open(host, path),
     };
     fault(opened)
 }
 
 // Tells why an open desk is not opened a second time meanwhile.
 fn second_fault(host: &HostRuntime, rt: &impl Abort, path: &str) -> Option<OpenFault> {
-    let _first = open(host, path, Wary, look(host, path));
+    let _first = open(host, path);
     fault_of(host, rt, path, Way::Open)
 }
 

@@ -1,6 +1,6 @@
 //! Messages that make no call, and the order of their faults.
-use super::exchanges::{LENGTH_REQUIRED, all_hold, http_desk, run};
-use super::samples::{DAY_8, HOLIDAYS, MILL, PAY_1, PAY_1_ACCEPTED, Script, new_lists};
+use crate::exchanges::{LENGTH_REQUIRED, all_hold, http_desk, run};
+use crate::samples::{DAY_8, HOLIDAYS, MILL, PAY_1, PAY_1_ACCEPTED, Script, new_lists};
 
 const DENIED: &str = r#"{"error":"Denied"}"#;
 

@@ -4,7 +4,6 @@ use crate::sessions::readers::Pieces;
 use crate::sessions::writers::Sink;
 use http_routes::Routes;
 use http_session::{Ended, SessionFault, session};
-use io_retries::Tries;
 use std::alloc::Global;
 use std::process::Abort;
 
@@ -95,8 +94,7 @@ pub fn runs(
 ) {
     let (text, _) = reader.bytes.split_at(reader.bytes.len().min(80));
     let most = reader.most;
-    let mut tries = Tries::new();
-    let ended = session(rt.alloc(), &mut desk, &mut reader, &mut writer, &mut tries);
+    let ended = session(rt.alloc(), &mut desk, &mut reader, &mut writer);
     assert!(rt; ended == end, "{ended:?}: {text:?}.. in pieces of {most}");
     assert!(rt;
         writer.taken.as_slice() == written,

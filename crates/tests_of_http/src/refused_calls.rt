@@ -1,7 +1,7 @@
 //! The days again, with each call of the store refused in turn.
-use super::exchanges::{UNAVAILABLE, add_request, add_response, http_desk, run};
-use super::samples::{Exchange, new_lists};
-use super::settlements::DAYS;
+use crate::exchanges::{UNAVAILABLE, add_request, add_response, http_desk, run};
+use crate::samples::{Exchange, new_lists};
+use crate::settlements::DAYS;
 use desk_core::{FaultyStore, Store};
 use desk_http::HttpDesk;
 use std::alloc::Global;

@@ -1,6 +1,6 @@
 //! A company gets the same bytes whatever others do, and from a desk that serves no one else.
-use super::exchanges::{follow, http_desk};
-use super::samples::{
+use crate::exchanges::{follow, http_desk};
+use crate::samples::{
     BAKE, CUT_9, DAY_8, DAY_9, DAY_14, Exchange, HOLIDAYS, MILL, RETURN_1_TAKEN, SUBMIT_2, TAKEN,
     new_lists, new_tables,
 };

@@ -1,17 +1,17 @@
 //! Messages and answers as bytes, and sessions over them.
-use super::samples::{Exchange, Script, new_lists, new_tables};
+use crate::samples::{Exchange, Script, new_lists, new_tables};
 use desk_core::{Desk, Store};
 use desk_http::HttpDesk;
 use http_routes::Routes;
-use http_session::{Ended, Tries, session};
+use http_session::{Ended, session};
 use itoa::Buffer;
 use std::alloc::Global;
 use std::process::Abort;
 
-pub(super) const UNAVAILABLE: &[u8] =
+pub(crate) const UNAVAILABLE: &[u8] =
     b"HTTP/1.1 503 Service Unavailable\r\nContent-Type: application/json\r\nContent-Length: 23\r\nConnection: close\r\n\r\n{\"error\":\"Unavailable\"}";
 
-pub(super) const LENGTH_REQUIRED: &[u8] =
+pub(crate) const LENGTH_REQUIRED: &[u8] =
     b"HTTP/1.1 411 Length Required\r\nContent-Type: application/json\r\nContent-Length: 26\r\nConnection: close\r\n\r\n{\"error\":\"LengthRequired\"}";
 
 // The word with this number; empty where there are fewer.
@@ -35,7 +35,7 @@ fn add(rt: &impl Abort, out: &mut Vec<u8>, text: &str) {
 }
 
 /// Appends the message: `CALLER METHOD PATH`, and its body.
-pub(super) fn add_request(rt: &impl Abort, out: &mut Vec<u8>, asks: &str, body: &str) {
+pub(crate) fn add_request(rt: &impl Abort, out: &mut Vec<u8>, asks: &str, body: &str) {
     let mut digits = Buffer::new();
     add(rt, out, word(asks, 1));
     add(rt, out, " ");
@@ -49,7 +49,7 @@ pub(super) fn add_request(rt: &impl Abort, out: &mut Vec<u8>, asks: &str, body: 
 }
 
 /// Appends the answer to it.
-pub(super) fn add_response(
+pub(crate) fn add_response(
     rt: &impl Abort,
     out: &mut Vec<u8>,
     asks: &str,
@@ -77,26 +77,26 @@ pub(super) fn add_response(
 }
 
 /// A desk over the store that answers messages.
-pub(super) fn http_desk<S>(rt: &(impl Abort + Alloc<A = Global>), store: S) -> HttpDesk<S> {
+pub(crate) fn http_desk<S>(rt: &(impl Abort + Alloc<A = Global>), store: S) -> HttpDesk<S> {
     let routes = Routes::new(rt.alloc()).ok().expect(rt, "memory");
     HttpDesk::new(Desk::new(store), routes)
 }
 
 /// The bytes that a session writes which has these bytes to read.
-pub(super) fn run<S: Store>(
+pub(crate) fn run<S: Store>(
     rt: &(impl Abort + Alloc<A = Global>),
     desk: &mut HttpDesk<S>,
     input: &[u8],
 ) -> Vec<u8> {
     let mut reader = input;
     let mut out = Vec::new(rt.alloc());
-    let ended = session(rt.alloc(), desk, &mut reader, &mut out, &mut Tries::new());
+    let ended = session(rt.alloc(), desk, &mut reader, &mut out);
     assert!(rt; ended == Ok(Ended::Closed));
     out
 }
 
 /// Sends the messages in one session, and checks each answer.
-pub(super) fn follow<S: Store>(
+pub(crate) fn follow<S: Store>(
     rt: &(impl Abort + Alloc<A = Global>),
     desk: &mut HttpDesk<S>,
     name: &str,
@@ -113,13 +113,13 @@ pub(super) fn follow<S: Store>(
 }
 
 /// Does so over lists and over tables, each the store of a new desk of the sample bank.
-pub(super) fn holds(rt: &(impl Abort + Alloc<A = Global>), name: &str, exchanges: &[Exchange]) {
+pub(crate) fn holds(rt: &(impl Abort + Alloc<A = Global>), name: &str, exchanges: &[Exchange]) {
     follow(rt, &mut http_desk(rt, new_lists(rt)), name, exchanges);
     follow(rt, &mut http_desk(rt, new_tables(rt)), name, exchanges);
 }
 
 /// Does so with each of these scripts.
-pub(super) fn all_hold(rt: &(impl Abort + Alloc<A = Global>), scripts: &[Script]) {
+pub(crate) fn all_hold(rt: &(impl Abort + Alloc<A = Global>), scripts: &[Script]) {
     for (name, exchanges) in scripts {
         holds(rt, name, exchanges);
     }

@@ -1,15 +1,5 @@
 //! The public names of the desk, each from the crate in which a programmer looks for it, and each method
-//! once. If a crate no longer exports one, this does not compile. Other tests import their names from here;
-//! names that no other test uses are used below.
-use crate::commands::PAY_1;
-use crate::commands::PAY_1_LINE;
-use crate::commands::lists::OPTIONS;
-use crate::commands::lists::PAY_LIST;
-use crate::commands::lists::PAY_MESSAGE;
-use crate::files::bank::OPERATOR_DIGEST;
-use crate::files::bank::RETURN;
-use crate::files::bank::identity;
-use crate::files::commands::is_done;
+//! once. If a crate no longer has one, this does not compile.
 use ach_fields::Cents;
 use ach_fields::FieldFault;
 use ach_fields::Id;
@@ -113,7 +103,7 @@ use desk_http::refusal_text;
 use desk_http::retry_draft;
 use desk_http::serve;
 use desk_http::served_alone;
-pub(crate) use desk_http::session;
+use desk_http::session;
 use desk_http::submission_draft;
 use desk_http::two_worlds;
 use desk_rules::Attempt;
@@ -140,15 +130,10 @@ use desk_rules::rates;
 use desk_tables::OpenFault;
 use desk_tables::SqlStore;
 use desk_tables::create;
-pub(crate) use desk_tables::migrate;
+use desk_tables::migrate;
 use desk_tables::migrate_file;
 use desk_tables::open;
 use sqlite::MemStore;
-use std::alloc::Global;
-use std::net::TcpListener;
-use std::process::Abort;
-use std::test::Fail;
-use std::time::Duration;
 
 #[test]
 fn formats_have_their_methods(_rt: HostRuntime) {
@@ -188,6 +173,121 @@ fn formats_have_their_methods(_rt: HostRuntime) {
         CalendarFault::number,
     );
     let _ = ReturnCode::parse;
+}
+
+#[test]
+fn headers_have_their_readers(_rt: HostRuntime) {
+    let _ = (
+        FileHeader::record_type,
+        FileHeader::priority_code,
+        FileHeader::immediate_destination,
+        FileHeader::immediate_origin,
+        FileHeader::creation_date,
+        FileHeader::creation_time,
+        FileHeader::modifier,
+    );
+    let _ = (
+        FileHeader::record_size,
+        FileHeader::blocking_factor,
+        FileHeader::format_code,
+        FileHeader::destination_name,
+        FileHeader::origin_name,
+        FileHeader::reference_code,
+    );
+    let _ = (
+        BatchHeader::record_type,
+        BatchHeader::service_class,
+        BatchHeader::company_name,
+        BatchHeader::discretionary_data,
+        BatchHeader::company_identification,
+        BatchHeader::sec_code,
+        BatchHeader::entry_description,
+    );
+    let _ = (
+        BatchHeader::descriptive_date,
+        BatchHeader::effective_entry_date,
+        BatchHeader::settlement_date,
+        BatchHeader::originator_status,
+        BatchHeader::originating_dfi,
+        BatchHeader::batch_number,
+    );
+}
+
+#[test]
+fn entries_have_their_readers(_rt: HostRuntime) {
+    let _ = (
+        Entry::record_type,
+        Entry::transaction_code,
+        Entry::receiving_dfi,
+        Entry::check_digit,
+        Entry::account,
+        Entry::cents,
+        Entry::identification,
+    );
+    let _ = (
+        Entry::name,
+        Entry::discretionary_data,
+        Entry::addenda_indicator,
+        Entry::trace,
+    );
+    let _ = (
+        Addenda05::record_type,
+        Addenda05::payment_information,
+        Addenda05::sequence,
+        Addenda05::entry_sequence,
+    );
+}
+
+#[test]
+fn returns_and_changes_have_their_readers(_rt: HostRuntime) {
+    let _ = (
+        Return99::record_type,
+        Return99::return_code,
+        Return99::original_trace,
+        Return99::date_of_death,
+        Return99::original_receiving_dfi,
+        Return99::information,
+        Return99::trace,
+    );
+    let _ = (
+        Change98::record_type,
+        Change98::change_code,
+        Change98::original_trace,
+        Change98::reserved,
+        Change98::original_receiving_dfi,
+        Change98::corrected_data,
+        Change98::second_reserved,
+    );
+    let _ = Change98::trace;
+}
+
+#[test]
+fn controls_have_their_readers(_rt: HostRuntime) {
+    let _ = (
+        BatchControl::record_type,
+        BatchControl::service_class,
+        BatchControl::count,
+        BatchControl::entry_hash,
+        BatchControl::total_debits,
+        BatchControl::total_credits,
+        BatchControl::company_identification,
+    );
+    let _ = (
+        BatchControl::authentication_code,
+        BatchControl::reserved,
+        BatchControl::originating_dfi,
+        BatchControl::batch_number,
+    );
+    let _ = (
+        FileControl::record_type,
+        FileControl::batch_count,
+        FileControl::block_count,
+        FileControl::count,
+        FileControl::entry_hash,
+        FileControl::total_debits,
+        FileControl::total_credits,
+    );
+    let _ = FileControl::reserved;
 }
 
 #[test]
@@ -244,105 +344,4 @@ fn laws_are_calls(_rt: HostRuntime) {
     rows_of_part();
     two_worlds();
     served_alone();
-}
-
-#[test]
-fn bodies_and_lists_are_answered(rt: HostRuntime) -> Result<(), Fail> {
-    let (accepted, mut line) = submission_answer(rt.alloc(), PAY_1).ok().ok_or("memory")?;
-    line.push(b'\n')?;
-    assert!(rt; accepted && line.as_slice() == PAY_1_LINE.as_bytes());
-    let message = submit_message(rt.alloc(), &OPTIONS, PAY_LIST)
-        .ok()
-        .ok_or("memory")?;
-    assert!(rt; message.as_slice() == PAY_MESSAGE.as_bytes());
-    Ok(())
-}
-
-const BAD_HEAD: &[u8] =
-    b"HTTP/1.1 400 Bad Request\r\nContent-Type: application/json\r\nContent-Length: 19\r\nConnection: close\r\n\r\n{\"error\":\"BadHead\"}";
-
-#[test]
-fn a_message_is_answered(rt: HostRuntime) -> Result<(), Fail> {
-    let routes = Routes::new(rt.alloc())?;
-    let mut desk = Desk::new(ListStore::new(rt.alloc(), identity(&rt), OPERATOR_DIGEST));
-    let bytes = answer(rt.alloc(), &mut desk, &routes, Message::BadHead)
-        .ok()
-        .ok_or("memory")?;
-    assert!(rt; bytes.as_slice() == BAD_HEAD);
-    Ok(())
-}
-
-// The plan of the cut that sends the first credit of a new desk.
-fn plan_of_cut(rt: &(impl Abort + Alloc<A = Global>)) -> Option<CutPlan> {
-    let mut desk = Desk::new(ListStore::new(rt.alloc(), identity(rt), OPERATOR_DIGEST));
-    for number in 0..4 {
-        assert!(rt; is_done(rt, &mut desk, number));
-    }
-    let mut store = desk.into_store();
-    let holidays = store.calendar(rt.alloc()).ok()?;
-    let waiting = store.waiting(rt.alloc()).ok()?;
-    let day = store.day(rt.alloc()).ok()??;
-    let numbered = number_cut(rt.alloc(), day, &holidays, 0, &waiting).ok()?;
-    assert!(rt; numbered.ranges() == [(1, 1)].as_slice());
-    plan_cut(rt.alloc(), &identity(rt), numbered, 0, &[None]).ok()
-}
-
-#[test]
-fn a_cut_is_planned(rt: HostRuntime) -> Result<(), Fail> {
-    let counts: &[u32] = &[1, 2];
-    assert!(rt; counts.iter().all(|count| (1..=1_000).contains(count)));
-    let planned = plan_numbers(rt.alloc(), 9_999_998, counts)
-        .ok()
-        .ok_or("numbers")?;
-    assert!(rt; planned.as_slice() == [(9_999_999, 9_999_999), (1, 2)].as_slice());
-    let plan = plan_of_cut(&rt).ok_or("a plan")?;
-    assert!(rt; plan.done.entries == 1 && plan.done.lapsed == 0);
-    assert!(rt; plan.done.files.as_slice() == b"A".as_slice());
-    assert!(rt; plan.sent.len() == 1 && plan.postings.len() == 2);
-    Ok(())
-}
-
-// A desk that sent nothing takes a file of one return.
-#[test]
-fn an_incoming_file_is_planned(rt: HostRuntime) -> Result<(), Fail> {
-    let incoming = read_file(rt.alloc(), RETURN.as_bytes())
-        .ok()
-        .ok_or("a file")?;
-    assert!(rt; incoming.len() == 1);
-    let found = [FoundItem {
-        item: incoming.item(0).facts(),
-        named: None,
-    }];
-    let day = Day::read(b"2025-01-14").ok_or("a day")?;
-    let holidays = Calendar::from_days(rt.alloc(), &[]).ok().ok_or("memory")?;
-    let (key, digest) = (incoming.key(), incoming.digest());
-    let plan = plan_intake(rt.alloc(), key, digest, &found, day, &holidays)?;
-    let wanted = Intake {
-        changes: 0,
-        day,
-        late: 0,
-        returns: 0,
-        suspense: 1,
-    };
-    assert!(rt; plan.file.answer == wanted && plan.file.key == key);
-    assert!(rt; plan.suspense.len() == 1 && plan.suspense[0].why == SuspenseReason::NoTrace);
-    assert!(rt; plan.postings.len() == 2);
-    Ok(())
-}
-
-#[test]
-fn no_connection_is_awaited(rt: HostRuntime) -> Result<(), Fail> {
-    let routes = Routes::new(rt.alloc())?;
-    let store = ListStore::new(rt.alloc(), identity(&rt), OPERATOR_DIGEST);
-    let mut desk = HttpDesk::new(Desk::new(store), routes);
-    let mut listener = TcpListener::bind(&rt, "127.0.0.1:0")?;
-    let served = serve(
-        rt.alloc(),
-        &mut desk,
-        &mut listener,
-        0,
-        Duration::from_secs(1),
-    );
-    assert!(rt; served == Ok(()));
-    Ok(())
 }

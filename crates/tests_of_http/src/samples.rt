@@ -9,62 +9,62 @@ use std::process::Abort;
 
 /// A message with its answer: who asks, with which method and path; the body; the status; the answer's
 /// body.
-pub(super) type Exchange = (&'static str, &'static str, &'static str, &'static str);
+pub(crate) type Exchange = (&'static str, &'static str, &'static str, &'static str);
 
 /// A script has a name, and exchanges that follow one another.
-pub(super) type Script = (&'static str, &'static [Exchange]);
+pub(crate) type Script = (&'static str, &'static [Exchange]);
 
-pub(super) const PAY_1: &str =
+pub(crate) const PAY_1: &str =
     r#"{"ref":"PAY-1","sec":"PPD","direction":"credit","description":"PAYROLL","day":"2025-01-10","entries":[{"routing":"091000019","account":"123456789","kind":"checking","cents":150000,"id":"E1","name":"ANN LEE"}]}"#;
 
-pub(super) const PAY_2: &str =
+pub(crate) const PAY_2: &str =
     r#"{"ref":"PAY-2","sec":"PPD","direction":"debit","description":"DUES","day":"2025-01-10","entries":[{"routing":"091000019","account":"123456789","kind":"checking","cents":2500,"id":"E2","name":"BOB RAY"}]}"#;
 
-pub(super) const PAY_1_ACCEPTED: &str = r#"{"cents":150000,"entries":1,"order":1,"ref":"PAY-1"}"#;
+pub(crate) const PAY_1_ACCEPTED: &str = r#"{"cents":150000,"entries":1,"order":1,"ref":"PAY-1"}"#;
 
-pub(super) const HOLIDAYS: Exchange = (
+pub(crate) const HOLIDAYS: Exchange = (
     "desk POST /ops/holidays",
     "2025-01-20\n",
     "200 OK",
     r#"{"holidays":1}"#,
 );
 
-pub(super) const MILL: Exchange = (
+pub(crate) const MILL: Exchange = (
     "desk POST /ops/companies",
     r#"{"id":"MILL01","name":"MILL STREET","key":"mill-street-key","entry_limit":9999999999,"credit_limit":999999999999999,"debit_limit":999999999999999}"#,
     "201 Created",
     r#"{"id":"MILL01"}"#,
 );
 
-pub(super) const BAKE: Exchange = (
+pub(crate) const BAKE: Exchange = (
     "desk POST /ops/companies",
     r#"{"id":"BAKE01","name":"BAKERY","key":"bakery-key","entry_limit":9999999999,"credit_limit":999999999999999,"debit_limit":999999999999999}"#,
     "201 Created",
     r#"{"id":"BAKE01"}"#,
 );
 
-pub(super) const DAY_8: Exchange = (
+pub(crate) const DAY_8: Exchange = (
     "desk POST /ops/day",
     r#"{"day":"2025-01-08"}"#,
     "200 OK",
     r#"{"day":"2025-01-08"}"#,
 );
 
-pub(super) const DAY_9: Exchange = (
+pub(crate) const DAY_9: Exchange = (
     "desk POST /ops/day",
     r#"{"day":"2025-01-09"}"#,
     "200 OK",
     r#"{"day":"2025-01-09"}"#,
 );
 
-pub(super) const DAY_14: Exchange = (
+pub(crate) const DAY_14: Exchange = (
     "desk POST /ops/day",
     r#"{"day":"2025-01-14"}"#,
     "200 OK",
     r#"{"day":"2025-01-14"}"#,
 );
 
-pub(super) const SUBMIT_1: Exchange = (
+pub(crate) const SUBMIT_1: Exchange = (
     "MILL01 POST /c/MILL01/submissions",
     PAY_1,
     "201 Created",
@@ -72,7 +72,7 @@ pub(super) const SUBMIT_1: Exchange = (
 );
 
 /// The first submission of a desk.
-pub(super) const SUBMIT_2: Exchange = (
+pub(crate) const SUBMIT_2: Exchange = (
     "MILL01 POST /c/MILL01/submissions",
     PAY_2,
     "201 Created",
@@ -80,7 +80,7 @@ pub(super) const SUBMIT_2: Exchange = (
 );
 
 /// The one return that a file has, of a debit that was sent with the first sequence.
-pub(super) const RETURN_1: &str = concat!(
+pub(crate) const RETURN_1: &str = concat!(
     "101 121042882 0610001462501140930A094101OUR BANK               ACH OPERATOR                   \n",
     "5225MILL STREET                         MILL01    PPDDUES            2501140141091000010000001\n",
     "626121042882123456789        0000002500E2             BOB RAY                 1091000010000007\n",
@@ -93,13 +93,13 @@ pub(super) const RETURN_1: &str = concat!(
     "9999999999999999999999999999999999999999999999999999999999999999999999999999999999999999999999\n",
 );
 
-pub(super) const TAKEN: &str =
+pub(crate) const TAKEN: &str =
     r#"{"changes":0,"day":"2025-01-14","late":0,"returns":1,"suspense":0}"#;
 
-pub(super) const RETURN_1_TAKEN: Exchange = ("desk POST /ops/returns", RETURN_1, "200 OK", TAKEN);
+pub(crate) const RETURN_1_TAKEN: Exchange = ("desk POST /ops/returns", RETURN_1, "200 OK", TAKEN);
 
 /// One entry is sent on that day.
-pub(super) const CUT_9: Exchange = (
+pub(crate) const CUT_9: Exchange = (
     "desk POST /ops/cut",
     "",
     "200 OK",
@@ -124,12 +124,12 @@ fn identity(rt: &impl Abort) -> Identity {
 }
 
 /// Makes a new store of the sample bank in lists, whose operator has the key `operator-key`.
-pub(super) fn new_lists(rt: &(impl Abort + Alloc<A = Global>)) -> ListStore {
+pub(crate) fn new_lists(rt: &(impl Abort + Alloc<A = Global>)) -> ListStore {
     ListStore::new(rt.alloc(), identity(rt), Sha256::digest(b"operator-key"))
 }
 
 /// Makes the same store in tables.
-pub(super) fn new_tables(rt: &(impl Abort + Alloc<A = Global>)) -> SqlStore<MemStore> {
+pub(crate) fn new_tables(rt: &(impl Abort + Alloc<A = Global>)) -> SqlStore<MemStore> {
     SqlStore::in_memory(rt.alloc(), identity(rt), Sha256::digest(b"operator-key"))
         .ok()
         .expect(rt, "tables")

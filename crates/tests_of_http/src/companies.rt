@@ -1,6 +1,6 @@
 //! Requests of companies, and their answers.
-use super::exchanges::all_hold;
-use super::samples::{
+use crate::exchanges::all_hold;
+use crate::samples::{
     BAKE, CUT_9, DAY_8, DAY_9, DAY_14, HOLIDAYS, MILL, PAY_1, PAY_1_ACCEPTED, RETURN_1_TAKEN,
     SUBMIT_1, SUBMIT_2, Script,
 };

@@ -1,12 +1,11 @@
 //! Tasks of a desk on a connection, for any storage of its pages.
 use super::exchanges::UNAVAILABLE;
 use crate::files::bank::identity;
-use crate::names::session;
 use crate::tables::add_tables;
 use desk_core::Desk;
-use desk_http::HttpDesk;
+use desk_http::{HttpDesk, session};
 use http_routes::Routes;
-use http_session::{Answers, Ended, Tries};
+use http_session::{Answers, Ended};
 use sql_files::migrate;
 use sql_setup::{OpenFault, check_desk, make_desk};
 use sql_store::SqlStore;
@@ -62,7 +61,7 @@ fn read<S: Alter>(conn: &mut Connection<S>, told: &mut Vec<u8>) -> Result<(), Op
 
 fn answer_all<D: Answers>(alloc: Global, desk: &mut D, input: &[u8], told: &mut Vec<u8>) -> bool {
     let mut reader = input;
-    session(alloc, desk, &mut reader, told, &mut Tries::new()) == Ok(Ended::Closed)
+    session(alloc, desk, &mut reader, told) == Ok(Ended::Closed)
 }
 
 fn answer<S: Alter + Drop>(

@@ -1,6 +1,6 @@
 //! Databases are migrated, or refused as they are.
 use super::first_version::{INDEXES, ROWS, TABLES};
-use crate::names::migrate;
+use desk_tables::migrate;
 use sql_queries::places;
 use sql_setup::{OpenFault, check_desk};
 use sqlite::{Connection, Error, MemStore};
@@ -14,7 +14,7 @@ fn batch(conn: &mut Connection<MemStore>, sql: &str) -> Result<(), Error> {
 }
 
 fn migrate_desk(alloc: Global, conn: &mut Connection<MemStore>) -> Result<(), OpenFault> {
-    migrate(alloc, conn).map_err(|why| why.told())
+    migrate(alloc, conn)
 }
 
 fn check(alloc: Global, conn: &mut Connection<MemStore>) -> Result<(), OpenFault> {

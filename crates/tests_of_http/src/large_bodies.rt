@@ -1,6 +1,6 @@
 //! Bodies of the most bytes that a desk reads.
-use super::exchanges::{follow, http_desk};
-use super::samples::{
+use crate::exchanges::{follow, http_desk};
+use crate::samples::{
     CUT_9, DAY_8, DAY_9, DAY_14, HOLIDAYS, MILL, RETURN_1, SUBMIT_2, TAKEN, new_lists,
 };
 use std::alloc::Global;

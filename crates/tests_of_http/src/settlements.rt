@@ -1,11 +1,11 @@
 //! A bank's days: cuts, returns, and the accounts.
-use super::exchanges::holds;
-use super::samples::{
+use crate::exchanges::holds;
+use crate::samples::{
     CUT_9, DAY_8, DAY_9, DAY_14, Exchange, HOLIDAYS, MILL, PAY_2, SUBMIT_1, TAKEN,
 };
 
 /// The return of the second entry that the desk sent.
-pub(super) const RETURN_2: &str = concat!(
+pub(crate) const RETURN_2: &str = concat!(
     "101 121042882 0610001462501140930A094101OUR BANK               ACH OPERATOR                   \n",
     "5225MILL STREET                         MILL01    PPDDUES            2501140141091000010000001\n",
     "626121042882123456789        0000002500E2             BOB RAY                 1091000010000007\n",
@@ -33,7 +33,7 @@ const FILE_A: &str = concat!(
 );
 
 /// A credit and a debit are sent, and the debit is returned.
-pub(super) const DAYS: &[Exchange] = &[
+pub(crate) const DAYS: &[Exchange] = &[
     HOLIDAYS,
     MILL,
     DAY_8,

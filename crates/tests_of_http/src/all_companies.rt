@@ -1,12 +1,12 @@
 //! The operator's list of all companies, over HTTP.
-use super::exchanges::{all_hold, follow, http_desk};
-use super::own_rows::{body_of, own_list};
-use super::samples::{
+use crate::exchanges::{all_hold, follow, http_desk};
+use crate::own_rows::{body_of, own_list};
+use crate::remembering::{inside, remembering};
+use crate::samples::{
     BAKE, CUT_9, DAY_8, DAY_9, DAY_14, Exchange, HOLIDAYS, MILL, PAY_2, SUBMIT_1, Script, TAKEN,
     new_lists, new_tables,
 };
-use super::settlements::RETURN_2;
-use crate::remembering::{inside, remembering};
+use crate::settlements::RETURN_2;
 use desk_core::Store;
 use desk_http::HttpDesk;
 use std::alloc::Global;

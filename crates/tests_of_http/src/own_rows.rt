@@ -1,5 +1,5 @@
 //! The list of all companies, made of the answers to each company's own two reads.
-use super::exchanges::{add_request, run};
+use crate::exchanges::{add_request, run};
 use desk_core::Store;
 use desk_http::HttpDesk;
 use std::alloc::Global;
@@ -13,7 +13,7 @@ fn add(rt: &impl Abort, out: &mut String, text: &str) {
 }
 
 /// Returns the body of the answer to a message without a body.
-pub(super) fn body_of<S: Store>(
+pub(crate) fn body_of<S: Store>(
     rt: &(impl Abort + Alloc<A = Global>),
     desk: &mut HttpDesk<S>,
     asks: &str,
@@ -73,7 +73,7 @@ fn add_row<S: Store>(
 
 /// Makes the list of all companies of the answers to their own reads on a day, `"day":"2025-01-08",` as
 /// these have it.
-pub(super) fn own_list<S: Store>(
+pub(crate) fn own_list<S: Store>(
     rt: &(impl Abort + Alloc<A = Global>),
     desk: &mut HttpDesk<S>,
     day: &str,
