@@ -31,7 +31,7 @@ serve() {
     port=${port:-$((20000 + $$ % 10000))}
     while :; do
         : >"$work/said"
-        "$achdesk" serve "$work/bank.db" "$port" >"$work/said" &
+        "$achdesk" serve "$work/bank.db" "$port" --connections 1000000 >"$work/said" &
         server=$!
         until [ -s "$work/said" ] || ! kill -0 "$server" 2>/dev/null; do sleep 0.05; done
         grep -q '^listening' "$work/said" && break

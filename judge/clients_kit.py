@@ -1,17 +1,19 @@
 #!/usr/bin/env python3
 """Tries the client library and the client program against a served desk: `python3 judge/clients_kit.py [PROGRAM]`.
 
-PROGRAM is ./achdesk if it is left out. clients/python/achdesk.py makes every call of a bank's days, directly and through
+PROGRAM is ./achdesk if it is left out. The library of clients/python makes every call of a bank's days, directly and through
 nginx with TLS, while answers are lost at each byte, requests are dropped, 429, 502, 503 and 504 come, the desk is killed
 and started again, and kept connections are closed. What the calls return, and the rows of the desk's file as stock SQLite
 reads them, must be those of a desk whose every answer came: every request takes effect exactly once. The lists that
-`submit_csv` takes and refuses are compared with `achdesk submit`. Then clients/achdesk-company is run: each command in
-each form, each exit status, and `--new` with kills in between.
+`entries_of_csv` takes and refuses are compared with `achdesk submit`, and the faults of fields with the desk's. Then
+clients/achdesk-company is run: each command in each form, each exit status, `--new` and `--split` with kills in between,
+and what a person reads of faults and refusals. A cut that is still on its way when its client gives up is made once.
 
 It takes Debian's packages nginx and openssl: if one is missing it says so and ends with status 2, which is not a pass.
 The last line counts the checks; the status is 1 if one failed.
 """
 
+import datetime
 import sys
 import threading
 import time
@@ -33,13 +35,15 @@ from helpers.kit_bank import (
     named,
     page,
 )
-from helpers.kit_lists import lists
-from helpers.kit_program import commands, exit_statuses, new_items
+from helpers.kit_lists import fields, lists
+from helpers.kit_parts import parts
+from helpers.kit_program import commands, exit_statuses, installed, messages, new_items
 from helpers.returned import file_of_returns
 from helpers.running import HOST, MILL_KEY, OPERATOR_KEY, TOP, Checks, found, program_of, rows_of
 
 import achdesk
-from achdesk import Company, Entry, Operator, Settings
+from achdesk import Company, Entry, Operator, Settings, caller
+from achdesk.csv_list import LARGEST_LIST
 
 # ---- a bank's days by every call
 
@@ -368,9 +372,9 @@ def waits(checks, bank):
 
 def growing(checks):
     """The pauses as they are outside of this judge."""
-    first, achdesk.FIRST_PAUSE = achdesk.FIRST_PAUSE, 0.5
-    pauses = [achdesk._pause(n) for n in range(1, 12)]
-    achdesk.FIRST_PAUSE = first
+    first, caller.FIRST_PAUSE = caller.FIRST_PAUSE, 0.5
+    pauses = [caller.pause_after(n) for n in range(1, 12)]
+    caller.FIRST_PAUSE = first
     fits = [min(30, 0.5 * 2**n) / 2 <= it <= min(30, 0.5 * 2**n) for n, it in enumerate(pauses)]
     checks.that("pauses grow from half a second to 30", fits, [True] * 11)
 
@@ -390,7 +394,7 @@ def no_desk(checks, program):
             checks.that(
                 f"nor is a page with status {status}",
                 (named(error), error.status, error.attempts, error.may_have_acted),
-                (("ForeignAnswer",), status, 1, status == 302),
+                (("ForeignAnswer",), status, 1, status in (302, 500)),
             )
         for body in (
             b"[]",
@@ -451,6 +455,80 @@ def no_desk(checks, program):
     )
 
 
+def late_cut(checks, program, way):
+    """A cut that a slow proxy passes on after its client has given up."""
+    with Bank(program, way) as bank:
+        bank.open()
+        bank.mill.submit([ANN], ref="PAY-1", day=day("01-10"), **PAY)
+        hasty = bank.make_operator(timeout=1, total_seconds=0, queue_seconds=10)
+        bank.spoils.plans.append(("wait", 6))
+        error = error_of(hasty.cut)
+        checks.that(f"{way}, the client gives up a cut that waits", (named(error), error.may_have_acted), (("NoAnswer",), True))
+        checks.that("a status that is read at once does not show it", bank.operator.status().files, ())
+        checks.that("the error says that it may still come", 6 < error.settles_in <= 10)
+        time.sleep(error.settles_in)
+        checks.that("after so many seconds the status shows it", bank.operator.status().files, ("A",))
+        checks.that("and it was made once", bank.spoils.requests.count("POST /ops/cut HTTP/1.0" if bank.tls else "POST /ops/cut HTTP/1.1"), 1)
+    it = Settings()
+    checks.that("by default the client waits longer than the proxy keeps a request", it.timeout > it.queue_seconds)
+
+
+def explained(checks, program):
+    """What the library says of refusals, with the desk's own day and limits."""
+    with Bank(program, "directly") as bank:
+        bank.open()
+        op, mill = bank.operator, bank.mill
+        op.set_limits(id="MILL01", entry_limit=500000, credit_limit=700000, debit_limit=5000000)
+
+        def told(call):
+            error = error_of(call)
+            return f"{error.name}: {mill.explain(error)}"
+
+        def pay(*entries, ref="PAY-1", asked=day("01-10"), **more):
+            return lambda: mill.submit(entries, ref=ref, day=asked, **{**PAY, **more})
+
+        rich = Entry("091000019", "5", "checking", 500001, "", "B")
+        late = "The day asked for, 2026-11-30, is not 1 to 60 days after the desk day, 2025-01-08: ask for 2025-01-09 to 2025-03-09."
+        for what, call, wanted in (
+            ("a day", pay(ANN, asked=day("01-10").replace(year=2026, month=11, day=30)), f"DateRange: {late}"),
+            ("an amount", pay(ANN, rich), "EntryLimit: entry 2: $5,000.01 is over the company's limit for one entry, $5,000.00."),
+            ("a total", pay(*[ANN] * 5), "CreditLimit: The total, $7,500.00, is over what is left of the credit limit, $7,000.00: "
+                                         "the exposure is $0.00 of $7,000.00."),
+            ("a field", pay(ANN, Entry("091000019", "1" * 18, "checking", 1, "", "B")),
+             'BadField: entry 2, column account: "111111111111111111" has 18 characters; it takes 1 to 17 characters.'),
+            ("a description", pay(ANN, description="RETRY PYMT"),
+             'BadField: description: "RETRY PYMT" is refused; it takes 1 to 10 characters of ASCII without a blank at either end, '
+             "but not RETRY PYMT or REVERSAL."),
+        ):
+            checks.that(f"what the client says of {what}", told(call), wanted)
+        for last, asked in ((9, "2025-01-09"), (9, "2025-03-09")):
+            checks.that(f"the day {asked} of that sentence is taken", named(error_of(pay(ANN, ref=asked, asked=datetime.date.fromisoformat(asked)))), ("NoneType",))
+        mill.submit([ANN], ref="PAY-1", day=day("01-10"), **PAY)
+        checks.that("what it says of a reference", told(pay(BOB)), (
+            "RefReused: PAY-1 is order 3, a PPD credit with entries: 1, of $1,500.00 asked for 2025-01-10. Other content takes another "
+            "reference."))
+        mill.submit([BOB], ref="PAY-2", day=day("01-10"), **DUES)
+        retry = lambda **more: lambda: mill.retry(**{"ref": "RT-1", "of": "PAY-2", "index": 1, "day": day("01-16"), **more})
+        checks.that("of a retry too early", told(retry()), "NotReturned: Entry 1 of PAY-2 is held, and has not been returned.")
+        checks.that("of a retry of a credit", told(retry(of="PAY-1")), "NoEntry: PAY-1 is a credit, and only a debit is collected again.")
+        checks.that("of a retry of nothing", told(retry(of="PAY-9")), "NoEntry: The company has no submission PAY-9.")
+        op.set_day(day("01-09"))
+        op.cut()
+        op.set_day(day("01-14"))
+        trace = next(it[79:] for it in op.file(day("01-09"), "A").decode().splitlines() if "BOB RAY" in it)
+        item = {**ITEM, "cents": 2500, "code": "R08", "trace": trace}
+        op.take_returns(file_of_returns(1, "PPD", [item]).encode())
+        checks.that("of a stopped payment", told(retry()),
+                    "NotRetryable: It was returned R08 (payment stopped). Give the day of a new authorization: --authorized.")
+        checks.that("of an authorization that is too old", told(retry(authorized=day("01-13"))),
+                    "NotRetryable: It was returned R08 (payment stopped). The new authorization, 2025-01-13, must be from the day of the "
+                    "return up to the desk day, 2025-01-14.")
+        op.set_day(day("07-01"))
+        checks.that("of a retry that is too late", told(retry(day=day("07-10"), authorized=day("01-14"))),
+                    "RetryTooLate: The original settled on 2025-01-10. The retry must settle by 2025-07-09, 180 days later, and 2025-07-10 "
+                    "is too late for that.")
+
+
 REFUSALS = (
     (dict(ref="PAY 1"), ("BadField", 422, 2, "ref", 0)),
     (dict(sec="WEB"), ("BadField", 422, 2, "sec", 0)),
@@ -504,7 +582,7 @@ def refusals(checks, program):
             (error.name, error.number, error.code, str(error)),
             ("NotRetryable", 12, "R02", "NotRetryable (refusal 12), status 409, code R02"),
         )
-        error = error_of(lambda: op.take_returns(b" " * (achdesk.LARGEST_BODY + 1)))
+        error = error_of(lambda: op.take_returns(b" " * (LARGEST_LIST + 1)))
         checks.that(
             "a body that is too large: 413, though the desk does not read it",
             (named(error), error.status),
@@ -612,7 +690,7 @@ def certificates(checks, program):
             (("NoAnswer",), 1, False, []),
         )
         bank.open()
-        big = b" " * (achdesk.LARGEST_BODY + 1)
+        big = b" " * (LARGEST_LIST + 1)
         error = error_of(lambda: bank.operator.take_returns(big))
         checks.that(
             "a body that is too large is refused by the proxy",
@@ -634,18 +712,22 @@ def main():
         print(f"not tried, since these packages are missing: {', '.join(lacking)}")
         sys.exit(2)
     program, checks = program_of(sys.argv[1:]), Checks()
-    achdesk.FIRST_PAUSE = 0.02
+    caller.FIRST_PAUSE = 0.02
     lists(checks, program)
+    fields(checks, program)
     with Bank(program, "directly") as bank:
         twin = days(bank)
         bank.desk.stop()
         rows = rows_of(bank.path)
     worked(checks, twin)
-    for check in (repeats, no_desk, refusals, certificates, exit_statuses, new_items):
+    for check in (repeats, no_desk, refusals, certificates, exit_statuses, new_items, messages, explained):
         check(checks, program)
+    installed(checks)
     for way in ("directly", "through nginx with TLS"):
         for check in (cut_at_each_byte, kept, restarts, commands):
             check(checks, program, way)
+    late_cut(checks, program, "through nginx with TLS")
+    parts(checks, program, "through nginx with TLS")
     lost_behind_tls(checks, program, "through nginx with TLS", twin, rows)
     for way in ("directly", "through nginx with TLS"):
         spoiled(checks, program, way, twin, rows)

@@ -1,4 +1,4 @@
-"""Lists of entries in CSV: the client library takes and refuses them as `achdesk submit` does."""
+"""Lists of entries in CSV: the client library takes and refuses them as `achdesk submit` and the desk do."""
 
 import json
 import random
@@ -9,7 +9,8 @@ from helpers.kit_bank import LIST
 from helpers.running import MILL_KEY, run
 
 import achdesk
-from achdesk import InputFault
+from achdesk import Entry, ListFault
+from achdesk.csv_list import LARGEST_LIST
 
 # fmt: off
 PIECES = ["091000019", "123456789", "checking", "savings", "150000", "0", "E1", "ANN LEE", "yes", "no", "", "1.5",
@@ -65,8 +66,52 @@ def by_program(program, path):
 def by_library(data):
     try:
         return [it.body() for it in achdesk.entries_of_csv(data)]
-    except InputFault as fault:
-        return str(fault)
+    except ListFault as fault:
+        return fault.name if fault.row is None else f"row {fault.row}: {fault.name}"
+
+
+VALUES = {
+    "routing": ["091000019", "091000018", "061000146", "09100001", "0910000190", "09100001x", "", "000000000"],
+    "account": ["1", "1" * 17, "1" * 18, "", " 1", "1 ", "a b", "~!", "\x7f", "caf\xe9", "1\t2", "0 "],
+    "kind": ["checking", "savings", "Checking", "", "loan"],
+    "cents": [1, 0, 9_999_999_999, 10_000_000_000, 150000, 10**17],
+    "id": ["", "E1", "E" * 15, "E" * 16, " E", "E ", "\u0142"],
+    "name": ["ANN LEE", "A" * 22, "A" * 23, "", " ANN", "ANN ", "ZO\xcb"],
+    "info": [None, "JAN", "I" * 80, "I" * 81, " I", "I ", "\n"],
+}
+
+
+def random_entries(rng):
+    """Entries of which some have values at and past their bounds."""
+    entries = []
+    for _ in range(rng.randrange(1, 4)):
+        it = {"routing": "091000019", "account": "1", "kind": "checking", "cents": 1, "id": "", "name": "A", "info": None}
+        for name in rng.sample(sorted(VALUES), rng.randrange(3)):
+            it[name] = rng.choice(VALUES[name])
+        entries.append(Entry(prenote=rng.random() < 0.2, **it))
+    return entries
+
+
+def refused_by_program(program, entries):
+    """The first field of an entry that a new desk refuses: its name and the number of its entry; None if there is none."""
+    body = {"ref": "R", "sec": "PPD", "direction": "credit", "description": "P", "day": "2025-01-10"}
+    said, _ = run(program, given=json.dumps({**body, "entries": [it.body() for it in entries]}).encode())
+    answer = json.loads(said)
+    return (answer["field"], answer["index"]) if answer.get("error") == "BadField" else None
+
+
+def fields(checks, program):
+    """The library finds the same first fault in the fields of entries as the desk."""
+    rng, differ, seen = random.Random(88), [], set()
+    for _ in range(300):
+        entries = random_entries(rng)
+        found = [(column, n) for n, it in enumerate(entries, 1) for column, _ in it.faults()]
+        wanted = refused_by_program(program, entries)
+        seen.add(wanted and wanted[0])
+        if (found[0] if found else None) != wanted:
+            differ.append((entries, found, wanted))
+    checks.that("300 submissions: the first faulty field of an entry is the desk's", differ, [])
+    checks.that("each field was among them", seen, {None, *VALUES})
 
 
 def lists(checks, program):
@@ -77,7 +122,7 @@ def lists(checks, program):
         b"",
         b"\n",
         b"\xef\xbb\xbf" + LIST,
-        LIST + b"x" * (achdesk.LARGEST_BODY + 1 - len(LIST)),
+        LIST + b"x" * (LARGEST_LIST + 1 - len(LIST)),
         LIST.rstrip(b"\n") + b"," + b"x" * 200_000,
     ]
     cases += [random_list(rng) for _ in range(400)]

@@ -1,13 +1,18 @@
 """Runs of clients/achdesk-company against a desk."""
 
+import json
 import os
 import shutil
 import subprocess
 import sys
+import tempfile
+from pathlib import Path
 
 from helpers.kit_bank import day, page, Bank, LIST, BOB, ITEM, RETURN, CHANGE, DUES
 from helpers.returned import file_of_returns
 from helpers.running import MILL_KEY, SECONDS, TOP
+
+import achdesk
 
 
 COMPANY_PROGRAM = TOP / "clients" / "achdesk-company"
@@ -111,7 +116,7 @@ def commands(checks, program, way):
         checks.that(
             f"{way}, changes --new",
             it.run("changes", "--new"),
-            ("ref    index  code  day         text\nPAY-2      1  C01   2025-01-14  987654321\n", "", 0),
+            ("ref    index  code  day         text                           correction\nPAY-2      1  C01   2025-01-14  987654321                      account 987654321\n", "", 0),
         )
         checks.that(
             f"{way}, statement",
@@ -192,7 +197,7 @@ def exit_statuses(checks, program):
         checks.that(
             "1: a fault of the list",
             status_of(*SUBMIT, given=LIST.replace(b"150000", b"1.5")),
-            (1, "achdesk-company: row 1: bad cents\n"),
+            (1, 'achdesk-company: line 2, column cents: "1.5" is not a number of cents, such as 150000\n'),
         )
         checks.that("1: a wrong key", it.run("returns", ACHDESK_KEY_FILE=None, ACHDESK_KEY="wrong-key")[2], 1)
         checks.that(
@@ -316,3 +321,69 @@ def new_items(checks, program):
         state.unlink()
         checks.that("without it all is new", len(lines(new())), 4)
         shutil.rmtree(old)
+
+
+def messages(checks, program):
+    """What a person reads of faults and refusals, and what a spreadsheet and a terminal get."""
+    with Bank(program, "directly") as bank:
+        bank.open()
+        bank.operator.set_limits(id="MILL01", entry_limit=500000, credit_limit=20000000, debit_limit=5000000)
+        it = Program(bank)
+        good = "091000019,123456789,checking,,150000,E1,ANN LEE,\n"
+        listed = LIST.decode().split("\n")[0] + "\n" + good * 10
+        faulty = listed + '091000019,1,checking,,"$1,500.00",E1,ANN LEE,\n' + good + "091000018,1,checking,,1,E1,ANN LEE,\n"
+        checks.that(
+            "all faulty rows of a list: line, column, value and bound",
+            it.run(*SUBMIT, given=faulty.encode()),
+            ("", 'achdesk-company: line 12, column cents: "$1,500.00" is not a number of cents, such as 150000\n'
+             'achdesk-company: line 14, column routing: "091000018" is not a routing number: after 09100001 the ninth digit is 9\n', 1),
+        )
+        checks.that("nothing of it was sent", bank.mill.exposure().credit, 0)
+        checks.that(
+            "a day in the past: the desk day",
+            it.run(*SUBMIT[:-1], "2025-01-08", given=LIST),
+            ("", "achdesk-company: refused: DateRange (refusal 6), status 422. The day asked for, 2025-01-08, is not 1 to 60 days after "
+             "the desk day, 2025-01-08: ask for 2025-01-09 to 2025-03-09.\n", 1),
+        )
+        over = listed + good.replace("150000", "500001") + good + good.replace("150000", "600000")
+        checks.that(
+            "amounts over the limit: each line",
+            it.run(*SUBMIT, given=over.encode()),
+            ("", "achdesk-company: refused: EntryLimit (refusal 7), status 409. line 12: $5,000.01 is over the company's limit for one "
+             "entry, $5,000.00.\nachdesk-company: line 14: $6,000.00 is over the company's limit for one entry, $5,000.00.\n", 1),
+        )
+        escape = "\x1b[31m\x9b\x07"
+        body = json.dumps({"returns": [{"ref": "-A1", "index": 1, "code": "R03", "day": "2025-01-14", "late": False,
+                                        "info": f'=HYPERLINK("http://x"){escape}'}]}).encode()
+        for words, wanted in (
+            ([], "ref  index  code  day         late  info\n-A1      1  R03   2025-01-14  no    =HYPERLINK(\"http://x\")?[31m??\n"),
+            (["--csv"], "ref,index,code,day,late,info\n'-A1,1,R03,2025-01-14,no,\"'=HYPERLINK(\"\"http://x\"\")?[31m??\"\n"),
+        ):
+            bank.spoils.plans.append(("answer", page(200, "application/json", body)))
+            checks.that(f"no formula in CSV and no control character: {words}", it.run("returns", *words), (wanted, "", 0))
+        other = bank.folder / "other"
+        other.mkdir()
+        (other / "python3").write_text("#!/bin/sh\nexit 9\n")
+        (other / "python3").chmod(0o755)
+        done = subprocess.run([str(COMPANY_PROGRAM), "returns"], env={**it.environment, "PATH": f"{other}:/usr/bin:/bin"}, stdout=subprocess.PIPE)
+        checks.that("another Python first on the PATH does not matter", (done.stdout, done.returncode), (b"No returns.\n", 0))
+
+
+def installed(checks):
+    """`pip install ./clients/python` without network, by a Python that has setuptools and wheel."""
+    code = "import setuptools as s; int(s.__version__.split('.')[0]) > 70 or __import__('wheel')"
+    python = next((it for it in (sys.executable, "/usr/bin/python3")
+                   if subprocess.run([it, "-c", code], stderr=subprocess.DEVNULL).returncode == 0), None)
+    if python is None:
+        return checks.that("a Python with setuptools and wheel (Debian: python3-setuptools, python3-wheel)", "none", "one")
+    with tempfile.TemporaryDirectory() as name:
+        copy, target = Path(name) / "python", Path(name) / "target"
+        shutil.copytree(TOP / "clients" / "python", copy)  # pip leaves files next to it
+        words = ["-m", "pip", "install", "--quiet", "--no-build-isolation", "--no-deps", "--no-index", "--target", target, copy]
+        done = subprocess.run([python, *words], stdout=subprocess.PIPE, stderr=subprocess.STDOUT)
+        checks.that("pip installs the library without network", (done.returncode, done.returncode and done.stdout), (0, 0))
+        environment = {"PATH": "/usr/bin:/bin", "PYTHONPATH": str(target)}
+        said = subprocess.run([python, target / "bin" / "achdesk-company", "--version"], env=environment, stdout=subprocess.PIPE).stdout
+        checks.that("and the program", said, f"achdesk-company {achdesk.__version__}\n".encode())
+        checks.that("with its types, and without its tests",
+                    ((target / "achdesk" / "py.typed").exists(), (target / "tests").exists()), (True, False))
