@@ -1,11 +1,13 @@
-"""nginx in front of a desk, with the site of deploy/nginx.conf, in which only ports, paths and what a judge names are
-replaced: shared by all judges that need a proxy. It needs nginx, and openssl for a certificate of 127.0.0.1."""
+"""nginx in front of a desk, with the site of deploy/nginx.conf and the two files that it includes, in which only ports,
+paths and what a judge names are replaced: shared by all judges that need a proxy. It needs nginx, and openssl for a
+certificate of 127.0.0.1."""
 
 import http.client
 import os
 import re
 import shutil
 import signal
+import socket
 import ssl
 import subprocess
 import sys
@@ -15,6 +17,7 @@ from pathlib import Path
 from helpers.running import HOST, MILL_KEY, OPERATOR_KEY, TOP, connect, found, free_port
 
 SITE = TOP / "deploy" / "nginx.conf"
+INCLUDE = re.compile(r"^ *include /etc/nginx/snippets/achdesk-(\w+)\.conf;$", re.M)
 # What Debian's own nginx.conf has, in short. A worker must be able to read the folder of the judge.
 MAIN = """user www-data; worker_processes auto; pid {folder}/nginx.pid; error_log {folder}/error.log;
 events {{ worker_connections {connections}; }}
@@ -22,6 +25,8 @@ http {{ include /etc/nginx/mime.types; default_type application/octet-stream; se
 access_log {folder}/other.log; {temporary}
 include {folder}/site.conf; }}
 """
+# For judges that are not about limits, as `changes`: companies post as often as they read.
+QUICK = (("achdesk_submitter_rate:1m rate=1r/s", "achdesk_submitter_rate:1m rate=1000r/s"), ("achdesk_company_open 2", "achdesk_company_open 20"))
 TEMPORARY = ("client_body", "proxy", "fastcgi", "uwsgi", "scgi")
 
 # For judges that are not about keys: people, companies and the desk's keys, each caller with the key that the desk knows.
@@ -36,14 +41,26 @@ def replaced(text, old, new):
     return text.replace(old, new)
 
 
+def shipped():
+    """The text of deploy/nginx.conf with the texts of the files that it includes."""
+    return INCLUDE.sub(lambda found: (SITE.parent / f"nginx-{found[1]}.conf").read_text(), SITE.read_text())
+
+
+def listens(port, tls):
+    """The port on both loopback addresses, or on one where the machine has no IPv6."""
+    lines = [f"listen {address}:{port}{' ssl' if tls else ''};" for address in (HOST, "[::1]")]
+    return " ".join(lines if socket.has_ipv6 and Path("/proc/net/if_inet6").exists() else lines[:1])
+
+
 def site(folder, port, desk_port, console=TOP, seconds=60, tls=True, changes=()):
-    """The text of deploy/nginx.conf for a folder and two ports.
+    """The text of the site for a folder and two ports.
 
     `console` is the folder that has console/, and the desk is waited for so many seconds. `changes` are further texts with
     what replaces them. Without `tls` the site is plain HTTP, for a browser that would not trust the certificate."""
-    text = replaced(SITE.read_text(), "_timeout      60s", f"_timeout      {seconds}s")
-    for old, new in (("listen 443 ssl", f"listen {HOST}:{port}{' ssl' if tls else ''}"), ("127.0.0.1:880", f"{HOST}:{desk_port}"),
-                     ("/etc/achdesk", str(folder)), ("/var/log/achdesk", str(folder)), ("/usr/share/achdesk", str(console)), *changes):
+    text = re.sub(r"listen +443 ssl;\n *listen +\[::\]:443 ssl;", listens(port, tls), shipped())
+    for old, new in (("127.0.0.1:880", f"{HOST}:{desk_port}"), ("proxy_read_timeout         60s", f"proxy_read_timeout {seconds}s"),
+                     ("/etc/achdesk", str(folder)), ("/var/log/achdesk", str(folder)), ("/var/log/nginx", str(folder)), ("/usr/share/achdesk", str(console)),
+                     ("/var/lib/achdesk-day/public", f"{folder}/public"), *changes):
         text = replaced(text, old, new)
     return text if tls else re.sub(r"\n *ssl_\w+ .*;", "", text)
 
@@ -64,6 +81,7 @@ class Proxy:
         self.folder.chmod(0o755)
         (self.folder / "keys").mkdir(mode=0o700)
         (self.folder / "tls").mkdir(mode=0o700)
+        (self.folder / "public").mkdir(mode=0o755)
         self.log, self.errors = self.folder / "proxy.log", self.folder / "error.log"
         self.certificate = self.folder / "tls" / "cert.pem"
         self.make_certificate()
@@ -154,5 +172,5 @@ class Proxy:
 
 
 LOGGED = re.compile(r'(?P<time>\S+) (?P<address>\S+) holder=(?P<holder>\S+) "(?P<request>(?:[^"\\]|\\.)*)" (?P<status>\d+) '
-                    r'received=(?P<received>\d+) sent=(?P<sent>\d+) seconds=(?P<seconds>[\d.]+) desk=(?P<desk>.+)')
+                    r'received=(?P<received>\d+) sent=(?P<sent>\d+) seconds=(?P<seconds>[\d.]+) desk=(?P<desk>.+) id=(?P<id>[0-9a-f]{32})')
 
