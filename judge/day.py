@@ -11,7 +11,9 @@ hand, one of them without a wrong payroll, and one is withheld; these commands a
 has each transmitted file once, byte for byte as the desk has it, the ACH operator has each once, and the reports have the
 figures that are worked out by hand below. On the last two days a file is left untransmitted, for which an alarm of
 docs/operate/monitoring.md has to hold, the ACH operator rejects a file and a batch of another, and the desk day is set
-too late. In a bank of its own a desk is restored that makes a withheld file again.
+too late. In a bank of its own a desk is restored that makes a withheld file again. In another one the
+commands of an afternoon are killed at each of their steps and a standby takes over each time, with the newest backup and with an
+older one: no payment is transmitted twice, and none is left out without an alarm.
 
 The status is 1 if a check failed, and 2 if Debian packages are missing, which are named; that is not a pass.
 """
@@ -190,6 +192,14 @@ class Week:
         path.write_text("".join(f"{it}\n" for it in ["file,batches,entries,debits,credits", *rows]))
         return path
 
+    def confirmed(self):
+        """Asks the ACH operator about each file, as a person does after a restore or a takeover, and tells achdesk-day."""
+        there = {name.removesuffix(".ach") for name in self.operator.received()}
+        for line in (it for it in self.run("confirm").splitlines() if it.startswith("  ")):
+            name = line.split()[0]
+            self.run("confirm", name, "--transmitted" if name in there else "--not-transmitted", "--by", "ANN", says="confirmed")
+        self.run("confirm", "--no-other", "--by", "ANN", says="cut and send go on")
+
     # -- the state that kills must not change --
 
     def state(self):
@@ -314,7 +324,7 @@ class Week:
         found = dict(
             files={row["name"][11]: (int(row["note"].split()[0]), *number(row, "count", "debits", "credits")) for row in of("file")},
             codes={row["name"]: number(row, "count", "debits", "credits") for row in of("return") + of("change")},
-            late=[(row["name"], *number(row, "debits", "credits"), row["note"]) for row in of("late return")],
+            late=[(row["name"], *number(row, "debits", "credits"), row["note"].rpartition(", ")[0]) for row in of("late return")],
             suspense=[(row["name"], *number(row, "debits", "credits")) for row in of("suspense")],
             over=[self.rate_over(row) for row in of("return rates over a level") if row["count"] != "0"],
             settlement={row["day"]: int(row["net"]) for row in of("settlement")},
@@ -328,10 +338,16 @@ class Week:
         pays = {True: "the bank pays the ACH operator", False: "the ACH operator pays the bank"}
         self.checks.that(f"{day} the report says who pays", [row["note"] for row in of("settlement")], [pays[int(row["net"]) > 0] for row in of("settlement")])
         text = (self.bank.state / "reports" / f"{day}.txt").read_text()
-        told = "  " if desk_day == day else f"  {desk_day}  "
-        lines = [f"{told}{company}  {n}  {NAMES[company]}, {kind}: {n} of {d} debits, level {LEVELS[kind]} percent" for company, kind, n, d in FIGURES[day]["over"]]
-        shown = text.partition("\nReturn rates over a level\n")[2].partition("\n\n")[0].split("\n")
-        self.checks.that(f"{day} the report names the companies over a level", shown, lines or [f"{told}0"])
+        lines = [f"{desk_day} {company} {n} {NAMES[company]}, {kind}: {n} of {d} debits, level {LEVELS[kind]} percent" for company, kind, n, d in FIGURES[day]["over"]]
+        shown = [" ".join(it.split()) for it in text.partition("\nReturn rates over a level\n")[2].partition("\n\n")[0].split("\n")]
+        self.checks.that(f"{day} the report names the companies over a level, below headings", shown,
+                         ["desk day company returns note", *lines] if lines else ["desk day companies", f"{desk_day} 0"])
+        cut = {letter for row in of("cut") for letter in re.search("files ([A-Z0-9 ]+|none)", row["note"])[1].split() if letter != "none"}
+        self.checks.that(f"{day} each file has its cut, and the submissions of all files are listed",
+                         (cut, tuple(sum(int(row[it]) for row in of("sent")) for it in ("debits", "credits"))),
+                         (set(FIGURES[day]["files"]), tuple(sum(it[at] for it in FIGURES[day]["files"].values()) for at in (2, 3))))
+        self.checks.that(f"{day} the archive and the desk have the same incoming files, and each count says what it counts",
+                         ([row["section"] for row in rows if row["section"].startswith("incoming file that")], [row for row in rows if bool(row["count"]) != bool(row["counted"])]), ([], []))
         self.checks.that(f"{day} the report says that nothing is left", "NOT TRANSMITTED" in text, False)
 
     # -- metrics and the alarms of docs/operate/monitoring.md --
@@ -373,7 +389,7 @@ class Week:
         found = {(name.removeprefix("achdesk_"), labels): value for (name, labels), value in metrics.items()}
         names = {name for name, _ in wanted}
         self.checks.that("the metrics have the exposures, limits and rates worked out by hand", {it: value for it, value in found.items() if it[0] in names}, wanted)
-        single = {"files_today": 1, "files_left": 35, "files_needed_at_least": 0, "suspense_items": 1, "entries_sent_total": 13, "up": 1, "day_age_days": 0}
+        single = {"files_today": 1, "files_left": 35, "suspense_items": 1, "entries_sent_total": 13, "up": 1, "day_age_days": 0}
         self.checks.that("and the counts of the day", {name: found.get((name, "")) for name in single}, single)
 
 
@@ -387,10 +403,12 @@ def alarms_for(printed):
 
 
 def copied(source, target, but=""):
-    """Copies the folders of the desk, of achdesk-day and of the ACH operator, but one."""
+    """Copies the folders of the desk, of achdesk-day, of the ACH operator and of the standby, but one."""
     target.mkdir(exist_ok=True)
-    for name in ("desk", "day", "backups", "operator/inbox", "operator/taken"):
+    for name in ("desk", "day", "backups", "operator/inbox", "operator/taken", "operator/standby"):
         if name == but or not (source / name).exists():
+            if name == "operator/standby":
+                shutil.rmtree(target / name, ignore_errors=True)
             continue
         (target / name).parent.mkdir(exist_ok=True)
         (target / name).mkdir(exist_ok=True)
@@ -401,8 +419,9 @@ def copied(source, target, but=""):
 
 def monday(week):
     week.at(MON)
-    week.run("open", says="2025-01-13")
+    week.run("open", status=1, says="the journal does not know the desk's list of holidays")
     week.run("holidays", "2025", "2026", says="21 holidays")
+    week.run("open", says="2025-01-13")
     for company, name in NAMES.items():
         week.bank.curl("day", "/ops/companies", {"id": company, "name": name, "key": DESK_KEYS[company], **LIMITS})
     week.submit("MILL01", submission("PAY-1", "credit", WED, 150000, 120000, 80050))
@@ -596,7 +615,7 @@ def friday(week):
     week.at(FRI)
     week.run("open")
     week.arrive("friday.ach", file_of_returns(5, "PPD", [returned("R01", 6, 2, 4900), returned("R10", 7, 3, 3100)]))
-    week.run("returns", says="2 returns, 0 changes, 1 late")
+    week.run("returns", status=1, says="ALARM: late return: MILL01 DUES-1 entry 2, R01, debit 49.00, taken on 2025-01-17. The bank decides by 2025-01-27")
     week.submit("BAKE01", submission("DUES-2", "debit", HOLIDAY, 5000))
     week.run("cut", says="1 entries in files A")
     week.run("send", says="sent 2025-01-17-A")
@@ -609,12 +628,15 @@ def friday(week):
     week.checks.that("the restore lists the cut and the file that was sent since",
                      all(f"{it} 2025-01-17" in printed.replace("sent 2025-01-17-A", "sent 2025-01-17") for it in ("cut", "sent", "opened")))
     listed = next((bank.state / "reports").glob("restored-2025-01-17*.txt")).read_text()
-    week.checks.that("and what came by way of the proxy", 'POST /c/BAKE01/submissions HTTP/1.1" 201' in listed and "POST /ops/cut" in listed)
+    week.checks.that("and what came by way of the proxy", 'POST /c/BAKE01/submissions" 201' in listed and "POST /ops/cut" in listed)
     week.run("open", says="the desk day is 2025-01-17")
+    week.run("cut", status=1, says="the desk was restored")
+    week.run("send", status=1, says="2025-01-17-A")
+    week.confirmed()
     week.run("cut", status=1, says="would pay twice")
     for path in (bank.state / "incoming" / FRI).glob("*.ach"):
         path.rename(bank.state / "inbox" / "friday.ach")
-    week.run("returns", says="2 returns, 0 changes, 1 late")
+    week.run("returns", status=1, says="ALARM: late return: MILL01 DUES-1 entry 2, R01, debit 49.00, taken on 2025-01-17. The bank decides by 2025-01-27")
     week.submit("BAKE01", submission("DUES-2", "debit", HOLIDAY, 5000))
     week.run("cut", "--remake", says="byte for byte; it is not sent again")
     week.run("send", says="nothing")
@@ -735,7 +757,8 @@ def rejected(week):
     week.checks.that("the report says what was corrected, and misses no acknowledgement of it",
                      (f"{AFTER}-A" in text, "2 entries corrected, acknowledged" in text, "1 entries corrected\n" in text, "not acknowledged" in text), (True, True, True, False))
     (bank.sftp.inbox / f"{THU}-A.ach").unlink()
-    week.run("send", "--again", f"{THU}-A", says=f"sent {THU}-A")
+    week.run("send", "--again", f"{THU}-A", status=1, says="the ACH operator acknowledged")
+    week.run("send", "--again", f"{THU}-A", "--though-acknowledged", says=f"sent {THU}-A")
     week.run("ack", week.ack_of([f"{AFTER}-A"]), status=1, says=f"not acknowledged: {THU}-A")
     week.run("ack", week.ack_of([f"{THU}-A"]), says=f"acknowledged {THU}-A")
 
@@ -761,8 +784,8 @@ def withheld_and_restored(checks, program, folder):
     with Bank(program, folder) as bank:
         week = Week(bank, checks, 1)
         week.at(MON)
-        week.run("open", says=MON)
         week.run("holidays", "2025", "2026", says="21 holidays")
+        week.run("open", says=MON)
         for company, name in NAMES.items():
             bank.curl("day", "/ops/companies", {"id": company, "name": name, "key": DESK_KEYS[company], **LIMITS})
         week.run("backup", says="backed up")
@@ -784,6 +807,8 @@ def restored_newest(week):
     week.bank.desk.stop()
     week.run("restore", "newest", says="restored")
     week.bank.desk.start()
+    week.run("send", status=1, says="the desk was restored")
+    week.confirmed()
 
 
 def returned_by_correct(week, name, says):
@@ -826,20 +851,19 @@ def made_again_and_withheld(week, first):
     pay(week, "BAKE01", PAY_1=500)
     week.run("cut", says="1 entries in files B")
     week.run("send", status=1, says=f"achdesk-day send --again {name}, or achdesk-day mark {name} --withheld")
-    week.checks.that("nothing is transmitted, also no file after it", list(bank.sftp.inbox.iterdir()), [])
+    week.checks.that("it keeps back itself, and no file after it", [it.name for it in bank.sftp.inbox.iterdir()], [f"{MON}-B.ach"])
     week.run("correct", name, status=1, says="is neither transmitted nor withheld")
     move_archived(week, bank.folder / "elsewhere")
     week.run("report")
     text = (bank.state / "reports" / f"{MON}.txt").read_text()
-    week.checks.that("the report says of both files that they are not transmitted", text.count("NOT TRANSMITTED"), 2)
+    week.checks.that("the report says of the file that it is not transmitted", text.count("NOT TRANSMITTED"), 1)
     week.at(TUE)
-    week.run("open", status=1, says=f"not transmitted: {name} {MON}-B")
+    week.run("open", status=1, says=f"not transmitted: {name}")
     week.at(MON)
     week.run("mark", name, "--withheld", says=f"withheld {name}")
     week.run("mark", name, "--withheld", says="already")
-    week.untransmitted({MON: 1})
-    week.run("send", says=f"sent {MON}-B")
     week.untransmitted({MON: 0})
+    week.run("send", says="to transmit: nothing")
     week.checks.that("both files that were withheld are kept", len(list((bank.state / "withheld").iterdir())), 2)
     second = returned_by_correct(week, name, "debits 0.00, credits 40.00")
     week.checks.that("the returns of other entries are another file", second != first)
@@ -863,6 +887,206 @@ def made_again_and_transmitted(week):
     week.run("ack", "-", given=f"file,batches,entries,debits,credits\n{name},2,2,0,5000\n{MON}-B,1,1,0,500\n", says=f"acknowledged {name}: 2 batches, 2 records")
 
 
+# ---- a standby that takes over, after a kill at each step of an afternoon ----
+
+PAYMENTS = {"PAY-1": 11100, "PAY-2": 22200}  # each with amounts of its own, by which it is known in what was transmitted
+
+
+def taken_over(checks, program, folder, every):
+    """The machine is lost at each step of cut, backup, copy and send, and the standby takes over with what has left it."""
+    with Bank(program, folder) as bank:
+        bank.write_config(bank={"cut_off": ""})
+        week = Week(bank, checks, every)
+        week.operator.is_quick = True
+        week.at(MON)
+        week.run("holidays", "2025", "2026", says="21 holidays")
+        week.run("open", says=MON)
+        bank.curl("day", "/ops/companies", {"id": "MILL01", "name": "MILL STREET", "key": DESK_KEYS["MILL01"], **LIMITS})
+        week.run("backup", says="backed up")
+        week.run("copy")
+        pay(week, "MILL01", **{"PAY_1": PAYMENTS["PAY-1"]})
+        week.keep("afternoon")
+        afternoon = [("cut",), ("backup",), ("copy",), ("send",)]
+        for at, words in enumerate(afternoon):
+            step, is_over, failed = 1, False, []
+            while not is_over:
+                back_to_afternoon(week, afternoon[:at])
+                is_over = bank.day(*words, ACHDESK_DAY_KILL_AT=step)[0] != -9
+                failed += standby_goes_on(week, f"{words[0]} at step {step}", is_older=bool(step % 2))
+                step += every
+                week.kills += 1
+            checks.that(f"{words[0]} is killed at its steps, up to step {step - 1}, and a standby takes over: {failed}", failed, [])
+
+
+def back_to_afternoon(week, done):
+    """Brings the afternoon back, and makes these commands of it."""
+    bank = week.bank
+    with week.operator.lock:
+        bank.desk.stop()
+        copied(bank.folder / "afternoon", bank.folder)
+        (bank.folder / "alarms").unlink(missing_ok=True)
+        bank.desk.start()
+    for words in done:
+        bank.day(*words)
+
+
+def own_of(sftp, folder):
+    """Gives a folder to the user of the SFTP server, who is not root."""
+    if os.geteuid() == 0:
+        for path in (folder, *folder.rglob("*")):
+            shutil.chown(path, sftp.user)
+
+
+def standby_goes_on(week, when, is_older):
+    """What a person does at the standby, by the page, whose desk has the newest backup or the first one. Returns what is wrong."""
+    bank, machine = week.bank, {"ACHDESK_DAY_MACHINE": "standby"}
+    bank.desk.stop()
+    subprocess.run(["rsync", "--archive", "--delete", f"{bank.folder}/operator/standby/state/", f"{bank.state}/"], check=True)
+    if os.geteuid() == 0:
+        subprocess.run(["chown", "-R", "root:root", bank.state], check=True)
+    names = sorted(it.parent.name for it in bank.backups.glob("*/backup.json"))
+    bank.day("restore", names[0] if is_older else names[-1], **machine)
+    bank.desk.start()
+    wrong = [f"{when}: {words} does not refuse" for words in ("cut", "send") if bank.day(words, **machine)[0] != 1]
+    status = bank.curl("day", "/ops/status")
+    if not any(it["held"]["credits"]["submissions"] for it in status["companies"]) and not status["files"]:
+        pay(week, "MILL01", **{"PAY_1": PAYMENTS["PAY-1"]})  # what was answered since the backup is submitted again
+    there = {name.removesuffix(".ach") for name in week.operator.received()}
+    for line in (it for it in bank.day("confirm", **machine)[1].splitlines() if it.startswith("  ")):
+        name = line.split()[0]
+        bank.day("confirm", name, "--transmitted" if name in there else "--not-transmitted", "--by", "ANN", **machine)
+    bank.day("confirm", "--no-other", "--by", "ANN", **machine)
+    bank.day("cut", "--remake", **machine)
+    bank.day("send", **machine)
+    pay(week, "MILL01", **{"PAY_2": PAYMENTS["PAY-2"]})
+    ended = [bank.day(words, **machine) for words in ("cut", "send")]
+    received = b"".join(text for texts in week.operator.received().values() for text in texts)
+    times = [received.count(f"{cents:010}E1".encode()) for cents in PAYMENTS.values()]
+    if max(times) > 1 or times != [1, 1] and not bank.alarms():
+        wrong.append(f"{when}, {'older' if is_older else 'newest'}: transmitted {times}: {ended}")
+    return wrong
+
+
+# ---- files that are fetched, and what is late ----
+
+def fetched_and_watched(checks, program, folder):
+    """Files of returns on the real SFTP server: fetched once, whatever the server has next to them; and what is late."""
+    with Bank(program, folder) as bank:
+        there = bank.folder / "operator" / "returns"
+        there.mkdir()
+        own_of(bank.sftp, there)
+        bank.write_config(fetch={"folder": there, "names": "*.ach", "then": "delete"}, alarm={"received": "10:00"}, sftp={"window": "17:00"})
+        week = Week(bank, checks, 1)
+        week.at(MON)
+        week.run("holidays", "2025", "2026", says="21 holidays")
+        week.run("open", says=MON)
+        for name, text in (("r1.ach", file_of_returns(1, "PPD", [returned("R01", 9999999, 1, 500)])), ("r2.ach.part", "1"), ("b" * 200 + ".ach", "1")):
+            (there / name).write_text(text)
+        os.truncate(os.open(there / "large.ach", os.O_CREAT | os.O_RDWR, 0o644), 30 << 30)
+        own_of(bank.sftp, there)
+        week.at(MON, "10:30")
+        week.run("watch", status=1, says="no incoming file until 10:00")
+        step = 1
+        while bank.day("fetch", ACHDESK_DAY_KILL_AT=step)[0] == -9:
+            step += 1
+        checks.that(f"fetch is killed at its steps, up to step {step - 1}", step > 5)
+        week.run("fetch", status=1, says="large.ach of the SFTP server is not fetched")
+        checks.that("a file is fetched once, and the server's is deleted", sorted(it.name[:8] for it in there.iterdir()), ["bbbbbbbb", "large.ac", "r2.ach.p"])
+        week.run("returns", says="taken r1.ach: 0 returns, 0 changes, 0 late, 1 suspense")
+        week.run("fetch", status=1)
+        week.run("returns", says="the inbox is empty")
+        week.run("watch", says="nothing is late")
+        bank.curl("day", "/ops/companies", {"id": "MILL01", "name": "MILL STREET", "key": DESK_KEYS["MILL01"], **LIMITS})
+        pay(week, "MILL01", PAY_1=100)
+        week.at(MON, "16:00")
+        week.run("cut", says="in files A")
+        bank.sftp.stop()
+        week.run("send", status=3)
+        week.at(MON, "17:01")
+        week.run("send", "--retry", status=1, says="until the ACH operator's window closed at 17:00")
+        week.run("watch", status=1, says=f"closed at 17:00: {MON}-A")
+        bank.sftp.start()
+        subprocess.run(["ssh-keygen", "-q", "-t", "ed25519", "-N", "", "-f", bank.folder / "other"], check=True)
+        right = bank.sftp.known_hosts.read_text()
+        bank.sftp.known_hosts.write_text(f"{right.split()[0]} {(bank.folder / 'other.pub').read_text()}")
+        bank.write_config(standby={"to": "none"})
+        week.run("send", status=2, says="does not let achdesk-day in, or is another one")
+        checks.that("a changed host key is an alarm at once", any("achdesk-day send cannot run" in it for it in bank.alarms()))
+        bank.sftp.known_hosts.write_text(right)
+        week.run("send", says=f"sent {MON}-A")
+
+
+# ---- what the console did, and everyday questions ----
+
+def by_other_means(checks, program, folder):
+    """A day on which curl, as the console, cuts and posts a file of returns: the report has both, and says what the archive lacks.
+    Held submissions, entries, items in suspense and late returns are listed, and the bank's decisions kept."""
+    with Bank(program, folder) as bank:
+        week = Week(bank, checks, 1)
+        week.at(MON)
+        week.run("holidays", "2025", "2026", says="21 holidays")
+        week.run("open", says=MON)
+        for company, name in NAMES.items():
+            bank.curl("day", "/ops/companies", {"id": company, "name": name, "key": DESK_KEYS[company], **LIMITS})
+        week.submit("MILL01", submission("DUES-1", "debit", TUE, 2500, 4900, 3100))
+        week.run("held", "--csv", says=f"MILL01,DUES-1,submission,debit,3,10500,{TUE}\n")
+        bank.curl("day", "/ops/cut", text="")
+        pay(week, "BAKE01", PAY_1=99999)
+        week.run("cut", says="1 entries in files B")
+        week.run("send", says=f"sent {MON}-B")
+        week.submit("MILL01", submission("DUES-3", "debit", FRI, 700))
+        week.at(FRI)
+        week.run("open")
+        text = file_of_returns(5, "PPD", [returned("R01", 2, 2, 4900), returned("R01", 9999, 1, 500)])
+        told = bank.curl("day", "/ops/returns", text=text)
+        checks.that("curl posts a late return and an item that goes to suspense", (told["returns"], told["late"], told["suspense"]), (1, 1, 1))
+        reports_of_other_means(week)
+        questions(week)
+        decisions(week, text)
+
+
+def report_rows(week, day, section):
+    return [row for row in csv.DictReader(io.StringIO((week.bank.state / "reports" / f"{day}.csv").read_text())) if row["section"] == section]
+
+
+def reports_of_other_means(week):
+    week.run("report", MON, status=1, says="by other means")
+    found = [(row["name"] == "by other means", row["count"], row["note"].partition("files ")[2][:1]) for row in report_rows(week, MON, "cut")]
+    week.checks.that("the report shows the cut of curl by its files, and the program's own", found, [(False, "1", "B"), (True, "3", "A")])
+    week.checks.that("a late return is an alarm once it is found", [it for it in week.bank.alarms() if "late return: MILL01 DUES-1 entry 2" in it] != [])
+    week.run("metrics", says="\nachdesk_late_returns 1\n")
+    week.run("report", FRI)
+    found = [[(row["name"], row["count"]) for row in report_rows(week, FRI, it)] for it in ("return", "incoming files", "incoming file that the archive lacks")]
+    week.checks.that("the report has the returns that curl posted, and names the file that the archive lacks", found,
+                     [[("R01", "1")], [("", "1")], [("0610001462501140000F", "2")]])
+
+
+def questions(week):
+    rows = {it["company"]: it for it in json.loads(week.run("companies", "--json"))}
+    wanted = {it["id"]: it for it in week.bank.curl("day", "/ops/companies")["companies"]}
+    week.checks.that("companies has what the desk answers", {it: (row["credit"], row["debit"], row["debits"], row["overall"]) for it, row in rows.items()},
+                     {it: (int(row["credit"]), int(row["debit"]), row["rates"]["overall"]["d"], row["rates"]["overall"]["n"]) for it, row in wanted.items()})
+    for words, entries in ((("--amount", "49.00"), ["DUES-1/2"]), (("--name", "receiver 3"), ["DUES-1/3"]), (("--ref", "dues-3"), ["DUES-3/1"]),
+                           (("--trace", "121042880000001"), ["DUES-1/1"]), (("--account", "6789", "--company", "BAKE01"), ["PAY-1/1"])):
+        printed = week.run("find", *words, "--json")
+        week.checks.that(f"find {' '.join(words)}", ([f"{it['ref']}/{it['entry']}" for it in json.loads(printed)], "123456789" in printed), (entries, False))
+    week.run("find", "--account", "-", "--accounts", given="123456789\n", says="123456789")
+
+
+def decisions(week, text):
+    week.run("suspense", says="121042880009999  debit")
+    week.run("suspense", "--close", "1", "--note", "dishonored, R61", says="closed item 1")
+    week.run("watch", status=1, says="late return: MILL01 DUES-1 entry 2")
+    week.run("late", "--close", "1", "--note", "accepted", says="closed item 1")
+    week.run("watch", says="nothing is late")
+    week.run("metrics", says="\nachdesk_late_returns 0\n")
+    week.arrive("late.ach", text)
+    week.run("returns", says=f"taken late.ach: 1 returns, 0 changes, 1 late, 1 suspense; first taken on {FRI}")
+    week.run("report", says="closed 2025-01-17: accepted")
+    week.checks.that("the file is in the archive now, and nothing is open",
+                     [report_rows(week, FRI, it) for it in ("incoming file that the archive lacks", "open in suspense")], [[], []])
+
+
 def at_the_end(week):
     """Each file once in the archive and once at the ACH operator, byte for byte as the desk has it."""
     bank = week.bank
@@ -882,14 +1106,17 @@ def at_the_end(week):
 def main():
     end_if_missing()
     signal.signal(signal.SIGTERM, lambda *_: sys.exit(1))  # ends the parts too
-    program, checks, began = program_of(sys.argv[1:]), Checks(), time.monotonic()
+    program, checks, began, every = program_of(sys.argv[1:]), Checks(), time.monotonic(), int((sys.argv[2:] or ["1"])[0])
     with tempfile.TemporaryDirectory(prefix="judge-day-") as folder:
         Path(folder).chmod(0o755)
         with Bank(program, folder) as bank:
-            week = Week(bank, checks, int((sys.argv[2:] or ["1"])[0]))
+            week = Week(bank, checks, every)
             for day in (monday, tuesday, wednesday, thursday, friday, holiday_and_after, by_hand, left_untransmitted, rejected, too_late, at_the_end):
                 day(week)
         withheld_and_restored(checks, program, Path(folder) / "restored")
+        taken_over(checks, program, Path(folder) / "taken-over", every)
+        fetched_and_watched(checks, program, Path(folder) / "fetched")
+        by_other_means(checks, program, Path(folder) / "by-other-means")
     print(f"        {time.monotonic() - began:.0f} s in all", flush=True)
     checks.end()
 

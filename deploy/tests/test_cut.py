@@ -1,0 +1,93 @@
+"""Cuts: a lost answer, the cut-off time, the number of files, and two persons."""
+
+from __future__ import annotations
+
+from achdesk_day.stops import NoAnswer, Rejected, Unavailable
+from tests.support import MON, TUE, TestCase
+
+
+class Cutting(TestCase):
+    def test_a_cut_whose_answer_is_lost_is_looked_up(self) -> None:
+        self.opened(100)
+        self.bank.desk.fails["cut"] = [NoAnswer("the connection was cut")]
+        self.does("cut", says="cut on 2025-01-13: 1 entries in files A")
+        self.assertEqual(1, self.bank.desk.asked.count("cut"))
+
+    def test_a_cut_that_did_not_reach_the_desk_is_made_again(self) -> None:
+        self.opened(100)
+        self.bank.desk.fails["cut"] = [Unavailable("refused")]
+        self.does("cut", status=3)
+        self.does("cut", says="in files A")
+
+    def test_a_refused_cut_is_an_alarm(self) -> None:
+        self.opened(100)
+        self.bank.desk.fails["cut"] = [Rejected("POST /ops/cut", "ModifiersSpent", "ModifiersSpent")]
+        self.does("cut", status=1, says="the cut was refused: ModifiersSpent")
+
+    def test_nothing_is_cut_on_another_day_or_past_the_time(self) -> None:
+        self.opened(100)
+        self.bank.configure(bank={"cut_off": "16:30"})
+        self.bank.at(MON, 22)
+        self.does("cut", status=1, says="past the cut-off time 16:30")
+        self.bank.at(TUE)
+        self.does("cut", status=1, says="Run achdesk-day open")
+        self.does("cut", "--dry-run", "--other-day", says="due MILL01")
+
+    def test_the_number_of_files_is_the_desk_s(self) -> None:
+        self.opened(100)
+        self.does("cut", "--dry-run", says="files left today: 36\n")
+        self.bank.desk.due_files = 8
+        self.does("cut", "--dry-run", says="files left today: 36; a cut makes 8 now")
+        self.bank.desk.due_files = 9
+        self.does("cut", "--dry-run", status=1, says="a cut would make 9 files now, and a day has 36")
+        self.assertIn("achdesk_due_files 9", self.does("metrics"))
+
+
+class DualControl(TestCase):
+    def setUp(self) -> None:
+        super().setUp()
+        self.bank.configure(approval={"cut": "yes", "send": "yes"})
+
+    def test_a_cut_needs_two_persons(self) -> None:
+        self.opened(100)
+        self.does("cut", status=1, says="the cut needs two persons")
+        self.does("approve", "cut", status=2, says="only a person approves")
+        self.bank.person = "ann"
+        self.does("approve", "cut", says="ann approves a cut on 2025-01-13 of at most 1 submissions, credits 1.00")
+        self.does("cut", status=1, says="So far: ann")
+        self.bank.person = "bob"
+        self.does("cut", says="in files A")
+        self.assertEqual(["ann", "bob"], self.bank.journal("cutting")[0]["people"])
+
+    def test_an_approval_is_of_one_cut_and_of_no_more_than_was_due(self) -> None:
+        self.opened(100)
+        self.bank.person = "ann"
+        self.does("approve", "cut")
+        self.bank.desk.due = [100, 100]
+        self.bank.person = "bob"
+        self.does("cut", status=1, says="So far: bob")
+        self.bank.desk.due = [100]
+        self.does("cut", says="in files A")
+        self.bank.desk.due = [100]
+        self.does("cut", status=1, says="So far: bob")
+
+    def test_a_timer_transmits_what_two_persons_approved(self) -> None:
+        self.bank.configure(approval={"send": "yes"})
+        self.opened(100)
+        self.does("cut")
+        self.bank.person = "ann"
+        self.does("approve", f"{MON}-A", says="ann approves the transmission")
+        self.bank.person = ""
+        self.does("send", status=1, says="needs two persons. So far: ann")
+        self.assertEqual([], self.bank.server.received)
+        self.bank.person = "bob"
+        self.does("approve", f"{MON}-A")
+        self.bank.person = ""
+        self.does("send", says="sent")
+        self.assertEqual(["ann", "bob"], self.bank.journal("sending")[0]["people"])
+
+    def test_it_is_off_unless_it_is_configured(self) -> None:
+        self.bank.configure()
+        self.opened(100)
+        self.does("cut", says="in files A")
+        self.does("send", says="sent")
