@@ -7,7 +7,10 @@ days, cuts, fetches files and posts files of returns, with refusals of each kind
 shows is compared with what the calls answer. Limits are edited in their table: well, badly, after somebody else changed
 them, and with a lost answer. A company's name has `<script>` in it and must stay text, and a script that is put into the
 page must not run. Everything is reachable at 360 pixels and by keyboard, the page shows when the desk is gone, and locks
-after fifteen minutes without use. PICTURE is where a picture is written; the company then has a plain name.
+after fifteen minutes without use. The day program marks a file and takes files of returns next to it: the page shows what it publishes of each file, asks
+before a transmitted one is saved, and knows the direction of its items in suspense. At 390 pixels the page with five
+companies is less than 3,000 pixels long, has no empty tile, and breaks no date. PICTURE is where a picture is written,
+and one at 390 pixels next to it; the company then has a plain name.
 
 It takes Debian's packages chromium, chromium-driver and nginx: if one is missing it says so and ends with status 2, which
 is not a pass. The last line counts the checks; the status is 1 if one failed.
@@ -16,8 +19,10 @@ is not a pass. The last line counts the checks; the status is 1 if one failed.
 import datetime
 import http.client
 import json
+import os
 import re
 import shutil
+import subprocess
 import sys
 import tempfile
 import time
@@ -25,7 +30,8 @@ from pathlib import Path
 
 from helpers.browser import Browser, missing
 from helpers.cutting_proxy import CuttingProxy
-from helpers.proxy import SAME_KEYS, Proxy
+from helpers.bank import DAY
+from helpers.proxy import QUICK, SAME_KEYS, Proxy
 from helpers.refusals import CALENDAR_FAULTS, FILE_FAULTS, MESSAGE_FAULTS, PROXY_FAULTS, REFUSALS
 from helpers.returned import file_of_returns
 from helpers.running import HOST, MILL_KEY, OPERATOR_KEY, TOP, Checks, Serving, make_desk, program_of
@@ -39,6 +45,7 @@ LEVELS = {"unauthorized": 0.5, "administrative": 3, "overall": 15}  # in percent
 LIMITS = ("entry_limit", "credit_limit", "debit_limit")
 REASONS = {"NoTrace": "No sent entry has this trace number.", "AlreadyReturned": "The entry was returned before."}
 FILES = 36
+OWN_KEY = "Then issue the company a key of its own in companies.map: through the proxy, the desk’s key gets 403."
 
 
 # ---- the bank
@@ -46,9 +53,10 @@ FILES = 36
 class Bank:
     """A desk behind the proxy, and the page that is opened there. `spoils` stands between the two."""
 
-    def __init__(self, checks, browser, proxy, spoils, folder):
-        self.checks, self.browser, self.proxy, self.spoils, self.folder = checks, browser, proxy, spoils, folder
-        self.directions = {}  # debit or credit of the items in suspense whose file the page has read
+    def __init__(self, checks, browser, proxy, spoils, folder, program):
+        self.checks, self.browser, self.proxy, self.spoils, self.folder, self.program = checks, browser, proxy, spoils, folder, program
+        self.served = {}  # debit or credit of the items in suspense whose file the day program has taken
+        self.directions = {}  # the same, of those and of the items whose file the page has read
 
     def ask(self, method, path, body=None, key=OPERATOR_KEY):
         """The status and the body of a call by way of the proxy."""
@@ -80,7 +88,7 @@ class Bank:
     def said(self, form):
         """What is said beneath a form, once the page is done."""
         self.settled()
-        return self.browser.run("return document.querySelector(arguments[0]).innerText", f"#{form} .said")
+        return self.browser.run("return document.querySelector(arguments[0]).innerText", f"#{form} .said").replace("\xa0", " ")
 
     def do(self, form, **fields):
         """Fills in a form, sends it, and gives what is said."""
@@ -119,7 +127,7 @@ class Bank:
         return self.unlock()
 
     def unlock(self):
-        self.directions = {}  # a locked page forgets what it has read
+        self.directions = dict(self.served)  # a locked page forgets what it has read
         self.browser.type("#open [name=key]", OPERATOR_KEY)
         self.browser.press("Enter")
         return self.browser.wait("return !document.getElementById('desk').hidden")
@@ -137,6 +145,27 @@ class Bank:
         self.browser.click("#question-yes")
         return self.said("cut")
 
+    def day(self, *words, given="", status=0):
+        """Runs a command of the day program on this desk, at noon of the desk's first day."""
+        state, config = self.proxy.folder, self.folder / "day.conf"
+        key = self.folder / "operator.key"
+        key.touch(mode=0o600)
+        key.write_text(OPERATOR_KEY)
+        config.write_text(f"[desk]\nurl = http://{HOST}:{self.spoils.port}\nkey_file = {key}\n[folders]\nstate = {state}\n"
+                          f"[files]\ndesk = {self.folder}/bank.db\nprogram = {self.program}\n[standby]\nto = none\n")
+        done = subprocess.run([sys.executable, str(DAY), "--config", str(config), *words], input=given, text=True, capture_output=True,
+                              env={**os.environ, "ACHDESK_DAY_NOW": "2025-01-08T12:00:00-05:00"})
+        self.checks.that(f"achdesk-day {' '.join(words)}", (done.returncode, done.returncode != status and done.stderr), (status, False))
+
+    def state(self):
+        """What the day program has published, or None."""
+        path = self.proxy.folder / "public" / "state.json"
+        return json.loads(path.read_text()) if path.exists() else None
+
+    def answer(self, yes):
+        """Answers a question."""
+        self.browser.click("#question-yes" if yes else "#question-no")
+
     def refresh(self):
         self.browser.click("#refresh")
         return self.settled()
@@ -145,12 +174,12 @@ class Bank:
 
     def lines(self, selector):
         """The lines of text that are seen of each element."""
-        return self.browser.run("return [...document.querySelectorAll(arguments[0])].map(it => it.innerText.split(/\\n+/).map(x => x.trim()).filter(x => x))", selector)
+        return self.browser.run("return [...document.querySelectorAll(arguments[0])].map(it => it.innerText.replaceAll('\\xa0', ' ').split(/\\n+/).map(x => x.trim()).filter(x => x))", selector)
 
     def rows(self, place, part="tbody"):
         """The cells of each row of a table, each with its lines."""
         return self.browser.run("""return [...document.querySelectorAll(`${arguments[0]} ${arguments[1]} tr`)].map(row => [...row.cells].map(it =>
-            it.innerText.split(/\\n+/).map(x => x.trim()).filter(x => x).join('|')))""", place, part)
+            it.innerText.replaceAll('\\xa0', ' ').split(/\\n+/).map(x => x.trim()).filter(x => x).join('|')))""", place, part)
 
 
 # ---- how things are shown
@@ -222,11 +251,36 @@ def compare_status(bank, what):
     rows = [[f"{it['name']}|{it['id']}", held_cell(it["held"]["credits"]), held_cell(it["held"]["debits"]), due_cell(it)] for it in status["companies"]]
     bank.checks.that(f"{what}: the companies", bank.rows("#companies"), rows)
     bank.checks.that(f"{what}: the files", [it[0] for it in bank.lines("#files li")], [f"File {it}" for it in status["files"]] or ["No file was made on this day."])
+    bank.checks.that(f"{what}: what is known of each", [", ".join(it[1:-2]) for it in bank.lines("#files li")] if status["files"] else [],
+                     [fate(bank, f"{status['day']}-{it}") for it in status["files"]])
+    is_off = status["day"] is None or not any(it["due"] or it["lapsing"] for it in status["companies"])
+    bank.checks.that(f"{what}: a cut is {'off' if is_off else 'on'}", bank.browser.run("return document.querySelector('#cut button').disabled"), is_off)
     due = sum(sums(status, way)[1] for way in ("credits", "debits"))
     needed = [f"Needs at least 1 file; {FILES - len(status['files'])} of 36 are left today."] if 0 < due <= 1000 else []
     bank.checks.that(f"{what}: how many files are needed", bank.lines("#due p")[1], needed)
     compare_risks(bank, what)
     return status
+
+
+def fate(bank, name):
+    """What the page says of a file's transmission, by what the day program has published."""
+    state = bank.state()
+    if state is None:
+        return "not known whether it is transmitted"
+    it = state["files"].get(name)
+    if it is None:
+        return "not transmitted" if state["since"] and name[:10] >= state["since"] else "not known whether it is transmitted"
+    if it["state"] == "undecided":
+        return "undecided: achdesk-day send says why"
+    told = f"{it['state']}{' by hand' if it['by_hand'] and it['state'] == 'transmitted' else ''} {short_time(it['at'])}"
+    if it["state"] == "withheld":
+        return told
+    return f"{told}, acknowledged {short_time(it['acknowledged'])}" if it["acknowledged"] else f"{told}, not acknowledged"
+
+
+def short_time(time):
+    at = datetime.datetime.fromisoformat(time.replace("Z", "+00:00")).astimezone()
+    return f"{at.day} {at:%b}, {at:%H:%M}"
 
 
 def compare_risks(bank, what):
@@ -292,16 +346,25 @@ def compare_file(bank, day, letter):
     control = [it for it in text.decode().split("\n") if it.startswith("9") and it.strip("9")][-1]
     sums = f"{many(int(control[1:7]), 'batch', 'batches')}, {many(int(control[13:21]), 'record')} of entries and addenda, " \
            f"{dollars(control[43:55])} of credits, {dollars(control[31:43])} of debits"
+    bank.checks.that("and what is known of it", bank.lines("#paper-fate"), [[fate(bank, f"{day}-{letter}")]])
     bank.checks.that("its sums are those of its control", bank.lines("#paper-sums"), [[sums]])
     bank.browser.press("Escape")
     bank.browser.click(f"[aria-label='Save file {letter}']")
-    bank.checks.that("it is saved", bank.said("fetch"), f"File {letter} of {short_day(day)} is saved, not transmitted: {sums}. Transmit it unchanged.")
-    saved = bank.folder / f"ach-{day}-{letter}.txt"
+    mark = f", and then run achdesk-day mark {day}-{letter} --transmitted" if bank.state() else "."
+    bank.checks.that("it is saved", bank.said("fetch"), f"{day}-{letter}.ach is saved, not transmitted: {sums}. Transmit it unchanged{mark}")
+    bank.checks.that("to the byte", taken_of(bank, f"{day}-{letter}.ach"), text)
+
+
+def taken_of(bank, name):
+    """The bytes of a file that the browser has saved, which is removed, or None."""
+    saved = bank.folder / name
     for _ in range(100):
         if saved.exists():
-            break
+            text = saved.read_bytes()
+            saved.unlink()
+            return text
         time.sleep(0.05)
-    bank.checks.that("to the byte", saved.read_bytes() if saved.exists() else None, text)
+    return None
 
 
 # ---- the days
@@ -321,7 +384,6 @@ def opening(bank):
 def before_any_day(bank):
     checks = bank.checks
     compare_status(bank, "before any day")
-    checks.that("a cut: NoDay", bank.do("cut"), "No desk day is set yet. Set the day first. NoDay")
     checks.that("a bad list of holidays", bank.do("holidays", file=bank.file("bad.csv", "2025-01-20\n2025-01-20\n")),
                 "This is not a list of holidays. The present list is unchanged. A row’s day is not after that of the row before. Row 2. BadCalendar NotAscending")
     checks.that("a good one", bank.do("holidays", file=bank.file("good.csv", "2025-01-20\n2025-05-26\n")), "The list has 2 days.")
@@ -331,7 +393,8 @@ def before_any_day(bank):
     checks.that("one with a limit that is no amount", bank.do("register", id="MILL01", name="MILL STREET", key=MILL_KEY, **{**limits, "entry_limit": "much"}),
                 "The limit for one entry must be 0 to 99,999,999.99 dollars. BadField entry_limit")
     for company, name in NAMES.items():
-        checks.that(f"{company} is registered", bank.do("register", id=company, name=name, key=KEYS[company], **limits), f"{company} is registered.")
+        checks.that(f"{company} is registered", bank.do("register", id=company, name=name, key=KEYS[company], **limits).splitlines(),
+                    [f"{company} is registered.", "Add its key to the proxy’s desk.map.", OWN_KEY])
     checks.that("it is registered once", bank.do("register", id="MILL01", name="MILL STREET", key=MILL_KEY, **limits), "A company with this identification is registered already. CompanyExists")
     new_keys(bank, limits)
     exposure = bank.told("/c/MILL01/exposure", MILL_KEY)
@@ -351,10 +414,11 @@ def new_keys(bank, limits):
     checks.that("a key of 32 letters and digits is proposed", bool(re.fullmatch("[A-Za-z0-9]{32}", key)))
     checks.that("keys are masked", [browser.run(f"return document.querySelector('#{form} [name=key]').type") for form in ("open", "register", "look")], ["password"] * 3)
     fields = {"id": "OAK01", "name": "OAK LIBRARY", **limits}
+    without_timers(bank)
     bank.spoils.plans.append(("cut", 0))
     checks.that("a registration whose answer is lost", bank.do("register", **fields), "No answer came. The desk may have done it nevertheless: refresh and look before you do it again.")
     said = bank.do("register", **fields).splitlines()
-    checks.that("is refused when it is sent again, and its key is shown", (said[0], key in said),
+    checks.that("is refused when it is sent again, and its key is shown", (said[0], f'"~^OAK01$" "{key}";' in said),
                 ("A company with this identification is registered already. CompanyExists It may have been registered by the request whose answer was lost.", True))
     checks.that("another company cannot be registered under it", bank.do("register", id="OAK01", name="OTHER", key="another-key", **limits),
                 "A company with this identification is registered already. CompanyExists")
@@ -363,7 +427,8 @@ def new_keys(bank, limits):
     bank.unlock()
     again = browser.run(f"{field}.value")
     said = bank.do("register", id="ELM01", name="ELM FARM", **limits).splitlines()
-    checks.that("the next one has another key, which is shown once it is registered", (said[0], again in said, again != key), ("ELM01 is registered.", True, True))
+    checks.that("the next one has another key, which is shown once it is registered", (said, again != key),
+                (["ELM01 is registered.", "Add this line to the proxy’s desk.map; it is shown this once:", f'"~^ELM01$" "{again}";', "Copy", OWN_KEY], True))
     checks.that("then a third one is proposed", browser.run(f"{field}.value") in (key, again, ""), False)
     bank.do("register", id="ELM01", name="ELM FARM", key="another-key", **limits)
     checks.that("and the key is gone from the page", again in browser.run("return document.body.innerText + [...document.querySelectorAll('input')].map(it => it.value).join(' ')"), False)
@@ -412,14 +477,74 @@ def first_day(bank):
     checks.that("a file that no cut made", bank.do("fetch", day="01082025", letter="b"), "No cut made this file. NoFile")
 
 
+SAVE = "document.querySelector(\"[aria-label='Save file A']\").click()"  # at once: the page draws its files again by itself
+
+
+def transmission(bank):
+    """What the day program knows of a file is shown, and a question comes before a file is saved that may be transmitted."""
+    checks, browser, name = bank.checks, bank.browser, "2025-01-08-A"
+    bank.day("begin", "2025-01-08")
+    bank.refresh()
+    compare_status(bank, "with a day program")
+    compare_file(bank, "2025-01-08", "A")
+    bank.day("mark", name, "--transmitted")
+    bank.refresh()
+    compare_status(bank, "with a transmitted file")
+    control = [it for it in bank.ask("GET", "/ops/files/2025-01-08/A")[1].decode().split("\n") if it.startswith("9") and it.strip("9")][-1]
+    bank.day("ack", "-", given=f"file,batches,entries,debits,credits\n{name},{','.join(str(int(control[a:b])) for a, b in ((1, 7), (13, 21), (31, 43), (43, 55)))}\n")
+    published = bank.state()
+    other = lambda **changes: {**published, "files": {name: {**published["files"][name], **changes}}}
+    pays = "If it is transmitted again, it pays twice."
+    for what, state, doubt in (("a transmitted file", published, [pays]), ("a withheld one", other(state="withheld"), ["The bank decided not to transmit it."]),
+                               ("an undecided one", other(state="undecided"), [f"It may be transmitted already. {pays}"]),
+                               ("one with other bytes", other(sha256="0" * 64), [pays, "The desk’s file has other bytes than that one."])):
+        (bank.proxy.folder / "public" / "state.json").write_text(json.dumps(state))
+        browser.run(SAVE)
+        bank.is_asked()
+        checks.that(f"{what} is asked about", [it for lines in bank.lines("#question-title, #question-body p") for it in lines],
+                    [f"Save {name} all the same?", f"{name}: {fate(bank, name)}.", *doubt])
+        bank.answer(False)
+        checks.that("and not saved without a yes", (bank.said("fetch"), (bank.folder / f"{name}.ach").exists()), ("", False))
+        compare_status(bank, what)
+    (bank.proxy.folder / "public" / "state.json").write_text(json.dumps({**published, "unconfirmed": True}))
+    browser.run(SAVE)
+    bank.is_asked()
+    bank.answer(True)
+    checks.that("but with one", (bank.said("fetch").split(":")[0], taken_of(bank, f"{name}.ach")), (f"{name}.ach is saved", bank.ask("GET", "/ops/files/2025-01-08/A")[1]))
+    checks.that("a restored desk has to be confirmed", bank.lines("#unconfirmed"), [["The desk was restored or taken over: run achdesk-day confirm first."]])
+    taken_on_the_server(bank)
+
+
+def taken_on_the_server(bank):
+    """The page knows what is in quarantine, and the direction of items that the day program took."""
+    item = {"savings": False, "account": "55", "ident": "E9", "name": "NOBODY", "dfi": "09100001", "code": "R03", "trace": "121042880000777"}
+    text = file_of_returns(5, "PPD", [{**item, "debit": True, "cents": 100}, {**item, "debit": False, "cents": 200}])
+    inbox = bank.proxy.folder / "inbox"
+    inbox.mkdir(exist_ok=True)
+    (inbox / "r.ach").write_text(text)
+    (inbox / "s.ach").write_bytes((TOP / "examples" / "spoiled.ach").read_bytes())
+    bank.day("returns", status=1)
+    bank.served = {(text[13:34], 1): "debit", (text[13:34], 2): "credit"}
+    bank.directions = dict(bank.served)
+    bank.refresh()
+    compare_money(bank, "with items that the day program took")
+    bank.checks.that("nothing asks for their file", bank.browser.run("return document.getElementById('directions').hidden"))
+    bank.browser.click("#quarantined summary")
+    refused = bank.state()["quarantined"][0]["refused"]
+    bank.checks.that("the quarantine is shown", (bank.lines("#quarantined"), "BadTotal" in refused), ([["1 file in quarantine on the server", f"s.ach: {refused}"]], True))
+
+
 def next_days(bank):
     checks = bank.checks
     checks.that("the next weekday is offered", bank.browser.run("return document.querySelector('#set-day [name=day]').value"), "2025-01-09")
     bank.clock("2025-01-09T23:59:00")
+    told = f"By the clock of this machine, today is {long_day(datetime.date.today().isoformat())}."
+    checks.that("a desk day that is not today is warned of", bank.lines("#wrong-day"), [[f"The desk day is Wednesday, 8 January 2025. {told}"]])
     checks.that("and set without a question if it is today", bank.set_day(), ("The day is Thursday, 9 January 2025.", []))
+    checks.that("then nothing warns", bank.browser.run("return document.getElementById('wrong-day').hidden"))
     checks.that("an earlier day", bank.set_day("2025-01-08")[0], "The new day is not after the desk day. If an answer was lost before, the day is set already. DayNotLater")
     checks.that("the second cut", bank.cut(), "File A created with 1 entry, not transmitted: save it and transmit it.")
-    checks.that("a cut with nothing due", bank.cut(), "Nothing was due. No file was created.")
+    compare_status(bank, "with nothing due")
     bank.clock("2025-01-17T00:01:00")
     checks.that("a day eight days ahead is asked about, even if it is today", bank.set_day("2025-01-17", "no"),
                 ("", ["Set the day to Friday, 17 January 2025?", "It is 8 days after the desk day, Thursday, 9 January 2025.", "A desk day cannot be taken back."]))
@@ -435,6 +560,7 @@ def next_days(bank):
     checks.that("a file of returns", bank.do("returns", file=taken), "Posted: 2 returns, 0 changes, 3 in suspense.")
     checks.that("the same again", bank.do("returns", file=taken), "Posted: 2 returns, 0 changes, 3 in suspense.")
     directions = {(text[13:34], n): "debit" if it["debit"] else "credit" for n, it in enumerate(items, 1)}
+    directions |= bank.served
     bank.directions = bank.in_files = directions
     compare_money(bank, "after the file")
     bank.open()
@@ -468,6 +594,7 @@ def limits(bank):
     present = lambda: next(tuple(it[name] for name in LIMITS) for it in companies_of(bank) if it["id"] == "MILL01")
     fields = lambda: browser.run("return [...document.querySelectorAll('.limits input')].map(it => it.value)")
     wanted = [9999999999, 20000000, 5000050]
+    without_timers(bank)
     checks.that("the companies over a level are first", [row[0].split("|")[1] for row in bank.rows("#risks")], ["BAKE01", "MILL01", "ELM01", "OAK01"])
     begin_edit(bank)
     checks.that("the fields have the present limits", fields(), [dollars(it)[1:] for it in wanted])
@@ -541,17 +668,17 @@ def text_and_memory(bank):
     kept = browser.run("return [localStorage.length, sessionStorage.length, document.cookie]")
     checks.that("nothing is kept outside of the page", kept, [0, 0, ""])
     asked = {line.split('"')[1].split()[1] for line in bank.proxy.log.read_text().splitlines() if "Chrome" in line}
-    checks.that("the page asks for itself and for the desk's paths", sorted(it for it in asked if not it.startswith(("/ops/", "/c/"))), ["/console/"])
+    checks.that("the page asks for itself and for the desk's paths", sorted(it for it in asked if not it.startswith(("/ops/", "/c/"))), ["/console/", "/console/state.json"])
 
 
 def without_timers(bank):
-    """Opens the page again and stops what it asks for by itself: the answers that are made up are for the requests of a click."""
-    bank.open()
+    """Stops what the page asks for by itself, until it is opened again: answers that are lost or made up are those of clicks."""
     bank.browser.run("for (let it = setInterval(() => {}, 1e9); it > 0; it--) clearInterval(it)")
 
 
 def too_many_files(bank):
     """A status with more due than the day's files hold, which is made up here."""
+    bank.open()
     without_timers(bank)
     tally = lambda submissions, cents: {"submissions": submissions, "cents": str(cents)}
     for what, credits, debits, files, wanted in (
@@ -598,6 +725,7 @@ def answer_of(value):
 def without_use(bank):
     """The page locks itself, and a question that is open is answered with no."""
     checks, browser = bank.checks, bank.browser
+    bank.submit("MILL01", "PAY-9", "credit", "2025-07-10", 100)
     for what, is_asked in (("with a question open", True), ("with a company shown", False)):
         bank.open()
         bank.do("look", id="MILL01", key=MILL_KEY)
@@ -649,6 +777,45 @@ def injected(bank):
     checks.that("and allows no other", "unsafe" in policy, False)
 
 
+MONTHS = "January|February|March|April|May|June|July|August|September|October|November|December|Jan|Feb|Mar|Apr|Jun|Jul|Aug|Sept?|Oct|Nov|Dec"
+BROKEN = """const found = [], dates = /(?:\\w+day,|Mon|Tue|Wed|Thu|Fri|Sat|Sun)?[ \\xa0]?\\d{1,2}[ \\xa0](?:%s)(?:[ \\xa0]\\d{4})?/g;
+const walk = document.createTreeWalker(document.body, NodeFilter.SHOW_TEXT);
+while (walk.nextNode()) for (const it of walk.currentNode.data.matchAll(dates)) {
+  const range = document.createRange();
+  range.setStart(walk.currentNode, it.index + it[0].search(/[^ \\xa0]/));
+  range.setEnd(walk.currentNode, it.index + it[0].length);
+  const tops = new Set([...range.getClientRects()].map(box => Math.round(box.top)));
+  found.push([it[0], tops.size]);
+}
+return found;""" % MONTHS
+TILES = """const rows = new Map(), all = document.getElementById('tiles');
+for (const it of all.children) { const box = it.getBoundingClientRect(); rows.set(Math.round(box.top), (rows.get(Math.round(box.top)) ?? -1) + box.width + 1); }
+return [...rows.values()].map(it => Math.abs(it - all.clientWidth) < 1.5);"""
+
+
+def on_a_phone(bank):
+    """The page of five companies at 390 pixels."""
+    checks, browser = bank.checks, bank.browser
+    limits = {"entry_limit": "10", "credit_limit": "10", "debit_limit": "10"}
+    bank.do("register", id="FIR01", name="FIR BOOKS", key="fir-books-key", **limits)
+    for width in (390, 700, 900, 1100):
+        browser.size(width, 800)
+        checks.that(f"at {width} pixels no tile is empty", set(browser.run(TILES)), {True})
+    browser.size(390, 800)
+    bank.open()
+    high = browser.run("return document.documentElement.scrollHeight")
+    checks.that(f"five companies take less than 3,000 pixels: {high}", (high < 3000, len(bank.told("/ops/status")["companies"])), (True, 5))
+    checks.that("its sections are folded", browser.run("return [...document.querySelectorAll('.fold')].map(it => it.open)"), [False] * 5)
+    browser.click("[aria-labelledby=companies-title] summary")
+    browser.click("[aria-label='Statement of MILL01']")
+    checks.that("the form of a statement opens when it is needed", browser.run("return [document.activeElement.name, document.activeElement.form.getAttribute('id')]"), ["key", "look"])
+    browser.run("document.querySelectorAll('details').forEach(it => { it.open = true; })")
+    dates = browser.run(BROKEN)
+    checks.that("no date wraps", (len(dates) > 8, [it for it, lines in dates if lines != 1]), (True, []))
+    browser.size(1280, 900)
+    bank.open()
+
+
 def narrow(bank):
     begin_edit(bank)
     for width in (360, 640, 1000, 1280):
@@ -667,7 +834,7 @@ def narrow(bank):
 
 def by_keyboard(bank):
     """Each field and button has its turn with Tab."""
-    mine = "[...document.querySelectorAll('a[href], button, input, summary, pre[tabindex]')].filter(it => it.checkVisibility({visibilityProperty: true}))"
+    mine = "[...document.querySelectorAll('a[href], button:enabled, input, summary, pre[tabindex]')].filter(it => it.checkVisibility({visibilityProperty: true}))"
     count = bank.browser.run(f"document.activeElement.blur(); window.scrollTo(0, 0); window.seen = new Set(); return {mine}.length")
     bank.browser.run("document.addEventListener('focusin', it => window.seen.add(it.target))")
     bank.browser.press(*["Tab"] * (count * 3))
@@ -694,7 +861,7 @@ def without_a_desk(bank, serving, program, path):
 
 
 def photograph(bank, path):
-    """A picture of the whole page, opened again, with a company's statement and a form of limits."""
+    """A picture of the whole page, opened again, with a company's statement and a form of limits, and one at 390 pixels."""
     browser = bank.browser
     bank.open()
     bank.do("directions", file=str(bank.folder / "returns.ach"))
@@ -703,11 +870,15 @@ def photograph(bank, path):
     bank.do("look", id="MILL01", key=MILL_KEY)
     begin_edit(bank)
     browser.run(say_nothing)
-    browser.run("document.querySelectorAll('details').forEach(it => { it.open = false; }); document.activeElement.blur(); window.scrollTo(0, 0)")
+    browser.run("document.querySelectorAll('details:not(.fold)').forEach(it => { it.open = false; }); document.activeElement.blur(); window.scrollTo(0, 0)")
     browser.size(1280, browser.run("return document.documentElement.scrollHeight"))
     browser.picture(path)
+    browser.size(390, 900)
+    bank.open()
+    browser.size(390, browser.run("return document.documentElement.scrollHeight"))
+    browser.picture(path.with_name(f"{path.stem}-390{path.suffix}"))
     browser.size(1280, 900)
-    browser.click(".limits button[type=button]")
+    bank.open()
 
 
 def sentences(checks):
@@ -732,15 +903,15 @@ def main():
         shutil.copytree(TOP / "console", folder / "share" / "console")
         with Serving(program, path, 100_000).listen() as serving, CuttingProxy(serving.port) as spoils:
             folder.chmod(0o711)  # nginx's workers are another user
-            every = [("achdesk_log if=$achdesk_is_logged", "combined")]
+            every = [("achdesk_log if=$achdesk_is_logged", "combined"), *QUICK]
             with Proxy(folder / "proxy", spoils.port, *SAME_KEYS, console=folder / "share", tls=False, changes=every) as proxy, Browser(folder) as browser:
-                bank = Bank(checks, browser, proxy, spoils, folder)
+                bank = Bank(checks, browser, proxy, spoils, folder, program)
                 browser.size(1280, 900)
-                for step in (opening, before_any_day, first_day, next_days):
+                for step in (opening, before_any_day, first_day, transmission, next_days):
                     step(bank)
                 if sys.argv[2:]:
                     photograph(bank, Path(sys.argv[2]))
-                for step in (limits, lapse, text_and_memory, too_many_files, many_companies, without_use, injected, narrow, by_keyboard):
+                for step in (limits, lapse, text_and_memory, too_many_files, many_companies, without_use, injected, on_a_phone, narrow, by_keyboard):
                     step(bank)
                 without_a_desk(bank, serving, program, path)
     checks.end()
