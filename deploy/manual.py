@@ -150,7 +150,7 @@ def page_of(name, program):
         out.append(".SH FILES")
         for path, meaning in table([TOP / "deploy" / "README.md"], "Path"):
             out += [".TP", path, meaning]
-    others = [it for it in ("achdesk", "achdesk-company", "achdesk-day") if it != name]
+    others = [it for it in ("achdesk", "achdesk-alarm", "achdesk-company", "achdesk-day", "achdesk-guard") if it != name]
     out += ['.SH "SEE ALSO"', *(f".BR {plain(it)} (1)," for it in others), ".BR nginx (8),", ".BR systemctl (1),", "/usr/share/doc/achdesk"]
     return "\n".join(out) + "\n"
 

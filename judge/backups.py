@@ -11,18 +11,18 @@ PROGRAM is ./achdesk if it is left out. EVERY is 1 if it is left out: with 5 onl
 - A backup with a changed byte, or without its log, is not restored. A restore is killed at each of its steps: the
   target has the old desk, the restored one, or none that starts, and the old files are never lost.
 - A backup waits while a restore tries a copy, and a restore while a backup is made; what a killed one leaves is removed.
-- The rule by which backups expire, on days that are worked out by hand.
+- Each backup goes to a repository of restic on this machine and to one of a standby, by SSH. The standby takes what is added and
+  refuses to delete. A disk that is not mounted is a failure. What the default rule keeps is worked out by hand.
 - A backup of a stopped desk, and a copy of its files by the commands of docs/operate/backup.md, which is restored by its path;
   a copy without its log or with a damaged file is not.
-- A standby is given the backups by rsync over SSH, which is killed at each step, and takes over in another folder by the
-  commands of docs/operate/backup.md.
+- A standby is given the archive by rsync over SSH, which is killed at each step, and takes over in another folder, from its
+  repository, by the commands of docs/operate/backup.md.
 
 The status is 1 if a check failed, and 2 if Debian packages are missing, which are named; that is not a pass.
 """
 
 import http.client
-import importlib.machinery
-import importlib.util
+import importlib
 import json
 import os
 import re
@@ -128,7 +128,7 @@ def lost_of(paths, clients):
 # ---- under load ----
 
 def under_load(bank, checks, every):
-    bank.write_config(backup={"newest": 1000})
+    bank.write_config(backup={"newest": 1000}, repository={"to": ""})
     bank.now = ""
     clients, tries, logs, earlier = Clients(bank), 0, set(), len(finished(bank))
     until = time.monotonic() + SECONDS
@@ -165,14 +165,13 @@ def under_load(bank, checks, every):
 
 # ---- a checkpoint between the two copies ----
 
-def day_module():
-    """The module of achdesk-day."""
+def day_module(name):
+    """A module of the package achdesk_day."""
     sys.dont_write_bytecode = True
-    if "achdesk_day" not in sys.modules:
-        loader = importlib.machinery.SourceFileLoader("achdesk_day", str(DAY))
-        sys.modules["achdesk_day"] = importlib.util.module_from_spec(importlib.util.spec_from_loader("achdesk_day", loader))
-        loader.exec_module(sys.modules["achdesk_day"])
-    return sys.modules["achdesk_day"]
+    for folder in (TOP / "clients" / "python", TOP / "deploy"):
+        if str(folder) not in sys.path:
+            sys.path.insert(0, str(folder))
+    return importlib.import_module(f"achdesk_day.{name}")
 
 
 def checkpoints(bank, checks):
@@ -194,9 +193,9 @@ def checkpoints(bank, checks):
 def copied_during(bank, name, stops):
     """Copies a pair, with submissions after the copy of the file until the log begins again or, if the desk is to be
     stopped, until the file changes. Returns the pair's folder, and how often it was copied."""
-    module, log, desk = day_module(), bank.desk_file.with_name("bank.db-wal"), bank.desk.process
+    module, hooks, log, desk = day_module("backup"), day_module("hooks"), bank.desk_file.with_name("bank.db-wal"), bank.desk.process
     state = (lambda: bank.desk_file.stat().st_mtime_ns) if stops else (lambda: log.read_bytes()[:32])
-    calls, is_on, undisturbed = [], [True], module.step
+    calls, is_on, undisturbed = [], [True], hooks.at_step
 
     def work():
         number = 0
@@ -218,11 +217,11 @@ def copied_during(bank, name, stops):
             desk.send_signal(signal.SIGSTOP)
         is_on[0] = False
 
-    folder, module.step = Path(tempfile.mkdtemp(dir=bank.folder)), after_a_copy
+    folder, hooks.at_step = Path(tempfile.mkdtemp(dir=bank.folder)), after_a_copy
     try:
         return folder, module.copy_pair(bank.desk_file, folder)["copies"]
     finally:
-        module.step = undisturbed
+        hooks.at_step = undisturbed
         desk.send_signal(signal.SIGCONT)
         client.join()
 
@@ -251,7 +250,7 @@ def full_volume(bank, checks):
     kept.mkdir()
     config = bank.folder / "small.conf"
     other = small_desk(bank)
-    bank.write_config(config, folders={"backups": small}, files={"desk": other})
+    bank.write_config(config, folders={"backups": small}, files={"desk": other}, repository={"to": ""})
     space = [] if os.geteuid() == 0 else ["--user", "--map-root-user"]
     done = subprocess.run(["unshare", *space, "--mount", "sh", "-c", FULL, "sh", small, sys.executable, DAY, config, kept], capture_output=True, text=True)
     checks.that("on a full volume: a backup, none, and one again", done.returncode, 0)
@@ -360,7 +359,7 @@ def stopped_desk(bank, checks):
     target.parent.mkdir()
     bank.now = "2025-01-14T09:10:00-05:00"
     checks.that("a stopped desk is backed up", (bank.day("backup")[0], opens(bank.program, finished(bank)[-1] / "bank.db")), (0, wanted))
-    text = commands_of_page("## Back up", {"/var/lib/achdesk-day/stopped": folder, "/var/lib/achdesk": bank.desk_file.parent})
+    text = commands_of_page("## Back up", {"/var/lib/achdesk-backup/stopped": folder, "/var/lib/achdesk": bank.desk_file.parent})
     checks.that("the page's commands copy it", (subprocess.run(["sh", "-ec", text]).returncode, sorted(bytes_of(folder)) if folder.is_dir() else []), (0, ["bank.db", "bank.db-wal"]))
     written = max(path.stat().st_mtime for path in (bank.desk_file, bank.desk_file.with_name("bank.db-wal")))
     status, printed, _ = bank.day("restore", folder, "--to", target)
@@ -379,42 +378,88 @@ def stopped_desk(bank, checks):
     bank.desk.start()
 
 
-# ---- the rule ----
+# ---- the repository and its rule ----
 
-def rule(checks):
-    module = day_module()
-    # 2025-01-13 is a Monday. Two backups on each of these days, at 06:00 and 18:00.
-    days = ["2024-10-31", "2024-11-30", "2024-12-29", "2024-12-30", "2025-01-05", "2025-01-06", "2025-01-10", "2025-01-13", "2025-01-14"]
-    names = [f"{day}T{hour}0000Z" for day in days for hour in ("06", "18")]
-    for numbers, wanted in (((1, 0, 0, 0, 0), ["2025-01-14T18"]), ((0, 3, 0, 0, 0), ["2025-01-13T18", "2025-01-14T06", "2025-01-14T18"]),
-                            ((0, 0, 3, 0, 0), ["2025-01-10T18", "2025-01-13T18", "2025-01-14T18"]),
-                            ((0, 0, 0, 3, 0), ["2025-01-05T18", "2025-01-10T18", "2025-01-14T18"]),
-                            ((0, 0, 0, 0, 3), ["2024-11-30T18", "2024-12-30T18", "2025-01-14T18"]),
-                            ((2, 0, 1, 2, 2), ["2024-12-30T18", "2025-01-10T18", "2025-01-14T06", "2025-01-14T18"])):
-        kept = sorted(it[:13] for it in module.kept_backups(names, *numbers))
-        checks.that("the newest {}, {} hours, {} days, {} weeks and {} months".format(*numbers), kept, wanted)
-    every_ten_minutes(checks, module)
+class Repositories:
+    """One on this machine and one of the standby, which the bank's key can add to."""
+
+    def __init__(self, bank):
+        self.here, self.there = bank.folder / "repository", bank.folder / "operator" / "repository"
+        self.password, self.key = bank.folder / "keys" / "repository", bank.folder / "keys" / "backup"
+        self.password.touch(mode=0o600)
+        self.password.write_text("the-repository-password\n")
+        subprocess.run(["ssh-keygen", "-q", "-t", "ed25519", "-N", "", "-f", self.key], check=True)
+        line = next(it for it in (TOP / "docs/operate/backup.md").read_text().splitlines() if it.startswith('command="rclone'))
+        line = line.replace("/var/lib/achdesk-standby/repository", str(self.there)).replace("ssh-ed25519 AAAA.. achdesk-backup", self.key.with_suffix(".pub").read_text())
+        with open(bank.sftp.folder / "authorized_keys", "a") as file:
+            file.write(line)
+        self.place = f"ssh:{bank.sftp.user}@{HOST}"
+        self.settings = {"to": f"{self.here} {self.place}", "password_file": self.password, "identity": self.key, "known_hosts": bank.sftp.known_hosts,
+                         "port": bank.sftp.port, "also": f"{bank.folder}/keys/day"}
+
+    def restic(self, where, *words, given=None):
+        done = subprocess.run(["restic", "--repo", where, "--password-file", self.password, "--no-cache", *words], capture_output=True, text=True, input=given)
+        return done.returncode, done.stdout, done.stderr
+
+    def snapshots(self, where):
+        """The tags and times of the backups, oldest first."""
+        return sorted((it["time"][:16], *it.get("tags", ())) for it in json.loads(self.restic(where, "snapshots", "--json")[1]) or [])
+
+
+def repositories(bank, checks, places):
+    """Backups go to both repositories; what fails in one is in the other; the standby deletes nothing for the bank's key."""
+    status, _, errors = bank.day("backup")
+    checks.that("without a repository a backup fails, and is on this machine", (status, "achdesk-day backup --init" in errors, len(finished(bank)) > 0), (2, True, True))
+    checks.that("which does not count as one that has the cut", bank.day("backed-up")[0] in (0, 3))
+    checks.that("the repositories are made", bank.day("backup", "--init")[0], 0)
+    time.sleep(1)
+    bank.now = "2025-01-14T09:20:00-05:00"
+    checks.that("a backup goes to both", bank.day("backup", "--tag", "cut")[0], 0)
+    checks.that("with its tag and time", [places.snapshots(it) for it in (places.here, places.there)], [[("2025-01-14T14:20", "cut")]] * 2)
+    moved = places.here.with_name("not-mounted")
+    places.here.rename(moved)
+    bank.now = "2025-01-14T09:30:00-05:00"
+    status, _, errors = bank.day("backup")
+    checks.that("a disk that is not mounted is a failure", (status, "If its disk is not mounted" in errors, places.here.exists()), (2, True, False))
+    checks.that("and the standby has the backup", len(places.snapshots(places.there)), 2)
+    moved.rename(places.here)
+    shell = f"ssh -F none -p {bank.sftp.port} -i {places.key} -o UserKnownHostsFile={bank.sftp.known_hosts} {bank.sftp.user}@{HOST} rclone"
+    before = sorted(str(it) for it in places.there.rglob("*") if it.is_file() and "locks" not in it.parts)
+    for words in (("forget", "--keep-last", "1", "--group-by", "host"), ("forget", "latest"), ("prune",)):
+        done = subprocess.run(["restic", "--repo", "rclone:x", "-o", f"rclone.program={shell}", "--password-file", places.password, "--no-cache", *words], capture_output=True, text=True, timeout=120)
+        checks.that(f"the standby refuses {words[0]} to the bank's key", (done.returncode != 0 or words == ("prune",), sorted(str(it) for it in places.there.rglob("*") if it.is_file() and "locks" not in it.parts)), (True, before))
+    done = subprocess.run([*shell.split()[:-2], f"{bank.sftp.user}@{HOST}", "rm", "-rf", str(places.there)], capture_output=True, timeout=60, stdin=subprocess.DEVNULL)
+    checks.that("and runs no other command", sorted(str(it) for it in places.there.rglob("*") if it.is_file() and "locks" not in it.parts), before)
+
+
+def expiry(bank, checks, places):
+    """What the default rule keeps: 35 days, the newest of each month, and each backup after a cut."""
+    small, config = bank.folder / "small-repository", bank.folder / "expiry.conf"
+    bank.write_config(config, repository={"to": small})
+    places.restic(small, "init")
+    made = [("2024-10-02", "timer"), ("2024-10-31", "timer"), ("2024-11-05", "cut"), ("2024-11-20", "timer"), ("2024-11-21", "timer"), ("2024-12-05", "timer"),
+            ("2024-12-11", "timer"), ("2024-12-12", "timer"), ("2025-01-13", "timer"), ("2025-01-14", "timer")]
+    for day, tag in made:
+        places.restic(small, "backup", "--host", "achdesk", "--tag", tag, "--time", f"{day} 12:00:00", bank.config)
+    status, _, errors = bank.day("backup", "--expire-only", config=config, ACHDESK_DAY_NOW="2025-01-10T12:00:00-05:00")
+    checks.that("a backup from the future keeps all", (status, "backups from the future" in errors, len(places.snapshots(small))), (1, True, len(made)))
+    checks.that("the backups expire", bank.day("backup", "--expire-only", config=config, ACHDESK_DAY_NOW="2025-01-14T12:00:00-05:00")[0], 0)
+    checks.that("35 days, each month and each cut are kept", [(day[:10], tag) for day, tag in places.snapshots(small)],
+                [("2024-10-31", "timer"), ("2024-11-05", "cut"), ("2024-11-21", "timer"), ("2024-12-11", "timer"), ("2024-12-12", "timer"), ("2025-01-13", "timer"), ("2025-01-14", "timer")])
+    piece = max((small / "data").rglob("*"), key=lambda it: it.stat().st_size if it.is_file() else 0)
+    text = bytearray(piece.read_bytes())
+    text[len(text) // 2] ^= 1
+    piece.chmod(0o600)
+    piece.write_bytes(text)
+    found = [bank.day("backup", "--expire-only", config=config, ACHDESK_DAY_NOW=f"2025-02-{day:02}T12:00:00-05:00")[0] for day in range(1, 8)]
+    checks.that("a changed byte of the repository is found within 30 days", (3 in found or places.restic(small, "check", "--read-data")[0]) != 0)
+
+
+def holidays_of(checks):
     observed = {2025: "01-01 01-20 02-17 05-26 06-19 07-04 09-01 10-13 11-11 11-27 12-25", 2026: "01-01 01-19 02-16 05-25 06-19 09-07 10-12 11-11 11-26 12-25",
                 2022: "01-17 02-21 05-30 06-20 07-04 09-05 10-10 11-11 11-24 12-26", 2027: "01-01 01-18 02-15 05-31 07-05 09-06 10-11 11-11 11-25"}
     for year, listed in observed.items():
-        checks.that(f"the Federal Reserve's holidays of {year}", [f"{it:%m-%d}" for it in module.federal_reserve_holidays(year)], listed.split())
-
-
-def every_ten_minutes(checks, module):
-    """What the default rule keeps of backups that the timer makes for six weeks, and that expire after each one."""
-    defaults = [int(module.DEFAULTS["backup"][it]) for it in ("newest", "hours", "days", "weeks", "months")]
-    moment, until, kept = datetime(2024, 12, 1), datetime(2025, 1, 14, 12, 0), []
-    while moment <= until:
-        kept.append(f"{moment:%Y-%m-%dT%H%M%SZ}")
-        kept = sorted(module.kept_backups(kept, *defaults))
-        moment += timedelta(minutes=10)
-    newest = {f"2025-01-14T{it}" for it in ("1110", "1120", "1130", "1140", "1150", "1200")}
-    hours = {f"2025-01-14T{hour:02}50" for hour in range(12)} | {f"2025-01-13T{hour}50" for hour in range(13, 24)}
-    days = {f"2025-01-{day:02}T2350" for day in range(8, 14)}
-    weeks = {f"{day}T2350" for day in ("2025-01-12", "2025-01-05", "2024-12-29", "2024-12-22")}  # Sundays
-    months = {"2024-12-31T2350"}
-    checks.that("a backup every ten minutes: the last hour, each hour of a day, each day of a week, five weeks, and months",
-                [it[:15] for it in kept], sorted(newest | hours | days | weeks | months))
+        checks.that(f"the Federal Reserve's holidays of {year}", [f"{it:%m-%d}" for it in day_module("holidays").federal_reserve_holidays(year)], listed.split())
 
 
 # ---- the standby ----
@@ -428,37 +473,37 @@ def commands_of_page(heading, places):
     return text
 
 
-def takeover(bank, checks):
+def takeover(bank, checks, places):
     """The bank cuts and transmits; a backup before the cut is all that the standby has. It must not pay twice."""
-    shutil.rmtree(bank.backups)
-    bank.now = "2025-01-14T09:00:00-05:00"
-    bank.day("backup")
-    cut, sent = bank.day("cut"), bank.day("send")
-    checks.that("the bank cuts and transmits", (cut[0], sent[0]), (0, 0))
-    standby, config, step, failed = bank.folder / "operator" / "standby", bank.folder / "standby.conf", 1, []
+    bank.now = "2025-01-14T09:40:00-05:00"
+    checks.that("a backup before the cut", bank.day("backup")[0], 0)
+    cut, early, sent = bank.day("cut"), bank.day("backed-up"), bank.day("send")
+    checks.that("the bank cuts and transmits, and no backup has the cut yet", (cut[0], early[0], sent[0]), (0, 3, 0))
+    standby, config, step = bank.folder / "operator" / "standby", bank.folder / "standby.conf", 1
     while bank.day("copy", ACHDESK_DAY_KILL_AT=step)[0] == -9:
-        there = day_module().finished_backups(standby / "backups")
-        failed += [(step, name) for name in there if not opens(bank.program, standby / "backups" / name / "bank.db").startswith(b"{")]
         step += 1
-    checks.that(f"a copy is killed at its steps, up to step {step - 1}: each backup with a manifest opens on the standby", failed, [])
-    checks.that("and there were steps", step > 4)
-    copied = bank.day("copy")
-    checks.that("the bank copies to the standby", copied[0], 0)
-    checks.that("its backup is there", [it.name for it in finished(bank)], day_module().finished_backups(standby / "backups"))
+    checks.that(f"a copy is killed at its steps, up to step {step - 1}", step > 2)
+    checks.that("the bank copies to the standby", bank.day("copy")[0], 0)
     bank.desk.stop()
     subprocess.run(["chown", "-R", str(os.geteuid()), standby], check=True)
     desk_file, state = bank.folder / "second" / "bank.db", bank.folder / "second-day"
     desk_file.parent.mkdir()
     state.mkdir(mode=0o700)
-    text = commands_of_page("To take over:", {"/var/lib/achdesk-standby": standby, "/var/lib/achdesk-day": state})
-    checks.that("the page's command takes the copies over", subprocess.run(["sh", "-ec", text]).returncode, 0)
-    bank.write_config(config, folders={"state": state, "backups": state / "backups"}, files={"desk": desk_file, "proxy_logs": f"{standby}/proxy-logs/*"})
-    status, printed, errors = bank.day("restore", "newest", config=config)
-    checks.that("the standby restores the newest backup", (status, "cut 2025-01-14" in printed, "sent 2025-01-14-A" in printed), (0, True, True))
+    text = commands_of_page("To take over:", {"/var/lib/achdesk-standby": standby, "/var/lib/achdesk-day": state, "achdesk-day:achdesk-day": f"{os.geteuid()}:{os.getegid()}"})
+    checks.that("the page's commands take the archive over", subprocess.run(["sh", "-ec", text]).returncode, 0)
+    (bank.folder / "second-backups").mkdir(mode=0o700)
+    bank.write_config(config, folders={"state": state, "backups": bank.folder / "second-backups"}, files={"desk": desk_file, "proxy_logs": f"{standby}/proxy-logs/*"},
+                      repository={"to": places.there})
+    status, printed, errors = bank.day("restore", "repository:latest", config=config)
+    checks.that("the standby restores the newest backup of its repository", (status, "cut 2025-01-14" in printed, "sent 2025-01-14-A" in printed), (0, True, True))
     bank.desk.path = desk_file
     bank.desk.start()
     status, _, errors = bank.day("cut", config=config)
-    checks.that("it does not pay twice", (status, "would pay twice" in errors), (1, True))
+    checks.that("it does not pay twice", (status, "Ask the ACH operator" in errors), (1, True))
+    bank.day("confirm", "2025-01-14-A", "--transmitted", "--by", "ANN", config=config)
+    bank.day("confirm", "--no-other", "--by", "ANN", config=config)
+    status, _, errors = bank.day("cut", config=config)
+    checks.that("nor once the ACH operator was asked", (status, "would pay twice" in errors), (1, True))
     status, printed, errors = bank.day("cut", "--remake", config=config)
     checks.that("it makes the file again", (status, "byte for byte; it is not sent again" in printed), (0, True))
     status, printed, _ = bank.day("send", config=config)
@@ -470,7 +515,7 @@ def main():
     end_if_missing()
     signal.signal(signal.SIGTERM, lambda *_: sys.exit(1))  # ends the parts too
     program, checks, every = program_of(sys.argv[1:]), Checks(), int((sys.argv[2:] or ["1"])[0])
-    rule(checks)
+    holidays_of(checks)
     with tempfile.TemporaryDirectory(prefix="judge-backups-") as folder:
         Path(folder).chmod(0o755)
         with Bank(program, folder) as bank:
@@ -479,13 +524,18 @@ def main():
             bank.day("open")
             bank.curl("day", "/ops/companies", {"id": "MILL01", "name": "MILL STREET", "key": DESK_KEYS["MILL01"], "entry_limit": 9999999999,
                                                 "credit_limit": 999999999999999, "debit_limit": 0})
+            places = Repositories(bank)
+            bank.settings = {"repository": places.settings}
+            bank.write_config()
             checkpoints(bank, checks)
+            repositories(bank, checks, places)
+            expiry(bank, checks, places)
             restores(bank, checks, every)
             stopped_desk(bank, checks)
             under_load(bank, checks, every)
             side_by_side(bank, checks)
             full_volume(bank, checks)
-            takeover(bank, checks)
+            takeover(bank, checks, places)
     checks.end()
 
 

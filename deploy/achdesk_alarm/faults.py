@@ -1,0 +1,25 @@
+"""How a command ends, and what all modules share."""
+
+from __future__ import annotations
+
+import datetime
+import re
+
+MOST_CHARACTERS = 8_000  # of an alarm
+
+
+class Misused(Exception):
+    """The words or the configuration are wrong."""
+
+
+class Undelivered(Exception):
+    """A receiver did not take an alarm."""
+
+
+def now() -> datetime.datetime:
+    return datetime.datetime.now(datetime.timezone.utc)
+
+
+def plain(text: str) -> str:
+    """Returns a text without control characters, which could forge a mail's head or move a terminal's cursor."""
+    return re.sub(r"[^\n\t -~\u00a0-\uffff]", "?", text)[:MOST_CHARACTERS]

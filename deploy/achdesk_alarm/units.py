@@ -1,0 +1,96 @@
+"""Units that fail: since when, and whether that is an alarm yet."""
+
+from __future__ import annotations
+
+import datetime
+import json
+import re
+import subprocess
+from dataclasses import asdict, dataclass, replace
+from pathlib import Path
+
+from achdesk_alarm.faults import Misused, now, plain
+from achdesk_alarm.settings import Settings
+from achdesk_alarm.waiting import Alarm, put, write_whole
+
+MOST_LINES, SECONDS = 15, 20  # of a unit's log in an alarm, and how long it is waited for
+UNAVAILABLE = "exit-code/3"  # the result of a unit whose command can simply be run again
+
+
+@dataclass
+class Failing:
+    """A unit that fails: since when, how it ended last, how often, the end of its log, and when an alarm was raised."""
+
+    first: str
+    last: str
+    how: str
+    times: int
+    log: str
+    alarmed: str = ""
+
+    def text(self, unit: str) -> str:
+        return (f"{unit} ended with {self.how}, {self.times} times since {self.first}. Look at: journalctl -u {unit}"
+                + (f"\n\n{self.log}" if self.log else ""))
+
+
+def path_of(unit: str, state: Path) -> Path:
+    if not re.fullmatch(r"[A-Za-z0-9@:._\\-]{1,200}", unit):
+        raise Misused(f"{unit!r} is not the name of a unit")
+    return state / "units" / f"{unit}.json"
+
+
+def known(path: Path) -> Failing | None:
+    try:
+        return Failing(**json.loads(path.read_text(encoding="utf-8")))
+    except FileNotFoundError:
+        return None
+    except (ValueError, TypeError):
+        return None  # a damaged state counts as none: the next failure is reported as the first
+
+
+def end_of_log(invocation: str) -> str:
+    """Returns the last lines that a unit printed, if they can be read."""
+    if not re.fullmatch(r"[0-9a-f]{32}", invocation):
+        return ""
+    words = ["journalctl", "--no-pager", "--quiet", "--output=cat", f"--lines={MOST_LINES}", f"_SYSTEMD_INVOCATION_ID={invocation}"]
+    try:
+        return plain(subprocess.run(words, capture_output=True, text=True, errors="replace", timeout=SECONDS).stdout.strip())
+    except (OSError, subprocess.SubprocessError):
+        return ""
+
+
+def ended(settings: Settings, unit: str, state: Path, second: Path, told: dict[str, str]) -> None:
+    """Records how a unit ended, by the variables that systemd gives to the unit of OnFailure= and OnSuccess=."""
+    path = path_of(unit, state)
+    before, moment = known(path), now()
+    result = told.get("MONITOR_SERVICE_RESULT", "")
+    if result == "success":
+        if before and before.alarmed:
+            put(Alarm(moment.isoformat(), unit, f"{unit} ended with success again", is_over=True), state, second)
+        path.unlink(missing_ok=True)
+        return
+    how = f"{result}/{told.get('MONITOR_EXIT_STATUS', '')}" if result else "an unknown result"
+    log = end_of_log(told.get("MONITOR_INVOCATION_ID", ""))
+    failing = Failing(moment.isoformat(), moment.isoformat(), how, 1, log)
+    if before:
+        failing = replace(failing, first=before.first, times=before.times + 1, alarmed=before.alarmed if before.how == how else "")
+    settle(settings, unit, failing, moment, state, second)
+
+
+def settle(settings: Settings, unit: str, failing: Failing, moment: datetime.datetime, state: Path, second: Path) -> None:
+    """Raises the alarm of a unit if it is due, and keeps the unit's state. The alarm is written first: after a kill between
+    the two it is raised again."""
+    is_due = failing.how != UNAVAILABLE or moment >= settings.due(unit, datetime.datetime.fromisoformat(failing.first))
+    again = datetime.timedelta(minutes=settings.number("alarm", "again"))
+    if is_due and (not failing.alarmed or moment - datetime.datetime.fromisoformat(failing.alarmed) >= again):
+        put(Alarm(moment.isoformat(), unit, failing.text(unit)), state, second)
+        failing.alarmed = moment.isoformat()
+    write_whole(path_of(unit, state), asdict(failing))
+
+
+def raise_due(settings: Settings, state: Path, second: Path) -> None:
+    """Raises the alarms of units that are due and whose unit has not run since."""
+    for path in sorted((state / "units").glob("[!.]*.json")):
+        failing = known(path)
+        if failing and not failing.alarmed:
+            settle(settings, path.name.removesuffix(".json"), failing, now(), state, second)

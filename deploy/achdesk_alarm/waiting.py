@@ -1,0 +1,61 @@
+"""Alarms that wait for their receivers, each a file."""
+
+from __future__ import annotations
+
+import json
+import os
+import sys
+import uuid
+from collections.abc import Iterator
+from dataclasses import asdict, dataclass, field
+from pathlib import Path
+
+from achdesk_alarm.faults import Undelivered
+
+
+@dataclass(frozen=True)
+class Alarm:
+    """An alarm: when, of which unit or program, its text, and the receivers that have it."""
+
+    at: str
+    source: str
+    text: str
+    is_over: bool = False
+    delivered: tuple[str, ...] = ()
+    number: str = field(default_factory=lambda: uuid.uuid4().hex)
+
+
+def write_whole(path: Path, value: object, mode: int = 0o640) -> None:
+    """Writes JSON whole or not at all."""
+    part = path.with_name(f".{path.name}.{os.getpid()}")
+    with open(part, "w", encoding="utf-8", opener=lambda name, flags: os.open(name, flags, mode)) as file:
+        os.fchmod(file.fileno(), mode)
+        json.dump(value, file)
+        file.flush()
+        os.fsync(file.fileno())
+    os.replace(part, path)
+
+
+def put(alarm: Alarm, state: Path, second: Path) -> None:
+    """Writes an alarm into the folder of those that wait, or into the one in memory if the disk is full."""
+    print(f"ALARM: {alarm.source}: {alarm.text}", file=sys.stderr, flush=True)
+    name, faults = f"{alarm.at.replace(':', '')}-{alarm.number}.json", []
+    for folder in (state / "waiting", second):
+        try:
+            write_whole(folder / name, asdict(alarm))
+            return
+        except OSError as fault:
+            faults.append(str(fault))
+    raise Undelivered(f"the alarm cannot be written: {'; '.join(faults)}")
+
+
+def waiting(state: Path, second: Path) -> Iterator[tuple[Path, Alarm]]:
+    """Lists the alarms that wait, oldest first. A file that is not an alarm is reported, and put aside."""
+    paths = [path for folder in (state / "waiting", second) for path in folder.glob("[!.]*.json")]
+    for path in sorted(paths, key=lambda it: it.name):
+        try:
+            told = json.loads(path.read_text(encoding="utf-8"))
+            yield path, Alarm(**told | {"delivered": tuple(told["delivered"])})
+        except (ValueError, TypeError, KeyError) as fault:
+            print(f"achdesk-alarm: {path} is not an alarm: {fault}", file=sys.stderr)
+            path.rename(path.with_suffix(".bad"))
