@@ -1,0 +1,380 @@
+#!/usr/bin/env python3
+"""Lists what each promise rests on: `python3 judge/believed.py [--check | --write | --counts | --validate LAW ..]`.
+
+A promise is the contract of a law. From its clauses this follows every name: to the definitions, to the code types whose
+values they speak of with their views, to the facts that traits declare, and to the words of the toolchain's library. A name
+that nothing defines is an error. The lists are in reading order: each definition after those that it uses.
+
+  --counts      prints for each promise how many lines in how many files have to be read
+  --write       writes docs/audit/believed.md; --check (the default) compares it with what would be written
+  --validate    has the checker accept the statement of a law over its listed definitions alone, and refuse it without any
+                single one of them. It needs the Rattle toolchain and takes minutes
+"""
+
+import argparse
+import re
+import subprocess
+import sys
+import tempfile
+from dataclasses import dataclass
+from pathlib import Path
+
+from helpers.definitions import CRATES, TOP, Definition, Module, Tree, Unknown, closing, read_imports, without_comments
+
+sys.path.insert(0, str(TOP / ".ci"))
+import build_program as proofs  # noqa: E402
+
+LISTED = "listed"
+PAGE = TOP / "docs/audit/believed.md"
+
+
+@dataclass(frozen=True)
+class Promise:
+    """A law or a call whose contract is a promise: its crate, the file of its code, and its name."""
+
+    crate: str
+    file: str
+    function: str
+
+    @property
+    def path(self):
+        return CRATES / self.crate / "src" / self.file
+
+
+# The laws whose lists are printed or counted, by the list that they are on.
+ISOLATION = (Promise("isolated_runs", "laws.rt", "two_runs"),)
+WIRE = (Promise("isolated_runs", "session.rt", "desk_session"),)
+CORRECTNESS = (Promise("http_history", "laws.rt", "own_text"),)
+CRASHES = (Promise("crash_law", "laws.rt", "stands_after_lives"), Promise("crash_law", "files.rt", "files_survive"))
+# Names that a reader of a list may leave closed, and why. The list does not go on from them.
+CLOSED = {"Pair": "a new desk's history has no pair"}
+LISTS = {"isolation": ISOLATION, "isolation with the bytes on the wire": WIRE, "correctness": CORRECTNESS, "crashes": CRASHES}
+
+
+# ---- the clauses of a function ----
+
+def code_module(tree, promise):
+    """Returns the names that clauses of a file of code can use, as of a module of definitions."""
+    text = promise.path.read_text()
+    module = Module(f"Rattle.{promise.crate}.{promise.file}", promise.path)
+    for line in re.findall(r"^ghost use .*;$", text, re.M):
+        read_imports(module, line.removesuffix(";") + ";")
+    return module
+
+
+def clauses_of(promise):
+    """Returns the text of the clauses of a function."""
+    text = re.sub(r"//[^\n]*", "", promise.path.read_text())
+    at = re.search(rf"^pub fn {promise.function}\b", text, re.M)
+    if not at:
+        raise Unknown(f"{promise.path.relative_to(TOP)} has no function {promise.function}")
+    clauses, place = [], at.end()
+    while True:
+        clause = re.compile(r"(?:requires|ensures)(?: \w+)? \{|\n\{").search(text, place)
+        if clause is None or clause[0] == "\n{":
+            return "\n".join(clauses)
+        place = closing(text, clause.end() - 1) + 1
+        clauses.append(text[clause.end() : place - 1])
+
+
+def facts_of(tree, crate, text):
+    """Returns the facts of impls that clauses name as `⟦<Type as Trait>⟧.fact`, each as a definition of code."""
+    found = []
+    for kind, trait, fact in re.findall(r"⟦<(\w+)(?:<[^>]*>)? as (\w+)>⟧\.(\w+)", text):
+        found.append(fact_of(tree, crate, kind, trait, fact))
+    return found
+
+
+def fact_of(tree, crate, kind, trait, fact):
+    for file in sorted(CRATES.glob("*/src/**/*.rt")):
+        text = file.read_text()
+        at = re.search(rf"^impl(?:<[^\n]*>)? {trait} for {kind}\b[^\n]*\{{$", text, re.M)
+        if at:
+            body = text[at.start() : closing(text, at.start()) + 1]
+            line = re.search(rf"^    ghost {fact} = \{{(.*?)\}};", body, re.M | re.S)
+            if not line:
+                raise Unknown(f"{file.relative_to(TOP)}: {trait} for {kind} has no fact {fact}")
+            first = text.count("\n", 0, at.start() + line.start()) + 1
+            return Definition(file.relative_to(CRATES).parts[0], f"{trait}.{fact}", file, first, first + line[0].count("\n"), line[1], kind="fact")
+    raise Unknown(f"nothing implements {trait} for {kind}")
+
+
+def starts_of(tree, promise):
+    """Returns what the clauses of a promise name, and the facts of impls among that."""
+    module, text = code_module(tree, promise), clauses_of(promise)
+    return named_in(tree, module, text), facts_of(tree, promise.crate, text)
+
+
+def named_in(tree, module, text):
+    """Returns the definitions that a text of code names by its ghost imports."""
+    found = set()
+    for word in re.findall(r"(?<![\w.])[A-Za-z_]\w*(?:\.\w+)*", text):
+        meant = tree.resolve(module, word)
+        if isinstance(meant, Definition):
+            found.add(meant)
+    return found
+
+
+def listed(tree, promises):
+    """Returns all that promises rest on, in reading order."""
+    starts = set()
+    for promise in promises:
+        names, facts = starts_of(tree, promise)
+        starts |= names
+        for fact in facts:
+            module = Module(fact.module, fact.path)
+            for line in re.findall(r"^ghost use .*;$", fact.path.read_text(), re.M):
+                read_imports(module, line)
+            # What a desk's step is stays a parameter of the law of runs: nobody has to read it. Its type is the trait's.
+            if not promises[0].crate.startswith("isolat"):
+                starts |= named_in(tree, module, fact.text)
+    return tree.closure(sorted(starts, key=str), CLOSED if promises in (ISOLATION, WIRE) else ())
+
+
+def counts(order):
+    """Returns the lines and files of definitions, the lines and files of code types, and the number of toolchain's words."""
+    own = [it for it in order if not isinstance(it, str)]
+    definitions = [it for it in own if it.kind == "definition"]
+    code = [it for it in own if it.kind != "definition"]
+    return (sum(it.lines for it in definitions), len({it.path for it in definitions}), sum(it.lines for it in code),
+            len({it.path for it in code}), len(order) - len(own))
+
+
+def print_counts(tree):
+    for name, promises in LISTS.items():
+        lines, files, code, code_files, words = counts(listed(tree, promises))
+        print(f"{name}: {lines} lines in {files} files; code types {code} lines in {code_files} files; {words} words of the toolchain")
+
+
+# ---- the page ----
+
+HEAD = """# What has to be believed
+
+<!-- Written by judge/believed.py from the definitions. Change those, and run `python3 judge/believed.py --write`. -->
+
+A proof is worth as much as its statement. This page lists what the statements of the desk's promises rest on: every \
+definition that they name, directly or through others, in reading order. The prover checks everything else. What the proofs \
+themselves presume is in [the table of premises](../PROVED.md#premises).
+
+- [The headline](#the-headline): *a company is answered from its own part of the history alone*, in full. An afternoon.
+- [The other lists](#the-other-lists): what a right answer is, and what a crash leaves, as indexes.
+- [What is not here](#what-is-not-here)
+
+{counts}
+"""
+ISOLATION_TEXT = """## The headline
+
+Isolation can be stated without saying what a desk answers: it is enough to say what an answer is made of. The law \
+[`two_runs`](../../crates/isolated_runs/src/laws.rt) takes any two runs of desks, with any messages in any order. If a \
+company's part is the same in both, the same message on the company's path has the same answer, byte for byte. \
+`desk_session` says that a session over a desk writes such answers and no others.
+
+Read the files in this order. Each begins with its purpose.
+"""
+NOT_HERE = """## What is not here
+
+- **How the program computes.** Code, its contracts below the promises, tables, queries and proofs: the prover checks that they \
+meet the statements above.
+- **What a desk answers**, for the headline. `RunsFromParts` says that one reading of requests and one reply exist for all desks \
+and runs. Which they are is the second list, of correctness.
+- **Time.** No statement says how long an answer takes: one company can see by the time of its answers that others are served.
+- **503.** A message that is answered 503 changes nothing, and is no part of a run's parts.
+- **What a person does outside the desk**: transmitting files, keys, the proxy. See [proved, trusted and tested](assurance.md).
+"""
+
+
+def purpose_of(path):
+    """Returns the comment at the head of a file of definitions, as one paragraph."""
+    lines = []
+    for line in path.read_text().split("\n"):
+        if not line.startswith("--"):
+            break
+        lines.append(line.removeprefix("--").strip())
+    return " ".join(lines)
+
+
+def source_of(own):
+    """Returns the lines of a definition with the comment before it, as they are in its file."""
+    lines = own.path.read_text().split("\n")
+    first = own.first - 1
+    while first and lines[first - 1].strip().startswith("--") and not lines[first - 1].strip().startswith("-- ----"):
+        first -= 1
+    if not any(it.strip() and not it.startswith("--") for it in lines[:first]):
+        first = own.first - 1
+    return "\n".join(lines[first : own.last])
+
+
+def in_files(order):
+    """Groups definitions by their files. A file comes after those that its definitions name, and definitions are as in their file."""
+    found = {}
+    for it in order:
+        if not isinstance(it, str) and it.kind == "definition":
+            found.setdefault(it.path, []).append(it)
+    return {path: sorted(own, key=lambda it: it.first) for path, own in found.items()}
+
+
+def link(path, text=None):
+    return f"[`{text or path.relative_to(CRATES)}`](../../{path.relative_to(TOP)})"
+
+
+def full_list(order):
+    lines = []
+    for path, own in in_files(order).items():
+        lines += [f"### {path.relative_to(CRATES)}".replace("/specs", ""), "", f"{link(path, 'source')}: {purpose_of(path)}", "", "```text"]
+        heads = []
+        for it in own:
+            if it.outer and it.outer not in heads:
+                heads.append(it.outer)
+                lines += [f"module _ {it.outer.strip()} where"]
+            lines += [source_of(it), ""]
+        lines[-1:] = ["```", ""]
+    return lines
+
+
+def words_list(order):
+    """Lists the code types and the toolchain's words of a list, in two paragraphs."""
+    code = sorted({(it.path, it.name) for it in order if not isinstance(it, str) and it.kind == "code"})
+    by_file = {}
+    for path, name in code:
+        by_file.setdefault(path, []).append(f"`{name}`")
+    types = "; ".join(f"{', '.join(names)} of {link(path)}" for path, names in by_file.items())
+    words = {}
+    for it in sorted(it for it in order if isinstance(it, str)):
+        module, _, name = it.rpartition(".")
+        words.setdefault(module, []).append(f"`{name}`")
+    known = "; ".join(f"{', '.join(names)} of `{module}`" for module, names in words.items())
+    closed = [f"- `{name}`: {why}." for name, why in CLOSED.items()]
+    return ["### Types of code", "", f"Their values are the lists, numbers and records that their fields show: {types}.", "", "### Words of the toolchain", "", f"{known}.", "",
+            "### What may stay closed", "", "The statement holds whatever these answer, so a reader can skip them:", "", *closed, ""]
+
+
+def index(order):
+    """Lists files with the names that they define, and how many lines of each are on the list."""
+    lines = ["| File | Lines | Definitions |", "|---|---|---|"]
+    for path, own in in_files(order).items():
+        names = ", ".join(f"`{it.name}`" for it in own)
+        lines.append(f"| {link(path)} | {sum(it.lines for it in own)} | {names} |")
+    return lines
+
+
+def counts_table(lists):
+    lines = ["| List | Lines of definitions | Files | Types of code | Words of the toolchain |", "|---|---|---|---|---|"]
+    for name, order in lists.items():
+        own, files, _, _, words = counts(order)
+        types = len({it for it in order if not isinstance(it, str) and it.kind == "code"})
+        lines.append(f"| {name} | {own:,} | {files} | {types} | {words} |")
+    return "\n".join(lines)
+
+
+def page(tree):
+    lists = {name: listed(tree, promises) for name, promises in LISTS.items()}
+    lines = [HEAD.replace("\\\n", "").format(counts=counts_table(lists)), ISOLATION_TEXT.replace("\\\n", "")]
+    lines += full_list(lists["isolation"]) + words_list(lists["isolation"])
+    lines += ["## The other lists", ""]
+    for name in list(LISTS)[1:]:
+        laws = ", ".join(link(it.path, it.function) for it in LISTS[name])
+        lines += [f"### {name[0].upper()}{name[1:]}", "", f"From {laws}.", "", *index(lists[name]), ""]
+    return "\n".join([*lines, NOT_HERE.replace("\\\n", "")]).rstrip("\n") + "\n"
+
+
+# ---- the checker's word ----
+
+def flat(path):
+    """Returns the name of a file of definitions in the crate that holds the listed ones alone."""
+    crate, *_, = path.relative_to(CRATES).parts
+    return "_".join([crate, *path.relative_to(CRATES / crate / "specs").with_suffix("").parts])
+
+
+def only(tree, order, path, without=None):
+    """Returns the text of a file of definitions with the listed ones alone."""
+    kept = {it for it in order if not isinstance(it, str) and it.kind == "definition" and it != without}
+    module = next(it for it in tree.modules.values() if it.path == path)
+    lines = without_comments(path.read_text(), strings=True).split("\n")
+    for own in module.definitions:
+        if own not in kept:
+            lines[own.first - 1 : own.last] = [""] * (own.last - own.first + 1)
+    heads = {it.outer for it in module.definitions if it in kept}
+    text = "\n".join(filter(None, (renamed(tree, kept, it) for it in lines)))
+    text = re.sub(r"^infix[lr]? \d+ (\S+)\n", lambda it: it[0] if module.names[it[1]] in kept else "", text, flags=re.M)
+    text = re.sub(r"^(abbrev )?mutual(\n|$)(?!  )", "", text, flags=re.M)
+    for outer in {it.outer for it in module.definitions} - heads:
+        text = re.sub(r"^ *module _ " + r"\s+".join(map(re.escape, outer.split())) + r"\s+where\n?", "", text, flags=re.M)
+    return text + "\n"
+
+
+def renamed(tree, kept, line):
+    """Returns an import as it is in that crate, or another line as it is."""
+    at = re.fullmatch(r"(pub )?use (Rattle\.(\w+)\.specs\.(?!declared)[\w.]+?)(\.\{(.*)\}| as \w+)", line)
+    if not at or not tree.is_own(at[2]):
+        return line
+    path = f"Rattle.{LISTED}.specs.{flat(tree.module(at[2]).path)}"
+    if at[5] is None:
+        return f"use {path}{at[4]}" if any(it.module == at[2] for it in kept) else ""
+    names = [it for it in at[5].split(", ") if tree.named(at[2], it.partition(" as ")[0]) in kept]
+    return f"{at[1] or ''}use {path}.{{{', '.join(names)}}}" if names else ""
+
+
+def texts_of(tree, order, without=None):
+    """Returns the files of the crate that holds the listed definitions alone, or all but one of them."""
+    paths = [path for path in in_files(order)]
+    return {flat(path): only(tree, order, path, without) for path in paths}
+
+
+def is_accepted(crate, texts):
+    """Tells whether the checker accepts a crate of these definitions alone, with the code types and libraries of another."""
+    with tempfile.TemporaryDirectory(prefix="listed-") as folder:
+        room = Path(folder)
+        (room / "specs").mkdir()
+        (room / "src").mkdir()
+        (room / "src/lib.rt").write_text("//! Listed definitions.\n#![tactic(auto)]\n")
+        for name, text in texts.items():
+            (room / f"specs/{name}.antt").write_text(text)
+        (room / "specs/Lib.antt").write_text("".join(f"pub mod {it}\n" for it in texts))
+        uses = proofs.uses_of_crates()
+        below = proofs.crates_below(uses, crate)[crate]
+        libraries = sorted(set().union(uses[crate], below, *(uses[it] for it in below)))
+        words = [proofs.KIT / "bin/rattle", "check", *proofs.sources_of(LISTED, {**uses, LISTED: libraries})]
+        ran = subprocess.run([str(it) for it in words], cwd=room, stdin=subprocess.DEVNULL, capture_output=True, text=True, check=False)
+        return ran.returncode == 0, ran.stdout + ran.stderr
+
+
+def validate(tree, crate, law):
+    """Has the checker accept the listed definitions of a law alone, and refuse them without any one; returns how often it did not."""
+    order, faults = listed(tree, (Promise(crate, "laws.rt", law),)), 0
+    good, said = is_accepted(crate, texts_of(tree, order))
+    own = [it for it in order if not isinstance(it, str) and it.kind == "definition"]
+    print(f"{crate}::{law}: {len(own)} definitions alone: {'accepted' if good else 'REFUSED'}", flush=True)
+    if not good:
+        print("\n".join(said.split("\n")[:12]))
+        return 1
+    # The statement's own definitions are named by the law alone.
+    named, _ = starts_of(tree, Promise(crate, "laws.rt", law))
+    for it in own:
+        if it not in named and is_accepted(crate, texts_of(tree, order, it))[0]:
+            print(f"{crate}::{law}: not needed: {it.module}.{it.name}", flush=True)
+            faults += 1
+    print(f"{crate}::{law}: refused without each of {len(own) - faults} definitions", flush=True)
+    return faults
+
+
+def main():
+    parser = argparse.ArgumentParser(description=__doc__, formatter_class=argparse.RawDescriptionHelpFormatter)
+    parser.add_argument("--counts", action="store_true")
+    parser.add_argument("--write", action="store_true")
+    parser.add_argument("--check", action="store_true")
+    parser.add_argument("--validate", nargs="+", metavar="CRATE::LAW")
+    given, tree = parser.parse_args(), Tree()
+    if given.validate:
+        return 1 if sum(validate(tree, *it.split("::")) for it in given.validate) else 0
+    if given.counts:
+        print_counts(tree)
+    elif given.write:
+        PAGE.write_text(page(tree))
+    elif not PAGE.exists() or PAGE.read_text() != page(tree):
+        print(f"{PAGE.relative_to(TOP)} is not generated from the definitions: run python3 judge/believed.py --write", file=sys.stderr)
+        return 1
+    return 0
+
+
+if __name__ == "__main__":
+    sys.exit(main())
