@@ -9,12 +9,14 @@ PROGRAM is the built program if it is left out. The parts, all if none is named:
     keys     keys in files of mode 0600, rotated and shut by a reload, compared with case
     limits   guesses, a company, an address, half requests; 300 hostile clients next to a polite one: figures
     second   the README's commands for a second desk, and the site in Debian's own nginx.conf
-    firewall the rules of nftables, in a network of their own: connections of one address
+    firewall the rules of nftables, in a network of their own: connections of one address, users that reach the desk
     log      logrotate's debug run, and a rotation while nginx serves
     manual   the manual pages, by man without a warning
-    package  `make install`, `make uninstall`, `make deb`; the package installed, upgraded, removed and purged by `dpkg --root`
+    package  `make install`, `make uninstall`, `make deb`; lintian; the package installed, upgraded, removed and purged by `dpkg --root`;
+             the links of the installed pages
+    debian   the package in a Debian of its own, with apt and nginx; it needs debootstrap and a mirror, and runs only if it is named
 
-It needs Debian's packages nginx, openssl, logrotate, nftables, iproute2, man-db, make, strace and systemd, and root. If one is missing it names it,
+It needs Debian's packages nginx, openssl, logrotate, nftables, iproute2, lintian, man-db, make, strace and systemd, and root. If one is missing it names it,
 with status 2. The last line counts the checks; the status is 1 where one failed.
 """
 
@@ -40,7 +42,7 @@ from helpers.running import HOST, MILL, MILL_KEY, OPERATOR_KEY, TOP, Checks, Ser
 
 DEPLOY = TOP / "deploy"
 PACKAGES = {"nginx": "nginx", "openssl": "openssl", "logrotate": "logrotate", "man": "man-db", "make": "make", "strace": "strace",
-            "nft": "nftables", "ip": "iproute2", "unshare": "util-linux", "systemd-analyze": "systemd", "setpriv": "util-linux", "dpkg-deb": "dpkg"}
+            "nft": "nftables", "ip": "iproute2", "unshare": "util-linux", "systemd-analyze": "systemd", "setpriv": "util-linux", "dpkg-deb": "dpkg", "lintian": "lintian"}
 PATHS = f"{os.environ.get('PATH', '')}:/usr/sbin:/sbin"
 USER, OTHER = 64_801, 64_802  # two users of the machine that have nothing
 NET_BIND_SERVICE = 1 << 10
@@ -82,10 +84,10 @@ def units(checks, program, folder):
     root = folder / "root"
     places = root / "etc/systemd/system"
     places.mkdir(parents=True)
-    names = sorted(it.name for it in [*DEPLOY.glob("*.service"), *DEPLOY.glob("*.timer")])
+    names = sorted(it.name for kind in ("service", "timer", "path") for it in DEPLOY.glob(f"*.{kind}"))
     for name in names:
         text = (DEPLOY / name).read_text()
-        (places / name).write_text(re.sub(r"/usr/bin/achdesk(-day)?(?= )", program, text))
+        (places / name).write_text(re.sub(r"/usr/bin/achdesk(-day|-alarm|-guard)?(?= )", program, text))
     paths = {"SYSTEMD_UNIT_PATH": f"{places}:/usr/lib/systemd/system"}
     for name in names:
         where = str(places / name.replace("@.", "@two."))
@@ -96,13 +98,54 @@ def units(checks, program, folder):
             printed = said("systemd-analyze", "security", "--offline=true", where, env=os.environ | paths)[0]
             exposure = re.search(r"exposure level for \S+: ([\d.]+)", printed)
             checks.that(f"the exposure of {name} is at most 2.0: {exposure and exposure[1]}", bool(exposure) and float(exposure[1]) <= 2.0)
-    for name in (it for it in names if it.endswith(".timer")):
-        for moment in unit(name).get("OnCalendar", []):
-            checks.that(f"the moments of {name}: {moment}", said("systemd-analyze", "calendar", moment)[1], 0)
+    failures(checks, [it for it in names if it.endswith(".service")])
+    moments(checks, [it for it in names if it.endswith(".timer")])
     one, many = ((DEPLOY / name).read_text().partition("[Unit]")[2] for name in ("achdesk.service", "achdesk@.service"))
     made = (one.replace("Description=ACH desk", "Description=ACH desk %i").replace("/bank.db", "/%i/bank.db").replace("size of /%i/bank.db", "size of bank.db")
             .replace("StateDirectory=achdesk\n", "StateDirectory=achdesk/%i\n").replace("achdesk.env", "%i.env").replace("edit achdesk,", "edit achdesk@NAME,"))
     checks.that("achdesk@.service is achdesk.service with other names", many, made)
+
+
+def failures(checks, services):
+    """No unit fails silently: each names the alarm, but for the alarm itself, and one that ends names it for its success too."""
+    alarm = ["achdesk-alarm@%n.service"]
+    own = ("achdesk-alarm.service", "achdesk-alarm@.service")
+    checks.that("each unit has OnFailure= to the alarm", [it for it in services if it not in own and unit(it).get("OnFailure") != alarm], [])
+    ending = [it for it in services if unit(it).get("Type") == ["oneshot"] and it not in own]
+    checks.that("each unit that ends has OnSuccess= to it", [it for it in ending if unit(it).get("OnSuccess") != alarm], [])
+    checks.that("the alarm's own units name none, which would go round", [it for it in own if "OnFailure" in unit(it)], [])
+    users = {it: unit(it).get("User", ["root"])[0] for it in services}
+    checks.that("the desk, the day, the backups, the alarms and the look at the desk are different users",
+                {it: users[it] for it in ("achdesk.service", "achdesk-day-cut.service", "achdesk-day@.service", "achdesk-backup@.service", "achdesk-alarm@.service", "achdesk-guard.service")},
+                {"achdesk.service": "achdesk", "achdesk-day-cut.service": "achdesk-day", "achdesk-day@.service": "achdesk-day", "achdesk-backup@.service": "achdesk-backup",
+                 "achdesk-alarm@.service": "achdesk-alarm", "achdesk-guard.service": "achdesk-guard"})
+    checks.that("root runs the restart alone", [it for it, user in users.items() if user == "root"], ["achdesk-restart.service"])
+    commands = {it: [line.split()[1:3] for line in unit(it)["ExecStart"] if "achdesk-day " in line] for it in services if it.startswith("achdesk-day-") or it.startswith("achdesk-backup")}
+    known = set(re.findall(r"^    \"([a-z-]+)\": \(\"", (DEPLOY / "achdesk_day/words.py").read_text(), re.M))
+    options = set(re.findall(r"\"(--[a-z-]+)\"", (DEPLOY / "achdesk_day/words.py").read_text()))
+    unknown = [(it, word) for it, lines in commands.items() for line in lines for word in line if word not in known | options and word != "%i"]
+    checks.that("each command of a unit is one of achdesk-day", unknown, [])
+    made = set(re.findall(r"^u (\S+)", (DEPLOY / "sysusers.conf").read_text(), re.M))
+    checks.that("each user is made", sorted(set(users.values()) - {"root"} - made), [])
+    bounded = ("MemoryMax", "MemorySwapMax", "CPUWeight", "IOWeight")
+    checks.that("backups are bounded in memory, processors and disk", [it for it in bounded if it not in unit("achdesk-backup@.service")], [])
+    for name in (it for it in services if it.startswith("achdesk-day")):
+        checks.that(f"{name} starts after the network and the proxy", all(f"{it}" in " ".join(unit(name)[key]) for it in ("network-online.target", "nginx.service") for key in ("Wants", "After")))
+    checks.that("the day is set with a clock that is synchronized", "time-sync.target" in unit("achdesk-day-open.service")["Wants"][0] and "time-sync.target" in unit("achdesk-day-open.service")["After"][0])
+
+
+def moments(checks, timers):
+    """The moments of the timers, of which those with a lock never fall into the same minute, on a Tuesday."""
+    minutes = {}
+    for name in timers:
+        for moment in unit(name).get("OnCalendar", []):
+            printed, status = said("systemd-analyze", "calendar", "--base-time=2026-12-01 00:00:00", "--iterations=1500", moment, env=os.environ | {"TZ": "America/New_York"})
+            checks.that(f"the moments of {name}: {moment}", status, 0)
+            found = set(re.findall(r"(?:Next elapse|Iter\. #\d+): \w+ 2026-12-01 (\d\d:\d\d):\d\d", printed))
+            minutes[name] = minutes.get(name, set()) | found
+    locking = [it for it in timers if len(minutes[it]) < 1000]  # those of every minute take a lock for a moment alone
+    pairs = {(one, other): sorted(minutes[one] & minutes[other])[:3] for one in locking for other in locking if one < other and minutes[one] & minutes[other]}
+    checks.that(f"no two of {len(locking)} timers fall into one minute", (len(locking) > 6, pairs), (True, {}))
 
 
 # ---- the ExecStart of the unit
@@ -293,6 +336,7 @@ def proxy(checks, program, folder):
     with Bank(program, folder / "bank") as bank:
         ask = bank.proxy.ask
         answers(checks, ask)
+        state(checks, bank)
         own_errors(checks, bank)
         heads(checks, bank)
         logged(checks, bank)
@@ -317,6 +361,18 @@ def answers(checks, ask):
         found = ask(method, path, "" if method == "POST" else None, key, source="127.0.0.1")
         checks.that(f"{what}: {status}", (found[0], status == 200 or found[2]), (status, status == 200 or error("Denied")))
         time.sleep(0.9 if status == 403 else 0)
+
+
+def state(checks, bank):
+    """The state of the day is for operators."""
+    ask, path = bank.proxy.ask, "/console/state.json"
+    checks.that("without a state of the day: 404", ask("GET", path, key=ALICE)[0::2], (404, error("NotFound")))
+    (bank.proxy.folder / "public" / "state.json").write_text('{"files":[]}\n')
+    found = ask("GET", path, key=ALICE)
+    checks.that("an operator reads the state of the day", (found[0], found[2], found[1]["Content-Type"], found[1]["Cache-Control"]), (200, b'{"files":[]}\n', "application/json", "no-store"))
+    for what, key, source in (("a monitor", WATCHER, None), ("a company", PAYROLL, None), ("a stranger", None, None), ("an operator elsewhere", ALICE, "127.0.0.2")):
+        checks.that(f"{what} does not", ask("GET", path, key=key, source=source)[0::2], (403, error("Denied")))
+        time.sleep(0.9)
 
 
 def own_errors(checks, bank):
@@ -370,8 +426,7 @@ def logged(checks, bank):
     bank.proxy.ask("GET", "/ops/status", key="guess-key-1")
     lines = [LOGGED.fullmatch(it) for it in bank.proxy.logged(before + 3)[before:]]
     checks.that("the log names the holders, and has no line of a stranger's 404", [it and (it["holder"], it["request"], it["status"], it["desk"]) for it in lines],
-                [("operator:alice", "GET /ops/status HTTP/1.1", "200", "200"), ("MILL01:payroll", "GET /c/MILL01/returns HTTP/1.1", "200", "200"),
-                 ("-", "GET /ops/status HTTP/1.1", "403", "-")])
+                [("operator:alice", "GET /ops/status", "200", "200"), ("MILL01:payroll", "GET /c/MILL01/returns", "200", "200"), ("-", "GET /ops/status", "403", "-")])
     text = bank.proxy.log.read_text() + bank.proxy.errors.read_text()
     checks.that("no key is in a log", [key for key in (ALICE, WATCHER, PAYROLL, OPERATOR_KEY, MILL_KEY, "guess-key-1") if key in text], [])
 
@@ -586,65 +641,95 @@ def blocks(heading):
     return re.findall(r"```sh\n(.*?)```", part, re.S)
 
 
+SITE_PARTS = {"nginx.conf": "sites-available/achdesk", "nginx-http.conf": "snippets/achdesk-http.conf", "nginx-server.conf": "snippets/achdesk-server.conf"}
+
+
 def second(checks, program, folder):
     root = folder / "second"
-    for name in ("etc/achdesk/keys", "etc/achdesk/tls", "etc/nginx/sites-available", "var/log/achdesk", "var/lib/achdesk", "usr/share/achdesk"):
+    for name in ("etc/achdesk/keys", "etc/achdesk/tls", "etc/nginx/sites-available", "etc/nginx/snippets", "var/log/achdesk", "var/log/nginx", "var/lib/achdesk", "usr/share/achdesk"):
         (root / name).mkdir(parents=True)
     for name in ("people", "companies", "desk"):
         shutil.copy(DEPLOY / "keys" / f"{name}.map", root / "etc/achdesk/keys")
     shutil.copytree(DEPLOY / "keys", root / "usr/share/achdesk/keys")
     for name in ("achdesk.env", "operators.conf"):
         shutil.copy(DEPLOY / name, root / "etc/achdesk")
-    shutil.copy(DEPLOY / "nginx.conf", root / "etc/nginx/sites-available/achdesk")
+    for source, target in SITE_PARTS.items():
+        shutil.copy(DEPLOY / source, root / "etc/nginx" / target)
     text = blocks("Several desks")[0].replace("-o achdesk -g achdesk ", "")
-    printed, status = said("sh", "-ec", re.sub(r"(?<![\w.:])/(etc|var|usr)/(?=(achdesk|nginx|lib/achdesk|log/achdesk|share/achdesk)\b)", f"{root}/\\1/", text))
+    printed, status = said("sh", "-ec", re.sub(r'(?<=[ ">])/(etc|var|usr)/(?=(achdesk|nginx|lib/achdesk|log/achdesk|share/achdesk)\b)', f"{root}/\\1/", text))
     checks.that("the README's commands for a second desk end well", (printed, status), ("", 0))
     checks.that("its port is another", (root / "etc/achdesk/two.env").read_text().count("881"), 1)
     for key in ("achdesk/tls", "achdesk/two/tls"):
         subprocess.run(["openssl", "req", "-x509", "-newkey", "ec", "-pkeyopt", "ec_paramgen_curve:prime256v1", "-nodes", "-subj", "/CN=desk", "-keyout", root / "etc" / key / "key.pem",
                         "-out", root / "etc" / key / "cert.pem"], check=True, stderr=subprocess.DEVNULL)
-    sites = []
-    for name in ("achdesk", "two"):
-        text = (root / "etc/nginx/sites-available" / name).read_text()
-        for old in ("/etc/achdesk", "/var/log/achdesk", "/usr/share/achdesk"):
-            text = text.replace(f"{root}{old}", old).replace(old, f"{root}{old}")
-        (root / f"{name}.conf").write_text(text)
-        sites.append(root / f"{name}.conf")
+    texts = {name: {target: (root / "etc/nginx" / target.replace("achdesk", name)).read_text() for target in SITE_PARTS.values()} for name in ("achdesk", "two")}
+    for name, parts in texts.items():
+        for target, text in parts.items():
+            (root / "etc/nginx" / target.replace("achdesk", name)).write_text(re.sub(r"(?<![\w.])/(etc|var|usr/share/achdesk)\b", f"{root}/\\1", text))
     debian = Path("/etc/nginx/nginx.conf").read_text()
     main = re.sub(r"/run/nginx.pid", f"{root}/pid", re.sub(r"/var/log/nginx", f"{root}/var/log", debian))
-    main = main.replace("include /etc/nginx/sites-enabled/*;", "".join(f"include {it}; " for it in sites)).replace("include /etc/nginx/modules-enabled/*.conf;", "")
+    sites = "".join(f"include {root}/etc/nginx/sites-available/{name}; " for name in texts)
+    main = main.replace("include /etc/nginx/sites-enabled/*;", sites).replace("include /etc/nginx/modules-enabled/*.conf;", "")
     (root / "nginx.conf").write_text(main)
     printed, status = said(shutil.which("nginx", path=PATHS), "-t", "-q", "-e", root / "error.log", "-c", root / "nginx.conf")
     checks.that("both sites are taken in Debian's nginx.conf", (printed, status), ("", 0))
-    first, other = (set(re.findall(r"zone=?(\w+)|(?<=map \$)(\w+)|log_format (\w+)", it.read_text())) for it in sites)
-    checks.that("they share no zone and no log", [it for it in first & other if "achdesk" in str(it)], [])
+    one, two = ("\n".join(texts[name].values()) for name in ("achdesk", "two"))
+    first, other = (set(re.findall(r"zone=?(\w+)|(?<=map \$)(\w+)|log_format (\w+)|shared:(\w+)", it)) for it in (one, two))
+    checks.that("they share no zone, no variable and no log", [it for it in first & other if "achdesk" in str(it)], [])
+    paths = [set(re.findall(r"(?m)^[^#\n]*?(/(?:etc|var)/[\w./-]+)", it)) for it in (one, two)]
+    checks.that("nor a key, a certificate, a state or a log of requests", sorted(paths[0] & paths[1]), ["/var/log/nginx/error.log"])
+    checks.that("each has the port of its desk", [re.findall(r"127\.0\.0\.1:(\d+)", it) for it in (one, two)], [["880"] * 2, ["881"] * 2])
 
 
 # ---- the firewall
 
-# In a network of its own: a server on port 443, and how many of 70 connections it takes of each of two addresses.
+# In a network of its own: a server on port 443, and how many of 70 connections it takes of each of two addresses, then of
+# two addresses of one IPv6 network and one of another; then who may connect to the desk's port.
 CONNECTING = """
-import socket, subprocess, sys
+import encodings.idna, os, socket, subprocess, sys, time
 subprocess.run(["ip", "link", "set", "lo", "up"], check=True)
+for address in ("2001:db8:1::1", "2001:db8:1::2", "2001:db8:2::1"):
+    subprocess.run(["ip", "-6", "address", "add", address + "/64", "dev", "lo", "nodad"], check=True)
 subprocess.run(["nft", "-f", sys.argv[1]], check=True)
 server, taken = socket.create_server(("127.0.0.1", 443), backlog=200), []
-def opened(source):
+six = socket.create_server(("::1", 443), family=socket.AF_INET6, backlog=400)
+desk = socket.create_server(("127.0.0.1", 880), backlog=200)
+def opened(source, target="127.0.0.1", port=443):
     try:
-        taken.append(socket.create_connection(("127.0.0.1", 443), timeout=5, source_address=(source, 0)))
+        taken.append(socket.create_connection((target, port), timeout=5, source_address=(source, 0)))
         return True
     except OSError:
         return False
+def as_user(user):
+    child = os.fork()
+    if child == 0:
+        os.setgroups([]); os.setgid(user); os.setuid(user)
+        os._exit(0 if opened("127.0.0.1", port=880) else 1)
+    return os.waitpid(child, 0)[1] == 0
 print([sum(opened(source) for _ in range(70)) for source in ("127.0.0.2", "127.0.0.3")])
 for it in taken[:10]:
     it.close(); server.accept()[0].close()
-import time; time.sleep(0.5)
+time.sleep(0.5)
 print(opened("127.0.0.2"))
+print([sum(opened(source, "::1") for _ in range(40)) for source in ("2001:db8:1::1", "2001:db8:1::2", "2001:db8:2::1")])
+print([as_user(user) for user in map(int, sys.argv[2:])])
 """
 
 
 def firewall(checks, program, folder):
-    printed, status = said("unshare", "--net", sys.executable, "-c", CONNECTING, DEPLOY / "nftables.conf", env=os.environ | {"PATH": PATHS})
-    checks.that("an address has 60 connections, and a new one when old ones end", (printed, status), ("[60, 60]\nTrue\n", 0))
+    text = (DEPLOY / "nftables.conf").read_text()
+    callers = re.search(r"^define achdesk_callers = \{ (.*) \}$", text, re.M)[1].split(", ")
+    made = set(re.findall(r"^u ([\w-]+)", (DEPLOY / "sysusers.conf").read_text(), re.M)) | {"root", "www-data"}
+    checks.that("the users that may reach the desk are Debian's or made by the package", sorted(set(callers) - made), [])
+    checks.that("the port is that of achdesk.env", re.search(r"achdesk_ports = \{ (\d+) \}", text)[1], re.search(r"DESK_PORT=(\d+)", (DEPLOY / "achdesk.env").read_text())[1])
+    numbers = {"root": 0, "www-data": 33} | {name: USER + at for at, name in enumerate(it for it in callers if it not in ("root", "www-data"))}
+    rules = folder / "rules"
+    rules.write_text(text.replace(", ".join(callers), ", ".join(str(numbers[it]) for it in callers)))
+    printed, status = said("unshare", "--net", sys.executable, "-c", CONNECTING, rules, *numbers.values(), USER + 100, 65_534, env=os.environ | {"PATH": PATHS})
+    lines = printed.splitlines()
+    checks.that("an address has 60 connections, and a new one when old ones end", (lines[:2], status), (["[60, 60]", "True"], 0))
+    checks.that("so has an IPv6 network of 64 bits", lines[2:3], ["[40, 20, 40]"])
+    checks.that("only nginx, achdesk-day, the guard and root reach the desk's port", lines[3:], [str([True] * len(numbers) + [False] * 2)])
 
 
 # ---- the log
@@ -720,11 +805,11 @@ def day_keys(checks, at, user, group):
     """The commands of docs/operate/install.md that issue a key to achdesk-day, which then reads it and no other file of the folder."""
     page = (TOP / "docs/operate/install.md").read_text().partition("\n## The day program\n")[2].partition("\n## ")[0]
     lines = [re.search(r"```sh\n(.*?)```", page, re.S)[1], *re.findall(r"^\$ sudo (ssh-keygen .*|chown .*)$", page, re.M)]
-    text = "\n".join(lines).replace("/etc/achdesk", f"{at}/etc/achdesk").replace("achdesk:achdesk", f"{user}:{group}")
+    text = "\n".join(lines).replace("/etc/achdesk", f"{at}/etc/achdesk").replace("achdesk-day:achdesk-day", f"{user}:{group}")
     checks.that("the page's commands make the keys of achdesk-day", said("sh", "-ec", text), ("", 0))
     checks.that("its line in people.map has the key", (at / "etc/achdesk/keys/people.map").read_text().count('"operator:day";'), 1)
     config = at / "day.conf"
-    config.write_text(re.sub(r"(?m)^#?(key_file|state|identity) = (/.*)$", rf"\1 = {at}\2", (at / "etc/achdesk/day.conf").read_text().replace("desk.bank.example", f"127.0.0.1:{free_port()}")))
+    config.write_text(re.sub(r"(?m)^#?(key_file|state|identity) = (/.*)$", rf"\1 = {at}\2", (at / "etc/achdesk/day.conf").read_text().replace("key_file = day", f"key_file = {at}/etc/achdesk/keys/day").replace("desk.bank.example", f"127.0.0.1:{free_port()}")))
     config.chmod(0o644)
     for it in (at, *at.parents):
         if it != Path("/") and not os.stat(it).st_mode & 0o001:
@@ -751,7 +836,7 @@ def metrics_file(checks, at, group, config, as_user):
     printed, status = as_user(*write)
     checks.that("without the page's commands the metrics are not written", (status, "achdesk.prom cannot be written: Permission denied" in printed), (3, True))
     text = "\n".join(re.findall(r"^\$ sudo (chgrp .*|chmod .*)$", (TOP / "docs/operate/monitoring.md").read_text(), re.M))
-    checks.that("the page's commands", said("sh", "-ec", text.replace("chgrp achdesk", f"chgrp {group}").replace("/var/lib", f"{at}/var/lib")), ("", 0))
+    checks.that("the page's commands", said("sh", "-ec", text.replace("chgrp achdesk-day", f"chgrp {group}").replace("/var/lib", f"{at}/var/lib")), ("", 0))
     checks.that("the service's user writes the metrics", as_user(*write)[1], 0)
     checks.that("which every user may read", (mode_of(folder / "achdesk.prom"), "\nachdesk_up 0\n" in (folder / "achdesk.prom").read_text()), ("0o644", True))
     checks.that("and nothing else is there", sorted(it.name for it in folder.iterdir()), ["achdesk.prom", "other.prom"])
@@ -770,19 +855,47 @@ def installed(checks, program, folder):
     checks.that("the company's program finds its module", company(root, "--help")[1], 0)
     for name in ("usr/bin/achdesk-day", "usr/lib/systemd/system/achdesk.service", "usr/lib/systemd/system/achdesk@.service", "usr/lib/systemd/system/achdesk-restart.timer",
                  "usr/lib/systemd/system/achdesk-day-metrics.service", "usr/lib/systemd/system/achdesk-day-metrics.timer",
-                 "usr/share/achdesk/console/index.html", "usr/share/achdesk/audit.sql", "usr/share/doc/achdesk/audit.sql", "usr/bin/achdesk-company",
-                 "usr/lib/python3/dist-packages/achdesk.py", "usr/share/man/man1/achdesk.1.gz", "usr/share/man/man1/achdesk-day.1.gz", "usr/share/man/man1/achdesk-company.1.gz", "etc/nginx/sites-available/achdesk", "etc/logrotate.d/achdesk"):
+                 "usr/bin/achdesk-alarm", "usr/bin/achdesk-guard", "usr/lib/python3/dist-packages/achdesk_alarm/cli.py", "usr/lib/systemd/system/achdesk-alarm.path",
+                 "usr/lib/systemd/system/achdesk-alarm@.service", "usr/share/man/man1/achdesk-alarm.1.gz", "usr/share/man/man1/achdesk-guard.1.gz", "etc/achdesk/alarm.conf",
+                 "usr/share/achdesk/console/index.html", "usr/share/achdesk/audit.sql", "usr/share/doc/achdesk/docs/audit.sql", "usr/bin/achdesk-company",
+                 "usr/lib/python3/dist-packages/achdesk/__init__.py", "usr/share/man/man1/achdesk.1.gz", "usr/share/man/man1/achdesk-day.1.gz", "usr/share/man/man1/achdesk-company.1.gz", "etc/nginx/sites-available/achdesk",
+                 "etc/nginx/snippets/achdesk-http.conf", "etc/nginx/snippets/achdesk-server.conf", "etc/logrotate.d/achdesk", "usr/share/achdesk/etc/nginx.conf"):
         checks.that(f"it installs {name}", (root / name).is_file())
     (root / "var/lib/achdesk").mkdir(parents=True)
     (root / "var/lib/achdesk/bank.db").write_text("a desk")
     (root / "etc/achdesk/keys/people.map").write_text("a key")
     (root / "etc/achdesk/operators.conf").write_text("an address")
+    (root / "etc/achdesk/keys").chmod(0o710)
+    os.chown(root / "etc/achdesk/keys", 0, OTHER)
     kept = snapshot(root, "var", "etc")
     said(*make, "install")
     checks.that("a second make install leaves the configuration", snapshot(root, "var", "etc"), kept)
+    folder_of_keys = os.stat(root / "etc/achdesk/keys")
+    checks.that("and the rights of the folder of keys", (oct(folder_of_keys.st_mode & 0o777), folder_of_keys.st_gid), ("0o710", OTHER))
+    pages_installed(checks, root / "usr/share/doc/achdesk")
     checks.that("make uninstall", said(*make, "uninstall")[1], 0)
     checks.that("leaves no program", [str(it.relative_to(root)) for it in (root / "usr").rglob("*") if not it.is_dir()], [])
     checks.that("and all that the bank wrote", snapshot(root, "var", "etc"), kept)
+
+
+def headings(text):
+    """The anchors of a page's headings, as GitHub makes them."""
+    return {re.sub(r"[^\w\- ]", "", it.lower()).replace(" ", "-") for it in re.findall(r"^#+ (.*)$", text, re.M)}
+
+
+def pages_installed(checks, folder):
+    """Each link of an installed page leads to an installed file, and to a heading of it."""
+    dead, count = [], 0
+    for page in sorted(folder.rglob("*.md")):
+        text = re.sub(r"^```.*?^```$|`[^`\n]*`", "", page.read_text(), flags=re.M | re.S)
+        for link, anchor in re.findall(r"\]\(([^)\s#]*)(?:#([^)\s]*))?\)", text):
+            if re.match(r"[a-z]+:", link):
+                continue
+            count += 1
+            target = (page.parent / link).resolve() if link else page
+            if not target.exists() or not target.is_relative_to(folder.resolve()) or (anchor and target.suffix == ".md" and anchor not in headings(target.read_text())):
+                dead.append(f"{page.relative_to(folder)}: {link}#{anchor}")
+    checks.that(f"each of the {count} links of the installed pages leads to an installed page", (count > 100, dead), (True, []))
 
 
 class Root:
@@ -807,7 +920,25 @@ class Root:
         return shown[1] if shown else None
 
 
-KEPT = ("var/lib/achdesk", "var/lib/achdesk-day", "var/log/achdesk", "etc/achdesk/keys", "etc/achdesk/tls")
+# What every bank edits, and programs that the package needs.
+EDITED = ("etc/achdesk/achdesk.env", "etc/achdesk/alarm.conf", "etc/achdesk/day.conf", "etc/achdesk/operators.conf", "etc/nginx/sites-available/achdesk")
+NEEDED = ("libc6", "libgcc-s1", "logrotate", "nginx", "openssh-client", "python3", "rsync", "sqlite3", "systemd")
+
+
+def changed(deb, folder):
+    """The next version of a package, in which each file of a configuration has a new line."""
+    made, target = folder / "changed", folder / "achdesk_next.deb"
+    said("dpkg-deb", "--raw-extract", deb, made)
+    for path in (*(made / "usr/share/achdesk/etc").iterdir(), *(made / "etc/achdesk").glob("*.*"), *(made / "etc/nginx").rglob("*")):
+        if path.is_file():
+            path.write_text(path.read_text() + "# a new setting\n")
+    control = made / "DEBIAN/control"
+    control.write_text(re.sub(r"(?m)^Version: .*$", "Version: 1.0.0+3", control.read_text()))
+    said("dpkg-deb", "--root-owner-group", "-Zgzip", "-z1", "--build", made, target)
+    return target
+
+
+KEPT = ("var/lib/achdesk", "var/lib/achdesk-day", "var/lib/achdesk-backup", "var/log/achdesk", "etc/achdesk/keys", "etc/achdesk/tls")
 
 
 def package(checks, program, folder):
@@ -821,46 +952,111 @@ def package(checks, program, folder):
     names = said("dpkg-deb", "--contents", debs[0])[0]
     checks.that("the package has no file of a desk, no key and no certificate", re.findall(r"\./(?:var|etc/achdesk/keys|etc/achdesk/tls)\S*", names), [])
     checks.that("all in it belongs to root", {line.split()[1] for line in names.splitlines()}, {"root/root"})
+    printed = said("lintian", "--fail-on", "error", "--tag-display-limit", "0", debs[0])[0]
+    checks.that("lintian reports no error", re.findall(r"^E: .*$", printed, re.M), [])
+    print("".join(f"        {line}\n" for line in re.findall(r"^[WI]: .*$", printed, re.M)), end="")
+    sums = said("dpkg-deb", "--ctrl-tarfile", debs[0], encoding="latin-1")[0].count("usr/bin/achdesk\n")
+    checks.that("it has the sums of its files", sums, 1)
+    needed = said("dpkg-deb", "--field", debs[0], "Depends")[0].split(", ")
+    checks.that("what the programs need is depended on, with versions", [it for it in NEEDED if not any(re.match(rf"{re.escape(it)} \(>= [\d.:]+\)", one) for one in needed)], [])
+    asked = set(said("dpkg-deb", "--info", debs[0], "conffiles")[0].split())
+    checks.that("it has no file about whose changes an upgrade asks, but those that no bank edits", asked, {"/etc/logrotate.d/achdesk", *(f"/etc/nginx/{it}" for it in SITE_PARTS.values() if "snippets" in it)})
+    debs.append(changed(debs[1], folder))
     root = Root(folder / "machine")
     at = root.folder
     printed, status = root.dpkg("--install", debs[0])
     checks.that("it is installed", (status == 0 or printed, root.status()), (True, "install ok installed"))
-    user = re.search(r"^achdesk:[^:]*:(\d+):(\d+):", (at / "etc/passwd").read_text(), re.M)
-    checks.that("the service's user is made", user is not None)
+    users = {name: (int(uid), int(gid)) for name, uid, gid in re.findall(r"^(achdesk[a-z-]*):[^:]*:(\d+):(\d+):", (at / "etc/passwd").read_text(), re.M)}
+    checks.that("the users are made", sorted(users), ["achdesk", "achdesk-alarm", "achdesk-backup", "achdesk-day", "achdesk-guard"])
+    groups = {name: set(members.split(",")) for name, members in re.findall(r"^(achdesk[a-z-]*):[^:]*:\d+:(.*)$", (at / "etc/group").read_text(), re.M)}
+    checks.that("the day and the backups read the desk's file and raise alarms", (groups["achdesk"], groups["achdesk-alarm"]), ({"achdesk-day", "achdesk-backup"},) * 2)
+    user = (None, *users["achdesk-day"])
     checks.that("the folders are for those who need them", [(mode_of(at / it), os.stat(at / it).st_uid) for it in KEPT],
-                [("0o700", int(user[1])), ("0o700", int(user[1])), ("0o755", 0), ("0o710", 0), ("0o700", 0)])
+                [("0o750", users["achdesk"][0]), ("0o711", users["achdesk-day"][0]), ("0o750", users["achdesk-backup"][0]), ("0o755", 0), ("0o711", 0), ("0o700", 0)])
     log = os.stat(at / "var/log/achdesk/proxy.log")
-    checks.that("the log is for nginx and achdesk-day", (oct(log.st_mode & 0o777), log.st_uid, log.st_gid), ("0o640", 33, int(user[2])))
+    checks.that("the log is for nginx and achdesk-day", (oct(log.st_mode & 0o777), log.st_uid, log.st_gid), ("0o640", 33, users["achdesk"][1]))
     checks.that("the lists of keys are for root alone", [(mode_of(it), os.stat(it).st_uid) for it in sorted((at / "etc/achdesk/keys").iterdir())], [("0o600", 0)] * 3)
     day_keys(checks, at, int(user[1]), int(user[2]))
     checks.that("the company's program runs", company(at, "--help")[1], 0)
-    checks.that("Python keeps its module compiled", len([*(at / "usr/lib/python3/dist-packages/__pycache__").glob("achdesk.*")]), 1)
+    checks.that("Python keeps its module compiled", (at / "usr/lib/python3/dist-packages/achdesk/__pycache__").is_dir(), True)
     make_desk(str(at / "usr/bin/achdesk"), at / "var/lib/achdesk/bank.db")
     for name in ("var/lib/achdesk-day/2025-01-08-A.ach", "var/log/achdesk/proxy.log", "etc/achdesk/tls/key.pem"):
         (at / name).write_text(name)
     (at / "etc/achdesk/keys/people.map").write_text('"~^alice-key-1$" "operator:alice";\n')
-    (at / "etc/achdesk/operators.conf").write_text("allow 10.0.0.0/8;\n")
+    for name in EDITED:
+        with open(at / name, "a") as file:
+            file.write("# the bank's own\n")
     (at / "etc/nginx/sites-enabled").mkdir()
     (at / "etc/nginx/sites-enabled/achdesk").symlink_to("../sites-available/achdesk")
-    kept, configured = snapshot(at, *KEPT), (at / "etc/achdesk/operators.conf").read_text()
-    printed, status = root.dpkg("--install", debs[1])
-    checks.that("it is upgraded", (status == 0 or printed, root.status()), (True, "install ok installed"))
-    checks.that("nothing of the bank's is touched", (snapshot(at, *KEPT), (at / "etc/achdesk/operators.conf").read_text()), (kept, configured))
+    kept, configured = snapshot(at, *KEPT), [(at / name).read_text() for name in EDITED]
+    for deb in debs[1:]:
+        printed, status = root.dpkg("--install", deb)
+        checks.that(f"it is upgraded to {deb.name}, without a question", (status == 0 or printed, root.status()), (True, "install ok installed"))
+        checks.that("nothing of the bank's is touched", (snapshot(at, *KEPT), [(at / name).read_text() for name in EDITED]), (kept, configured))
+    checks.that("what is new in the configuration is next to it", all("a new setting" in (at / "usr/share/achdesk/etc" / Path(name).name).read_text() for name in EDITED[:-1]))
+    checks.that("the snippets are the new ones", (at / "etc/nginx/snippets/achdesk-http.conf").read_text().endswith("# a new setting\n"))
     printed, status = root.dpkg("--remove", "achdesk")
     checks.that("it is removed", (status == 0 or printed, root.status(), (at / "usr/bin/achdesk").exists()), (True, "deinstall ok config-files", False))
     checks.that("no module is left", [*(at / "usr/lib/python3").rglob("achdesk*")], [])
-    checks.that("nothing of the bank's is touched by that", (snapshot(at, *KEPT), (at / "etc/achdesk/operators.conf").read_text()), (kept, configured))
+    checks.that("nothing of the bank's is touched by that", (snapshot(at, *KEPT), [(at / name).read_text() for name in EDITED]), (kept, configured))
+    checks.that("the site has still what it includes", [it for it in SITE_PARTS.values() if not (at / "etc/nginx" / it).exists()], [])
     checks.that("it is installed again", root.dpkg("--install", debs[1])[1], 0)
     checks.that("and the keys are those of before", snapshot(at, *KEPT), kept)
     printed, status = root.dpkg("--purge", "achdesk")
-    checks.that("it is purged", (status == 0 or printed, root.status(), (at / "etc/achdesk/operators.conf").exists()), (True, None, False))
+    checks.that("it is purged", (status == 0 or printed, root.status(), [it for it in EDITED if (at / it).exists()]), (True, None, []))
     checks.that("no file of a desk, of the archive, of the log or of the keys is touched by that either", snapshot(at, *KEPT), kept)
     checks.that("no link is left that keeps nginx from starting", os.path.lexists(at / "etc/nginx/sites-enabled/achdesk"), False)
     for name in ("postinst", "prerm", "postrm"):
         checks.that(f"sh takes {name}", said("sh", "-n", DEPLOY / "package" / name), ("", 0))
 
 
-PARTS = {it.__name__: it for it in (units, start, proxy, keys, limits, second, firewall, log, manual, package)}
+# ---- a whole Debian
+
+class Debian:
+    """A Debian 12 in a folder, made by debootstrap, whose programs run with processes of their own."""
+
+    def __init__(self, folder):
+        self.folder = folder
+        done = said("debootstrap", "--variant=minbase", "--include=ca-certificates", "bookworm", folder, env=os.environ | {"PATH": PATHS})
+        if done[1]:
+            sys.exit(f"debootstrap made no Debian: {done[0][-500:]}")
+        shutil.copy("/etc/resolv.conf", folder / "etc/resolv.conf")
+
+    def run(self, command):
+        """What a command of the shell prints there, and its status. Nobody answers a question."""
+        known = {"PATH": "/usr/sbin:/usr/bin:/sbin:/bin", "LC_ALL": "C", "DEBIAN_FRONTEND": "noninteractive", "HOME": "/root"}
+        return said("unshare", "--mount", "--pid", "--fork", f"--mount-proc={self.folder}/proc", "chroot", self.folder, "sh", "-ec", command, env=known, stdin=subprocess.DEVNULL)
+
+
+def debian(checks, program, folder):
+    for number in (1, 2):
+        said("make", "--no-print-directory", "-C", TOP, "deb", f"PROGRAM={program}", f"VERSION=1.0.0+{number}", f"PACKAGES={folder}", "DPKG_DEB=dpkg-deb --root-owner-group -Zgzip -z1")
+    debs = sorted(folder.glob("achdesk_*.deb"))
+    debs.append(changed(debs[1], folder))
+    machine = Debian(folder / "debian")
+    for deb in debs:
+        shutil.copy(deb, machine.folder / "root")
+    install = "apt-get install -y --no-install-recommends /root/"
+    printed, status = machine.run(f"apt-get update -q && {install}{debs[0].name}")
+    checks.that("apt installs the package with all that it depends on", status == 0 or printed[-500:])
+    checks.that("each of its programs prints its help there", [it for it in ("achdesk", "achdesk-day", "achdesk-company") if machine.run(f"{it} --help")[1]], [])
+    page = (TOP / "docs/operate/install.md").read_text().partition("\n## The proxy\n")[2].partition("\n## ")[0]
+    enabled = next(it for it in re.findall(r"```sh\n(.*?)```", page, re.S) if "sites-enabled" in it).replace("systemctl reload nginx\n", "")
+    made = "openssl req -x509 -newkey rsa:2048 -nodes -subj /CN=desk -keyout /etc/achdesk/tls/key.pem -out /etc/achdesk/tls/cert.pem"
+    printed, status = machine.run(f"{made} 2> /dev/null; {enabled}")
+    checks.that("its nginx takes the site, by the page's commands", (status, "test is successful" in printed), (0, True))
+    edit = "; ".join(f"echo '# the bank has its own' >> /{name}" for name in EDITED)
+    machine.run(edit)
+    for deb in debs[1:]:
+        printed, status = machine.run(f"{install}{deb.name}; nginx -t -q")
+        checks.that(f"apt upgrades it to {deb.name} without a question, and nginx takes the site", status == 0 or printed[-500:])
+    checks.that("what the bank edited is as it was", [it for it in EDITED if "the bank has its own" not in (machine.folder / it).read_text()], [])
+    for word in ("remove", "purge"):
+        printed, status = machine.run(f"apt-get {word} -y achdesk; nginx -t -q")
+        checks.that(f"apt-get {word}, and nginx starts without it", status == 0 or printed[-500:])
+
+
+PARTS = {it.__name__: it for it in (units, start, proxy, keys, limits, second, firewall, log, manual, package, debian)}
 
 
 def main():
@@ -874,7 +1070,7 @@ def main():
         print(f"it needs {', '.join([*missing(), *(['root'] if os.geteuid() else [])])}")
         return 2
     checks = Checks()
-    for name in [it for it in words if it in PARTS] or PARTS:
+    for name in [it for it in words if it in PARTS] or [it for it in PARTS if it != "debian"]:
         with tempfile.TemporaryDirectory(prefix=f"deploy-{name}-") as folder:
             print(f"---- {name}", flush=True)
             PARTS[name](checks, program, Path(folder))

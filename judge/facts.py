@@ -26,13 +26,14 @@ from helpers.small_yaml import load
 TOP = Path(__file__).resolve().parents[1]
 FOLDERS = ("docs/operate", "docs/integrate", "docs/audit")
 USER_PAGES = [TOP / "README.md", TOP / "CHANGELOG.md", TOP / "docs/glossary.md",
-              *sorted(it for folder in FOLDERS for it in (TOP / folder).glob("*.md"))]
+              *sorted(it for folder in FOLDERS for it in (TOP / folder).glob("*.md") if it.name != "believed.md")]
 ALL_PAGES = [*USER_PAGES, *(TOP / it for it in ("bench/RESULTS.md", "judge/README.md", "deploy/README.md", "clients/README.md")),
              *sorted(it for it in (TOP / "docs").glob("*.md") if it not in USER_PAGES)]
 GENERATED = TOP / "docs/integrate/api.md"
+REFERENCE = (GENERATED, TOP / "docs/integrate/codes.md")
 NAMED = re.compile(r"`((?:judge|bench|crates|deploy|clients|console|examples|docs|\.ci)/[\w./@-]+)`")
 INSTALLED = re.compile(r"/(?:etc/achdesk|etc/nginx|usr/bin|usr/share/achdesk|usr/share/doc/achdesk|var/log/achdesk)(?:/[\w-][\w.-]*)*\b")
-MOST_README, MOST_WORDS, MOST_HABITS = 700, 20_000, 6.0
+MOST_README, MOST_WORDS, MOST_HABITS = 700, 25_000, 6.0
 failed, count = 0, 0
 
 
@@ -130,9 +131,9 @@ def missing_paths():
 def check_pages():
     check("broken links", sorted(broken_links()), [])
     check("files that pages name", sorted(missing_paths()), [])
-    check("README: words outside code blocks, at most", min(len(prose_of(TOP / "README.md").split()), MOST_README),
-          len(prose_of(TOP / "README.md").split()))
-    words = sum(len(prose_of(it).split()) for it in USER_PAGES if it != GENERATED)
+    words = len(text("README.md").split())
+    check("README: words, those of its code blocks too, at most", min(words, MOST_README), words)
+    words = sum(len(prose_of(it).split()) for it in USER_PAGES if it not in REFERENCE)
     check("words of the pages of users, at most", min(words, MOST_WORDS), words)
     for page in USER_PAGES:
         rate = habits(prose_of(page))
@@ -141,24 +142,58 @@ def check_pages():
 
 
 def check_promises():
-    """Each promise of the README names laws that are in the files that it links, and the page for auditors explains it."""
+    """Each promise names laws that are in the files that it links, in the README and in PROVED.md, and the page for auditors has it."""
     part = text("README.md").partition("## What it promises")[2].partition("\n## ")[0]
     promises = re.findall(r"^\d\. (.*?): (\[`.*)$", part, re.M)
     check("README: promises", len(promises), 8)
-    laws = [law for _, links in promises for law in re.findall(r"\[`([\w:]+)`\]\((\S+?)\)", links)]
+    proved = text("docs/PROVED.md").partition("| Promise |")[2].partition("\n\n")[0].replace("](../", "](")
+    laws = [law for part in (*(links for _, links in promises), proved) for law in re.findall(r"\[`([\w:]+)`\]\((\S+?)\)", part)]
     missing = [f"{name} in {path}" for name, path in laws if not re.search(rf"fn {name.rpartition(':')[2]}\b", text(path))]
-    check("README: laws that are not in their files", missing, [])
+    check("README.md and PROVED.md: laws that are not in their files", missing, [])
     rows = re.findall(r"^\| (.*?) \|", text("docs/audit/assurance.md").partition("| Promise |")[2].partition("\n\n")[0], re.M)
     check("assurance.md: promises of the README", rows, [it.partition(";")[0] for it, _ in promises])
 
 
-def check_libraries():
+# ---- premises
+
+# Facts without a condition that are no premises: lists in memory are always clean, and each value of these types fits.
+NO_DEVICES = {"Store", "Same", "FromColumn"}
+
+
+def uses_of_crates():
     lines = [it.partition("#")[0].partition(":") for it in text("crates.txt").splitlines()]
-    uses = {name.split()[0]: libraries.split() for name, colon, libraries in lines if colon}
+    return {name.split()[0]: libraries.split() for name, colon, libraries in lines if colon}
+
+
+def crates_below(uses, crate):
+    return {crate}.union(*(crates_below(uses, it) for it in uses[crate] if it in uses))
+
+
+def facts_of_devices(crates):
+    """Returns the facts that hold without a condition at a device of std or of the host, by their traits."""
+    found = {}
+    for source in (source for path, source in sources() if path.relative_to(TOP / "crates").parts[0] in crates):
+        for trait, body in re.findall(r"^impl\b[^{]*?(\w+)(?:<[^{]*>)? for [^{]*\{\n(.*?)^\}", source, re.M | re.S):
+            facts = re.findall(r"ghost (\w+) = \{\s*(?:λ[\s\w]*\.\s*)?⊤\s*\};", body)
+            if facts and trait not in NO_DEVICES:
+                found.setdefault(trait, set()).update(facts)
+    return found
+
+
+def check_premises():
+    """The table of premises has the libraries of crates.txt, the facts of devices and the views that the program's crates have."""
+    uses = uses_of_crates()
+    below = crates_below(uses, "achdesk")
+    rows = text("docs/PROVED.md").partition("| Premise |")[2].partition("\n\n")[0].split("\n")
+    libraries, views = ({it for row in rows if words in row for it in re.findall(r"`(\w+)`", row.split(" | ")[0])} for words in ("libraries hold:", "`Model` view"))
     # The toolchain divides sqlite and jiff into several crates.
-    found = {re.sub(r"^(sqlite|jiff)_\w+$", r"\1", it) for them in uses.values() for it in them if it not in uses}
-    sentence = re.search(r"^It uses (.*) of the toolchain\.$", text("README.md"), re.M)
-    check("README: libraries of the toolchain", set(re.findall(r"`(\w+)`", sentence[1])) if sentence else None, found | {"std"})
+    used = {re.sub(r"^(sqlite|jiff)_\w+$", r"\1", it) for them in uses.values() for it in them if it not in uses}
+    check("PROVED.md: libraries of the toolchain", libraries, used | {"std"})
+    told = {trait: set(re.findall(r"`(\w+)`", names)) for row in rows for trait, names in re.findall(r"`(\w+)`: ((?:`\w+`(?:, )?)+)", row.split(" | ")[0])}
+    check("PROVED.md: facts of devices that hold without a condition", told, facts_of_devices(below))
+    code = [source for path, source in sources() if path.relative_to(TOP / "crates").parts[0] in below]
+    found = {it for source in code for it in re.findall(r"^impl(?:<[^{]*?>)? Model for (\w+)", source, re.M)}
+    check("PROVED.md: types that contracts see by a view", views - {"Model"}, found)
 
 
 # ---- names
@@ -173,9 +208,9 @@ def check_names():
     check("returns-files.md: faults of a file", tuple(files), FILE_FAULTS)
     check("names of refusals and faults that the desk does not have", sorted(unknown_names()), [])
     code = "\n".join(it for page in USER_PAGES for it in re.findall(r"`[^`\n]+`|^```.*?^```", page.read_text(), re.M | re.S))
-    metrics = set(re.findall(r'"([a-z_]+)"', text("deploy/achdesk-day")))
-    named = set(re.findall(r"\bachdesk_([a-z_]+)", code)) - set(re.findall(r"achdesk_(\w+)", text("deploy/nginx.conf"))) - {""}
-    check("metrics that achdesk-day does not print", sorted(named - metrics), [])
+    metrics = set(re.findall(r'"([a-z_]+)"', text("deploy/achdesk_day/metrics.py"))) | set(re.findall(r'"achdesk_(\w+)"', text("deploy/standby/achdesk-standby")))
+    named = set(re.findall(r"\bachdesk_([a-z_]+)", code)) - set(re.findall(r"achdesk_(\w+)", text("deploy/nginx.conf") + text("deploy/nginx-http.conf"))) - {""}
+    check("metrics that neither achdesk-day nor achdesk-standby prints", sorted(named - metrics), [])
     views = set(re.findall(r"CREATE TEMP VIEW (\w+)", text("docs/audit.sql")))
     check("views that docs/audit.sql does not have", sorted(set(re.findall(r"\baudit_\w+", code)) - views), [])
     check("paths that nothing installs", sorted(unknown_paths()), [])
@@ -185,7 +220,8 @@ def unknown_names():
     """Returns names in the form of a refusal or fault, in code, that are none of the desk's, of its clients' or of its crates'."""
     known = {name for name, _ in REFUSALS.values()} | {*MESSAGE_FAULTS, *PROXY_FAULTS, *FILE_FAULTS, *CALENDAR_FAULTS}
     known |= set(re.findall(r"^    (\w+)(?:\(\w+\))?,$", text("crates/sql_setup/src/fault.rt"), re.M))
-    known |= set(re.findall(r"^class (\w+)", text("clients/python/achdesk.py"), re.M)) | UNITS
+    library = "".join(it.read_text() for it in (TOP / "clients/python/achdesk").glob("*.py"))
+    known |= set(re.findall(r"^class (\w+)", library, re.M)) | UNITS
     known |= {name for _, source in sources() for name in re.findall(r"\b(?:struct|enum|trait) (\w+)", source)}
     reasons = api()["components"]["schemas"]["SuspenseItem"]["properties"]["why"]["enum"]
     for page in USER_PAGES:
@@ -194,14 +230,14 @@ def unknown_names():
                 yield f"{page.relative_to(TOP)}: {name}"
 
 
-# Settings of systemd, which are written as names of faults are.
-UNITS = {"LimitAS", "OnFailure", "OnCalendar", "ReadWritePaths"}
+# Settings of systemd, and a state of DRBD, which are written as names of faults are.
+UNITS = {"LimitAS", "LoadCredential", "MemoryMax", "OnFailure", "OnCalendar", "OnSuccess", "ReadWritePaths", "StandAlone"}
 
 
 def unknown_paths():
     """Returns installed paths of which neither the package nor a program of deploy/ has a part."""
     makefile = re.sub(r"\$\((\w+)\)", lambda it: {"BIN": "/usr/bin", "SHARE": "/usr/share", "ETC": "/etc"}.get(it[1], it[0]), text("Makefile"))
-    lines = "\n".join([makefile, *(it.read_text() for it in (TOP / "deploy").rglob("*") if it.is_file()), text("judge/deploy.py")])
+    lines = "\n".join([makefile, *(it.read_text() for it in (TOP / "deploy").rglob("*") if it.is_file() and not {"__pycache__", ".mypy_cache"} & {*it.parts}), text("judge/deploy.py")])
     known = {parent for it in INSTALLED.findall(lines) for parent in (it, *map(str, Path(it).parents))}
     names = set(re.findall(r"[\w.-]+", lines))
     for page in USER_PAGES:
@@ -268,9 +304,23 @@ def rate_of(proxy, zone):
     return int(re.search(rf"zone=achdesk_{zone}:\w+\s+rate=(\d+)r/s", proxy)[1])
 
 
+def queue_of_proxy(client):
+    """Returns for how many seconds the proxy keeps a complete request at most: the longest delay of a limit, and three waits for the desk.
+
+    If the site's part for the server is not in a file of its own, the client's number is taken."""
+    if not (TOP / "deploy/nginx-server.conf").exists():
+        return client
+    site = "".join(it.read_text() for it in sorted((TOP / "deploy").glob("nginx*.conf")))
+    rates = dict(re.findall(r"zone=(\w+):\w+\s+rate=(\d+)r/s", site))
+    delays = [-(-(int(burst) - int(delay or 0)) // int(rates[zone]))
+              for zone, burst, delay, ends in re.findall(r"limit_req\s+zone=(\w+)\s+burst=(\d+)(?:\s+delay=(\d+))?([^;]*);", site) if "nodelay" not in ends]
+    return max(delays) + sum(int(re.search(rf"proxy_{it}_timeout\s+(\d+)s", site)[1]) for it in ("connect", "send", "read"))
+
+
 def facts_of_tree():
     """Returns what the tree has, by the names that NUMBERS uses."""
-    proxy, day, client = text("deploy/nginx.conf"), "deploy/achdesk-day", "clients/python/achdesk.py"
+    proxy, day, client = text("deploy/nginx.conf"), "deploy/achdesk_day/holidays.py", "clients/python/achdesk/settings.py"
+    settings = "deploy/achdesk_day/settings.py"
     schemas, code = api()["components"]["schemas"], constants()
     return {
         "operations": sum(method in item for item in api()["paths"].values() for method in ("get", "post")),
@@ -281,9 +331,11 @@ def facts_of_tree():
         "port": constant("deploy/achdesk.env", r"DESK_PORT=(\d+)"),
         "rate of an address": rate_of(proxy, "address_rate"),
         "rate of a company": rate_of(proxy, "company_rate"),
-        "seconds of the proxy": constant("deploy/nginx.conf", r"proxy_read_timeout\s+(\d+)s"),
+        "rate of submissions": rate_of(proxy, "submitter_rate"),
+        "seconds of the proxy": constant("deploy/nginx-server.conf", r"proxy_read_timeout\s+(\d+)s"),
         "bytes of a body": code["http_message.MAX_BODY"],
-        "bytes of a body at the proxy": constant("deploy/nginx.conf", r"client_max_body_size\s+(\d+);"),
+        "bytes of a body at the proxy": constant("deploy/nginx-server.conf", r"client_max_body_size\s+(\d+);"),
+        "KiB of a company's body": constant("deploy/nginx.conf", r"client_max_body_size\s+(\d+)k;"),
         "bytes of a file": code["ach_files.MOST_BYTES"],
         "bytes of a list": code["cli_submit.MOST_BYTES"],
         "MiB that are read and dropped": code["http_session.MAX_DROPPED"] // 2 ** 20,
@@ -318,14 +370,20 @@ def facts_of_tree():
         "first desk day": day_text(code["bank_days.FIRST"]),
         "last desk day": day_text(code["desk_rules.LAST_DESK_DAY"]),
         "last day of a rule": day_text(code["desk_rules.LAST_RULE_DAY"]),
-        "newest backups": constant(day, r'"newest": "(\d+)"'),
-        "hours of backups": constant(day, r'"hours": "(\d+)"'),
-        "days of backups": constant(day, r'"days": "(\d+)"'),
-        "weeks of backups": constant(day, r'"weeks": "(\d+)"'),
-        "months of backups": constant(day, r'"months": "(\d+)"'),
-        "backups in all": sum(constant(day, rf'"{it}": "(\d+)"') for it in ("newest", "hours", "days", "weeks", "months")),
+        "newest backups": constant(settings, r'"newest": "(\d+)"'),
+        "days of backups": constant(settings, r"--keep-within (\d+)d"),
+        "months of backups": constant(settings, r"--keep-monthly (\d+)"),
+        "GiB of a backup": constant("deploy/achdesk-backup@.service", r"(?m)^MemoryMax=(\d+)G"),
+        "days of an expiry": constant("deploy/achdesk_day/repository.py", r"(?m)^PARTS = (\d+)"),
+        "minutes of patience": constant("deploy/achdesk_alarm/settings.py", r'"patience": "(\d+)"'),
         "seconds of a client": constant(client, r"timeout: float = (\d+)\.0"),
-        "longest pause of a client": constant(client, r"LONGEST_PAUSE = (\d+)\.0"),
+        "seconds of a queue": (queue := constant(client, r"queue_seconds: float = (\d+)\.0")),
+        "seconds of the proxy's queue": queue_of_proxy(queue),
+        "bytes of a list in the client": constant("clients/python/achdesk/csv_list.py", r"LARGEST_LIST = ([\d_]+)"),
+        "entries of a submission in the client": constant("clients/python/achdesk/entries.py", r"MOST_ENTRIES = ([\d_]+)"),
+        "cents of an entry in the client": constant("clients/python/achdesk/entries.py", r"MOST_CENTS = ([\d_]+)"),
+        "cents of a submission in the client": constant("clients/python/achdesk/explain.py", r"MOST_TOTAL = ([\d_]+)"),
+        "longest pause of a client": constant("clients/python/achdesk/caller.py", r"LONGEST_PAUSE = (\d+)\.0"),
         "years of logs": constant("deploy/logrotate", r"rotate (\d+)") * 4 // 1461,
         "shortest first use": constant("bench/RESULTS.md", r"First use of `\./achdesk`.*?\| (\d+) to \d+ min"),
         "longest first use": constant("bench/RESULTS.md", r"First use of `\./achdesk`.*?\| \d+ to (\d+) min"),
@@ -350,7 +408,9 @@ NUMBERS = (
     ("CHANGELOG.md", r"again after ([\d,]+) entries", "traces"),
     ("docs/audit/assurance.md", r"reject each: (\d+) in the gate", "edits"),
     ("docs/audit/assurance.md", r"more than (\d+) outside it", "hundreds of further edits"),
-    ("docs/audit/assurance.md", r"at most ([\d,]+) sent entries", "traces"),
+    ("README.md", r"has sent at most ([\d,]+) entries", "traces"),
+    ("docs/audit/assurance.md", r"has sent at most ([\d,]+) entries", "traces"),
+    ("docs/PROVED.md", r"at most ([\d,]+) entries sent", "traces"),
     ("docs/audit/tables.md", r"`version` \| The version of these tables, (\d)", "file version"),
     ("docs/audit/tables.md", r"After ([\d,]+) the sequences", "traces"),
     ("docs/audit/tables.md", r"`sequence` \| The sequence, 1 to ([\d,]+)", "traces"),
@@ -375,6 +435,14 @@ NUMBERS = (
     ("docs/operate/capacity.md", r"Messages of a connection \| ([\d,]+)", "messages of a connection"),
     ("docs/operate/capacity.md", r"one run of `serve` \| ([\d,]+)", "connections"),
     ("docs/operate/capacity.md", r"at most (\d+) requests a second", "rate of an address"),
+    ("docs/operate/capacity.md", r"A company's body, at the proxy \| (\d+) KiB", "KiB of a company's body"),
+    ("docs/operate/capacity.md", r"A company's submissions, at the proxy \| (\d+) a second", "rate of submissions"),
+    ("deploy/README.md", r"One address, or one IPv6 network of 64 bits \| (\d+) requests a second", "rate of an address"),
+    ("deploy/README.md", r"One company, by its keys \| (\d+) requests a second", "rate of a company"),
+    ("deploy/README.md", r"One company, requests with a body \| (\d+) a second", "rate of submissions"),
+    ("deploy/README.md", r"One company, a body \| \| (\d+) KiB", "KiB of a company's body"),
+    ("docs/integrate/retries.md", r"up to (\d+) requests a second", "rate of a company"),
+    ("docs/integrate/retries.md", r"A body has at most (\d+) KiB", "KiB of a company's body"),
     ("docs/operate/capacity.md", r"(\d+) MB for 4 MiB", "MB of a hostile body"),
     ("docs/operate/companies.md", r"1 to (\d+) of `A-Z`", "characters of an identification"),
     ("docs/operate/companies.md", r"a name of at most (\d+) characters", "characters of a company's name"),
@@ -389,19 +457,18 @@ NUMBERS = (
     ("docs/operate/install.md", r"each company to (\d+)", "rate of a company"),
     ("docs/operate/install.md", r"sends up to (\d+) MiB more", "MiB that are read and dropped"),
     ("docs/operate/install.md", r"up to the ([\d,]+)th message", "messages of a connection"),
-    ("docs/operate/backup.md", r"the (\d+) newest", "newest backups"),
-    ("docs/operate/backup.md", r"each of the last (\d+) hours", "hours of backups"),
-    ("docs/operate/backup.md", r"hours, (\d+) days", "days of backups"),
-    ("docs/operate/backup.md", r"(\d+) weeks", "weeks of backups"),
-    ("docs/operate/backup.md", r"(\d+) months", "months of backups"),
-    ("docs/operate/backup.md", r"at most (\d+) backups", "backups in all"),
-    ("deploy/day.conf", r"at most (\d+)\.", "backups in all"),
+    ("docs/operate/backup.md", r"the (\d+) newest copies", "newest backups"),
+    ("docs/operate/backup.md", r"all backups of (\d+) days", "days of backups"),
+    ("docs/operate/backup.md", r"last (\d+) months", "months of backups"),
+    ("docs/operate/backup.md", r"The unit is bounded: (\d+) GiB", "GiB of a backup"),
+    ("docs/operate/backup.md", r"the whole of it in (\d+) days", "days of an expiry"),
+    ("docs/operate/monitoring.md", r"once it has failed for (\d+) minutes", "minutes of patience"),
     ("docs/operate/day.md", r"within (\d+) days of today", "days that stay in the list"),
     ("docs/operate/day.md", r"ascending, at most (\d+)", "holidays of achdesk-day"),
     ("docs/operate/monitoring.md", r"waited longer than (\d+) seconds", "seconds of the proxy"),
     ("docs/operate/monitoring.md", r"listening on 127\.0\.0\.1:(\d+)", "port"),
     ("docs/operate/returns-files.md", r"more than ([\d,]+) bytes", "bytes of a file"),
-    ("docs/operate/troubleshooting.md", r"limit of (\d+) requests a second", "rate of a company"),
+    ("docs/operate/troubleshooting.md", r"limit of (\d+) submission a second", "rate of submissions"),
     ("docs/operate/troubleshooting.md", r"([\d,]+) submissions take", "submissions of a day"),
     ("docs/operate/upgrades.md", r"files of version (\d)", "file version"),
     ("docs/operate/upgrades.md", r"a file of version (\d) into", "first file version"),
@@ -412,7 +479,9 @@ NUMBERS = (
     ("docs/integrate/quickstart.md", r"twice at most, within (\d+) days", "days of a retry"),
     ("docs/integrate/retries.md", r"each time up to (\d+) seconds", "longest pause of a client"),
     ("docs/integrate/retries.md", r"Wait (\d+) seconds for an answer", "seconds of a client"),
-    ("docs/integrate/retries.md", r"gives up after (\d+)", "seconds of the proxy"),
+    ("docs/integrate/retries.md", r"longer than that for an answer: (\d+)", "seconds of a client"),
+    ("docs/integrate/retries.md", r"keeps a request for up to (\d+) seconds", "seconds of a queue"),
+    ("docs/integrate/retries.md", r"wait until (\d+) seconds have passed", "seconds of a queue"),
     ("docs/integrate/retries.md", r"at most ([\d,]+) messages", "messages of a connection"),
 )
 
@@ -428,22 +497,31 @@ ANYWHERE = (
 # Facts that have to be equal.
 EQUAL = (
     ("bytes of a body", "bytes of a body at the proxy"), ("bytes of a body", "bytes of a file"), ("bytes of a body", "bytes of a list"),
+    ("seconds of a queue", "seconds of the proxy's queue"), ("bytes of a list", "bytes of a list in the client"), ("entries of a submission", "entries of a submission in the client"),
+    ("cents of an entry", "cents of an entry in the client"), ("cents of a submission", "cents of a submission in the client"),
     ("entries of a submission", "entries of a submission in the API"), ("holidays", "holidays of achdesk-day"), ("connections", "connections of the unit"),
 )
 
 # A line of a file and the words of a page that say the same: if one changes, so must the other.
 SAID = (
     ("deploy/achdesk-day-open.timer", "OnCalendar=Mon..Fri 06:00 ", "docs/operate/install.md", "`open`, at 6:00 on weekdays"),
-    ("deploy/achdesk-day-returns.timer", "OnCalendar=Mon..Fri 06..20:0/10 ", "docs/operate/install.md", "`returns`, every ten minutes from 6:00 to 20:00"),
+    ("deploy/achdesk-day-fetch.timer", "OnCalendar=Mon..Fri 06..20:4/10 ", "docs/operate/install.md", "`fetch`, every ten minutes from 6:04 to 20:54"),
+    ("deploy/achdesk-day-returns.timer", "OnCalendar=Mon..Fri 06..20:6/10 ", "docs/operate/install.md", "`returns`, every ten minutes from 6:06 to 20:56"),
+    ("deploy/achdesk-day-watch.timer", "OnCalendar=Mon..Fri 06..20:9/10 ", "docs/operate/install.md", "`watch`, every ten minutes from 6:09 to 20:59"),
     ("deploy/achdesk-day-cut.timer", "OnCalendar=Mon..Fri 15:30 ", "docs/operate/install.md", "at 15:30"),
-    ("deploy/achdesk-day-backup.timer", "OnCalendar=*:0/10\n", "docs/operate/install.md", "`backup`, every ten minutes"),
-    ("deploy/achdesk-day-copy.timer", "OnCalendar=*:0/1\n", "docs/operate/install.md", "every minute"),
-    ("deploy/achdesk-day-metrics.timer", "OnCalendar=*:0/1\n", "docs/operate/monitoring.md", "writes the same every minute"),
-    ("deploy/achdesk-day-metrics.timer", "OnCalendar=*:0/1\n", "docs/operate/install.md", "(monitoring.md#metrics) every minute"),
+    ("deploy/achdesk-day-send.timer", "OnCalendar=Mon..Fri 15..16:3/5 ", "docs/operate/install.md", "`send` every five minutes from 15:03 to 16:58"),
+    ("deploy/alarm.conf", "achdesk-day-send.service = 16:59\n", "docs/operate/monitoring.md", "tried every five minutes and is an alarm at 16:59"),
+    ("deploy/achdesk-backup.timer", "OnCalendar=*:2/10\n", "docs/operate/install.md", "`backup`, every ten minutes at 2, 12, 22 and so on"),
+    ("deploy/achdesk-expire.timer", "OnCalendar=*-*-* 02:20 ", "docs/operate/install.md", "`backup --expire-only` at 2:20"),
+    ("deploy/achdesk-day-copy.timer", "OnCalendar=*:*:30\n", "docs/operate/install.md", "`copy` to the [standby](backup.md#standby), every minute"),
+    ("deploy/achdesk-day-metrics.timer", "OnCalendar=*:*:15\n", "docs/operate/monitoring.md", "writes the same every minute"),
+    ("deploy/achdesk-day-metrics.timer", "OnCalendar=*:*:15\n", "docs/operate/install.md", "(monitoring.md#metrics) every minute"),
+    ("deploy/achdesk-guard.timer", "OnCalendar=*:*:05\n", "docs/operate/monitoring.md", "`achdesk-guard.service` asks the desk each minute"),
+    ("deploy/achdesk-alarm.timer", "OnCalendar=*:*:45\n", "docs/operate/monitoring.md", "`achdesk-alarm.timer` tries each minute"),
     ("deploy/day.conf", "#file = /var/lib/prometheus/node-exporter/achdesk.prom\n", "docs/operate/monitoring.md", "`/var/lib/prometheus/node-exporter/achdesk.prom`"),
     ("deploy/logrotate", "daily\n", "docs/operate/monitoring.md", "rotated daily and kept for seven years"),
     ("deploy/logrotate", "rotate 2557\n", "docs/operate/monitoring.md", "rotated daily and kept for seven years"),
-    ("clients/python/achdesk.py", "FIRST_PAUSE = 0.5\n", "docs/integrate/retries.md", "Wait half a second before the first retry"),
+    ("clients/python/achdesk/caller.py", "FIRST_PAUSE = 0.5\n", "docs/integrate/retries.md", "Wait half a second before the first retry"),
     ("clients/README.md", "Python 3.9 or later", "docs/integrate/quickstart.md", "Python 3.9 or later"),
     ("docs/openapi.yaml", '"^R(0[1-9]|[12][0-9])$"', "README.md", "Return codes above R29"),
     ("docs/openapi.yaml", '"^C(0[1-9]|1[0-4])$"', "README.md", "change codes above C14"),
@@ -496,7 +574,7 @@ def check_commands():
     """Each command in a line of text is run in a block of some page, or is in the list of judge/pages.py."""
     printed = [" ".join(command.split()) for page in pages.PAGES for block in pages.blocks(page) for command, _ in pages.commands(block)]
     lines = {line.strip() for command in printed for line in re.split(r" && | \| |; |\n", command)} | set(printed)
-    lines |= {re.sub(r"^(?:sudo(?: -u \w+)? )", "", it) for it in lines}
+    lines |= {re.sub(r"^(?:sudo(?: -u [\w-]+)? )", "", it) for it in lines}
     missing, used, listed = [], set(), (*pages.NOT_RUN, *pages.IN_TEXT)
     for page in USER_PAGES:
         for command in re.findall(r"`([^`\n]+)`", prose_of(page)):
@@ -511,7 +589,7 @@ def check_commands():
     check("commands that judge/pages.py lists and no page has", [it[0] for it in listed if it[0] not in used], [])
     tests = {name for it in listed for name in re.findall(r"\b(?:judge/\w+\.py|crates/\w+)", it[2])}
     check("tests that judge/pages.py names and the tree does not have", sorted(it for it in tests if not (TOP / it).exists()), [])
-    programs = {"achdesk-day": words_of("deploy/achdesk-day"), "achdesk-company": words_of("clients/achdesk-company")}
+    programs = {"achdesk-day": words_of("deploy/achdesk_day/words.py"), "achdesk-company": words_of("clients/python/achdesk/program/words.py")}
     for program, (commands, options) in programs.items():
         check(f"commands and options that {program} does not have", sorted(unknown_options(program, commands, options)), [])
     desk = {it for path, source in sources() if "cli_words" in path.parts for it in re.findall(r'"([a-z-]+)"', source)}
@@ -525,7 +603,7 @@ def check_commands():
 def is_like(command, line):
     """Returns whether a line has the words of a command in their order; capitals in a command, as FILE, stand for any text."""
     words = iter(line.removeprefix("./").split())
-    command = re.sub(r"^(?:sudo(?: -u \w+)? )", "", command).removeprefix("./")
+    command = re.sub(r"^(?:sudo(?: -u [\w-]+)? )", "", command).removeprefix("./")
     return all(any(re.fullmatch(it, word) for word in words)
                for it in (re.sub(r"[A-Z]{2,}", r"\\S+", re.escape(word)) for word in command.split()))
 
@@ -533,7 +611,7 @@ def is_like(command, line):
 def words_of(source):
     """Returns the commands and the options of a program of Python."""
     code = text(source)
-    commands = {one or other for one, other in re.findall(r'^    "([a-z]+)": \(\w+, "|\(\w+, "([a-z]+)", "', code, re.M)}
+    commands = {one or other for one, other in re.findall(r'^    "([a-z]+)": \((?:\w+, )?"|\(\w+, "([a-z]+)", "', code, re.M)}
     return commands, set(re.findall(r'add_argument\(\s*"(--[a-z-]+)"', code)) | {"--help"}
 
 
@@ -542,7 +620,7 @@ def unknown_options(program, commands, options):
     for page in USER_PAGES:
         spans = re.findall(r"`([^`\n]+)`", prose_of(page)) + re.findall(r"^(?:\$ )?(.*)$", "\n".join(re.findall(r"```\w*.*?\n(.*?)```", page.read_text(), re.S)), re.M)
         for span in spans:
-            for words in re.findall(rf"(?<![\w/-]){program} ([^|;&)]*)", span):
+            for words in re.findall(rf"(?<![\w/-])(?<!-u ){program} ([^|;&)]*)", span):
                 first = next((it for it in words.split() if not it.startswith("-")), "")
                 if re.fullmatch(r"[a-z]+", first) and first not in commands:
                     yield f"{page.relative_to(TOP)}: {program} {first}"
@@ -585,7 +663,7 @@ def warn_of_kit():
 def main():
     check_pages()
     check_promises()
-    check_libraries()
+    check_premises()
     check_names()
     check_tables()
     check_views()

@@ -16,6 +16,7 @@ commands that no block has. A command of NOT_RUN that no page has fails. The las
 is 1 if one failed. It needs bash, curl, ss, openssl, sqlite3 and OpenSSH's sftp with its server.
 """
 
+import datetime
 import os
 import re
 import subprocess
@@ -26,7 +27,7 @@ from dataclasses import dataclass
 from pathlib import Path
 
 from helpers.first_version import write_version_1
-from helpers.page_rooms import PREPARED, prepare
+from helpers.page_rooms import PREPARED, prepare, this_day
 from helpers.running import MILL_KEY, OPERATOR_KEY, TOP, Checks, Serving, free_port, program_of
 
 PAGES = ("README.md", *sorted(str(it.relative_to(TOP)) for folder in ("operate", "integrate", "audit")
@@ -41,22 +42,33 @@ NOT_RUN = (
     ("sudo install -m 600 new-key.pem", "it needs a certificate", "judge/deploy.py, with a certificate of its own"),
     ("sudo nginx -t", "it needs nginx as root", "judge/deploy.py runs nginx with deploy/nginx.conf"),
     ("sudo chown achdesk", "it needs the user achdesk", "judge/deploy.py, in a root where the package is installed"),
+    ("sudo ssh-keygen -q -t ed25519 -N '' -C achdesk-backup", "it is for a standby", "judge/backups.py, with keys of its own"),
+    ("cp -a /var/lib/achdesk-standby", "it needs a standby", "judge/backups.py, which runs it"),
+    ("sudo systemctl enable systemd-time-wait-sync", "it needs systemd", "judge/deploy.py looks at the unit"),
+    ("sudo systemctl enable --now achdesk-alarm.path", "it needs systemd", "judge/units.py starts both"),
+    ("echo 'This is a test.'", "it needs the user achdesk-alarm", "judge/alarms.py and judge/units.py"),
     ("sudo systemctl stop achdesk-day-cut.timer", "it needs systemd", "judge/deploy.py verifies the timers"),
     ("sudo systemctl enable --now achdesk-day-metrics.timer", "it needs systemd", "judge/deploy.py verifies the timers"),
     ("sudo chgrp achdesk", "it needs the group achdesk", "judge/deploy.py, which runs it"),
     ("sudo chmod 1775", "it needs the node exporter's folder", "judge/deploy.py, which runs it"),
     ("sudo install -d -o achdesk", "it needs the user achdesk", "judge/backups.py, with a standby of its own"),
     ("sudo usermod", "it needs the user achdesk", "judge/backups.py, with a standby of its own"),
-    ("cp -a /var/lib/achdesk-standby", "it needs a standby", "judge/backups.py, which runs it"),
     ("rm -f /etc/nginx", "it needs nginx as root", "judge/deploy.py runs nginx with deploy/nginx.conf"),
 )
 # Commands in the text of pages that no block has, with the same; judge/facts.py compares them with the pages.
 IN_TEXT = (
     ("achdesk help", "its answer is long", "crates/tests_of_the_program"),
     ("achdesk-company --help", "its answer is long", "judge/clients_kit.py runs each command"),
+    ("achdesk-company changes", "the page shows it for returns", "judge/clients_kit.py"),
     ("achdesk-company changes --new", "the page shows it for returns", "judge/clients_kit.py"),
-    ("achdesk-day backup --expire-only", "it is for a standby", "judge/backups.py, the rule of it"),
+    ("achdesk-day backed-up", "a unit runs it", "judge/backups.py"),
+    ("achdesk-day restore newest", "the page shows it for a repository", "judge/backups.py"),
     ("achdesk-day begin", "a desk has it once", "judge/day.py"),
+    ("achdesk-day confirm FILE", "the page shows it for a file", "judge/day.py"),
+    ("achdesk-day fetch", "it needs a folder of the ACH operator", "judge/day.py"),
+    ("achdesk-day late", "the page has no late return", "judge/day.py"),
+    ("achdesk-day suspense --close", "the page shows the list", "judge/day.py"),
+    ("achdesk-day mark FILE", "the page shows it for a file", "judge/day.py"),
     ("achdesk-day correct", "other pages show other words of it", "judge/day.py"),
     ("achdesk-day cut --again", "it follows an answer that was lost", "judge/day.py"),
     ("achdesk-day cut --remake", "it follows a restore", "judge/backups.py"),
@@ -72,24 +84,12 @@ IN_TEXT = (
     ("systemctl daemon-reload", "it needs systemd", "none"),
     ("systemctl disable --now achdesk", "it needs systemd", "none"),
     ("systemctl edit", "it needs systemd", "judge/deploy.py verifies the units"),
+    ("systemctl start achdesk-backup@", "it needs systemd", "judge/units.py"),
     ("systemctl status", "it needs systemd", "none"),
 )
 MOVED = re.compile(r"(?<![\w./])/(etc|var|tmp|usr/share)/")
 WAIT = 0.1
 SECONDS = 120
-# The toolchain for ./try: the program runs with the words that it would be given, and with the file of --data by its path.
-RT = """#!/bin/sh
-[ "$1" = try ] || exit 2
-shift
-[ "$1" = --data ] && file=${{2#given=}} && shift 2
-[ "$1" = -- ] && shift
-for word in "$@"; do
-    shift
-    [ "$word" = given ] && word=$file
-    set -- "$@" "$word"
-done
-exec {program} "$@"
-"""
 
 
 @dataclass
@@ -141,14 +141,15 @@ class Room:
     def __init__(self, folder, program):
         self.folder, self.program, self.served, self.port = Path(folder), program, None, free_port()
         self.exports = []
-        for name in ("bin", "var/lib/achdesk", "var/lib/achdesk-day/backups", "tmp", "etc/achdesk/keys", "usr/share/achdesk"):
+        for name in ("bin", "var/lib/achdesk", "var/lib/achdesk-day", "var/lib/achdesk-backup", "tmp", "etc/achdesk/keys", "usr/share/achdesk"):
             (self.folder / name).mkdir(parents=True)
         (self.folder / "usr/share/achdesk/audit.sql").symlink_to(TOP / "docs/audit.sql")
-        for name in ("examples", "docs", "judge", "clients", "deploy", "console", "crates", "try"):
+        for name in ("examples", "docs", "judge", "clients", "deploy", "console", ".ci", "try"):
             (self.folder / name).symlink_to(TOP / name)
-        (self.folder / "bin/rt").write_text(RT.format(program=program))
-        (self.folder / "bin/rt").chmod(0o755)
-        for place in ("achdesk", "bin/achdesk"):
+        # The proved program is what ./try has compiled: no source is newer.
+        (self.folder / "crates/achdesk/out").mkdir(parents=True)
+        (self.folder / "crates.txt").touch()
+        for place in ("achdesk", "bin/achdesk", "crates/achdesk/out/tried"):
             (self.folder / place).symlink_to(program)
         # On a terminal curl prints no progress when it prints a body.
         (self.folder / ".curlrc").write_text("silent\nshow-error\n")
@@ -161,12 +162,14 @@ class Room:
     def run(self, command):
         """Returns the output of a command and its status."""
         words = command.removeprefix("sudo ").split() if "\n" not in command else []
+        if words[:2] == ["systemctl", "start"] and words[2].startswith("achdesk-backup@"):
+            return self.shell(f"achdesk-day backup --tag {words[2][15:-8]} > backup.out")
         if words[:1] == ["systemctl"] and "achdesk" in words:
             return self.stop() if words[1] == "stop" else self.serve(self.database, self.port)
         if words == ["kill", "%1"]:
             return self.stop()
         if len(words) > 2 and words[0].endswith("achdesk") and words[1] == "serve":
-            return self.serve(self.folder / words[2], int(words[3]))
+            return self.serve(self.folder / words[2], int(words[3]), [it for it in words[4:] if it != "&"])
         if words[:2] == ["achdesk", "migrate"]:
             self.put_version_1(self.folder / self.moved(words[2]))
         return self.shell(command)
@@ -189,7 +192,7 @@ class Room:
         write_version_1(old, path)
 
     def moved(self, command):
-        command = re.sub(r"\b(sudo -u achdesk|sudo|runuser -u achdesk --) ", "", command)
+        command = re.sub(r"\b(sudo -u achdesk(-day|-backup)?|sudo|runuser -u achdesk --) ", "", command)
         command = command.replace("https://desk.bank.example", self.address).replace("http://127.0.0.1:880/", f"{self.address}/")
         return MOVED.sub(lambda it: f"{self.folder}/{it[1]}/", command)
 
@@ -204,9 +207,9 @@ class Room:
         said = done.stdout.decode(errors="replace").replace(self.address, "https://desk.bank.example")
         return said.replace(f"{self.folder}/", "/"), done.returncode
 
-    def serve(self, path, port):
+    def serve(self, path, port, options=()):
         self.stop()
-        self.served = Serving(self.program, path, port=port)
+        self.served = Serving(self.program, path, port=port, options=options)
         return self.served.wait_for_line().decode(), 0 if self.served.line else 1
 
     def stop(self):
@@ -258,12 +261,45 @@ def judge_page(page, program, checks, used):
                 room.stop()
 
 
+def judge_today(program, checks):
+    """Runs the quick start of companies on a desk whose day is that of this machine, as a bank's is: up to the desk of one's own."""
+    page, today = "docs/integrate/quickstart.md", this_day()
+    dates = {"2025-01-08": today, "2025-01-10": today + datetime.timedelta(2)}
+    with tempfile.TemporaryDirectory(prefix="pages-") as folder:
+        room = Room(Path(folder) / "room", program)
+        prepare(room, ("desk", "company", "this day", "serve", "keys"))
+        try:
+            for block in (it for it in blocks(page) if not it.room):
+                for command, shown in commands(block):
+                    said, status = room.run(command)
+                    for old, new in dates.items() if shown else ():
+                        shown = shown.replace(old, str(new))
+                    is_right = status in (0, 1) and same(said, shown) if shown else status == 0 and "refused" not in said
+                    checks.that(f"{page}:{block.number}: today: {command.splitlines()[0][:60]}", shown if is_right else said, shown)
+        finally:
+            room.stop()
+
+
+def judge_faulty_list(program, checks):
+    """Runs the commands of csv.md that try a list without a desk, with a list that has a fault."""
+    block = next(it for it in blocks("docs/integrate/csv.md") if it.room == "check")
+    with tempfile.TemporaryDirectory(prefix="pages-") as folder:
+        room = Room(Path(folder) / "room", program)
+        (room.folder / "faulty.csv").write_bytes((TOP / "examples/pay.csv").read_bytes().replace(b"150000", b"1.5"))
+        command = commands(block)[0][0].replace("examples/pay.csv", "faulty.csv")
+        checks.that("docs/integrate/csv.md: with a faulty list the fault is printed", room.run(command)[0], "row 1: bad cents\n")
+
+
 def main():
     os.environ.pop("ACHDESK_KEY", None)
     program, checks, used = program_of(sys.argv[1:2]), Checks(), set()
     pages = sys.argv[2:] or PAGES
     for page in pages:
         judge_page(page, program, checks, used)
+    if "docs/integrate/quickstart.md" in pages:
+        judge_today(program, checks)
+    if "docs/integrate/csv.md" in pages:
+        judge_faulty_list(program, checks)
     if not sys.argv[2:]:
         checks.that("each command of NOT_RUN is on a page", [it[0] for it in NOT_RUN if it not in used], [])
     checks.end()

@@ -23,8 +23,9 @@ from helpers.running import program_of
 HERE = Path(__file__).resolve().parent
 PATHS = f"{os.environ.get('PATH', '')}:/usr/sbin:/sbin"
 # What judges need, and what has it: Debian's packages, but for the toolchain. A module of Python is named with a dot.
-NEEDS = {"chromedriver": "chromium-driver", "chromium": "chromium", "curl": "curl", "gcc": "gcc", "ip": "iproute2", "logrotate": "logrotate", "make": "make", "man": "man-db",
-         "nft": "nftables", "nginx": "nginx", "openssl": "openssl", "rsync": "rsync", "rt": "the Rattle toolchain", "sftp": "openssh-client", "sqlite3": "sqlite3", "ss": "iproute2", "sshd": "openssh-server",
+NEEDS = {"busybox": "busybox-static", "chromedriver": "chromium-driver", "chromium": "chromium", "curl": "curl", "dmsetup": "dmsetup", "gcc": "gcc", "ip": "iproute2", "lintian": "lintian",
+         "logrotate": "logrotate", "losetup": "mount", "make": "make", "man": "man-db", "mkfs.ext4": "e2fsprogs", "mtail": "mtail", "mypy": "mypy", "nft": "nftables", "nginx": "nginx", "openssl": "openssl", "prometheus-alertmanager": "prometheus-alertmanager",
+         "promtool": "prometheus", "qemu-storage-daemon": "qemu-system-common", "qemu-system-x86_64": "qemu-system-x86", "rclone": "rclone", "restic": "restic", "rsync": "rsync", "rt": "the Rattle toolchain", "sftp": "openssh-client", "sqlite3": "sqlite3", "ss": "iproute2", "sshd": "openssh-server",
          "strace": "strace", "valgrind": "valgrind", ".yaml": "python3-yaml"}
 
 
@@ -59,18 +60,27 @@ JUDGES = (
     Judge("facts"),
     Judge("private_files"),
     Judge("statuses"),
+    Judge("standby_states", takes_program=False),
     Judge("texts", takes_program=False),
     Judge("first_use", takes_program=False),
     Judge("clients", (), ("curl",)),
     Judge("sent_first", (), ("curl",)),
     Judge("pages", (), ("curl", "ss", "openssl", "sqlite3", "sftp")),
     Judge("growths_in_files", ("20",), ("gcc",)),
-    Judge("deploy", (), ("nginx", "openssl", "logrotate", "nft", "ip", "man", "make", "strace")),
+    Judge("deploy", (), ("nginx", "openssl", "lintian", "logrotate", "nft", "ip", "man", "make", "strace")),
+    Judge("proxy", (), ("nginx", "openssl", "ip")),
     Judge("syncs", (), ("strace",)),
     Judge("day", (), ("nginx", "openssl", "sshd", "sftp", "curl", "rsync")),
-    Judge("backups", (), ("nginx", "openssl", "sshd", "sftp", "curl", "rsync")),
+    Judge("alarms", (), ("prometheus-alertmanager", "openssl"), takes_program=False),
+    Judge("prometheus", (), ("promtool", "mtail"), takes_program=False),
+    Judge("backups", (), ("nginx", "openssl", "sshd", "sftp", "curl", "rsync", "restic", "rclone")),
+    Judge("units", (), ("qemu-system-x86_64", "busybox", "restic", "openssl", "make")),
+    Judge("failing_disk", (), ("mkfs.ext4", "losetup")),
+    Judge("failed_sync", (), ("qemu-system-x86_64", "busybox", "dmsetup", "make")),
+    Judge("standby_power", ("--kills", "5"), ("qemu-storage-daemon", "losetup", "mkfs.ext4")),
     Judge("timing", (), ("nginx", "openssl", "valgrind")),
     Judge("clients_kit", (), ("nginx", "openssl")),
+    Judge("typed", (), ("mypy",), takes_program=False),
     Judge("console", (), ("chromium", "chromedriver", "nginx")),
     Judge("openapi", (), (".yaml",)),
     Judge("benches", (), ("rt",), takes_program=False),

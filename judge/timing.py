@@ -178,7 +178,8 @@ def check_guesses(checks, program, desk, folder, trials):
                 [right_guesses([(at % 2 == 0, 1.0 + at % 2 * by) for at in range(100)]) for by in (0.1, 0.0)], [1.0, 0.5])
     with Serving(program, desk, connections=3 * trials).listen() as serving:  # nginx connects for each request
         companies = {"own-key-at-the-proxy": f"{known(0)}:erp"}
-        with Proxy(folder, serving.port, {}, companies, {"operator": OPERATOR_KEY, known(0): OWN_KEY}) as proxy:
+        every = [("achdesk_unknown_rates:32k rate=2r/s", "achdesk_unknown_rates:32k rate=1000r/s")]  # one stranger is many addresses here
+        with Proxy(folder, serving.port, {}, companies, {"operator": OPERATOR_KEY, known(0): OWN_KEY}, changes=every) as proxy:
             serving_directly = Directly(serving.port)
             timed(100, serving_directly.ask)
             direct = timed(trials, serving_directly.ask)

@@ -1,6 +1,6 @@
 """A bank's installation in a folder of its own, with the real parts on loopback: `achdesk serve`, which is started again
 whenever it ends, nginx with the site of deploy/nginx.conf, an OpenSSH server for SFTP that is not root, and
-deploy/achdesk-day with a configuration. It needs Debian's nginx, openssh-server, openssh-client, rsync, curl and openssl."""
+deploy/achdesk_day with a configuration. It needs Debian's nginx, openssh-server, openssh-client, rsync, curl and openssl."""
 
 import getpass
 import hashlib
@@ -16,7 +16,7 @@ from pathlib import Path
 
 from helpers.running import HOST, TOP, connect, free_port, run
 
-DAY = TOP / "deploy" / "achdesk-day"
+DAY = TOP / "judge" / "helpers" / "day_for_judges.py"
 OPERATOR_KEY = "the-desk-s-own-operator-key"
 DESK_KEYS = {"MILL01": "the-desk-s-own-mill-key", "BAKE01": "the-desk-s-own-bakery-key"}
 PROGRAMS = {"nginx": "nginx", "sshd": "openssh-server", "sftp": "openssh-client", "ssh-keygen": "openssh-client", "rsync": "rsync",
@@ -67,7 +67,7 @@ class SftpServer:
             words = ["unshare", "--mount", "sh", "-c", 'mount --bind "$0" /etc/passwd && exec "$@"', str(users),
                      "setpriv", f"--reuid={self.user}", "--regid=nogroup", "--clear-groups", *words]
         self.process = subprocess.Popen(words, stdout=subprocess.DEVNULL, stderr=subprocess.DEVNULL)
-        for _ in range(100):
+        for _ in range(1200):
             try:
                 return connect(self.port).close()
             except OSError:
@@ -128,11 +128,12 @@ class Bank:
     """The installation: its folders, keys and configuration, and the programs that run."""
 
     def __init__(self, program, folder, proxied=True):
-        from helpers.proxy import Proxy
+        from helpers.proxy import QUICK, Proxy
         self.program, self.folder, self.now = program, Path(folder), None
+        self.settings = {}  # sections that are written into each configuration
         self.desk_file = self.folder / "desk" / "bank.db"
         self.state, self.backups = self.folder / "day", self.folder / "backups"
-        for path in (self.desk_file.parent, self.state, self.state / "inbox", self.folder / "keys", self.folder / "proxy"):
+        for path in (self.desk_file.parent, self.state, self.backups, self.state / "inbox", self.folder / "keys", self.folder / "proxy"):
             path.mkdir(mode=0o700, parents=True)
         made = run(program, "init", self.desk_file, "--odfi", "121042882", "--odfi-name", "OUR BANK", "--destination", "061000146",
                    "--destination-name", "ACH OPERATOR", "--key", OPERATOR_KEY, seconds=300)
@@ -143,7 +144,7 @@ class Bank:
         self.shown = {"day": "key-of-achdesk-day-1", "watcher": "key-of-the-watcher-1", "MILL01": "key-of-mill-erp-1", "BAKE01": "key-of-bakery-erp-1"}
         for name in self.shown:
             self.write_key(name)
-        self.proxy = Proxy(self.folder / "proxy", self.desk.port, *self.key_maps())
+        self.proxy = Proxy(self.folder / "proxy", self.desk.port, *self.key_maps(), changes=QUICK)
         self.config = self.folder / "day.conf"
         self.write_config()
 
@@ -177,8 +178,9 @@ class Bank:
             "standby": {"to": f"{self.sftp.user}@{HOST}:{self.folder}/operator/standby", "identity": self.sftp.identity, "port": self.sftp.port,
                         "known_hosts": self.sftp.known_hosts},
             "alarm": {"command": f"sh -c 'cat >> {self.folder}/alarms'"},
+            "clock": {"command": ""},
         }
-        for section, settings in changes.items():
+        for section, settings in (*self.settings.items(), *changes.items()):
             sections[section] = sections.get(section, {}) | settings
         text = "".join(f"[{name}]\n" + "".join(f"{key} = {value}\n" for key, value in settings.items()) for name, settings in sections.items())
         (path or self.config).write_text(text)
@@ -201,11 +203,11 @@ class Bank:
         printed, errors = it.communicate(given, timeout=600)
         return it.returncode, printed, errors
 
-    def curl(self, name, path, body=None):
-        """What curl gets for a caller, by way of the proxy: the answer's object."""
+    def curl(self, name, path, body=None, text=None):
+        """What curl gets for a caller, by way of the proxy: the answer's object. It posts a body as JSON, or a text as it is."""
         words = ["curl", "--silent", "--show-error", "--cacert", self.proxy.certificate, "--header", f"@{self.folder}/keys/{name}"]
-        words += ["--data-binary", "@-"] if body is not None else []
-        given = None if body is None else json.dumps(body)
+        given = json.dumps(body) if body is not None else text
+        words += ["--data-binary", "@-"] if given is not None else []
         done = subprocess.run([*words, f"https://{HOST}:{self.proxy.port}{path}"], input=given, capture_output=True, text=True, check=True)
         return json.loads(done.stdout) if done.stdout.startswith("{") else done.stdout
 

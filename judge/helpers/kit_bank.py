@@ -10,7 +10,7 @@ from contextlib import ExitStack
 from pathlib import Path
 
 from helpers.cutting_proxy import CuttingProxy, LosingRelay
-from helpers.proxy import SAME_KEYS, Proxy
+from helpers.proxy import QUICK, SAME_KEYS, Proxy
 from helpers.returned import file_of_returns
 from helpers.running import HOST, MILL_KEY, OPERATOR_KEY, SECONDS, TOP, Serving, make_desk
 
@@ -89,7 +89,7 @@ class Bank:
         if self.way == "through nginx with TLS":
             self.folder.chmod(0o711)  # nginx's workers are another user
             proxy = self.stack.enter_context(
-                Proxy(self.folder / "proxy", self.spoils.port, *SAME_KEYS, changes=[("keepalive_timeout     15s", "keepalive_timeout 1s")])
+                Proxy(self.folder / "proxy", self.spoils.port, *SAME_KEYS, changes=[("keepalive_timeout         15s", "keepalive_timeout 1s"), *QUICK])
             )
             self.certificate, self.tls = proxy.certificate, proxy.context()
             self.relay = self.stack.enter_context(LosingRelay(proxy.port, self.spoils))

@@ -1,5 +1,6 @@
 """What the folder of a page holds before its first command is run: desks, keys, files that arrived."""
 
+import datetime
 import json
 import shutil
 
@@ -21,8 +22,8 @@ CORRECTED = ("101 061000146 121042882250114    A094101ACH OPERATOR           OUR
 # The steps of each page's rooms, in order.
 PREPARED = {
     "docs/operate/install.md": ("folders", "day command"),
-    "docs/operate/day.md": ("desk", "company", "two cuts", "held", "inbox", "copy", "serve", "keys", "day program"),
-    "docs/operate/companies.md": ("desk", "company", "two cuts", "returned", "copy", "serve", "keys", "folders"),
+    "docs/operate/day.md": ("desk", "company", "two cuts", "held", "inbox", "serve", "keys", "day program"),
+    "docs/operate/companies.md": ("desk", "company", "two cuts", "returned", "serve", "keys", "folders", "day command"),
     "docs/operate/keys.md": ("folders",),
     "docs/operate/backup.md": ("desk", "company", "two cuts", "held", "serve", "keys", "day program"),
     "docs/operate/monitoring.md": ("desk", "company", "two cuts", "held", "serve", "keys", "day program"),
@@ -34,6 +35,12 @@ PREPARED = {
     "docs/integrate/quickstart.md": ("desk", "company", "day", "serve", "keys"),
     "docs/audit/views.md": ("desk", "company", "two cuts", "returned", "copied"),
 }
+
+
+def this_day():
+    """The day of this machine, or the next one that is a banking day without holidays."""
+    day = datetime.date.today()
+    return day + datetime.timedelta(max(0, 7 - day.weekday()) if day.weekday() > 4 else 0)
 
 
 def set_day(day):
@@ -48,6 +55,7 @@ CUT = message("POST /ops/cut", "")
 STEPS = {
     "company": [message("POST /ops/holidays", "2025-01-20\n"), message("POST /ops/companies", COMPANY)],
     "day": [set_day("2025-01-08")],
+    "this day": [set_day(str(this_day()))],
     # PAY-1 has the first trace and PAY-2 the second.
     "two cuts": [set_day("2025-01-08"), submitted((EXAMPLES / "pay-1.json").read_text()), CUT,
                  submitted((EXAMPLES / "pay-2.json").read_text()), set_day("2025-01-09"), CUT],
@@ -87,10 +95,10 @@ def make_inbox(room):
 DAY_PROGRAM = """#!/bin/sh
 # The time is the page's, and the configuration names the room's folders.
 ACHDESK_DAY_NOW=${{ACHDESK_DAY_NOW-2025-01-14T08:30:00-05:00}}
-export ACHDESK_DAY_NOW SUDO_USER=alice
+export ACHDESK_DAY_NOW ACHDESK_DAY_PERSON=alice
 command=$1
 shift
-exec python3 {top}/deploy/achdesk-day "$command" --config {room}/etc/achdesk/day.conf "$@"
+exec python3 {top}/judge/helpers/day_for_judges.py "$command" --config {room}/etc/achdesk/day.conf "$@"
 """
 SFTP = """#!/bin/sh
 # OpenSSH's client and server, connected by a pipe in place of SSH.
@@ -101,6 +109,17 @@ url = {address}
 key_file = {room}/operator.key
 [folders]
 state = {room}/var/lib/achdesk-day
+backups = {room}/var/lib/achdesk-backup
+[repository]
+to = {room}/var/lib/achdesk-backup/repository
+password_file = {room}/etc/achdesk/keys/repository
+also =
+[bank]
+holidays_ahead = 0
+[clock]
+command =
+[standby]
+to = none
 [sftp]
 host = sftp.ach-operator.example
 user = ourbank
@@ -153,13 +172,6 @@ def copy_desk(room):
         shutil.copy(f"{room.database}{end}", room.folder / f"bank.db{end}")
 
 
-def make_copy(room):
-    """The copy that the commands of docs/operate/backup.md make from a backup."""
-    (room.folder / "copy").mkdir()
-    for end in ("", "-wal"):
-        shutil.copy(f"{room.database}{end}", room.folder / f"copy/bank.db{end}")
-
-
 def make_folders(room):
     for name in ("desk.map", "people.map", "companies.map"):
         (room.folder / "etc/achdesk/keys" / name).touch(mode=0o600)
@@ -181,6 +193,5 @@ OTHERS = {
     "day program": put_day_program,
     "day command": put_day_command,
     "copied": copy_desk,
-    "copy": make_copy,
     "folders": make_folders,
 }
