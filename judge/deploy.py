@@ -809,7 +809,7 @@ def day_keys(checks, at, user, group):
     checks.that("the page's commands make the keys of achdesk-day", said("sh", "-ec", text), ("", 0))
     checks.that("its line in people.map has the key", (at / "etc/achdesk/keys/people.map").read_text().count('"operator:day";'), 1)
     config = at / "day.conf"
-    config.write_text(re.sub(r"(?m)^#?(key_file|state|identity) = (/.*)$", rf"\1 = {at}\2", (at / "etc/achdesk/day.conf").read_text().replace("key_file = day", f"key_file = {at}/etc/achdesk/keys/day").replace("desk.bank.example", f"127.0.0.1:{free_port()}")))
+    config.write_text(re.sub(r"(?m)^#?(state|identity) = (/.*)$", rf"\1 = {at}\2", (at / "etc/achdesk/day.conf").read_text().replace("key_file = day", f"key_file = {at}/etc/achdesk/keys/day").replace("desk.bank.example", f"127.0.0.1:{free_port()}")))
     config.chmod(0o644)
     for it in (at, *at.parents):
         if it != Path("/") and not os.stat(it).st_mode & 0o001:
