@@ -17,6 +17,8 @@ from achdesk_day.stops import Misused, NoAnswer, Refused, Rejected, Unavailable
 from achdesk_day.takeover import refuse_unconfirmed
 from achdesk_day.values import MODIFIERS, date_of, due_sums, money
 
+OLDER_DESK = "the desk, an older one, does not report how many files a cut makes"
+
 
 def cut(day: Day) -> None:
     """Cuts what is due."""
@@ -48,7 +50,7 @@ def cut(day: Day) -> None:
 
 
 def shown_due(status: Status) -> str:
-    """Writes what is due by company and settlement day, and how many files that takes."""
+    """Writes what is due by company and settlement day, and how many records and files that takes."""
     lines = [f"desk day {status.day}; files so far: {' '.join(status.files) or 'none'}"]
     for company in status.companies:
         for due, way in ((due, way) for due in company.due for way in ("credits", "debits")):
@@ -58,22 +60,27 @@ def shown_due(status: Status) -> str:
                              f"{tally.submissions:7,} submissions {money(tally.cents):>20}")
         if company.lapsing:
             lines.append(f"  {company.id:10} {company.lapsing} retries would lapse")
-    files, left = due_files(status), len(MODIFIERS) - len(status.files)
-    lines.append(f"files left today: {left}" + ("" if files is None else f"; a cut makes {files} now"))
+    lines.append(f"files left today: {files_left(status)}; {due_files_of(status)}")
     return "\n".join(lines)
 
 
-def due_files(status: Status) -> int | None:
-    """Returns how many files a cut would make now, by the desk's own division, or None if the desk does not say it."""
-    told: int | None = getattr(status, "due_files", None)
-    return told
+def files_left(status: Status) -> int:
+    return len(MODIFIERS) - len(status.files)
+
+
+def due_files_of(status: Status) -> str:
+    """Says how many files a cut would make now, by the desk's own division, which an older desk does not report."""
+    if status.due_files is None:
+        return OLDER_DESK
+    records = "" if status.due_records is None else f", with {status.due_records:,} entry and addenda records"
+    return f"a cut makes {status.due_files} now{records}"
 
 
 def alarm_if_crowded(day: Day, status: Status) -> None:
-    """Raises an alarm if what is due takes a quarter of the day's files or more."""
-    files = due_files(status)
-    if files is not None and 4 * files >= len(MODIFIERS):
-        day.alarm(f"a cut would make {files} files now, and a day has {len(MODIFIERS)}: see A company floods the desk in "
+    """Raises an alarm if what is due takes a quarter of the day's files, or more than are left."""
+    files, left = status.due_files, files_left(status)
+    if files is not None and (4 * files >= len(MODIFIERS) or files > left):
+        day.alarm(f"a cut would make {files} files now; {left} of the day's {len(MODIFIERS)} are left: see A company floods the desk in "
                   "/usr/share/doc/achdesk/operate/troubleshooting.md", f"crowded on {status.day}")
 
 

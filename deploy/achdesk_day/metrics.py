@@ -14,7 +14,7 @@ from typing import Protocol
 from achdesk import CompanyRisk, Status, Tally
 
 from achdesk_day.backup import finished_backups, log_of
-from achdesk_day.cut import due_files
+from achdesk_day.cut import files_left
 from achdesk_day.day import Day
 from achdesk_day.durable import write_synced
 from achdesk_day.failures import failing_since
@@ -26,7 +26,7 @@ from achdesk_day.locks import Lock
 from achdesk_day.rows import LEVELS, rate_of
 from achdesk_day.stops import Refused, Unavailable
 from achdesk_day.takeover import open_mark
-from achdesk_day.values import MODIFIERS, time_of
+from achdesk_day.values import time_of
 from achdesk_day.watch import INCOMING, unacknowledged
 
 
@@ -56,6 +56,8 @@ METRICS = {
     "files_today": ("gauge", "Files that cuts made on the desk day."),
     "files_left": ("gauge", "Files that cuts can still make on the desk day."),
     "due_files": ("gauge", "Files that a cut would make now."),
+    "held_records": ("gauge", "Entry and addenda records of held submissions and retries."),
+    "due_records": ("gauge", "Entry and addenda records that a cut would send now."),
     "suspense_items": ("gauge", "Items in suspense."),
     "entries_sent_total": ("counter", "Entries that were ever sent."),
     "holidays": ("gauge", "Days in the holiday list."),
@@ -146,9 +148,10 @@ def status_metrics(put: Put, status: Status, today: datetime.date) -> None:
             put("due_submissions", sum(it.submissions for it in due), **labels)
             put("due_cents", sum(it.cents for it in due), **labels)
     put("files_today", len(status.files))
-    put("files_left", len(MODIFIERS) - len(status.files))
-    if (files := due_files(status)) is not None:
-        put("due_files", files)
+    put("files_left", files_left(status))
+    for name, count in (("due_files", status.due_files), ("held_records", status.held_records), ("due_records", status.due_records)):
+        if count is not None:  # an older desk does not report them
+            put(name, count)
     put("suspense_items", status.suspense)
     put("entries_sent_total", status.sent)
     put("holidays", status.holidays)

@@ -6,7 +6,7 @@ import datetime
 
 from achdesk import Status
 
-from achdesk_day.cut import alarm_if_crowded
+from achdesk_day.cut import OLDER_DESK, alarm_if_crowded
 from achdesk_day.day import Day
 from achdesk_day.incoming import arrived
 from achdesk_day.late import text_of, undecided
@@ -28,6 +28,8 @@ def watch(day: Day) -> None:
     not_transmitted(day, status)
     not_received(day, status)
     alarm_if_crowded(day, status)
+    if status.due_files is None:
+        day.say(f"a flood is not looked for: {OLDER_DESK}")
     if not day.status:
         day.say("nothing is late")
 

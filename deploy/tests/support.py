@@ -57,7 +57,8 @@ class FakeDesk:
         self.closed: set[datetime.date] = set()
         self.fails: dict[str, list[Stop]] = {}
         self.asked: list[str] = []
-        self.due_files: int | None = None
+        self.many_files: int | None = None  # that a cut would make, in place of one
+        self.is_older = False
 
     def __call__(self, *_: object) -> FakeDesk:
         return self
@@ -75,10 +76,8 @@ class FakeDesk:
         due = (achdesk.DueDay(self.day or MON, tally, none),) if self.due else ()
         company = achdesk.CompanyStatus("MILL01", "MILL STREET", achdesk.Held(tally, none), due, 0)
         modifiers = tuple(name[11] for name in sorted(self.files) if name[:10] == str(self.day))
-        status = achdesk.Status(self.day, (company,), modifiers, self.holidays, self.sent, 0)
-        if self.due_files is not None:
-            object.__setattr__(status, "due_files", self.due_files)
-        return status
+        sizes = (None, None, None) if self.is_older else (len(self.due), len(self.due), self.many_files or min(1, len(self.due)))
+        return achdesk.Status(self.day, (company,), modifiers, self.holidays, self.sent, 0, *sizes)
 
     def file(self, name: str) -> bytes | None:
         self.ask("file")

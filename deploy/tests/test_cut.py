@@ -3,7 +3,8 @@
 from __future__ import annotations
 
 from achdesk_day.stops import NoAnswer, Rejected, Unavailable
-from tests.support import MON, TUE, TestCase
+from achdesk_day.values import MODIFIERS
+from tests.support import MON, TUE, TestCase, file_of
 
 
 class Cutting(TestCase):
@@ -34,13 +35,40 @@ class Cutting(TestCase):
         self.does("cut", "--dry-run", "--other-day", says="due MILL01")
 
     def test_the_number_of_files_is_the_desk_s(self) -> None:
+        self.opened(100, 200)
+        self.bank.desk.many_files = 8
+        self.does("cut", "--dry-run", says="files left today: 36; a cut makes 8 now, with 2 entry and addenda records\n")
+        self.does("watch", says="nothing is late")
+        self.assertEqual([], self.bank.alarms())
+
+    def test_a_quarter_of_the_day_s_files_is_an_alarm(self) -> None:
+        self.opened(100, 200)
+        self.bank.desk.many_files = 9
+        crowded = "a cut would make 9 files now; 36 of the day's 36 are left: see A company floods the desk"
+        self.does("cut", "--dry-run", status=1, says=crowded)
+        self.does("watch", status=1, says=crowded)
+        self.does("watch", status=1, says=crowded)
+        self.assertEqual(1, sum(crowded in it for it in self.bank.alarms()))
+        printed = self.does("metrics")
+        for line in ("achdesk_due_files 9", "achdesk_due_records 2", "achdesk_held_records 2", "achdesk_files_left 36"):
+            self.assertIn(f"\n{line}\n", printed)
+
+    def test_more_files_than_are_left_are_an_alarm(self) -> None:
         self.opened(100)
-        self.does("cut", "--dry-run", says="files left today: 36\n")
-        self.bank.desk.due_files = 8
-        self.does("cut", "--dry-run", says="files left today: 36; a cut makes 8 now")
-        self.bank.desk.due_files = 9
-        self.does("cut", "--dry-run", status=1, says="a cut would make 9 files now, and a day has 36")
-        self.assertIn("achdesk_due_files 9", self.does("metrics"))
+        for modifier in MODIFIERS[:30]:
+            self.bank.desk.files[f"{MON}-{modifier}"] = file_of(f"{MON}-{modifier}", 1)
+        self.bank.desk.many_files = 6
+        self.does("cut", "--dry-run", says="files left today: 6; a cut makes 6 now")
+        self.bank.desk.many_files = 7
+        self.does("cut", "--dry-run", status=1, says="a cut would make 7 files now; 6 of the day's 36 are left")
+
+    def test_an_older_desk_does_not_report_the_files_of_a_cut(self) -> None:
+        self.bank.desk.is_older = True
+        self.opened(100)
+        self.does("cut", "--dry-run", says="files left today: 36; the desk, an older one, does not report how many files a cut makes")
+        self.does("watch", says="a flood is not looked for: the desk, an older one, does not report")
+        self.assertNotIn("achdesk_due_files", self.does("metrics"))
+        self.does("cut", says="in files A")
 
 
 class DualControl(TestCase):

@@ -143,7 +143,9 @@ class Status:
     """The desk's status. `day` is None until the first desk day is set.
 
     `files` has the modifiers of the day's files. `holidays`, `sent` and `suspense` are counts: of
-    days in the holiday list, entries ever sent, and items in suspense.
+    days in the holiday list, entries ever sent, and items in suspense. `held_records` and
+    `due_records` count entry and addenda records, and `due_files` the files that a cut would make
+    now; they are None if the desk does not report them, which older ones do not.
     """
 
     day: Optional[datetime.date]
@@ -152,6 +154,9 @@ class Status:
     holidays: int
     sent: int
     suspense: int
+    held_records: Optional[int] = None
+    due_records: Optional[int] = None
+    due_files: Optional[int] = None
 
     def company(self, id: str) -> Optional[CompanyStatus]:
         """Returns the company with this identification, or None."""

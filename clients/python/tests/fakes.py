@@ -92,6 +92,7 @@ class SmallDesk:
         self.submissions: Dict[str, Dict[str, Any]] = {}
         self.refused: Dict[str, Tuple[int, Dict[str, Any]]] = {}
         self.cuts = 0
+        self.sizes: Dict[str, int] = {}  # members of the status that an older desk does not have
 
     def reply(self, method: str, path: str, body: bytes) -> bytes:
         name = path.split("/", 3)[-1]
@@ -115,7 +116,7 @@ class SmallDesk:
 
     def _status(self) -> Dict[str, Any]:
         return {"day": str(self.day), "companies": [], "files": list("ABC"[:self.cuts]),
-                "holidays": 0, "sent": self.cuts, "suspense": 0}
+                "holidays": 0, "sent": self.cuts, "suspense": 0, **self.sizes}
 
     def _exposure(self) -> Dict[str, Any]:
         held = [it["body"] for it in self.submissions.values()]

@@ -112,3 +112,15 @@ class Sent(unittest.TestCase):
 
 if __name__ == "__main__":
     unittest.main()
+
+
+class StatusOfTheDesk(unittest.TestCase):
+    def test_an_older_desk_does_not_report_records_and_files(self) -> None:
+        desk = SmallDesk()
+        with Server(desk.reply) as server:
+            bank = operator(server.url)
+            status = bank.status()
+            self.assertEqual((status.held_records, status.due_records, status.due_files), (None,) * 3)
+            desk.sizes = {"held_records": 12, "due_records": 10, "due_files": 2}
+            status = bank.status()
+            self.assertEqual((status.held_records, status.due_records, status.due_files), (12, 10, 2))
