@@ -6,7 +6,7 @@
 - To Debian's Alertmanager: an alarm is there, lasts, and ends; while it is down the alarm waits.
 - To both: one that is down does not keep the other from its alarm, and nothing is delivered twice.
 - By a receiver that never answers; a delivery that is killed at any moment; a mail with control characters in the alarm's text.
-- `achdesk-day` raises an alarm by the shipped command, with neither network nor password.
+- `achdesk-day` raises an alarm by the shipped command, with neither network nor password, and its unit does not raise it again.
 
 The status is 1 if a check failed, and 2 if Debian packages are missing, which are named; that is not a pass.
 """
@@ -215,14 +215,31 @@ def by_the_day(checks, place):
     key.touch(mode=0o600)
     key.write_text("a-key-of-the-day\n")
     config = place.folder / "day.conf"
-    config.write_text(f"[desk]\nurl = http://{HOST}:{free_port()}\nkey_file = {key}\n[folders]\nstate = {state}\n[files]\nprogram = /bin/false\n[alarm]\ncommand = {words}\n")
-    (state / "inbox" / "returns.ach").write_text("not a file of returns\n")
-    program = place.folder / "program"
-    program.write_text("#!/bin/sh\necho 'BadRecord 1'\nexit 1\n")
-    program.chmod(0o755)
-    config.write_text(config.read_text().replace("/bin/false", str(program)))
-    done = subprocess.run(["unshare", "--net", sys.executable, DAY, "--config", config, "returns"], capture_output=True, text=True)
+    config.write_text(f"[desk]\nurl = http://{HOST}:{free_port()}\nkey_file = {key}\n[folders]\nstate = {state}\n[alarm]\ncommand = {words}\n")
+    done = subprocess.run(["unshare", "--net", sys.executable, DAY, "--config", config, "open", "--day", "2099-01-01"], capture_output=True, text=True)
     checks.that("a refusal of achdesk-day waits as an alarm", (place.waits(), "ALARM" in done.stderr), (1, True))
+    once_for_a_unit(checks, place, [sys.executable, DAY, "--config", config, "open", "--day"])
+
+
+def once_for_a_unit(checks, place, words):
+    """achdesk-day ends with status 1 in a unit, whose OnFailure= is told: one alarm, whether it is delivered before or after."""
+    port, invocations = free_port(), ("1" * 32, "2" * 32)
+    told = {"MONITOR_SERVICE_RESULT": "exit-code", "MONITOR_EXIT_STATUS": "1"}
+    place.configure(place.mail(port))
+    with mail_server(place, port):
+        place.run("deliver")
+        for number, invocation in enumerate(invocations):
+            before = len(place.mails())
+            ended = subprocess.run([*words, f"2099-01-0{2 + number}"], capture_output=True, env=os.environ | {"INVOCATION_ID": invocation}).returncode
+            if number:
+                place.run("deliver")
+            place.run("unit", f"achdesk-day-open-{number}.service", MONITOR_INVOCATION_ID=invocation, **told)
+            place.run("deliver")
+            checks.that(f"status 1 in a unit is one mail, {'delivered before' if number else 'delivered after'} OnFailure= is told", (ended, len(place.mails()) - before), (1, 1))
+        before = len(place.mails())
+        place.run("unit", "achdesk-day-open-2.service", MONITOR_INVOCATION_ID="3" * 32, **told)
+        place.run("deliver")
+        checks.that("a unit whose program raised nothing is one mail", len(place.mails()) - before, 1)
 
 
 def main():

@@ -112,7 +112,7 @@ def failures(checks, services):
     own = ("achdesk-alarm.service", "achdesk-alarm@.service")
     checks.that("each unit has OnFailure= to the alarm", [it for it in services if it not in own and unit(it).get("OnFailure") != alarm], [])
     ending = [it for it in services if unit(it).get("Type") == ["oneshot"] and it not in own]
-    checks.that("each unit that ends has OnSuccess= to it", [it for it in ending if unit(it).get("OnSuccess") != alarm], [])
+    checks.that("each unit that ends has another OnSuccess= to it", [it for it in ending if unit(it).get("OnSuccess") != ["achdesk-alarm@over:%n.service"]], [])
     checks.that("the alarm's own units name none, which would go round", [it for it in own if "OnFailure" in unit(it)], [])
     users = {it: unit(it).get("User", ["root"])[0] for it in services}
     checks.that("the desk, the day, the backups, the alarms and the look at the desk are different users",
@@ -980,6 +980,8 @@ def package(checks, program, folder):
     checks.that("the company's program runs", company(at, "--help")[1], 0)
     checks.that("Python keeps its module compiled", (at / "usr/lib/python3/dist-packages/achdesk/__pycache__").is_dir(), True)
     make_desk(str(at / "usr/bin/achdesk"), at / "var/lib/achdesk/bank.db")
+    for path in (at / "var/lib/achdesk").iterdir():
+        os.chown(path, *users["achdesk"])
     for name in ("var/lib/achdesk-day/2025-01-08-A.ach", "var/log/achdesk/proxy.log", "etc/achdesk/tls/key.pem"):
         (at / name).write_text(name)
     (at / "etc/achdesk/keys/people.map").write_text('"~^alice-key-1$" "operator:alice";\n')
@@ -992,6 +994,7 @@ def package(checks, program, folder):
     for deb in debs[1:]:
         printed, status = root.dpkg("--install", deb)
         checks.that(f"it is upgraded to {deb.name}, without a question", (status == 0 or printed, root.status()), (True, "install ok installed"))
+        checks.that("and all files have their owners", "not all files have" in printed and printed, False)
         checks.that("nothing of the bank's is touched", (snapshot(at, *KEPT), [(at / name).read_text() for name in EDITED]), (kept, configured))
     checks.that("what is new in the configuration is next to it", all("a new setting" in (at / "usr/share/achdesk/etc" / Path(name).name).read_text() for name in EDITED[:-1]))
     checks.that("the snippets are the new ones", (at / "etc/nginx/snippets/achdesk-http.conf").read_text().endswith("# a new setting\n"))
@@ -1000,7 +1003,14 @@ def package(checks, program, folder):
     checks.that("no module is left", [*(at / "usr/lib/python3").rglob("achdesk*")], [])
     checks.that("nothing of the bank's is touched by that", (snapshot(at, *KEPT), [(at / name).read_text() for name in EDITED]), (kept, configured))
     checks.that("the site has still what it includes", [it for it in SITE_PARTS.values() if not (at / "etc/nginx" / it).exists()], [])
-    checks.that("it is installed again", root.dpkg("--install", debs[1])[1], 0)
+    archived = at / "var/lib/achdesk-day/2025-01-08-A.ach"
+    os.chown(archived, *users["achdesk"])
+    os.chown(at / "var/lib/achdesk/bank.db", 0, 0)
+    printed, status = root.dpkg("--install", debs[1])
+    checks.that("it is installed again, and a desk's file that is root's is reported", (status, bool(re.search("unsafe path transition.*bank.db", printed))), (0, True))
+    checks.that("what achdesk-day wrote as the user achdesk is its own now", (os.stat(archived).st_uid, os.stat(archived).st_gid), users["achdesk-day"])
+    os.chown(at / "var/lib/achdesk/bank.db", *users["achdesk"])
+    os.chown(archived, 0, 0)
     checks.that("and the keys are those of before", snapshot(at, *KEPT), kept)
     printed, status = root.dpkg("--purge", "achdesk")
     checks.that("it is purged", (status == 0 or printed, root.status(), [it for it in EDITED if (at / it).exists()]), (True, None, []))

@@ -1,7 +1,7 @@
 #!/usr/bin/env python3
 """Checks the types of what is shipped in Python: `python3 judge/typed.py`. It needs mypy.
 
-`mypy --strict` must find nothing in the client library, in the day program and in their unit tests, as the oldest Python
+`mypy --strict` must find nothing in the client library, in the day program, in the alarms and in their unit tests, as the oldest Python
 reads them that runs them. No module has more than 300 lines. The last line counts the checks; the exit status is 1 if one
 failed.
 """
@@ -14,7 +14,7 @@ import tempfile
 from helpers.running import TOP, Checks, found
 
 # A folder, the oldest Python, and what mypy checks there, as far as the folder has it.
-CHECKED = (("clients/python", "3.9", ("achdesk", "tests")), ("deploy", "3.11", ("achdesk_day", "tests")))
+CHECKED = (("clients/python", "3.9", ("achdesk", "tests")), ("deploy", "3.11", ("achdesk_day", "achdesk_alarm", "tests")))
 MOST_LINES = 300
 
 

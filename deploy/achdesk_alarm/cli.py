@@ -44,7 +44,8 @@ def parser_of_words() -> argparse.ArgumentParser:
 def run(words: argparse.Namespace) -> None:
     state, second = words.state, words.second
     if words.command == "raise":
-        put(Alarm(now().isoformat(), words.source, plain(sys.stdin.read()).strip()), state, second)
+        invocation = os.environ.get("INVOCATION_ID", "")
+        put(Alarm(now().isoformat(), words.source, plain(sys.stdin.read()).strip(), invocation=invocation), state, second)
         return
     settings = Settings(words.config)
     if words.command == "unit":

@@ -19,7 +19,7 @@ from pathlib import Path
 
 from achdesk_alarm.faults import Misused, Undelivered, now, plain
 from achdesk_alarm.settings import Settings, secret
-from achdesk_alarm.waiting import Alarm, waiting, write_whole
+from achdesk_alarm.waiting import Alarm, remove, waiting, write_whole
 
 SECONDS = 20  # how long a receiver is waited for
 MOST_ALARMS = 50  # of a mail
@@ -48,7 +48,7 @@ def deliver(settings: Settings, state: Path, second: Path) -> None:
                 write_whole(path, asdict(replace(alarm, delivered=(*alarm.delivered, name))))
     for path, alarm in waiting(state, second):
         if configured and set(configured) <= set(alarm.delivered):
-            path.unlink()
+            remove(path, alarm, state)
     left = len(list(waiting(state, second)))
     if left and not configured:
         raise Misused(f"{settings.path}: neither [mail] to nor [alertmanager] url is set, and {left} alarms wait")

@@ -11,15 +11,18 @@ from pathlib import Path
 
 from achdesk_alarm.faults import Misused, now, plain
 from achdesk_alarm.settings import Settings
-from achdesk_alarm.waiting import Alarm, put, write_whole
+from achdesk_alarm.waiting import Alarm, has_raised, put, write_whole
 
+OVER = "over:"  # before the name of a unit that ended with success
 MOST_LINES, SECONDS = 15, 20  # of a unit's log in an alarm, and how long it is waited for
 UNAVAILABLE = "exit-code/3"  # the result of a unit whose command can simply be run again
+ALARMED = "exit-code/1"  # the result of one whose command has raised the alarms itself, if it has
 
 
 @dataclass
 class Failing:
-    """A unit that fails: since when, how it ended last, how often, the end of its log, and when an alarm was raised."""
+    """A unit that fails: since when, how it ended last, how often, the end of its log, when an alarm was raised, and whether
+    its program raised it."""
 
     first: str
     last: str
@@ -27,6 +30,7 @@ class Failing:
     times: int
     log: str
     alarmed: str = ""
+    by_itself: bool = False
 
     def text(self, unit: str) -> str:
         return (f"{unit} ended with {self.how}, {self.times} times since {self.first}. Look at: journalctl -u {unit}"
@@ -60,31 +64,37 @@ def end_of_log(invocation: str) -> str:
 
 
 def ended(settings: Settings, unit: str, state: Path, second: Path, told: dict[str, str]) -> None:
-    """Records how a unit ended, by the variables that systemd gives to the unit of OnFailure= and OnSuccess=."""
+    """Records how a unit ended, by the variables that systemd gives to the unit of OnFailure= and OnSuccess=. Those of
+    success have OVER before the unit's name."""
+    result = told.get("MONITOR_SERVICE_RESULT", "success" if unit.startswith(OVER) else "")
+    unit = unit.removeprefix(OVER)
     path = path_of(unit, state)
     before, moment = known(path), now()
-    result = told.get("MONITOR_SERVICE_RESULT", "")
     if result == "success":
-        if before and before.alarmed:
+        if before and before.alarmed and not before.by_itself:
             put(Alarm(moment.isoformat(), unit, f"{unit} ended with success again", is_over=True), state, second)
         path.unlink(missing_ok=True)
         return
     how = f"{result}/{told.get('MONITOR_EXIT_STATUS', '')}" if result else "an unknown result"
-    log = end_of_log(told.get("MONITOR_INVOCATION_ID", ""))
-    failing = Failing(moment.isoformat(), moment.isoformat(), how, 1, log)
+    invocation = told.get("MONITOR_INVOCATION_ID", "")
+    failing = Failing(moment.isoformat(), moment.isoformat(), how, 1, end_of_log(invocation))
     if before:
-        failing = replace(failing, first=before.first, times=before.times + 1, alarmed=before.alarmed if before.how == how else "")
+        failing = replace(failing, first=before.first, times=before.times + 1)
+    if how == ALARMED and has_raised(invocation, state, second):
+        failing = replace(failing, alarmed=moment.isoformat(), by_itself=True)
+    elif before and before.how == how:
+        failing = replace(failing, alarmed=before.alarmed, by_itself=before.by_itself)
     settle(settings, unit, failing, moment, state, second)
 
 
 def settle(settings: Settings, unit: str, failing: Failing, moment: datetime.datetime, state: Path, second: Path) -> None:
     """Raises the alarm of a unit if it is due, and keeps the unit's state. The alarm is written first: after a kill between
-    the two it is raised again."""
+    the two it is raised again. A program that raised the alarm itself repeats it itself, and is given twice the time for that."""
     is_due = failing.how != UNAVAILABLE or moment >= settings.due(unit, datetime.datetime.fromisoformat(failing.first))
-    again = datetime.timedelta(minutes=settings.number("alarm", "again"))
+    again = datetime.timedelta(minutes=settings.number("alarm", "again")) * (2 if failing.by_itself else 1)
     if is_due and (not failing.alarmed or moment - datetime.datetime.fromisoformat(failing.alarmed) >= again):
         put(Alarm(moment.isoformat(), unit, failing.text(unit)), state, second)
-        failing.alarmed = moment.isoformat()
+        failing = replace(failing, alarmed=moment.isoformat(), by_itself=False)
     write_whole(path_of(unit, state), asdict(failing))
 
 

@@ -1,10 +1,12 @@
-"""Alarms that wait for their receivers, each a file."""
+"""Alarms that wait for their receivers, each a file, and which runs of units raised those that were delivered."""
 
 from __future__ import annotations
 
 import json
 import os
+import re
 import sys
+import time
 import uuid
 from collections.abc import Iterator
 from dataclasses import asdict, dataclass, field
@@ -12,10 +14,14 @@ from pathlib import Path
 
 from achdesk_alarm.faults import Undelivered
 
+DELIVERED, A_DAY = "delivered", 86_400
+INVOCATION = re.compile(r"[0-9a-f]{32}")  # systemd's number of one run of a unit
+
 
 @dataclass(frozen=True)
 class Alarm:
-    """An alarm: when, of which unit or program, its text, and the receivers that have it."""
+    """An alarm: when, of which unit or program, its text, the receivers that have it, and the run of a unit in which it was
+    raised."""
 
     at: str
     source: str
@@ -23,6 +29,7 @@ class Alarm:
     is_over: bool = False
     delivered: tuple[str, ...] = ()
     number: str = field(default_factory=lambda: uuid.uuid4().hex)
+    invocation: str = ""
 
 
 def write_whole(path: Path, value: object, mode: int = 0o640) -> None:
@@ -56,6 +63,26 @@ def waiting(state: Path, second: Path) -> Iterator[tuple[Path, Alarm]]:
         try:
             told = json.loads(path.read_text(encoding="utf-8"))
             yield path, Alarm(**told | {"delivered": tuple(told["delivered"])})
+        except FileNotFoundError:
+            continue  # it was delivered meanwhile
         except (ValueError, TypeError, KeyError) as fault:
             print(f"achdesk-alarm: {path} is not an alarm: {fault}", file=sys.stderr)
             path.rename(path.with_suffix(".bad"))
+
+
+def remove(path: Path, alarm: Alarm, state: Path) -> None:
+    """Removes an alarm that was delivered. For a day it is kept which run of a unit raised it, which is written first."""
+    folder = state / DELIVERED
+    folder.mkdir(exist_ok=True)
+    if INVOCATION.fullmatch(alarm.invocation):
+        (folder / alarm.invocation).touch()
+    path.unlink()
+    for old in folder.iterdir():
+        if time.time() - old.stat().st_mtime > A_DAY:
+            old.unlink(missing_ok=True)
+
+
+def has_raised(invocation: str, state: Path, second: Path) -> bool:
+    """Whether a run of a unit has raised an alarm itself, which waits or was delivered."""
+    return bool(INVOCATION.fullmatch(invocation)) and (any(it.invocation == invocation for _, it in waiting(state, second))
+                                                       or (state / DELIVERED / invocation).exists())

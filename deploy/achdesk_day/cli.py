@@ -92,7 +92,7 @@ class Command:
         except (Stop, OSError) as fault:
             print(f"achdesk-day: {fault}", file=sys.stderr)
         self.worked()
-        return 1
+        return max(1, self.day.status if self.day else 1)
 
     def ended(self, status: int, text: str) -> int:
         print(f"achdesk-day: {text}", file=sys.stderr)

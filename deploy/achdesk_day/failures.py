@@ -1,4 +1,5 @@
-"""Alarms for commands that could not do their work."""
+"""Alarms for commands that could not do their work. A command that a unit of this package runs raises none here: the unit
+ends with the command's status, and its OnFailure= raises the one alarm, with the log's end and the patience of alarm.conf."""
 
 from __future__ import annotations
 
@@ -32,17 +33,17 @@ def raise_alarm(settings: Settings, run: Run | None, text: str, about: str = "")
 
 def misused(settings: Settings, run: Run | None, command: str, text: str) -> None:
     """Raises an alarm at once, unless a person runs the command and reads what it prints."""
-    if hooks.person() is None:
+    if hooks.person() is None and hooks.unit() is None:
         raise_alarm(settings, run, f"achdesk-day {command} cannot run: {text}")
 
 
 def unavailable(settings: Settings, run: Run | None, command: str, text: str) -> None:
-    """Raises an alarm if the command has failed for `[alarm] unavailable` minutes."""
+    """Notes since when the command fails, and raises an alarm after `[alarm] unavailable` minutes."""
     state = run.state if run else Path(settings["folders"]["state"])
     since = failing_since(state).setdefault(command, stamp(now()))
     keep(state, failing_since(state) | {command: since})
     limit = datetime.timedelta(minutes=settings.number("alarm", "unavailable"))
-    if now() - time_of(since) >= limit and hooks.person() is None:
+    if now() - time_of(since) >= limit and hooks.person() is None and hooks.unit() is None:
         raise_alarm(settings, run, f"achdesk-day {command} fails since {since}: {text}", f"{command} fails since {since}")
 
 

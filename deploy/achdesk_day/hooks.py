@@ -1,5 +1,5 @@
-"""The clock, the steps of a command, the person who runs it, and the machine. Only tests replace them: no environment and
-no option does."""
+"""The clock, the steps of a command, the person or the unit that runs it, and the machine. Only tests replace them: no
+environment and no option does."""
 
 from __future__ import annotations
 
@@ -7,11 +7,13 @@ import datetime
 import hashlib
 import os
 import pwd
+import re
 import socket
 from collections.abc import Callable
 from pathlib import Path
 
 NOBODY = 4_294_967_295  # the login of a process that no person's login began
+OWN_UNIT = re.compile(r"/(achdesk[\w@:.\\-]*\.service)$", re.MULTILINE)  # at the end of a line of /proc/self/cgroup
 
 
 def system_clock() -> datetime.datetime:
@@ -30,6 +32,15 @@ def audited_person() -> str | None:
     except (OSError, ValueError):
         login = NOBODY
     return None if login == NOBODY else name_of(login)
+
+
+def unit_of_process() -> str | None:
+    """Returns the unit of this package that systemd runs this process for, or None. Its OnFailure= learns of the status."""
+    try:
+        found = OWN_UNIT.search(Path("/proc/self/cgroup").read_text())
+    except OSError:
+        return None
+    return found[1] if found else None
 
 
 def machine_identity() -> str:
@@ -51,6 +62,7 @@ def name_of(number: int) -> str:
 clock: Callable[[], datetime.datetime] = system_clock
 at_step: Callable[[], None] = nothing
 person_of: Callable[[], str | None] = audited_person
+unit_of: Callable[[], str | None] = unit_of_process
 machine_of: Callable[[], str] = machine_identity
 
 
@@ -67,6 +79,11 @@ def step() -> None:
 def person() -> str | None:
     """Returns the person who runs the command, or None for a timer."""
     return person_of()
+
+
+def unit() -> str | None:
+    """Returns the unit of this package that runs the command, or None."""
+    return unit_of()
 
 
 def user() -> str:

@@ -18,6 +18,7 @@ from achdesk_day.hooks import now
 from achdesk_day.journal import Journal
 from achdesk_day.locks import Lock
 from achdesk_day.settings import Settings
+from achdesk_day.stops import Refused
 from achdesk_day.transfer import Server
 from achdesk_day.values import time_of
 
@@ -94,16 +95,21 @@ class Run:
 
     def alarm(self, text: str, about: str = "") -> None:
         """Raises an alarm: on standard error, in the journal, and by the configured command. Of alarms about the same, by
-        their text if nothing else is said, one in `[alarm] repeat` minutes is given to the command."""
-        self.status = 1
+        their text if nothing else is said, one in `[alarm] repeat` minutes is given to the command. If the command does not
+        take it, this one ends with status 2, which the unit's OnFailure= does not take for an alarm that was given."""
+        self.status = max(1, self.status)
         print(f"achdesk-day: ALARM: {text}", file=sys.stderr, flush=True)
         if self.journal.file is None or self.is_repeated(about or text):
             return
         is_given = give_alarm(self.settings, text)
+        self.status = self.status if is_given else 2
         self.journal.write("alarm", text=text, about=about or text, given=is_given)
 
     def is_repeated(self, about: str) -> bool:
-        last = self.journal.last("alarm", about=about, given=True)
+        try:
+            last = self.journal.last("alarm", about=about, given=True)
+        except Refused:  # the journal is damaged
+            return False
         if last is None:
             return False
         return now() - time_of(last["at"]) < datetime.timedelta(minutes=self.settings.number("alarm", "repeat"))

@@ -4,6 +4,8 @@ import contextlib
 import datetime
 import io
 import json
+import os
+import re
 import sys
 import tempfile
 import unittest
@@ -13,7 +15,7 @@ from unittest import mock
 HERE = Path(__file__).resolve().parent
 sys.path.insert(0, str(HERE.parent))
 
-from achdesk_alarm import receivers, units, waiting  # noqa: E402
+from achdesk_alarm import cli, receivers, units, waiting  # noqa: E402
 from achdesk_alarm.faults import Misused, Undelivered, plain  # noqa: E402
 from achdesk_alarm.settings import Settings  # noqa: E402
 
@@ -43,11 +45,26 @@ class Case(unittest.TestCase):
     def raised(self) -> list[waiting.Alarm]:
         return [it for _, it in waiting.waiting(self.state, self.second)]
 
-    def ended(self, settings: Settings, status: str, result: str = "exit-code", unit: str = SEND) -> int:
-        """Tells how a unit ended, and returns how many alarms that raised."""
+    def ended(self, settings: Settings, status: str, result: str = "exit-code", unit: str = SEND, run: str = "") -> int:
+        """Tells how a run of a unit ended, and returns how many alarms that raised."""
         before = len(self.raised())
-        units.ended(settings, unit, self.state, self.second, {"MONITOR_SERVICE_RESULT": result, "MONITOR_EXIT_STATUS": status})
+        told = {"MONITOR_SERVICE_RESULT": result, "MONITOR_EXIT_STATUS": status, "MONITOR_INVOCATION_ID": run}
+        with mock.patch.object(units, "end_of_log", lambda _: ""):
+            units.ended(settings, unit, self.state, self.second, told)
         return len(self.raised()) - before
+
+    def by_itself(self, run: str) -> None:
+        """Raises an alarm as the program of a unit does."""
+        with mock.patch.dict("os.environ", INVOCATION_ID=run), mock.patch.object(sys, "stdin", io.StringIO("a file was refused")), \
+                mock.patch.object(sys, "argv", ["achdesk-alarm", "--state", str(self.state), "--second", str(self.second), "raise"]):
+            self.assertEqual(0, cli.main())
+
+    def delivered(self) -> int:
+        """Delivers what waits, and returns how many alarms that were."""
+        got: list[waiting.Alarm] = []
+        with mock.patch.object(receivers, "receivers", lambda _: {"mail": lambda _, alarms: got.extend(alarms)}):
+            receivers.deliver(self.settings(), self.state, self.second)
+        return len(got)
 
 
 class Units(Case):
@@ -103,6 +120,66 @@ class Units(Case):
         self.assertEqual([it.is_over for it in self.raised()], [False, True])
         self.assertEqual(self.ended(settings, "0", "success"), 0)
 
+    def test_what_its_program_raised_is_one_alarm(self) -> None:
+        settings = self.settings()
+        self.by_itself("a" * 32)
+        self.assertEqual(0, self.ended(settings, "1", run="a" * 32), "while it waits")
+        self.by_itself("b" * 32)
+        self.assertEqual(2, self.delivered())
+        self.assertEqual(0, self.ended(settings, "1", run="b" * 32), "after it was delivered")
+        self.moment += 10 * MINUTE
+        self.assertEqual(0, self.ended(settings, "1", run="c" * 32), "the program repeats its alarm itself")
+        self.assertEqual(0, self.ended(settings, "0", "success"), "and nothing is over: a person has to look")
+
+    def test_a_program_that_raised_nothing_or_ends_otherwise_is_an_alarm_of_its_unit(self) -> None:
+        settings, run = self.settings(), "a" * 32
+        self.by_itself(run)
+        self.assertEqual(1, self.ended(settings, "1", run="b" * 32), "of another run")
+        self.assertEqual(1, self.ended(settings, "2", run=run))
+        self.assertEqual(1, self.ended(settings, "KILL", "signal", run=run))
+        self.assertEqual(0, self.ended(settings, "3", run=run))
+        self.moment += 31 * MINUTE
+        units.raise_due(settings, self.state, self.second)
+        self.assertEqual(5, len(self.raised()), "status 3 keeps its patience, and then is an alarm")
+
+    def test_a_program_that_stops_raising_is_an_alarm_of_its_unit_after_twice_the_time(self) -> None:
+        settings = self.settings()
+        self.by_itself("a" * 32)
+        counts = [self.ended(settings, "1", run="a" * 32)]
+        for at in range(5):
+            self.moment += 30 * MINUTE
+            counts.append(self.ended(settings, "1", run=f"{at:032}"))
+        self.assertEqual([0, 0, 0, 0, 1, 0], counts)
+        self.assertEqual(1, self.ended(settings, "0", "success"), "and that one is over")
+
+    def test_what_was_delivered_is_known_for_a_day(self) -> None:
+        self.by_itself("a" * 32)
+        self.delivered()
+        marker = self.state / waiting.DELIVERED / ("a" * 32)
+        self.assertTrue(marker.exists())
+        os.utime(marker, (1, 1))
+        self.by_itself("../../b")
+        self.delivered()
+        self.assertEqual([], list((self.state / waiting.DELIVERED).iterdir()))
+
+    def test_each_shipped_unit_has_the_alarm_of_its_failure(self) -> None:
+        for path in HERE.parent.glob("*.service"):
+            with self.subTest(path.name):
+                self.assertEqual(path.name in ("achdesk-alarm.service", "achdesk-alarm@.service"),
+                                 "\nOnFailure=achdesk-alarm@%n.service\n" not in path.read_text())
+
+    def test_the_name_of_a_unit_that_worked_says_so(self) -> None:
+        settings = self.settings()
+        self.ended(settings, "2")
+        units.ended(settings, f"{units.OVER}{SEND}", self.state, self.second, {})
+        self.assertEqual([(it.source, it.is_over) for it in self.raised()], [(SEND, False), (SEND, True)])
+
+    def test_each_shipped_unit_has_another_handler_of_success(self) -> None:
+        """systemd gives no result to a unit that is both OnFailure= and OnSuccess= of another one."""
+        for path in HERE.parent.glob("**/*.service"):
+            for told in re.findall(r"(?m)^OnSuccess=(.*)$", path.read_text()):
+                self.assertEqual(told, f"achdesk-alarm@{units.OVER}%n.service", path.name)
+
     def test_a_unit_without_a_known_result_is_an_alarm(self) -> None:
         units.ended(self.settings(), SEND, self.state, self.second, {})
         self.assertEqual(len(self.raised()), 1)
@@ -123,10 +200,11 @@ class Waiting(Case):
         return alarm
 
     def test_an_alarm_waits_until_each_receiver_has_it(self) -> None:
-        alarm, got, is_up = self.put(), [], {"mail": True, "alertmanager": False}
+        alarm, is_up = self.put(), {"mail": True, "alertmanager": False}
+        got: list[tuple[str, list[str]]] = []
 
-        def receiver(name):
-            def send(_, alarms):
+        def receiver(name: str) -> receivers.Send:
+            def send(_: Settings, alarms: list[waiting.Alarm]) -> None:
                 if not is_up[name]:
                     raise Undelivered("refused")
                 got.append((name, [it.number for it in alarms]))

@@ -11,6 +11,7 @@ import tempfile
 import types
 import unittest
 from pathlib import Path
+from typing import Any
 from unittest import mock
 
 from achdesk_day import backup, repository, secret
@@ -23,9 +24,10 @@ class Restic:
     """Answers in place of restic, and keeps its words and environment."""
 
     def __init__(self, **answers: tuple[int, str, str]):
-        self.answers, self.asked = answers, []
+        self.answers = answers
+        self.asked: list[tuple[str, list[str], dict[str, Any]]] = []
 
-    def __call__(self, words: list[str], **how: object) -> subprocess.CompletedProcess[str]:
+    def __call__(self, words: list[str], **how: Any) -> subprocess.CompletedProcess[str]:
         command = next(it for it in words[1:] if it in ("backup", "cat", "check", "forget", "init", "restore", "snapshots"))
         self.asked.append((command, words, how))
         status, printed, errors = self.answers.get(command, (0, "", ""))
@@ -41,7 +43,7 @@ class Case(unittest.TestCase):
         self.said: list[str] = []
         self.enterContext(mock.patch.object(repository, "now", lambda: NOW))
 
-    def run_of(self, to: str, **told: str) -> types.SimpleNamespace:
+    def run_of(self, to: str, **told: str) -> Any:
         known = {"to": to, "password_file": "/keys/repository", "identity": "/keys/backup", "known_hosts": "/keys/hosts", "port": "22", "also": "/keys/desk.map",
                  "keep": "--keep-within 35d --keep-tag cut"} | told
         settings = mock.MagicMock()
@@ -126,7 +128,7 @@ class Repositories(Case):
 
 
 class BackedUp(Case):
-    def day(self, cut: str | None, *backups: tuple[str, list[str] | None]) -> types.SimpleNamespace:
+    def day(self, cut: str | None, *backups: tuple[str, list[str] | None]) -> Any:
         for name, stored in backups:
             folder = self.folder / name
             folder.mkdir()

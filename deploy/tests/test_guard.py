@@ -14,7 +14,7 @@ from unittest import mock
 sys.dont_write_bytecode = True
 PATH = Path(__file__).resolve().parent.parent / "achdesk-guard"
 LOADER = importlib.machinery.SourceFileLoader("achdesk_guard", str(PATH))
-guard = importlib.util.module_from_spec(importlib.util.spec_from_loader("achdesk_guard", LOADER))
+guard = importlib.util.module_from_spec(importlib.machinery.ModuleSpec("achdesk_guard", LOADER))
 LOADER.exec_module(guard)
 
 
@@ -22,7 +22,8 @@ class Desk(http.server.HTTPServer):
     """A desk that answers with these statuses, the last one again and again."""
 
     def __init__(self, *statuses: int):
-        desk, self.asked = self, []
+        self.asked: list[tuple[str, str]] = []
+        desk = self
 
         class Handler(http.server.BaseHTTPRequestHandler):
             def do_GET(self) -> None:

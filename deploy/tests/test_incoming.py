@@ -245,6 +245,35 @@ class Failing(TestCase):
         self.does("send")
         self.assertEqual({}, json.loads((self.bank.state / "failing.json").read_text()))
 
+    def test_a_unit_of_the_package_has_the_one_alarm_of_statuses_2_and_3(self) -> None:
+        self.opened(100)
+        self.bank.unit = "achdesk-day-send.service"
+        self.bank.desk.fails["status"] = [Unavailable("down")] * 2
+        self.does("send", status=3)
+        self.bank.now += datetime.timedelta(minutes=31)
+        self.does("send", status=3)
+        self.assertIn("achdesk_failing_commands 1", self.does("metrics"))
+        (self.folder / "key").chmod(0o644)
+        self.bank.configure(fetch={"folder": ""})
+        self.does("fetch", status=2)
+        self.assertEqual([], self.bank.alarms())
+
+    def test_an_alarm_that_the_command_does_not_take_ends_with_status_2(self) -> None:
+        self.bank.configure(alarm={"received": "08:00", "command": "false"})
+        self.does("open")
+        self.does("watch", status=2, says="ALARM: no incoming file")
+        self.does("open", "--day", "2025-01-20", status=2, says="ALARM: 2025-01-20 is after today")
+        self.bank.configure(alarm={"received": "08:00", "command": f"sh -c 'cat >> {self.folder}/alarms'"})
+        self.does("watch", status=1)
+        self.assertEqual(1, len(self.bank.alarms()))
+
+    def test_a_damaged_journal_is_an_alarm(self) -> None:
+        self.does("open")
+        with open(self.bank.state / "day.journal", "a") as journal:
+            journal.write("{damaged}\n")
+        self.does("send", status=1, says="line")
+        self.assertIn("is damaged", self.bank.alarms()[0])
+
     def test_a_held_lock_is_waited_for_and_then_counts_as_unavailable(self) -> None:
         from achdesk_day.locks import Lock
         lock = Lock(self.bank.state / "day.lock")
