@@ -1,5 +1,5 @@
 #!/usr/bin/env python3
-"""Runs a bank's week by deploy/achdesk-day, against the real parts on loopback: `python3 judge/day.py [PROGRAM] [EVERY]`.
+"""Runs a bank's week by deploy/achdesk-day, against the real parts on loopback: `python3 judge/day.py [PROGRAM] [EVERY] [PART ..]`.
 
 PROGRAM is ./achdesk if it is left out. EVERY is 1 if it is left out: with 5 only each fifth step of a command is tried,
 which is quicker with a program that was built without proofs and takes seconds to open a file. The parts are `achdesk
@@ -778,7 +778,7 @@ def too_late(week):
 
 # ---- a withheld file, and a desk that is restored to a backup from before it ----
 
-def withheld_and_restored(checks, program, folder):
+def withheld_and_restored(checks, program, folder, _):
     """A file is withheld, and a desk that was restored makes it again: byte for byte, and with other bytes. Nothing of it may be
     transmitted until a person says so."""
     with Bank(program, folder) as bank:
@@ -904,6 +904,7 @@ def taken_over(checks, program, folder, every):
         bank.curl("day", "/ops/companies", {"id": "MILL01", "name": "MILL STREET", "key": DESK_KEYS["MILL01"], **LIMITS})
         week.run("backup", says="backed up")
         week.run("copy")
+        only_writes(checks, bank)
         pay(week, "MILL01", **{"PAY_1": PAYMENTS["PAY-1"]})
         week.keep("afternoon")
         afternoon = [("cut",), ("backup",), ("copy",), ("send",)]
@@ -916,6 +917,22 @@ def taken_over(checks, program, folder, every):
                 step += every
                 week.kills += 1
             checks.that(f"{words[0]} is killed at its steps, up to step {step - 1}, and a standby takes over: {failed}", failed, [])
+
+
+def only_writes(checks, bank):
+    """What the key that leaves the journal at the standby may do there: add and replace, and neither read, remove nor run."""
+    sftp, words = bank.sftp, ["-F", "none", "-o", "BatchMode=yes", "-o", "IdentitiesOnly=yes", "-o", f"UserKnownHostsFile={bank.sftp.known_hosts}", "-i", str(bank.sftp.copy_identity)]
+    there, shell = f"{sftp.user}@127.0.0.1", f"ssh -p {sftp.port} {' '.join(words)}"
+    before = bytes_of(sftp.standby / "state")
+    checks.that("the journal is at the standby", before.get("day.journal"), (bank.state / "day.journal").read_bytes())
+    empty, taken = bank.folder / "empty", bank.folder / "taken"
+    empty.mkdir()
+    for what, command in (("reads", ["rsync", "-a", "-e", shell, f"{there}:/state/", taken]), ("removes", ["rsync", "-a", "--delete", "-e", shell, f"{empty}/", f"{there}:/state/"]),
+                          ("moves", ["rsync", "-a", "--remove-source-files", "-e", shell, f"{there}:/state/", taken]),
+                          ("leaves its folder", ["rsync", "-a", "-e", shell, bank.config, f"{there}:/../inbox/"]), ("runs a command", ["ssh", "-p", sftp.port, *words, there, "id"]),
+                          ("opens SFTP", ["sftp", "-b", "/dev/null", "-P", sftp.port, *words, there])):
+        done = subprocess.run([str(it) for it in command], capture_output=True, text=True, stdin=subprocess.DEVNULL)
+        checks.that(f"nobody {what} with the key of the standby", (done.returncode != 0, bytes_of(sftp.standby / "state") == before, taken.exists() and any(taken.iterdir())), (True, True, False))
 
 
 def back_to_afternoon(week, done):
@@ -969,7 +986,7 @@ def standby_goes_on(week, when, is_older):
 
 # ---- files that are fetched, and what is late ----
 
-def fetched_and_watched(checks, program, folder):
+def fetched_and_watched(checks, program, folder, _):
     """Files of returns on the real SFTP server: fetched once, whatever the server has next to them; and what is late."""
     with Bank(program, folder) as bank:
         there = bank.folder / "operator" / "returns"
@@ -1018,7 +1035,7 @@ def fetched_and_watched(checks, program, folder):
 
 # ---- what the console did, and everyday questions ----
 
-def by_other_means(checks, program, folder):
+def by_other_means(checks, program, folder, _):
     """A day on which curl, as the console, cuts and posts a file of returns: the report has both, and says what the archive lacks.
     Held submissions, entries, items in suspense and late returns are listed, and the bank's decisions kept."""
     with Bank(program, folder) as bank:
@@ -1103,20 +1120,27 @@ def at_the_end(week):
     week.checks.that("each alarm of the journal was given to the alarm command", set(alarms) <= set(bank.alarms()))
 
 
+def whole_week(checks, program, folder, every):
+    with Bank(program, folder) as bank:
+        week = Week(bank, checks, every)
+        for day in (monday, tuesday, wednesday, thursday, friday, holiday_and_after, by_hand, left_untransmitted, rejected, too_late, at_the_end):
+            day(week)
+
+
+PARTS = {it.__name__: it for it in (whole_week, withheld_and_restored, taken_over, fetched_and_watched, by_other_means)}
+
+
 def main():
     end_if_missing()
     signal.signal(signal.SIGTERM, lambda *_: sys.exit(1))  # ends the parts too
-    program, checks, began, every = program_of(sys.argv[1:]), Checks(), time.monotonic(), int((sys.argv[2:] or ["1"])[0])
+    parts, words = [it for it in sys.argv[1:] if it in PARTS], [it for it in sys.argv[1:] if it not in PARTS]
+    program, checks, began, every = program_of(words), Checks(), time.monotonic(), int((words[1:] or ["1"])[0])
     with tempfile.TemporaryDirectory(prefix="judge-day-") as folder:
         Path(folder).chmod(0o755)
-        with Bank(program, folder) as bank:
-            week = Week(bank, checks, every)
-            for day in (monday, tuesday, wednesday, thursday, friday, holiday_and_after, by_hand, left_untransmitted, rejected, too_late, at_the_end):
-                day(week)
-        withheld_and_restored(checks, program, Path(folder) / "restored")
-        taken_over(checks, program, Path(folder) / "taken-over", every)
-        fetched_and_watched(checks, program, Path(folder) / "fetched")
-        by_other_means(checks, program, Path(folder) / "by-other-means")
+        for name in parts or PARTS:
+            print(f"---- {name}", flush=True)
+            (Path(folder) / name).mkdir()
+            PARTS[name](checks, program, Path(folder) / name, every)
     print(f"        {time.monotonic() - began:.0f} s in all", flush=True)
     checks.end()
 

@@ -26,7 +26,7 @@ def leave(run: Run, *names: str) -> None:
     """Copies these files of the state to the standby, and then the journal, unless it has all of that."""
     if not has_standby(run.settings):
         return
-    told = {"journal": len(run.journal.text), "files": sorted(names)}
+    told = {"to": run.settings["standby"]["to"], "journal": len(run.journal.text), "files": sorted(names)}
     mark = run.state / "left.json"
     if mark.exists() and mark.read_bytes() == encoded(told):
         return

@@ -37,19 +37,25 @@ def end_if_missing():
 
 class SftpServer:
     """An OpenSSH server in a folder, which is not root and lets one user in. If the judge is root, the user is nobody,
-    which has a shell in the server's own view of /etc/passwd: rsync needs one."""
+    which has a shell in the server's own view of /etc/passwd: rsync needs one. Another key is that of a standby, which
+    can only write into its folder, by the line of docs/operate/backup.md."""
 
     def __init__(self, folder):
         self.folder, self.port = Path(folder), free_port()
         self.user = "nobody" if os.geteuid() == 0 else getpass.getuser()
         self.inbox = self.folder / "inbox"
-        self.inbox.mkdir(parents=True)
+        self.standby = self.folder / "standby"
+        for path in (self.inbox, self.standby):
+            path.mkdir(parents=True)
         self.log = self.folder / "sshd.log"
-        for name in ("host", "client"):
+        for name in ("host", "client", "copy"):
             subprocess.run(["ssh-keygen", "-q", "-t", "ed25519", "-N", "", "-f", self.folder / name], check=True)
         self.identity, self.known_hosts = self.folder / "client", self.folder / "known_hosts"
         self.known_hosts.write_text(f"[{HOST}]:{self.port} {(self.folder / 'host.pub').read_text()}")
-        shutil.copy(self.folder / "client.pub", self.folder / "authorized_keys")
+        self.copy_identity = self.folder / "copy"
+        line = next(it for it in (TOP / "docs/operate/backup.md").read_text().splitlines() if it.startswith('command="rrsync '))
+        line = line.replace("/var/lib/achdesk-standby", str(self.standby)).replace("ssh-ed25519 AAAA.. achdesk-copy", (self.folder / "copy.pub").read_text())
+        (self.folder / "authorized_keys").write_text((self.folder / "client.pub").read_text() + line)
         (self.folder / "sshd_config").write_text(
             f"ListenAddress {HOST}\nPort {self.port}\nHostKey {self.folder}/host\nPidFile none\nUsePAM yes\nStrictModes no\n"
             f"AuthorizedKeysFile {self.folder}/authorized_keys\nPasswordAuthentication no\nKbdInteractiveAuthentication no\n"
@@ -60,7 +66,7 @@ class SftpServer:
     def start(self):
         words = [shutil.which("sshd", path=PATH), "-D", "-f", str(self.folder / "sshd_config"), "-E", str(self.log)]
         if os.geteuid() == 0:
-            for path in (self.folder / "host", self.inbox, self.folder):
+            for path in (self.folder / "host", self.inbox, self.standby, self.folder):
                 shutil.chown(path, self.user)
             users = self.folder / "passwd"
             users.write_text(re.sub(r"(?m)^(nobody:.*:)[^:]*:[^:]*$", rf"\1{self.folder}:/bin/sh", Path("/etc/passwd").read_text()))
@@ -175,7 +181,7 @@ class Bank:
             "sftp": {"host": HOST, "port": self.sftp.port, "user": self.sftp.user, "folder": self.sftp.inbox, "identity": self.sftp.identity,
                      "known_hosts": self.sftp.known_hosts},
             "files": {"desk": self.desk_file, "program": self.program, "proxy_logs": f"{self.proxy.log}*"},
-            "standby": {"to": f"{self.sftp.user}@{HOST}:{self.folder}/operator/standby", "identity": self.sftp.identity, "port": self.sftp.port,
+            "standby": {"to": f"{self.sftp.user}@{HOST}:/", "identity": self.sftp.copy_identity, "port": self.sftp.port,
                         "known_hosts": self.sftp.known_hosts},
             "alarm": {"command": f"sh -c 'cat >> {self.folder}/alarms'"},
             "clock": {"command": ""},
