@@ -24,7 +24,7 @@ DEFAULTS = {
     "repository": {"to": "", "password_file": "repository", "identity": "backup", "known_hosts": "standby_known_hosts", "port": "22",
                    "also": "desk.map",
                    "keep": "--keep-within 35d --keep-monthly 24 --keep-tag cut"},
-    "standby": {"to": "", "identity": "", "known_hosts": "", "port": "22"},
+    "standby": {"to": "", "identity": "standby", "known_hosts": "standby_known_hosts", "port": "22"},
     "metrics": {"file": "/var/lib/prometheus/node-exporter/achdesk.prom"},
     "alarm": {"command": "", "repeat": "60", "unavailable": "30", "acknowledged": "", "received": "", "waiting": "60"},
     "locks": {"wait": "600"},

@@ -5,6 +5,7 @@ from __future__ import annotations
 import http.server
 import json
 import os
+import re
 import sys
 import tempfile
 import threading
@@ -76,6 +77,16 @@ class Configurations(TestCase):
         path.chmod(0o644)
         with self.assertRaisesRegex(Misused, "can be read by others"):
             read_key(str(path))
+
+    def test_the_shipped_file_shows_each_default(self) -> None:
+        shipped = Path(__file__).resolve().parent.parent / "day.conf"
+        told, section = Settings(str(shipped)), ""
+        for line in shipped.read_text().splitlines():
+            if heading := re.fullmatch(r"\[(\w+)\]", line):
+                section = heading[1]
+            if it := re.fullmatch(r"#([a-z_]+) = ?(.*)", line):
+                is_example = it[1] == "to"
+                self.assertEqual("" if is_example else it[2], told[section][it[1]].removeprefix("/etc/achdesk/keys/"), f"[{section}] {it[1]}")
 
     def test_the_shipped_configuration_has_known_settings(self) -> None:
         shipped = Path(__file__).resolve().parent.parent / "day.conf"
