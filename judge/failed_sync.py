@@ -1,17 +1,20 @@
 #!/usr/bin/env python3
-"""Tries a disk that fails a sync and then loses power: `python3 judge/failed_sync.py [PROGRAM]`.
+"""Tries a disk that fails a sync and then loses power: `python3 judge/failed_sync.py [PROGRAM] [PART ..]`.
 
 In a virtual machine with systemd, the desk's file is on a device of the device mapper. While submissions come in, the device
 refuses to write the log's blocks (dm-flakey, error_writes) for a moment. The desk then answers 503 until it is started
 again. After the restart submissions are answered 201; then the power goes: no write reaches the device any more, and the
 file system is mounted anew.
 
-- Control: with the restart alone, 201s that were answered after it are lost. If none is, the try does not show anything.
-- As shipped: achdesk-guard.service finds the desk, raises an alarm, and restarts it, which reads both files again from the
-  device. No 201 is lost, neither one from before the failure nor one from after the restart.
-- The nightly restart reads both files again too.
+- cached: nobody reads again from the device. The restart has neither achdesk-guard, nor the desk's own posix_fadvise, by which it
+  drops the pages of its files whenever it opens them (an LD_PRELOAD takes it away). 201s that were answered after it are lost. If
+  none is, the try does not show anything.
+- alone: the desk is restarted without achdesk-guard. It drops the pages itself, and no 201 is lost.
+- shipped: achdesk-guard.service finds the desk, raises an alarm, and restarts it, which compares both files with the device and drops
+  what differs. No 201 is lost, neither one from before the failure nor one from after the restart.
+- nightly: the nightly restart does so too.
 
-It needs a kernel of Debian, qemu and busybox: see judge/helpers/machine.py. PROGRAM is the built program if it is left out. The status
+It needs a kernel of Debian, qemu, busybox and a C compiler: see judge/helpers/machine.py. PROGRAM is the built program if it is left out. The status
 is 1 if a check failed, and 2 if something is missing, which is named; that is not a pass.
 """
 
@@ -28,6 +31,7 @@ from helpers.running import Checks, program_of
 
 DEVICE, MAPPED = "/dev/vda", "/dev/mapper/desk"
 WARMING, LATER = 400, 12  # submissions before the failure, so that the log begins again, and after the restart
+NO_ADVICE = "int posix_fadvise(int f, long o, long n, int a) { return 0; }\nint posix_fadvise64(int f, long o, long n, int a) { return 0; }\n"
 
 
 # ---- inside the machine
@@ -132,16 +136,44 @@ def with_drop_in(installed, text):
     installed.done("systemctl", "daemon-reload", check=True)
 
 
-def control(installed, checks):
+def later(installed, name):
+    """Submits after the restart, and returns what was answered 201."""
+    return [ref for ref in (f"{name}-{number}" for number in range(LATER)) if installed.submit(ref) == 201]
+
+
+def found_after_power(installed, size):
+    lose_power(installed, size)
+    return after_power(installed)
+
+
+def cached(installed, checks):
+    """What the guard and the desk's open are for: once with each option of the desk."""
+    lost = {}
+    for option in ("once", "twice"):
+        with_drop_in(installed, f"[Service]\nExecStartPre=\nExecStart=\nExecStart=/usr/bin/achdesk serve {installed.DESK} 880 --connections 1000000 --sync {option}\n"
+                     "Environment=LD_PRELOAD=/judge/no_advice.so\n")
+        size, before = new_file_system(installed)
+        checks.that(f"--sync {option}: a failed sync is 503, and so is each call after it", set(fail_a_sync(installed, size)), {503})
+        installed.done("systemctl", "restart", "achdesk")
+        installed.wait_for_desk()
+        answered = later(installed, "CACHED")
+        found = found_after_power(installed, size)
+        lost[option] = sorted({*before, *answered} - (found or set()))
+        print(f"        --sync {option}, read from memory: {len(answered)} answered after the restart, lost: {' '.join(lost[option]) or 'none'}", flush=True)
+        checks.that(f"--sync {option}: the desk went on", len(answered), LATER)
+    with_drop_in(installed, "")
+    checks.that("if nobody reads again from the device, 201s from after the restart are lost", any(it.startswith("CACHED") for it in lost["once"] + lost["twice"]))
+
+
+def alone(installed, checks):
     with_drop_in(installed, "[Service]\nExecStartPre=\n")
     size, before = new_file_system(installed)
-    checks.that("control: a failed sync is 503, and so is each call after it", set(fail_a_sync(installed, size)), {503})
+    checks.that("without the guard a failed sync is 503, and so is each call after it", set(fail_a_sync(installed, size)), {503})
     installed.done("systemctl", "restart", "achdesk")
     installed.wait_for_desk()
-    answered = [ref for ref in (f"AFTER-{number}" for number in range(LATER)) if installed.submit(ref) == 201]
-    lose_power(installed, size)
-    found = after_power(installed) or set()
-    checks.that(f"control: with a restart alone some of {len(answered)} 201s are lost", (len(answered), bool(set(answered) - found)), (LATER, True))
+    answered = later(installed, "ALONE")
+    found = found_after_power(installed, size) or set()
+    checks.that(f"the desk that opens its files drops their pages: none of {len(before) + len(answered)} 201s is lost", (len(answered), sorted({*before, *answered} - found)[:3]), (LATER, []))
     with_drop_in(installed, "")
 
 
@@ -159,11 +191,10 @@ def shipped(installed, checks):
             break
         time.sleep(0.5)
     checks.that("an alarm waits", [("achdesk-guard.service" in it, "answers 503 to a call that needs its file" in it) for it in alarms], [(True, True)])
-    answered = [ref for ref in (f"AFTER-{number}" for number in range(LATER)) if installed.submit(ref) == 201]
+    answered = later(installed, "AFTER")
     installed.done("systemctl", "start", "achdesk-guard.service")
     checks.that("the guard finds nothing now", installed.ended("achdesk-guard.service"), ("success", "0"))
-    lose_power(installed, size)
-    found = after_power(installed)
+    found = found_after_power(installed, size)
     checks.that(f"none of {len(before)} 201s from before the failure is lost", found is not None and sorted(set(before) - found)[:3], [])
     checks.that(f"none of {len(answered)} 201s from after the restart is lost", (len(answered), sorted(set(answered) - (found or set()))), (LATER, []))
 
@@ -173,18 +204,24 @@ def nightly(installed, checks):
     fail_a_sync(installed, size)
     installed.done("systemctl", "start", "achdesk-restart.service")
     installed.wait_for_desk()
-    answered = [ref for ref in (f"NIGHT-{number}" for number in range(LATER)) if installed.submit(ref) == 201]
-    lose_power(installed, size)
-    found = after_power(installed) or set()
+    answered = later(installed, "NIGHT")
+    found = found_after_power(installed, size) or set()
     checks.that(f"after the nightly restart none of {len(before) + len(answered)} 201s is lost", (len(answered), sorted({*before, *answered} - found)[:3]), (LATER, []))
 
 
-def inside():
+PARTS = {it.__name__: it for it in (cached, alone, shipped, nightly)}
+
+
+def inside(words):
     from helpers import installed
     installed.install()
     checks = Checks()
-    for part in (control, shipped, nightly):
-        part(installed, checks)
+    for name in words or PARTS:
+        print(f"---- {name}", flush=True)
+        PARTS[name](installed, checks)
+    if checks.failed:
+        print(installed.done("journalctl", "--no-pager", "-o", "short-monotonic", "-u", "achdesk*")[1][-8_000:])
+        print(installed.done("dmesg")[1][-4_000:])
     print(f"{checks.count} checks, {checks.failed} failed", flush=True)
     sys.exit(1 if checks.failed else 0)
 
@@ -193,18 +230,20 @@ def inside():
 
 def main():
     from helpers import installed, machine
-    lacking = machine.missing() + [package for name, package in (("dmsetup", "dmsetup"), ("mkfs.ext4", "e2fsprogs"), ("filefrag", "e2fsprogs"), ("make", "make")) if not shutil.which(name, path=os.environ["PATH"] + ":/usr/sbin:/sbin")]
+    lacking = machine.missing() + [package for name, package in (("dmsetup", "dmsetup"), ("mkfs.ext4", "e2fsprogs"), ("filefrag", "e2fsprogs"), ("make", "make"), ("cc", "gcc")) if not shutil.which(name, path=os.environ["PATH"] + ":/usr/sbin:/sbin")]
     if lacking:
         print(f"not tried: it needs {', '.join(lacking)}")
         sys.exit(2)
-    program = program_of(sys.argv[1:])
+    words = [it for it in sys.argv[1:] if it in PARTS]
+    program = program_of([it for it in sys.argv[1:] if it not in PARTS])
     with tempfile.TemporaryDirectory(prefix="judge-failed-sync-") as folder:
         installed.tree(Path(folder) / "tree", program)
+        subprocess.run(["cc", "-shared", "-fPIC", "-x", "c", "-", "-o", f"{folder}/no_advice.so"], input=NO_ADVICE, text=True, check=True)
         disk = Path(folder) / "disk"
         with open(disk, "wb") as file:
             file.truncate(192 << 20)
         with machine.Machine(folder, modules=("dm_flakey", "ext4")) as it:
-            printed, status = it.run(f"cd {Path(__file__).resolve().parent} && exec /usr/bin/python3 failed_sync.py --inside\n", 1800, disks=[disk])
+            printed, status = it.run(f"cd {Path(__file__).resolve().parent} && exec /usr/bin/python3 failed_sync.py --inside {' '.join(words)}\n", 3600, disks=[disk])
         print(printed, end="")
         if status is None:
             print("the machine did not end")
@@ -212,4 +251,4 @@ def main():
 
 
 if __name__ == "__main__":
-    inside() if sys.argv[1:] == ["--inside"] else main()
+    inside(sys.argv[2:]) if sys.argv[1:2] == ["--inside"] else main()

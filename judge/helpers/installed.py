@@ -42,14 +42,14 @@ def install(source=Path("/judge/tree")):
     done("systemctl", "daemon-reload", check=True)
 
 
-def make_desk():
-    done("achdesk", "init", DESK, "--odfi", "121042882", "--odfi-name", "OUR BANK", "--destination", "061000146", "--destination-name", "ACH OPERATOR", "--key", KEY,
+def make_desk(path=DESK):
+    done("achdesk", "init", path, "--odfi", "121042882", "--odfi-name", "OUR BANK", "--destination", "061000146", "--destination-name", "ACH OPERATOR", "--key", KEY,
          check=True, user="achdesk")
 
 
-def ask(method, path, body=None, key=KEY, seconds=120):
+def ask(method, path, body=None, key=KEY, seconds=120, port=PORT):
     """Asks the desk, and returns the status and the body, or 0 and the fault."""
-    link = http.client.HTTPConnection(HOST, PORT, timeout=seconds)
+    link = http.client.HTTPConnection(HOST, port, timeout=seconds)
     try:
         link.request(method, path, json.dumps(body).encode() if body is not None else None, {"X-Desk-Key": key, "Connection": "close"})
         answer = link.getresponse()
@@ -60,19 +60,23 @@ def ask(method, path, body=None, key=KEY, seconds=120):
         link.close()
 
 
-def wait_for_desk(seconds=300):
+def wait_for_desk(seconds=300, port=PORT):
     until = time.monotonic() + seconds
     while time.monotonic() < until:
-        if ask("GET", "/ops/status")[0] == 200:
+        if ask("GET", "/ops/status", port=port)[0] == 200:
             return True
         time.sleep(0.3)
     return False
 
 
-def submit(ref, entries=1):
+def status():
+    return json.loads(ask("GET", "/ops/status")[1])
+
+
+def submit(ref, entries=1, day="2025-01-15"):
     """Submits credits, and returns the status of the answer."""
     told = [{"routing": "091000019", "account": "123456789", "kind": "checking", "cents": 100 + at, "id": f"E{at}", "name": "ANN LEE"} for at in range(entries)]
-    return ask("POST", "/c/MILL01/submissions", {"ref": ref, "sec": "PPD", "direction": "credit", "description": "PAYROLL", "day": "2025-01-15", "entries": told}, MILL["key"])[0]
+    return ask("POST", "/c/MILL01/submissions", {"ref": ref, "sec": "PPD", "direction": "credit", "description": "PAYROLL", "day": day, "entries": told}, MILL["key"])[0]
 
 
 def begin_bank():

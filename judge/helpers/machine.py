@@ -114,8 +114,9 @@ class Machine:
         self.loaded = (*MODULES, *modules)
         self.process = None
 
-    def start(self, script, disks=(), words=""):
-        """Starts it with a script in sh, and with disks as /dev/vda and so on, each the path of an image."""
+    def start(self, script, disks=(), words="", clock=None):
+        """Starts it with a script in sh, with disks as /dev/vda and so on, each the path of an image, and with a time of its
+        clock, in UTC."""
         path = self.folder / "script"
         path.write_text("#!/bin/sh\n" + textwrap.dedent(script))
         path.chmod(0o755)
@@ -135,6 +136,7 @@ class Machine:
                    "-append", f"console=ttyS0 quiet no_timer_check panic=1 systemd.unit=judge.target systemd.show_status=false {words}",
                    "-virtfs", f"{share},path=/,mount_tag=root,readonly=on", "-virtfs", f"{share},path={self.folder},mount_tag=judge",
                    "-virtfs", f"{share},path={self.modules.parent},mount_tag=modules,readonly=on"]
+        command += ["-rtc", f"base={clock},clock=vm"] if clock else []
         for disk in disks:
             command += ["-drive", f"file={disk},format=raw,if=virtio,cache=none,aio=threads"]
         self.process = subprocess.Popen(command, stdout=subprocess.DEVNULL, stderr=subprocess.PIPE, text=True)
