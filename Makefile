@@ -28,7 +28,7 @@ modules = $(wildcard clients/python/achdesk.py clients/python/achdesk) $(shell f
 lists = people companies desk
 configurations = $(notdir $(wildcard deploy/achdesk.env deploy/alarm.conf deploy/day.conf deploy/operators.conf))
 snippets = http server
-standby = $(addprefix deploy/standby/,achdesk.res cluster.crm corosync.conf backups.conf alerts.yml)
+standby = $(addprefix deploy/standby/,achdesk.res cluster.crm corosync.conf alerts.yml)
 installed = $(commands:%=$(BIN)/%) $(commands:%=$(SHARE)/man/man1/%.1.gz) $(addprefix $(UNITS)/,$(notdir $(units))) \
     $(DESTDIR)/usr/lib/sysusers.d/achdesk.conf $(DESTDIR)/usr/lib/tmpfiles.d/achdesk.conf
 

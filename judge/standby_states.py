@@ -1,9 +1,11 @@
 #!/usr/bin/env python3
 """The check of a replicated device, `deploy/standby/achdesk-standby`, on texts of /proc/drbd: `python3 judge/standby_states.py`.
 
-The texts are those of DRBD 8.4.11 on Debian 12, in each state that a machine passes through. No machine is needed.
+The texts are those of DRBD 8.4.11 on Debian 12, in each state that a machine passes through. Also: the group of
+`deploy/standby/cluster.crm` has each shipped timer and each folder of the page. No machine is needed.
 """
 
+import re
 import subprocess
 import sys
 import tempfile
@@ -29,6 +31,7 @@ STATES = (
     ("no device", "", None, (0, 0, 0, 0, 0)),
     ("another device alone", " 1: cs:Connected ro:Primary/Secondary ds:UpToDate/UpToDate C r-----", 0, (0, 0, 0, 0, 0)),
 )
+ORDER = ["files", "desk", "proxy", "address", "alarms", "timer"]  # of the kinds of the group's members
 NAMES = ("serving", "connected", "disk_up_to_date", "peer_up_to_date", "behind_bytes")
 
 
@@ -71,8 +74,26 @@ def check_files(checks, folder, proc):
     checks.that("no command", run()[0], 2)
 
 
+def check_group(checks):
+    """What belongs to a desk is on the device, and all that writes to it runs where the device is writable, and nowhere else."""
+    text = (TOP / "deploy" / "standby" / "cluster.crm").read_text().replace("\\\n", " ")
+    primitives = dict(re.findall(r"^primitive (\S+) (\S+)", text, re.M))
+    members = re.search(r"^group bank (.*?) meta ", text, re.M)[1].split()
+    shipped = {it.name for it in (TOP / "deploy").iterdir() if it.suffix in (".service", ".timer", ".path")}
+    units = {name.removeprefix("systemd:") for it, name in primitives.items() if it in members and name.startswith("systemd:")}
+    checks.that("all that has a place of its own is in the group", sorted(set(primitives) - set(members)), ["disk", "fence-desk1", "fence-desk2"])
+    checks.that("units of the group that are not shipped", sorted(it for it in units - {"achdesk", "nginx"} if it not in shipped), [])
+    checks.that("timers and paths that are not in the group", sorted(it for it in shipped - units if not it.endswith(".service")), ["achdesk-day-copy.timer"])
+    page = (TOP / "docs" / "operate" / "standby.md").read_text()
+    folders = re.findall(r"^\| `(/\S+)` \| `(\w+)`:", page, re.M)
+    binds = re.findall(r"device=/srv/achdesk/(\w+) directory=(\S+) fstype=none options=bind", text)
+    checks.that("the folders of the page are those of the group", sorted(binds), sorted((name, folder) for folder, name in folders))
+    checks.that("folders come before the desk, the desk before its timers", [it.split("-")[0] for it in members], sorted((it.split("-")[0] for it in members), key=ORDER.index))
+
+
 def main():
     checks = Checks()
+    check_group(checks)
     with tempfile.TemporaryDirectory() as name:
         check_states(checks, Path(name) / "drbd")
         check_files(checks, Path(name), Path(name) / "drbd")
