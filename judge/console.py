@@ -203,6 +203,10 @@ def many(number, one, more=None):
     return f"{number:,} {one if number == 1 else more or one + 's'}"
 
 
+def records(number):
+    return f"{many(number, 'record')} of entries and addenda"
+
+
 def held_cell(held):
     return f"{dollars(held['cents'])}|{many(held['submissions'], 'submission')}" if held["submissions"] else "none"
 
@@ -256,8 +260,10 @@ def compare_status(bank, what):
     is_off = status["day"] is None or not any(it["due"] or it["lapsing"] for it in status["companies"])
     bank.checks.that(f"{what}: a cut is {'off' if is_off else 'on'}", bank.browser.run("return document.querySelector('#cut button').disabled"), is_off)
     due = sum(sums(status, way)[1] for way in ("credits", "debits"))
-    needed = [f"Needs at least 1 file; {FILES - len(status['files'])} of 36 are left today."] if 0 < due <= 1000 else []
-    bank.checks.that(f"{what}: how many files are needed", bank.lines("#due p")[1], needed)
+    makes = f"A cut makes {many(status['due_files'], 'file')} with {records(status['due_records'])}" if "due_files" in status else "Needs at least 1 file"
+    needed = [f"{makes}; {FILES - len(status['files'])} of 36 are left today."] if 0 < due <= 1000 else []
+    held = [f"Held: {records(status['held_records'])}."] if status.get("held_records") else []
+    bank.checks.that(f"{what}: how many files a cut makes, and what is held", bank.lines("#due p")[1:], [needed, held])
     compare_risks(bank, what)
     return status
 
@@ -681,17 +687,24 @@ def too_many_files(bank):
     bank.open()
     without_timers(bank)
     tally = lambda submissions, cents: {"submissions": submissions, "cents": str(cents)}
-    for what, credits, debits, files, wanted in (
-            ("a thousand and one submissions", (600, 1), (401, 1), 0, "Needs at least 2 files; 36 of 36 are left today."),
-            ("a cent over the total of one file", (1, 10**12), (0, 0), 1, "Needs at least 2 files; 35 of 36 are left today."),
-            ("as much as all files hold", (1, 0), (36_000 - 1, 36 * (10**12 - 1)), 0, "Needs at least 36 files; 36 of 36 are left today."),
-            ("a submission more", (1, 0), (36_000, 5), 0, "Needs at least 37 files; 36 of 36 are left today. A cut would be refused.")):
+    for what, credits, debits, files, more, wanted, held in (
+            ("a thousand and one submissions", (600, 1), (401, 1), 0, (), "Needs at least 2 files; 36 of 36 are left today.", []),
+            ("a cent over the total of one file", (1, 10**12), (0, 0), 1, (), "Needs at least 2 files; 35 of 36 are left today.", []),
+            ("as much as all files hold", (1, 0), (36_000 - 1, 36 * (10**12 - 1)), 0, (), "Needs at least 36 files; 36 of 36 are left today.", []),
+            ("a submission more", (1, 0), (36_000, 5), 0, (), "Needs at least 37 files; 36 of 36 are left today. A cut would be refused.", []),
+            ("a submission, and the desk counts its records", (1, 5), (0, 0), 0, (1, 1, 1), "A cut makes 1 file with 1 record of entries and addenda; 36 of 36 are left today.",
+             ["Held: 1 record of entries and addenda."]),
+            ("more records than one file holds", (150, 5), (0, 0), 3, (2, 150_000, 151_234),
+             "A cut makes 2 files with 150,000 records of entries and addenda; 33 of 36 are left today.", ["Held: 151,234 records of entries and addenda."]),
+            ("more files than are left, as the desk counts them", (9, 5), (0, 0), 3, (34, 9_000, 9_000),
+             "A cut makes 34 files with 9,000 records of entries and addenda; 33 of 36 are left today. A cut would be refused.", ["Held: 9,000 records of entries and addenda."])):
         due = {"credits": tally(*credits), "day": "2025-07-10", "debits": tally(*debits)}
         company = {"due": [due], "held": {"credits": tally(*credits), "debits": tally(*debits)}, "id": "MILL01", "lapsing": 0, "name": "MILL STREET"}
-        status = {"companies": [company], "day": "2025-07-09", "files": list("ABC"[:files]), "holidays": 0, "sent": 0, "suspense": 0}
+        status = {"companies": [company], "day": "2025-07-09", "files": list("ABC"[:files]), "holidays": 0, "sent": 0, "suspense": 0,
+                  **dict(zip(("due_files", "due_records", "held_records"), more))}
         bank.spoils.plans.append(("answer", answer_of(status)))
         bank.refresh()
-        bank.checks.that(f"{what} due: {wanted}", bank.lines("#due p")[1], [wanted])
+        bank.checks.that(f"{what} due: {wanted}", bank.lines("#due p")[1:], [[wanted], held])
     bank.refresh()
 
 
