@@ -214,6 +214,9 @@ def check_names():
     views = set(re.findall(r"CREATE TEMP VIEW (\w+)", text("docs/audit.sql")))
     check("views that docs/audit.sql does not have", sorted(set(re.findall(r"\baudit_\w+", code)) - views), [])
     check("paths that nothing installs", sorted(unknown_paths()), [])
+    # Installed pages keep their places below /usr/share/doc/achdesk.
+    named = {it for path in (TOP / "deploy").rglob("*.py") for it in re.findall(r"/usr/share/doc/achdesk/([\w./-]+\w)", path.read_text())}
+    check("installed pages that programs name and the tree does not have", sorted(it for it in named if not (TOP / it).exists()), [])
 
 
 def unknown_names():

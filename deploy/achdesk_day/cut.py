@@ -81,7 +81,7 @@ def alarm_if_crowded(day: Day, status: Status) -> None:
     files, left = status.due_files, files_left(status)
     if files is not None and (4 * files >= len(MODIFIERS) or files > left):
         day.alarm(f"a cut would make {files} files now; {left} of the day's {len(MODIFIERS)} are left: see A company floods the desk in "
-                  "/usr/share/doc/achdesk/operate/troubleshooting.md", f"crowded on {status.day}")
+                  "/usr/share/doc/achdesk/docs/operate/troubleshooting.md", f"crowded on {status.day}")
 
 
 def send_cut(day: Day, status: Status) -> None:

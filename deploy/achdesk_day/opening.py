@@ -25,7 +25,7 @@ def begin(day: Day) -> None:
     day.say(f"achdesk-day send transmits the files of {first} and later; so far {' '.join(names) or 'none'}")
 
 
-AHEAD = "A desk day cannot be taken back: see The day was set wrong in /usr/share/doc/achdesk/operate/troubleshooting.md"
+AHEAD = "A desk day cannot be taken back: see The day was set wrong in /usr/share/doc/achdesk/docs/operate/troubleshooting.md"
 
 
 def open_day(day: Day) -> None:

@@ -56,7 +56,7 @@ def send_all(day: Day) -> None:
     day.begin(first)
     for name, why in day.unclear():
         day.alarm(f"{name} {why}. It is not transmitted. Compare both, and see A file that the archive or the journal "
-                  "lacks in /usr/share/doc/achdesk/operate/troubleshooting.md")
+                  "lacks in /usr/share/doc/achdesk/docs/operate/troubleshooting.md")
     if lost := day.not_on_desk():
         day.refuse_lost(lost, "transmitting")
     remade = [name for name in waiting if day.was_withheld(name)]
