@@ -4,6 +4,7 @@ import datetime
 import json
 import shutil
 
+from helpers.page_users import NUMBERS, PERSON, settle
 from helpers.returned import file_of_returns
 from helpers.running import MILL_KEY, OPERATOR_KEY, TOP, make_desk, message, run
 
@@ -72,6 +73,7 @@ def prepare(room, steps):
             ask(room, STEPS[step])
         else:
             OTHERS[step](room)
+        settle(room.folder)
 
 
 def ask(room, messages):
@@ -93,7 +95,9 @@ def make_inbox(room):
 
 
 DAY_PROGRAM = """#!/bin/sh
-# The time is the page's, and the configuration names the room's folders.
+# A person runs it as its own user, which the pages leave out. The time is the page's, and the configuration names the room's
+# folders.
+[ "$(id -u)" != {person} ] || exec sudo -u achdesk-day achdesk-day "$@"
 ACHDESK_DAY_NOW=${{ACHDESK_DAY_NOW-2025-01-14T08:30:00-05:00}}
 export ACHDESK_DAY_NOW ACHDESK_DAY_PERSON=alice
 command=$1
@@ -106,7 +110,7 @@ exec /usr/bin/sftp -b - -D "/usr/lib/openssh/sftp-server -d {room}/ach-operator"
 """
 DAY_CONF = """[desk]
 url = {address}
-key_file = {room}/operator.key
+key_file = {room}/etc/day.key
 [folders]
 state = {room}/var/lib/achdesk-day
 backups = {room}/var/lib/achdesk-backup
@@ -132,7 +136,7 @@ proxy_logs = {room}/var/log/achdesk/proxy.log*
 
 def put_day_command(room):
     """Installs `achdesk-day` in the folder."""
-    names = {"top": TOP, "room": room.folder, "address": room.address}
+    names = {"top": room.tree, "room": room.folder, "address": room.address, "person": NUMBERS[PERSON]}
     (room.folder / "ach-operator").mkdir()
     (room.folder / "etc/achdesk/day.conf").write_text(DAY_CONF.format(**names))
     for name, text in (("achdesk-day", DAY_PROGRAM), ("sftp", SFTP)):
@@ -149,6 +153,7 @@ def put_day_program(room):
     acknowledgement.write_text("file,batches,entries,debits,credits\n2025-01-09-A,1,1,2500,0\n")
     for command in ("achdesk-day begin 2025-01-09", "achdesk-day holidays tmp/holidays.csv --replace-unknown", "achdesk-day send",
                     "achdesk-day ack tmp/ack.csv"):
+        settle(room.folder)
         said, status = room.shell(f"ACHDESK_DAY_NOW=2025-01-09T15:00:00-05:00 {command}")
         if status != 0:
             raise RuntimeError(f"{command}: {said}")
@@ -178,7 +183,7 @@ def make_folders(room):
 
 
 def back_up(room):
-    said, status = room.shell("achdesk-day backup")
+    said, status = room.shell("sudo -u achdesk-backup achdesk-day backup")
     if status != 0:
         raise RuntimeError(f"achdesk-day backup: {said}")
 
