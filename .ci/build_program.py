@@ -9,7 +9,12 @@ stays in out/ of the program's crate, also if a run is interrupted: the next run
 changed and what uses that.
 
 Progress is the share of the expected work that is done, and the time for the rest at the pace of this machine:
-one line that is drawn again on a terminal, and a line for each crate in a pipe.
+one line that is drawn again on a terminal, and a line for each crate in a pipe. Expected are the seconds that each
+crate took when they were measured; a whole run measures them again, and this keeps them:
+
+    cp crates/achdesk/out/seconds.txt .ci/seconds.txt
+
+RT_JOBS is the number of cores that are used, by default all.
 """
 
 import hashlib
@@ -21,13 +26,16 @@ import time
 from concurrent.futures import FIRST_COMPLETED, ThreadPoolExecutor, wait
 from pathlib import Path
 
-from progress import Progress, Screen, time_text
+from progress import Progress, Screen, speed_of, time_text
 
 TOP = Path(__file__).resolve().parent.parent
 CRATES = TOP / "crates"
 PROGRAM = "achdesk"
 OUT = CRATES / PROGRAM / "out"
 LIBRARIES = OUT / "libraries"
+# Of each crate the seconds that one core takes for its proof and its library: those that are expected, and those of the
+# last run here.
+EXPECTED, MEASURED = TOP / ".ci" / "seconds.txt", OUT / "seconds.txt"
 # The Rattle toolchain lies where its command does.
 KIT = Path(shutil.which("rattle") or "no toolchain/bin/rattle").resolve().parent.parent
 
@@ -70,10 +78,25 @@ def chains_above(below, uses):
 
 
 def work_of(crate, below, uses):
-    """Returns roughly how many seconds a crate's proof takes: those of its lines, and of what it loads of the toolchain."""
+    """Returns how many seconds a crate is expected to take. One that was never measured is guessed by its lines and by what
+    it loads of the toolchain."""
+    if (seconds := seconds_in(EXPECTED).get(crate)) is not None:
+        return seconds
     lines = sum(it.read_bytes().count(b"\n") for it in (CRATES / crate / "src").rglob("*.rt"))
     loaded = {it for name in (crate, *below) for it in uses[name]} - uses.keys()
-    return lines / 6 + 5 * len(loaded)
+    return lines / 10 + 3 * len(loaded)
+
+
+def seconds_in(table):
+    """Returns the seconds of each crate that a file has."""
+    lines = table.read_text().splitlines() if table.is_file() else []
+    return {name: int(seconds) for name, seconds in (it.split() for it in lines)}
+
+
+def keep_seconds(crate, seconds):
+    """Keeps how many seconds of one core a crate took."""
+    kept = seconds_in(MEASURED) | {crate: max(round(seconds), 1)}
+    MEASURED.write_text("".join(f"{name} {it}\n" for name, it in sorted(kept.items())))
 
 
 def sum_of(crate, below, uses):
@@ -125,14 +148,20 @@ def is_kept(crate, below, uses):
 
 
 def make(crate, below, uses, jobs, rank):
-    """Proves and builds a crate, and returns whether it is done. It gives way to those of lower rank."""
-    total = sum_of(crate, below, uses)
+    """Proves and builds a crate, and returns how many seconds of one core that took, or None if it is not done. It gives way
+    to those of lower rank."""
+    total, spent = sum_of(crate, below, uses), 0
     proof_of(crate).unlink(missing_ok=True)
-    is_made = all(run(["nice", "-n", 5 * rank, *it], crate) for it in commands_of(crate, uses, jobs))
+    for command in commands_of(crate, uses, jobs):
+        seconds = run(["nice", "-n", 5 * rank, *command], crate)
+        if seconds is None:
+            return None
+        spent += seconds
     # What changed while it was proved is proved again by the next run.
-    if is_made and total == sum_of(crate, below, uses):
-        proof_of(crate).write_text(total)
-    return proof_of(crate).is_file()
+    if total != sum_of(crate, below, uses):
+        return None
+    proof_of(crate).write_text(total)
+    return spent * speed_of(jobs) / jobs
 
 
 def log_of(crate):
@@ -140,10 +169,14 @@ def log_of(crate):
 
 
 def run(words, crate):
-    """Returns whether a command ends well. It keeps the lock of this run, so that no other begins while it still works."""
+    """Returns how many seconds processors worked for a command, or None if it fails. It keeps the lock of this run, so that
+    no other begins while it still works."""
     with open(log_of(crate), "w") as out:
         how = {"cwd": CRATES / crate, "stdin": subprocess.DEVNULL, "stdout": out, "stderr": out, "close_fds": False}
-        return subprocess.run([str(it) for it in words], **how).returncode == 0
+        process = subprocess.Popen([str(it) for it in words], **how)
+        _, status, used = os.wait4(process.pid, 0)
+    process.returncode = os.waitstatus_to_exitcode(status)
+    return None if process.returncode else used.ru_utime + used.ru_stime
 
 
 def progress_of(below, uses, cores):
@@ -181,23 +214,36 @@ def prove_all(below, uses, cores, progress=None):
     return is_fine
 
 
-def end(progress, crate, is_done):
-    """Counts a crate that has ended, reports it, and returns whether it is done."""
+def end(progress, crate, spent):
+    """Counts a crate that has ended, reports it, and returns whether it is done: then it has spent seconds."""
     now = time.monotonic()
     seconds = now - progress.running[crate][0]
-    progress.end(crate, is_done, now)
-    return told(progress, crate, is_done, seconds)
+    progress.end(crate, spent is not None, now)
+    if spent is not None:
+        keep_seconds(crate, spent)
+    return told(progress, crate, spent is not None, seconds)
+
+
+def cores_to_use():
+    """Returns how many cores are used, by RT_JOBS if it is set; None if that is not a number of cores."""
+    cores, told = len(os.sched_getaffinity(0)), os.environ.get("RT_JOBS", "")
+    if not told:
+        return cores
+    return min(int(told), cores) if told.isascii() and told.isdigit() and int(told) else None
 
 
 def main():
-    start, cores, uses = time.monotonic(), len(os.sched_getaffinity(0)), uses_of_crates()
+    start, cores, uses = time.monotonic(), cores_to_use(), uses_of_crates()
     below = crates_below(uses, PROGRAM)
+    if cores is None:
+        say(f"RT_JOBS is a number of cores, and not '{os.environ['RT_JOBS']}'")
+        return 1
     if not (KIT / "KIT-ID").is_file():
         say("it is proved and built first, and that needs the Rattle toolchain: its command rattle is not on the PATH")
         return 1
     LIBRARIES.mkdir(parents=True, exist_ok=True)
     progress = progress_of(below, uses, cores)
-    say(f"{len(below)} crates are proved and the program is built first, on {cores} cores; {time_text(progress.seconds_left(start))} if this machine "
+    say(f"{len(below)} crates are proved and the program is built first, on {cores} core{'s' if cores > 1 else ''}; {time_text(progress.seconds_left(start))} if this machine "
         "is as fast as the one where that was measured")
     say("./try runs any command that does not open a desk file sooner, with nothing proved")
     if progress.count():

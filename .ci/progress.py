@@ -5,8 +5,8 @@ import shutil
 import sys
 
 # The pace that is assumed until crates are done, in expected seconds of work that one core does in a second, and how much
-# work that assumption counts for: that of a machine where a first use took 19 minutes on four cores.
-FIRST_PACE, FIRST_WORK = 1.75, 100
+# work that assumption counts for: that of the machine where the seconds were measured.
+FIRST_PACE, FIRST_WORK = 1, 20
 # A crate that takes longer than expected is shown as almost done.
 ALMOST = 0.95
 
