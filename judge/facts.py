@@ -264,7 +264,7 @@ def check_tables():
     page = text("docs/audit/tables.md")
     found, nulls = {}, {}
     for name, part in re.findall(r"^\*\*`(\w+)`\*\*(.*?)(?=^\*\*`|^## )", page, re.M | re.S):
-        rows = re.findall(r"^\| (`[^|]*) \| (.*) \|$", part, re.M)
+        rows = re.findall(r"^- (`\w+`(?:, `\w+`)*): (.*)$", part, re.M)
         found[name] = [column for cell, _ in rows for column in re.findall(r"`(\w+)`", cell)]
         nulls[name] = [column for cell, said in rows for column in re.findall(r"`(\w+)`", cell) if re.search(r"NULL", said) or said.endswith("else NULL.")]
     check("tables.md: tables and columns", found, {name: [it.partition(":")[0] for it in row] for name, row in tables.items()})
@@ -414,9 +414,9 @@ NUMBERS = (
     ("README.md", r"has sent at most ([\d,]+) entries", "traces"),
     ("docs/audit/assurance.md", r"has sent at most ([\d,]+) entries", "traces"),
     ("docs/PROVED.md", r"at most ([\d,]+) entries sent", "traces"),
-    ("docs/audit/tables.md", r"`version` \| The version of these tables, (\d)", "file version"),
+    ("docs/audit/tables.md", r"`version`: the version of these tables, (\d)", "file version"),
     ("docs/audit/tables.md", r"After ([\d,]+) the sequences", "traces"),
-    ("docs/audit/tables.md", r"`sequence` \| The sequence, 1 to ([\d,]+)", "traces"),
+    ("docs/audit/tables.md", r"`sequence`: the sequence, 1 to ([\d,]+)", "traces"),
     ("docs/audit/tables.md", r"lie between (2\d{3}-\d\d-\d\d)", "first desk day"),
     ("docs/audit/tables.md", r"lie between \S+ and (2\d{3}-\d\d-\d\d)", "last day of a rule"),
     ("docs/operate/capacity.md", r"Files of one desk day \| (\d+)", "files of a day"),
