@@ -564,7 +564,7 @@ def check_numbers():
     examples = re.findall(r"```rust\n(.*?)```", text("docs/integrate/library.md"), re.S)
     source = text("crates/documented_examples/src/library.rt")
     check("library.md: examples that the gate does not run", [it for it in examples if it not in source], [])
-    tasks = re.findall(r"^\| (?!\*\*|Task|---|Page|\[)[^|]+ \| \[", text("docs/operate/README.md"), re.M)
+    tasks = re.findall(r"^- \[", text("docs/operate/README.md"), re.M)
     check("operate/README.md: tasks", len(tasks), 25)
 
 
