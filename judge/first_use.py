@@ -3,8 +3,8 @@
 A copy of the repository is built by a toolchain of which the prover sleeps and writes an empty library, so that a first use
 takes seconds. In a pipe there must be a line for each crate, on a terminal one line that is drawn again; an interrupt and a
 crate that fails must say what is kept, and the next run must prove only the rest. The arithmetic is tried apart, on machines
-of several paces: the time that is announced must be within a fifth of what the rest then takes, and within a third if crates
-take 0.6 to 1.6 times as long as expected. The last line counts the checks; the status is 1 where one failed. It takes a minute.
+of several paces and with crates that take 0.6 to 1.6 times as long as expected: after a tenth of the time what is announced
+must be within a third of what the rest then takes. The last line counts the checks; the status is 1 where one failed. It takes a minute.
 """
 
 import os
@@ -160,8 +160,8 @@ def paces(checks):
             now = running.pop(crate)
             progress.end(crate, True, now)
             announced[now] = progress.seconds_left(now)
-        off = max(abs(left - (now - at)) / (now - at) for at, left in announced.items() if 0.3 < at / now < 0.9)
-        checks.that(f"pace {pace}, {cores} cores, {now / 60:.0f} minutes, crates take {least} to {most} times as long: {off:.0%} off", off < (0.2 if least == most else 0.33))
+        off = max(abs(left - (now - at)) / (now - at) for at, left in announced.items() if 0.1 < at / now < 0.9)
+        checks.that(f"pace {pace}, {cores} cores, {now / 60:.0f} minutes, crates take {least} to {most} times as long: {off:.0%} off", off < 1 / 3)
     checks.that("times in words", [time_text(it) for it in (0, 59, 60, 61, 120, 121, 3_600)],
                 ["about a minute", "about a minute", "about a minute", "about 2 minutes", "about 2 minutes", "about 3 minutes", "about 60 minutes"])
     progress = Progress({"a": 100, "b": 300}, {"a": set(), "b": {"a"}}, {"a": 400, "b": 300}, 1, {"a"})
