@@ -33,7 +33,7 @@ GENERATED = TOP / "docs/integrate/api.md"
 REFERENCE = (GENERATED, TOP / "docs/integrate/codes.md")
 NAMED = re.compile(r"`((?:judge|bench|crates|deploy|clients|console|examples|docs|\.ci)/[\w./@-]+)`")
 INSTALLED = re.compile(r"/(?:etc/achdesk|etc/nginx|usr/bin|usr/share/achdesk|usr/share/doc/achdesk|var/log/achdesk)(?:/[\w-][\w.-]*)*\b")
-MOST_README, MOST_WORDS, MOST_HABITS = 700, 25_000, 6.0
+MOST_README, MOST_WORDS, MOST_HABITS = 700, 17_500, 6.0
 failed, count = 0, 0
 
 
