@@ -31,9 +31,13 @@ def federal_reserve_holidays(year: int) -> list[datetime.date]:
     return sorted(days + [nth_weekday(year, *it) for it in floating])
 
 
+def are_years(words: list[str]) -> bool:
+    return len(words) == 2 and all(re.fullmatch(r"20\d\d", it) for it in words)
+
+
 def listed_holidays(words: list[str]) -> list[datetime.date]:
     """Returns the days of the list that the words name: two years, or a file."""
-    if len(words) == 2 and all(re.fullmatch(r"20\d\d", it) for it in words):
+    if are_years(words):
         return [it for year in range(int(words[0]), int(words[1]) + 1) for it in federal_reserve_holidays(year)]
     if len(words) != 1:
         raise Misused("holidays takes two years of this century, FROM TO, or a FILE with a date in each line")
@@ -62,13 +66,22 @@ def known_lists(day: Day) -> list[list[str]]:
     return lists + [[]]
 
 
+def near_before(known: list[list[str]], today: datetime.date, first: datetime.date) -> list[datetime.date]:
+    """Returns the days of lists that are near and before a first day, as those of the last months are in January."""
+    days = {date_of(it) for old in known for it in old}
+    return sorted(it for it in days if it < first and abs(it - today).days <= NEAR_DAYS)
+
+
 def holidays(day: Day) -> None:
-    """Sets the desk's list of holidays, unless it drops a near day or the list that the desk has is unknown."""
+    """Sets the desk's list of holidays, unless it drops a near day or the list that the desk has is unknown. To years the
+    near days of the present list before them are added."""
     days = listed_holidays(day.words.list)
+    status, known, today = day.desk_status(), known_lists(day), day.local_now().date()
+    if are_years(day.words.list) and days:
+        days = near_before(known, today, days[0]) + days
     new = [str(it) for it in days]
     if len(new) > MOST_HOLIDAYS:
         raise Misused(f"the list has {len(new)} days, and a desk takes {MOST_HOLIDAYS}")
-    status, known, today = day.desk_status(), known_lists(day), day.local_now().date()
     if status.holidays not in map(len, known) and not day.words.replace_unknown:
         raise Refused(f"the desk has {status.holidays} holidays, and the journal does not say which. "
                       "Look at the list, and replace it by --replace-unknown")

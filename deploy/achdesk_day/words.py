@@ -30,7 +30,7 @@ list of holidays that ends within 60 days, and waits until the clock is synchron
 numbers."""),
     "holidays": ("set the list of holidays", """
 Sets the holidays of the Federal Reserve of the years FROM to TO, or those of a FILE with one date YYYY-MM-DD in each
-line, ascending. The list takes the place of the desk's. Refuses to drop a day within 60 days of today, and to replace
+line, ascending. The list takes the place of the desk's; of its days before FROM those within 60 days stay. Refuses to drop a day within 60 days of today, and to replace
 a list that the journal does not have. At most 400 days."""),
     "fetch": ("get incoming files from the ACH operator", """
 Gets each file of [fetch] folder on the ACH operator's SFTP server into the inbox: under a temporary name, whole, and

@@ -65,6 +65,13 @@ class Holidays(TestCase):
         shorter.write_text("2025-05-26\n")
         self.does("holidays", str(shorter), status=1, says="drops days within 60 days of today: 2025-01-01 2025-01-20")
 
+    def test_in_january_the_days_of_the_last_two_months_stay(self) -> None:
+        self.does("holidays", "2025", "2026")
+        self.bank.at(datetime.date(2026, 1, 12))
+        said = self.does("holidays", "2026", "2027", says="21 holidays, from 2025-11-27 to 2027-11-25")
+        self.assertIn("no longer in the list: 2025-01-01", said)
+        self.does("holidays", "2026", "2027", says="21 holidays")
+
     def test_an_unknown_list_is_not_replaced(self) -> None:
         self.bank.desk.holidays = 3
         self.does("holidays", "2025", "2026", status=1, says="the desk has 3 holidays")
