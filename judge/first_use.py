@@ -62,17 +62,17 @@ class Copy:
             (self.kit / "bin" / name).chmod(0o755)
         self.total = len(build.crates_below(build.uses_of_crates(), build.PROGRAM))
 
-    def environment(self, fails=""):
-        return {**os.environ, "PATH": f"{self.kit}/bin:{os.environ['PATH']}", "FAILS": fails, "TERM": "xterm", "COLUMNS": "120"}
+    def environment(self, fails="", jobs=""):
+        return {**os.environ, "PATH": f"{self.kit}/bin:{os.environ['PATH']}", "FAILS": fails, "RT_JOBS": jobs, "TERM": "xterm", "COLUMNS": "120"}
 
-    def begin(self, fails="", errors=subprocess.PIPE):
+    def begin(self, fails="", errors=subprocess.PIPE, jobs=""):
         (self.kit / "bin" / "asked").write_text("")
-        return subprocess.Popen([self.top / "achdesk", "--version"], env=self.environment(fails), stdin=subprocess.DEVNULL, stdout=subprocess.PIPE, stderr=errors,
+        return subprocess.Popen([self.top / "achdesk", "--version"], env=self.environment(fails, jobs), stdin=subprocess.DEVNULL, stdout=subprocess.PIPE, stderr=errors,
                                 text=True, start_new_session=True)
 
-    def run(self, fails=""):
+    def run(self, fails="", jobs=""):
         """What it prints, on standard output and on standard error, and its status."""
-        process = self.begin(fails)
+        process = self.begin(fails, jobs=jobs)
         printed, errors = process.communicate(timeout=300)
         return printed, errors, process.returncode
 
@@ -122,6 +122,17 @@ def failed(checks, copy):
     printed, errors, status = copy.run(fails="desk_http")
     checks.that("a crate that fails is named with its log", (f"achdesk: desk_http is not done: see {copy.top}/crates/achdesk/out/desk_http.log" in errors, printed, status), (True, "", 3))
     checks.that("and what is kept is told", KEPT.search(errors) is not None)
+
+
+def with_jobs(checks, copy):
+    """RT_JOBS is the number of cores."""
+    touch(copy, "http_routes")
+    printed, errors, status = copy.run(jobs="two")
+    checks.that("RT_JOBS that is no number is refused", ("achdesk: RT_JOBS is a number of cores, and not 'two'" in errors, printed, status), (True, "", 3))
+    printed, errors, status = copy.run(jobs="1")
+    checks.that("with RT_JOBS=1 one core is used", (" on 1 core; about " in errors, printed, status), (True, "proved\n", 0))
+    kept = dict(it.split() for it in (copy.top / "crates/achdesk/out/seconds.txt").read_text().splitlines())
+    checks.that("the seconds of each crate are kept for the next table", len(kept), copy.total)
 
 
 def on_a_terminal(checks, copy):
@@ -178,6 +189,7 @@ def main():
         in_a_pipe(checks, copy)
         interrupted(checks, copy)
         failed(checks, copy)
+        with_jobs(checks, copy)
         on_a_terminal(checks, copy)
     checks.end()
 
