@@ -105,8 +105,8 @@ shift
 exec python3 {top}/judge/helpers/day_for_judges.py "$command" --config {room}/etc/achdesk/day.conf "$@"
 """
 SFTP = """#!/bin/sh
-# OpenSSH's client and server, connected by a pipe in place of SSH.
-exec /usr/bin/sftp -b - -D "/usr/lib/openssh/sftp-server -d {room}/ach-operator"
+# OpenSSH's client and server, connected by a pipe in place of SSH, as root: they want a user that has a name.
+exec sudo /usr/bin/sftp -b - -D "/usr/lib/openssh/sftp-server -d {room}/ach-operator"
 """
 DAY_CONF = """[desk]
 url = {address}
