@@ -183,7 +183,9 @@ def make_folders(room):
 
 
 def back_up(room):
-    said, status = room.shell("sudo -u achdesk-backup achdesk-day backup")
+    """Makes the repository, with a password of its user, and a backup."""
+    said, status = room.shell("umask 077\nopenssl rand -base64 30 > /etc/achdesk/keys/repository\nsudo chown achdesk-backup:achdesk-backup /etc/achdesk/keys/repository\n"
+                              "sudo -u achdesk-backup achdesk-day backup --init\nsudo -u achdesk-backup achdesk-day backup", "root")
     if status != 0:
         raise RuntimeError(f"achdesk-day backup: {said}")
 
