@@ -168,7 +168,7 @@ def put_keys(room):
         path.chmod(0o600)
     (room.folder / ".achdesk-key").write_text(f"{MILL_KEY}\n")
     (room.folder / ".achdesk-key").chmod(0o600)
-    (room.folder / "bin/achdesk-company").symlink_to(TOP / "clients/achdesk-company")
+    (room.folder / "bin/achdesk-company").symlink_to(room.tree / "clients/achdesk-company")
 
 
 def copy_desk(room):
