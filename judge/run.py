@@ -62,6 +62,7 @@ JUDGES = (
     Judge("statuses"),
     Judge("standby_states", takes_program=False),
     Judge("texts", takes_program=False),
+    Judge("house_counts", ("--check",), takes_program=False),
     Judge("first_use", takes_program=False),
     Judge("clients", (), ("curl",)),
     Judge("sent_first", (), ("curl",)),

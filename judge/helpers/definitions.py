@@ -283,7 +283,7 @@ class Tree:
                     continue
                 meant = self.resolve(module, word)
                 if meant is None and first not in left:
-                    raise Unknown(f"{own.path.relative_to(TOP)}:{own.first}: {own.name}: {word} is not defined")
+                    raise Unknown(f"{own.path.relative_to(self.crates.parent)}:{own.first}: {own.name}: {word} is not defined")
                 if meant is not None and meant != own:
                     found.add(meant)
             found |= self.operators(module, text) - {own}
