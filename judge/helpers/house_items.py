@@ -3,7 +3,7 @@
 from pathlib import Path
 
 from helpers.house_functions import CLOSED, OPENING, TOKEN, UNKNOWN, File, Function, Generics, Type, stripped
-from helpers.house_tree import House, code_of
+from helpers.house_tree import House, NoCheckout, code_of
 
 
 class Items:
@@ -16,6 +16,8 @@ class Items:
 
     def word(self, ahead: int = 0) -> str:
         place = self.at + ahead
+        if place > len(self.words) + 2:
+            raise IndexError
         return self.words[place] if place < len(self.words) else ""
 
     def take(self, word: str = "") -> bool:
@@ -284,5 +286,8 @@ def read_file(house: House, path: Path) -> File:
     parts = path.relative_to(house.crates / house.crate(path) / "src").with_suffix("").parts
     module = "" if parts in (("lib",), ("main",)) else "::".join(parts[:-1] if parts[-1] == "mod" else parts)
     file = File(path, house.crate(path), module)
-    Items(file, code_of(path)).items()
+    try:
+        Items(file, code_of(path)).items()
+    except IndexError as fault:
+        raise NoCheckout(f"{path}: its items cannot be read") from fault
     return file

@@ -270,8 +270,7 @@ class Body(Statements):
     def method(self, kind: Type, name: str, args: list[Type]) -> Type:
         """Enters a method of a type, and returns the type of its result."""
         owns = self.world.methods.get((kind.name, name), [])
-        if len(owns) > 1:
-            owns = [it for it in owns if not it.trait] or owns
+        owns = [it for it in owns if not it.trait] or owns
         for own in owns:
             self.enter(own)
         if owns:

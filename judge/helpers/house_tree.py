@@ -35,7 +35,7 @@ class Clause:
 
 
 class NoCheckout(Exception):
-    """A folder that has no crates."""
+    """A folder that has no crates, or whose code cannot be read."""
 
 
 class House:

@@ -101,7 +101,11 @@ class Walking:
 
     def calls(self, own: Function) -> Calls:
         is_remembering = own.crate in STORES[:-1]
-        return Body(self.world, own, self.is_taken, lambda words: is_remembering and is_found(words)).read()
+        body = Body(self.world, own, self.is_taken, lambda words: is_remembering and is_found(words))
+        try:
+            return body.read()
+        except IndexError as fault:
+            raise NoCheckout(f"{own.path}:{own.line}: the body of {own.name} cannot be read") from fault
 
     def is_taken(self, kind: str, variant: str, asked: tuple[str, ...]) -> bool:
         """Tells whether a pattern's variant is taken of the value of an expression."""
