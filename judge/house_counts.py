@@ -86,7 +86,7 @@ def main() -> int:
     parser.add_argument("--json", action="store_true", help="prints the counts as JSON")
     parser.add_argument("--compare", metavar="TREE", help="another checkout or revision, for a second column")
     parser.add_argument("--repeats", metavar="PROGRAM", default="",
-                        help="a program that, in a checkout, prints the number of pairs of places that repeat; it takes a minute")
+                        help="a program that, in a checkout, prints the number of pairs of places that repeat; it takes a minute, or five on a busy machine")
     parser.add_argument("--check", action="store_true", help="tries the counts on small trees that are made up for it, and ends")
     given = parser.parse_args()
     if given.check:

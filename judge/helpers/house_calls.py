@@ -93,7 +93,7 @@ class Statements(Items):
         return self.operators(self.postfix(kind)) if self.word() in (".", "?") else kind
 
     def skip_item(self) -> None:
-        while self.word() not in ("{", ";"):
+        while self.word() not in ("{", ";", ""):
             self.at += 1
         if self.word() == "{":
             self.skip_group()
@@ -168,7 +168,7 @@ class Statements(Items):
         if name in BUILT and len(names) == 1:
             args = kind.args or (UNKNOWN, UNKNOWN)
             return {"0": args[-1] if name == "Err" else args[0]}, self.is_taken(BUILT[name], name, self.asked)
-        owner = self.owner.name if names[0] == "Self" else self.world.key(self.home, "::".join(names[:-1])) if len(names) > 1 else self.world.key(self.home, name)
+        owner = self.owner.name if names[0] == "Self" else self.world.key(self.home, "::".join(names[:-1] or names))
         known = kind if kind.name == owner else Type(owner)
         if len(names) > 1 and self.world.is_variant(owner, name):
             return self.world.fields(known, name), self.is_taken(owner, name, self.asked)

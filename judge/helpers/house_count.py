@@ -78,13 +78,21 @@ def walked(house: House, walk: Walk) -> list[Row]:
 
 
 def repeated(house: House, program: str) -> Row:
-    """Counts what is written twice by a program that prints the number of pairs first, and runs inside the checkout."""
+    """Counts what is written twice by a program that runs inside the checkout, takes `--most ROWS` and `--seconds BOUND`, and prints
+    the number of pairs first. A busy machine may not get to the end."""
     title = "pairs of places that repeat"
     if not program:
         return Row("repeats", f"{title}: not counted, since --repeats names no program", None)
-    ran = subprocess.run([program, "--most", "1"], cwd=house.top, capture_output=True, text=True, check=False)
-    first = ran.stdout.split(" ", 1)[0]
-    return Row("repeats", title if first.isdigit() else f"{title}: not counted: {(ran.stdout + ran.stderr).strip()[:80]}", int(first) if first.isdigit() else None)
+    try:
+        ran = subprocess.run([program, "--most", "1", "--seconds", "600"], cwd=house.top, capture_output=True, text=True, check=False)
+    except OSError as fault:
+        return Row("repeats", f"{title}: not counted: {fault}", None)
+    first, printed = ran.stdout.split(" ", 1)[0], ran.stdout + ran.stderr
+    left = [line for line in printed.splitlines() if line.startswith("incomplete")]
+    if first.isdigit() and not left:
+        return Row("repeats", title, int(first))
+    why = left[0] if left else " ".join(printed.split())[:80] or "the program printed nothing"
+    return Row("repeats", f"{title}: not counted: {why}", None)
 
 
 def items_of(house: House, name: str) -> list[Item]:

@@ -16,15 +16,20 @@ class Items:
 
     def word(self, ahead: int = 0) -> str:
         place = self.at + ahead
-        if place > len(self.words) + 2:
-            raise IndexError
         return self.words[place] if place < len(self.words) else ""
 
     def take(self, word: str = "") -> bool:
+        """Takes a word if it comes next. Behind the last one nothing is expected."""
+        if self.at >= len(self.words):
+            raise IndexError
         if word and self.word() != word:
             return False
         self.at += 1
         return True
+
+    def take_if(self, word: str) -> None:
+        """Takes a word that may come next, or nothing at the end."""
+        self.at += self.word() == word
 
     def skip_group(self) -> tuple[int, int]:
         """Skips a bracketed group, and returns where its inside begins and ends."""
@@ -60,7 +65,7 @@ class Items:
             elif word == "{":
                 self.at -= 1
                 self.skip_group()
-        self.take("}")
+        self.take_if("}")
 
     def read_use(self, head: tuple[str, ...]) -> None:
         path = head
@@ -88,14 +93,14 @@ class Items:
         self.skip_where()
         if kind == "struct":
             self.file.fields[name] = self.fields()
-            self.take(";")
+            self.take_if(";")
             return
         self.take("{")
         self.file.fields[name] = {}
         while not self.take("}"):
             variant, _ = self.word(), self.take()
             self.file.fields[f"{name}::{variant}"] = self.fields()
-            while self.word() not in (",", "}"):
+            while self.word() not in (",", "}", ""):
                 self.at += 1
             self.take(",")
 
@@ -167,9 +172,10 @@ class Items:
         if self.word() == "{":
             first, last = self.skip_group()
             body = tuple(self.words[first - 1 : last + 1])
-        self.take(";")
+        self.take_if(";")
         of = owner.name if owner != UNKNOWN else ""
-        self.file.functions.append(Function(self.file.path, line, self.file.crate, self.file.module, name, of, trait, generics + own, params, result, owner, body))
+        file = self.file
+        file.functions.append(Function(file.path, line, file.crate, file.module, name, of, trait, generics + own, params, result, owner, body))
 
     def params(self, owner: Type) -> tuple[tuple[tuple[str, ...], Type], ...]:
         found: list[tuple[tuple[str, ...], Type]] = []

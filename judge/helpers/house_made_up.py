@@ -3,8 +3,8 @@
 import tempfile
 from pathlib import Path
 
-from helpers.house_count import counted, items_of
-from helpers.house_tree import House
+from helpers.house_count import counted, items_of, repeated
+from helpers.house_tree import House, NoCheckout
 from helpers.running import Checks
 
 WORDS = {
@@ -229,6 +229,14 @@ def made(top: str, files: dict[str, str]) -> House:
     return House(Path(top))
 
 
+def is_refused(house: House) -> bool:
+    try:
+        items_of(house, "cut")
+    except NoCheckout as fault:
+        return "two/src/lib.rt" in str(fault)
+    return False
+
+
 def check() -> None:
     """Tries the counts, prints how each check ended, and ends the program."""
     checks = Checks()
@@ -241,5 +249,12 @@ def check() -> None:
                 checks.that(row.title, (row.number or 0) - before[row.name], COUNTED[row.name])
         checks.that("the walk of a submission", sorted(it.text for it in items_of(walked, "submission")), SUBMITTED)
         checks.that("the walk of a cut", sorted(it.text for it in items_of(walked, "cut")), CUT)
+        for text, wanted in (("12 pairs", 12), ("12 pairs\nincomplete: time", None), ("none", None)):
+            program = Path(top) / "repeats"
+            program.write_text(f"#!/bin/sh\ncat <<END\n{text}\nEND\n")
+            program.chmod(0o755)
+            checks.that(f"what repeats, of {text!r}", repeated(house, str(program)).number, wanted)
+        (house.crates / "two/src/lib.rt").write_text("fn broken(")
+        checks.that("code that cannot be read is named", is_refused(House(Path(top))))
         checks.that("an item has its place", [(it.path.name, it.line) for it in items_of(house, "returned")], [("lib.rt", 19)])
     checks.end()

@@ -183,7 +183,8 @@ def of_library(kind: Type, name: str, args: list[Type]) -> Type:
     """Returns the type of a method's result of the toolchain's library, as far as walks need it."""
     first = kind.args[0] if kind.args else UNKNOWN
     if kind.name in ("HashMap", "BTreeMap", "TreeMap") and len(kind.args) > 1:
-        return Type("Option", (kind.args[1],)) if name in ("get", "get_mut", "remove", "insert") else Type("[]", kind.args[1:]) if "values" in name else UNKNOWN
+        value = kind.args[1]
+        return Type("Option", (value,)) if name in ("get", "get_mut", "remove", "insert") else Type("[]", (value,)) if "values" in name else UNKNOWN
     if name in ("unwrap", "expect", "unwrap_or", "unwrap_or_default", "unwrap_or_else", "remove", "swap_remove"):
         return first
     if name == "ok":
