@@ -398,9 +398,10 @@ def facts_of_tree():
 
 # Each sentence of a page with a number or a day, and the fact that it has to be.
 NUMBERS = (
-    ("docs/PROVED.md", r"refuses alike to each of the (\d+)", "operations"),
+    ("docs/TESTED.md", r"refuses alike to each of the (\d+)", "operations"),
     ("docs/PROVED.md", r"makes the desk wrong in (\d+) ways", "edits"),
-    ("docs/PROVED.md", r"More than (\d+) further edits", "hundreds of further edits"),
+    ("docs/TESTED.md", r"makes the desk wrong in (\d+) ways", "edits"),
+    ("docs/TESTED.md", r"More than (\d+) further edits", "hundreds of further edits"),
     ("README.md", r"takes \d+ to (\d+) minutes", "longest first use"),
     ("README.md", r"takes (\d+) to \d+ minutes", "shortest first use"),
     ("README.md", r"in \d+ to (\d+) minutes", "longest try"),
