@@ -1,4 +1,4 @@
--- What a check makes of an input that may be longer than a file.
+-- The result of a check for an input that may be longer than a file.
 use Rattle.std.proofs.Common.{◌≡◌, inl, inr, ◌<◌, ℕ, Bool, true, false, List, [], Option, None, Some, IfSome, option_map, refl, sym, ap, ◌∙◌, subst, nat_le, append-nil, take, drop, take_all, length, arith}
 use Rattle.std.proofs.Math.ListN.{take-append-drop}
 use Rattle.std.proofs.lemmas.List.{length-take-le}

@@ -1,4 +1,4 @@
--- What a writer holds that took a text, and then another or a part of it.
+-- The contents of a writer that took a text, and then another or a part of it.
 use Rattle.std.proofs.Common.{ℕ, List, ◌++◌, append_assoc, Option, inl, inr, sym, ap, ◌∙◌}
 use Rattle.std.proofs.KnownBytes.{Appends-trans}
 use Rattle.std.specs.Io.KnownBytes.{Appends}

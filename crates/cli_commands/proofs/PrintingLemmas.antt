@@ -1,4 +1,4 @@
--- What a command prints whose answer is a function of its input.
+-- The output of a command whose answer is a function of its input.
 use Rattle.std.proofs.Common.{inl, inr, ℕ, Bool, List, Option, Some, None, IfSome, Result, Ok, Err, ap, ◌∙◌, subst, Vec, Global}
 use Rattle.io_retries.specs.Written.{IsCutOff, IsWritten, IsWrittenOrCutOff, WritesAll}
 use Rattle.io_retries.specs.declared.sink.Sink as sink

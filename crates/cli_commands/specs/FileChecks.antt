@@ -49,7 +49,7 @@ counts_line returns changes =
 abbrev pub fault_line : Fault → List ℕ
 fault_line f = name_of f.kind ++ codes " at record " ++ decimal f.at
 
--- whether there is no fault, and the line
+-- whether the file is without a fault, and the line
 abbrev pub verdict_answer : Verdict → Bool × List ℕ
 verdict_answer (Fine r c) = (true, counts_line r c)
 verdict_answer (Faulty f) = (false, fault_line f)

@@ -9,7 +9,7 @@ most_input = 4_194_304
 abbrev pub most_read : ℕ
 most_read = 4_194_305
 
--- how many of them at once, where a file is read
+-- how many of them at once, if a file is read
 abbrev pub most_piece : ℕ
 most_piece = 65_536
 
@@ -17,6 +17,6 @@ most_piece = 65_536
 abbrev pub bounded : (input : Option (List ℕ)) → Option (List ℕ)
 bounded input = option_map (take most_read) input
 
--- an input has these bytes, where it is known what it has
+-- an input has these bytes, if its bytes are known
 abbrev pub MayHave : (input : Option (List ℕ)) → (bytes : List ℕ) → Type 0
 MayHave input bytes = IfSome input (λ known. known ≡ bytes)

@@ -10,8 +10,7 @@ use Rattle.http_session.specs.Sides.{Leaves}
 use Rattle.http_session.specs.declared.sessions.Ended.{Ended}
 use Rattle.http_session.specs.declared.sessions.Ended.TheVariants.{Closed, Cut, Full}
 use Rattle.http_session.specs.declared.sessions.SessionFault.{SessionFault}
-use Rattle.desk_http.specs.Answering.{DeskHistory}
-use Rattle.desk_http.specs.Keeping.{settled, KeptHistory, Takes}
+use Rattle.desk_http.specs.Keeping.{DeskHistory, settled, KeptHistory, Takes}
 use Rattle.cli_commands.specs.Printing.{SaysUnavailable}
 use Rattle.cli_commands.specs.declared.status.Status.{Status}
 use Rattle.cli_commands.specs.declared.status.Status.TheVariants.{Done, Refused, Failed}

@@ -37,7 +37,7 @@ module _ (is_clean : Type 0) (stood stands : KeptHistory → Type 0) {R W : Type
       (SaysUnavailable w old new × StandsStill is_clean stood stands) ⊎ ((fault : SessionFault) × RanFrom (Err fault))
 
 -- A session was answered by the desk of a store, and the store given back. It was clean before, if it is clean in the end.
--- `g` says which books a store holds.
+-- `g` defines the books that a store holds.
 pub record AnswersBy {S R W : Type 0} (g : store.Ghosts S) (store back : S) (r : source.Ghosts R) (reader : R)
     (w : sink.Ghosts W) (old new : W) (status : Status) : Type 0 where
   pub before : g.is_clean back → g.is_clean store

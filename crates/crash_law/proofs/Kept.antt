@@ -4,8 +4,7 @@ use Rattle.std.specs.List.{AllByRecursion}
 use Rattle.http_message.specs.Message.{MessageValue}
 use Rattle.http_session.specs.Exchanges.{Exchange}
 use Rattle.http_history.specs.Versions.{Version}
-use Rattle.desk_http.specs.Answering.{DeskHistory}
-use Rattle.desk_http.specs.Keeping.{settled}
+use Rattle.desk_http.specs.Keeping.{DeskHistory, settled}
 use Rattle.desk_http.specs.Receipts.{HasReceipt, IsReceived}
 use Rattle.desk_http.proofs.Receipts.{are_received, received_found, received_later, Says}
 use Rattle.crash_law.specs.Runs.{MayBeFoundAfter, MayBeFoundLater, NothingIsLost}

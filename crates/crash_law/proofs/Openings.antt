@@ -21,11 +21,10 @@ use Rattle.sql_migration.specs.FirstHistory.{FirstStandsFor}
 use Rattle.sql_migration.specs.FirstVersion.{HasFirstTables}
 use Rattle.sql_migration.specs.Migration.{HasMigrated}
 use Rattle.sqlite.specs.State.{State}
-use Rattle.desk_http.specs.Answering.{DeskHistory, StandsBehind}
 use Rattle.crash_law.specs.Crashes.{IsFirstHistory, StandsAfterCrash}
-use Rattle.desk_http.specs.Keeping.{book_after}
+use Rattle.desk_http.specs.Keeping.{new_history, DeskHistory, StandsBehind, book_after}
 use Rattle.open_sums.specs.Laws.{NumberedBooks}
-use Rattle.crash_law.specs.Openings.{holds, keeps, may_leave, new_history, StandsMigrated, FirstOverBytes, InMemory, Tables, InFiles, FilesSurvive}
+use Rattle.crash_law.specs.Openings.{holds, keeps, may_leave, StandsMigrated, FirstOverBytes, InMemory, Tables, InFiles, FilesSurvive}
 
 module _ (first : FirstCalls) (are : CallsAreHistory) where
   -- without the key the calls are those of the history over bytes

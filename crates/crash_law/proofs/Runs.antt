@@ -12,8 +12,7 @@ use Rattle.http_session.specs.declared.answers.Unavailable.{Unavailable}
 use Rattle.http_history.specs.Laws.{AreOfFirst, CallsAreHistory, OneMeaning}
 use Rattle.http_history.specs.Verdict.{verdict_on}
 use Rattle.http_history.specs.Versions.{Version, First, Present, MeansAt}
-use Rattle.desk_http.specs.Answering.{DeskHistory}
-use Rattle.desk_http.specs.Keeping.{book_after, settled, IsAnsweredBy, KeptHistory, StandsKept, Takes, TakesBy}
+use Rattle.desk_http.specs.Keeping.{DeskHistory, book_after, settled, IsAnsweredBy, KeptHistory, StandsKept, Takes, TakesBy}
 use Rattle.desk_http.proofs.Growing.{follows_keeps, found_keeps, found_told, told_after, IsTold}
 use Rattle.desk_http.proofs.Steps.{step, step_by}
 use Rattle.crash_law.specs.Crashes.{answer_in, AnswersSurvive, IsFirstHistory, LeadsBy, StandsAfterCrash, StandsAfterLives, StandsAfterMigration, StandsAt}

@@ -1,4 +1,4 @@
--- What a crash leaves of a desk's store, and which history the store represents after it is opened again or migrated.
+-- The states that a crash leaves of a desk's store, and which history the store represents after it is opened again or migrated.
 use Rattle.std.specs.Prelude.{◌≡◌, ℕ, List, [], ◌∷◌, Option, Some, None, Result, Ok, Err, Vec}
 use Rattle.std.specs.declared.alloc.Global.{Global}
 use Rattle.desk_history.specs.Message.{Message}
@@ -9,8 +9,8 @@ use Rattle.http_history.specs.History.{IsHistory}
 use Rattle.http_history.specs.Laws.{AreOfFirst}
 use Rattle.http_history.specs.Verdict.{verdict_on}
 use Rattle.http_history.specs.Versions.{Version, First, Present, MeansAt}
-use Rattle.desk_http.specs.Answering.{DeskHistory, StandsBehind, GoesBytes, LeavesBytes}
-use Rattle.desk_http.specs.Keeping.{book_after, settled, GoesBy, KeptHistory, LeavesBy, StandsKeptBy, TakesBy}
+use Rattle.desk_http.specs.Answering.{GoesBytes, LeavesBytes}
+use Rattle.desk_http.specs.Keeping.{DeskHistory, StandsBehind, book_after, settled, GoesBy, KeptHistory, LeavesBy, StandsKeptBy, TakesBy}
 use Rattle.crash_law.specs.Runs.{MayBeFoundAfter, MayBeFoundLater}
 
 -- the bytes of an answer, if there is one

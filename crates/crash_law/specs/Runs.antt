@@ -4,8 +4,7 @@ use Rattle.std.specs.List.{AllByRecursion}
 use Rattle.http_message.specs.Message.{MessageValue}
 use Rattle.http_session.specs.Exchanges.{Exchange, Follows}
 use Rattle.http_history.specs.Versions.{Version}
-use Rattle.desk_http.specs.Answering.{DeskHistory}
-use Rattle.desk_http.specs.Keeping.{settled, KeptHistory, MayBeFound, TakesBy}
+use Rattle.desk_http.specs.Keeping.{DeskHistory, settled, KeptHistory, MayBeFound, TakesBy}
 use Rattle.desk_http.specs.Receipts.{HasReceipt, IsReceived}
 
 -- After these messages, the oldest first, the history of those that were answered, or that history with one pending message

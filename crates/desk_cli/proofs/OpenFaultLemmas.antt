@@ -1,4 +1,4 @@
--- What a command prints of a file that is not opened as a desk.
+-- The output of a command for a file that is not opened as a desk.
 use Rattle.std.proofs.Common.{ℕ, Bool, Option, Some, None, IfSome, inl, inr, ap, ◌∙◌, subst, Vec, Global}
 use Rattle.io_retries.specs.Written.{IsCutOff, IsWritten}
 use Rattle.io_retries.specs.declared.sink.Sink as sink

@@ -1,4 +1,4 @@
--- What `init` prints.
+-- The output of `init`.
 use Rattle.std.specs.Prelude.{◌≡◌, ℕ, Bool, true, false, List, codes, Option, MatchOption, MatchResult, Err}
 use Rattle.sqlite_disk.specs.declared.Disk.{Ghosts}
 use Rattle.io_retries.specs.Written.{IsCutOff}

@@ -1,4 +1,4 @@
--- What `migrate` prints.
+-- The output of `migrate`.
 use Rattle.std.specs.Prelude.{ℕ, Bool, true, List, codes, MatchResult}
 use Rattle.sqlite_disk.specs.declared.Disk.{Ghosts}
 use Rattle.io_retries.specs.Written.{IsCutOff}

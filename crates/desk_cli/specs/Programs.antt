@@ -1,4 +1,4 @@
--- What the program's words make it do.
+-- The command that the program's words name.
 use Rattle.std.specs.Prelude.{◌≡◌, ◌≢◌, ℕ, ⊤, List, drop, map, Result, Ok, Err, Vec, String, codes, string_bytes}
 use Rattle.std.specs.Borrow.{Bor}
 use Rattle.std.specs.IoError.{error_kind}
@@ -55,7 +55,7 @@ IsNotTextFault _ = ⊥
 abbrev pub IsFaultOfWords : ErrorKind → LineFault → Type 0
 IsFaultOfWords kind fault = (kind ≡ InvalidData → IsNotTextFault fault) × (kind ≢ InvalidData → fault ≡ NoMemory)
 
--- the words are those that the system gives, in their order; or the reason why there are none
+-- the words are those that the system gives, in their order; or the reason why it gives none
 abbrev pub GivesStarted : Result (IntoIter (String Global) Global) Error → Result (Vec (String Global) Global) LineFault → Type 0
 GivesStarted (Ok words) (Ok found) = found.items ≡ into_iter_items words
 GivesStarted (Ok words) (Err fault) = fault ≡ NoMemory

@@ -1,4 +1,4 @@
--- What was answered is in whatever a crash leaves of the file.
+-- Whatever a crash leaves of the file has the answered messages.
 use Rattle.std.specs.Prelude.{List}
 use Rattle.sqlite.specs.Files.{file_state}
 use Rattle.sqlite.specs.Held.{Held}
@@ -9,8 +9,7 @@ use Rattle.sqlite_trees.specs.Tree.{Trees}
 use Rattle.sqlite_wal.specs.Recovery.{Image}
 use Rattle.sql_tables.specs.Layout.{Keeps}
 use Rattle.http_session.specs.Exchanges.{Exchange}
-use Rattle.desk_http.specs.Answering.{DeskHistory, StandsBehind}
-use Rattle.desk_http.specs.Keeping.{KeptHistory}
+use Rattle.desk_http.specs.Keeping.{DeskHistory, StandsBehind, KeptHistory}
 use Rattle.desk_http.specs.Receipts.{HasReceipts}
 use Rattle.desk_cli.specs.KeptRuns.{IsKeptIn}
 use Rattle.desk_cli.specs.ServedFiles.{AreServedTables}

@@ -33,7 +33,7 @@ call_text_is : (closes : Bool) (m : Message) (a : Answer) → text_as (kind_of m
 unfolding call_text
 call_text_is closes m a = refl
 
--- what is no command's answer tells that nothing was written
+-- an answer that is not a command's means that nothing was written
 quiet_is : (a : Answer) → is_command a ≡ false → is_quiet a ≡ true
 quiet_is (answers.Refused why) is = refl
 quiet_is (answers.Done (outcomes.Submitted receipt)) is = cc
@@ -79,7 +79,7 @@ pub printed_left : {Kept : Type 0} (keeps : Kept → Book → Type 0) (holds : B
     → LeavesBook keeps holds old call (Ok a) new → LeavesCall keeps holds old call (Ok bytes) new
 printed_left keeps holds old new call a bytes left identity key G m k asked more = left identity key G m k asked more
 
--- what wrote is no read
+-- a call that wrote is not a read
 either : (wrote asks : Bool) (made before : Type 0) → (asks ≡ true → wrote ≡ false) → IsLeft wrote made before → before ⊎ (IsFalse asks × made)
 either wrote true made before reads left = elim left [ inl after ↦ (let no : true ≡ false = sym after.0 ∙ reads refl in cc) | inr same ↦ inl same.1 ]
 either wrote false made before reads left = elim left [ inl after ↦ inr (refl, after.1) | inr same ↦ inl same.1 ]

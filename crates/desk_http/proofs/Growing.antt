@@ -6,8 +6,7 @@ use Rattle.http_session.specs.Exchanges.{Exchange, Follows}
 use Rattle.http_history.specs.History.{taken_by, IsHistory}
 use Rattle.http_history.specs.Versions.{Version}
 use Rattle.http_history.proofs.Answered.{right_answer}
-use Rattle.desk_http.specs.Answering.{DeskHistory}
-use Rattle.desk_http.specs.Keeping.{IsAnsweredBy, KeptHistory, MayBeFound, TakesBy}
+use Rattle.desk_http.specs.Keeping.{DeskHistory, IsAnsweredBy, KeptHistory, MayBeFound, TakesBy}
 
 module _ (version : Version) (Is : DeskHistory → Type 0)
     (answered : (h : DeskHistory) (v : MessageValue) (bytes : List ℕ) (after : DeskHistory) → IsAnsweredBy version h v bytes after → Is h → Is after) where

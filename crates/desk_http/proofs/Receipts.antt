@@ -1,4 +1,4 @@
--- What was answered is in each history that may be found.
+-- Each history that may be found has the answered messages.
 use Rattle.std.proofs.Common.{◌≡◌, refl, sym, subst, ℕ, suc, List, [], ◌∷◌, arith}
 use Rattle.std.specs.Prelude.{Any, Option, Some}
 use Rattle.std.specs.List.{AllByRecursion}
@@ -8,8 +8,7 @@ use Rattle.http_message.specs.Message.{MessageValue}
 use Rattle.http_session.specs.Exchanges.{Exchange, Follows, StandsAfter}
 use Rattle.http_history.specs.History.{taken_by, Pair}
 use Rattle.http_history.specs.Versions.{Present, Version}
-use Rattle.desk_http.specs.Answering.{DeskHistory, StandsBehind}
-use Rattle.desk_http.specs.Keeping.{IsAnsweredBy, KeptHistory, MayBeFound, StandsKept, Takes, TakesBy}
+use Rattle.desk_http.specs.Keeping.{DeskHistory, StandsBehind, IsAnsweredBy, KeptHistory, MayBeFound, StandsKept, Takes, TakesBy}
 use Rattle.desk_http.specs.Receipts.{HasReceipt, HasReceipts, IsReceived, ReceiptsAreKept}
 use Rattle.desk_http.proofs.Growing.{follows_keeps, found_keeps, found_told}
 

@@ -71,14 +71,3 @@ abbrev pub LeavesBytes : {Kept : Type 0} → (keeps : Kept → Book → Type 0) 
 LeavesBytes {Kept} keeps holds old v result new =
     (identity : Identity) (key : List ℕ) (H : List Pair) (means : Option Message) (k : Kept)
     → IsAsked holds identity key H v means → new k → LeavesOn keeps old identity key H v means result k
-
--- ---- of a session
-
--- what a desk in a session represents: who runs it, and the messages with their answers
-pub record DeskHistory : Type 0 where
-  pub identity : Identity
-  pub key : List ℕ
-  pub pairs : List Pair
-
-abbrev pub StandsBehind : (holds : Book → Type 0) → DeskHistory → Type 0
-StandsBehind holds h = StandsFor holds h.identity h.key h.pairs

@@ -1,14 +1,28 @@
--- What a desk represents while it answers messages, and what a crash may leave of it.
+-- The history that a desk represents while it answers messages, and the histories that a crash may leave of it.
 use Rattle.std.specs.Prelude.{◌≡◌, ◌⊎◌, ℕ, Bool, true, false, IsFalse, List, [], ◌∷◌, Any, Option, Some, None}
+use Rattle.desk_history.specs.declared.identity.Identity.{Identity}
 use Rattle.desk_history.specs.Message.{Message}
 use Rattle.desk_book.specs.Book.{Book}
 use Rattle.desk_store.specs.declared.store.Store as store
 use Rattle.desk_admission.specs.Answering.{IsLeft}
 use Rattle.http_message.specs.Message.{MessageValue}
-use Rattle.http_history.specs.History.{book_behind, taken_by, text}
+use Rattle.http_history.specs.History.{book_behind, Pair, StandsFor, taken_by, text}
 use Rattle.http_history.specs.Verdict.{verdict_on}
 use Rattle.http_history.specs.Versions.{MeansAt, Present, Version}
-use Rattle.desk_http.specs.Answering.{DeskHistory, StandsBehind, reads, writes}
+use Rattle.desk_http.specs.Answering.{reads, writes}
+
+-- the history of a desk: its identity, the digest of the operator's key, and the messages with their answers
+pub record DeskHistory : Type 0 where
+  pub identity : Identity
+  pub key : List ℕ
+  pub pairs : List Pair
+
+-- before the first message
+abbrev pub new_history : Identity → (key : List ℕ) → DeskHistory
+new_history identity key = record { identity = identity; key = key; pairs = [] }
+
+abbrev pub StandsBehind : (holds : Book → Type 0) → DeskHistory → Type 0
+StandsBehind holds h = StandsFor holds h.identity h.key h.pairs
 
 abbrev pub book_after : DeskHistory → Book
 book_after h = book_behind h.identity h.key h.pairs

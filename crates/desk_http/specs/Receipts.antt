@@ -1,4 +1,4 @@
--- What was answered is in whatever a crash leaves.
+-- Whatever a crash leaves has the answered messages.
 use Rattle.std.specs.Prelude.{◌≡◌, ℕ, List, Any, Some}
 use Rattle.std.specs.List.{AllByRecursion}
 use Rattle.desk_store.specs.declared.store.Store.{Ghosts}
@@ -6,8 +6,7 @@ use Rattle.http_message.specs.Message.{MessageValue}
 use Rattle.http_session.specs.Exchanges.{Exchange, StandsAfter}
 use Rattle.http_history.specs.History.{taken_by}
 use Rattle.http_history.specs.Versions.{Present, Version}
-use Rattle.desk_http.specs.Answering.{DeskHistory, StandsBehind}
-use Rattle.desk_http.specs.Keeping.{KeptHistory, StandsIn, Takes}
+use Rattle.desk_http.specs.Keeping.{DeskHistory, StandsBehind, KeptHistory, StandsIn, Takes}
 
 -- the history has this message, which a desk of this version took, with these bytes as its answer
 abbrev pub IsReceived : Version → DeskHistory → MessageValue → (bytes : List ℕ) → Type 0

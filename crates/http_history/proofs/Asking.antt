@@ -1,18 +1,24 @@
--- What a company's message was read as.
-use Rattle.std.proofs.Common.{◌≡◌, ◌∙◌, ℕ, List, [], Bool, true, false, refl, sym, ap, subst}
-use Rattle.std.specs.Prelude.{if◌then◌else◌, Option, Some, None, option_map, Result, Ok, Err}
-use Rattle.desk_history.specs.declared.identity.Identity.{Identity}
+-- The meaning of a message that was read.
+use Rattle.std.proofs.Common.{◌≡◌, ◌∙◌, ℕ, List, [], ◌∷◌, Bool, true, false, refl, sym, ap, subst}
+use Rattle.std.specs.Prelude.{⊤, if◌then◌else◌, Option, Some, None, option_map, Result, Ok, Err}
+use Rattle.serde_json.specs.Data.{Data}
+use Rattle.bank_days.specs.Day.{day_of}
+use Rattle.http_json.specs.Read.{object_of}
+use Rattle.desk_history.specs.declared.call.Call.{Call}
 use Rattle.desk_history.specs.Authorizations.{request_without_authorization, message_without_authorization}
 use Rattle.desk_history.specs.Calls.{IsMessageOf}
-use Rattle.desk_history.specs.Message as core
-use Rattle.desk_history.specs.Message.{Message, Of}
-use Rattle.desk_history.specs.Part as events
+use Rattle.desk_history.specs.Message.{Message, Of, SetDay, SetHolidays, PutCompany, PutLimits, Cut, TakeFile, FileText, Settlement, Suspense, Status, Companies}
 use Rattle.desk_history.specs.Request as request
 use Rattle.desk_history.specs.Request.{Request}
+use Rattle.http_message.specs.Message.{RequestValue}
+use Rattle.http_routes.specs.declared.route.OperatorRoute.{OperatorRoute}
+use Rattle.http_routes.specs.declared.route.OperatorRoute.TheVariants as operator_routes
+use Rattle.http_routes.specs.Finding.{piece_of}
 use Rattle.http_answers.specs.declared.faults.MessageFault.{MessageFault}
-use Rattle.http_history.specs.Verdict.{Verdict, call_of, company_verdict, Means}
+use Rattle.http_answers.specs.declared.faults.MessageFault.TheVariants.{Denied}
+use Rattle.http_history.specs.Addressee.{request_path}
+use Rattle.http_history.specs.Verdict.{Verdict, call_of, company_verdict, with_object, file_text, operator_call, Means}
 use Rattle.http_history.specs.Versions.{Version, First, Present, read_at, MeansAt}
-use Rattle.http_history.specs.Part.{operator_events}
 
 -- the message of a company's call is its request
 pub own_message : (k : List ℕ) (q : Request) (m : Message) → IsMessageOf (call_of k q) m → m ≡ Of k q
@@ -68,15 +74,58 @@ plain_meaning First verdict means plain (Some m, is, left) = subst (Means verdic
 pub nothing_meant : (version : Version) (fault : MessageFault) (means : Option Message) → MeansAt version (Err fault) means → means ≡ None
 nothing_meant version fault means is = plain_meaning version (Err fault) means (λ m is. cc) is
 
--- ---- no command
+-- ---- what the operator called
 
--- what a company asked is no command of the operator
-no_command : (identity : Identity) (c : List ℕ) (G : List core.Pair) (ok : Bool) (P : List events.Event) (k : List ℕ) (asked : Result Request MessageFault) (means : Option Message)
-    → Means (company_verdict k asked) means → operator_events identity c G ok means P ≡ []
-no_command identity c G ok P k asked None is = refl
-no_command identity c G ok P k (Err fault) (Some m) is = cc
-no_command identity c G ok P k (Ok q) (Some m) is = subst (λ (m : Message). operator_events identity c G ok (Some m) P ≡ []) (sym (own_message k q m is)) refl
+abbrev pub IsCommand : Message → Type 0
+IsCommand (Of k r) = ⊥
+IsCommand m = ⊤
 
-pub no_command_at : (version : Version) (identity : Identity) (c : List ℕ) (G : List core.Pair) (ok : Bool) (P : List events.Event) (k : List ℕ) (asked : Result Request MessageFault) (means : Option Message)
-    → MeansAt version (company_verdict k asked) means → operator_events identity c G ok means P ≡ []
-no_command_at version identity c G ok P k asked means is = no_command identity c G ok P k (asked_at version asked) means (company_meaning version k asked means is)
+object_command : (o : Option Data) (call : Data → Call) → ((d : Data) (m : Message) → IsMessageOf (call d) m → IsCommand m)
+    → (m : Message) → Means (with_object o call) (Some m) → IsCommand m
+object_command None call commands m is = cc
+object_command (Some d) call commands m is = commands d m is
+
+file_command : (day : Option ℕ) (modifier : List ℕ) (m : Message) → Means (file_text day modifier) (Some m) → IsCommand m
+file_command None modifier m is = cc
+file_command (Some d) [] m is = cc
+file_command (Some d) (x ∷ []) m is = subst IsCommand (sym is) tt
+file_command (Some d) (x ∷ y ∷ more) m is = cc
+
+route_command : (route : OperatorRoute) (r : RequestValue) (m : Message) → Means (operator_call route r) (Some m) → IsCommand m
+route_command operator_routes.SetDay r m is = object_command (object_of r.body) _ (λ d m is. subst IsCommand (sym is) tt) m is
+route_command operator_routes.PutCompany r m is = object_command (object_of r.body) _ (λ d m is. subst IsCommand (sym is) tt) m is
+route_command operator_routes.PutLimits r m is = object_command (object_of r.body) _ (λ d m is. subst IsCommand (sym is) tt) m is
+route_command operator_routes.SetHolidays r m is = subst IsCommand (sym is) tt
+route_command operator_routes.Cut r m is = subst IsCommand (sym is) tt
+route_command operator_routes.Settlement r m is = subst IsCommand (sym is) tt
+route_command operator_routes.Suspense r m is = subst IsCommand (sym is) tt
+route_command operator_routes.Status r m is = subst IsCommand (sym is) tt
+route_command operator_routes.Companies r m is = subst IsCommand (sym is) tt
+route_command operator_routes.FileText r m is = file_command (day_of (piece_of 3 (request_path r))) (piece_of 4 (request_path r)) m is
+route_command operator_routes.TakeFile r (Of k q) is = absurd is
+route_command operator_routes.TakeFile r m is = tt
+
+pub is_command : (b : Bool) (route : OperatorRoute) (r : RequestValue) (m : Message)
+    → Means (if b then operator_call route r else Err Denied) (Some m) → IsCommand m
+is_command false route r m is = cc
+is_command true route r m is = route_command route r m is
+
+-- a command has no key to leave out
+pub plain_command : (m : Message) → IsCommand m → message_without_authorization m ≡ m
+plain_command (Of k r) command = absurd command
+plain_command (SetDay text) command = refl
+plain_command (SetHolidays days) command = refl
+plain_command (PutCompany d) command = refl
+plain_command (PutLimits d) command = refl
+plain_command Cut command = refl
+plain_command (TakeFile file) command = refl
+plain_command (FileText d modifier) command = refl
+plain_command Settlement command = refl
+plain_command Suspense command = refl
+plain_command Status command = refl
+plain_command Companies command = refl
+
+pub command_meaning : (version : Version) (b : Bool) (route : OperatorRoute) (r : RequestValue) (means : Option Message)
+    → MeansAt version (if b then operator_call route r else Err Denied) means → Means (if b then operator_call route r else Err Denied) means
+command_meaning version b route r means is =
+    plain_meaning version (if b then operator_call route r else Err Denied) means (λ m is. plain_command m (is_command b route r m is)) is

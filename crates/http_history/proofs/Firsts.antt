@@ -1,15 +1,16 @@
 -- The calls of a desk of version 1 are those that its messages spell, without the key `authorized`.
-use Rattle.std.proofs.Common.{◌≡◌, ℕ, List, [], ◌∷◌, ◌++◌, map, refl, sym, ap, ◌∙◌, subst}
-use Rattle.std.specs.Prelude.{Option, Some, None, option_map, option_to_list}
+use Rattle.std.proofs.Common.{◌≡◌, ℕ, List, [], ◌∷◌, ◌++◌, map, Bool, true, false, refl, sym, ap, ◌∙◌, subst}
+use Rattle.std.specs.Prelude.{if◌then◌else◌, Option, Some, None, option_map, option_to_list}
 use Rattle.desk_history.specs.declared.identity.Identity.{Identity}
 use Rattle.desk_history.specs.Authorizations.{message_without_authorization, without_authorizations, HaveNoAuthorizations, AuthorizationsLeftOut}
 use Rattle.desk_history.specs.Message as core
-use Rattle.desk_history.specs.Message.{Message}
+use Rattle.desk_history.specs.Message.{Message, Of}
+use Rattle.desk_history.specs.Operator.{answer_to}
 use Rattle.desk_book.specs.Book.{book_of}
 use Rattle.http_message.specs.Message.{MessageValue}
 use Rattle.http_history.specs.Verdict.{verdict_on}
 use Rattle.http_history.specs.Versions.{First, Present}
-use Rattle.http_history.specs.History.{Origin, taken_by, from_first, from_facts, Pair, call_pair, with_call, calls_of, text, IsReadAs, IsHistory}
+use Rattle.http_history.specs.History.{Origin, taken_by, from_first, from_facts, Pair, is_lost, call_at, with_call, calls_of, text, IsReadAs, IsHistory}
 use Rattle.http_history.specs.Laws.{OneMeaning, IsOfFirst, AreOfFirst, as_present, AreSpelled, IsSpelled, FirstCalls}
 use Rattle.http_history.proofs.Answered.{right_text}
 use Rattle.http_history.proofs.Calls.{calls_of-more, calls_of-none}
@@ -38,7 +39,7 @@ same_pairs (x ∷ K) (y ∷ L) ms answers =
 
 -- ---- one message of a desk of version 1
 
--- what such a message spells, and what it was read as
+-- the message that its bytes spell, and the one that it was read as
 record IsFirstRead (identity : Identity) (key : List ℕ) (G : List core.Pair) (origin : Origin) (means : Option Message) : Type 0 where
   spelled : Option Message
   reads : IsReadAs identity key G (as_present origin) spelled
@@ -51,24 +52,36 @@ first_read identity key G (taken_by Present v) means first is = absurd first
 first_read identity key G from_facts means first is = absurd first
 
 -- the call that was spelled, with the answer that was given
-abbrev spelled_call : Identity → List core.Pair → Pair → Option Message → List core.Pair → List core.Pair
-spelled_call identity K x None G = G
-spelled_call identity K x (Some m) G = record { message = m; answer = (call_pair identity K x (message_without_authorization m)).answer } ∷ G
+abbrev spelled_call : Identity → List core.Pair → Option Message → List core.Pair → List core.Pair
+spelled_call identity K None G = G
+spelled_call identity K (Some m) G = record { message = m; answer = answer_to identity K (message_without_authorization m) } ∷ G
 
-spelled_messages : (identity : Identity) (K : List core.Pair) (x : Pair) (spelled : Option Message) (G : List core.Pair)
-    → messages_in (spelled_call identity K x spelled G) ≡ option_to_list spelled ++ messages_in G
-spelled_messages identity K x None G = refl
-spelled_messages identity K x (Some m) G = refl
+spelled_messages : (identity : Identity) (K : List core.Pair) (spelled : Option Message) (G : List core.Pair)
+    → messages_in (spelled_call identity K spelled G) ≡ option_to_list spelled ++ messages_in G
+spelled_messages identity K None G = refl
+spelled_messages identity K (Some m) G = refl
 
-spelled_answers : (identity : Identity) (K : List core.Pair) (x : Pair) (spelled : Option Message) (G : List core.Pair) → map (λ x. x.answer) G ≡ map (λ x. x.answer) K
-    → map (λ x. x.answer) (spelled_call identity K x spelled G) ≡ map (λ x. x.answer) (with_call identity x (option_map message_without_authorization spelled) K)
-spelled_answers identity K x None G same = same
-spelled_answers identity K x (Some m) G same = ap (λ answers. (call_pair identity K x (message_without_authorization m)).answer ∷ answers) same
+spelled_answers : (identity : Identity) (K : List core.Pair) (spelled : Option Message) (G : List core.Pair) → map (λ x. x.answer) G ≡ map (λ x. x.answer) K
+    → map (λ x. x.answer) (spelled_call identity K spelled G) ≡ map (λ x. x.answer) (with_call identity (option_map message_without_authorization spelled) K)
+spelled_answers identity K None G same = same
+spelled_answers identity K (Some m) G same = ap (λ answers. answer_to identity K (message_without_authorization m) ∷ answers) same
 
-called_messages : (identity : Identity) (K : List core.Pair) (x : Pair) (spelled : Option Message) (ms : List Message) → messages_in K ≡ map message_without_authorization ms
-    → messages_in (with_call identity x (option_map message_without_authorization spelled) K) ≡ map message_without_authorization (option_to_list spelled ++ ms)
-called_messages identity K x None ms same = same
-called_messages identity K x (Some m) ms same = ap (λ ms. message_without_authorization m ∷ ms) same
+called_messages : (identity : Identity) (K : List core.Pair) (spelled : Option Message) (ms : List Message) → messages_in K ≡ map message_without_authorization ms
+    → messages_in (with_call identity (option_map message_without_authorization spelled) K) ≡ map message_without_authorization (option_to_list spelled ++ ms)
+called_messages identity K None ms same = same
+called_messages identity K (Some m) ms same = ap (λ ms. message_without_authorization m ∷ ms) same
+
+-- what is lost has no key to leave out
+still : (lost : Bool) (m : Message) → message_without_authorization m ≡ m
+    → (if lost then None else Some m) ≡ option_map message_without_authorization (if lost then None else Some m)
+still true m same = refl
+still false m same = ap Some (sym same)
+
+call_without : (identity : Identity) (K : List core.Pair) (x : Pair) (spelled : Option Message)
+    → call_at identity K x (option_map message_without_authorization spelled) ≡ option_map message_without_authorization (call_at identity K x spelled)
+call_without identity K x None = refl
+call_without identity K x (Some (Of c r)) = refl
+call_without identity K x (Some m) = still (is_lost identity K x m) m refl
 
 module _ (one : OneMeaning) (left_out : AuthorizationsLeftOut) where
   -- ---- a history for any messages
@@ -90,12 +103,14 @@ module _ (one : OneMeaning) (left_out : AuthorizationsLeftOut) where
   spelled_calls identity key [] is first = ([], record { messages = refl; answers = ap (map (λ x. x.answer)) (sym (calls_of-none identity)) })
   spelled_calls identity key (x ∷ H) is first =
       let before = spelled_calls identity key H is.2 first.1 in
-      let read = first_read identity key (calls_of identity H) x.origin x.means first.0 is.0 in (
-        spelled_call identity (calls_of identity H) x read.spelled before.0,
+      let read = first_read identity key (calls_of identity H) x.origin x.means first.0 is.0 in
+      let call = call_at identity (calls_of identity H) x read.spelled in (
+        spelled_call identity (calls_of identity H) call before.0,
         record {
-          messages = (read.spelled, messages_in before.0, read.reads, before.1.messages, spelled_messages identity (calls_of identity H) x read.spelled before.0);
-          answers = spelled_answers identity (calls_of identity H) x read.spelled before.0 before.1.answers
-              ∙ ap (λ (means : Option Message). map (λ x. x.answer) (with_call identity x means (calls_of identity H))) (sym read.left)
+          messages = (read.spelled, messages_in before.0, read.reads, before.1.messages, spelled_messages identity (calls_of identity H) call before.0);
+          answers = spelled_answers identity (calls_of identity H) call before.0 before.1.answers
+              ∙ ap (λ (call : Option Message). map (λ x. x.answer) (with_call identity call (calls_of identity H)))
+              (sym (call_without identity (calls_of identity H) x read.spelled) ∙ ap (call_at identity (calls_of identity H) x) (sym read.left))
               ∙ ap (map (λ x. x.answer)) (sym (calls_of-more identity x H));
         },
       )
@@ -112,8 +127,9 @@ module _ (one : OneMeaning) (left_out : AuthorizationsLeftOut) where
       let read = first_read identity key (calls_of identity H) x.origin x.means first.0 is.0 in
       let same = same_spelled identity key (calls_of identity H) x.origin read.spelled spelled first.0 read.reads reads in
       ap messages_in (calls_of-more identity x H)
-      ∙ ap (λ (means : Option Message). messages_in (with_call identity x means (calls_of identity H))) (read.left ∙ ap (option_map message_without_authorization) same)
-      ∙ called_messages identity (calls_of identity H) x spelled before (without_key identity key H before is.2 first.1 rest)
+      ∙ ap (λ (call : Option Message). messages_in (with_call identity call (calls_of identity H)))
+      (ap (call_at identity (calls_of identity H) x) (read.left ∙ ap (option_map message_without_authorization) same) ∙ call_without identity (calls_of identity H) x spelled)
+      ∙ called_messages identity (calls_of identity H) (call_at identity (calls_of identity H) x spelled) before (without_key identity key H before is.2 first.1 rest)
       ∙ ap (map message_without_authorization) (sym all)
 
   calls_without : (identity : Identity) (key : List ℕ) (H : List Pair) (G : List core.Pair) → IsHistory identity key H → AreOfFirst H → IsSpelled identity key H G

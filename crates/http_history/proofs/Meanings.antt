@@ -1,4 +1,4 @@
--- What a message comes to means one thing.
+-- Each message has one meaning.
 use Rattle.std.proofs.Common.{◌≡◌, ◌∙◌, sym, ap, refl}
 use Rattle.std.specs.Prelude.{Option, Some, None, Ok, Err}
 use Rattle.desk_history.specs.Calls.{OneMessage}

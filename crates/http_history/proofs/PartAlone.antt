@@ -1,17 +1,15 @@
--- The whole part of a company in the history of a desk that serves it alone, what was no call among it.
-use Rattle.std.proofs.Common.{◌≡◌, ℕ, List, [], ◌∷◌, ◌++◌, map, Bool, true, false, ◌&&◌, ◌⊎◌, inl, inr, refl, sym, ap, ◌∙◌, subst, append_assoc, append-nil}
-use Rattle.std.specs.Prelude.{if◌then◌else◌, All, Option, Some, None, Result, Ok, Err, bytes_eq}
-use Rattle.std.proofs.lemmas.List.{append_cancel_right, map-append}
-use Rattle.std.proofs.lemmas.List.Elements.{All-head, All-tail}
+-- The origin of a company's events: its own POST, or a command.
+use Rattle.std.proofs.Common.{◌≡◌, ℕ, List, [], ◌∷◌, ◌++◌, map, Bool, true, false, ◌&&◌, ◌⊎◌, inl, inr, refl, sym, ap, ◌∙◌, subst}
+use Rattle.std.specs.Prelude.{if◌then◌else◌, Option, Some, None, Result, Ok, Err, bytes_eq}
+use Rattle.std.proofs.lemmas.Bool.{and_parts}
+use Rattle.std.proofs.lemmas.Slice.Eq.{bytes_eq-Decides}
 use Rattle.serde_json.specs.Data.{Data}
 use Rattle.http_json.specs.Drafts.{submission_draft_of, retry_draft_of}
 use Rattle.http_json.specs.Read.{object_of}
 use Rattle.desk_history.specs.declared.identity.Identity.{Identity}
-use Rattle.desk_history.specs.Alone.{file_for, IsOf, IsAcceptedOrOf}
-use Rattle.desk_history.specs.History.{sent_entries}
+use Rattle.desk_history.specs.History as core_history
 use Rattle.desk_history.specs.Message as core
-use Rattle.desk_history.specs.Message.{Message, Of, TakeFile, FileText, is_accepted}
-use Rattle.desk_history.specs.Operator.{answer_to, next_pair}
+use Rattle.desk_history.specs.Message.{Message, Of, TakeFile}
 use Rattle.desk_history.specs.Part as events
 use Rattle.desk_history.specs.PartCompany.{digest}
 use Rattle.desk_history.specs.Request as request
@@ -22,36 +20,18 @@ use Rattle.desk_book.specs.Reads.{key_of}
 use Rattle.http_message.specs.Message.{RequestValue}
 use Rattle.http_routes.specs.declared.route.CompanyRoute.{CompanyRoute}
 use Rattle.http_routes.specs.declared.route.CompanyRoute.TheVariants as company_routes
+use Rattle.http_routes.specs.declared.route.OperatorRoute.{OperatorRoute}
 use Rattle.http_answers.specs.declared.faults.MessageFault.{MessageFault}
 use Rattle.http_answers.specs.declared.faults.MessageFault.TheVariants.{Denied}
-use Rattle.http_answers.specs.Statuses.{kind_of}
 use Rattle.http_history.specs.Addressee.{Addressee, to_nobody, to_company, to_operator, addressee_of, shown_key}
-use Rattle.http_history.specs.Verdict.{is_key, is_company, with_object, request_on, company_request, company_verdict, verdict_by, Means}
+use Rattle.http_history.specs.Verdict.{is_key, is_company, with_object, request_on, company_request, company_verdict, operator_call, verdict_by, Means}
 use Rattle.http_history.specs.Versions.{Version, First, Present, MeansAt}
-use Rattle.http_history.specs.Texts.{is_success}
-use Rattle.http_history.specs.History.{Origin, taken_by, from_facts, Pair, closes, calls_of, text, IsReadAs}
-use Rattle.http_history.specs.Part.{Event, Posted, Given, posted_events, core_events, is_post, post_if, own_events, origin_events, operator_events, part}
-use Rattle.http_history.specs.Alone as bytes_alone
-use Rattle.http_history.specs.Alone.{with_text, with_files, with_origin}
-use Rattle.http_history.specs.Laws.{IsOwn, AreAcceptedOrOwn}
-use Rattle.http_history.proofs.Asking.{own_message, asked_at, company_meaning, nothing_meant}
-use Rattle.http_history.proofs.Calls.{right_pair}
-use Rattle.http_history.proofs.Parts.{IsCommand, is_command, command_meaning, none_of_file, core_events-append, core_events-given}
-use Rattle.http_history.proofs.Success.{IsSure, accepts}
+use Rattle.http_history.specs.History.{Origin, taken_by, from_facts, Pair, is_lost, call_at, IsReadAs}
+use Rattle.http_history.specs.Part.{Event, Posted, Given, posted_events, core_events, is_post, post_if, own_events, origin_events, call_events, or_given}
+use Rattle.http_history.proofs.Asking.{own_message, asked_at, company_meaning, nothing_meant, IsCommand, is_command, command_meaning}
+use Rattle.http_history.proofs.Parts.{company_events, core_events-given}
 
--- ---- whose message it is
-
--- a command of the operator, which the company had no part in
-record IsCommandWith (own : List events.Event → List Event) (m : Message) : Type 0 where
-  command : IsCommand m
-  none : (P : List events.Event) → own P ≡ []
-
--- a request of a company: what this one posted made a call
-record IsRequestWith (own : List events.Event → List Event) (m : Message) : Type 0 where
-  company : List ℕ
-  request : Request
-  is : m ≡ Of company request
-  made : (P : List events.Event) → core_events (own P) ≡ [] → own P ≡ []
+-- ---- a POST that was read
 
 submitted : (version : Version) (o : Option Data) (q : Request) → with_object o (λ d. request.Submit (submission_draft_of d)) ≡ Ok q
     → posted_events version (with_object o (λ d. request.Submit (submission_draft_of d))) ++ [] ≡ [] → ⊥
@@ -66,19 +46,12 @@ retried First (Some d) q is none = cc
 retried Present (Some d) q is none = cc
 
 -- what was posted and made a request makes an event
-post_made : (version : Version) (route : CompanyRoute) (r : RequestValue) (i b : Bool) (q : Request) → (if i then request_on route r else Err Denied) ≡ Ok q
-    → core_events (post_if (is_post route && b) version route r.body) ≡ [] → post_if (is_post route && b) version route r.body ≡ []
-post_made version route r false b q is none = cc
-post_made version company_routes.Submit r true true q is none = absurd (submitted version (object_of r.body) q is none)
-post_made version company_routes.Submit r true false q is none = refl
-post_made version company_routes.Retry r true true q is none = absurd (retried version (object_of r.body) q is none)
-post_made version company_routes.Retry r true false q is none = refl
-post_made version company_routes.LookUp r true b q is none = refl
-post_made version company_routes.Returns r true b q is none = refl
-post_made version company_routes.Changes r true b q is none = refl
-post_made version company_routes.Statement r true b q is none = refl
-post_made version company_routes.Rates r true b q is none = refl
-post_made version company_routes.Exposure r true b q is none = refl
+post_made : (version : Version) (route : CompanyRoute) (r : RequestValue) (i : Bool) (q : Request) → is_post route ≡ true → (if i then request_on route r else Err Denied) ≡ Ok q
+    → core_events (Posted version route r.body ∷ []) ≡ [] → ⊥
+post_made version route r false q post is none = cc
+post_made version company_routes.Submit r true q post is none = submitted version (object_of r.body) q is none
+post_made version company_routes.Retry r true q post is none = retried version (object_of r.body) q is none
+post_made version route r true q post is none = cc
 
 asked_request : (k : List ℕ) (asked : Result Request MessageFault) (m : Message) → Means (company_verdict k asked) (Some m)
     → (q : Request) × (asked ≡ Ok q) × (m ≡ Of k q)
@@ -90,208 +63,129 @@ asked_before : (version : Version) (asked : Result Request MessageFault) (q : Re
 asked_before version (Ok asking) q is = (asking, refl)
 asked_before version (Err fault) q is = cc
 
--- what the company posted is one event, or none
-own_or_none : (c : List ℕ) (version : Version) (a : Addressee) (P : List events.Event)
-    → (own_events c version a P ≡ []) ⊎ ((route : CompanyRoute) × (body : List ℕ) × (own_events c version a P ≡ Posted version route body ∷ []))
-own_or_none c version (to_nobody fault) P = inl refl
-own_or_none c version (to_operator route r) P = inl refl
-own_or_none c version (to_company route k r) P = by (is_post route && (bytes_eq k c && is_company (digest P) c (shown_key r))) where
-  by : (b : Bool) → (post_if b version route r.body ≡ []) ⊎ ((path : CompanyRoute) × (body : List ℕ) × (post_if b version route r.body ≡ Posted version path body ∷ []))
-  by true = inr (route, r.body, refl)
-  by false = inl refl
+-- ---- what gave events
 
--- ---- the shape of what is told
+-- the company's own POST, which made a request of it or no call
+pub record IsPosted (c : List ℕ) (means : Option Message) (own : List Event) : Type 0 where
+  pub version : Version
+  pub route : CompanyRoute
+  pub body : List ℕ
+  pub is : own ≡ Posted version route body ∷ []
+  pub request : (m : Message) → means ≡ Some m → (q : Request) × (m ≡ Of c q)
+  pub made : (m : Message) → means ≡ Some m → core_events (Posted version route body ∷ []) ≡ [] → ⊥
 
-call_shape : (identity : Identity) (key c : List ℕ) (C : List Pair → Type 0) (origin : Origin) (m : Message) (es : List events.Event) (A : List Pair)
-    → (es ≡ [] → C A) → (IsCommand m → C (with_files identity key c es A))
-    → ((e : events.Event) (more : List events.Event) → es ≡ e ∷ more → C (with_text identity key origin (Some m) A))
-    → C (bytes_alone.with_call identity key c origin m es A)
-call_shape identity key c C origin m [] A none files other = none refl
-call_shape identity key c C origin (TakeFile file) (e ∷ es) A none files other = files tt
-call_shape identity key c C origin m (e ∷ es) A none files other = other e es refl
+-- a command
+pub record IsCommanded (means : Option Message) (own : List Event) : Type 0 where
+  pub message : Message
+  pub is : means ≡ Some message
+  pub command : IsCommand message
+  pub none : own ≡ []
 
-module _ (identity : Identity) (key c : List ℕ) where
-  -- ---- how it was read
+module _ (identity : Identity) (key c : List ℕ) (G : List core.Pair)
+    (keys : (k : List ℕ) → key_of (callers.Company k) (book_of identity key G) ≡ digest (core_history.part identity.odfi G k)) (x : Pair) where
+  abbrev P : List events.Event
+  P = core_history.part identity.odfi G c
 
-  read_by : (keys : List ℕ → Option (List ℕ)) (version : Version) (a : Addressee) (m : Message) → MeansAt version (verdict_by keys (Some key) a) (Some m)
-      → IsCommandWith (own_events c version a) m ⊎ IsRequestWith (own_events c version a) m
-  read_by keys version (to_nobody fault) m is = let no : Some m ≡ None = nothing_meant version fault (Some m) is in cc
-  read_by keys version (to_operator route r) m is = inl (record {
-    command = is_command (is_key (Some key) (shown_key r)) route r m (command_meaning version (is_key (Some key) (shown_key r)) route r (Some m) is);
-    none = λ P. refl;
-  })
-  read_by keys version (to_company route k r) m is =
-      let read = asked_request k (asked_at version (company_request (keys k) route k r)) m (company_meaning version k (company_request (keys k) route k r) (Some m) is) in
-      let asked = asked_before version (company_request (keys k) route k r) read.0 read.1 in
-      inr (record {
-        company = k;
-        request = read.0;
-        is = read.2;
-        made = λ P none. post_made version route r (is_company (keys k) k (shown_key r)) (bytes_eq k c && is_company (digest P) c (shown_key r)) asked.0 asked.1 none;
-      })
+  abbrev given : Option Message → List events.Event
+  given means = call_events identity c G (call_at identity G x means)
 
-  read_as : (G : List core.Pair) (origin : Origin) (m : Message) → IsReadAs identity key G origin (Some m)
-      → IsCommandWith (origin_events c origin) m ⊎ IsRequestWith (origin_events c origin) m
-  read_as G (taken_by version v) m is = read_by (λ k. key_of (callers.Company k) (book_of identity key G)) version (addressee_of v) m is
-  read_as G from_facts (TakeFile file) is = inl (record { command = tt; none = λ P. refl })
-  read_as G from_facts m is = absurd is
+  -- without a call only a POST gives an event
+  nothing_given : (means : Option Message) (e : Event) (rest : List Event) → means ≡ None → map Given (given means) ≡ e ∷ rest → ⊥
+  nothing_given None e rest is gave = cc
+  nothing_given (Some m) e rest is gave = cc
 
-  -- ---- a command gives what the operator did, and no more
+  own_post : (version : Version) (route : CompanyRoute) (k : List ℕ) (r : RequestValue) (means : Option Message) (digest : Option (List ℕ)) → is_post route ≡ true → k ≡ c
+      → MeansAt version (company_verdict k (company_request digest route k r)) means → IsPosted c means (Posted version route r.body ∷ [])
+  own_post version route k r means digest post own read = record {
+    version = version;
+    route = route;
+    body = r.body;
+    is = refl;
+    request = λ m some. let q = one m some in (q.0, q.2 ∙ ap (λ (k : List ℕ). Of k q.0) own);
+    made = λ m some none.
+        let q = one m some in
+        let before = asked_before version (company_request digest route k r) q.0 q.1 in
+        post_made version route r (is_company digest k (shown_key r)) before.0 post before.1 none;
+  } where
+    one : (m : Message) → means ≡ Some m → (q : Request) × (asked_at version (company_request digest route k r) ≡ Ok q) × (m ≡ Of k q)
+    one m some =
+        let asked = asked_at version (company_request digest route k r) in
+        asked_request k asked m (subst (Means (company_verdict k asked)) some (company_meaning version k (company_request digest route k r) means read))
 
-  abbrev IsGivenMore : List Pair → List Pair → Type 0
-  IsGivenMore K A = (gs : List events.Event) × (part identity K c ≡ map Given gs ++ part identity A c)
+  pub by_company : (version : Version) (route : CompanyRoute) (k : List ℕ) (r : RequestValue) (means : Option Message) (e : Event) (rest : List Event)
+      → MeansAt version (company_verdict k (company_request (key_of (callers.Company k) (book_of identity key G)) route k r)) means
+      → or_given (own_events c version (to_company route k r) P) (given means) ≡ e ∷ rest
+      → (k ≡ c) × IsPosted c means (own_events c version (to_company route k r) P)
+  by_company version route k r means e rest read gave =
+      by (is_post route && (bytes_eq k c && is_company (digest P) c (shown_key r))) refl (company_events identity key c G keys x means version route k r read) gave where
+        by : (b : Bool) → (is_post route && (bytes_eq k c && is_company (digest P) c (shown_key r))) ≡ b
+            → core_events (post_if b version route r.body) ≡ given means → or_given (post_if b version route r.body) (given means) ≡ e ∷ rest
+            → (k ≡ c) × IsPosted c means (post_if b version route r.body)
+        by true is same gave =
+            let post = and_parts (is_post route) (bytes_eq k c && is_company (digest P) c (shown_key r)) is in
+            let own = (bytes_eq-Decides k c).0 (and_parts (bytes_eq k c) (is_company (digest P) c (shown_key r)) post.1).0 in
+            (own, own_post version route k r means (key_of (callers.Company k) (book_of identity key G)) post.0 own read)
+        by false is same gave = let no : [] ≡ e ∷ rest = ap (map Given) same ∙ gave in cc
 
-  given_pair : (origin : Origin) (m : Message) (A : List Pair) → IsCommandWith (origin_events c origin) m → IsGivenMore (with_text identity key origin (Some m) A) A
-  given_pair origin m A is =
-      let P = core_events (part identity A c) in
-      let gs = operator_events identity c (calls_of identity A) (is_success (text identity key A origin (Some m))) (Some m) P in
-      (gs, ap (λ (l : List Event). (l ++ map Given gs) ++ part identity A c) (is.none P))
+  by_operator : (b : Bool) (route : OperatorRoute) (r : RequestValue) (means : Option Message) (e : Event) (rest : List Event)
+      → Means (if b then operator_call route r else Err Denied) means → map Given (given means) ≡ e ∷ rest → IsCommanded means []
+  by_operator b route r None e rest is gave = cc
+  by_operator b route r (Some m) e rest is gave = record { message = m; is = refl; command = is_command b route r m is; none = refl }
 
-  given_files : (es : List events.Event) (A : List Pair) → IsGivenMore (with_files identity key c es A) A
-  given_files [] A = ([], refl)
-  given_files (e ∷ es) A =
-      let before = with_files identity key c es A in
-      let rest = given_files es A in
-      let new = given_pair from_facts (TakeFile (Ok (file_for identity c (calls_of identity before) e))) before (record { command = tt; none = λ P. refl }) in (
-        new.0 ++ rest.0,
-        new.1 ∙ ap (λ (l : List Event). map Given new.0 ++ l) rest.1
-            ∙ sym (append_assoc (map Given new.0) (map Given rest.0) (part identity A c))
-            ∙ ap (λ (l : List Event). l ++ part identity A c) (sym (map-append Given new.0 rest.0)),
-      )
+  gave_to : (version : Version) (a : Addressee) (means : Option Message) (e : Event) (rest : List Event)
+      → MeansAt version (verdict_by (λ k. key_of (callers.Company k) (book_of identity key G)) (Some key) a) means → or_given (own_events c version a P) (given means) ≡ e ∷ rest
+      → IsPosted c means (own_events c version a P) ⊎ IsCommanded means (own_events c version a P)
+  gave_to version (to_nobody fault) means e rest read gave = absurd (nothing_given means e rest (nothing_meant version fault means read) gave)
+  gave_to version (to_company route k r) means e rest read gave = inl (by_company version route k r means e rest read gave).1
+  gave_to version (to_operator route r) means e rest read gave =
+      inr (by_operator (is_key (Some key) (shown_key r)) route r means e rest (command_meaning version (is_key (Some key) (shown_key r)) route r means read) gave)
 
-  given_call : (origin : Origin) (m : Message) (es : List events.Event) (A : List Pair) → IsCommandWith (origin_events c origin) m
-      → IsGivenMore (bytes_alone.with_call identity key c origin m es A) A
-  given_call origin m es A is =
-      call_shape identity key c (λ K. IsGivenMore K A) origin m es A
-      (λ none. ([], refl)) (λ command. given_files es A) (λ e more some. given_pair origin m A is)
+  -- what gives events is a POST of the company's, or a command
+  pub gave_events : (origin : Origin) (means : Option Message) (e : Event) (rest : List Event) → IsReadAs identity key G origin means
+      → or_given (origin_events c origin P) (given means) ≡ e ∷ rest → IsPosted c means (origin_events c origin P) ⊎ IsCommanded means (origin_events c origin P)
+  gave_events (taken_by version v) means e rest read gave = gave_to version (addressee_of v) means e rest read gave
+  gave_events from_facts None e rest read gave = absurd read
+  gave_events from_facts (Some (TakeFile file)) e rest read gave = inr (record { message = TakeFile file; is = refl; command = tt; none = refl })
+  gave_events from_facts (Some m) e rest read gave = absurd read
 
-  -- so it is known by its calls
-  command_part : (es more : List Event) (K A : List Pair) → es ≡ map Given (core_events es) → IsGivenMore K A → part identity A c ≡ more
-      → core_events (part identity K c) ≡ core_events es ++ core_events more → part identity K c ≡ es ++ more
-  command_part es more K A given new same calls =
-      let told : part identity K c ≡ map Given new.0 ++ more = new.1 ∙ ap (λ (l : List Event). map Given new.0 ++ l) same in
-      let counted : new.0 ++ core_events more ≡ core_events (part identity K c) =
-      sym (ap core_events told ∙ core_events-append (map Given new.0) more ∙ ap (λ (l : List events.Event). l ++ core_events more) (core_events-given new.0)) in
-      let alike = append_cancel_right new.0 (core_events es) (core_events more) (counted ∙ calls) in
-      told ∙ ap (λ (gs : List events.Event). map Given gs ++ more) alike ∙ ap (λ (l : List Event). l ++ more) (sym given)
+  -- ---- its call counts
 
-  given_alone : (es : List Event) (gs : List events.Event) → es ≡ map Given gs → es ≡ map Given (core_events es)
-  given_alone es gs is = is ∙ ap (map Given) (sym (ap core_events is ∙ core_events-given gs))
+  if_given : (lost : Bool) (m : Message) (e : Event) (rest : List Event) → map Given (call_events identity c G (if lost then None else Some m)) ≡ e ∷ rest
+      → (if lost then None else Some m) ≡ Some m
+  if_given true m e rest gave = cc
+  if_given false m e rest gave = refl
 
-  -- ---- what the company posted is told as it came
+  own_call : (means : Option Message) → ((m : Message) → means ≡ Some m → (q : Request) × (m ≡ Of c q)) → call_at identity G x means ≡ means
+  own_call None request = refl
+  own_call (Some m) request = let q = request m refl in subst (λ (m : Message). call_at identity G x (Some m) ≡ Some m) (sym q.1) refl
 
-  own_part : (origin : Origin) (means : Option Message) (es more : List Event) (A : List Pair)
-      → es ≡ origin_events c origin (core_events more) ++ [] → operator_events identity c (calls_of identity A) (is_success (text identity key A origin means)) means (core_events (part identity A c)) ≡ []
-      → part identity A c ≡ more → part identity (with_text identity key origin means A) c ≡ es ++ more
-  own_part origin means es more A is none same =
-      (λ i. (origin_events c origin (core_events (same i)) ++ map Given (none i)) ++ same i)
-      ∙ ap (λ (l : List Event). l ++ more) (sym is)
+  commanded_call : (means : Option Message) (m : Message) (e : Event) (rest : List Event) → means ≡ Some m → map Given (given means) ≡ e ∷ rest → call_at identity G x means ≡ means
+  commanded_call None m e rest is gave = refl
+  commanded_call (Some n) m e rest is gave = if_given (is_lost identity G x n) n e rest gave
 
-  request_part : (origin : Origin) (m : Message) (es more : List Event) (A : List Pair)
-      → es ≡ origin_events c origin (core_events more) ++ [] → IsRequestWith (origin_events c origin) m → part identity A c ≡ more
-      → part identity (bytes_alone.with_call identity key c origin m (core_events es) A) c ≡ es ++ more
-  request_part origin m es more A is asked same =
-      let plain = is ∙ append-nil (origin_events c origin (core_events more)) in
-      subst (λ (m : Message). part identity (bytes_alone.with_call identity key c origin m (core_events es) A) c ≡ es ++ more) (sym asked.is)
-      (call_shape identity key c (λ K. part identity K c ≡ es ++ more) origin (Of asked.company asked.request) (core_events es) A
-      (λ none. same ∙ ap (λ (l : List Event). l ++ more) (sym (plain ∙ asked.made (core_events more) (sym (ap core_events plain) ∙ none))))
-      (λ command. absurd command) (λ e rest some. own_part origin (Some (Of asked.company asked.request)) es more A is refl same))
+  pub call_counts : (means : Option Message) (own : List Event) (e : Event) (rest : List Event) → IsPosted c means own ⊎ IsCommanded means own → or_given own (given means) ≡ e ∷ rest
+      → call_at identity G x means ≡ means
+  call_counts means own e rest (inl posted) gave = own_call means posted.request
+  call_counts means own e rest (inr commanded) gave =
+      commanded_call means commanded.message e rest commanded.is (subst (λ (own : List Event). or_given own (given means) ≡ e ∷ rest) commanded.none gave)
 
-  -- ---- what a pair gives
+  -- what a command gave is given
+  given_is : (es : List events.Event) (e : Event) (rest : List Event) → map Given es ≡ e ∷ rest → e ∷ rest ≡ map Given (core_events (e ∷ rest))
+  given_is es e rest is = sym is ∙ ap (map Given) (sym (core_events-given es)) ∙ ap (λ (l : List Event). map Given (core_events l)) is
 
-  -- the events of what came, after the part of the whole desk
-  abbrev IsPairOf : Origin → Option Message → (G : List core.Pair) → (ok : Bool) → (es more : List Event) → Type 0
-  IsPairOf origin means G ok es more = es ≡ origin_events c origin (core_events more) ++ map Given (operator_events identity c G ok means (core_events more))
+  pub commanded_given : (means : Option Message) (own : List Event) (e : Event) (rest : List Event) → IsCommanded means own → or_given own (given means) ≡ e ∷ rest
+      → e ∷ rest ≡ map Given (core_events (e ∷ rest))
+  commanded_given means own e rest commanded gave =
+      given_is (given means) e rest (subst (λ (own : List Event). or_given own (given means) ≡ e ∷ rest) commanded.none gave)
 
-  request_gives : (origin : Origin) (m : Message) (G : List core.Pair) (ok : Bool) (es more : List Event) → IsRequestWith (origin_events c origin) m → IsPairOf origin (Some m) G ok es more
-      → es ≡ origin_events c origin (core_events more) ++ []
-  request_gives origin m G ok es more asked is =
-      is ∙ ap (λ (m : Message). origin_events c origin (core_events more) ++ map Given (operator_events identity c G ok (Some m) (core_events more))) asked.is
+  -- and makes an event over calls, if it made a call
+  some_given : (es : List Event) (e : Event) (rest : List Event) → es ≡ e ∷ rest → es ≡ map Given (core_events es) → core_events es ≡ [] → ⊥
+  some_given es e rest is given none = let no : [] ≡ e ∷ rest = sym (given ∙ ap (map Given) none) ∙ is in cc
 
-  command_gives : (origin : Origin) (m : Message) (G : List core.Pair) (ok : Bool) (es more : List Event) → IsCommandWith (origin_events c origin) m → IsPairOf origin (Some m) G ok es more
-      → es ≡ map Given (operator_events identity c G ok (Some m) (core_events more))
-  command_gives origin m G ok es more command is =
-      is ∙ ap (λ (l : List Event). l ++ map Given (operator_events identity c G ok (Some m) (core_events more))) (command.none (core_events more))
-
-  -- The part of the desk that serves the company alone has the same events more.
-  pub origin_part : (origin : Origin) (means : Option Message) (G : List core.Pair) (ok : Bool) (es more : List Event) (A : List Pair)
-      → IsPairOf origin means G ok es more → IsReadAs identity key G origin means → part identity A c ≡ more
-      → core_events (part identity (with_origin identity key c origin means es A) c) ≡ core_events es ++ core_events more
-      → part identity (with_origin identity key c origin means es A) c ≡ es ++ more
-  origin_part origin None G ok [] more A is read same calls = same
-  origin_part origin None G ok (e ∷ es) more A is read same calls = own_part origin None (e ∷ es) more A is refl same
-  origin_part origin (Some m) G ok es more A is read same calls = elim (read_as G origin m read) [
-    | inl command ↦
-        command_part es more (bytes_alone.with_call identity key c origin m (core_events es) A) A
-        (given_alone es (operator_events identity c G ok (Some m) (core_events more)) (command_gives origin m G ok es more command is))
-        (given_call origin m (core_events es) A command) same calls
-    | inr asked ↦ request_part origin m es more A (request_gives origin m G ok es more asked is) asked same
-  ]
-
-  -- ---- each was accepted, or is the company's own
-
-  own_origin : (origin : Origin) (H A : List Pair) (e : Event) (rest : List Event) → part identity A c ≡ part identity H c
-      → e ∷ rest ≡ origin_events c origin (core_events (part identity H c)) ++ [] → IsOwn identity c A origin
-  own_origin from_facts H A e rest same is = cc
-  own_origin (taken_by version v) H A e rest same is = elim (own_or_none c version (addressee_of v) (core_events (part identity H c))) [
-    | inl none ↦ let no : e ∷ rest ≡ [] = is ∙ ap (λ (l : List Event). l ++ []) none in cc
-    | inr own ↦ (version, own.0, own.1, ap (λ (Q : List Event). own_events c version (addressee_of v) (core_events Q)) same ∙ own.2)
-  ]
-
-  no_request : (m : Message) → IsCommand m → IsOf c m → ⊥
-  no_request (Of k r) command is = command
-  no_request m command is = is
-
-  -- what gives something is sure of its status
-  sure_command : (m : Message) (G : List core.Pair) (ok : Bool) (P : List events.Event) (e : events.Event) (more : List events.Event) → IsCommand m
-      → operator_events identity c G ok (Some m) P ≡ e ∷ more → IsSure (kind_of m)
-  sure_command (Of k r) G ok P e more command is = absurd command
-  sure_command (FileText d modifier) G ok P e more command is = let no : [] ≡ e ∷ more = sym (none_of_file identity.odfi (sent_entries identity.odfi G) c ok d modifier P) ∙ is in cc
-  sure_command m G ok P e more command is = tt
-
-  accepted_pair : (origin : Origin) (m : Message) (A : List Pair) → IsCommand m → IsSure (kind_of m)
-      → All (λ x. IsAcceptedOrOf c x) (calls_of identity (with_text identity key origin (Some m) A)) → is_success (text identity key A origin (Some m)) ≡ true
-  unfolding text
-  accepted_pair origin m A command sure all =
-      accepts (closes origin) m (answer_to identity (calls_of identity A) m) sure
-      ∙ (elim (All-head (λ x. IsAcceptedOrOf c x) (next_pair identity (calls_of identity A) m) (calls_of identity A) (subst (λ (G : List core.Pair). All (λ x. IsAcceptedOrOf c x) G) (right_pair identity key origin m A) all)) [
-        | inl ok ↦ ok
-        | inr of ↦ absurd (no_request m command of)
-      ])
-
-  accepted_before : (origin : Origin) (m : Message) (A : List Pair) → All (λ x. IsAcceptedOrOf c x) (calls_of identity (with_text identity key origin (Some m) A)) → All (λ x. IsAcceptedOrOf c x) (calls_of identity A)
-  accepted_before origin m A all =
-      All-tail (λ x. IsAcceptedOrOf c x) (next_pair identity (calls_of identity A) m) (calls_of identity A) (subst (λ (G : List core.Pair). All (λ x. IsAcceptedOrOf c x) G) (right_pair identity key origin m A) all)
-
-  accepted_files : (es : List events.Event) (A : List Pair) → AreAcceptedOrOwn identity c A → All (λ x. IsAcceptedOrOf c x) (calls_of identity (with_files identity key c es A))
-      → AreAcceptedOrOwn identity c (with_files identity key c es A)
-  accepted_files [] A are all = are
-  accepted_files (e ∷ es) A are all =
-      let before = with_files identity key c es A in
-      let m = TakeFile (Ok (file_for identity c (calls_of identity before) e)) in
-      (inl (accepted_pair from_facts m before tt tt all), accepted_files es A are (accepted_before from_facts m before all))
-
-  pub origin_accepted : (origin : Origin) (means : Option Message) (G : List core.Pair) (ok : Bool) (es : List Event) (H A : List Pair)
-      → IsPairOf origin means G ok es (part identity H c) → IsReadAs identity key G origin means → part identity A c ≡ part identity H c
-      → All (λ x. IsAcceptedOrOf c x) (calls_of identity (with_origin identity key c origin means es A)) → AreAcceptedOrOwn identity c A
-      → AreAcceptedOrOwn identity c (with_origin identity key c origin means es A)
-  origin_accepted origin None G ok [] H A is read same all are = are
-  origin_accepted origin None G ok (e ∷ es) H A is read same all are = (inr (own_origin origin H A e es same is), are)
-  origin_accepted origin (Some m) G ok es H A is read same all are = elim (read_as G origin m read) [
-    | inl command ↦
-        call_shape identity key c (λ K. All (λ x. IsAcceptedOrOf c x) (calls_of identity K) → AreAcceptedOrOwn identity c K) origin m (core_events es) A
-        (λ none all. are) (λ taken all. accepted_files (core_events es) A are all)
-        (λ e more some all.
-        let given = command_gives origin m G ok es (part identity H c) command is in
-        let gives = sym (ap core_events given ∙ core_events-given (operator_events identity c G ok (Some m) (core_events (part identity H c)))) ∙ some in
-        (inl (accepted_pair origin m A command.command (sure_command m G ok (core_events (part identity H c)) e more command.command gives) all), are))
-        all
-    | inr asked ↦
-        call_shape identity key c (λ K. AreAcceptedOrOwn identity c K) origin m (core_events es) A
-        (λ none. are) (λ command. absurd (subst IsCommand asked.is command))
-        (λ e more some. (inr (own_some origin es H A same (request_gives origin m G ok es (part identity H c) asked is) (λ none. let no : [] ≡ e ∷ more = sym (ap core_events none) ∙ some in cc)), are))
-  ]
-    where
-      own_some : (origin : Origin) (es : List Event) (H A : List Pair) → part identity A c ≡ part identity H c → es ≡ origin_events c origin (core_events (part identity H c)) ++ [] → (es ≡ [] → ⊥) → IsOwn identity c A origin
-      own_some origin [] H A same is some = absurd (some refl)
-      own_some origin (e ∷ rest) H A same is some = own_origin origin H A e rest same is
+  pub made_events : (means : Option Message) (own : List Event) (e : Event) (rest : List Event) (m : Message) → IsPosted c means own ⊎ IsCommanded means own → or_given own (given means) ≡ e ∷ rest
+      → means ≡ Some m → core_events (e ∷ rest) ≡ [] → ⊥
+  made_events means own e rest m (inl posted) gave some none =
+      let same : Posted posted.version posted.route posted.body ∷ [] ≡ e ∷ rest = subst (λ (own : List Event). or_given own (given means) ≡ e ∷ rest) posted.is gave in
+      posted.made m some (ap core_events same ∙ none)
+  made_events means own e rest m (inr commanded) gave some none =
+      some_given (e ∷ rest) e rest refl (commanded_given means own e rest commanded gave) none

@@ -1,6 +1,6 @@
 -- A status of 200 or 201 is an accepted call.
-use Rattle.std.proofs.Common.{◌≡◌, ℕ, List, [], ◌++◌, length, arith, Bool, true, false, ◌&&◌, ◌⊎◌, refl, sym, ap, ◌∙◌, inl, inr}
-use Rattle.std.specs.Prelude.{⊤, not, unwrap_or, codes, decimal}
+use Rattle.std.proofs.Common.{◌≡◌, ℕ, List, [], ◌++◌, length, arith, Bool, true, false, ◌⊎◌, refl, sym, ap, ◌∙◌, inl, inr}
+use Rattle.std.specs.Prelude.{⊤, unwrap_or, codes, decimal}
 use Rattle.std.proofs.lemmas.Fmt.{decimal-digits_of}
 use Rattle.http.specs.StatusCode.{reason_phrase}
 use Rattle.desk_rules.specs.declared.refusals.names.RefusalName.{RefusalName}
@@ -20,7 +20,6 @@ use Rattle.http_answers.specs.Answers.{answer_body}
 use Rattle.http_answers.specs.Refusals.{refusal_status}
 use Rattle.http_answers.specs.Statuses.{kind_of, status_of, content_of}
 use Rattle.http_history.specs.Texts.{call_text, is_success}
-use Rattle.http_history.specs.History.{unless_lost}
 
 -- ---- the digits of a status
 
@@ -77,7 +76,7 @@ module _ (content : Content) (closes : Bool) (body : List ℕ) where
       ap is_success (response_spelled 422 (codes "422") content closes body (decimal-digits_of 422 (omega arith) (omega arith)))
       ∙ begins_422 (phrase 422) fields body
 
--- ---- a refusal is no success
+-- ---- a refusal does not succeed
 
 abbrev pub IsRefused : ℕ → Type 0
 IsRefused status = (status ≡ 409) ⊎ (status ≡ 422)
@@ -136,15 +135,3 @@ answer_accepts kinds.Other sure content closes body (answers.Refused why) = fail
 pub accepts : (closes : Bool) (m : Message) (a : Answer) → IsSure (kind_of m) → is_success (call_text closes m a) ≡ is_accepted a
 unfolding call_text
 accepts closes m a sure = answer_accepts (kind_of m) sure (content_of a) closes (answer_body a) a
-
-unlost : (t s : Bool) (a : Answer) → t ≡ is_accepted a → (s ≡ true → is_accepted a ≡ true) → s ≡ is_accepted (unless_lost (t && not s) a)
-unlost true true a is ok = sym (ok refl)
-unlost true false a is ok = refl
-unlost false true a is ok = sym (ok refl)
-unlost false false a is ok = is
-
--- an answer that is the text where it is a success
-pub same_success : (closes : Bool) (m : Message) (a : Answer) (answer : List ℕ) → IsSure (kind_of m) → (is_success answer ≡ true → answer ≡ call_text closes m a)
-    → is_success answer ≡ is_accepted (unless_lost (is_success (call_text closes m a) && not (is_success answer)) a)
-same_success closes m a answer sure is =
-    unlost (is_success (call_text closes m a)) (is_success answer) a (accepts closes m a sure) (λ ok. sym (accepts closes m a sure) ∙ ap is_success (sym (is ok)) ∙ ok)

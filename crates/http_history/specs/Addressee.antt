@@ -1,4 +1,4 @@
--- To whom a message goes, as it alone tells.
+-- The addressee of a message, which follows from the message alone.
 use Rattle.std.specs.Prelude.{ℕ, List, if◌then◌else◌, Option, Result, Ok, Err, codes}
 use Rattle.std.specs.Str.{is_utf8}
 use Rattle.http_message.specs.declared.framing.Framing.{Framing}
@@ -25,14 +25,14 @@ request_path r = path_of r.target
 abbrev pub shown_key : RequestValue → Option (List ℕ)
 shown_key r = first_of (values_of (codes "X-Desk-Key") r.fields)
 
--- A request goes to the desk under a company's name, or under the operator's. Of other messages the head
--- alone tells the fault.
+-- A request goes to the desk under a company's name, or under the operator's. The fault of any other message
+-- follows from its head.
 pub data Addressee : Type 0 where
   to_nobody : MessageFault → Addressee
   to_company : CompanyRoute → (company : List ℕ) → RequestValue → Addressee
   to_operator : OperatorRoute → RequestValue → Addressee
 
--- the route that the table has for a path, if it takes this method; a path that is no UTF-8 has none
+-- the route that the table has for a path, if it takes this method; a path that is not UTF-8 does not have one
 abbrev pub route_of_path : (method path : List ℕ) → Result Route RouteFault
 route_of_path method path = if is_utf8 path then route_verdict method (service_at path) else Err route_faults.NotFound
 

@@ -1,13 +1,13 @@
 -- The history over bytes of a desk that serves one company alone.
-use Rattle.std.specs.Prelude.{ℕ, List, [], ◌∷◌, Option, Some, None, Ok}
+use Rattle.std.specs.Prelude.{ℕ, List, [], ◌∷◌, Option, Some, Ok}
 use Rattle.desk_history.specs.declared.identity.Identity.{Identity}
 use Rattle.desk_history.specs.Alone.{file_for}
 use Rattle.desk_history.specs.Message.{Message, TakeFile}
 use Rattle.desk_history.specs.Part as events
 use Rattle.http_history.specs.History.{Origin, from_facts, Pair, calls_of, text}
-use Rattle.http_history.specs.Part.{Event, core_events, pair_events, part}
+use Rattle.http_history.specs.Part.{Event, core_events, events_at}
 
--- what came, with its text, after these pairs
+-- a message with its text, after these pairs
 abbrev pub with_text : Identity → (key : List ℕ) → Origin → Option Message → List Pair → List Pair
 with_text identity key origin means A = record { origin = origin; answer = text identity key A origin means; means = means } ∷ A
 
@@ -18,22 +18,13 @@ with_files identity key c (e ∷ es) A =
     let before = with_files identity key c es A in
     with_text identity key from_facts (Some (TakeFile (Ok (file_for identity c (calls_of identity before) e)))) before
 
--- a call that gave these events, or files in the place of a file
-abbrev pub with_call : Identity → (key : List ℕ) → (company : List ℕ) → Origin → Message → List events.Event → List Pair → List Pair
-with_call identity key c origin m [] A = A
-with_call identity key c origin (TakeFile file) es A = with_files identity key c es A
-with_call identity key c origin m (e ∷ es) A = with_text identity key origin (Some m) A
+-- a message that gave these events, or files in the place of a file
+abbrev pub with_message : Identity → (key : List ℕ) → (company : List ℕ) → Origin → Option Message → List Event → List Pair → List Pair
+with_message identity key c origin means [] A = A
+with_message identity key c origin (Some (TakeFile file)) es A = with_files identity key c (core_events es) A
+with_message identity key c origin means es A = with_text identity key origin means A
 
--- what came, where it gave events; also what was no call
-abbrev pub with_origin : Identity → (key : List ℕ) → (company : List ℕ) → Origin → Option Message → List Event → List Pair → List Pair
-with_origin identity key c origin None [] A = A
-with_origin identity key c origin None (e ∷ es) A = with_text identity key origin None A
-with_origin identity key c origin (Some m) es A = with_call identity key c origin m (core_events es) A
-
--- A new desk is told what gave the company's events, in its order, and nothing else.
+-- A new desk takes the messages that gave the company's events, in their order, and no others.
 abbrev pub alone : Identity → (key : List ℕ) → (company : List ℕ) → List Pair → List Pair
 alone identity key c [] = []
-alone identity key c (x ∷ H) =
-    with_origin identity key c x.origin x.means
-    (pair_events identity c (calls_of identity H) x (core_events (part identity H c)))
-    (alone identity key c H)
+alone identity key c (x ∷ H) = with_message identity key c x.origin x.means (events_at identity H x c) (alone identity key c H)

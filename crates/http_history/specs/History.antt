@@ -1,13 +1,9 @@
 -- The history of a desk over bytes, the newest pair first, and the history of calls that it is.
-use Rattle.std.specs.Prelude.{◌≡◌, ⊤, ℕ, Bool, true, false, not, ◌&&◌, List, [], ◌∷◌, Option, Some, None, Ok}
-use Rattle.desk_rules.specs.declared.refusals.refusal.Refusal.TheVariants.{NoDay}
-use Rattle.desk_history.specs.declared.answer.Answer.{Answer}
-use Rattle.desk_history.specs.declared.answer.Answer.TheVariants as answers
-use Rattle.desk_history.specs.declared.answer.CallRefusal.TheVariants.{Rule}
+use Rattle.std.specs.Prelude.{◌≡◌, ⊤, ℕ, Bool, true, false, not, ◌&&◌, if◌then◌else◌, List, [], ◌∷◌, Option, Some, None, Ok}
 use Rattle.desk_history.specs.declared.identity.Identity.{Identity}
 use Rattle.desk_history.specs.Message as core
-use Rattle.desk_history.specs.Message.{Message, TakeFile}
-use Rattle.desk_history.specs.Operator.{answer_to}
+use Rattle.desk_history.specs.Message.{Message, Of, TakeFile}
+use Rattle.desk_history.specs.Operator.{answer_to, next_pair}
 use Rattle.desk_book.specs.Book.{Book, book_of}
 use Rattle.http_message.specs.Message as messages
 use Rattle.http_message.specs.Message.{MessageValue}
@@ -15,8 +11,7 @@ use Rattle.http_history.specs.Verdict.{verdict_on}
 use Rattle.http_history.specs.Versions.{Version, First, Present, MeansAt}
 use Rattle.http_history.specs.Texts.{call_text, fault_text, is_success, is_unavailable}
 
--- what a pair came from: a message, with the version of the desk that took it, or the facts of a file alone, of which
--- no bytes were made
+-- the origin of a pair: a message, with the version of the desk that took it, or the facts of a file without its bytes
 pub data Origin : Type 0 where
   taken_by : Version → MessageValue → Origin
   from_facts : Origin
@@ -29,7 +24,7 @@ from_message v = taken_by Present v
 abbrev pub from_first : MessageValue → Origin
 from_first v = taken_by First v
 
--- what came, its answer, and the message of the history of calls that it was read as
+-- a message or a file, its answer, and the message of the history of calls that it was read as
 pub record Pair : Type 0 where
   pub origin : Origin
   pub answer : List ℕ
@@ -42,25 +37,24 @@ closes from_facts = false
 
 -- ---- the history of calls
 
--- the definitions' answer; or a refusal, where the desk did not accept what it could have accepted
-abbrev pub unless_lost : (lost : Bool) → Answer → Answer
-unless_lost true a = answers.Refused (Rule NoDay)
-unless_lost false a = a
-
+-- The definitions accept the command, but it was not answered 200 or 201: nothing was done.
 abbrev pub is_lost : Identity → List core.Pair → Pair → Message → Bool
+is_lost identity G x (Of c r) = false
 is_lost identity G x m = is_success (call_text (closes x.origin) m (answer_to identity G m)) && not (is_success x.answer)
 
-abbrev pub call_pair : Identity → List core.Pair → Pair → Message → core.Pair
-call_pair identity G x m = record { message = m; answer = unless_lost (is_lost identity G x m) (answer_to identity G m) }
+-- the call of a pair, if it has one that was not lost
+abbrev pub call_at : Identity → List core.Pair → Pair → Option Message → Option Message
+call_at identity G x None = None
+call_at identity G x (Some m) = if is_lost identity G x m then None else Some m
 
-abbrev pub with_call : Identity → Pair → Option Message → List core.Pair → List core.Pair
-with_call identity x None G = G
-with_call identity x (Some m) G = call_pair identity G x m ∷ G
+abbrev pub with_call : Identity → Option Message → List core.Pair → List core.Pair
+with_call identity None G = G
+with_call identity (Some m) G = next_pair identity G m ∷ G
 
--- the calls that the messages made, with their answers
+-- the calls of a history, each with the answer that the definitions have for it
 unfoldable pub calls_of : Identity → List Pair → List core.Pair
 calls_of identity [] = []
-calls_of identity (x ∷ H) = with_call identity x x.means (calls_of identity H)
+calls_of identity (x ∷ H) = with_call identity (call_at identity (calls_of identity H) x x.means) (calls_of identity H)
 
 -- the book of a history over bytes
 abbrev pub book_behind : Identity → (key : List ℕ) → List Pair → Book
@@ -68,13 +62,13 @@ book_behind identity key H = book_of identity key (calls_of identity H)
 
 -- ---- which lists are histories
 
--- the answer to what came, after a history of calls
+-- the answer to a message after a history of calls
 abbrev pub text_in : Identity → (key : List ℕ) → List core.Pair → Origin → Option Message → List ℕ
 text_in identity key G origin (Some m) = call_text (closes origin) m (answer_to identity G m)
 text_in identity key G (taken_by version v) None = fault_text (messages.closes v) (verdict_on (book_of identity key G) v)
 text_in identity key G from_facts None = []
 
--- the answer to what came, after a history
+-- and after a history over bytes
 unfoldable pub text : Identity → (key : List ℕ) → List Pair → Origin → Option Message → List ℕ
 text identity key H origin means = text_in identity key (calls_of identity H) origin means
 
@@ -88,14 +82,13 @@ IsReadAs identity key G (taken_by version v) means = MeansAt version (verdict_on
 IsReadAs identity key G from_facts None = ⊥
 IsReadAs identity key G from_facts (Some m) = IsFile m
 
--- None has the status 503, of a command or of a read: what was answered so stands in no history. One with
--- status 200 or 201 is the text. Others change nothing, and are not bound.
+-- No answer has the status 503: a message that is answered 503 is in no history. An answer with the status 200 or 201 is the
+-- text. Other answers change nothing and may be any bytes.
 pub record IsAnswer (text answer : List ℕ) : Type 0 where
   pub answered : is_unavailable answer ≡ false
   pub said : is_success answer ≡ true → answer ≡ text
 
--- Each answer is one after the pairs before it. A command of which a crash kept what it wrote stands there too,
--- with its text.
+-- Each answer is one after the pairs before it. The history also has a command that a crash kept, with its text.
 abbrev pub IsHistory : Identity → (key : List ℕ) → List Pair → Type 0
 IsHistory identity key [] = ⊤
 IsHistory identity key (x ∷ H) =

@@ -15,7 +15,7 @@ use Rattle.http_routes.specs.declared.route.CompanyRoute.{CompanyRoute}
 use Rattle.http_history.specs.Verdict.{Verdict, verdict_on, Means}
 use Rattle.http_history.specs.Versions.{Version, First}
 use Rattle.http_history.specs.Texts.{is_success, is_unavailable}
-use Rattle.http_history.specs.History.{Origin, taken_by, from_message, from_first, from_facts, Pair, calls_of, text, IsReadAs, IsHistory, book_behind}
+use Rattle.http_history.specs.History.{Origin, taken_by, from_message, from_first, from_facts, Pair, call_at, calls_of, text, IsReadAs, IsHistory, book_behind}
 use Rattle.http_history.specs.Part.{Posted, core_events, origin_events, part}
 use Rattle.http_history.specs.Reply.{reply, IsToCompany}
 use Rattle.http_history.specs.Alone.{alone}
@@ -30,7 +30,7 @@ abbrev pub AllAnswered : List Pair → Type 0
 AllAnswered [] = ⊤
 AllAnswered (x ∷ H) = (x.answer ≢ unavailable_text) × AllAnswered H
 
--- 503 is no answer: it is no text of the definitions, and no pair of a history has it
+-- A 503 does not count as an answer: no text of the definitions has this status, and no pair of a history
 pub record NoneUnavailable : Type 0 where
   pub told : is_unavailable unavailable_text ≡ true
   pub texts : (identity : Identity) (key : List ℕ) (H : List Pair) (origin : Origin) (means : Option Message)
@@ -57,7 +57,7 @@ OwnText = (identity : Identity) (key : List ℕ) (H : List Pair) (c : List ℕ) 
     → IsMeant identity key H v means → IsToCompany c v
     → text identity key H (from_message v) means ≡ reply v (part identity H c)
 
--- Two histories with the same part of a company give it the same bytes, whoever runs the desks.
+-- Two histories with the same part of a company give it the same bytes, even if they are of different banks.
 abbrev pub TwoWorlds : Type 0
 TwoWorlds = (here there : Identity) (key other_key : List ℕ) (H G : List Pair) (c : List ℕ) (v : MessageValue) (means meant : Option Message)
     → IsMeant here key H v means → IsMeant there other_key G v meant → IsToCompany c v
@@ -74,7 +74,7 @@ CallsAlone = (identity : Identity) (key : List ℕ) (H : List Pair) (c : List �
 -- the company posted this under its key, after this history
 abbrev pub IsOwn : Identity → (company : List ℕ) → List Pair → Origin → Type 0
 IsOwn identity c H origin =
-    (version : Version) × (route : CompanyRoute) × (body : List ℕ) × (origin_events c origin (core_events (part identity H c)) ≡ Posted version route body ∷ [])
+    (version : Version) × (route : CompanyRoute) × (body : List ℕ) × (origin_events c origin (core.part identity.odfi (calls_of identity H) c) ≡ Posted version route body ∷ [])
 
 -- each was accepted, or is the company's own
 abbrev pub AreAcceptedOrOwn : Identity → (company : List ℕ) → List Pair → Type 0
@@ -112,12 +112,12 @@ abbrev pub as_present : Origin → Origin
 as_present (taken_by version v) = from_message v
 as_present from_facts = from_facts
 
--- the messages of the calls that the bytes spell, with the key `authorized`, whichever desk took them
+-- the calls that the bytes spell, with the key `authorized`, whichever desk took them
 abbrev pub AreSpelled : Identity → (key : List ℕ) → List Pair → List Message → Type 0
 AreSpelled identity key [] ms = ms ≡ []
 AreSpelled identity key (x ∷ H) ms =
     (spelled : Option Message) × (before : List Message) × IsReadAs identity key (calls_of identity H) (as_present x.origin) spelled
-    × AreSpelled identity key H before × (ms ≡ option_to_list spelled ++ before)
+    × AreSpelled identity key H before × (ms ≡ option_to_list (call_at identity (calls_of identity H) x spelled) ++ before)
 
 -- the calls that the bytes spell, each with the answer that was given
 pub record IsSpelled (identity : Identity) (key : List ℕ) (H : List Pair) (G : List core_messages.Pair) : Type 0 where

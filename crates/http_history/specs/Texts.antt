@@ -13,7 +13,7 @@ use Rattle.http_history.specs.Verdict.{Verdict}
 unfoldable pub call_text : (closes : Bool) → Message → Answer → List ℕ
 call_text closes m a = response_text (status_of (kind_of m) a) (content_of a) closes (answer_body a)
 
--- the answer where there is no call
+-- the answer without a call
 unfoldable pub fault_text : (closes : Bool) → Verdict → List ℕ
 fault_text closes (Err fault) = response_text (fault_status fault) Json closes (message_fault_body fault)
 fault_text closes (Ok call) = []

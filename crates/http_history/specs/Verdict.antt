@@ -1,4 +1,4 @@
--- What a message comes to on a book: a fault, or a call of the desk.
+-- The verdict on a message, from a book: a fault, or a call of the desk.
 use Rattle.std.specs.Prelude.{◌≡◌, ℕ, ◌∷◌, [], Bool, false, ◌&&◌, if◌then◌else◌, List, Option, Some, None, unwrap_or, Result, Ok, Err, bytes_eq}
 use Rattle.std.specs.Result.{result_ok}
 use Rattle.serde_json.specs.Data.{Data}
@@ -141,7 +141,7 @@ verdict_by digests operator (to_operator route r) = operator_verdict operator ro
 abbrev pub verdict_on : Book → MessageValue → Verdict
 verdict_on b v = verdict_by (λ c. key_of (callers.Company c) b) (key_of callers.Operator b) (addressee_of v)
 
--- the message of the history that a verdict's call is; none where there is no call
+-- the message of the history that a verdict's call is; a fault has none
 abbrev pub Means : Verdict → Option Message → Type 0
 Means (Err fault) means = means ≡ None
 Means (Ok call) None = ⊥

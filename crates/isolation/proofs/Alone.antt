@@ -1,6 +1,7 @@
 -- That a part has nothing of others.
 use Rattle.std.proofs.Common.{◌≡◌, ◌<◌, ◌≤◌, ◌^◌, ℕ, List, [], ◌∷◌, length, Bool, true, false, ◌&&◌, refl, ap, ◌∙◌}
 use Rattle.std.specs.Prelude.{⊤, if◌then◌else◌, count_by, Option, Some, None, option_map, Result, Ok, Err, bytes_eq}
+use Rattle.std.specs.List.{AllByRecursion}
 use Rattle.std.specs.Result.{result_ok}
 use Rattle.std.proofs.lemmas.Slice.Eq.{bytes_eq-Decides}
 use Rattle.ach_files.specs.declared.fault.Fault.{Fault}
@@ -19,7 +20,7 @@ use Rattle.desk_history.specs.Part.{Event, is_registered}
 use Rattle.desk_history.specs.Request.{Request}
 use Rattle.isolation.specs.World as steps
 use Rattle.isolation.specs.World.{Command, Step, Asks, Does, World, told}
-use Rattle.isolation.specs.Alone.{IsFor, AreFor, told_all, IsAlone}
+use Rattle.isolation.specs.Alone.{IsFor, told_all, IsAlone}
 use Rattle.isolation.specs.Calls.{due_next, message_step, world_of_calls}
 use Rattle.isolation.proofs.Folded.{same_world}
 
@@ -86,7 +87,7 @@ files c false (Ok f) = tt
 files c false (Err fault) = tt
 
 module _ (odfi : List ℕ) (es : List SentEntry) (c : List ℕ) (P : List Event) where
-  -- ok as it was accepted where it gave the event, and again as it is accepted where it is told again
+  -- ok: accepted when it gave the event; again: accepted by the desk that serves the company alone
   is_for : (new ok again : Bool) (m : Message) → IsSome (events_for odfi es new c ok m P) → IsFor c (message_step again m)
   is_for new ok again (Of k r) some = if_own (bytes_eq k c) (is_registered P) k c r refl some
   is_for new ok again (SetDay text) some = days c again (message_day (SetDay text))
@@ -104,15 +105,15 @@ module _ (odfi : List ℕ) (es : List SentEntry) (c : List ℕ) (P : List Event)
   is_for new ok again Companies some = quiet c again
 
 module _ (identity : Identity) (c : List ℕ) where
-  by_files : (es : List Event) (G : List Pair) → AreFor c (steps_of G) → AreFor c (steps_of (with_files identity c es G))
+  by_files : (es : List Event) (G : List Pair) → AllByRecursion (IsFor c) (steps_of G) → AllByRecursion (IsFor c) (steps_of (with_files identity c es G))
   by_files [] G are = are
   by_files (e ∷ es) G are =
       let before = with_files identity c es G in
       (files c (is_accepted (answer_to identity before (TakeFile (Ok (file_for identity c before e))))) (Ok (file_for identity c before e)), by_files es G are)
 
   -- a message that gave these events
-  by_message : (m : Message) (es : List Event) (G : List Pair) → ((again : Bool) → IsSome es → IsFor c (message_step again m)) → AreFor c (steps_of G)
-      → AreFor c (steps_of (with_message identity c m es G))
+  by_message : (m : Message) (es : List Event) (G : List Pair) → ((again : Bool) → IsSome es → IsFor c (message_step again m)) → AllByRecursion (IsFor c) (steps_of G)
+      → AllByRecursion (IsFor c) (steps_of (with_message identity c m es G))
   by_message m [] G is are = are
   by_message (TakeFile file) (e ∷ es) G is are = by_files (e ∷ es) G are
   by_message (Of k r) (e ∷ es) G is are = (is (is_accepted (answer_to identity G (Of k r))) tt, are)
@@ -127,7 +128,7 @@ module _ (identity : Identity) (c : List ℕ) where
   by_message Status (e ∷ es) G is are = (is (is_accepted (answer_to identity G Status)) tt, are)
   by_message Companies (e ∷ es) G is are = (is (is_accepted (answer_to identity G Companies)) tt, are)
 
-  own_steps : (H : List Pair) → AreFor c (steps_of (core_alone.alone identity c H))
+  own_steps : (H : List Pair) → AllByRecursion (IsFor c) (steps_of (core_alone.alone identity c H))
   own_steps [] = tt
   own_steps (x ∷ H) =
       by_message x.message _ (core_alone.alone identity c H)

@@ -122,7 +122,7 @@ kept_elsewhere (place ∷ places) path zero files here other differs =
 kept_elsewhere (place ∷ places) path (suc at) files here other differs =
     ap (λ rest. cond (has_path other place) place.files rest) (kept_elsewhere places path at files here.1 other differs)
 
--- where there are none, none are taken
+-- without files, none are taken
 pub still_none : (places : List Place) (path : List ℕ) (at : ℕ) → IsPlaceOf places path at → kept_in places path ≡ None → with_files places at None ≡ places
 still_none [] path at here none = refl
 still_none (place ∷ places) path zero here none =

@@ -32,7 +32,7 @@ takes_out old new path files at here set opened others those = record {
   others = others;
 }
 
--- there were none
+-- without files
 pub takes_none : (old new : MemoryFiles) (path : List ℕ) (at : ℕ) → IsPlaceOf old.places.items path at → kept_at old path ≡ None
     → new.places.items ≡ with_files old.places.items at None → new.opened ≡ old.opened → new.others ≡ old.others → IsSame old new
 takes_none old new path at here none set opened others = record {

@@ -1,4 +1,4 @@
--- What a call did with files in memory. `d` has the facts of a file in memory.
+-- The effect of a call on files in memory. `d` has the facts of a file in memory.
 use Rattle.std.specs.Prelude.{◌≡◌, ◌≢◌, ℕ, List, [], Option, Some, None, IsSome, MatchOption, Result, Ok, Err, find}
 use Rattle.std.specs.Str.{bytes_eq}
 use Rattle.sqlite_disk.specs.Memory.{memory_bytes}
@@ -51,7 +51,7 @@ LosesNone old new = (path : List ℕ) → IsSome (kept_at old path) → IsSome (
 
 -- ---- files are given out
 
--- these are the kept files, or new ones if there were none
+-- these are the kept files, or new ones
 abbrev pub AreThose : Option KeptFiles → Files Memory → Type 0
 AreThose None files = (memory_bytes files.log ≡ []) × (memory_bytes files.db ≡ [])
 AreThose (Some kept) files = (files.log ≡ kept.log) × (files.db ≡ kept.db)
@@ -87,7 +87,7 @@ module _ (d : disk.Ghosts Memory) where
   Migrates old path presence c new =
       (presence ≡ File) × TakesKept old path new × IfCleanFiles (IsMigratedIn (image_at old path)) c
 
-  -- No desk was opened. The report on the path decided, or there were no files, and nothing changed; or the files were given out.
+  -- No desk was opened. The report on the path decided, or the path had no files, and nothing changed; or the files were given out.
   abbrev pub FailsAt : (old : MemoryFiles) → (path : List ℕ) → Presence → Refusal Memory d → (new : MemoryFiles) → Type 0
   FailsAt old path presence (NoFile fault) new = (presence ≢ File) × (new ≡ old)
   FailsAt old path presence (Unopened error None) new = (kept_at old path ≡ None) × IsSame old new
@@ -106,7 +106,7 @@ module _ (d : disk.Ghosts Memory) where
   FailsToMake old path (Unopened error (Some left)) new = FailsOn old path error left new
   FailsToMake old path (Refused why c) new = (files : Files Memory) × TakesOut old path files new
 
-  -- ---- files come back
+  -- ---- files are returned
 
   -- they were put at the place that was given out last
   abbrev pub PutsBack : (old : MemoryFiles) → Files Memory → (new : MemoryFiles) → Type 0
