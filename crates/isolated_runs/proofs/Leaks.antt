@@ -39,18 +39,18 @@ runs_exist one b (v ∷ vs) =
     )
 
 -- what a company asks
-asks : (target : List ℕ) → MessageValue
+unfoldable pub asks : (target : List ℕ) → MessageValue
 asks target = asked (record { method = codes "GET"; target = target; version = Http11; fields = []; body = []; is_last = false })
 
-on_path : company_of (asks (codes "/c/MILL01/returns")) ≡ Some (codes "MILL01")
+pub on_path : company_of (asks (codes "/c/MILL01/returns")) ≡ Some (codes "MILL01")
 unfolding asks
 on_path = refl
 
-on_other_path : company_of (asks (codes "/c/BAKE01/returns")) ≡ Some (codes "BAKE01")
+pub on_other_path : company_of (asks (codes "/c/BAKE01/returns")) ≡ Some (codes "BAKE01")
 unfolding asks
 on_other_path = refl
 
-apart : codes "BAKE01" ≢ codes "MILL01"
+pub apart : codes "BAKE01" ≢ codes "MILL01"
 apart is = let no : true ≡ false = ap (bytes_eq (codes "BAKE01")) is in cc
 
 pub leak_is_refuted : OthersLeave → LeakIsRefuted

@@ -5,7 +5,7 @@ use Rattle.desk_history.specs.declared.identity.Identity.{Identity}
 use Rattle.desk_history.specs.Part.{Event}
 use Rattle.http_message.specs.Message.{MessageValue}
 use Rattle.http_session.specs.Exchanges.{Exchange, Follows}
-use Rattle.http_history.specs.History.{from_message, Pair, IsHistory}
+use Rattle.http_history.specs.History.{from_message, Pair, calls_of, IsHistory}
 use Rattle.http_history.specs.Texts.{is_success}
 use Rattle.http_history.specs.Versions.{Present}
 use Rattle.http_history.proofs.Answered.{right_answer}
@@ -13,11 +13,12 @@ use Rattle.desk_http.specs.Answering.{answered_pair}
 use Rattle.desk_http.specs.Keeping.{KeptHistory, Takes}
 use Rattle.isolation.specs.World.{World, Step, Asks, Does, nothing, told}
 use Rattle.isolation.specs.Alone.{IsAlone, IsFew}
+use Rattle.isolation.specs.Calls.{IsWorldOf}
 use Rattle.isolation.specs.Heard.{Reading, company_of, message_heard}
 use Rattle.isolation.specs.Told.{step_at, world_of}
 use Rattle.isolation.specs.Laws.{ReplyOfPart}
-use Rattle.isolated_runs.specs.Runs.{after, after_run, part_of_run, PartsAreAlone, RunsFromParts, TwoRuns}
-use Rattle.isolated_runs.specs.Desks.{Begins}
+use Rattle.isolated_runs.specs.Kept.{RunsOfDesks}
+use Rattle.isolated_runs.specs.Runs.{Begins, after, after_run, part_of_run, PartsAreAlone, RunsFromParts, TwoRuns}
 
 present : (o : Option Step) → option_map (step_at Present) o ≡ o
 present None = refl
@@ -69,7 +70,7 @@ module _ (law : ReplyOfPart) where
   -- a desk that begins has no pair
   begun : (odfi key : List ℕ) (start : KeptHistory) → Begins odfi key start
       → start ≡ record { history = record { identity = start.history.identity; key = start.history.key; pairs = [] }; pending = start.pending }
-  begun odfi key start begins = λ i. record { history = record { identity = start.history.identity; key = start.history.key; pairs = begins.nothing i }; pending = start.pending }
+  begun odfi key start begins = λ i. record { history = record { identity = start.history.identity; key = start.history.key; pairs = begins.empty i }; pending = start.pending }
 
   own : (odfi key : List ℕ) (start end : KeptHistory) (xs : List Exchange) (v : MessageValue) (bytes : List ℕ) (c : List ℕ)
       → Begins odfi key start → Follows Takes start (xs ++ record { message = v; answer = Some bytes } ∷ []) end → company_of v ≡ Some c
@@ -121,8 +122,24 @@ module _ (law : ReplyOfPart) where
       (subst (λ (P : List Event). IsAlone start.history.identity.odfi reading.due c P)
       (ap (λ (w : World). w.parts c) (sym here) ∙ (λ i. part_of_run reading (sym begins.bank i) key xs c)) own)
 
+  worlds : (odfi key : List ℕ) (start end : KeptHistory) (xs : List Exchange) → Begins odfi key start → Follows Takes start xs end
+      → IsWorldOf odfi (calls_of end.history.identity end.history.pairs) (after_run reading odfi key nothing xs)
+  worlds odfi key start end xs begins follows =
+      let (G, pending, is, history, same) = reached start.history.identity start.history.key xs [] start.pending end tt
+      (subst (λ (h : KeptHistory). Follows Takes h xs end) (begun odfi key start begins) follows) in
+      let here : world_of reading start.history.identity.odfi start.history.key G ≡ after_run reading odfi key nothing xs =
+      same ∙ (λ i. after_run reading (begins.bank i) (begins.operator i) nothing xs) in
+      let world = law.worlds start.history.identity start.history.key G history in
+      subst (λ (h : KeptHistory). IsWorldOf odfi (calls_of h.history.identity h.history.pairs) (after_run reading odfi key nothing xs)) (sym is)
+      (subst (λ (odfi' : List ℕ). IsWorldOf odfi' (calls_of start.history.identity G) (after_run reading odfi key nothing xs)) begins.bank
+      (subst (IsWorldOf start.history.identity.odfi (calls_of start.history.identity G)) here world))
+
   pub runs_from_parts : RunsFromParts Begins Takes
-  runs_from_parts = record { reading = reading; reply = law.isolated.reply; own = own; alone = alone }
+  runs_from_parts = record { reading = reading; reply = law.isolated.reply; own = own; closed = law.isolated.closed; alone = alone }
+
+  pub runs_of_desks : RunsOfDesks
+  unfolding runs_from_parts
+  runs_of_desks = record { law = runs_from_parts; worlds = worlds }
 
 -- two runs
 pub two_runs : {Behind : Type 0} (begins : (odfi key : List ℕ) → Behind → Type 0) (step : Behind → MessageValue → (answer : Option (List ℕ)) → Behind → Type 0) → RunsFromParts begins step → TwoRuns begins step
@@ -130,7 +147,7 @@ two_runs begins step law = record {
   reading = law.reading;
   alike = λ odfi key other_odfi other_key start end other_start other_end xs ys v here there c b follows d other_follows to same.
       law.own odfi key start end xs v here c b follows to
-      ∙ ap (law.reply v) same
+      ∙ law.closed v c (part_of_run law.reading odfi key xs c) (part_of_run law.reading other_odfi other_key ys c) to same
       ∙ sym (law.own other_odfi other_key other_start other_end ys v there c d other_follows to);
   alone = law.alone;
 }

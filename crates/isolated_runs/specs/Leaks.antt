@@ -1,4 +1,4 @@
--- That the law of runs says something: there are runs, and a desk that tells a company of others has no such law.
+-- The law of runs is not empty: there are runs, and a desk whose answers depend on other companies does not meet it.
 use Rattle.std.specs.Prelude.{◌≡◌, ℕ, ◌+◌, true, List, map, replicate, Option, Some, None, is_some}
 use Rattle.std.specs.List.{list_all}
 use Rattle.http_message.specs.Message.{MessageValue}
@@ -20,6 +20,6 @@ abbrev pub counts : (count : ℕ) → MessageValue → (answer : Option (List �
 counts count v (Some bytes) after = (bytes ≡ replicate count 0) × (after ≡ count + 1)
 counts count v None after = after ≡ count
 
--- so it tells a company how much others ask: its answers are no reply to the company's part
+-- A company learns from its answers how much others ask: they do not follow from the company's part.
 abbrev pub LeakIsRefuted : Type 0
 LeakIsRefuted = RunsFromParts begins_with_none counts → ⊥

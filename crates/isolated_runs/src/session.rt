@@ -1,5 +1,5 @@
 //! A session of a desk.
-ghost use Rattle.isolated_runs.specs.Desks.{Begins};
+ghost use Rattle.isolated_runs.specs.Runs.{Begins};
 ghost use Rattle.isolated_runs.specs.Sessions.{SpeaksFromParts};
 
 use desk_http::HttpDesk;
