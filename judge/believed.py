@@ -1,5 +1,5 @@
 #!/usr/bin/env python3
-"""Lists what each promise rests on: `python3 judge/believed.py [--check | --write | --counts | --validate LAW ..]`.
+"""Lists what each promise rests on: `python3 judge/believed.py [--check | --write | --counts | --executed | --validate LAW ..]`.
 
 A promise is the contract of a law. From its clauses this follows every name: to the definitions, to the code types whose
 values they speak of with their views, to the facts that traits declare, and to the words of the toolchain's library. A name
@@ -7,24 +7,20 @@ that nothing defines is an error. The lists are in reading order: each definitio
 
   --counts      prints for each promise how many lines in how many files have to be read
   --write       writes docs/audit/believed.md; --check (the default) compares it with what would be written
-  --validate    has the checker accept the statement of a law over its listed definitions alone, and refuse it without any
-                single one of them. It needs the Rattle toolchain and takes minutes
+  --executed    reports the listed definitions of isolation that no worked value executes, and the relations of which no
+                instance is proved, or none refuted (files `proofs/Worked.antt`); --check does too
+  --validate    has the checker accept listed definitions alone, and refuse them without any single one of them. It takes
+                CRATE::LAW or CRATE::FILE::LAW, needs the Rattle toolchain, and takes a minute for each law
 """
 
 import argparse
 import re
-import subprocess
 import sys
-import tempfile
 from dataclasses import dataclass
-from pathlib import Path
 
-from helpers.definitions import CRATES, TOP, Definition, Module, Tree, Unknown, closing, read_imports, without_comments
+from helpers.definitions import CRATES, TOP, Definition, Module, Tree, Unknown, closing, read_imports
+from helpers.listed import in_files, not_executed, validate
 
-sys.path.insert(0, str(TOP / ".ci"))
-import build_program as proofs  # noqa: E402
-
-LISTED = "listed"
 PAGE = TOP / "docs/audit/believed.md"
 
 
@@ -48,6 +44,10 @@ CORRECTNESS = (Promise("http_history", "laws.rt", "own_text"),)
 CRASHES = (Promise("crash_law", "laws.rt", "stands_after_lives"), Promise("crash_law", "files.rt", "files_survive"))
 # Names that a reader of a list may leave closed, and why. The list does not go on from them.
 CLOSED = {"Pair": "a new desk's history has no pair"}
+# Laws whose clauses are instances of relations on the list, which hold or are refuted.
+WORKED_BY_LAWS = tuple(Promise("isolated_runs", "laws.rt", it) for it in ("runs_from_parts", "two_runs", "runs_exist", "leak_is_refuted"))
+# Relations without a refuted instance: what is said of a part alone has not been found false of any desk.
+NEVER_REFUTED = ("IsAlone", "PartsAreAlone")
 LISTS = {"isolation": ISOLATION, "isolation with the bytes on the wire": WIRE, "correctness": CORRECTNESS, "crashes": CRASHES}
 
 
@@ -167,9 +167,24 @@ ISOLATION_TEXT = """## The headline
 Isolation can be stated without saying what a desk answers: it is enough to say what an answer is made of. The law \
 [`two_runs`](../../crates/isolated_runs/src/laws.rt) takes any two runs of desks, with any messages in any order. If a \
 company's part is the same in both, the same message on the company's path has the same answer, byte for byte. \
-`desk_session` says that a session over a desk writes such answers and no others.
+`desk_session` says that a session over a desk writes such answers and no others, and `runs_are_kept` that a desk after a \
+crash is again at the end of a run.
 
-Read the files in this order. Each begins with its purpose.
+By the list below, the answers on a company's path depend on these facts alone:
+
+- the days and the holiday lists that the operator set, and how often the operator cut (`DaySet`, `HolidaysSet`, `CutMade`), but not what a cut sent;
+- the company's own registration and limits, and its submissions and retries, accepted or not;
+- the returns and changes of its own entries, with the text of the returning bank. An item of a file goes to the company of the entry whose trace it has, if the entry's other fields agree (`resolve`, `with_item`).
+
+So a company does not learn which other companies exist, how much they submit, or any trace number. Someone who does not show \
+the company's key learns nothing of the company from the answers on its path, not even whether it is registered (`LookAlike`).
+
+What a bank may not expect: \
+a cut that the desk refuses adds nothing to a part, so a company can see that a cut failed, which other companies' volume may cause \
+(no trace numbers or file letters are left). And the law says what an answer is made of, not that it is right: that is the second list.
+
+Read the files in this order. Each begins with its purpose. `told` is the world of a desk after one more step; `ℕ` are numbers, \
+a text is the list of its bytes, and `codes` gives those of a literal. In each list of events the newest is first.
 """
 NOT_HERE = """## What is not here
 
@@ -204,23 +219,15 @@ def source_of(own):
     return "\n".join(lines[first : own.last])
 
 
-def in_files(order):
-    """Groups definitions by their files. A file comes after those that its definitions name, and definitions are as in their file."""
-    found = {}
-    for it in order:
-        if not isinstance(it, str) and it.kind == "definition":
-            found.setdefault(it.path, []).append(it)
-    return {path: sorted(own, key=lambda it: it.first) for path, own in found.items()}
-
-
 def link(path, text=None):
     return f"[`{text or path.relative_to(CRATES)}`](../../{path.relative_to(TOP)})"
 
 
-def full_list(order):
+def full_list(tree, order):
     lines = []
-    for path, own in in_files(order).items():
-        lines += [f"### {path.relative_to(CRATES)}".replace("/specs", ""), "", f"{link(path, 'source')}: {purpose_of(path)}", "", "```text"]
+    for path, own in in_files(tree, order).items():
+        closed = [f"`{it.name}` [may stay closed](#what-may-stay-closed): {CLOSED[it.name]}." for it in own if it.name in CLOSED]
+        lines += [f"### {path.relative_to(CRATES)}".replace("/specs", ""), "", f"{link(path, 'source')}: {purpose_of(path)}", "", *[it for line in closed for it in (line, "")], "```text"]
         heads = []
         for it in own:
             if it.outer and it.outer not in heads:
@@ -248,10 +255,10 @@ def words_list(order):
             "### What may stay closed", "", "The statement holds whatever these answer, so a reader can skip them:", "", *closed, ""]
 
 
-def index(order):
+def index(tree, order):
     """Lists files with the names that they define, and how many lines of each are on the list."""
     lines = ["| File | Lines | Definitions |", "|---|---|---|"]
-    for path, own in in_files(order).items():
+    for path, own in in_files(tree, order).items():
         names = ", ".join(f"`{it.name}`" for it in own)
         lines.append(f"| {link(path)} | {sum(it.lines for it in own)} | {names} |")
     return lines
@@ -269,109 +276,52 @@ def counts_table(lists):
 def page(tree):
     lists = {name: listed(tree, promises) for name, promises in LISTS.items()}
     lines = [HEAD.replace("\\\n", "").format(counts=counts_table(lists)), ISOLATION_TEXT.replace("\\\n", "")]
-    lines += full_list(lists["isolation"]) + words_list(lists["isolation"])
+    lines += full_list(tree, lists["isolation"]) + words_list(lists["isolation"])
     lines += ["## The other lists", ""]
     for name in list(LISTS)[1:]:
         laws = ", ".join(link(it.path, it.function) for it in LISTS[name])
-        lines += [f"### {name[0].upper()}{name[1:]}", "", f"From {laws}.", "", *index(lists[name]), ""]
+        lines += [f"### {name[0].upper()}{name[1:]}", "", f"From {laws}.", "", *index(tree, lists[name]), ""]
     return "\n".join([*lines, NOT_HERE.replace("\\\n", "")]).rstrip("\n") + "\n"
 
 
-# ---- the checker's word ----
-
-def flat(path):
-    """Returns the name of a file of definitions in the crate that holds the listed ones alone."""
-    crate, *_, = path.relative_to(CRATES).parts
-    return "_".join([crate, *path.relative_to(CRATES / crate / "specs").with_suffix("").parts])
+def law_named(words):
+    """Returns the promise that CRATE::LAW or CRATE::FILE::LAW names."""
+    crate, *file, law = words.split("::")
+    return Promise(crate, f"{file[0] if file else 'laws'}.rt", law)
 
 
-def only(tree, order, path, without=None):
-    """Returns the text of a file of definitions with the listed ones alone."""
-    kept = {it for it in order if not isinstance(it, str) and it.kind == "definition" and it != without}
-    module = next(it for it in tree.modules.values() if it.path == path)
-    lines = without_comments(path.read_text(), strings=True).split("\n")
-    for own in module.definitions:
-        if own not in kept:
-            lines[own.first - 1 : own.last] = [""] * (own.last - own.first + 1)
-    heads = {it.outer for it in module.definitions if it in kept}
-    text = "\n".join(filter(None, (renamed(tree, kept, it) for it in lines)))
-    text = re.sub(r"^infix[lr]? \d+ (\S+)\n", lambda it: it[0] if module.names[it[1]] in kept else "", text, flags=re.M)
-    text = re.sub(r"^(abbrev )?mutual(\n|$)(?!  )", "", text, flags=re.M)
-    for outer in {it.outer for it in module.definitions} - heads:
-        text = re.sub(r"^ *module _ " + r"\s+".join(map(re.escape, outer.split())) + r"\s+where\n?", "", text, flags=re.M)
-    return text + "\n"
-
-
-def renamed(tree, kept, line):
-    """Returns an import as it is in that crate, or another line as it is."""
-    at = re.fullmatch(r"(pub )?use (Rattle\.(\w+)\.specs\.(?!declared)[\w.]+?)(\.\{(.*)\}| as \w+)", line)
-    if not at or not tree.is_own(at[2]):
-        return line
-    path = f"Rattle.{LISTED}.specs.{flat(tree.module(at[2]).path)}"
-    if at[5] is None:
-        return f"use {path}{at[4]}" if any(it.module == at[2] for it in kept) else ""
-    names = [it for it in at[5].split(", ") if tree.named(at[2], it.partition(" as ")[0]) in kept]
-    return f"{at[1] or ''}use {path}.{{{', '.join(names)}}}" if names else ""
-
-
-def texts_of(tree, order, without=None):
-    """Returns the files of the crate that holds the listed definitions alone, or all but one of them."""
-    paths = [path for path in in_files(order)]
-    return {flat(path): only(tree, order, path, without) for path in paths}
-
-
-def is_accepted(crate, texts):
-    """Tells whether the checker accepts a crate of these definitions alone, with the code types and libraries of another."""
-    with tempfile.TemporaryDirectory(prefix="listed-") as folder:
-        room = Path(folder)
-        (room / "specs").mkdir()
-        (room / "src").mkdir()
-        (room / "src/lib.rt").write_text("//! Listed definitions.\n#![tactic(auto)]\n")
-        for name, text in texts.items():
-            (room / f"specs/{name}.antt").write_text(text)
-        (room / "specs/Lib.antt").write_text("".join(f"pub mod {it}\n" for it in texts))
-        uses = proofs.uses_of_crates()
-        below = proofs.crates_below(uses, crate)[crate]
-        libraries = sorted(set().union(uses[crate], below, *(uses[it] for it in below)))
-        words = [proofs.KIT / "bin/rattle", "check", *proofs.sources_of(LISTED, {**uses, LISTED: libraries})]
-        ran = subprocess.run([str(it) for it in words], cwd=room, stdin=subprocess.DEVNULL, capture_output=True, text=True, check=False)
-        return ran.returncode == 0, ran.stdout + ran.stderr
-
-
-def validate(tree, crate, law):
-    """Has the checker accept the listed definitions of a law alone, and refuse them without any one; returns how often it did not."""
-    order, faults = listed(tree, (Promise(crate, "laws.rt", law),)), 0
-    good, said = is_accepted(crate, texts_of(tree, order))
-    own = [it for it in order if not isinstance(it, str) and it.kind == "definition"]
-    print(f"{crate}::{law}: {len(own)} definitions alone: {'accepted' if good else 'REFUSED'}", flush=True)
-    if not good:
-        print("\n".join(said.split("\n")[:12]))
-        return 1
-    # The statement's own definitions are named by the law alone.
-    named, _ = starts_of(tree, Promise(crate, "laws.rt", law))
-    for it in own:
-        if it not in named and is_accepted(crate, texts_of(tree, order, it))[0]:
-            print(f"{crate}::{law}: not needed: {it.module}.{it.name}", flush=True)
-            faults += 1
-    print(f"{crate}::{law}: refused without each of {len(own) - faults} definitions", flush=True)
-    return faults
+def report_not_executed(tree):
+    """Prints the listed definitions of isolation that worked values do not execute, and returns how many they are."""
+    proved, refuted = set(), set()
+    for promise in WORKED_BY_LAWS:
+        names, _ = starts_of(tree, promise)
+        for it in names:
+            (refuted if "→ ⊥" in it.text else proved).update({it, *(tree.uses(it) if "→ ⊥" in it.text else ())})
+    refuted = {it for it in refuted if not isinstance(it, str)}
+    lines = [it for it in not_executed(tree, listed(tree, ISOLATION), proved, refuted) if it.split()[0].rpartition(".")[2] not in NEVER_REFUTED]
+    print("\n".join([*lines, f"{len(lines)} of the isolation list are not executed"]))
+    return len(lines)
 
 
 def main():
     parser = argparse.ArgumentParser(description=__doc__, formatter_class=argparse.RawDescriptionHelpFormatter)
-    parser.add_argument("--counts", action="store_true")
-    parser.add_argument("--write", action="store_true")
-    parser.add_argument("--check", action="store_true")
-    parser.add_argument("--validate", nargs="+", metavar="CRATE::LAW")
+    for flag in ("--counts", "--write", "--check", "--executed"):
+        parser.add_argument(flag, action="store_true")
+    parser.add_argument("--validate", nargs="+", metavar="LAW")
     given, tree = parser.parse_args(), Tree()
     if given.validate:
-        return 1 if sum(validate(tree, *it.split("::")) for it in given.validate) else 0
+        laws = [law_named(it) for it in given.validate]
+        return 1 if sum(validate(tree, listed(tree, (it,)), it.crate, it.function, CLOSED) for it in laws) else 0
+    if given.executed:
+        return 1 if report_not_executed(tree) else 0
     if given.counts:
         print_counts(tree)
     elif given.write:
         PAGE.write_text(page(tree))
     elif not PAGE.exists() or PAGE.read_text() != page(tree):
         print(f"{PAGE.relative_to(TOP)} is not generated from the definitions: run python3 judge/believed.py --write", file=sys.stderr)
+        return 1
+    elif report_not_executed(tree):
         return 1
     return 0
 

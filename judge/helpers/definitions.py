@@ -133,7 +133,7 @@ def bound_in(text):
         found |= set(re.findall(r"[\w']+", it))
     for it in re.findall(r"(?:\blet\b|;)\s*([^=;{}→]+?)\s*(?::[^=;]*)?=(?!=)", text):
         found |= set(re.findall(r"[\w']+", it))
-    for it in re.findall(r"^\s+([\w']+) : ", text, re.M):
+    for it in re.findall(r"^\s+(?:pub )?([\w']+) : ", text, re.M):
         found.add(it)
     for it in re.findall(r"([\w'() ∷,]+?)\s*←", text):
         found |= set(re.findall(r"[\w']+", it))
@@ -282,6 +282,8 @@ class Tree:
                 if first in BUILT_IN or first in bound and first not in module.aliases:
                     continue
                 meant = self.resolve(module, word)
+                if first in left and is_field(meant, first):
+                    continue
                 if meant is None and first not in left:
                     raise Unknown(f"{own.path.relative_to(self.crates.parent)}:{own.first}: {own.name}: {word} is not defined")
                 if meant is not None and meant != own:
@@ -323,6 +325,11 @@ class Tree:
         for it in starts:
             visit(it)
         return order
+
+
+def is_field(meant, word):
+    """Tells whether a word is the field of a record: on the left of an equation such a word is a variable."""
+    return isinstance(meant, Definition) and meant.name != word and re.match(r"(pub )?record ", meant.text) is not None
 
 
 @functools.lru_cache(maxsize=None)
