@@ -56,9 +56,17 @@ def only(tree, kept, path, closed, names):
     for outer in {it.outer for it in module.definitions} - heads:
         text = re.sub(r"^ *module _ " + r"\s+".join(map(re.escape, outer.split())) + r"\s+where\n?", "", text, flags=re.M)
     text = text.replace("Rattle.std.specs.Prelude.ℕ", "ℕ")
+    body = re.sub(r"^(pub )?use .*$", "", text, flags=re.M)
+    # The crate's own code types may be private to it: an import that nothing uses goes.
+    text = re.sub(r"^use Rattle\.\w+\.specs\.declared\.[\w.]+\.\{(.*)\}\n",
+                  lambda it: it[0] if any(used_in(body, name) for name in it[1].split(", ")) else "", text, flags=re.M)
     if any(it.name in closed for it in module.definitions if it in kept) and not re.search(r"^use Rattle\.std\.specs\.Prelude\.\{[^}]*ℕ", text, re.M):
         text = "use Rattle.std.specs.Prelude.{ℕ}\n" + text
     return text + "\n"
+
+
+def used_in(body, name):
+    return re.search(rf"(?<![\w'.]){re.escape(name.rpartition(' as ')[2])}(?![\w'])", body) is not None
 
 
 def renamed(tree, kept, line, names):
