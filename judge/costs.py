@@ -374,8 +374,7 @@ def report_open(figures, part):
     for event in ("a cut", "a new day", "a holiday list", "a returns file"):
         for company, what in sizes.items():
             figures.times(f"the first exposure after {event}, {KINDS[company]}", f"exposure of IDLE after {event}", f"exposure of {company} after {event}", 1.2)
-            if event != "a holiday list":  # which reads the list, of 300 holidays
-                figures.at_most(f"the first exposure after {event}, {KINDS[company]}", f"exposure of {company} after {event}", 40_000)
+            figures.at_most(f"the first exposure after {event}, {KINDS[company]}", f"exposure of {company} after {event}", 40_000)
             figures.times(f"the first submission after {event}, {what}", f"submission next to {company} after {event}", f"submission of {company} after {event}", 1.2)
 
 

@@ -297,13 +297,16 @@ impl<S: Store> Store for Remembering<S> {
     }
 
     fn set_day(&mut self, alloc: Global, day: RuleDay) -> Result<(), StoreFault> {
-        self.known.day = None;
-        self.store.set_day(alloc, day)
+        self.store.set_day(alloc, day)?;
+        self.known.day = Some(day);
+        Ok(())
     }
 
     fn set_holidays(&mut self, alloc: Global, holidays: Calendar) -> Result<(), StoreFault> {
-        self.known.holidays = None;
-        self.store.set_holidays(alloc, holidays)
+        let kept = holidays.try_clone(alloc).ok();
+        self.store.set_holidays(alloc, holidays)?;
+        self.known.holidays = kept;
+        Ok(())
     }
 
     fn put_company(&mut self, alloc: Global, company: Company) -> Result<(), StoreFault> {
