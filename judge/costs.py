@@ -4,14 +4,15 @@
 PROGRAM is the built program. A PART above 1 divides the sizes by it, for a first try.
 
 The judge asks `achdesk serve` over a file by HTTP. A figure is the instructions of user code of one call, counted by callgrind, so a
-busy or slow machine gives the same ones. There are four desks:
+busy or slow machine gives the same ones. There are five desks:
 
 - one has a company with 100,000 open credits and one with 100,000 open debits, in submissions of 1,000, and one with 5,000 open
   debits in submissions of 1. A cut, a new day, a holiday list or a returns file comes before each first exposure and each first
   submission that is measured, and the desk is started again before others;
 - one has 1,000,000 old debits of a company, of which 20,000 were returned, and 10,000 in the window of the return rates;
 - one is asked for its status after 1,000 sent entries, after 100,000 more, and with 20,000 items in suspense;
-- one has 1,000 companies of 100 open entries, which the operator asks for in one call.
+- one has 1,000 companies of 100 open entries, which the operator asks for in one call;
+- one has a company with 201,000 open submissions, more than the desk keeps one by one. A cut and a returns file name it.
 
 A bound is a number of instructions, or a ratio to the same call of a company with nothing open or old.
 
@@ -38,6 +39,7 @@ RETURNED = 2_000  # entries of a company in a returns file
 WEEKS, WEEKLY, RECENT, BACK = 50, 20, 10, 20_000  # weeks, submissions of 1,000 in each, those in the window, returned entries
 STRAYS, NEVER_SENT = 20_000, 5_000_001  # items that match no entry, and the first sequence that they name
 COMPANIES, OF_EACH = 1_000, 100  # companies of one desk, and the open entries of each
+OVER = 201_000  # submissions of one company: more than are kept one by one
 ENTRY = '{"routing":"091000019","account":"123456789","kind":"checking","cents":100,"id":"E1","name":"ANN LEE"}'
 LIMITS = {"entry_limit": 9_999_999_999, "credit_limit": 999_999_999_999_999, "debit_limit": 999_999_999_999_999}
 LAST = 5  # submissions of 1,000 that are measured together
@@ -358,6 +360,41 @@ def measure_companies(program, folder, figures, part):
     desk.end()
 
 
+# ---- more than is kept one by one
+
+def measure_large(program, folder, figures, part):
+    """Measures calls of a company with more open submissions than are kept one by one, and of one with few."""
+    desk, asks = Desk(program, folder / "large.db"), message("GET /ops/companies")
+    desk.set_day(FIRST_DAY)
+    for company in ("FEW", "LARGE"):
+        desk.company(company)
+        desk.ask(*desk.submissions(2, company, 1, True, next_day(desk.day)))
+    desk.cut()
+    for _ in range(OVER // part // 100):
+        desk.ask(*desk.submissions(100, "LARGE", 1, False))
+    desk.restart()
+    first = {"FEW": 1, "LARGE": 3}
+    desk.ask(exposure("FEW"), exposure("LARGE"))
+
+    def cut_both():
+        for company in first:
+            desk.ask(*desk.submissions(1, company, 1, False, next_day(desk.day)))
+        desk.cut()
+
+    def give_both_back():
+        desk.give_back(*[(True, sequence, 1) for sequence in first.values()])
+        first.update({company: sequence + 1 for company, sequence in first.items()})
+
+    for event, happen in [("a submission", lambda: desk.ask(*desk.submissions(1, "LARGE", 1, False))), ("a cut", cut_both), ("a returns file", give_both_back)]:
+        for _ in range(AGAIN):
+            happen()
+            figures.keep(f"few and large after {event}", desk.cost(asks))
+            for company in first:
+                figures.keep(f"exposure of {company} after {event}", desk.cost(exposure(company)))
+                figures.keep(f"submission of {company} after {event}", desk.cost(*desk.submissions(1, company, 1, False)))
+    desk.end()
+
+
 # ---- the table
 
 def report_open(figures, part):
@@ -394,6 +431,13 @@ def report_others(figures, part):
         figures.times(f"all {count:,} companies, the first time after {event}, next to their own calls", "their own calls", f"companies after {event}", 1.0)
 
 
+def report_large(figures, part):
+    for event in ("a submission", "a cut", "a returns file"):
+        for what in ("exposure", "submission"):
+            figures.times(f"{what} after {event}, {OVER // part:,} open submissions", f"{what} of FEW after {event}", f"{what} of LARGE after {event}", 1.5)
+        figures.at_most(f"all companies after {event}, one with {OVER // part:,} open submissions", f"few and large after {event}", 100_000)
+
+
 def main():
     program = program_of(sys.argv[1:])
     part = int(sys.argv[2]) if len(sys.argv) > 2 else 1
@@ -402,10 +446,11 @@ def main():
         sys.exit(2)
     figures = Figures()
     with tempfile.TemporaryDirectory() as name:
-        for measure in (measure_open, measure_old, measure_status, measure_companies):
+        for measure in (measure_open, measure_old, measure_status, measure_companies, measure_large):
             measure(program, Path(name), figures, part)
     report_open(figures, part)
     report_others(figures, part)
+    report_large(figures, part)
     print("| What | Without | With | Bound | |\n|---|---|---|---|---|")
     print("\n".join(figures.lines))
     print(f"{len(figures.lines)} figures, {figures.failed} not within their bounds")

@@ -24,7 +24,7 @@ use Rattle.desk_book.specs.OpenSubmissions.{standing_cents}
 use Rattle.open_sums.specs.KnownRow.{KnownRow, Fits, place_of}
 use Rattle.open_sums.specs.Laws.{rows_at}
 use Rattle.open_sums.specs.OpenRows.{row_in, order_in, Adds}
-use Rattle.open_sums.specs.Remembered.{AreSums, AreRows, IsKeptAs, AreNumbered, IsOf}
+use Rattle.open_sums.specs.Remembered.{AreSums, AreRows, IsKeptAs, AreNumbered, IsOf, KeepsOn}
 use Rattle.open_sums.specs.declared.sums.Sums.{Sums}
 use Rattle.open_sums.specs.declared.open_rows.OpenRows.{OpenRows}
 use Rattle.open_sums.proofs.Following.{whatever, turned}
@@ -153,9 +153,15 @@ sums_added since k s0 s1 rs row fits held holds are = record {
 
 -- ---- both
 
-pub added_followed : (since : ℕ) (k : KnownRow) (s0 s1 : Sums) (old new : OpenRows) (n : ℕ) (rs : List Row) (row : Row) → Adds n k old new → k.settled ≡ None → Holds k.debit k.total s0 s1
+rows_kept_on : (since n : ℕ) (k : KnownRow) (old new : Option OpenRows) → KeepsOn n k old new → (rs : List Row) (row : Row) → rows_at n rs ≡ [] → row.order ≡ n → Fits k row
+    → IfSome old (λ m. AreRows since m rs) → IfSome new (λ m. AreRows since m (rs ++ row ∷ []))
+rows_kept_on since n k old None keeps rs row none is fits are = tt
+rows_kept_on since n k None (Some new) keeps rs row none is fits are = absurd keeps
+rows_kept_on since n k (Some old) (Some new) adds rs row none is fits are = rows_added since n k old new adds rs row none is fits are
+
+pub added_followed : (since : ℕ) (k : KnownRow) (s0 s1 : Sums) (old new : Option OpenRows) (n : ℕ) (rs : List Row) (row : Row) → KeepsOn n k old new → k.settled ≡ None → Holds k.debit k.total s0 s1
     → rows_at n rs ≡ [] → row.order ≡ n → Fits k row → IsOf (record { since = since; sums = s0; rows = old }) rs → IsOf (record { since = since; sums = s1; rows = new }) (rs ++ row ∷ [])
-added_followed since k s0 s1 old new n rs row adds held holds none is fits was = record {
+added_followed since k s0 s1 old new n rs row keeps held holds none is fits was = record {
   sums = sums_added since k s0 s1 rs row fits held holds was.sums;
-  rows = rows_added since n k old new adds rs row none is fits was.rows;
+  rows = rows_kept_on since n k old new keeps rs row none is fits was.rows;
 }

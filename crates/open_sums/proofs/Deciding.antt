@@ -5,7 +5,7 @@ use Rattle.desk_book.specs.Book.{Book}
 use Rattle.desk_book.specs.Steps.{Step}
 use Rattle.desk_store.specs.declared.store.StoreFault.{StoreFault}
 use Rattle.desk_store.specs.Words.{Reads, LeavesWrite}
-use Rattle.open_sums.specs.Known.{Follows, IsNumbered, HoldsKnown, KeepsNumbered}
+use Rattle.open_sums.specs.Known.{Follows, IsNumbered, HoldsKnown, Learns, KeepsNumbered}
 use Rattle.open_sums.specs.declared.known.Known.{Known}
 
 -- a step that leaves submissions numbered
@@ -33,6 +33,15 @@ left_numbered {Kept} keeps old m before after (Err fault) step numbered leaves =
   by : (b : Book) (k : Kept) → IsNumbered (step.after b) → before k ⊎ keeps k (step.after b) → before k ⊎ KeepsNumbered keeps k (step.after b)
   by b k are (inl was) = inl was
   by b k are (inr is) = inr (is, are)
+
+-- more is learnt, and then more
+pub learnt_more : {S Kept : Type 0} (is_clean : S → Type 0) (holds : S → Book → Type 0) (may_leave : S → Kept → Type 0) (r s t : S) (k m n : Known)
+    → Learns is_clean holds may_leave r s k m → Learns is_clean holds may_leave s t m n → Learns is_clean holds may_leave r t k n
+learnt_more is_clean holds may_leave r s t k m n first next = record {
+  before = λ clean. first.before (next.before clean);
+  read = λ clean b held. next.read clean b (first.read (next.before clean) b held);
+  left = λ clean left new. first.left (next.before clean) left (next.left clean left new);
+}
 
 -- a read after which more may be known
 pub read_known : {A : Type 0} (old mid new : Book → Type 0) (m n : Known) (result : Result A StoreFault) (value : Book → A)

@@ -13,7 +13,8 @@ use Rattle.desk_book.specs.declared.row.Row.{Row}
 use Rattle.desk_book.specs.OpenSubmissions.{open_submission, settle_as, settles_as, standing_cents}
 use Rattle.desk_book.specs.Standing.{row_facts}
 use Rattle.open_sums.specs.KnownRow.{KnownRow, Fits, place_of}
-use Rattle.open_sums.specs.Remembered.{AreKept, IsOf}
+use Rattle.open_sums.specs.Remembered.{AreAllKept, IsOf}
+use Rattle.open_sums.specs.declared.open_rows.OpenRows.{OpenRows}
 use Rattle.open_sums.specs.declared.remembered.Remembered.{Remembered}
 
 -- ---- one submission
@@ -71,7 +72,7 @@ pub record IsUpTo (m : Remembered) (left : List OpenSubmission) (rs : List Row) 
   pub whole : rs ≡ done ++ rest
   pub are : left ≡ map open_submission rest
   pub right : IsOf m done
-  pub kept : AreKept m.rows done
+  pub kept : AreAllKept m.rows done
 
 not_none : (x : OpenSubmission) (xs : List OpenSubmission) → x ∷ xs ≡ [] → ⊥
 not_none x xs same = cc
@@ -83,8 +84,8 @@ rest_is : (x y : OpenSubmission) (xs ys : List OpenSubmission) → x ∷ xs ≡ 
 rest_is x y xs ys same = cc
 
 module _ (m n : Remembered) (x : OpenSubmission) (left : List OpenSubmission) (rs : List Row)
-    (loads : (done : List Row) (row : Row) → x ≡ open_submission row → IsOf m done → AreKept m.rows done → IsOf n (done ++ row ∷ []) × AreKept n.rows (done ++ row ∷ [])) where
-  next : (done rest : List Row) → rs ≡ done ++ rest → x ∷ left ≡ map open_submission rest → IsOf m done → AreKept m.rows done → IsUpTo n left rs
+    (loads : (done : List Row) (row : Row) → x ≡ open_submission row → IsOf m done → AreAllKept m.rows done → IsOf n (done ++ row ∷ []) × AreAllKept n.rows (done ++ row ∷ [])) where
+  next : (done rest : List Row) → rs ≡ done ++ rest → x ∷ left ≡ map open_submission rest → IsOf m done → AreAllKept m.rows done → IsUpTo n left rs
   next done [] whole are right kept = absurd (not_none x left are)
   next done (row ∷ rest) whole are right kept =
       let loaded = loads done row (first_is x (open_submission row) left (map open_submission rest) are) right kept in
@@ -109,7 +110,10 @@ read_all m left rs none so_far = go so_far.rest so_far.whole so_far.are where
 
 -- at first nothing is read
 pub begun : (m : Remembered) (items : List OpenSubmission) → IsOf m [] → (rs : List Row) → items ≡ map open_submission rs → IsUpTo m items rs
-begun m items none rs are = record { done = []; rest = rs; whole = refl; are = are; right = none; kept = tt }
+begun m items none rs are = record { done = []; rest = rs; whole = refl; are = are; right = none; kept = none_kept m.rows } where
+  none_kept : (o : Option OpenRows) → AreAllKept o []
+  none_kept None = tt
+  none_kept (Some kept) = tt
 
 pub none_left : (xs : List OpenSubmission) → length xs ≡ 0 → xs ≡ []
 none_left [] none = refl

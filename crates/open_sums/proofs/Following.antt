@@ -21,6 +21,7 @@ use Rattle.open_sums.specs.OpenRows.{row_in, order_in, Puts, SameOrders, Sends, 
 use Rattle.open_sums.specs.Remembered.{AreSums, AreRows, IsKeptAs, IsOf}
 use Rattle.open_sums.specs.declared.sums.Sums.{Sums}
 use Rattle.open_sums.specs.declared.open_rows.OpenRows.{OpenRows}
+use Rattle.open_sums.specs.declared.remembered.Remembered.{Remembered}
 use Rattle.open_sums.proofs.Changed.{sent_in, lapsed_in, all_in_state, sum-map}
 use Rattle.open_sums.proofs.Weights.{held_weight, day_weight, held_sum, day_sum, alike, nothing, each_map, held_row_holds, held_row_settles_none, sent_row_settles, sent_holds_none, lapsed_holds_none, lapsed_settles_none}
 
@@ -254,9 +255,13 @@ rows_lapsed since n debit cents old new rs lapses are =
 
 -- ---- both
 
+-- where rows are kept one by one, these are right
+pub kept_right : (m : Remembered) (kept : OpenRows) (rs : List Row) → m.rows ≡ Some kept → IsOf m rs → IsOf (record { since = m.since; sums = m.sums; rows = Some kept }) rs
+kept_right m kept rs is right = record { sums = right.sums; rows = subst (λ (o : Option OpenRows). IfSome o (λ k. AreRows m.since k rs)) is right.rows }
+
 pub sent_followed : (since n day : ℕ) (debit : Bool) (cents : ℕ) (s0 s1 s2 : Sums) (old new : OpenRows) (rs : List Row)
     → Sends n day debit cents old new → Lets debit cents s0 s1 → Settles debit day cents s1 s2
-    → IsOf (record { since = since; sums = s0; rows = old }) rs → IsOf (record { since = since; sums = s2; rows = new }) (map (if_order n (sent_row day)) rs)
+    → IsOf (record { since = since; sums = s0; rows = Some old }) rs → IsOf (record { since = since; sums = s2; rows = Some new }) (map (if_order n (sent_row day)) rs)
 sent_followed since n day debit cents s0 s1 s2 old new rs sends lets settles is =
     let k = sends.row in
     let there = stands_at since n old k rs is.rows sends.found.stands in
@@ -269,7 +274,7 @@ sent_followed since n day debit cents s0 s1 s2 old new rs sends lets settles is 
 
 pub lapsed_followed : (since n : ℕ) (debit : Bool) (cents : ℕ) (s0 s1 : Sums) (old new : OpenRows) (rs : List Row)
     → Lapses n debit cents old new → Lets debit cents s0 s1
-    → IsOf (record { since = since; sums = s0; rows = old }) rs → IsOf (record { since = since; sums = s1; rows = new }) (map (if_order n lapsed_row) rs)
+    → IsOf (record { since = since; sums = s0; rows = Some old }) rs → IsOf (record { since = since; sums = s1; rows = Some new }) (map (if_order n lapsed_row) rs)
 lapsed_followed since n debit cents s0 s1 old new rs lapses lets is =
     let k = lapses.row in
     let there = stands_at since n old k rs is.rows lapses.found.stands in

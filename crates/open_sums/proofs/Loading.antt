@@ -1,6 +1,6 @@
 -- What is remembered of a company is read once, from its open rows.
-use Rattle.std.proofs.Common.{◌≡◌, ◌∙◌, refl, ap, sym, subst, ℕ, ◌+◌, ◌<◌, Bool, true, false, List, [], ◌∷◌, ◌++◌, map, length, take, get_or, Some, None, arith}
-use Rattle.std.specs.Prelude.{sum_by, sum, not, ◌&&◌, ◌==◌, if◌then◌else◌, is_some}
+use Rattle.std.proofs.Common.{◌≡◌, ◌∙◌, refl, ap, sym, subst, ℕ, ◌+◌, ◌<◌, Bool, true, false, List, [], ◌∷◌, ◌++◌, map, length, take, get_or, Option, Some, None, arith}
+use Rattle.std.specs.Prelude.{sum_by, sum, not, ◌&&◌, ◌==◌, if◌then◌else◌, is_some, IfSome}
 use Rattle.std.specs.List.{AllByRecursion}
 use Rattle.std.proofs.lemmas.Bool.{eqb-true, eq-eqb}
 use Rattle.std.proofs.lemmas.List.{append-nil}
@@ -19,10 +19,10 @@ use Rattle.desk_book.specs.OpenSubmissions.{standing_cents}
 use Rattle.open_sums.specs.KnownRow.{KnownRow, Fits, place_of, counted}
 use Rattle.open_sums.specs.Laws.{rows_at}
 use Rattle.open_sums.specs.OpenRows.{row_in, Adds}
-use Rattle.open_sums.specs.Remembered.{AreSums, AreKept, IsOf}
+use Rattle.open_sums.specs.Remembered.{AreSums, AreRows, AreKept, AreAllKept, IsOf, KeepsOn}
 use Rattle.open_sums.specs.declared.sums.Sums.{Sums}
 use Rattle.open_sums.specs.declared.open_rows.OpenRows.{OpenRows}
-use Rattle.open_sums.proofs.Adding.{each_append, rows_added, added_followed}
+use Rattle.open_sums.proofs.Adding.{each_append, rows_added, sums_added}
 use Rattle.open_sums.proofs.Returning.{stands_by_cents, credit_none}
 use Rattle.open_sums.proofs.Weights.{held_weight, day_weight, held_sum, day_sum, alike_each, nothing, each_map, each_both, row_debit}
 
@@ -139,22 +139,26 @@ kept_more n k old new rs row adds is kept = each_append (λ r. is_some (row_in r
 
 -- ---- one more
 
-pub loaded : (since n day : ℕ) (k : KnownRow) (s0 s1 : Sums) (old new : OpenRows) → Adds n k old new → k.settled ≡ Some day → (cents : ℕ) → cents ≡ counted k → Settles k.debit day cents s0 s1
-    → (rs : List Row) (of : Row) → IsOf (record { since = since; sums = s0; rows = old }) rs → AreKept old rs → of.order ≡ n → Fits k of
-    → IsOf (record { since = since; sums = s1; rows = new }) (rs ++ of ∷ []) × AreKept new (rs ++ of ∷ [])
-loaded since n day k s0 s1 old new adds sent cents same settles rs of is kept order fits = (
-  record {
-    sums = sums_loaded since day k s0 s1 rs of fits sent (subst (λ (c : ℕ). Settles k.debit day c s0 s1) same settles) is.sums;
-    rows = rows_added since n k old new adds rs of (none_kept n old rs kept adds.absent) order fits is.rows;
-  },
-  kept_more n k old new rs of adds order kept,
-)
+rows_loaded : (since n : ℕ) (k : KnownRow) (old new : Option OpenRows) → KeepsOn n k old new → (rs : List Row) (of : Row) → of.order ≡ n → Fits k of
+    → IfSome old (λ m. AreRows since m rs) → AreAllKept old rs → IfSome new (λ m. AreRows since m (rs ++ of ∷ [])) × AreAllKept new (rs ++ of ∷ [])
+rows_loaded since n k old None keeps rs of order fits are kept = (tt, tt)
+rows_loaded since n k None (Some new) keeps rs of order fits are kept = absurd keeps
+rows_loaded since n k (Some old) (Some new) adds rs of order fits are kept =
+    (rows_added since n k old new adds rs of (none_kept n old rs kept adds.absent) order fits are, kept_more n k old new rs of adds order kept)
 
-pub loaded_held : (since n : ℕ) (k : KnownRow) (s0 s1 : Sums) (old new : OpenRows) → Adds n k old new → k.settled ≡ None → Holds k.debit k.total s0 s1
-    → (rs : List Row) (of : Row) → IsOf (record { since = since; sums = s0; rows = old }) rs → AreKept old rs → of.order ≡ n → Fits k of
-    → IsOf (record { since = since; sums = s1; rows = new }) (rs ++ of ∷ []) × AreKept new (rs ++ of ∷ [])
-loaded_held since n k s0 s1 old new adds held holds rs of is kept order fits =
-    (added_followed since k s0 s1 old new n rs of adds held holds (none_kept n old rs kept adds.absent) order fits is, kept_more n k old new rs of adds order kept)
+pub loaded : (since n day : ℕ) (k : KnownRow) (s0 s1 : Sums) (old new : Option OpenRows) → KeepsOn n k old new → k.settled ≡ Some day → (cents : ℕ) → cents ≡ counted k → Settles k.debit day cents s0 s1
+    → (rs : List Row) (of : Row) → IsOf (record { since = since; sums = s0; rows = old }) rs → AreAllKept old rs → of.order ≡ n → Fits k of
+    → IsOf (record { since = since; sums = s1; rows = new }) (rs ++ of ∷ []) × AreAllKept new (rs ++ of ∷ [])
+loaded since n day k s0 s1 old new keeps sent cents same settles rs of is kept order fits =
+    let rows = rows_loaded since n k old new keeps rs of order fits is.rows kept in
+    (record { sums = sums_loaded since day k s0 s1 rs of fits sent (subst (λ (c : ℕ). Settles k.debit day c s0 s1) same settles) is.sums; rows = rows.0 }, rows.1)
+
+pub loaded_held : (since n : ℕ) (k : KnownRow) (s0 s1 : Sums) (old new : Option OpenRows) → KeepsOn n k old new → k.settled ≡ None → Holds k.debit k.total s0 s1
+    → (rs : List Row) (of : Row) → IsOf (record { since = since; sums = s0; rows = old }) rs → AreAllKept old rs → of.order ≡ n → Fits k of
+    → IsOf (record { since = since; sums = s1; rows = new }) (rs ++ of ∷ []) × AreAllKept new (rs ++ of ∷ [])
+loaded_held since n k s0 s1 old new keeps held holds rs of is kept order fits =
+    let rows = rows_loaded since n k old new keeps rs of order fits is.rows kept in
+    (record { sums = sums_added since k s0 s1 rs of fits held holds is.sums; rows = rows.0 }, rows.1)
 
 pub one_longer : (rs : List Row) (i : ℕ) (row : Row) → i < length rs → row ≡ get_or rs i row → take (i + 1) rs ≡ take i rs ++ row ∷ []
 one_longer rs i row within is = take_more rs i row within ∙ ap (λ (r : Row). take i rs ++ r ∷ []) (sym is)

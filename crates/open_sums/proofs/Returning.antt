@@ -504,7 +504,7 @@ none_in true n = omega arith
 none_in false n = omega arith
 
 pub none_followed : (since : ℕ) (x : ReturnedRow) (s0 : Sums) (old new : OpenRows) (rs : List Row) → Returns x.row.reference x.row.index None old new
-    → IsOf (record { since = since; sums = s0; rows = old }) rs → IsOf (record { since = since; sums = s0; rows = new }) (map (returned_row_by x) rs)
+    → IsOf (record { since = since; sums = s0; rows = Some old }) rs → IsOf (record { since = since; sums = s0; rows = Some new }) (map (returned_row_by x) rs)
 none_followed since x s0 old new rs (inl left) is = record {
   sums = sums_back since x rs (λ days. 0) s0 s0 (nothing_worth since x old rs is.rows left.1) (λ of. refl) (λ of days. none_in of (settled_in of days s0)) is.sums;
   rows = rows_left since x old rs is.rows left.1 new left.2;
@@ -516,7 +516,7 @@ none_followed since x s0 old new rs (inr t) is = record {
 }
 
 pub some_followed : (since : ℕ) (p : ℕ × ℕ) (x : ReturnedRow) (s0 s1 : Sums) (old new : OpenRows) (rs : List Row) → Returns x.row.reference x.row.index (Some p) old new → (cents : ℕ) → cents ≡ p.1 → ComesBack p.0 cents s0 s1
-    → IsOf (record { since = since; sums = s0; rows = old }) rs → IsOf (record { since = since; sums = s1; rows = new }) (map (returned_row_by x) rs)
+    → IsOf (record { since = since; sums = s0; rows = Some old }) rs → IsOf (record { since = since; sums = s1; rows = Some new }) (map (returned_row_by x) rs)
 some_followed since p x s0 s1 old new rs (inl left) cents same back is = absurd (let e = left.0 in cc)
 some_followed since p x s0 s1 old new rs (inr t) cents same back is = record {
   sums = sums_back since x rs (λ days. worth days (taken t.row x.row.index)) s0 s1 (taken_worth since x old rs is.rows t.order t.row t.named_by t.stands t.under) back.held

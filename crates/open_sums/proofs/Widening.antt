@@ -22,7 +22,7 @@ use Rattle.open_sums.specs.Remembered.{AreSince, AreSums, AreRows, IsKeptAs, Are
 use Rattle.open_sums.specs.declared.sums.Sums.{Sums}
 use Rattle.open_sums.specs.declared.open_rows.OpenRows.{OpenRows}
 use Rattle.open_sums.specs.declared.remembered.Remembered.{Remembered}
-use Rattle.open_sums.proofs.Following.{whatever}
+use Rattle.open_sums.proofs.Following.{whatever, turned}
 use Rattle.open_sums.proofs.Weights.{held_weight, day_weight, held_sum, day_sum, alike_each, nothing, each_map, each_both}
 
 -- ---- sums
@@ -178,4 +178,7 @@ rows_wider since m rs numbered are = record {
     by false e = shut row own e (row_in row.order m) refl
 
 pub wider : (m : Remembered) (rs : List Row) → AreNumbered rs → IsOf m (open_rows m.since rs) → IsOf m rs
-wider m rs numbered is = record { sums = sums_wider m.since m.sums rs is.sums; rows = rows_wider m.since m.rows rs numbered is.rows }
+wider m rs numbered is = record {
+  sums = sums_wider m.since m.sums rs is.sums;
+  rows = turned (λ kept. AreRows m.since kept (open_rows m.since rs)) (λ kept. AreRows m.since kept rs) (λ kept. rows_wider m.since kept rs numbered) m.rows is.rows;
+}

@@ -1,5 +1,5 @@
 -- What is remembered of a company, and when it agrees with the company's rows.
-use Rattle.std.specs.Prelude.{◌≡◌, ◌<◌, ℕ, Bool, true, false, List, map, length, Option, Some, None, IfSome, is_some}
+use Rattle.std.specs.Prelude.{◌≡◌, ◌<◌, ⊤, ℕ, Bool, true, false, List, map, length, Option, Some, None, IfSome, is_some}
 use Rattle.std.specs.List.{range_with_len, AllByRecursion}
 use Rattle.desk_book.specs.declared.row.Row.{Row}
 use Rattle.desk_book.specs.Standing.{facts_in}
@@ -10,7 +10,7 @@ use Rattle.open_sums.specs.OpenSums.{held_credits, held_debits, credits_on, debi
 use Rattle.open_sums.specs.Kept.{held_in, settled_in}
 use Rattle.open_sums.specs.KnownRow.{KnownRow, Fits}
 use Rattle.open_sums.specs.Laws.{rows_at}
-use Rattle.open_sums.specs.OpenRows.{row_in, order_in}
+use Rattle.open_sums.specs.OpenRows.{row_in, order_in, Adds}
 use Rattle.open_sums.specs.declared.sums.Sums.{Sums}
 use Rattle.open_sums.specs.declared.open_rows.OpenRows.{OpenRows}
 use Rattle.open_sums.specs.declared.remembered.Remembered.{Remembered}
@@ -54,6 +54,16 @@ AreNumbered rs = map (λ row. row.order) rs ≡ range_with_len 1 (length rs)
 abbrev pub AreKept : OpenRows → List Row → Type 0
 AreKept m rs = AllByRecursion (λ row. is_some (row_in row.order m) ≡ true) rs
 
+-- something is kept of each row, if rows are kept one by one
+abbrev pub AreAllKept : Option OpenRows → List Row → Type 0
+AreAllKept m rs = IfSome m (λ kept. AreKept kept rs)
+
+-- a row is added to those that are kept one by one, or none is kept any more
+abbrev pub KeepsOn : (order : ℕ) → KnownRow → (old new : Option OpenRows) → Type 0
+KeepsOn order row old None = ⊤
+KeepsOn order row None (Some new) = ⊥
+KeepsOn order row (Some old) (Some new) = Adds order row old new
+
 -- the entries of the rows with this order number are all held
 abbrev pub AreHeld : (order : ℕ) → List Row → Type 0
 AreHeld order rs = AllByRecursion (λ f. f.state ≡ Held) (facts_in (rows_at order rs))
@@ -61,4 +71,4 @@ AreHeld order rs = AllByRecursion (λ f. f.state ≡ Held) (facts_in (rows_at or
 -- what is remembered agrees with a company's rows
 pub record IsOf (m : Remembered) (rs : List Row) : Type 0 where
   pub sums : AreSums m.since m.sums rs
-  pub rows : AreRows m.since m.rows rs
+  pub rows : IfSome m.rows (λ kept. AreRows m.since kept rs)

@@ -1,36 +1,33 @@
-//! The most that is kept of one company.
-ghost use Rattle.std.specs.Prelude.{◌≡◌, length, sum_by};
-ghost use Rattle.open_sums.specs.Caps.{can_be_kept, is_behind};
+//! The most that is kept of one company, and for how long.
+ghost use Rattle.std.specs.Prelude.{◌≡◌};
+ghost use Rattle.open_sums.specs.Caps.{is_behind, standard_caps};
 
 use bank_days::Day;
-use desk_book::OpenSubmission;
 
-/// The most submissions that are kept of a company.
-pub(crate) const MOST_SUBMISSIONS: usize = 200_000;
+/// How many open submissions of a company are kept one by one, and how many debits in them. Of a company
+/// with more, the sums alone are kept.
+#[derive(Clone, Copy, Debug, Drop)]
+pub struct Caps {
+    /// The most submissions.
+    pub submissions: usize,
+    /// The most debits.
+    pub debits: usize,
+}
 
-/// The most debits that are kept of a company.
-pub(crate) const MOST_DEBITS: usize = 1_000_000;
+impl Caps {
+    /// Returns the caps of the program's desks.
+    pub fn standard() -> Caps
+        ensures { result ≡ standard_caps }
+    {
+        Caps {
+            submissions: 200_000,
+            debits: 1_000_000,
+        }
+    }
+}
 
 /// The first open day can be at most this many days after the one on which a company was read.
 const MOST_DAYS: i64 = 30;
-
-// Returns the number of debits in open submissions.
-fn debits_of(submissions: &[OpenSubmission]) -> u128
-    ensures { result ≡ sum_by (λ x. length x.cents) submissions.now }
-{
-    let mut debits = 0;
-    for submission in submissions {
-        debits += submission.cents.as_slice().len() as u128;
-    }
-    debits
-}
-
-/// Reports whether open submissions are few enough to be kept.
-pub(crate) fn can_be_kept(submissions: &[OpenSubmission]) -> bool
-    ensures { result ≡ can_be_kept submissions.now }
-{
-    submissions.len() <= MOST_SUBMISSIONS && debits_of(submissions) <= MOST_DEBITS as u128
-}
 
 /// Reports whether the first open day is more than 30 days after the one on which a company was read.
 pub(crate) fn is_behind(since: Day, first: Day) -> bool

@@ -5,7 +5,7 @@ ghost use Rattle.desk_book.specs.Book.{Book};
 ghost use Rattle.desk_book.specs.Steps.{add_submission, put_lapsed_row, put_return, put_sent_row};
 ghost use Rattle.desk_book.specs.Sums.{exposures_on, rates_of};
 ghost use Rattle.desk_store.specs.Written.{cut_step, intake_step};
-ghost use Rattle.open_sums.specs.Known.{Follows, IsNumbered, KnowsRight, is_known};
+ghost use Rattle.open_sums.specs.Known.{Follows, Forgets, IsNumbered, KnowsRight, is_known};
 ghost use Rattle.open_sums.specs.Remembered.{IsOf};
 
 use crate::company_key::CompanyKey;
@@ -18,11 +18,14 @@ use desk_rules::{Rates, SizedSubmission};
 use desk_store::{CutRows, IntakeRows};
 use std::alloc::Global;
 use std::collections::HashMap;
+use std::mem::replace;
 
 /// The open submissions and the return rates of the companies that were asked about.
 #[derive(Drop)]
 pub struct Known {
     companies: HashMap<CompanyKey, KnownCompany>,
+    /// Those that a cut or a file could not be followed for, and that were forgotten for it.
+    lost: Vec<Id>,
 }
 
 impl Known {
@@ -32,6 +35,7 @@ impl Known {
     {
         Known {
             companies: HashMap::new(alloc),
+            lost: Vec::new(alloc),
         }
     }
 
@@ -107,6 +111,23 @@ impl Known {
         }
     }
 
+    // Forgets a company that cannot be followed. Without memory for it, it is not among the lost, and
+    // the next question about it reads it again.
+    fn lose(&mut self, company: Id)
+        ensures { Forgets company self.old self.new }
+    {
+        self.companies.remove(&CompanyKey { company });
+        let _noted = self.lost.push(company);
+    }
+
+    /// Returns the companies that could not be followed, and lists them no longer.
+    pub fn take_lost(&mut self, alloc: Global) -> Vec<Id>
+        ensures lost { result ≡ self.old.lost }
+        ensures known { (b : Book) → KnowsRight self.old b → KnowsRight self.new b }
+    {
+        replace(&mut self.lost, Vec::new(alloc))
+    }
+
     // Follows a submission that a cut sends. A company that cannot be followed is forgotten.
     fn send(&mut self, sent: &SentRow)
         ensures { Follows self.old self.new (λ b. put_sent_row b sent.now) }
@@ -118,7 +139,7 @@ impl Known {
             return;
         };
         if !company.send(sent.order, sent.settled) {
-            self.companies.remove(&key);
+            self.lose(sent.company);
         }
     }
 
@@ -133,7 +154,7 @@ impl Known {
             return;
         };
         if !company.lapse(lapsed.order) {
-            self.companies.remove(&key);
+            self.lose(lapsed.company);
         }
     }
 
@@ -148,7 +169,7 @@ impl Known {
             return;
         };
         if !company.give_back(returned) {
-            self.companies.remove(&key);
+            self.lose(returned.company);
         }
     }
 

@@ -12,10 +12,11 @@
 //! submission of it that settles on or before that day. Accepted submissions, lapsed retries and other
 //! cuts leave them unchanged.
 //!
-//! A company costs 8 bytes for each open debit and some 200 for each open submission. At most 1,000,000
-//! debits and 200,000 submissions are kept of it. If more are open, each question asks the store inside.
-//! A company's open submissions are read again when the first day that counts is more than 30 days after
-//! the one on which they were read.
+//! A company costs 8 bytes for each open debit and some 200 for each open submission. At most 200,000
+//! submissions with 1,000,000 debits are kept of it ([`Caps`]). Of a company with more, the sums alone are
+//! kept: they answer each question and follow each submission. A cut or a returns file that names the
+//! company reads it again. So does a question when the first day that counts is more than 30 days after
+//! the one on which the company was read.
 #![tactic(auto)]
 
 mod caps;
@@ -26,7 +27,6 @@ mod keep;
 mod known;
 mod known_company;
 mod laws;
-mod left_out;
 mod open_row;
 mod open_rows;
 mod reference_key;
@@ -34,6 +34,7 @@ mod remembered;
 mod remembering;
 mod sums;
 
+pub use caps::Caps;
 pub use known::Known;
 pub use known_company::KnownCompany;
 pub use laws::{

@@ -1,8 +1,9 @@
 //! A company's open submissions, found by order number and by reference.
 ghost use Rattle.std.specs.Prelude.{◌≡◌, ℕ, None, IsTrue, IfSome};
+ghost use Rattle.open_sums.specs.Caps.{HasRoom};
 ghost use Rattle.open_sums.specs.OpenRows.{Adds, Lapses, Returns, Sends, row_in};
 
-use crate::caps::{MOST_DEBITS, MOST_SUBMISSIONS};
+use crate::caps::Caps;
 use crate::open_row::OpenRow;
 use crate::reference_key::ReferenceKey;
 use ach_fields::Ref;
@@ -17,24 +18,28 @@ pub(crate) struct OpenRows {
     orders: BTreeMap<ReferenceKey, u64>,
     /// The number of debits that were added.
     debits: usize,
+    caps: Caps,
 }
 
 impl OpenRows {
-    /// Returns no submissions.
-    pub(crate) fn new(alloc: Global) -> OpenRows
-        ensures { (order : ℕ) → row_in order result ≡ None }
+    /// Returns no submissions, with room for so many.
+    pub(crate) fn new(alloc: Global, caps: Caps) -> OpenRows
+        ensures none { (order : ℕ) → row_in order result ≡ None }
+        ensures caps { result.caps ≡ caps }
     {
         OpenRows {
             rows: BTreeMap::new(alloc),
             orders: BTreeMap::new(alloc),
             debits: 0,
+            caps,
         }
     }
 
     /// Adds a submission. Returns false if its order number or reference is already kept, if more would
-    /// be kept than the most submissions or debits, or if there is no memory.
+    /// be kept than the caps allow, or if there is no memory.
     pub(crate) fn add(&mut self, order: u64, row: OpenRow) -> bool
-        ensures { IsTrue result → Adds order row self.old self.new }
+        ensures adds { IsTrue result → Adds order row self.old self.new }
+        ensures room { IsTrue result → HasRoom self.old row }
     {
         let key = ReferenceKey {
             reference: row.reference,
@@ -42,8 +47,10 @@ impl OpenRows {
         if self.rows.contains_key(&order) || self.orders.contains_key(&key) {
             return false;
         }
-        let debits = self.debits.saturating_add(row.cents.len());
-        if self.rows.len() >= MOST_SUBMISSIONS || debits > MOST_DEBITS {
+        let Some(debits) = self.debits.checked_add(row.cents.len()) else {
+            return false;
+        };
+        if self.rows.len() >= self.caps.submissions || debits > self.caps.debits {
             return false;
         }
         self.debits = debits;

@@ -9,9 +9,9 @@ ghost use Rattle.desk_book.specs.Sums.{exposures_on};
 ghost use Rattle.open_sums.specs.KnownRow.{Fits};
 ghost use Rattle.desk_book.specs.OpenRows.{open_rows};
 ghost use Rattle.desk_book.specs.OpenSubmissions.{open_submission};
-ghost use Rattle.open_sums.specs.Remembered.{AreHeld, AreKept, AreNumbered, IsOf};
+ghost use Rattle.open_sums.specs.Remembered.{AreAllKept, AreHeld, AreNumbered, IsOf, KeepsOn};
 
-use crate::caps::is_behind;
+use crate::caps::{Caps, is_behind};
 use crate::first_read::keep_open;
 use crate::keep::keep;
 use crate::open_row::OpenRow;
@@ -22,33 +22,45 @@ use desk_book::{OpenSubmission, ReturnedRow, first_open_day};
 use desk_rules::{RuleDay, SizedSubmission};
 use std::alloc::Global;
 
-/// A company's open submissions with their sums: all that is held, and what settles on day `since` or
-/// later.
+/// The sums of a company's open submissions: all that is held, and what settles on day `since` or later.
+/// The submissions are kept one by one too, unless there are too many.
 #[derive(Drop)]
 pub struct Remembered {
     since: Day,
     sums: Sums,
-    rows: OpenRows,
+    rows: Option<OpenRows>,
+}
+
+// Keeps one more submission. If there is no room for it, none is kept one by one any more.
+fn keep_row(rows: &mut Option<OpenRows>, order: u64, row: OpenRow)
+    ensures { KeepsOn order row rows.old rows.new }
+{
+    let Some(kept) = rows else {
+        return;
+    };
+    if !kept.add(order, row) {
+        *rows = None;
+    }
 }
 
 impl Remembered {
     /// Returns the memory of a company without submissions.
-    pub fn new(alloc: Global, since: Day) -> Remembered
+    pub fn new(alloc: Global, caps: Caps, since: Day) -> Remembered
         ensures of { IsOf result [] }
         ensures since { result.since ≡ since }
     {
         Remembered {
             since,
             sums: Sums::new(alloc),
-            rows: OpenRows::new(alloc),
+            rows: Some(OpenRows::new(alloc, caps)),
         }
     }
 
-    // Adds a submission that the store already has. Returns false if it cannot be kept.
+    // Adds a submission that the store already has. Returns false if it cannot be counted.
     fn load(&mut self, order: u64, row: OpenRow) -> bool
         ensures right { IsTrue result → (rs : List Row) (of : Row) → IsOf self.old rs
-            → AreKept self.old.rows rs → of.order ≡ order → Fits row of
-            → IsOf self.new (rs ++ of ∷ []) × AreKept self.new.rows (rs ++ of ∷ []) }
+            → AreAllKept self.old.rows rs → of.order ≡ order → Fits row of
+            → IsOf self.new (rs ++ of ∷ []) × AreAllKept self.new.rows (rs ++ of ∷ []) }
         ensures since { self.new.since ≡ self.old.since }
     {
         let debit = row.debit;
@@ -57,9 +69,7 @@ impl Remembered {
         let Some(counted) = row.counted() else {
             return false;
         };
-        if !self.rows.add(order, row) {
-            return false;
-        }
+        keep_row(&mut self.rows, order, row);
         match settled {
             Some(day) => self.sums.settle(debit, day, counted),
             None => self.sums.hold(debit, total),
@@ -67,12 +77,17 @@ impl Remembered {
     }
 
     /// Returns the memory of a company by its submissions that are open since a day, or `None` if they
-    /// cannot be kept.
-    pub fn read(alloc: Global, since: Day, submissions: Vec<OpenSubmission>) -> Option<Remembered>
+    /// cannot be counted.
+    pub fn read(
+        alloc: Global,
+        caps: Caps,
+        since: Day,
+        submissions: Vec<OpenSubmission>,
+    ) -> Option<Remembered>
         ensures { IfSome result (λ m. (all : List Row) → AreNumbered all
             → submissions.items ≡ map open_submission (open_rows since all) → IsOf m all) }
     {
-        let mut read = Remembered::new(alloc, since);
+        let mut read = Remembered::new(alloc, caps, since);
         for submission in submissions {
             let order = submission.order;
             let kept = keep_open(submission)?;
@@ -94,19 +109,21 @@ impl Remembered {
         };
         let debit = row.debit;
         let cents = row.total;
-        if !self.rows.add(order, row) {
-            return false;
-        }
+        keep_row(&mut self.rows, order, row);
         self.sums.hold(debit, cents)
     }
 
-    /// Follows a submission that is sent, by its order number. Returns false if it cannot.
+    /// Follows a submission that is sent, by its order number. Returns false if it cannot, as when the
+    /// sums alone are kept.
     pub fn send(&mut self, order: u64, day: RuleDay) -> bool
         ensures follows { IsTrue result → (rs : List Row) → IsOf self.old rs
             → IsOf self.new (map (if_order order (sent_row day)) rs) }
         ensures held { IsTrue result → (rs : List Row) → IsOf self.old rs → AreHeld order rs }
     {
-        let Some((debit, cents)) = self.rows.send(order, day) else {
+        let Some(rows) = &mut self.rows else {
+            return false;
+        };
+        let Some((debit, cents)) = rows.send(order, day) else {
             return false;
         };
         if !self.sums.let_go(debit, cents) {
@@ -115,26 +132,33 @@ impl Remembered {
         self.sums.settle(debit, day, cents)
     }
 
-    /// Follows a retry that lapses, by its order number. Returns false if it cannot.
+    /// Follows a retry that lapses, by its order number. Returns false if it cannot, as when the sums
+    /// alone are kept.
     pub fn lapse(&mut self, order: u64) -> bool
         ensures follows { IsTrue result → (rs : List Row) → IsOf self.old rs
             → IsOf self.new (map (if_order order lapsed_row) rs) }
         ensures held { IsTrue result → (rs : List Row) → IsOf self.old rs → AreHeld order rs }
     {
-        let Some((debit, cents)) = self.rows.lapse(order) else {
+        let Some(rows) = &mut self.rows else {
+            return false;
+        };
+        let Some((debit, cents)) = rows.lapse(order) else {
             return false;
         };
         self.sums.let_go(debit, cents)
     }
 
-    /// Follows a return. Returns false if it cannot. A return of a submission that is not kept is too
-    /// late to change any exposure.
+    /// Follows a return. Returns false if it cannot, as when the sums alone are kept. Otherwise a return
+    /// of a submission that is not kept is too late to change any exposure.
     pub fn give_back(&mut self, returned: &ReturnedRow) -> bool
         ensures { IsTrue result → (rs : List Row) → IsOf self.old rs
             → IsOf self.new (map (returned_row_by returned.now) rs) }
     {
         let row = &returned.row;
-        match self.rows.take(row.reference, row.index) {
+        let Some(rows) = &mut self.rows else {
+            return false;
+        };
+        match rows.take(row.reference, row.index) {
             Some((day, cents)) => self.sums.give_back(day, u128::from(cents)),
             None => true,
         }

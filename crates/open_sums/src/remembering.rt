@@ -1,12 +1,10 @@
 //! The store around a store.
 ghost use Rattle.std.specs.Prelude.{◌≡◌};
 ghost use Rattle.desk_book.specs.Book.{Book};
-ghost use Rattle.desk_store.specs.Words.{LeavesRead};
-ghost use Rattle.open_sums.specs.Known.{HoldsKnown, KnowsRight};
+ghost use Rattle.open_sums.specs.Known.{KnowsRight, Learns};
 
-use crate::caps::can_be_kept;
+use crate::caps::Caps;
 use crate::known::Known;
-use crate::left_out::LeftOut;
 use crate::remembered::Remembered;
 use ach_fields::{Id, Ref, Trace};
 use bank_days::{Calendar, Day};
@@ -23,7 +21,7 @@ use std::alloc::Global;
 pub struct Remembering<S> {
     store: S,
     known: Known,
-    left_out: LeftOut,
+    caps: Caps,
 }
 
 impl<S> Remembering<S> {
@@ -32,10 +30,18 @@ impl<S> Remembering<S> {
         ensures store { result.store ≡ store }
         ensures known { (b : Book) → KnowsRight result.known b }
     {
+        Remembering::with_caps(alloc, store, Caps::standard())
+    }
+
+    /// Does the same with other caps.
+    pub fn with_caps(alloc: Global, store: S, caps: Caps) -> Remembering<S>
+        ensures store { result.store ≡ store }
+        ensures known { (b : Book) → KnowsRight result.known b }
+    {
         Remembering {
             store,
             known: Known::new(alloc),
-            left_out: LeftOut::new(alloc),
+            caps,
         }
     }
 
@@ -48,31 +54,20 @@ impl<S> Remembering<S> {
 }
 
 impl<S: Store> Remembering<S> {
-    // Reads a company's open submissions and remembers them. Remembers nothing if too much is open, or if
-    // they cannot be read or kept.
+    // Reads a company's open submissions and remembers them. Remembers nothing if they cannot be read or
+    // counted.
     fn learn(&mut self, alloc: Global, company: Id, today: Day, calendar: &Calendar)
-        ensures before { S.is_clean self.new.store → S.is_clean self.old.store }
-        ensures read { S.is_clean self.new.store → (b : Book)
-            → HoldsKnown (S.holds self.old.store) self.old.known b
-            → HoldsKnown (S.holds self.new.store) self.new.known b }
-        ensures left { S.is_clean self.new.store
-            → LeavesRead (S.may_leave self.old.store) (S.may_leave self.new.store) }
+        ensures { Learns S.is_clean S.holds S.may_leave self.old.store self.new.store
+            self.old.known self.new.known }
     {
         let Some(since) = first_open_day(calendar, today) else {
             return;
         };
-        if self.left_out.has(company, since) {
-            return;
-        }
         self.known.forget(company);
         let Ok(submissions) = self.store.open_entries(alloc, company, since) else {
             return;
         };
-        if !can_be_kept(&submissions) {
-            self.left_out.add(company, since);
-            return;
-        }
-        let Some(read) = Remembered::read(alloc, since, submissions) else {
+        let Some(read) = Remembered::read(alloc, self.caps, since, submissions) else {
             return;
         };
         self.known.remember(company, read);
@@ -80,12 +75,8 @@ impl<S: Store> Remembering<S> {
 
     // Learns a company that is not known yet. Returns the fault if the holidays cannot be read.
     fn learn_new(&mut self, alloc: Global, company: Id, today: Day) -> Result<(), StoreFault>
-        ensures before { S.is_clean self.new.store → S.is_clean self.old.store }
-        ensures read { S.is_clean self.new.store → (b : Book)
-            → HoldsKnown (S.holds self.old.store) self.old.known b
-            → HoldsKnown (S.holds self.new.store) self.new.known b }
-        ensures left { S.is_clean self.new.store
-            → LeavesRead (S.may_leave self.old.store) (S.may_leave self.new.store) }
+        ensures { Learns S.is_clean S.holds S.may_leave self.old.store self.new.store
+            self.old.known self.new.known }
     {
         if self.known.has(company) {
             return Ok(());
@@ -93,6 +84,33 @@ impl<S: Store> Remembering<S> {
         let calendar = self.store.calendar(alloc)?;
         self.learn(alloc, company, today, &calendar);
         Ok(())
+    }
+
+    // Reads a company as of the desk day, if that can be read.
+    fn learn_today(&mut self, alloc: Global, company: Id)
+        ensures { Learns S.is_clean S.holds S.may_leave self.old.store self.new.store
+            self.old.known self.new.known }
+    {
+        let Ok(day) = self.store.day(alloc) else {
+            return;
+        };
+        let Some(today) = day else {
+            return;
+        };
+        let Ok(calendar) = self.store.calendar(alloc) else {
+            return;
+        };
+        self.learn(alloc, company, today.day(), &calendar);
+    }
+
+    // Reads the companies again that a write could not be followed for: of these the sums alone are kept.
+    fn learn_lost(&mut self, alloc: Global)
+        ensures { Learns S.is_clean S.holds S.may_leave self.old.store self.new.store
+            self.old.known self.new.known }
+    {
+        for company in self.known.take_lost(alloc) {
+            self.learn_today(alloc, company);
+        }
     }
 }
 
@@ -327,6 +345,7 @@ impl<S: Store> Store for Remembering<S> {
         match self.store.commit_cut(alloc, cut) {
             Ok(done) => {
                 self.known.follow_cut(cut);
+                self.learn_lost(alloc);
                 Ok(done)
             }
             Err(fault) => Err(fault),
@@ -337,6 +356,7 @@ impl<S: Store> Store for Remembering<S> {
         match self.store.commit_intake(alloc, intake) {
             Ok(done) => {
                 self.known.follow_intake(intake);
+                self.learn_lost(alloc);
                 Ok(done)
             }
             Err(fault) => Err(fault),

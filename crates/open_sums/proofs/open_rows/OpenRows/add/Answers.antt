@@ -20,8 +20,8 @@ orders_updated : {T E : Type 0} (k : ReferenceKey) (v : ℕ) (m n : BTreeMap Ref
 orders_updated k v m n (Ok old) ok updates = updates
 orders_updated k v m n (Err back) ok updates = absurd cc
 
-pub returns : goal.returns
-returns c = λ done.
+pub returns-clause-adds : goal.returns-clause-adds
+returns-clause-adds c = λ done.
     let rows = rows_updated c.args.order c.args.row c.args.self.now.rows c.insert-2.new.self c.insert-2.result (sym c.is_err-2.ensures.value ∙ c.if-is_err-2.false) c.insert-2.ensures.updates in
     let orders = orders_updated (record { reference = c.row.inside.reference }) c.args.order c.args.self.now.orders c.insert.new.self c.insert.result (sym c.is_err.ensures.value ∙ c.if-is_err.false) c.insert.ensures.updates in
     record {

@@ -5,11 +5,15 @@ use Rattle.open_sums.proofs.Numbered.{intake_numbered}
 use Rattle.open_sums.proofs.remembering.RememberingStore.commit_intake.Goals as goal
 
 pub returns-in-Ok : goal.returns-in-Ok
-returns-in-Ok g c = record {
-  before = c.in-Ok.ensures.before;
-  write = λ clean. made _ _ c.args.self.now.known c.follow_intake.new.self (intake_step c.args.intake.now) (intake_numbered (intake_rows c.args.intake.now)) c.follow_intake.ensures (c.in-Ok.ensures.write clean);
-  left = λ clean b k held admits new. (c.in-Ok.ensures.left clean b k held.held admits new, intake_numbered (intake_rows c.args.intake.now) b held.numbered);
-}
+returns-in-Ok g c =
+    let step = intake_step c.args.intake.now in
+    let numbered = intake_numbered (intake_rows c.args.intake.now) in
+    record {
+      before = λ clean. c.in-Ok.ensures.before (c.learn_lost.ensures.before clean);
+      write = λ clean b held admits. c.learn_lost.ensures.read clean (step.after b)
+          (made _ _ c.args.self.now.known c.follow_intake.new.self step numbered c.follow_intake.ensures (c.in-Ok.ensures.write (c.learn_lost.ensures.before clean)) b held admits);
+      left = λ clean b k held admits new. (c.in-Ok.ensures.left (c.learn_lost.ensures.before clean) b k held.held admits (c.learn_lost.ensures.left clean k new), numbered b held.numbered);
+    }
 
 pub returns-in-Err : goal.returns-in-Err
 returns-in-Err g c = record {

@@ -1,0 +1,14 @@
+use Rattle.open_sums.proofs.remembering.Remembering.learn_today.Goals as goal
+
+pub returns : goal.returns
+returns g c = record {
+  before = λ clean. c.in-Ok.ensures.before (c.in-Ok-calendar.ensures.before (c.learn.ensures.before clean));
+  read = λ clean b held.
+      let learnt = c.learn.ensures.before clean in
+      let day = c.in-Ok.ensures.read (c.in-Ok-calendar.ensures.before learnt) b held.held in
+      let got = c.in-Ok-calendar.ensures.read learnt b day.1 in
+      c.learn.ensures.read clean b (record { held = got.1; numbered = held.numbered; known = held.known });
+  left = λ clean k new.
+      let learnt = c.learn.ensures.before clean in
+      c.in-Ok.ensures.left (c.in-Ok-calendar.ensures.before learnt) k (c.in-Ok-calendar.ensures.left learnt k (c.learn.ensures.left clean k new));
+}
