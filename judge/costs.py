@@ -17,7 +17,7 @@ busy or slow machine gives the same ones. There are five desks:
 A bound is a number of instructions, or a ratio to the same call of a company with nothing open or old.
 
 It prints a table with a line for each figure. The status is 1 if a figure is not within its bound, and 2 if Debian's valgrind is
-missing. A run takes a quarter of an hour.
+missing. A run takes half an hour.
 """
 
 import datetime

@@ -2,9 +2,10 @@
 use super::answers::words_of;
 use super::calls::call_of;
 use super::old_cut::put_old_cut;
-use crate::remembering::remembering;
+use crate::remembering::{remembering, remembering_within};
 use ach_fields::Routing;
 use desk_core::{Desk, FaultyStore, Identity, ListStore, PartyName, Store};
+use open_sums::Caps;
 use sql_store::SqlStore;
 use sqlite::MemStore;
 use std::alloc::Global;
@@ -175,9 +176,18 @@ pub(super) fn holds_after(
 /// ends after some runs in which no call was made again: no caller sees a refused call that only fills
 /// the memory.
 pub(super) fn holds_remembering(rt: &(impl Abort + Alloc<A = Global>), script: Script) {
+    holds_remembering_within(rt, Caps::standard(), script);
+}
+
+/// Does the same with other caps.
+pub(super) fn holds_remembering_within(
+    rt: &(impl Abort + Alloc<A = Global>),
+    caps: Caps,
+    script: Script,
+) {
     let mut seen = 0;
     for call in 1..MOST_CALLS {
-        let store = remembering(rt, FaultyStore::new(new_lists(rt), call));
+        let store = remembering_within(rt, FaultyStore::new(new_lists(rt), call), caps);
         if run(rt, store, script) {
             seen = call;
         }

@@ -1,12 +1,12 @@
 //! This script asks for exposures and return rates before and after all that may change them.
 use super::script::{
-    BAKE, CUT_9, DAY, HOLIDAYS, MILL, NINTH, PAY_1, PAY_2_SECOND, Script, holds, holds_remembering,
-    new_lists,
+    BAKE, CUT_9, DAY, HOLIDAYS, MILL, NINTH, PAY_1, PAY_2_SECOND, Script, follow, holds,
+    holds_remembering, holds_remembering_within, new_lists,
 };
 use ach_fields::Id;
 use bank_days::Day;
-use desk_core::{FaultyStore, Store};
-use open_sums::Remembering;
+use desk_core::{Desk, FaultyStore, Store};
+use open_sums::{Caps, Remembering};
 use std::alloc::Global;
 use std::process::Abort;
 
@@ -81,10 +81,23 @@ const DAYS: Script = &[
     ("MILL01 rates", RETURNED),
 ];
 
+// Room for one submission, and room for no debit: both companies soon have more.
+const ONE: Caps = Caps {
+    submissions: 1,
+    debits: 9,
+};
+
+const NO_DEBIT: Caps = Caps {
+    submissions: 9,
+    debits: 0,
+};
+
 #[test]
 fn sums_follow_what_happens(rt: HostRuntime) {
     holds(&rt, DAYS);
     holds_remembering(&rt, DAYS);
+    holds_remembering_within(&rt, ONE, DAYS);
+    holds_remembering_within(&rt, NO_DEBIT, DAYS);
 }
 
 // Reports whether a company's exposures on a day are answered.
@@ -164,6 +177,22 @@ fn open_submissions_are_read_once(rt: HostRuntime) {
             );
         }
     }
+}
+
+const TWO_OPEN: Script = &[MILL, HOLIDAYS, DAY, PAY_1, PAY_2_SECOND];
+
+// A company with more open submissions than are kept one by one is read once too: three questions read
+// the holidays three times and the submissions once. The call after these is refused.
+#[test]
+fn a_large_company_is_read_once(rt: HostRuntime) {
+    let mut desk = Desk::new(new_lists(&rt));
+    assert!(&rt; !follow(&rt, &mut desk, TWO_OPEN));
+    let lists = FaultyStore::new(desk.into_store(), 5);
+    let mut store = Remembering::with_caps(rt.alloc(), lists, ONE);
+    for _ in 0..3 {
+        assert!(&rt; is_answered(&rt, &mut store, "2025-01-08"));
+    }
+    assert!(&rt; store.suspense_count(rt.alloc()).is_err());
 }
 
 // Reports whether a company's return rates on a day are answered.
