@@ -55,6 +55,7 @@ JUDGES = (
     Judge("kill_nine", ("200",)),
     Judge("soak"),
     Judge("histories"),
+    Judge("next_cut"),
     Judge("audit"),
     Judge("patience"),
     Judge("facts"),
