@@ -69,8 +69,8 @@ OTHER_ROUTES = [
      '{"credit":"0","credit_limit":999999999999999,"day":"2025-01-14","debit":"0","debit_limit":999999999999999,"entry_limit":9999999999}'),
     ("desk", "GET /ops/suspense", "", "200 OK", '{"items":[]}'),
     ("desk", "GET /ops/status", "", "200 OK",
-     '{"companies":[{"due":[],"held":' + NOTHING_HELD + ',"id":"MILL01","lapsing":0,"name":"MILL STREET"}],"day":"2025-01-14","files":[],"holidays":1,'
-     '"sent":2,"suspense":0}'),
+     '{"companies":[{"due":[],"held":' + NOTHING_HELD + ',"id":"MILL01","lapsing":0,"name":"MILL STREET"}],"day":"2025-01-14","due_files":0,"due_records":0,'
+     '"files":[],"held_records":0,"holidays":1,"sent":2,"suspense":0}'),
     ("desk", "GET /ops/companies", "", "200 OK",
      '{"companies":[{"credit":"0","credit_limit":999999999999999,"debit":"0","debit_limit":999999999999999,"entry_limit":9999999999,"id":"MILL01","name":"MILL STREET",'
      '"rates":{"administrative":{"d":1,"n":0,"over":false},"overall":{"d":1,"n":1,"over":true},"unauthorized":{"d":1,"n":0,"over":false}}}],"day":"2025-01-14"}'),

@@ -20,7 +20,7 @@ use Rattle.desk_book.specs.OnCut.{batches_after, sent_row, sent_rows, sending_of
 use Rattle.desk_book.specs.Reads.{held_submission, waiting}
 use Rattle.desk_book.specs.Standing.{is_held}
 use Rattle.desk_book.specs.Steps.{IsEntryOf, commit_cut}
-use Rattle.desk_book.proofs.CutFiles.{flat_runs}
+use Rattle.desk_history.proofs.Traces.NextCut.{flat_runs}
 
 -- each element of the parts
 all_flat : {X Y : Type 0} (P : Y → Type 0) (f : X → List Y) (xs : List X) → ((x : X) → All P (f x)) → All P (flat_map f xs)

@@ -2,19 +2,17 @@
 use Rattle.std.proofs.Common.{◌≡◌, ℕ, ◌+◌, List, [], ◌∷◌, ◌++◌, length, map, Bool, true, false, ◌&&◌, refl, sym, ap, ◌∙◌, append_assoc}
 use Rattle.std.specs.Prelude.{◌==◌, if◌then◌else◌, fold, filter, find, Option, Some, is_none, option_map, bytes_eq}
 use Rattle.std.specs.List.{enumerate_from, flat_map}
-use Rattle.std.proofs.lemmas.List.{append-nil, length-map, map-append}
+use Rattle.std.proofs.lemmas.List.{append-nil, map-append}
 use Rattle.std.proofs.lemmas.List.Concat.{flat_map-append}
 use Rattle.std.proofs.lemmas.Simd.{map-map}
-use Rattle.desk_plan.specs.declared.batch.Batch as plan
-use Rattle.desk_plan.specs.Files.{division}
 use Rattle.desk_plan.specs.Laws.{OneDivision}
 use Rattle.desk_plan.specs.Modifiers.{modifier_at}
 use Rattle.desk_plan.specs.Runs.{flat}
-use Rattle.desk_plan.proofs.Runs.{flat-in_runs}
 use Rattle.desk_plan.specs.Sequences.{range_after}
 use Rattle.desk_history.specs.declared.sent_entry.FilePlace.{FilePlace}
 use Rattle.desk_history.specs.Files.{File, runs_of, files_from, is_batch_of, places_in_file}
-use Rattle.desk_history.specs.Sendings.{Sending, NumberedBatch, entries_in, plan_of}
+use Rattle.desk_history.specs.Sendings.{Sending, NumberedBatch, entries_in}
+use Rattle.desk_history.proofs.Traces.NextCut.{flat_runs}
 use Rattle.desk_book.specs.Standing as standing
 use Rattle.desk_book.proofs.Finds.{first_more}
 use Rattle.desk_book.specs.declared.flat_rows.SentRow.{SentRow}
@@ -50,12 +48,6 @@ files_turn day made (run ∷ runs) =
 batches_turn : (last : ℕ) (ss : List Sending) → map batch_turn (batches_after last ss) ≡ map sending_turn ss
 batches_turn last [] = refl
 batches_turn last (s ∷ ss) = ap (λ (more : List (List ℕ × Turn)). sending_turn s ∷ more) (batches_turn (range_after last (length (entries_in s))).1 ss)
-
--- the runs of batches are the batches
-pub flat_runs : OneDivision → (bs : List NumberedBatch) → flat (runs_of bs) ≡ bs
-flat_runs law bs =
-    let plans : List plan.Batch = map (λ b. plan_of b.sending) bs in
-    flat-in_runs (map length (division plans)) bs (law.count plans ∙ length-map bs (λ b. plan_of b.sending))
 
 -- the files hold what the cut sends, in its order
 pub files_hold_sends : OneDivision → (x : CutFacts) → map sent_turn (flat_map sent_rows (files x)) ≡ map sending_turn (cut_sendings x)

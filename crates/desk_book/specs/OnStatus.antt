@@ -1,12 +1,15 @@
 -- The desk's status, from the book.
-use Rattle.std.specs.Prelude.{ℕ, List, [], length, map, Option, Some, None}
+use Rattle.std.specs.Prelude.{ℕ, List, [], length, map, sum_by, Option, Some, None}
+use Rattle.std.specs.List.{flat_map}
+use Rattle.desk_plan.specs.declared.batch.Batch as plan
+use Rattle.desk_plan.specs.Files.{division}
 use Rattle.desk_rules.specs.declared.bodies.company.Company.{Company}
 use Rattle.desk_history.specs.declared.answer.Answer.{Answer}
 use Rattle.desk_history.specs.declared.answer.Answer.TheVariants as answers
 use Rattle.desk_history.specs.declared.answer.Outcome.TheVariants as done
 use Rattle.desk_history.specs.declared.status.CompanyStatus.{CompanyStatus}
 use Rattle.desk_history.specs.declared.status.DeskStatus.{DeskStatus}
-use Rattle.desk_history.specs.Sendings.{Sending}
+use Rattle.desk_history.specs.Sendings.{Sending, plan_of, record_count}
 use Rattle.desk_history.specs.Status.{tallies, due_days, modifiers_on}
 use Rattle.desk_book.specs.declared.flat_rows.LapsedRow.{LapsedRow}
 use Rattle.desk_book.specs.declared.held_submission.HeldSubmission.{HeldSubmission}
@@ -33,14 +36,31 @@ company_status day holidays k ws = record {
   name = k.name;
 }
 
+-- the entry and addenda records of held submissions
+abbrev pub held_records : List HeldSubmission → ℕ
+held_records ws = sum_by (λ w. record_count w.row.content) ws
+
+-- what a cut of the desk day would take of its files for what waits
+abbrev pub due_loads : (day : Option ℕ) → (holidays : List ℕ) → List HeldSubmission → List plan.Batch
+due_loads day holidays ws = map plan_of (sent_on day holidays ws)
+
+-- ---- the desk
+
 abbrev pub companies_of : Book → List CompanyStatus
 companies_of b = map (λ k. company_status b.day b.holidays k (waiting_of k b)) b.companies
+
+-- what the cut would take for all companies
+abbrev pub loads_of : Book → List plan.Batch
+loads_of b = flat_map (λ k. due_loads b.day b.holidays (waiting_of k b)) b.companies
 
 abbrev pub status_of : Book → DeskStatus
 status_of b = record {
   companies = companies_of b;
   day = b.day;
+  due_files = length (division (loads_of b));
+  due_records = sum_by (λ l. l.records) (loads_of b);
   files = modifiers_on b.day b.files_on;
+  held_records = sum_by (λ k. held_records (waiting_of k b)) b.companies;
   holidays = length b.holidays;
   sent = sent_count b;
   suspense = length b.suspense;

@@ -7,3 +7,4 @@ pub mod Planned
 pub mod ReadCalls
 pub mod Running
 pub mod Sized
+pub mod Waits

@@ -13,7 +13,10 @@ pub use desk_book::{
     tells_intake, tells_operator, tells_replies, tells_status, twice_acts_once, verdicts_on_rows,
 };
 pub use desk_calls::{Desk, crashes_leave, desk_alone, two_desks};
-pub use desk_cut::{CutFault, CutPlan, NumberedCut, company_status, number_cut, plan_cut};
+pub use desk_cut::{
+    CompanyWaiting, CutFault, CutPlan, DeskWaiting, NumberedCut, company_waiting, desk_waiting,
+    number_cut, plan_cut,
+};
 pub use desk_history::{
     Answer, Call, CallRefusal, ChangeRow, CompanyRisk, CompanyStatus, CutSummary, DayRates, DaySum,
     DeskCompanies, DeskStatus, DueDay, Exposure, FilePlace, Identity, Intake, ListOf, Outcome,

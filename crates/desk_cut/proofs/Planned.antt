@@ -1,5 +1,5 @@
 -- The rows written for the numbered submissions of a cut are those that the cut writes.
-use Rattle.std.proofs.Common.{◌≡◌, ◌∙◌, ℕ, ◌+◌, suc, Bool, true, false, List, [], ◌∷◌, ◌++◌, map, zip, length, drop, refl, sym, ap, length-append}
+use Rattle.std.proofs.Common.{◌≡◌, ◌∙◌, ℕ, ◌+◌, suc, Bool, true, false, List, [], ◌∷◌, ◌++◌, map, zip, length, refl, sym, ap, length-append}
 use Rattle.std.specs.Prelude.{sum, sum_by, nat_le, if◌then◌else◌, Option, Some, None, Err}
 use Rattle.std.specs.List.{flat_map, list_all, enumerate_from}
 use Rattle.std.proofs.lemmas.List.{length-map}
@@ -18,6 +18,7 @@ use Rattle.desk_rules.specs.Size.{total_of}
 use Rattle.desk_history.specs.Files.{files_from}
 use Rattle.desk_history.specs.Postings.{if_any, sending_line}
 use Rattle.desk_history.specs.Sendings.{Sending, NumberedBatch, is_debit_sending, plan_of, batch_of, entries_in, batch_entries}
+use Rattle.desk_history.proofs.Traces.NextCut.{length-in_runs}
 use Rattle.desk_book.specs.OnCut.{CutFacts, cut_sendings, batches, files, ranges_after, sent_rows, file_row}
 use Rattle.desk_cut.specs.declared.numbers.CutNumbers.{CutNumbers}
 use Rattle.desk_cut.specs.declared.fault.CutFault.{CutFault}
@@ -37,10 +38,6 @@ IsOf x n = IsNumbered x.holidays x.day x.last x.waiting n
 length-ranges : (last : ℕ) (counts : List ℕ) → length (ranges last counts) ≡ length counts
 length-ranges last [] = refl
 length-ranges last (n ∷ counts) = ap suc (length-ranges (range_after last n).1 counts)
-
-pub length-in_runs : {A : Type 0} (sizes : List ℕ) (xs : List A) → length (in_runs sizes xs) ≡ length sizes
-length-in_runs [] xs = refl
-length-in_runs (n ∷ sizes) xs = ap suc (length-in_runs sizes (drop n xs))
 
 -- each submission has a range
 length-ranges_after : (last : ℕ) (ss : List Sending) → length ss ≡ length (ranges_after last ss)

@@ -6,3 +6,4 @@ pub mod Printing
 pub mod Sendable
 pub mod Sent
 pub mod Sums
+pub mod Waiting

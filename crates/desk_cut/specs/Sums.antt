@@ -4,13 +4,14 @@ use Rattle.ach_fields.specs.Cents.{most_cents}
 use Rattle.desk_rules.specs.declared.bodies.submission.Submission.{Submission}
 use Rattle.desk_rules.specs.LimitChecks.{is_debit}
 use Rattle.desk_rules.specs.Size.{total_of}
-use Rattle.desk_history.specs.declared.status.DueDay.{DueDay}
 use Rattle.desk_history.specs.declared.status.Tallies.{Tallies}
 use Rattle.desk_history.specs.declared.status.Tally.{Tally}
 use Rattle.desk_history.specs.Status.{due_days, tallies}
 use Rattle.desk_book.specs.declared.held_submission.HeldSubmission.{HeldSubmission}
 use Rattle.desk_book.specs.OnCut.{lapses_among, sendings}
 use Rattle.desk_cut.specs.declared.due.Sending.{Sending}
+use Rattle.desk_cut.specs.declared.status.DueOnDay.{DueOnDay}
+use Rattle.desk_cut.specs.Numbers.{loads_among}
 use Rattle.desk_cut.specs.Sent.{sent_in}
 
 abbrev pub with_one : Submission → Tally → Tally
@@ -37,10 +38,10 @@ pub record AreWithin (count : ℕ) (t : Tallies) : Type 0 where
 abbrev pub sums_on : ℕ → List Sending → Tallies
 sums_on day sent = tallies (map (λ s. s.content) (filter (λ s. s.settled == day) (sent_in sent)))
 
--- what a cut would send of what waits, by day
-abbrev pub due_among : (holidays : List ℕ) → (day : ℕ) → List HeldSubmission → List DueDay
-due_among holidays day waiting = due_days (sendings holidays day waiting)
-
--- how many retries it would let lapse
-abbrev pub lapsing_among : (holidays : List ℕ) → (day : ℕ) → List HeldSubmission → ℕ
-lapsing_among holidays day waiting = length (lapses_among holidays day waiting)
+-- what a cut would do with what waits
+abbrev pub due_on : (holidays : List ℕ) → (day : ℕ) → List HeldSubmission → DueOnDay
+due_on holidays day waiting = record {
+  days = due_days (sendings holidays day waiting);
+  lapsing = length (lapses_among holidays day waiting);
+  loads = loads_among holidays day waiting;
+}

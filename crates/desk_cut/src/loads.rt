@@ -1,5 +1,5 @@
 //! Each submission takes something of a file and of the sequences: its load.
-ghost use Rattle.std.specs.Prelude.{◌≡◌, ◌≤◌, IfOk, All, length, map, sum_by, if◌then◌else◌};
+ghost use Rattle.std.specs.Prelude.{◌≡◌, ◌<◌, ◌≤◌, IfOk, OnErr, All, length, map, sum_by, if◌then◌else◌};
 ghost use Rattle.desk_plan.specs.Batch.{IsBatch, IsEntryCount};
 ghost use Rattle.desk_history.specs.Sendings.{plan_of, records_of};
 ghost use Rattle.desk_cut.specs.Sent.{due_in};
@@ -10,8 +10,8 @@ use desk_plan::Batch;
 use desk_rules::Entry;
 use std::alloc::{AllocError, Global};
 
-// How many records 6 and 7 entries have.
-fn records_of(entries: &[Entry]) -> u32
+/// How many records 6 and 7 entries have.
+pub(crate) fn records_of(entries: &[Entry]) -> u32
     requires { length entries.now ≤ 1_000 }
     ensures value { result ≡ sum_by (λ e. records_of e.info) entries.now }
     ensures within { result ≤ 2_000 }
@@ -53,10 +53,11 @@ fn load_of(due: &DueSubmission<'_>) -> Batch
     }
 }
 
-/// Gives the load of each submission, in order.
+/// Gives the load of each submission, in order. Where nothing is sent it takes no memory.
 pub(crate) fn loads_of(alloc: Global, sent: &[DueSubmission<'_>]) -> Result<Vec<Batch>, AllocError>
     ensures value { IfOk result (λ loads. loads.items ≡ map plan_of (map due_in sent.now)) }
     ensures batches { IfOk result (λ loads. All IsBatch loads.items) }
+    ensures memory { OnErr result (0 < length sent.now) }
 {
     let mut loads = Vec::new(alloc);
     for due in sent {

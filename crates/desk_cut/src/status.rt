@@ -1,19 +1,20 @@
-//! What a company has waiting is summed here, and what a cut would do with it.
+//! The sums of what a company has waiting, and of what a cut would do with it.
 ghost use Rattle.std.specs.Prelude.{◌≡◌, ◌==◌, ◌<◌, [], ◌+◌, ℕ, length, map, true, IfOk, OnErr, OnOk};
 ghost use Rattle.desk_accounts.specs.Balance.{with_day};
 ghost use Rattle.desk_history.specs.Status.{due_days, settlement_days, tallies};
-ghost use Rattle.desk_book.specs.OnStatus.{company_status, sent_on};
-ghost use Rattle.desk_cut.specs.Faults.{TellsDays, is_any_due, is_any_due_on};
+ghost use Rattle.desk_cut.specs.Faults.{TellsDays, is_any_due};
 ghost use Rattle.desk_cut.specs.Sent.{sent_in};
-ghost use Rattle.desk_cut.specs.Sums.{AreWithin, IsWithin, due_among, lapsing_among, most_held, sums_on, with_one, with_submission};
+ghost use Rattle.desk_cut.specs.Sums.{AreWithin, IsWithin, due_on, most_held, sums_on, with_one, with_submission};
 ghost use Rattle.desk_book.specs.OnCut.{sendings};
 
 use crate::due::{Sending, decide, settle, settles_beyond};
 use crate::fault::CutFault;
+use crate::loads::loads_of;
 use bank_days::{Calendar, Day};
 use desk_book::HeldSubmission;
-use desk_history::{CompanyStatus, DueDay, ListOf, Tallies, Tally};
-use desk_rules::{Company, Direction, RuleDay, SizedSubmission};
+use desk_history::{DueDay, ListOf, Tallies, Tally};
+use desk_plan::Batch;
+use desk_rules::{Direction, RuleDay, SizedSubmission};
 use std::alloc::{AllocError, Global};
 use std::collections::BTreeSet;
 
@@ -62,7 +63,8 @@ fn no_sums() -> Tallies
     }
 }
 
-fn held_sums(waiting: &[HeldSubmission]) -> Tallies
+/// Sums what is held.
+pub(crate) fn held_sums(waiting: &[HeldSubmission]) -> Tallies
     ensures { result ≡ tallies (map (λ w. w.row.content) waiting.now) }
 {
     let mut sums = no_sums();
@@ -130,15 +132,25 @@ fn due_by_day(alloc: Global, sent: &[Sending<'_>]) -> Result<Vec<DueDay>, AllocE
     Ok(due)
 }
 
-// What a cut on a day would send, by day, and how many retries it would let lapse.
-fn due_on(
+/// What a cut on a day would do with what waits.
+#[derive(Drop)]
+pub(crate) struct DueOnDay {
+    /// What it would send, by the day on which it settles, ascending.
+    pub(crate) days: ListOf<DueDay>,
+    /// How many retries it would let lapse.
+    pub(crate) lapsing: u64,
+    /// What each submission that it would send takes of the files.
+    pub(crate) loads: ListOf<Batch>,
+}
+
+/// Says what a cut on a day would do with what waits. Where nothing is due it takes no memory.
+pub(crate) fn due_on(
     alloc: Global,
     day: RuleDay,
     holidays: &Calendar,
     waiting: &[HeldSubmission],
-) -> Result<(Vec<DueDay>, u64), CutFault>
-    ensures due { IfOk result (λ found. found.0.items ≡ due_among holidays.now day waiting.now) }
-    ensures lapsing { IfOk result (λ found. found.1 ≡ lapsing_among holidays.now day waiting.now) }
+) -> Result<DueOnDay, CutFault>
+    ensures value { IfOk result (λ due. due ≡ due_on holidays.now day waiting.now) }
     ensures days { TellsDays (sendings holidays.now day waiting.now) result }
     ensures memory { OnErr result (is_any_due holidays.now day waiting.now ≡ true) }
 {
@@ -146,37 +158,12 @@ fn due_on(
         return Err(CutFault::DaysSpent);
     }
     let decision = decide(alloc, day, holidays, waiting)?;
+    let loads = loads_of(alloc, &decision.sent)?;
     let sent = settle(alloc, &decision.sent)?;
     let due = due_by_day(alloc, &sent)?;
-    Ok((due, decision.lapsed.len() as u64))
-}
-
-/// Says what a company has of which this waits: what is held, and what a cut on the desk day would
-/// do with it, which is nothing before the first day.
-///
-/// It is `DaysSpent` exactly where a submission would settle after 2100-01-31, and else `NoMemory`
-/// where there is no room for a list. Where nothing is due it takes no memory. No sum overflows.
-pub fn company_status(
-    alloc: Global,
-    day: Option<RuleDay>,
-    holidays: &Calendar,
-    company: &Company,
-    waiting: &[HeldSubmission],
-) -> Result<CompanyStatus, CutFault>
-    ensures value { IfOk result
-        (λ status. status ≡ company_status day holidays.now company.now waiting.now) }
-    ensures days { TellsDays (sent_on day holidays.now waiting.now) result }
-    ensures memory { OnErr result (is_any_due_on day holidays.now waiting.now ≡ true) }
-{
-    let (due, lapsing) = match day {
-        None => (Vec::new(alloc), 0),
-        Some(day) => due_on(alloc, day, holidays, waiting)?,
-    };
-    Ok(CompanyStatus {
-        due: ListOf::new(due),
-        held: held_sums(waiting),
-        id: company.id,
-        lapsing,
-        name: company.name,
+    Ok(DueOnDay {
+        days: ListOf::new(due),
+        lapsing: decision.lapsed.len() as u64,
+        loads: ListOf::new(loads),
     })
 }

@@ -9,6 +9,7 @@
 -- - `traces_name`: Traces, NamedTraces
 -- - `traces_of_cuts`: Traces, TracesOfCuts
 -- - `files_of_status`: Traces, FilesOfDays
+-- - `due_of_status`: Traces, NextCut
 -- - `accounts_cancel`: Accounts
 -- - `company_lines`: Lines
 -- - `digest_of_part`: Lines, PartCompany

@@ -1,8 +1,9 @@
--- The laws `traces_name`, `accepted_cuts`, `traces_of_cuts` and `files_of_status`: a cut, its files, and the
--- traces of its entries.
+-- The laws `traces_name`, `accepted_cuts`, `traces_of_cuts`, `files_of_status` and `due_of_status`: a cut, its files,
+-- and the traces of its entries.
 pub mod AcceptedCuts
 pub mod FilesOfDays
 pub mod NamedTraces
+pub mod NextCut
 pub mod SentWith
 pub mod SettlesAfter
 pub mod CutBatches

@@ -28,6 +28,10 @@ abbrev pub records_of : Option (List ℕ) → ℕ
 records_of None = 1
 records_of (Some info) = 2
 
+-- those of a submission
+abbrev pub record_count : Submission → ℕ
+record_count content = sum_by (λ e. records_of e.info) content.entries
+
 -- what it takes of a file and of the sequences
 abbrev pub plan_of : Sending → plan.Batch
 plan_of s = record {
@@ -37,7 +41,7 @@ plan_of s = record {
   debits = if is_debit_sending s then total_of (entries_in s) else 0;
   credits = if is_debit_sending s then 0 else total_of (entries_in s);
   entries = length (entries_in s);
-  records = sum_by (λ e. records_of e.info) (entries_in s);
+  records = record_count s.content;
 }
 
 -- a batch: its entries take sequences from the first on

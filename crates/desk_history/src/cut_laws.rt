@@ -1,5 +1,5 @@
 //! The laws of cuts, of their files and of traces.
-ghost use Rattle.desk_history.specs.DayFiles.{FilesOfStatus};
+ghost use Rattle.desk_history.specs.DayFiles.{DueOfStatus, FilesOfStatus};
 ghost use Rattle.desk_history.specs.SentLaws.{AcceptedCuts, TracesName, TracesOfCuts};
 
 /// A cut that was accepted had a desk day, took only sequences that were free, and had modifiers for
@@ -28,3 +28,12 @@ pub fn traces_of_cuts()
 pub fn files_of_status()
     ensures { FilesOfStatus }
 {}
+
+/// If a cut follows on the same history, it makes exactly as many files as the status says, with as
+/// many entry and addenda records, and the day has modifiers for all its files. If it is refused for
+/// want of modifiers, the status says how many files it needed.
+pub fn due_of_status()
+    ensures { DueOfStatus }
+{
+    desk_plan::one_division();
+}

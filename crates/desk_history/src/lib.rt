@@ -30,7 +30,7 @@ pub use alone_laws::served_alone;
 pub use answer::{Answer, CallRefusal, Outcome};
 pub use call::Call;
 pub use companies::{CompanyRisk, DeskCompanies};
-pub use cut_laws::{accepted_cuts, files_of_status, traces_name, traces_of_cuts};
+pub use cut_laws::{accepted_cuts, due_of_status, files_of_status, traces_name, traces_of_cuts};
 pub use identity::Identity;
 pub use laws::{
     companies_rows, company_of_part, digest_of_part, first_answer_stands, one_message, two_worlds,

@@ -45,8 +45,15 @@ pub struct DeskStatus {
     pub companies: ListOf<CompanyStatus>,
     /// The desk day; none before the first.
     pub day: Option<Day>,
+    /// The number of files that a cut of the desk day would make, also if the day has no modifiers
+    /// for them; 0 before the first day.
+    pub due_files: u64,
+    /// The number of entry and addenda records that it would send.
+    pub due_records: u64,
     /// The modifiers of the day's files, in the order in which they were made.
     pub files: ListOf<u8>,
+    /// The number of entry and addenda records of all submissions that no cut has decided.
+    pub held_records: u64,
     /// The number of holidays.
     pub holidays: u64,
     /// The number of entries that were ever sent.

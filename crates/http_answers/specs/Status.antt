@@ -58,7 +58,10 @@ abbrev pub status_members : DeskStatus → List (List ℕ × Data)
 status_members s =
     (codes "companies", companies_body s.companies)
     ∷ (codes "day", day_or_null s.day)
+    ∷ (codes "due_files", number (unsigned s.due_files))
+    ∷ (codes "due_records", number (unsigned s.due_records))
     ∷ (codes "files", files_body s.files)
+    ∷ (codes "held_records", number (unsigned s.held_records))
     ∷ (codes "holidays", number (unsigned s.holidays))
     ∷ (codes "sent", number (unsigned s.sent))
     ∷ (codes "suspense", number (unsigned s.suspense)) ∷ []

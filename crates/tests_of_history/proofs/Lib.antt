@@ -12,4 +12,5 @@ mod HistoryVectors
 mod NumberVectors
 mod FileVectors
 mod ManyFilesVectors
+mod StatusVectors
 mod TextVectors

@@ -16,6 +16,7 @@ use Rattle.desk_history.specs.Files.{cut_sendings, files, file_count, new_files}
 use Rattle.desk_history.specs.History.{day, sent_entries}
 use Rattle.desk_history.specs.Cutting.{cut}
 use Rattle.desk_history.specs.Operator.{history_after, answer_to, cut_answer}
+use Rattle.desk_history.specs.Status.{status}
 use Rattle.tests_of_history.proofs.OnLiterals.{desk_on_literals}
 use Rattle.tests_of_history.proofs.Samples.{identity, on, registers, submits, credits, credit_entry, refused}
 
@@ -67,3 +68,8 @@ they_may_be_sent =
 
 no_modifier_is_left : answer_to identity many_companies Cut ≡ refused rules.ModifiersSpent
 no_modifier_is_left = ap cut_answer (more_files_than_modifiers identity.odfi many_companies 20096 their_day they_may_be_sent thirty_seven_files)
+
+-- the status has all 37 that the cut would need
+the_status_has_them : (status identity.odfi many_companies).due_files ≡ 37
+unfolding desk_on_literals many_companies
+the_status_has_them = refl

@@ -3,52 +3,79 @@ ghost use Rattle.std.specs.Prelude.{◌≡◌, take, IfOk};
 ghost use Rattle.desk_plan.specs.Modifiers.{modifiers};
 ghost use Rattle.desk_history.specs.Status.{modifiers_on};
 ghost use Rattle.desk_book.specs.OnStatus.{status_answer};
-ghost use Rattle.desk_calls.specs.Status.{status_on, statuses};
+ghost use Rattle.desk_cut.specs.Waiting.{desk_waiting};
+ghost use Rattle.desk_calls.specs.Status.{all_waiting, each_waiting, waiting_on};
 ghost use Rattle.desk_admission.specs.OverStores.{AnswersAsked, Gives, GivesList};
 
 use bank_days::{Calendar, Day};
-use desk_cut::company_status;
-use desk_history::{Answer, CompanyStatus, DeskStatus, ListOf, Outcome};
+use desk_cut::{CompanyWaiting, DeskWaiting, company_waiting, desk_waiting};
+use desk_history::{Answer, DeskStatus, ListOf, Outcome};
 use desk_plan::modifier;
 use desk_rules::{Company, RuleDay};
 use desk_store::{Store, StoreFault};
 use std::alloc::Global;
 
 // What a company has waiting. What could not be summed is answered as what a store could not read.
-fn status_of<S: Store>(
+fn waiting_of<S: Store>(
     store: &mut S,
     alloc: Global,
     day: &Option<RuleDay>,
     holidays: &Calendar,
     company: &Company,
-) -> Result<CompanyStatus, StoreFault>
+) -> Result<CompanyWaiting, StoreFault>
     ensures { Gives S.Store store.old store.new result
-        (status_on day.now holidays.now company.now) }
+        (waiting_on day.now holidays.now company.now) }
 {
     let waiting = store.waiting_of(alloc, *company)?;
-    match company_status(alloc, *day, holidays, company, &waiting) {
-        Ok(status) => Ok(status),
+    match company_waiting(alloc, *day, holidays, company, &waiting) {
+        Ok(found) => Ok(found),
         Err(_) => Err(StoreFault::Unavailable),
     }
 }
 
 // Returns what each of these companies has waiting.
-fn statuses_of<S: Store>(
+fn each_waiting<S: Store>(
     store: &mut S,
     alloc: Global,
     day: &Option<RuleDay>,
     holidays: &Calendar,
     companies: &[Company],
-) -> Result<Vec<CompanyStatus>, StoreFault>
+) -> Result<Vec<CompanyWaiting>, StoreFault>
     ensures { GivesList S.Store store.old store.new result
-        (statuses day.now holidays.now companies.now) }
+        (each_waiting day.now holidays.now companies.now) }
 {
     let mut found = Vec::new(alloc);
     for company in companies {
-        let status = status_of(store, alloc, day, holidays, company)?;
-        found.push(status)?;
+        let waiting = waiting_of(store, alloc, day, holidays, company)?;
+        found.push(waiting)?;
     }
     Ok(found)
+}
+
+// The sums of all. A number with more than 64 bits is answered as what a store could not read.
+fn sums_of(alloc: Global, each: Vec<CompanyWaiting>) -> Result<DeskWaiting, StoreFault>
+    ensures { IfOk result (λ all. all ≡ desk_waiting each.items) }
+{
+    match desk_waiting(alloc, each)? {
+        Some(all) => Ok(all),
+        None => Err(StoreFault::Unavailable),
+    }
+}
+
+// Returns the status of each of these companies, and the sums of all.
+fn all_waiting<S: Store>(
+    store: &mut S,
+    alloc: Global,
+    day: &Option<RuleDay>,
+    holidays: &Calendar,
+    companies: &[Company],
+) -> Result<DeskWaiting, StoreFault>
+    ensures { Gives S.Store store.old store.new result
+        (all_waiting day.now holidays.now companies.now) }
+{
+    let each = each_waiting(store, alloc, day, holidays, companies)?;
+    let all = sums_of(alloc, each)?;
+    Ok(all)
 }
 
 // The modifiers of the first files of a day.
@@ -101,14 +128,17 @@ pub(crate) fn status<S: Store>(store: &mut S, alloc: Global) -> Result<Answer, S
     let day = store.day(alloc)?;
     let holidays = store.calendar(alloc)?;
     let companies = store.companies(alloc)?;
-    let statuses = statuses_of(store, alloc, &day, &holidays, &companies)?;
+    let waiting = all_waiting(store, alloc, &day, &holidays, &companies)?;
     let files = files_of(store, alloc, &day)?;
     let sent = store.sent_count(alloc)?;
     let suspense = store.suspense_count(alloc)?;
     Ok(Answer::Done(Outcome::Status(DeskStatus {
-        companies: ListOf::new(statuses),
+        companies: waiting.companies,
         day: day_of(&day),
+        due_files: waiting.due_files,
+        due_records: waiting.due_records,
         files: ListOf::new(files),
+        held_records: waiting.held_records,
         holidays: holidays.holidays().len() as u64,
         sent,
         suspense,

@@ -55,7 +55,7 @@ files_more d on made (run ∷ runs) fs first are room =
     (λ is. count_more d fs f ∙ (λ i. are is i + cond (is i) 1 0))
     (omega arith))
 
-as_many : (on made : ℕ) (runs : List (List NumberedBatch)) → length (files_from on made runs) ≡ length runs
+pub as_many : (on made : ℕ) (runs : List (List NumberedBatch)) → length (files_from on made runs) ≡ length runs
 as_many on made [] = refl
 as_many on made (run ∷ runs) = ap suc (as_many on (made + 1) runs)
 

@@ -20,8 +20,11 @@ pub(crate) fn add_status(text: &mut Vec<u8>, status: DeskStatus) -> Result<(), A
     add_companies(text, status.companies)?;
     text.reserve(ROW_ROOM)?;
     put_desk_day(text, status.day);
+    put_number(text, true, b"due_files", status.due_files);
+    put_number(text, true, b"due_records", status.due_records);
     add_list(text, true, b"files", status.files)?;
     text.reserve(ROW_ROOM)?;
+    put_number(text, true, b"held_records", status.held_records);
     put_number(text, true, b"holidays", status.holidays);
     put_number(text, true, b"sent", status.sent);
     put_number(text, true, b"suspense", status.suspense);
@@ -34,6 +37,8 @@ pub(crate) fn add_status(text: &mut Vec<u8>, status: DeskStatus) -> Result<(), A
 fn put_desk_day(text: &mut Vec<u8>, day: Option<Day>)
     requires { vec_len text.old + 100 ≤ vec_capacity text.old }
     ensures items { GainsMember text.old text.new true (codes "day") (day_or_null day) }
+    ensures len { vec_len text.new ≤ vec_len text.old + 100 }
+    ensures capacity { vec_capacity text.old ≤ vec_capacity text.new }
 {
     match day {
         Some(day) => put_text(text, true, b"day", &day.text()),

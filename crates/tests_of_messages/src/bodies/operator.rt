@@ -99,13 +99,16 @@ fn how_the_desk_stands(rt: HostRuntime) {
     let status = DeskStatus {
         companies: ListOf::new(companies),
         day: Some(day(&rt, b"2025-01-08")),
+        due_files: 37,
+        due_records: 1887,
         files: list(&rt, b"AB"),
+        held_records: u64::MAX,
         holidays: 11,
         sent: 3,
         suspense: 2,
     };
     let body =
-        b">{\"companies\":[{\"due\":[{\"credits\":{\"cents\":\"150000\",\"submissions\":1},\"day\":\"2025-01-09\",\"debits\":{\"cents\":\"0\",\"submissions\":0}}],\"held\":{\"credits\":{\"cents\":\"150000\",\"submissions\":1},\"debits\":{\"cents\":\"0\",\"submissions\":0}},\"id\":\"MILL01\",\"lapsing\":0,\"name\":\"MILL\"}],\"day\":\"2025-01-08\",\"files\":[\"A\",\"B\"],\"holidays\":11,\"sent\":3,\"suspense\":2}";
+        b">{\"companies\":[{\"due\":[{\"credits\":{\"cents\":\"150000\",\"submissions\":1},\"day\":\"2025-01-09\",\"debits\":{\"cents\":\"0\",\"submissions\":0}}],\"held\":{\"credits\":{\"cents\":\"150000\",\"submissions\":1},\"debits\":{\"cents\":\"0\",\"submissions\":0}},\"id\":\"MILL01\",\"lapsing\":0,\"name\":\"MILL\"}],\"day\":\"2025-01-08\",\"due_files\":37,\"due_records\":1887,\"files\":[\"A\",\"B\"],\"held_records\":18446744073709551615,\"holidays\":11,\"sent\":3,\"suspense\":2}";
     says(&rt, Outcome::Status(status), body);
 }
 
@@ -114,13 +117,16 @@ fn how_a_new_desk_stands(rt: HostRuntime) {
     let status = DeskStatus {
         companies: ListOf::new(Vec::new(rt.alloc())),
         day: None,
+        due_files: 0,
+        due_records: 0,
         files: list(&rt, b""),
+        held_records: 0,
         holidays: 0,
         sent: 0,
         suspense: 0,
     };
     let body =
-        b">{\"companies\":[],\"day\":null,\"files\":[],\"holidays\":0,\"sent\":0,\"suspense\":0}";
+        b">{\"companies\":[],\"day\":null,\"due_files\":0,\"due_records\":0,\"files\":[],\"held_records\":0,\"holidays\":0,\"sent\":0,\"suspense\":0}";
     says(&rt, Outcome::Status(status), body);
 }
 

@@ -211,6 +211,9 @@ fn status(rt: &impl Abort, out: &mut String, s: &DeskStatus) {
     put_number(rt, out, "], suspense ", &s.suspense);
     put_number(rt, out, ", holidays ", &s.holidays);
     put_number(rt, out, ", sent ", &s.sent);
+    put_number(rt, out, ", due files ", &s.due_files);
+    put_number(rt, out, " records ", &s.due_records);
+    put_number(rt, out, ", held records ", &s.held_records);
     for company in s.companies.as_slice() {
         company_status(rt, out, company);
     }

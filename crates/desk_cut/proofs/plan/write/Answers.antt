@@ -7,7 +7,7 @@ use Rattle.desk_cut.specs.declared.files.File.{File}
 use Rattle.desk_cut.specs.Numbers.{batches_in}
 use Rattle.desk_cut.specs.Sendable.{IsSendable, IsPrintable}
 use Rattle.desk_cut.specs.Sent.{batch_in, file_in}
-use Rattle.desk_cut.proofs.Planned.{length-in_runs}
+use Rattle.desk_history.proofs.Traces.NextCut.{length-in_runs}
 use Rattle.desk_cut.proofs.Sendings.{each_before, files_print}
 use Rattle.desk_cut.proofs.plan.write.Goals as goal
 
