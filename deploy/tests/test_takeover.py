@@ -53,7 +53,8 @@ class Afternoon(TestCase):
         for name in (line.split()[0] for line in self.does("confirm").splitlines() if line.startswith("  ")):
             self.does("confirm", name, "--transmitted" if name in received else "--not-transmitted", "--by", "ANN")
         self.does("confirm", "--no-other", "--by", "ANN")
-        for words in (("cut",), ("cut", "--remake"), ("send",)):
-            bank.run(*words)
+        afternoon: tuple[tuple[str, ...], ...] = (("cut",), ("cut", "--remake"), ("send",))
+        for again in afternoon:
+            bank.run(*again)
         self.assertEqual([f"{MON}-A.ach"], [name for name, _ in bank.server.received])
         self.does("send", says="to transmit: nothing")
