@@ -60,6 +60,7 @@ JUDGES = (
     Judge("patience"),
     Judge("facts"),
     Judge("private_files"),
+    Judge("left_unread"),
     Judge("statuses"),
     Judge("standby_states", takes_program=False),
     Judge("texts", takes_program=False),
