@@ -41,7 +41,7 @@ def once(port, method, target, body, key, seconds):
         link.request(method, target, body, {"X-Desk-Key": key, "Connection": "close"})
         answer = link.getresponse()
         came = answer.status, answer.read()
-        return None if came[0] == 503 else came
+        return None if came[0] in (502, 503, 504) else came
     except (OSError, http.client.HTTPException):
         return None
     finally:
@@ -65,12 +65,15 @@ class Load:
 
     # ---- asking
 
+    def once(self, port, method, target, body, key, seconds):
+        return once(port, method, target, body, key, seconds)
+
     def ask(self, method, target, body, key, seconds=None):
         """Asks at one address after the other until there is an answer; None once the load is stopped."""
         at = self.random.randrange(len(self.ports))
         while not self.over.is_set():
             port = self.ports[at % len(self.ports)]
-            came = once(port, method, target, body, key, seconds or self.patience)
+            came = self.once(port, method, target, body, key, seconds or self.patience)
             if came is not None:
                 if method == "POST":
                     self.answers.append((time.monotonic(), port, came[0]))
@@ -79,13 +82,16 @@ class Load:
             time.sleep(0.05)
         return None
 
-    def begin(self):
+    def register(self):
         """Registers the companies and sets the first day."""
-        self.over.clear()
         for name, key in COMPANIES.items():
             status, said = self.ask("POST", "/ops/companies", json.dumps({"id": name, "name": name, "key": key, **COMPANY}), OPERATOR_KEY)
             must(f"the company {name}", status in (201, 409) or said)
         self.set_day(self.day)
+
+    def begin(self):
+        self.over.clear()
+        self.register()
         for thread in self.threads:
             thread.start()
 
@@ -140,7 +146,7 @@ class Load:
     def operate(self):
         """Cuts; after a lost answer looks at the status and does not cut again. Fetches each file, and moves on by a day."""
         port = self.ports[self.random.randrange(len(self.ports))]
-        came = once(port, "POST", "/ops/cut", "", OPERATOR_KEY, 60)
+        came = self.once(port, "POST", "/ops/cut", "", OPERATOR_KEY, 60)
         if came is None:
             self.lost_cuts += 1
         else:
@@ -168,12 +174,12 @@ class Load:
         for company, ref in receipts:
             came = None
             while came is None:
-                came = once(port, "POST", f"/c/{company}/submissions", json.dumps(self.asked[company, ref]), COMPANIES[company], self.patience)
+                came = self.once(port, "POST", f"/c/{company}/submissions", json.dumps(self.asked[company, ref]), COMPANIES[company], self.patience)
             must(f"the receipt of {ref}", came, (201, self.receipts[company, ref]))
         for day, modifier in files:
             came = None
             while came is None:
-                came = once(port, "GET", f"/ops/files/{day}/{modifier}", None, OPERATOR_KEY, self.patience)
+                came = self.once(port, "GET", f"/ops/files/{day}/{modifier}", None, OPERATOR_KEY, self.patience)
             must(f"the file {day} {modifier}", came, (200, self.files[day, modifier]))
 
     def check_file(self, path):
