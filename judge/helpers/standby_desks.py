@@ -20,6 +20,7 @@ M = TypeVar("M", bound=Machine)
 NEWEST, SOME = 200, 50  # receipts that are asked for again after each takeover, and older ones; the end compares all
 SERVE = "achdesk serve /srv/achdesk/desk/bank.db 8080 --connections 1000000 < /dev/null > /dev/console 2>&1 &"
 LISTENS = "until grep -q ':1F90 00000000:0000 0A' /proc/net/tcp; do pidof achdesk > /dev/null || sleep 1; sleep 0.05; done"
+UP = "until drbdadm up achdesk; do drbdadm down achdesk; sleep 1; done"  # on a busy host it gives up after five seconds
 PRIMARY = "until drbdadm primary achdesk 2> /dev/null; do sleep 0.1; done"
 
 
@@ -60,7 +61,7 @@ class Desks:
     def set_up(self) -> None:
         """The steps of the page: the disk, the file system, the desk's files."""
         both(lambda it: it.start(), self.pair.machines)
-        both(lambda it: it.run("drbdadm create-md achdesk && drbdadm up achdesk"), self.pair.machines)
+        both(lambda it: it.run(f"drbdadm create-md achdesk; {UP}"), self.pair.machines)
         self.wait_for("the machines are connected", lambda device: device.connection == "Connected", self.serving)
         self.serving.run("drbdadm primary --force achdesk && mkfs.ext4 -q /dev/drbd0 && mount -o noatime /dev/drbd0 /srv/achdesk && mkdir /srv/achdesk/desk")
         self.serving.run("mkdir /files && mount -t ext4 -o ro /dev/vdb /files && cp /files/bank.db* /srv/achdesk/desk/ && sync && umount /files", 900)
@@ -132,7 +133,7 @@ class Desks:
 
     def start(self, machine: Machine) -> None:
         machine.start()
-        machine.run("drbdadm up achdesk")
+        machine.run(UP)
 
     def come_back(self) -> float:
         """Starts the machine that was lost, and waits for its disk. Returns the seconds that both took."""
