@@ -11,7 +11,7 @@ use cli_words::InitOptions;
 use desk_history::Identity;
 use io_retries::Sink;
 use sha2::{Digest, Sha256};
-use sql_files::{Connection, DeskFiles, FileStore, Opened, Refusal};
+use sql_files::{Connection, DeskFiles, FileStore, Opened, Refusal, create};
 use std::alloc::Global;
 
 /// The line that is printed after a new desk was made.
@@ -55,5 +55,5 @@ fn new_desk<F: DeskFiles>(
     ensures { IsMadeAt F.DeskFiles F.Device.Disk files.old path.now identity
         (sha256 key.now) result files.new }
 {
-    files.create(path, identity, Sha256::digest(key.as_bytes()))
+    create(files, path, identity, Sha256::digest(key.as_bytes()))
 }

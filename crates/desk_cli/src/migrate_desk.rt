@@ -6,7 +6,7 @@ ghost use Rattle.desk_cli.specs.Paths.{IsMigratedAt};
 use crate::open_fault::print_open_fault;
 use cli_commands::{Status, print_line};
 use io_retries::Sink;
-use sql_files::{Connection, DeskFiles, FileStore, Refusal};
+use sql_files::{Connection, DeskFiles, FileStore, Refusal, migrate_file};
 use std::alloc::Global;
 
 /// The line that is printed after a migration.
@@ -33,7 +33,7 @@ pub fn migrate_by_file<F: DeskFiles, W: Sink>(
         (FailsToSayWhetherMigrated result.1) }
 {
     let presence = files.look(path);
-    match files.migrate(path, presence) {
+    match migrate_file(alloc, files, path, presence) {
         Ok(conn) => (print_line(writer, true, MIGRATED), Ok(conn)),
         Err(why) => (print_open_fault(alloc, writer, why.fault()), Err(why)),
     }

@@ -7,11 +7,12 @@ use Rattle.sqlite_disk.specs.declared.Files.{Files}
 use Rattle.sqlite_disk.specs.declared.memory.Memory.{Memory}
 use Rattle.sqlite_store.specs.declared.store.FileStore.{FileStore}
 use Rattle.sqlite.specs.Held.{Held}
-use Rattle.sql_files.specs.declared.presence.Presence.{Presence}
+use Rattle.sql_files.specs.Steps.{FailsToConnect}
 use Rattle.sql_files.specs.declared.refusal.Refusal.{Refusal}
 use Rattle.sql_files.specs.declared.refusal.Refusal.TheVariants.{Refused, NoFile, Unopened}
 use Rattle.memory_files.specs.Kept.{kept_in, with_files, IsKeptOf}
-use Rattle.memory_files.specs.Opening.{kept_at, ComesBack, FailsAt, FailsToMake, IsSame, LosesNone, PutsBack, TakesOut}
+use Rattle.memory_files.specs.Opening.{kept_at, ComesBack, IsSame, LosesNone, PutsBack, TakesOut}
+use Rattle.memory_files.specs.contracts.opening.MemoryFilesDeskFiles.TheImpl as files
 use Rattle.memory_files.specs.declared.kept_files.KeptFiles.{KeptFiles}
 use Rattle.memory_files.specs.declared.memory_files.MemoryFiles.{MemoryFiles}
 use Rattle.memory_files.proofs.Keeping.{kept_elsewhere, kept_there}
@@ -62,15 +63,9 @@ module _ (d : disk.Ghosts Memory) where
     some_back Is taken out None some back = absurd some
     some_back Is taken out (Some those) some back = put_back old left new path taken those out back
 
-    -- a refusal is closed
-    pub refusal_back : (presence : Presence) (why : Refusal Memory d) → FailsAt d old path presence why left → ComesBack d left (Some (Err why)) new → LosesNone old new
-    refusal_back presence (NoFile fault) fails back = unchanged old left new fails.1 (none_back back.0 back.1 back.2)
-    refusal_back presence (Unopened error None) fails back = alike old left new fails.1 (none_back back.0 back.1 back.2)
-    refusal_back presence (Unopened error (Some rest)) fails back = some_back _ fails.1.files fails.1.takes back.0 back.1 back.2
-    refusal_back presence (Refused why c) fails back = some_back _ fails.1 fails.2 back.0 back.1 back.2
-
-    pub unmade_back : (why : Refusal Memory d) → FailsToMake d old path why left → ComesBack d left (Some (Err why)) new → LosesNone old new
-    unmade_back (NoFile fault) fails back = alike old left new fails (none_back back.0 back.1 back.2)
-    unmade_back (Unopened error None) fails back = absurd fails
-    unmade_back (Unopened error (Some rest)) fails back = some_back _ fails.files fails.takes back.0 back.1 back.2
-    unmade_back (Refused why c) fails back = some_back _ fails.0 fails.1 back.0 back.1 back.2
+    -- a refusal of what was asked for is closed
+    pub refusal_back : (why : Refusal Memory d) → FailsToConnect files.ghosts d old path why left → ComesBack d left (Some (Err why)) new → LosesNone old new
+    refusal_back (NoFile fault) fails back = unchanged old left new fails (none_back back.0 back.1 back.2)
+    refusal_back (Unopened error None) fails back = alike old left new fails (none_back back.0 back.1 back.2)
+    refusal_back (Unopened error (Some rest)) fails back = some_back _ fails.files fails.takes back.0 back.1 back.2
+    refusal_back (Refused why c) fails back = some_back _ fails.1.0.0 fails.1.0.1 back.0 back.1 back.2

@@ -1,6 +1,9 @@
 -- The effect of a call on files in memory. `d` has the facts of a file in memory.
 use Rattle.std.specs.Prelude.{◌≡◌, ◌≢◌, ℕ, List, [], Option, Some, None, IsSome, MatchOption, Result, Ok, Err, find}
+use Rattle.std.specs.IoError.{error_kind}
 use Rattle.std.specs.Str.{bytes_eq}
+use Rattle.std.specs.declared.io.Error.{Error as IoError}
+use Rattle.std.specs.declared.io.ErrorKind.TheVariants.{AlreadyExists}
 use Rattle.sqlite_disk.specs.Memory.{memory_bytes}
 use Rattle.sqlite_disk.specs.declared.Disk as disk
 use Rattle.sqlite_disk.specs.declared.Files.{Files}
@@ -12,12 +15,8 @@ use Rattle.sqlite.specs.Held.{Held}
 use Rattle.sqlite.specs.declared.error.Error.{Error}
 use Rattle.sqlite.specs.declared.file.Leftover.{Leftover}
 use Rattle.sql_files.specs.Closing.{HasFiles, IsLeftBy}
-use Rattle.sql_files.specs.Opened.{IfCleanFiles, IsFoundIn, IsMadeIn, IsMigratedIn}
-use Rattle.sql_files.specs.declared.presence.Presence.{Presence}
-use Rattle.sql_files.specs.declared.presence.Presence.TheVariants.{File}
+use Rattle.sql_files.specs.Opened.{IfCleanFiles, IsOpenedOn}
 use Rattle.sql_files.specs.declared.refusal.Refusal.{Refusal}
-use Rattle.sql_files.specs.declared.refusal.Refusal.TheVariants.{Refused, NoFile, Unopened}
-use Rattle.desk_history.specs.declared.identity.Identity.{Identity}
 use Rattle.memory_files.specs.Kept.{bytes_at, kept_in, with_files, IsKeptOf, IsPlaceOf}
 use Rattle.memory_files.specs.declared.kept_files.KeptFiles.{KeptFiles}
 use Rattle.memory_files.specs.declared.memory_files.MemoryFiles.{MemoryFiles}
@@ -38,6 +37,11 @@ other_in others path = find (λ other. bytes_eq other.path.now path) others
 
 abbrev pub other_at : MemoryFiles → (path : List ℕ) → Option OtherFile
 other_at m = other_in m.others.now
+
+-- a file can be made there, as there is none; else there is one already
+abbrev pub SaysWhetherNew : MemoryFiles → (path : List ℕ) → Result (Unit {0}) IoError → Type 0
+SaysWhetherNew m path (Ok done) = kept_at m path ≡ None
+SaysWhetherNew m path (Err e) = IsSome (kept_at m path) × (error_kind e ≡ AlreadyExists)
 
 -- every path has what it had
 pub record IsSame (old new : MemoryFiles) : Type 0 where
@@ -66,45 +70,21 @@ pub record TakesOut (old : MemoryFiles) (path : List ℕ) (files : Files Memory)
   pub elsewhere : (other : List ℕ) → other ≢ path → kept_at new other ≡ kept_at old other
   pub others : new.others ≡ old.others
 
--- the same of files that were kept
-abbrev pub TakesKept : (old : MemoryFiles) → (path : List ℕ) → (new : MemoryFiles) → Type 0
-TakesKept old path new = IsSome (kept_at old path) × (files : Files Memory) × TakesOut old path files new
-
 module _ (d : disk.Ghosts Memory) where
-  -- no connection was opened on the files that were given out, for a cause in what is left of them
+  -- a connection was opened on the files that were given out
+  abbrev pub Connects : (old : MemoryFiles) → (path : List ℕ) → Held (FileStore Memory d) → (new : MemoryFiles) → Type 0
+  Connects old path c new = ((files : Files Memory) × TakesOut old path files new) × IfCleanFiles (IsOpenedOn (image_at old path)) c
+
+  -- none was, for a cause in what is left of them
   pub record FailsOn (old : MemoryFiles) (path : List ℕ) (error : Error) (left : Leftover Memory d) (new : MemoryFiles) : Type 0 where
     pub files : Files Memory
     pub takes : TakesOut old path files new
     pub fails : IsCleanLeft left → FailsToOpenFiles files left error × LeavesFiles files left
 
-  -- the desk there was opened
-  abbrev pub Opens : (old : MemoryFiles) → (path : List ℕ) → Presence → Held (FileStore Memory d) → (new : MemoryFiles) → Type 0
-  Opens old path presence c new =
-      (presence ≡ File) × TakesKept old path new × IfCleanFiles (IsFoundIn (image_at old path)) c
-
-  -- the desk there became one of version 2
-  abbrev pub Migrates : (old : MemoryFiles) → (path : List ℕ) → Presence → Held (FileStore Memory d) → (new : MemoryFiles) → Type 0
-  Migrates old path presence c new =
-      (presence ≡ File) × TakesKept old path new × IfCleanFiles (IsMigratedIn (image_at old path)) c
-
-  -- No desk was opened. The report on the path decided, or the path had no files, and nothing changed; or the files were given out.
-  abbrev pub FailsAt : (old : MemoryFiles) → (path : List ℕ) → Presence → Refusal Memory d → (new : MemoryFiles) → Type 0
-  FailsAt old path presence (NoFile fault) new = (presence ≢ File) × (new ≡ old)
-  FailsAt old path presence (Unopened error None) new = (kept_at old path ≡ None) × IsSame old new
-  FailsAt old path presence (Unopened error (Some left)) new = IsSome (kept_at old path) × FailsOn old path error left new
-  FailsAt old path presence (Refused why c) new = TakesKept old path new
-
-  -- a new desk was made in the files that were given out
-  abbrev pub Makes : (old : MemoryFiles) → (path : List ℕ) → Identity → (key : List ℕ) → Held (FileStore Memory d) → (new : MemoryFiles) → Type 0
-  Makes old path identity key c new =
-      ((files : Files Memory) × TakesOut old path files new) × IfCleanFiles (IsMadeIn (image_at old path) identity key) c
-
-  -- none was: there was no memory for its path, and nothing changed; or the files were given out
-  abbrev pub FailsToMake : (old : MemoryFiles) → (path : List ℕ) → Refusal Memory d → (new : MemoryFiles) → Type 0
-  FailsToMake old path (NoFile fault) new = IsSame old new
-  FailsToMake old path (Unopened error None) new = ⊥
-  FailsToMake old path (Unopened error (Some left)) new = FailsOn old path error left new
-  FailsToMake old path (Refused why c) new = (files : Files Memory) × TakesOut old path files new
+  -- the same; or there was no memory for the path, and nothing changed
+  abbrev pub FailsToConnect : (old : MemoryFiles) → (path : List ℕ) → Error → Option (Leftover Memory d) → (new : MemoryFiles) → Type 0
+  FailsToConnect old path error None new = IsSame old new
+  FailsToConnect old path error (Some left) new = FailsOn old path error left new
 
   -- ---- files are returned
 

@@ -1,4 +1,4 @@
-//! A file system that has desks, by their paths.
+//! A file system that has the files of desks, by their paths.
 //!
 //! It has facts that its calls alone give: this was found at that path, this connection was opened there.
 //! Code that is generic in its `DeskFiles` can show such a fact by making the call and by nothing else. Each
@@ -6,9 +6,8 @@
 //! leads from one state to another therefore allows no further call.
 use crate::presence::Presence;
 use crate::refusal::Refusal;
-use desk_history::Identity;
 use io_retries::Source;
-use sqlite::{Connection, FileStore};
+use sqlite::{Connection, Error, FileStore, Leftover};
 use sqlite_disk::Disk;
 use std::io;
 
@@ -16,18 +15,22 @@ use std::io;
 /// no desk's file opened nothing.
 pub type Opened<D> = Option<Result<Connection<FileStore<D>>, Refusal<D>>>;
 
-/// A `DeskFiles` opens, makes and migrates the desks that it has, by their paths, and reads other files.
+/// A `DeskFiles` makes the database files that it has, by their paths, opens connections to them, and reads
+/// other files.
 pub trait DeskFiles {
-    ghost use Rattle.std.specs.Prelude.{◌≡◌, ℕ, Bool, List, IfErr, IfOk, MatchResult};
+    ghost use Rattle.std.specs.Prelude.{◌≡◌, ℕ, Bool, List, Option, IfErr, IfOk, MatchResult, Result};
+    ghost use Rattle.std.specs.declared.io.Error.{Error as IoError};
+    ghost use Rattle.sqlite.specs.Files.{file_state, IsOpened};
     ghost use Rattle.sqlite.specs.Held.{Held};
+    ghost use Rattle.sqlite.specs.Start.{FindsIn};
+    ghost use Rattle.sqlite.specs.declared.error.Error.{Error};
+    ghost use Rattle.sqlite.specs.declared.file.Leftover.{Leftover};
     ghost use Rattle.sqlite_disk.specs.declared.Disk as disk;
     ghost use Rattle.sqlite_store.specs.declared.store.FileStore.{FileStore};
     ghost use Rattle.sqlite_wal.specs.Recovery.{Image};
-    ghost use Rattle.desk_history.specs.declared.identity.Identity.{Identity};
-    ghost use Rattle.sql_files.specs.Opened.{leaves_new, IfCleanFiles, IsFoundIn, IsMadeIn, IsMigratedIn};
-    ghost use Rattle.sql_files.specs.Refusals.{RefusesDesk, RefusesFirst, RefusesNew};
+    ghost use Rattle.sql_files.specs.Opened.{IfCleanFiles};
+    ghost use Rattle.sql_files.specs.Refusals.{FailsToOpen};
     ghost use Rattle.sql_files.specs.declared.presence.Presence.{Presence};
-    ghost use Rattle.sql_files.specs.declared.refusal.Refusal.{Refusal};
 
     /// A file of a desk, once it is open.
     type Device: Disk + Drop;
@@ -50,23 +53,17 @@ pub trait DeskFiles {
     /// It said this of a path.
     ghost finds: { Self → (path : List ℕ) → Presence → Self → Type 0 };
 
-    /// It opened the desk at a path, of which it had said this, and gave this connection.
-    ghost opens: { Self → (path : List ℕ) → Presence → (d : disk.Ghosts Self.Device) → Held (FileStore Self.Device d) → Self → Type 0 };
+    /// It was asked to make an empty file at a path that its owner alone can read, and answered so.
+    ghost makes: { Self → (path : List ℕ) → Result (Unit {0}) IoError → Self → Type 0 };
 
-    /// It opened no desk there, and gave this refusal.
-    ghost fails_to_open: { Self → (path : List ℕ) → Presence → (d : disk.Ghosts Self.Device) → Refusal Self.Device d → Self → Type 0 };
+    /// It was asked to let the owner alone read the file at a path, and answered so.
+    ghost restricts: { Self → (path : List ℕ) → Result (Unit {0}) IoError → Self → Type 0 };
 
-    /// It made a desk at a path, with this identity and the digest of this key, and gave this connection.
-    ghost creates: { Self → (path : List ℕ) → Identity → (key : List ℕ) → (d : disk.Ghosts Self.Device) → Held (FileStore Self.Device d) → Self → Type 0 };
+    /// It opened this connection to the files at a path.
+    ghost connects: { Self → (path : List ℕ) → (d : disk.Ghosts Self.Device) → Held (FileStore Self.Device d) → Self → Type 0 };
 
-    /// It made no desk there, and gave this refusal.
-    ghost fails_to_create: { Self → (path : List ℕ) → Identity → (key : List ℕ) → (d : disk.Ghosts Self.Device) → Refusal Self.Device d → Self → Type 0 };
-
-    /// It migrated the desk at a path, of which it had said this, and gave this connection.
-    ghost migrates: { Self → (path : List ℕ) → Presence → (d : disk.Ghosts Self.Device) → Held (FileStore Self.Device d) → Self → Type 0 };
-
-    /// It migrated no desk there, and gave this refusal.
-    ghost fails_to_migrate: { Self → (path : List ℕ) → Presence → (d : disk.Ghosts Self.Device) → Refusal Self.Device d → Self → Type 0 };
+    /// It opened no connection there, with this error and what is left of the files.
+    ghost fails_to_connect: { Self → (path : List ℕ) → (d : disk.Ghosts Self.Device) → Error → Option (Leftover Self.Device d) → Self → Type 0 };
 
     /// Opens the file at a path to be read.
     fn read(&mut self, path: &str) -> io::Result<Self::Input>
@@ -79,44 +76,29 @@ pub trait DeskFiles {
         ensures found { finds self.old path.now result self.new }
         ensures stays { holds self.new ≡ holds self.old };
 
-    /// Opens the desk at a path, as `open` of this crate does.
-    fn open(
-        &mut self,
-        path: &str,
-        presence: Presence,
-    ) -> Result<Connection<FileStore<Self::Device>>, Refusal<Self::Device>>
-        ensures told { MatchResult result
-            (λ c. opens self.old path.now presence Self.Device.Disk c self.new)
-            (λ why. fails_to_open self.old path.now presence Self.Device.Disk why self.new) }
-        ensures found { IfOk result (IfCleanFiles (IsFoundIn (holds self.old path.now))) }
-        ensures refused { IfErr result (RefusesDesk is_fresh (holds self.old path.now) presence) };
+    /// Makes an empty file at a path, which its owner alone can read and write. If there is a file, the error
+    /// is `AlreadyExists`. What the files hold stays the same.
+    fn make_new(&mut self, path: &str) -> io::Result<()>
+        ensures told { makes self.old path.now result self.new }
+        ensures stays { holds self.new ≡ holds self.old };
 
-    /// Makes a new desk at a path, as `create` of this crate does.
-    fn create(
-        &mut self,
-        path: &str,
-        identity: Identity,
-        operator_key: [u8; 32],
-    ) -> Result<Connection<FileStore<Self::Device>>, Refusal<Self::Device>>
-        ensures told { MatchResult result
-            (λ c. creates self.old path.now identity operator_key Self.Device.Disk c self.new)
-            (λ why. fails_to_create self.old path.now identity operator_key Self.Device.Disk why self.new) }
-        ensures created { IfOk result
-            (IfCleanFiles (IsMadeIn (holds self.old path.now) identity operator_key)) }
-        ensures unmade { IfErr result
-            (RefusesNew is_fresh (holds self.old path.now) (leaves_new identity operator_key)) };
+    /// Lets its owner alone read and write the file at a path. What the files hold stays the same.
+    fn restrict(&mut self, path: &str) -> io::Result<()>
+        ensures told { restricts self.old path.now result self.new }
+        ensures stays { holds self.new ≡ holds self.old };
 
-    /// Migrates the desk of version 1 at a path, as `migrate_file` of this crate does.
-    fn migrate(
+    /// Opens a connection to the database file at a path and its log, and makes those that are missing.
+    fn connect(
         &mut self,
         path: &str,
-        presence: Presence,
-    ) -> Result<Connection<FileStore<Self::Device>>, Refusal<Self::Device>>
+    ) -> Result<Connection<FileStore<Self::Device>>, (Error, Option<Leftover<Self::Device>>)>
         ensures told { MatchResult result
-            (λ c. migrates self.old path.now presence Self.Device.Disk c self.new)
-            (λ why. fails_to_migrate self.old path.now presence Self.Device.Disk why self.new) }
-        ensures migrated { IfOk result (IfCleanFiles (IsMigratedIn (holds self.old path.now))) }
-        ensures refused { IfErr result (RefusesFirst is_fresh (holds self.old path.now) presence) };
+            (λ c. connects self.old path.now Self.Device.Disk c self.new)
+            (λ why. fails_to_connect self.old path.now Self.Device.Disk why.0 why.1 self.new) }
+        ensures opened { IfOk result (IfCleanFiles IsOpened) }
+        ensures found { IfOk result
+            (IfCleanFiles (λ c. FindsIn (holds self.old path.now) (file_state c))) }
+        ensures unopened { IfErr result (λ why. FailsToOpen is_fresh why.0 why.1) };
 }
 
 /// A `Closes<T>` takes a value and closes it. That it closed the value is a fact that its call alone gives.

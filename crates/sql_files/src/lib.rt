@@ -7,7 +7,6 @@
 
 mod checked;
 mod closing;
-mod connect;
 mod desk_files;
 mod found_file;
 mod host_files;

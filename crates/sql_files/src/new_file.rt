@@ -1,43 +1,46 @@
 //! A new desk is made in the file at a path.
-ghost use Rattle.std.specs.Prelude.{◌≡◌, codes, IfOk, IfErr, IsErrAnd};
-ghost use Rattle.sqlite_std_file.specs.File.{IsFresh};
-ghost use Rattle.sqlite_wal.specs.Files.{image_at};
+ghost use Rattle.std.specs.Prelude.{◌≡◌, codes, IfOk, IfErr, IsErrAnd, MatchResult};
 ghost use Rattle.sql_files.specs.Opened.{IfCleanFiles, IsMadeIn, leaves_new};
 ghost use Rattle.sql_files.specs.Refusals.{RefusesNew, fault_of};
+ghost use Rattle.sql_files.specs.Steps.{Creates, FailsToCreate};
 
 use crate::checked::with_new_desk;
-use crate::connect::connect;
+use crate::desk_files::DeskFiles;
 use crate::private_file::make_private;
 use crate::refusal::Refusal;
 use desk_history::Identity;
 use sql_setup::OpenFault;
-use sqlite::{Connection, FileFrom, FileStore, Start};
+use sqlite::{Connection, FileStore};
 
 /// Makes a new desk in the database file at a path, with the SHA-256 digest of the operator's key. A
 /// file that is missing is made, and its log beside it, and only their owner reads them. The connection
 /// sees the desk.
 ///
 /// Over a table `desk` it is `OpenFault::Exists`. A file that has something else in it, or that cannot
-/// be opened, is `OpenFault::Unavailable`. A refused call changes nothing in a file that was there. `S`
-/// stands for what the files hold, and for what a crash leaves of a write: `Wary` supposes the least.
-pub fn create<S: Start>(
-    rt: &HostRuntime,
+/// be opened, is `OpenFault::Unavailable`. A refused call changes nothing in a file that was there.
+///
+/// By the clause `told` the file at this path was made, or found and made private if it is empty, one
+/// connection was opened to it, and nothing else was asked of the files.
+pub fn create<F: DeskFiles>(
+    files: &mut F,
     path: &str,
-    start: S,
     identity: Identity,
     operator_key: [u8; 32],
-) -> Result<Connection<FileStore<FileFrom<S>>>, Refusal<FileFrom<S>>>
+) -> Result<Connection<FileStore<F::Device>>, Refusal<F::Device>>
+    ensures told { MatchResult result
+        (λ c. Creates F.DeskFiles F.Device.Disk files.old path.now identity operator_key c files.new)
+        (λ why. FailsToCreate F.DeskFiles F.Device.Disk files.old path.now why files.new) }
     ensures created { IfOk result
-        (IfCleanFiles (IsMadeIn (image_at S.Start) identity operator_key)) }
+        (IfCleanFiles (IsMadeIn (F.holds files.old path.now) identity operator_key)) }
     ensures unmade { IfErr result
-        (RefusesNew IsFresh (image_at S.Start) (leaves_new identity operator_key)) }
+        (RefusesNew F.is_fresh (F.holds files.old path.now) (leaves_new identity operator_key)) }
     ensures memory { path.now ≡ codes ":memory:" →
         IsErrAnd result (λ why. fault_of why ≡ OpenFault.Unavailable) }
 {
-    if let Err(fault) = make_private(rt, path) {
+    if let Err(fault) = make_private(files, path) {
         return Err(Refusal::NoFile(fault));
     }
-    match connect(rt, path, start) {
+    match files.connect(path) {
         Ok(conn) => match with_new_desk(conn, identity, operator_key) {
             Ok(conn) => Ok(conn),
             Err((why, conn)) => Err(Refusal::Refused(why, conn)),

@@ -1,13 +1,11 @@
 //! A file that only its owner can read.
-ghost use Rattle.std.specs.Prelude.{◌≡◌, IfErr};
+ghost use Rattle.std.specs.Prelude.{◌≡◌, codes, IsErr, MatchResult};
+ghost use Rattle.sql_files.specs.Steps.{names_no_file, FailsToMakePrivate, MakesOrRestricts, MakesPrivate, RestrictsEmpty};
 
+use crate::desk_files::DeskFiles;
+use crate::presence::Presence;
 use sql_setup::OpenFault;
-use std::fs::{self, Files, OpenOptions, Permissions};
-use std::io;
-use std::os::unix::fs::{OpenOptionsExt, PermissionsExt};
-
-// Only the owner can read and write.
-const OWNER_ALONE: u32 = 0o600;
+use std::io::{self, ErrorKind};
 
 /// Makes sure that only its owner can read and write the file at a path that a desk is to be made in,
 /// whatever the process takes off the modes of its files: makes an empty file if there is none, and
@@ -18,38 +16,47 @@ const OWNER_ALONE: u32 = 0o600;
 ///
 /// `OpenFault::Unavailable` if the file cannot be made or its mode cannot be changed, which leaves it
 /// unchanged, and for a path that a connection does not take for a file: no file of that name is made.
-pub(crate) fn make_private(rt: &HostRuntime, path: &str) -> Result<(), OpenFault>
-    ensures { IfErr result (λ fault. fault ≡ OpenFault.Unavailable) }
+pub(crate) fn make_private<F: DeskFiles>(files: &mut F, path: &str) -> Result<(), OpenFault>
+    ensures told { MatchResult result
+        (λ _. MakesPrivate F.DeskFiles files.old path.now files.new)
+        (λ fault. (fault ≡ OpenFault.Unavailable) × FailsToMakePrivate F.DeskFiles files.old path.now files.new) }
+    ensures memory { path.now ≡ codes ":memory:" → IsErr result }
+    ensures stays { F.holds files.new ≡ F.holds files.old }
 {
-    if path == ":memory:" || path.starts_with("file:") {
+    if names_no_file(path) {
         return Err(OpenFault::Unavailable);
     }
-    let made = match make_file(rt, path) {
-        Err(error) if error.kind() == io::ErrorKind::AlreadyExists => restrict_empty(rt, path),
-        made => made,
-    };
-    match made {
+    match make_or_restrict(files, path) {
         Ok(()) => Ok(()),
         Err(_) => Err(OpenFault::Unavailable),
     }
 }
 
-// The file has the mode from its beginning, except for what the process takes off it, which is then put
-// back.
-fn make_file(rt: &HostRuntime, path: &str) -> io::Result<()> {
-    let file = OpenOptions::new()
-        .write(true)
-        .create_new(true)
-        .mode(OWNER_ALONE)
-        .open(rt, path)?;
-    file.set_permissions(Permissions::from_mode(OWNER_ALONE))
+// A connection takes these paths for something else than a file.
+fn names_no_file(path: &str) -> bool
+    ensures { result ≡ names_no_file path.now }
+{
+    path == ":memory:" || path.starts_with("file:")
 }
 
-// A device has no bytes either, and keeps its mode.
-fn restrict_empty(rt: &HostRuntime, path: &str) -> io::Result<()> {
-    let found = fs::metadata(rt, path)?;
-    if !found.is_file() || found.len() > 0 {
-        return Ok(());
+// Makes an empty file, or changes the mode of the one that is there.
+fn make_or_restrict<F: DeskFiles>(files: &mut F, path: &str) -> io::Result<()>
+    ensures told { MakesOrRestricts F.DeskFiles files.old path.now result files.new }
+    ensures stays { F.holds files.new ≡ F.holds files.old }
+{
+    match files.make_new(path) {
+        Err(error) if error.kind() == ErrorKind::AlreadyExists => restrict_empty(files, path),
+        made => made,
     }
-    rt.set_permissions(path, Permissions::from_mode(OWNER_ALONE))
+}
+
+// What is no file, as a device, keeps its mode.
+fn restrict_empty<F: DeskFiles>(files: &mut F, path: &str) -> io::Result<()>
+    ensures told { RestrictsEmpty F.DeskFiles files.old path.now result files.new }
+    ensures stays { F.holds files.new ≡ F.holds files.old }
+{
+    match files.look(path) {
+        Presence::Nothing => files.restrict(path),
+        Presence::File | Presence::Unknown => Ok(()),
+    }
 }

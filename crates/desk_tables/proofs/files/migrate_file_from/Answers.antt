@@ -1,4 +1,0 @@
-use Rattle.desk_tables.proofs.files.migrate_file_from.Goals as goal
-
-pub returns-in-Ok-clause-migrated : goal.returns-in-Ok-clause-migrated
-returns-in-Ok-clause-migrated g c = rw c.new.ensures c.in-Ok.ensures.migrated
