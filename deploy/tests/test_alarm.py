@@ -172,7 +172,7 @@ class Units(Case):
         settings = self.settings()
         self.ended(settings, "2")
         units.ended(settings, f"{units.OVER}{SEND}", self.state, self.second, {})
-        self.assertEqual([(it.source, it.is_over) for it in self.raised()], [(SEND, False), (SEND, True)])
+        self.assertEqual(sorted((it.source, it.is_over) for it in self.raised()), [(SEND, False), (SEND, True)])
 
     def test_each_shipped_unit_has_another_handler_of_success(self) -> None:
         """systemd gives no result to a unit that is both OnFailure= and OnSuccess= of another one."""
