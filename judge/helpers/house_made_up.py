@@ -85,27 +85,6 @@ pub fn held(it: Key) -> u64
 COUNTED = {"one-use": 5, "one-clause": 3, "fact-names": 1, "names": 1, "equal": 1, "proofs-alone": 1, "arguments": 1, "arguments-inside": 1, "types": 1,
            "constants": 1, "bytes": 2, "returned": 1, "small-sources": 2, "small-sources-with-tests": 3, "small-specs": 2, "crates": 3}
 
-STORED = """//! {title}
-use desk_store::Store;
-{more}
-impl<S: Store> Store for {name}<S> {{
-    fn day(&mut self) -> Option<u64> {{
-        if let Some(day) = self.day {{
-            return Some(day);
-        }}
-        self.store.day()
-    }}
-
-    fn add(&mut self, {call}) -> Result<u64, Fault> {{
-        self.store.add({call_name})
-    }}
-}}
-
-pub struct {name}<S> {{
-    store: S,
-    day: Option<u64>,
-}}
-"""
 WALKED = {
     "crates/desk_http/src/lib.rt": "//! Messages.\nmod answers;\n",
     "crates/desk_http/src/answers.rt": """//! Answers.
@@ -174,8 +153,28 @@ pub trait Body {
     fn run(&self) -> u64;
 }
 """,
-    "crates/open_sums/src/lib.rt": STORED.format(title="Sums.", more="use desk_history::{Fault, Line};\n", name="Remembering", call="line: Line", call_name="line"),
-    "crates/remembering_store/src/lib.rt": STORED.format(title="Memory.", more="use desk_history::{Fault, Line};\n", name="Remembering", call="line: Line", call_name="line"),
+    "crates/remembering_store/src/lib.rt": """//! Memory.
+use desk_store::Store;
+use desk_history::{Fault, Line};
+
+impl<S: Store> Store for Remembering<S> {
+    fn day(&mut self) -> Option<u64> {
+        if let Some(day) = self.day {
+            return Some(day);
+        }
+        self.store.day()
+    }
+
+    fn add(&mut self, line: Line) -> Result<u64, Fault> {
+        self.store.add(line)
+    }
+}
+
+pub struct Remembering<S> {
+    store: S,
+    day: Option<u64>,
+}
+""",
     "crates/sql_store/src/lib.rt": """//! Tables.
 use desk_history::{Fault, Line};
 use desk_store::{Body, Store};
@@ -215,9 +214,9 @@ fn commit<B: Body>(body: &B) -> Result<u64, Fault> {
 }
 """,
 }
-SUBMITTED = ["desk_history::Line::length", "desk_http::answers::answer", "desk_http::answers::plus", "desk_http::answers::submit", "open_sums::Remembering::add",
-             "open_sums::Remembering::day", "remembering_store::Remembering::add", "sql_store::AddLine::run", "sql_store::SqlStore::add", "sql_store::commit"]
-CUT = ["desk_http::answers::answer", "desk_http::answers::cut", "open_sums::Remembering::day"]
+SUBMITTED = ["desk_history::Line::length", "desk_http::answers::answer", "desk_http::answers::plus", "desk_http::answers::submit", "remembering_store::Remembering::add",
+             "remembering_store::Remembering::day", "sql_store::AddLine::run", "sql_store::SqlStore::add", "sql_store::commit"]
+CUT = ["desk_http::answers::answer", "desk_http::answers::cut", "remembering_store::Remembering::day"]
 
 
 def made(top: str, files: dict[str, str]) -> House:

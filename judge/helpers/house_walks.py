@@ -1,7 +1,7 @@
 """Walks over the product's functions from the answer to a message: those that a submission, a cut or a file of returns enters.
 
 Of each function with a body the walk follows the calls. It takes a function of a trait in those types alone that the walk makes.
-A call of the store goes through the stores that remember to the tables, and no further than to what is remembered. Of a `match` over
+A call of the store goes through the store that remembers to the tables, and no further than to what is remembered. Of a `match` over
 messages it takes the arms of its own."""
 
 from dataclasses import dataclass, field
@@ -14,7 +14,7 @@ from helpers.house_world import Calls, World
 
 ENTRY = ("desk_http", "answer")
 STORE = "desk_store::Store"
-STORES = ("open_sums", "remembering_store", "sql_store")  # from the outermost to the tables
+STORES = ("remembering_store", "sql_store")  # from the outermost to the tables
 
 
 @dataclass(frozen=True)
@@ -130,7 +130,7 @@ class Walking:
 
     def of_store(self, caller: Function, name: str) -> list[Function]:
         """Returns the function of the store inside, or of the outermost store."""
-        inner = STORES[min(STORES.index(caller.crate) + 1, 2)] if caller.crate in STORES else STORES[0]
+        inner = STORES[-1] if caller.crate in STORES else STORES[0]
         return [it for _, it in self.world.impls.get((STORE, name), []) if it.crate == inner]
 
 

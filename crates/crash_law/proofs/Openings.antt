@@ -23,7 +23,7 @@ use Rattle.sql_migration.specs.Migration.{HasMigrated}
 use Rattle.sqlite.specs.State.{State}
 use Rattle.crash_law.specs.Crashes.{IsFirstHistory, StandsAfterCrash}
 use Rattle.desk_http.specs.Keeping.{new_history, DeskHistory, StandsBehind, book_after}
-use Rattle.open_sums.specs.Laws.{NumberedBooks}
+use Rattle.remembering_store.specs.Laws.{NumberedBooks}
 use Rattle.crash_law.specs.Openings.{holds, keeps, may_leave, StandsMigrated, FirstOverBytes, InMemory, Tables, InFiles, FilesSurvive}
 
 module _ (first : FirstCalls) (are : CallsAreHistory) where
@@ -72,9 +72,9 @@ module _ {T : Type 0} (g : Ghosts T) (numbered : NumberedBooks) (over : FirstOve
           stands = record {
             history = tt;
             book = record {
-              held = (subst (λ (G : List core.Pair). Sees (state g s.store.store.conn) (book_of identity key G)) none desk.sees, begins.1 (book_of identity key calls));
+              held = subst (λ (G : List core.Pair). Sees (state g s.store.conn) (book_of identity key G)) none desk.sees;
               numbered = numbered identity key calls;
-              known = begins.0 (book_of identity key calls);
+              known = begins (book_of identity key calls);
             };
           };
           left = λ k left. (
@@ -87,20 +87,20 @@ module _ {T : Type 0} (g : Ghosts T) (numbered : NumberedBooks) (over : FirstOve
         let b = book_after h in record {
           stands = record {
             history = kept.history;
-            book = record { held = (desk.sees b kept.book.0, begins.1 b); numbered = kept.book.1; known = begins.0 b };
+            book = record { held = desk.sees b kept.book.0; numbered = kept.book.1; known = begins b };
           };
           left = λ k left. (
             h,
             inl refl,
-            subst (λ (trees : Trees). keeps trees b) (sym (committed s.store.store.conn.store k desk.unchanged.0.is_open left ∙ ap (λ (d : Database). d.trees) desk.unchanged.0.committed_is)) kept.book,
+            subst (λ (trees : Trees). keeps trees b) (sym (committed s.store.conn.store k desk.unchanged.0.is_open left ∙ ap (λ (d : Database). d.trees) desk.unchanged.0.committed_is)) kept.book,
           );
         };
     migrated = λ was s desk begins h is has.
-        let moved = over.migrated was s.store.store.conn h desk is has in
+        let moved = over.migrated was s.store.conn h desk is has in
         let order = numbered h.identity h.key (calls_of h.identity h.pairs) in record {
           stands = record {
             history = is.history;
-            book = record { held = (moved.sees.book, begins.1 (book_after h)); numbered = order; known = begins.0 (book_after h) };
+            book = record { held = moved.sees.book; numbered = order; known = begins (book_after h) };
           };
           left = λ k left. (h, inl refl, ((moved.keeps k left).book, order));
         };
@@ -120,5 +120,5 @@ module _ {D : Type 0} (g : disk.Ghosts D) (tables : Tables (over_files {g = g}))
 
   pub files_survive : StandsAfterCrash (holds (over_files {g = g})) keeps (may_leave over_files) → FilesSurvive g
   files_survive law h start end now xs held settled takes sound left found begins =
-      ∥∥₁_map (next_run end.store.store.conn.store sound.numbered sound.databases held left (file_state found.was) found.opened.found) (λ recovers.
+      ∥∥₁_map (next_run end.store.conn.store sound.numbered sound.databases held left (file_state found.was) found.opened.found) (λ recovers.
       law Present h start end now xs (file_state found.was).committed.trees settled takes recovers (tables.adopted found.was now found.desk begins))

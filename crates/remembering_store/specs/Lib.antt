@@ -1,2 +1,13 @@
 pub mod CompanyKeys
+pub mod Known
+pub mod OpenSums
+pub mod Caps
+pub mod DaySums
+pub mod Kept
+pub mod KnownRow
+pub mod OpenRows
+pub mod ReferenceKeys
 pub mod Remembered
+pub mod KnownCompany
+pub mod KnownSums
+pub mod Laws

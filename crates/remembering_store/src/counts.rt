@@ -1,16 +1,16 @@
 //! The numbers of submissions of companies.
 ghost use Rattle.std.specs.Prelude.{◌≡◌, ℕ, List, IfSome, false, bytes_eq};
-ghost use Rattle.remembering_store.specs.Remembered.{CountsRight};
+ghost use Rattle.remembering_store.specs.Known.{CountsRight};
 
 use crate::company_key::CompanyKey;
 use ach_fields::Id;
 use std::alloc::Global;
-use std::collections::BTreeMap;
+use std::collections::HashMap;
 
 /// How many submissions and retries a company has, of the companies that were asked about.
 #[derive(Drop)]
 pub(crate) struct Counts {
-    counts: BTreeMap<CompanyKey, u64>,
+    counts: HashMap<CompanyKey, u64>,
 }
 
 impl Counts {
@@ -19,7 +19,7 @@ impl Counts {
         ensures { (count_of : List ℕ → ℕ) → CountsRight result count_of }
     {
         Counts {
-            counts: BTreeMap::new(alloc),
+            counts: HashMap::new(alloc),
         }
     }
 

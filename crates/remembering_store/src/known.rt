@@ -1,18 +1,20 @@
 //! What is remembered of a store's book.
 ghost use Rattle.std.specs.Prelude.{◌≡◌, Option};
 ghost use Rattle.desk_rules.specs.declared.bodies.submission.Retry.{Retry};
-ghost use Rattle.desk_rules.specs.declared.bodies.submission.Submission.{Submission};
 ghost use Rattle.desk_book.specs.Book.{Book};
 ghost use Rattle.desk_book.specs.Reads.{submission_count};
 ghost use Rattle.desk_book.specs.Steps.{add_submission, put_company, put_limits};
-ghost use Rattle.remembering_store.specs.Remembered.{KnowsNothing, KnowsRight};
+ghost use Rattle.desk_store.specs.Written.{cut_step, intake_step};
+ghost use Rattle.remembering_store.specs.Known.{IsNumbered, KnowsNothing, KnowsRight};
 
 use crate::counts::Counts;
 use crate::registry::Registry;
+use crate::sums::KnownSums;
 use ach_fields::Id;
 use bank_days::Calendar;
 use desk_history::Identity;
-use desk_rules::{Company, Limits, RuleDay};
+use desk_rules::{Company, Limits, RuleDay, SizedSubmission};
+use desk_store::{CutRows, IntakeRows};
 use std::alloc::Global;
 
 /// What is remembered of a book. Of each field `None` means that it has to be read.
@@ -25,6 +27,7 @@ pub(crate) struct Known {
     pub(crate) companies: Option<Registry>,
     pub(crate) listed: Option<Vec<Company>>,
     pub(crate) counts: Counts,
+    pub(crate) sums: KnownSums,
 }
 
 impl Known {
@@ -40,6 +43,7 @@ impl Known {
             companies: None,
             listed: None,
             counts: Counts::new(alloc),
+            sums: KnownSums::new(alloc),
         }
     }
 
@@ -78,11 +82,29 @@ impl Known {
     }
 
     /// Follows an accepted submission, which has the company's next order number.
-    pub(crate) fn add(&mut self, company: Id, order: u64)
-        ensures { (b : Book) (content : Submission) (retry : Option Retry)
-            → (add_submission company order content retry).Admits b → KnowsRight self.old b
-            → KnowsRight self.new ((add_submission company order content retry).after b) }
+    pub(crate) fn add(&mut self, alloc: Global, company: Id, order: u64, content: &SizedSubmission)
+        ensures { (b : Book) (retry : Option Retry)
+            → (add_submission company order content.now retry).Admits b → IsNumbered b
+            → KnowsRight self.old b
+            → KnowsRight self.new ((add_submission company order content.now retry).after b) }
     {
         self.counts.set(company, order);
+        self.sums.add(alloc, company, order, content);
+    }
+
+    /// Follows a cut, which changes open submissions alone.
+    pub(crate) fn follow_cut(&mut self, cut: &CutRows<'_>)
+        ensures { (b : Book) → KnowsRight self.old b
+            → KnowsRight self.new ((cut_step cut.now).after b) }
+    {
+        self.sums.follow_cut(cut);
+    }
+
+    /// Follows an incoming file, of which the returns change open submissions.
+    pub(crate) fn follow_intake(&mut self, intake: &IntakeRows<'_>)
+        ensures { (b : Book) → KnowsRight self.old b
+            → KnowsRight self.new ((intake_step intake.now).after b) }
+    {
+        self.sums.follow_intake(intake);
     }
 }

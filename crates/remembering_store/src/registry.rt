@@ -3,18 +3,18 @@ ghost use Rattle.std.specs.Prelude.{◌≡◌, IsTrue, IfSome, List, None, map, 
 ghost use Rattle.desk_rules.specs.declared.bodies.company.Company.{Company};
 ghost use Rattle.desk_history.specs.History.{with_company, with_limits};
 ghost use Rattle.desk_history.specs.Operator.{has_id};
-ghost use Rattle.remembering_store.specs.Remembered.{IsRegistryOf};
+ghost use Rattle.remembering_store.specs.Known.{IsRegistryOf};
 
 use crate::company_key::CompanyKey;
 use ach_fields::Id;
 use desk_rules::{Company, Limits};
 use std::alloc::Global;
-use std::collections::BTreeMap;
+use std::collections::HashMap;
 
 /// All registered companies with their present limits, by identification.
 #[derive(Drop)]
 pub(crate) struct Registry {
-    companies: BTreeMap<CompanyKey, Company>,
+    companies: HashMap<CompanyKey, Company>,
 }
 
 impl Registry {
@@ -23,7 +23,7 @@ impl Registry {
     pub(crate) fn of(alloc: Global, companies: &[Company]) -> Option<Registry>
         ensures { IfSome result (λ registry. IsRegistryOf registry companies.now) }
     {
-        let mut by_key = BTreeMap::new(alloc);
+        let mut by_key = HashMap::new(alloc);
         for done in 0..companies.len() {
             // From the last company on, because a later insertion replaces an earlier one.
             let company = companies[companies.len() - 1 - done];

@@ -1,14 +1,11 @@
 //! The store around a store.
-ghost use Rattle.std.specs.Prelude.{◌≡◌, IfOk};
-ghost use Rattle.desk_book.specs.Book.{Book};
-ghost use Rattle.desk_book.specs.Reads.{key_of};
-ghost use Rattle.desk_book.specs.declared.caller.Caller.TheVariants.{Operator};
-ghost use Rattle.desk_store.specs.Promises.{CallGives};
-ghost use Rattle.desk_store.specs.Words.{LeavesRead};
-ghost use Rattle.remembering_store.specs.Remembered.{HoldsKnown, KnowsNothing};
+ghost use Rattle.std.specs.Prelude.{◌≡◌};
+ghost use Rattle.remembering_store.specs.Known.{KnowsNothing};
+
+mod learning;
 
 use crate::known::Known;
-use crate::registry::Registry;
+use crate::sums::caps::Caps;
 use ach_fields::{Id, Ref, Trace};
 use bank_days::{Calendar, Day};
 use desk_accounts::{Account, Posting};
@@ -16,23 +13,16 @@ use desk_book::{Caller, HeldSubmission, NamedEntry, OpenSubmission, Row};
 use desk_history::{ChangeRow, Identity, ListOf, ReturnRow, SuspenseRow, TakenFile};
 use desk_rules::{Company, Limits, Rates, Retry, RuleDay, SizedSubmission};
 use desk_store::{CutRows, IntakeRows, LastNumber, Store, StoreFault};
-use std::alloc::{AllocError, Global};
+use std::alloc::Global;
 
-/// A store that remembers the desk's identity, key, day, holidays, companies and counts of submissions,
-/// and hands every other call on to the store inside.
+/// A store that remembers the desk's identity, key, day, holidays and companies, and of the companies that
+/// were asked about how many submissions they have, the open ones and the return rates. It hands every
+/// other call on to the store inside.
 #[derive(Drop)]
 pub struct Remembering<S> {
     store: S,
     known: Known,
-}
-
-// Copies a list of companies.
-fn copy_of(alloc: Global, companies: &[Company]) -> Result<Vec<Company>, AllocError>
-    ensures { IfOk result (λ copy. copy.items ≡ companies.now) }
-{
-    let mut copy = Vec::new(alloc);
-    copy.extend_from_slice(companies)?;
-    Ok(copy)
+    caps: Caps,
 }
 
 impl<S> Remembering<S> {
@@ -41,9 +31,18 @@ impl<S> Remembering<S> {
         ensures store { result.store ≡ store }
         ensures known { KnowsNothing result.known }
     {
+        Remembering::with_caps(alloc, store, Caps::standard())
+    }
+
+    /// Does the same with other caps.
+    pub fn with_caps(alloc: Global, store: S, caps: Caps) -> Remembering<S>
+        ensures store { result.store ≡ store }
+        ensures known { KnowsNothing result.known }
+    {
         Remembering {
             store,
             known: Known::new(alloc),
+            caps,
         }
     }
 
@@ -55,47 +54,14 @@ impl<S> Remembering<S> {
     }
 }
 
-impl<S: Store> Remembering<S> {
-    // Reads all companies, unless they are remembered. If they cannot be read or kept, nothing changes.
-    fn learn_companies(&mut self, alloc: Global)
-        ensures before { S.is_clean self.new.store → S.is_clean self.old.store }
-        ensures read { S.is_clean self.new.store → (b : Book)
-            → HoldsKnown (S.holds self.old.store) self.old.known b
-            → HoldsKnown (S.holds self.new.store) self.new.known b }
-        ensures left { S.is_clean self.new.store
-            → LeavesRead (S.may_leave self.old.store) (S.may_leave self.new.store) }
-    {
-        if self.known.companies.is_some() {
-            return;
-        }
-        if let Ok(companies) = self.store.companies(alloc) {
-            self.known.companies = Registry::of(alloc, &companies);
-        }
-    }
-
-    // Reads the digest of the operator's key.
-    fn operator_key(&mut self, alloc: Global) -> Result<Option<[u8; 32]>, StoreFault>
-        ensures { CallGives (λ r. S.is_clean r.store)
-            (λ r. HoldsKnown (S.holds r.store) r.known) (λ r. S.may_leave r.store)
-            self.old self.new result (key_of Operator) }
-    {
-        if let Some(digest) = self.known.operator_key {
-            return Ok(Some(digest));
-        }
-        let digest = self.store.key_of(alloc, Caller::Operator)?;
-        self.known.operator_key = digest;
-        Ok(digest)
-    }
-}
-
 impl<S: Store> Store for Remembering<S> {
-    ghost use Rattle.remembering_store.specs.Remembered.{HoldsKnown};
+    ghost use Rattle.remembering_store.specs.Known.{HoldsKnown, KeepsNumbered};
 
     ghost holds = { λ r. HoldsKnown (S.holds r.store) r.known };
 
     ghost Kept = { S.Kept };
 
-    ghost keeps = { S.keeps };
+    ghost keeps = { KeepsNumbered S.keeps };
 
     ghost may_leave = { λ r. S.may_leave r.store };
 
@@ -121,21 +87,11 @@ impl<S: Store> Store for Remembering<S> {
     }
 
     fn day(&mut self, alloc: Global) -> Result<Option<RuleDay>, StoreFault> {
-        if let Some(day) = &self.known.day {
-            return Ok(Some(*day));
-        }
-        let day = &self.store.day(alloc)?;
-        self.known.day = *day;
-        Ok(*day)
+        self.known_day(alloc)
     }
 
     fn calendar(&mut self, alloc: Global) -> Result<Calendar, StoreFault> {
-        if let Some(holidays) = &self.known.holidays {
-            return Ok(holidays.try_clone(alloc)?);
-        }
-        let holidays = self.store.calendar(alloc)?;
-        self.known.holidays = holidays.try_clone(alloc).ok();
-        Ok(holidays)
+        self.known_calendar(alloc)
     }
 
     fn company(&mut self, alloc: Global, id: Id) -> Result<Option<Company>, StoreFault> {
@@ -148,10 +104,10 @@ impl<S: Store> Store for Remembering<S> {
 
     fn companies(&mut self, alloc: Global) -> Result<Vec<Company>, StoreFault> {
         if let Some(listed) = &self.known.listed {
-            return Ok(copy_of(alloc, listed)?);
+            return Ok(Vec::from_slice(alloc, listed)?);
         }
         let companies = self.store.companies(alloc)?;
-        self.known.listed = copy_of(alloc, &companies).ok();
+        self.known.listed = Vec::from_slice(alloc, &companies).ok();
         Ok(companies)
     }
 
@@ -197,11 +153,29 @@ impl<S: Store> Store for Remembering<S> {
         company: Id,
         today: Day,
     ) -> Result<(u128, u128), StoreFault> {
+        let calendar = self.known_calendar(alloc)?;
+        if let Some(exposures) = self.known.sums.exposures(company, today, &calendar) {
+            return Ok(exposures);
+        }
+        self.learn(alloc, company, today, &calendar);
+        if let Some(exposures) = self.known.sums.exposures(company, today, &calendar) {
+            return Ok(exposures);
+        }
         self.store.exposures(alloc, company, today)
     }
 
     fn rates(&mut self, alloc: Global, company: Id, today: Day) -> Result<Rates, StoreFault> {
-        self.store.rates(alloc, company, today)
+        if let Some(rates) = self.known.sums.rates(company, today) {
+            return Ok(rates);
+        }
+        self.learn_new(alloc, company, today)?;
+        match self.store.rates(alloc, company, today) {
+            Ok(rates) => {
+                self.known.sums.remember_rates(company, today, rates);
+                Ok(rates)
+            }
+            Err(fault) => Err(fault),
+        }
     }
 
     fn retries_of(
@@ -330,17 +304,37 @@ impl<S: Store> Store for Remembering<S> {
         content: &SizedSubmission,
         retry: Option<Retry>,
     ) -> Result<(), StoreFault> {
-        self.store
-            .add_submission(alloc, company, order, content, retry)?;
-        self.known.add(company, order);
-        Ok(())
+        match self
+            .store
+            .add_submission(alloc, company, order, content, retry)
+        {
+            Ok(done) => {
+                self.known.add(alloc, company, order, content);
+                Ok(done)
+            }
+            Err(fault) => Err(fault),
+        }
     }
 
     fn commit_cut(&mut self, alloc: Global, cut: &CutRows<'_>) -> Result<(), StoreFault> {
-        self.store.commit_cut(alloc, cut)
+        match self.store.commit_cut(alloc, cut) {
+            Ok(done) => {
+                self.known.follow_cut(cut);
+                self.learn_lost(alloc);
+                Ok(done)
+            }
+            Err(fault) => Err(fault),
+        }
     }
 
     fn commit_intake(&mut self, alloc: Global, intake: &IntakeRows<'_>) -> Result<(), StoreFault> {
-        self.store.commit_intake(alloc, intake)
+        match self.store.commit_intake(alloc, intake) {
+            Ok(done) => {
+                self.known.follow_intake(intake);
+                self.learn_lost(alloc);
+                Ok(done)
+            }
+            Err(fault) => Err(fault),
+        }
     }
 }

@@ -1,7 +1,6 @@
 //! The operator's list of all companies, over HTTP.
 use crate::exchanges::{all_hold, follow, http_desk};
 use crate::own_rows::{body_of, own_list};
-use crate::remembering::{inside, remembering};
 use crate::samples::{
     BAKE, CUT_9, DAY_8, DAY_9, DAY_14, Exchange, HOLIDAYS, MILL, PAY_2, SUBMIT_1, Script, TAKEN,
     new_lists, new_tables,
@@ -9,6 +8,7 @@ use crate::samples::{
 use crate::settlements::RETURN_2;
 use desk_core::Store;
 use desk_http::HttpDesk;
+use remembering_store::Remembering;
 use std::alloc::Global;
 use std::process::Abort;
 
@@ -150,8 +150,8 @@ fn follow_parts<S: Store + Drop>(rt: &(impl Abort + Alloc<A = Global>), store: S
 fn the_operator_reads_all_companies(rt: HostRuntime) {
     follow_parts(&rt, new_lists(&rt));
     follow_parts(&rt, new_tables(&rt));
-    follow_parts(&rt, remembering(&rt, new_lists(&rt)));
-    follow_parts(&rt, remembering(&rt, new_tables(&rt)));
+    follow_parts(&rt, Remembering::new(rt.alloc(), new_lists(&rt)));
+    follow_parts(&rt, Remembering::new(rt.alloc(), new_tables(&rt)));
 }
 
 // Follows a part over a store that remembers nothing yet. Returns the store inside.
@@ -161,9 +161,9 @@ fn follow_anew<S: Store + Drop>(
     day: &str,
     exchanges: &[Exchange],
 ) -> S {
-    let mut desk = http_desk(rt, remembering(rt, store));
+    let mut desk = http_desk(rt, Remembering::new(rt.alloc(), store));
     follow_part(rt, &mut desk, day, exchanges);
-    inside(desk.into_desk().into_store())
+    desk.into_desk().into_store().into_inner()
 }
 
 // Follows all parts, with a restart before each.

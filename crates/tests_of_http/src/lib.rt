@@ -25,8 +25,6 @@ mod own_rows;
 #[cfg(test)]
 mod refused_calls;
 #[cfg(test)]
-mod remembering;
-#[cfg(test)]
 mod samples;
 #[cfg(test)]
 mod settlements;

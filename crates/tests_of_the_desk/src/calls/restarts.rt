@@ -1,8 +1,8 @@
 //! Scripts that are followed with a restart before one of their lines.
 use super::own_reads::follow_with_own_reads;
 use super::script::{Script, new_lists, new_tables};
-use crate::remembering::{inside, remembering};
 use desk_core::{Desk, Store};
+use remembering_store::Remembering;
 use std::alloc::Global;
 use std::process::Abort;
 
@@ -15,10 +15,10 @@ fn follow_restarted<S: Store + Drop>(
     place: usize,
 ) {
     let (before, after) = script.split_at(script.len().min(place));
-    let mut desk = Desk::new(remembering(rt, store));
+    let mut desk = Desk::new(Remembering::new(rt.alloc(), store));
     follow_with_own_reads(rt, &mut desk, before);
-    let store = inside(desk.into_store());
-    let mut desk = Desk::new(remembering(rt, store));
+    let store = desk.into_store().into_inner();
+    let mut desk = Desk::new(Remembering::new(rt.alloc(), store));
     follow_with_own_reads(rt, &mut desk, after);
 }
 

@@ -2,10 +2,9 @@
 use super::answers::words_of;
 use super::calls::call_of;
 use super::old_cut::put_old_cut;
-use crate::remembering::{remembering, remembering_within};
 use ach_fields::Routing;
 use desk_core::{Desk, FaultyStore, Identity, ListStore, PartyName, Store};
-use open_sums::Caps;
+use remembering_store::{Caps, Remembering};
 use sql_store::SqlStore;
 use sqlite::MemStore;
 use std::alloc::Global;
@@ -150,9 +149,9 @@ fn holds_everywhere(rt: &(impl Abort + Alloc<A = Global>), sequences: &[u32], sc
     let lists = after(rt, new_lists(rt), sequences);
     assert!(rt; !run(rt, lists, script));
     let tables = after(rt, new_tables(rt), sequences);
-    assert!(rt; !run(rt, remembering(rt, tables), script));
+    assert!(rt; !run(rt, Remembering::new(rt.alloc(), tables), script));
     let lists = after(rt, new_lists(rt), sequences);
-    assert!(rt; !run(rt, remembering(rt, lists), script));
+    assert!(rt; !run(rt, Remembering::new(rt.alloc(), lists), script));
 }
 
 /// Runs a script over tables and over lists, over the same where they remember, and with each call of
@@ -187,7 +186,8 @@ pub(super) fn holds_remembering_within(
 ) {
     let mut seen = 0;
     for call in 1..MOST_CALLS {
-        let store = remembering_within(rt, FaultyStore::new(new_lists(rt), call), caps);
+        let lists = FaultyStore::new(new_lists(rt), call);
+        let store = Remembering::with_caps(rt.alloc(), lists, caps);
         if run(rt, store, script) {
             seen = call;
         }

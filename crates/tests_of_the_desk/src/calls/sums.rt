@@ -6,7 +6,7 @@ use super::script::{
 use ach_fields::Id;
 use bank_days::Day;
 use desk_core::{Desk, FaultyStore, Store};
-use open_sums::{Caps, Remembering};
+use remembering_store::{Caps, Remembering};
 use std::alloc::Global;
 use std::process::Abort;
 
@@ -111,58 +111,12 @@ fn is_answered(
     store.exposures(rt.alloc(), company, today).is_ok()
 }
 
-// The call of the inner store that is refused, and three days, of which each is answered or not. A
-// question reads the holidays. The first one also reads the open submissions from 2025-01-06 on. They
-// are read again when the first open day is after 2025-02-05.
-const QUESTIONS: &[(u64, &[(&str, bool)])] = &[
-    (
-        1,
-        &[
-            ("2025-01-08", false),
-            ("2025-01-08", true),
-            ("2025-01-08", true),
-        ],
-    ),
-    (
-        2,
-        &[
-            ("2025-01-08", true),
-            ("2025-01-08", true),
-            ("2025-01-08", true),
-        ],
-    ),
-    (
-        3,
-        &[
-            ("2025-01-08", true),
-            ("2025-01-08", false),
-            ("2025-01-08", true),
-        ],
-    ),
-    (
-        4,
-        &[
-            ("2025-01-08", true),
-            ("2025-01-09", true),
-            ("2025-01-10", false),
-        ],
-    ),
-    (
-        4,
-        &[
-            ("2025-01-08", true),
-            ("2025-02-07", true),
-            ("2025-02-07", false),
-        ],
-    ),
-    (
-        4,
-        &[
-            ("2025-01-08", true),
-            ("2025-02-10", true),
-            ("2025-02-10", true),
-        ],
-    ),
+// A call of the inner store that is refused, and days that are asked about before it: it is the next call.
+// The first question reads the holidays and the open submissions from 2025-01-06 on. The submissions are
+// read again when the first open day is after 2025-02-05.
+const QUESTIONS: &[(u64, &[&str])] = &[
+    (3, &["2025-01-08", "2025-01-08", "2025-01-10", "2025-02-07"]),
+    (4, &["2025-01-08", "2025-02-10", "2025-02-10"]),
 ];
 
 #[test]
@@ -170,24 +124,35 @@ fn open_submissions_are_read_once(rt: HostRuntime) {
     for (refused, days) in QUESTIONS {
         let lists = FaultyStore::new(new_lists(&rt), *refused);
         let mut store = Remembering::new(rt.alloc(), lists);
-        for (day, answered) in *days {
-            assert!(&rt;
-                is_answered(&rt, &mut store, day) == *answered,
-                "{refused} {day}"
-            );
+        for day in *days {
+            assert!(&rt; is_answered(&rt, &mut store, day), "{refused} {day}");
         }
+        assert!(&rt; store.suspense_count(rt.alloc()).is_err(), "{refused}");
+    }
+}
+
+// Holidays and open submissions that could not be read are read at the next question. Without the
+// holidays a question is not answered, and without the submissions the inner store answers it.
+#[test]
+fn what_could_not_be_read_is_read_again(rt: HostRuntime) {
+    for refused in 1..=2 {
+        let lists = FaultyStore::new(new_lists(&rt), refused);
+        let mut store = Remembering::new(rt.alloc(), lists);
+        assert!(&rt; is_answered(&rt, &mut store, "2025-01-08") == (refused == 2));
+        assert!(&rt; is_answered(&rt, &mut store, "2025-01-08"));
+        assert!(&rt; is_answered(&rt, &mut store, "2025-01-08"));
     }
 }
 
 const TWO_OPEN: Script = &[MILL, HOLIDAYS, DAY, PAY_1, PAY_2_SECOND];
 
 // A company with more open submissions than are kept one by one is read once too: three questions read
-// the holidays three times and the submissions once. The call after these is refused.
+// the holidays and the submissions once. The call after these is refused.
 #[test]
 fn a_large_company_is_read_once(rt: HostRuntime) {
     let mut desk = Desk::new(new_lists(&rt));
     assert!(&rt; !follow(&rt, &mut desk, TWO_OPEN));
-    let lists = FaultyStore::new(desk.into_store(), 5);
+    let lists = FaultyStore::new(desk.into_store(), 3);
     let mut store = Remembering::with_caps(rt.alloc(), lists, ONE);
     for _ in 0..3 {
         assert!(&rt; is_answered(&rt, &mut store, "2025-01-08"));

@@ -3,32 +3,29 @@ use Rattle.desk_http.specs.Keeping.{StandsKept}
 use Rattle.desk_book.specs.Book.{Book}
 use Rattle.memory_store.specs.Kept.{IsBookOf, IsHeld}
 use Rattle.memory_store.specs.declared.list_store.ListStore.{ListStore}
-use Rattle.remembering_store.specs.Remembered.{HoldsKnown}
+use Rattle.remembering_store.specs.Known.{HoldsKnown, KeepsNumbered}
 use Rattle.remembering_store.specs.declared.remembering.Remembering.{Remembering}
 use Rattle.cli_commands.specs.MessageRuns.{new_book, new_desk}
 use Rattle.cli_commands.proofs.MessageRunLemmas.{kept_for_nothing, run_of_new_desk}
 use Rattle.cli_commands.proofs.SessionRuns.{broken_off}
-use Rattle.open_sums.specs.Known as follows
-use Rattle.open_sums.specs.Known.{KeepsNumbered}
-use Rattle.open_sums.specs.declared.remembering.Remembering as following
 use Rattle.cli_commands.proofs.message_session.answer_messages.Goals as goal
 
 -- the store of the sample desk, and the books that it holds
 abbrev Sample : Type 0
-Sample = following.Remembering (Remembering ListStore)
+Sample = Remembering ListStore
 
 abbrev held : Sample → Book → Type 0
-held s = follows.HoldsKnown (HoldsKnown (IsHeld s.store.store) s.store.known) s.known
+held s = HoldsKnown (IsHeld s.store) s.known
 
 abbrev keeps : Book → Book → Type 0
 keeps = KeepsNumbered (λ (k b : Book). k ≡ b)
 
 abbrev Stands : Sample → Type 0
-Stands s = StandsKept (held s) keeps (λ k. IsBookOf s.store.store k) new_desk
+Stands s = StandsKept (held s) keeps (λ k. IsBookOf s.store k) new_desk
 
 -- a store in memory leaves the book that it holds
 new_stands : (s : Sample) → held s new_book → Stands s
-new_stands s is = kept_for_nothing (held s) keeps (λ k. IsBookOf s.store.store k) is (λ k leaves. (leaves ∙ sym is.held.0.book, is.numbered))
+new_stands s is = kept_for_nothing (held s) keeps (λ k. IsBookOf s.store k) is (λ k leaves. (leaves ∙ sym is.held.book, is.numbered))
 
 pub returns-clause-answered : goal.returns-clause-answered
 returns-clause-answered g c = λ fine.

@@ -1,7 +1,6 @@
 use Rattle.std.proofs.Common.{rules, sym, subst}
-use Rattle.desk_http.specs.Keeping.{KeptHistory, StandsIn, StandsKept}
-use Rattle.remembering_store.specs.Remembered.{HoldsKnown}
-use Rattle.cli_commands.proofs.RememberedRuns.{stands_following, stands_remembering, stands_within}
+use Rattle.desk_http.specs.Keeping.{KeptHistory, StandsIn}
+use Rattle.cli_commands.proofs.RememberedRuns.{stands_remembering, stands_within}
 use Rattle.cli_commands.proofs.SessionRuns.{breaks_off_from, has_answered_from}
 use Rattle.cli_commands.proofs.remembered_desk.answer_remembering.Goals as goal
 
@@ -9,19 +8,16 @@ pub returns : goal.returns
 returns g c =
     let first = c.new-store.result in
     let now = c.answer_by_store-status.result.1 in
-    let known = c.new-known.result in
     let keeps = g.S.Store.keeps in
     let stood = λ (b : KeptHistory) (was : StandsIn g.S.Store c.args.store b).
-    stands_following (HoldsKnown (g.S.Store.holds first.store.store) first.store.known) keeps (g.S.Store.may_leave first.store.store) b c.numbered_books.ensures first.known c.new-store.ensures.known
-    (subst (λ s. StandsKept (HoldsKnown (g.S.Store.holds s.store) s.known) keeps (g.S.Store.may_leave s.store) b) (sym c.new-store.ensures.store)
-    (stands_remembering (g.S.Store.holds known.store) keeps (g.S.Store.may_leave known.store) b known.known c.new-known.ensures.known
-    (subst (λ s. StandsIn g.S.Store s b) (sym c.new-known.ensures.store) was))) in
-    let within = λ (b : KeptHistory). stands_within (g.S.Store.holds now.store.store) keeps (g.S.Store.may_leave now.store.store) b now.store.known now.known in record {
+    stands_remembering (g.S.Store.holds first.store) keeps (g.S.Store.may_leave first.store) b first.known c.numbered_books.ensures c.new-store.ensures.known
+    (subst (λ s. StandsIn g.S.Store s b) (sym c.new-store.ensures.store) was) in
+    let within = λ (b : KeptHistory). stands_within (g.S.Store.holds now.store) keeps (g.S.Store.may_leave now.store) b now.known in record {
       before = search rules;
       answered = λ fine.
-          rw c.into_inner.ensures (rw c.into_inner-known.ensures (has_answered_from g.R.Source _ g.W.Sink _ _ (g.S.Store.is_clean now.store.store) _ (StandsIn g.S.Store c.args.store) _ _ _
-          (λ clean. clean) (λ _. stood) within _ (c.answer_by_store-status.ensures.answered fine)));
+          rw c.into_inner.ensures (has_answered_from g.R.Source _ g.W.Sink _ _ (g.S.Store.is_clean now.store) _ (StandsIn g.S.Store c.args.store) _ _ _
+          (λ clean. clean) (λ _. stood) within _ (c.answer_by_store-status.ensures.answered fine));
       failed = λ failed.
-          rw c.into_inner.ensures (rw c.into_inner-known.ensures (breaks_off_from g.R.Source _ g.W.Sink _ _ (g.S.Store.is_clean now.store.store) _ (StandsIn g.S.Store c.args.store) _ _ _
-          (λ clean. clean) (λ _. stood) within (c.answer_by_store-status.ensures.failed failed)));
+          rw c.into_inner.ensures (breaks_off_from g.R.Source _ g.W.Sink _ _ (g.S.Store.is_clean now.store) _ (StandsIn g.S.Store c.args.store) _ _ _
+          (λ clean. clean) (λ _. stood) within (c.answer_by_store-status.ensures.failed failed));
     }

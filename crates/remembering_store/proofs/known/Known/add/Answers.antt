@@ -1,5 +1,7 @@
-use Rattle.remembering_store.proofs.Following.{count_added}
+use Rattle.remembering_store.proofs.Unchanged.{count_added}
 use Rattle.remembering_store.proofs.known.Known.add.Goals as goal
 
 pub returns : goal.returns
-returns c = λ b content retry next right. count_added c.args.company c.args.order content retry b c.args.self.now c.set.new.self next right c.set.ensures
+returns c = λ b retry next numbered right.
+    let a = c.args in
+    count_added a.company a.order a.content.now retry b a.self.now c.set.new.self c.add.new.self next right (c.add.ensures b retry next numbered right.sums) c.set.ensures

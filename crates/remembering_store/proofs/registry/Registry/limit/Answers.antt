@@ -1,8 +1,8 @@
 use Rattle.std.proofs.Common.{rules, ◌≡◌, sym, subst, map, None}
 use Rattle.std.specs.Prelude.{IsSome}
-use Rattle.std.specs.BTreeMap.{get}
+use Rattle.std.specs.HashMap.{get}
 use Rattle.desk_history.specs.History.{with_limits}
-use Rattle.remembering_store.specs.CompanyKeys.{company_cmp}
+use Rattle.remembering_store.specs.CompanyKeys.{is_same_company}
 use Rattle.remembering_store.proofs.Registering.{key, HasAll, company_limited, none_limited}
 use Rattle.remembering_store.proofs.registry.Registry.limit.Goals as goal
 
@@ -19,5 +19,5 @@ pub returns-in_default : goal.returns-in_default
 returns-in_default c = λ companies all.
     let a = c.args in
     let m = a.self.now.companies in
-    let none : get company_cmp m (key a.id) ≡ None = sym c.in_default.ensures.value in
+    let none : get is_same_company m (key a.id) ≡ None = sym c.in_default.ensures.value in
     subst (λ n. HasAll n (map (with_limits a.id a.limits) companies)) (sym c.get_mut.follows.holds-at-none) (none_limited a.id a.limits m companies none all)

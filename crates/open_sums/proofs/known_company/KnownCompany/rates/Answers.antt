@@ -1,7 +1,0 @@
-use Rattle.std.proofs.Common.{rules}
-use Rattle.open_sums.proofs.Rates.{rates_on}
-use Rattle.open_sums.proofs.known_company.KnownCompany.rates.Goals as goal
-
-pub returns : goal.returns
-returns c = λ rs agrees.
-    rates_on c.args.self.now.rates c.in_ok-known.known c.args.today rs c.in_ok-known.was (search rules) agrees.rates
