@@ -1,4 +1,4 @@
-"""What a large GET takes of memory: `python3 judge/peaks.py [PROGRAM] [MEGABYTES]`.
+"""What a large GET and a hostile body take of memory: `python3 judge/peaks.py [PROGRAM] [MEGABYTES]`.
 
 PROGRAM is the built program and MEGABYTES 50 if they are left out. Linux alone tells it.
 
@@ -12,8 +12,13 @@ of up to 32 MB that the desk gave back. At the first answer the engine also take
 copies of a text. The second answer shows what a GET takes each time. The text of a file is then there three times: in the engine's
 row, in the row that a query returns, and in the answer.
 
-It prints a line for each answer: the size of its body, the peak, and how many times the body that is. The status is 1 where a
-body is not of the size that its rows have, or where a peak is past its bound.
+Then new processes are sent bodies of the largest size, almost all of one piece: that which takes the most memory for each byte of
+its kind. A value of JSON takes 32 bytes, a list of one value 48 with the allocator's own, so a body of `[` and `]` takes 24 times
+its size, and its text is there twice. MOST leaves half as much again for an allocator that does not give memory back at once.
+
+It prints a line for each answer: the size of its body, or of the body that was sent, the peak, and how many times the body that is.
+The status is 1 where a body is not of the size that its rows have, where a hostile one is not refused, or where a peak is past its
+bound.
 """
 
 import re
@@ -28,6 +33,7 @@ from helpers.running import MILL, MILL_KEY, OPERATOR_KEY, Serving, connect, make
 
 # The most that an answer may take, in bodies: the first one, and each later one
 BOUNDS = {"statement": (1.2, 1.2), "returns": (1.2, 1.2), "changes": (1.2, 1.2), "suspense": (1.2, 1.2), "file": (6.1, 3.1)}
+MOST, SENT = 40, 4_194_304  # of a hostile body: the most that it may take, in bodies, and its size
 ENVIRONMENT = {"MALLOC_MMAP_THRESHOLD_": "1048576"}
 ENTRY = '{"routing":"091000019","account":"123456789","kind":"checking","cents":100,"id":"E1","name":"ANN LEE"}'
 PAY = f'{{"ref":"PAY-1","sec":"PPD","direction":"credit","description":"PAYROLL","day":"2025-01-10","entries":[{ENTRY}]}}'
@@ -40,6 +46,31 @@ SETUP = [
 RECORD = b"6" + b"2" * 92 + b"\n"
 INFO = "INFORMATION OF THE BANK THAT SENT IT BACK"
 MOST_ENTRIES = 1_000  # of a submission
+
+
+def nested(inner, front, back, depth=120):
+    return front * depth + inner + back * depth
+
+
+# What comes before, the piece that is repeated, and what comes after
+HOSTILE = {
+    "numbers for entries": ('{"entries":[', "0", "]}"),
+    "empty entries": ('{"entries":[', "{}", "]}"),
+    "entries of one number": ('{"entries":[', '{"":0}', "]}"),
+    "entries of one text": ('{"entries":[', '{"routing":""}', "]}"),
+    "lists": ('{"a":[', "[0]", "]}"),
+    "nested lists": ('{"a":[', nested("0", "[", "]"), "]}"),
+    "nested lists of two": ('{"a":[', nested("0", "[", ",0]"), "]}"),
+    "nested lists of three": ('{"a":[', nested("0", "[", ",0,0]"), "]}"),
+    "nested objects": ('{"a":[', nested("0", '{"":', "}"), "]}"),
+    "members": ("{", '"":0', "}"),
+    "texts": ('{"a":[', '""', "]}"),
+    "escapes": ('{"a":[', r'"\n"', "]}"),
+}
+
+
+def hostile_body(front, piece, back):
+    return front + ",".join([piece] * ((SENT - len(front) - len(back) + 1) // (len(piece) + 1))) + back
 
 
 def place(n):
@@ -145,11 +176,25 @@ def measured(program, work, name, size):
     return passed
 
 
+def survived(program, work, name):
+    """Sends one hostile body; says whether it was refused and took little enough."""
+    path = work / "hostile.db"
+    if not path.exists():
+        desk_in(program, path)
+    sent = message("POST /c/MILL01/submissions", hostile_body(*HOSTILE[name]), MILL_KEY)
+    with Serving(program, path, environment=ENVIRONMENT).listen() as serving:
+        came, peak = peak_of(serving, sent)
+    size = len(sent) / 1e6
+    print(f"{name}: {size:.1f} MB sent, answered {status_of(came)}, a peak of {peak:.1f} MB more, {peak / size:.1f} times", flush=True)
+    return status_of(came) == 422 and peak <= MOST * size
+
+
 def main():
     program = program_of(sys.argv[1:])
     size = int(sys.argv[2] if len(sys.argv) > 2 else 50) * 1_000_000
     with tempfile.TemporaryDirectory() as work:
         done = [measured(program, Path(work), name, size) for name in BOUNDS]
+        done += [survived(program, Path(work), name) for name in HOSTILE]
     sys.exit(0 if all(done) else 1)
 
 

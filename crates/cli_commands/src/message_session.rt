@@ -32,7 +32,7 @@ pub fn answer_messages<R: Source + Drop, W: Sink>(
         return print_unavailable(writer, Tries::new());
     };
     let mut reader = reader;
-    let mut desk = HttpDesk::new(sample_desk(alloc), routes);
+    let mut desk = HttpDesk::new(alloc, sample_desk(alloc), routes);
     status_of_session(session(alloc, &mut desk, &mut reader, writer))
 }
 

@@ -31,7 +31,7 @@ pub fn answer_by_store<S: Store + Drop, R: Source + Drop, W: Sink>(
         return (print_unavailable(writer, Tries::new()), store);
     };
     let mut reader = reader;
-    let mut desk = HttpDesk::new(Desk::new(store), routes);
+    let mut desk = HttpDesk::new(alloc, Desk::new(store), routes);
     let status = status_of_session(session(alloc, &mut desk, &mut reader, writer));
     (status, desk.into_desk().into_store())
 }

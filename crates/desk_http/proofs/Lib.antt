@@ -1,6 +1,7 @@
 pub mod FoundRoutes
 pub mod Short
 pub mod Calls
+pub mod Judged
 pub mod Messages
 pub mod Steps
 pub mod Growing

@@ -8,6 +8,7 @@ use Rattle.desk_history.specs.Message as core
 use Rattle.desk_history.specs.Message.{Message}
 use Rattle.desk_history.specs.Operator.{answer_to, next_pair}
 use Rattle.desk_book.specs.Book.{Book, book_of}
+use Rattle.desk_book.specs.OnMessages.{BookTells}
 use Rattle.desk_book.specs.Writes.{is_read, writes_on}
 use Rattle.desk_store.specs.Words.{LeavesRead}
 use Rattle.desk_admission.specs.Answering.{IsLeft}
@@ -22,13 +23,15 @@ use Rattle.http_history.specs.History.{from_message, Pair, calls_of, text, book_
 use Rattle.http_history.specs.Laws.{OneMeaning, OwnText, CallsAreHistory}
 use Rattle.http_history.proofs.Answered.{right_answer}
 use Rattle.http_history.proofs.Calls.{right_pair, none_pair}
+use Rattle.desk_http.specs.Judged.{judged_on}
 use Rattle.desk_http.specs.MadeCalls as made_calls
 use Rattle.desk_http.specs.MadeCalls.{GoesCall, LeavesCall}
 use Rattle.desk_http.specs.Answering.{IsAsked, answered_pair, GoesOn, GoesBytes, RepliesBytes, LeavesOn, LeavesBytes}
+use Rattle.desk_http.proofs.Judged.{call_whole, fault_whole, goes_judged, leaves_judged}
 
 -- what a message comes to, as the desk read it: the same book is held
 abbrev pub IsRead : (old mid : Book → Type 0) → MessageValue → Verdict → Type 0
-IsRead old mid v verdict = (b : Book) → old b → (verdict ≡ verdict_on b v) × mid b
+IsRead old mid v verdict = (b : Book) → old b → (verdict ≡ judged_on b v) × mid b
 
 means_read : (identity : Identity) (key : List ℕ) (H : List Pair) (v : MessageValue) (verdict : Verdict) (means : Option Message)
     → verdict ≡ verdict_on (book_behind identity key H) v → Means (verdict_on (book_behind identity key H) v) means → Means verdict means
@@ -68,7 +71,8 @@ pub faulted : (old new : Book → Type 0) (v : MessageValue) (fault : MessageFau
     → IsRead old new v (Err fault) → IfOk result (λ bytes. bytes.items ≡ fault_text (messages.closes v) (Err fault)) → GoesBytes old v result new
 faulted old new v fault result read printed identity key H means asked =
     let got = read (book_behind identity key H) asked.stands.book in
-    faulted_as old new identity key H v fault means result asked (means_read identity key H v (Err fault) means got.0 asked.read) got.0 got.1 printed
+    let is = fault_whole (book_behind identity key H) v fault got.0 in
+    faulted_as old new identity key H v fault means result asked (means_read identity key H v (Err fault) means is asked.read) is got.1 printed
 
 fault_left_as : {Kept : Type 0} (keeps : Kept → Book → Type 0) (old : Kept → Type 0) (identity : Identity) (key : List ℕ) (H : List Pair) (v : MessageValue) (fault : MessageFault) (means : Option Message) (k : Kept) (result : Result (Vec ℕ Global) Unavailable)
     → Means (Err fault) means → old k → LeavesOn keeps old identity key H v means result k
@@ -80,7 +84,8 @@ pub fault_left : {Kept : Type 0} (keeps : Kept → Book → Type 0) (holds mid :
     → IsRead holds mid v (Err fault) → LeavesRead old new → LeavesBytes keeps holds old v result new
 fault_left keeps holds mid old new v fault result read left identity key H means k asked more =
     let got = read (book_behind identity key H) asked.stands.book in
-    fault_left_as keeps old identity key H v fault means k result (means_read identity key H v (Err fault) means got.0 asked.read) (left k more)
+    let is = fault_whole (book_behind identity key H) v fault got.0 in
+    fault_left_as keeps old identity key H v fault means k result (means_read identity key H v (Err fault) means is asked.read) (left k more)
 
 -- ---- a call
 
@@ -113,11 +118,13 @@ made_as are holds mid new call identity key H v (Some m) (Ok bytes) asked read h
 made_as are holds mid new call identity key H v (Some m) (Err fault) asked read held goes =
     record { history = asked.stands.history; book = goes identity key (calls_of identity H) m (call_asked are mid call identity key H m held read) }
 
-pub made : CallsAreHistory → (old mid new : Book → Type 0) (v : MessageValue) (call : Call) (result : Result (Vec ℕ Global) Unavailable)
+pub made : BookTells → CallsAreHistory → (old mid new : Book → Type 0) (v : MessageValue) (call : Call) (result : Result (Vec ℕ Global) Unavailable)
     → IsRead old mid v (Ok call) → GoesCall mid call (messages.closes v) result new → GoesBytes old v result new
-made are old mid new v call result read goes identity key H means asked =
+made tells are old mid new v call result read goes identity key H means asked =
     let got = read (book_behind identity key H) asked.stands.book in
-    made_as are old mid new call identity key H v means result asked (means_read identity key H v (Ok call) means got.0 asked.read) got.1 goes
+    let (whole, is, judges) = call_whole (book_behind identity key H) v call got.0 in
+    made_as are old mid new whole identity key H v means result asked (means_read identity key H v (Ok whole) means is asked.read) got.1
+    (goes_judged tells mid new call whole (messages.closes v) result judges goes)
 
 before : {Kept : Type 0} (keeps : Kept → Book → Type 0) (old mid : Kept → Type 0) (identity : Identity) (key : List ℕ) (H : List Pair) (v : MessageValue) (m : Message) (k : Kept) (result : Result (Vec ℕ Global) Unavailable)
     → LeavesRead old mid → LeavesOn keeps mid identity key H v (Some m) result k → LeavesOn keeps old identity key H v (Some m) result k
@@ -141,11 +148,13 @@ made_left_as are keeps holds mid old new call identity key H v (Some m) k result
     (as_message keeps mid identity key H v m k result
     (leaves identity key (calls_of identity H) m k (call_asked are holds call identity key H m held read) more))
 
-pub made_left : CallsAreHistory → {Kept : Type 0} (keeps : Kept → Book → Type 0) (holds mid_holds : Book → Type 0) (old mid new : Kept → Type 0) (v : MessageValue) (call : Call) (result : Result (Vec ℕ Global) Unavailable)
+pub made_left : BookTells → CallsAreHistory → {Kept : Type 0} (keeps : Kept → Book → Type 0) (holds mid_holds : Book → Type 0) (old mid new : Kept → Type 0) (v : MessageValue) (call : Call) (result : Result (Vec ℕ Global) Unavailable)
     → IsRead holds mid_holds v (Ok call) → LeavesRead old mid → LeavesCall keeps mid_holds mid call result new → LeavesBytes keeps holds old v result new
-made_left are keeps holds mid_holds old mid new v call result read left leaves identity key H means k asked more =
+made_left tells are keeps holds mid_holds old mid new v call result read left leaves identity key H means k asked more =
     let got = read (book_behind identity key H) asked.stands.book in
-    made_left_as are keeps mid_holds mid old new call identity key H v means k result (means_read identity key H v (Ok call) means got.0 asked.read) got.1 left leaves more
+    let (whole, is, judges) = call_whole (book_behind identity key H) v call got.0 in
+    made_left_as are keeps mid_holds mid old new whole identity key H v means k result (means_read identity key H v (Ok whole) means is asked.read) got.1 left
+    (leaves_judged tells keeps mid_holds mid new call whole result judges leaves) more
 
 -- ---- from the company's part alone
 

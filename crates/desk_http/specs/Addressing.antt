@@ -11,7 +11,8 @@ use Rattle.desk_book.specs.Book.{Book}
 use Rattle.desk_book.specs.Reads.{key_of}
 use Rattle.http_answers.specs.declared.faults.MessageFault.{MessageFault}
 use Rattle.http_history.specs.Addressee.{Addressee, to_nobody, addressee_of, addressee_by_framing, addressee_by_route, request_path}
-use Rattle.http_history.specs.Verdict.{Verdict, company_verdict, company_request, operator_verdict, verdict_on}
+use Rattle.http_history.specs.Verdict.{Verdict, company_verdict, company_request, operator_verdict}
+use Rattle.desk_http.specs.Judged.{judged, judged_on}
 
 -- the addressee of a request with this route, or with the fault that follows from its head alone
 abbrev pub addressee_with : RequestValue → Result Route MessageFault → Addressee
@@ -21,11 +22,12 @@ addressee_with r (Err fault) = to_nobody fault
 -- what a request comes to on a company's route, whose company the path names
 abbrev pub company_path_verdict : CompanyRoute → RequestValue → Book → Verdict
 company_path_verdict route r b =
-    company_verdict (piece_of 2 (request_path r)) (company_request (key_of (callers.Company (piece_of 2 (request_path r))) b) route (piece_of 2 (request_path r)) r)
+    company_verdict (piece_of 2 (request_path r))
+    (judged (company_request (key_of (callers.Company (piece_of 2 (request_path r))) b) route (piece_of 2 (request_path r)) r))
 
 -- what a request comes to
 abbrev pub request_verdict : RequestValue → Book → Verdict
-request_verdict r = λ b. verdict_on b (asked r)
+request_verdict r = λ b. judged_on b (asked r)
 
 -- and on a route of the operator
 abbrev pub operator_route_verdict : OperatorRoute → RequestValue → Book → Verdict

@@ -10,6 +10,7 @@ use desk_store::Store;
 use http_message::{Message, closes};
 use http_routes::Routes;
 use http_session::Unavailable;
+use json::Scratch;
 use std::alloc::Global;
 
 /// Answers a message by the one call of the desk that it makes. Returns the bytes of the answer, from its
@@ -24,11 +25,13 @@ use std::alloc::Global;
 /// before the message or after it, and the state after it if the message was answered and wrote; a read,
 /// answered or not, changes nothing that a crash may leave.
 ///
-/// The caller passes the routes, as an `HttpDesk` does, so that none are built for a message.
+/// The caller passes the routes and the memory in which a body is read, as an `HttpDesk` does, so that neither is made
+/// for a message.
 pub fn answer<S: Store>(
     alloc: Global,
     desk: &mut Desk<S>,
     routes: &Routes,
+    scratch: &mut Scratch,
     message: Message<'_>,
 ) -> Result<Vec<u8>, Unavailable>
     ensures before { S.is_clean desk.new → S.is_clean desk.old }
@@ -37,11 +40,12 @@ pub fn answer<S: Store>(
         (message_value message.entry) result }
     ensures left { MessageLeaves S.Store desk.old desk.new (message_value message.entry) result }
 {
+    desk_book::book_tells();
     http_history::one_meaning();
     http_history::own_text();
     http_history::calls_are_history();
     let closes = closes(&message);
-    match verdict_of(alloc, desk, routes, message) {
+    match verdict_of(alloc, desk, routes, scratch, message) {
         Ok(Ok(call)) => carry_out(alloc, desk, call, closes),
         Ok(Err(fault)) => answer_fault(alloc, fault, closes),
         Err(_) => Err(Unavailable),

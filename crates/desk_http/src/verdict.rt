@@ -3,8 +3,8 @@ ghost use Rattle.std.specs.Prelude.{◌≡◌};
 ghost use Rattle.http_message.specs.Message.{message_value, request_value};
 ghost use Rattle.desk_admission.specs.OverStores.{Gives};
 ghost use Rattle.http_history.specs.Addressee.{route_of_path};
-ghost use Rattle.http_history.specs.Verdict.{verdict_on};
 ghost use Rattle.desk_http.specs.Addressing.{request_verdict, TellsAddressee, TellsByRoute};
+ghost use Rattle.desk_http.specs.Judged.{judged_on};
 
 mod company;
 mod object;
@@ -17,6 +17,7 @@ use desk_store::{Store, StoreFault};
 use http_answers::MessageFault;
 use http_message::{Framing, Message, Request, framing_of, path_of};
 use http_routes::{Route, RouteFault, Routes};
+use json::Scratch;
 use operator::operator_verdict;
 use std::alloc::Global;
 
@@ -26,14 +27,15 @@ pub(crate) fn verdict_of<S: Store>(
     alloc: Global,
     desk: &mut Desk<S>,
     routes: &Routes,
+    scratch: &mut Scratch,
     message: Message<'_>,
 ) -> Result<Result<Call, MessageFault>, StoreFault>
     ensures { Gives S.Store desk.old desk.new result
-        (λ b. verdict_on b (message_value message.entry)) }
+        (λ b. judged_on b (message_value message.entry)) }
 {
     match message {
         Message::BadHead => Ok(Err(MessageFault::BadHead)),
-        Message::Asked(request) => request_verdict(alloc, desk, routes, request),
+        Message::Asked(request) => request_verdict(alloc, desk, routes, scratch, request),
     }
 }
 
@@ -41,14 +43,15 @@ fn request_verdict<S: Store>(
     alloc: Global,
     desk: &mut Desk<S>,
     routes: &Routes,
+    scratch: &mut Scratch,
     request: Request<'_>,
 ) -> Result<Result<Call, MessageFault>, StoreFault>
     ensures { Gives S.Store desk.old desk.new result
         (request_verdict (request_value request.entry)) }
 {
     match route_of(routes, &request) {
-        Ok(Route::Company(route)) => company_verdict(alloc, desk, route, &request),
-        Ok(Route::Operator(route)) => operator_verdict(alloc, desk, route, request),
+        Ok(Route::Company(route)) => company_verdict(alloc, desk, scratch, route, &request),
+        Ok(Route::Operator(route)) => operator_verdict(alloc, desk, scratch, route, request),
         Err(fault) => Ok(Err(fault)),
     }
 }

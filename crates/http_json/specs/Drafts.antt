@@ -54,10 +54,6 @@ abbrev pub entry_drafts_of : Items → List (Option EntryDraft)
 entry_drafts_of no_items = []
 entry_drafts_of (item d ds) = entry_draft_of d ∷ entry_drafts_of ds
 
--- the entries that a value has, if it is a list
-abbrev pub entries_in : Data → Option (List (Option EntryDraft))
-entries_in d = option_map entry_drafts_of (as_array d)
-
 -- the list of entries under its key
 abbrev pub entries_at : Data → Option (List (Option EntryDraft))
 entries_at d = option_map entry_drafts_of (option_and_then as_array (value_at field.Entries d))
@@ -71,6 +67,17 @@ submission_draft_of d = record {
   description = text_at field.Description d;
   day = text_at field.Day d;
   entries = entries_at d;
+}
+
+-- the same with these entries
+abbrev pub draft_with : Option (List (Option EntryDraft)) → Data → Draft
+draft_with entries d = record {
+  reference = text_at field.Reference d;
+  sec = text_at field.Sec d;
+  direction = text_at field.Direction d;
+  description = text_at field.Description d;
+  day = text_at field.Day d;
+  entries = entries;
 }
 
 -- the retry that an object is

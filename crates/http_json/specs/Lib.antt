@@ -2,6 +2,7 @@ pub mod Acceptance
 pub mod Drafts
 pub mod FieldKeys
 pub mod Gains
+pub mod Judged
 pub mod Members
 pub mod Read
 pub mod Refusals

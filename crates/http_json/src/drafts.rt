@@ -1,8 +1,9 @@
 //! The drafts that JSON objects are. A key that is not named here is not looked at.
-ghost use Rattle.std.specs.Prelude.{◌≡◌, ◌≢◌, [], option_and_then, option_map, IfOk, IsSome, IsSomeAnd, OnErr};
+ghost use Rattle.std.specs.Prelude.{◌≡◌, ◌≢◌, [], option_and_then, option_map, IfOk, IsSome, OnErr};
 ghost use Rattle.serde_json.specs.Find.{as_array, as_bool, as_number, as_str, as_u64};
 ghost use Rattle.http_json.specs.View.{view, items_view};
-ghost use Rattle.http_json.specs.Drafts.{value_at, text_at, number_at, given_or_wrong, optional_from, entry_draft_of, entry_drafts_of, entries_in, submission_draft_of, retry_draft_of, company_draft_of, limits_draft_of, limit_drafts_of, entries_at, HasEntry, HasText, HasTextOrEntry, retry_texts, company_texts};
+ghost use Rattle.http_json.specs.Drafts.{value_at, text_at, number_at, given_or_wrong, optional_from, entry_draft_of, entry_drafts_of, submission_draft_of, retry_draft_of, company_draft_of, limits_draft_of, limit_drafts_of, draft_with, entries_at, HasEntry, HasText, HasTextOrEntry, submission_texts, retry_texts, company_texts};
+ghost use Rattle.desk_rules.specs.declared.refusals.refusal.Field.TheVariants as field;
 
 use crate::field_keys::key_of;
 use crate::number::unsigned;
@@ -20,12 +21,24 @@ pub fn submission_draft(alloc: Global, value: &Value<'_>) -> Result<Draft, Alloc
     ensures draft { IfOk result (λ d. d ≡ submission_draft_of (view value.now)) }
     ensures memory { OnErr result (HasTextOrEntry (view value.now)) }
 {
+    let entries = entries_at(alloc, value)?;
+    draft_with(alloc, value, entries)
+}
+
+/// Gives the draft of a submission that has these entries.
+pub(crate) fn draft_with(
+    alloc: Global,
+    value: &Value<'_>,
+    entries: Option<EntryDrafts>,
+) -> Result<Draft, AllocError>
+    ensures draft { IfOk result (λ d. d ≡ draft_with entries (view value.now)) }
+    ensures memory { OnErr result (HasText submission_texts (view value.now)) }
+{
     let reference = text_at(alloc, value, Field::Reference)?;
     let sec = text_at(alloc, value, Field::Sec)?;
     let direction = text_at(alloc, value, Field::Direction)?;
     let description = text_at(alloc, value, Field::Description)?;
     let day = text_at(alloc, value, Field::Day)?;
-    let entries = entries_at(alloc, value)?;
     Ok(Draft {
         reference,
         sec,
@@ -40,19 +53,20 @@ fn entries_at(alloc: Global, value: &Value<'_>) -> Result<Option<EntryDrafts>, A
     ensures drafts { IfOk result (λ d. d ≡ entries_at (view value.now)) }
     ensures memory { OnErr result (HasEntry (view value.now)) }
 {
-    match value.get(key_of(Field::Entries)) {
-        Some(found) => entries_in(alloc, found),
+    match entry_values(value) {
+        Some(values) => Ok(Some(entry_drafts(alloc, values)?)),
         None => Ok(None),
     }
 }
 
-fn entries_in(alloc: Global, value: &Value<'_>) -> Result<Option<EntryDrafts>, AllocError>
-    ensures drafts { IfOk result (λ d. d ≡ entries_in (view value.now)) }
-    ensures memory { OnErr result (IsSomeAnd (entries_in (view value.now)) (λ drafts. drafts ≢ [])) }
+/// Returns the list of entries under its key.
+pub(crate) fn entry_values<'v, 'a>(value: &'v Value<'a>) -> Option<&'v [Value<'a>]>
+    ensures { option_map (λ values. items_view values.now) result
+        ≡ option_and_then as_array (value_at field.Entries (view value.now)) }
 {
-    match items_in(value) {
-        Some(values) => Ok(Some(entry_drafts(alloc, values)?)),
-        None => Ok(None),
+    match value.get(key_of(Field::Entries)) {
+        Some(found) => items_in(found),
+        None => None,
     }
 }
 
@@ -76,8 +90,11 @@ fn entry_drafts(alloc: Global, values: &[Value<'_>]) -> Result<EntryDrafts, Allo
     Ok(EntryDrafts::new(drafts))
 }
 
-// Its keys are `routing`, `account`, `kind`, `prenote`, `cents`, `id`, `name` and `info`.
-fn entry_draft(alloc: Global, value: &Value<'_>) -> Result<Option<EntryDraft>, AllocError>
+/// Gives the draft of an entry that an object is. Its keys are `routing`, `account`, `kind`, `prenote`, `cents`, `id`, `name` and `info`.
+pub(crate) fn entry_draft(
+    alloc: Global,
+    value: &Value<'_>,
+) -> Result<Option<EntryDraft>, AllocError>
     ensures { IfOk result (λ d. d ≡ entry_draft_of (view value.now)) }
 {
     let Value::Object(_) = value else {

@@ -11,6 +11,7 @@
 mod acceptance;
 mod drafts;
 mod field_keys;
+mod judged;
 mod members;
 mod number;
 mod quoted;
@@ -18,9 +19,11 @@ mod range;
 mod read;
 mod refusals;
 mod room;
+mod values;
 
 pub use acceptance::put_acceptance;
 pub use drafts::{company_draft, day_draft, limits_draft, retry_draft, submission_draft, text_of};
+pub use judged::judged_draft;
 pub use members::{put_decimal, put_flag, put_key, put_number, put_signed, put_text, put_whole};
 pub use quoted::put_quoted;
 pub use read::read_object;

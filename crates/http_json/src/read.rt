@@ -6,6 +6,7 @@ ghost use Rattle.http_json.specs.Read.{json_of, object_in, object_of, parsed};
 ghost use Rattle.http_json.specs.View.{view};
 
 use crate::range::is_in_range;
+use crate::values::read_value;
 use json::{Error, Reader, Scratch, Value};
 use simdutf8::basic::from_utf8;
 use std::alloc::{AllocError, Global};
@@ -73,7 +74,7 @@ fn parse<'a>(alloc: Global, text: &'a str, scratch: &'a mut Scratch) -> Result<V
     ensures invalid { IfErr result (λ e. e ≢ Error.OutOfMemory → parsed text.now ≡ None) }
 {
     let mut reader = Reader::new(text, scratch)?;
-    let value = Value::read(alloc, &mut reader, MOST_DEPTH)?;
+    let value = read_value(alloc, &mut reader, MOST_DEPTH)?;
     if reader.next().is_some() {
         return Err(Error::Invalid);
     }

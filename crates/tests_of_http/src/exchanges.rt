@@ -79,7 +79,7 @@ pub(crate) fn add_response(
 /// A desk over the store that answers messages.
 pub(crate) fn http_desk<S>(rt: &(impl Abort + Alloc<A = Global>), store: S) -> HttpDesk<S> {
     let routes = Routes::new(rt.alloc()).ok().expect(rt, "memory");
-    HttpDesk::new(Desk::new(store), routes)
+    HttpDesk::new(rt.alloc(), Desk::new(store), routes)
 }
 
 /// The bytes that a session writes which has these bytes to read.

@@ -2,6 +2,7 @@
 use crate::samples::new_lists;
 use desk_core::Desk;
 use desk_http::{Message, Routes, answer};
+use json::Scratch;
 use std::test::Fail;
 
 const BAD_HEAD: &[u8] =
@@ -11,9 +12,16 @@ const BAD_HEAD: &[u8] =
 fn a_message_is_answered(rt: HostRuntime) -> Result<(), Fail> {
     let routes = Routes::new(rt.alloc())?;
     let mut desk = Desk::new(new_lists(&rt));
-    let bytes = answer(rt.alloc(), &mut desk, &routes, Message::BadHead)
-        .ok()
-        .ok_or("memory")?;
+    let mut scratch = Scratch::new(rt.alloc());
+    let bytes = answer(
+        rt.alloc(),
+        &mut desk,
+        &routes,
+        &mut scratch,
+        Message::BadHead,
+    )
+    .ok()
+    .ok_or("memory")?;
     assert!(rt; bytes.as_slice() == BAD_HEAD);
     Ok(())
 }

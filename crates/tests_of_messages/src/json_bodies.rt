@@ -5,8 +5,8 @@ use desk_rules::{
     check_company_fields, check_day_field, check_fields, check_limits_fields, check_retry_fields,
 };
 use http_json::{
-    company_draft, day_draft, fault_text, limits_draft, put_acceptance, read_object, refusal_text,
-    retry_draft, submission_draft,
+    company_draft, day_draft, fault_text, judged_draft, limits_draft, put_acceptance, read_object,
+    refusal_text, retry_draft, submission_draft,
 };
 use json::Scratch;
 use std::alloc::Global;
@@ -125,6 +125,34 @@ fn submissions_are_read(rt: HostRuntime) {
         None => assert!(rt; false),
     }
     assert!(rt; check_fields(rt.alloc(), &draft).is_err());
+}
+
+fn judged_entries(rt: &(impl Abort + Alloc<A = Global>), body: &[u8]) -> usize {
+    let mut scratch = Scratch::new(rt.alloc());
+    let body = read_object(rt.alloc(), body, &mut scratch).expect(rt, "memory");
+    let draft = judged_draft(rt.alloc(), &body.expect(rt, "an object")).expect(rt, "memory");
+    match &draft.entries {
+        Some(entries) => entries.as_slice().len(),
+        None => 0,
+    }
+}
+
+#[test]
+fn a_judged_draft_ends_with_its_first_bad_entry(rt: HostRuntime) {
+    assert!(rt;
+        judged_entries(
+            &rt,
+            b"{\"entries\":[{\"routing\":\"1\"},0,{\"routing\":\"2\"}]}"
+        ) == 2
+    );
+    assert!(rt;
+        judged_entries(
+            &rt,
+            b"{\"entries\":[{\"routing\":\"1\"},{\"routing\":\"2\"}]}"
+        ) == 2
+    );
+    assert!(rt; judged_entries(&rt, b"{\"entries\":[{},{\"routing\":\"2\"}]}") == 1);
+    assert!(rt; judged_entries(&rt, b"{\"entries\":[]}") == 0);
 }
 
 #[test]

@@ -7,6 +7,7 @@ ghost use Rattle.http_routes.specs.Finding.{piece_of};
 ghost use Rattle.desk_admission.specs.OverStores.{Gives};
 ghost use Rattle.http_history.specs.Verdict.{company_verdict, request_on, look_up};
 ghost use Rattle.desk_http.specs.Addressing.{company_path_verdict};
+ghost use Rattle.desk_http.specs.Judged.{judged};
 
 use super::object::{retry_call, submission_call};
 use ach_fields::{Id, Ref};
@@ -17,6 +18,7 @@ use desk_store::{Store, StoreFault};
 use http_answers::MessageFault;
 use http_message::{Request, path_of, value_of};
 use http_routes::{CompanyRoute, piece_of};
+use json::Scratch;
 use sha2::{Digest, Sha256};
 use std::alloc::{AllocError, Global};
 
@@ -25,6 +27,7 @@ use std::alloc::{AllocError, Global};
 pub(crate) fn company_verdict<S: Store>(
     alloc: Global,
     desk: &mut Desk<S>,
+    scratch: &mut Scratch,
     route: CompanyRoute,
     request: &Request<'_>,
 ) -> Result<Result<Call, MessageFault>, StoreFault>
@@ -38,7 +41,7 @@ pub(crate) fn company_verdict<S: Store>(
         return Ok(Err(MessageFault::Denied));
     };
     match desk.allow(alloc, Caller::Company(id), Sha256::digest(key)) {
-        Ok(true) => match route_call(alloc, route, id, request) {
+        Ok(true) => match route_call(alloc, scratch, route, id, request) {
             Ok(verdict) => Ok(verdict),
             Err(_) => Err(StoreFault::Unavailable),
         },
@@ -50,16 +53,17 @@ pub(crate) fn company_verdict<S: Store>(
 // The call of a company that has shown its key.
 fn route_call(
     alloc: Global,
+    scratch: &mut Scratch,
     route: CompanyRoute,
     id: Id,
     request: &Request<'_>,
 ) -> Result<Result<Call, MessageFault>, AllocError>
     ensures { IfOk result
-        (λ v. v ≡ company_verdict id (request_on route (request_value request.now))) }
+        (λ v. v ≡ company_verdict id (judged (request_on route (request_value request.now)))) }
 {
     match route {
-        CompanyRoute::Submit => submission_call(alloc, id, &request.body),
-        CompanyRoute::Retry => retry_call(alloc, id, &request.body),
+        CompanyRoute::Submit => submission_call(alloc, scratch, id, &request.body),
+        CompanyRoute::Retry => retry_call(alloc, scratch, id, &request.body),
         CompanyRoute::LookUp => Ok(look_up_call(id, piece_of(path_of(request.target), 4))),
         CompanyRoute::Returns => Ok(Ok(Call::ReturnsOf(id))),
         CompanyRoute::Changes => Ok(Ok(Call::ChangesOf(id))),
@@ -70,7 +74,7 @@ fn route_call(
 }
 
 fn look_up_call(id: Id, reference: &[u8]) -> Result<Call, MessageFault>
-    ensures { result ≡ company_verdict id (look_up (result_ok (reference_of reference.now))) }
+    ensures { result ≡ company_verdict id (judged (look_up (result_ok (reference_of reference.now)))) }
 {
     match Ref::new(reference) {
         Ok(reference) => Ok(Call::LookUp(id, reference)),

@@ -16,6 +16,7 @@ use desk_store::{Store, StoreFault};
 use http_answers::MessageFault;
 use http_message::{Request, path_of, value_of};
 use http_routes::{OperatorRoute, piece_of};
+use json::Scratch;
 use sha2::{Digest, Sha256};
 use std::alloc::{AllocError, Global};
 
@@ -23,6 +24,7 @@ use std::alloc::{AllocError, Global};
 pub(crate) fn operator_verdict<S: Store>(
     alloc: Global,
     desk: &mut Desk<S>,
+    scratch: &mut Scratch,
     route: OperatorRoute,
     request: Request<'_>,
 ) -> Result<Result<Call, MessageFault>, StoreFault>
@@ -33,7 +35,7 @@ pub(crate) fn operator_verdict<S: Store>(
         return Ok(Err(MessageFault::Denied));
     };
     match desk.allow(alloc, Caller::Operator, Sha256::digest(key)) {
-        Ok(true) => match route_call(alloc, route, request) {
+        Ok(true) => match route_call(alloc, scratch, route, request) {
             Ok(verdict) => Ok(verdict),
             Err(_) => Err(StoreFault::Unavailable),
         },
@@ -45,16 +47,17 @@ pub(crate) fn operator_verdict<S: Store>(
 // The call of the operator, who has shown its key.
 fn route_call(
     alloc: Global,
+    scratch: &mut Scratch,
     route: OperatorRoute,
     request: Request<'_>,
 ) -> Result<Result<Call, MessageFault>, AllocError>
     ensures { IfOk result (λ v. v ≡ operator_call route (request_value request.entry)) }
 {
     match route {
-        OperatorRoute::SetDay => day_call(alloc, &request.body),
+        OperatorRoute::SetDay => day_call(alloc, scratch, &request.body),
         OperatorRoute::SetHolidays => Ok(Ok(Call::SetHolidays(ListOf::new(request.body)))),
-        OperatorRoute::PutCompany => company_call(alloc, &request.body),
-        OperatorRoute::PutLimits => limits_call(alloc, &request.body),
+        OperatorRoute::PutCompany => company_call(alloc, scratch, &request.body),
+        OperatorRoute::PutLimits => limits_call(alloc, scratch, &request.body),
         OperatorRoute::Cut => Ok(Ok(Call::Cut)),
         OperatorRoute::TakeFile => Ok(Ok(Call::TakeFile(ListOf::new(request.body)))),
         OperatorRoute::FileText => Ok(file_call(path_of(request.target))),

@@ -72,7 +72,7 @@ fn answer<S: Alter + Drop>(
 ) -> Connection<S> {
     let store = SqlStore::adopt(rt.alloc(), conn).ok().expect(rt, "a desk");
     let routes = Routes::new(rt.alloc()).ok().expect(rt, "memory");
-    let mut desk = HttpDesk::new(Desk::new(store), routes);
+    let mut desk = HttpDesk::new(rt.alloc(), Desk::new(store), routes);
     assert!(rt; answer_all(rt.alloc(), &mut desk, input, told));
     desk.into_desk().into_store().into_connection()
 }

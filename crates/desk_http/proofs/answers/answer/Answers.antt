@@ -4,12 +4,12 @@ use Rattle.http_message.specs.Message.{message_value}
 use Rattle.http_history.specs.Verdict.{Verdict}
 use Rattle.http_history.specs.Texts.{fault_text}
 use Rattle.desk_http.specs.MadeCalls.{GoesCall}
-use Rattle.desk_http.proofs.Messages.{IsRead, faulted, made, made_left, replied}
+use Rattle.desk_http.proofs.Messages.{IsRead, fault_left, faulted, made, made_left, replied}
 use Rattle.desk_http.proofs.answers.answer.Goals as goal
 
 pub returns-in-Ok-Ok-clause-goes : goal.returns-in-Ok-Ok-clause-goes
 returns-in-Ok-Ok-clause-goes g c = λ clean.
-    made c.calls_are_history.ensures (g.S.Store.holds c.args.desk.now) (g.S.Store.holds c.verdict_of.new.desk) (g.S.Store.holds c.carry_out.new.desk)
+    made c.book_tells.ensures c.calls_are_history.ensures (g.S.Store.holds c.args.desk.now) (g.S.Store.holds c.verdict_of.new.desk) (g.S.Store.holds c.carry_out.new.desk)
     (message_value c.args.message) c.in-Ok-Ok.call c.carry_out.result
     (subst (λ (v : Verdict). IsRead (g.S.Store.holds c.args.desk.now) (g.S.Store.holds c.verdict_of.new.desk) (message_value c.args.message) v)
     c.in-Ok-Ok.field-0-is (c.in-Ok-Ok.ensures.read (c.carry_out.ensures.before clean)))
@@ -22,7 +22,7 @@ returns-in-Ok-Ok-clause-replies g c = λ clean.
 
 pub returns-in-Ok-Ok-clause-left : goal.returns-in-Ok-Ok-clause-left
 returns-in-Ok-Ok-clause-left g c = λ clean.
-    made_left c.calls_are_history.ensures g.S.Store.keeps (g.S.Store.holds c.args.desk.now) (g.S.Store.holds c.verdict_of.new.desk)
+    made_left c.book_tells.ensures c.calls_are_history.ensures g.S.Store.keeps (g.S.Store.holds c.args.desk.now) (g.S.Store.holds c.verdict_of.new.desk)
     (g.S.Store.may_leave c.args.desk.now) (g.S.Store.may_leave c.verdict_of.new.desk) (g.S.Store.may_leave c.carry_out.new.desk)
     (message_value c.args.message) c.in-Ok-Ok.call c.carry_out.result
     (subst (λ (v : Verdict). IsRead (g.S.Store.holds c.args.desk.now) (g.S.Store.holds c.verdict_of.new.desk) (message_value c.args.message) v)
@@ -40,3 +40,11 @@ pub returns-in-Ok-Err-clause-replies : goal.returns-in-Ok-Err-clause-replies
 returns-in-Ok-Err-clause-replies g c = λ clean.
     replied c.one_meaning.ensures c.own_text.ensures (g.S.Store.holds c.args.desk.now) (g.S.Store.holds c.verdict_of.new.desk)
     (message_value c.args.message) c.answer_fault.result (returns-in-Ok-Err-clause-goes g c clean)
+
+pub returns-in-Ok-Err-clause-left : goal.returns-in-Ok-Err-clause-left
+returns-in-Ok-Err-clause-left g c = λ clean.
+    fault_left g.S.Store.keeps (g.S.Store.holds c.args.desk.now) (g.S.Store.holds c.verdict_of.new.desk)
+    (g.S.Store.may_leave c.args.desk.now) (g.S.Store.may_leave c.verdict_of.new.desk) (message_value c.args.message) c.in-Ok-Err.fault c.answer_fault.result
+    (subst (λ (v : Verdict). IsRead (g.S.Store.holds c.args.desk.now) (g.S.Store.holds c.verdict_of.new.desk) (message_value c.args.message) v)
+    c.in-Ok-Err.field-0-is (c.in-Ok-Err.ensures.read clean))
+    (c.in-Ok-Err.ensures.left clean)
