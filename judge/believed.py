@@ -40,7 +40,8 @@ class Promise:
 # The laws whose lists are printed or counted, by the list that they are on.
 ISOLATION = (Promise("isolated_runs", "laws.rt", "two_runs"),)
 WIRE = (Promise("isolated_runs", "session.rt", "desk_session"),)
-CORRECTNESS = (Promise("http_history", "laws.rt", "own_text"),)
+CORRECTNESS = (Promise("isolated_runs", "laws.rt", "runs_are_right"),)
+ANSWERS = (Promise("http_history", "laws.rt", "own_text"),)
 CRASHES = (Promise("crash_law", "laws.rt", "stands_after_lives"), Promise("crash_law", "files.rt", "files_survive"))
 # Names that a reader of a list may leave closed, and why. The list does not go on from them.
 CLOSED = {"Pair": "a new desk's history has no pair"}
@@ -48,7 +49,15 @@ CLOSED = {"Pair": "a new desk's history has no pair"}
 WORKED_BY_LAWS = tuple(Promise("isolated_runs", "laws.rt", it) for it in ("runs_from_parts", "two_runs", "runs_exist", "leak_is_refuted"))
 # Relations without a refuted instance: what is said of a part alone has not been found false of any desk.
 NEVER_REFUTED = ("IsAlone", "PartsAreAlone")
-LISTS = {"isolation": ISOLATION, "isolation with the bytes on the wire": WIRE, "correctness": CORRECTNESS, "crashes": CRASHES}
+LISTS = {"isolation": ISOLATION, "isolation with the bytes on the wire": WIRE, "correctness": CORRECTNESS, "all answers": ANSWERS, "crashes": CRASHES}
+# What a list says, and of which list it prints only what it has besides that.
+ABOUT = {
+    "correctness": "In every run, each answer on a company's path is `answer_from` of the company's part of the run and the message. "
+    "`IsDesks` defines how requests are read and what cuts send.",
+    "all answers": "The same of histories in which each answer is the definitions' answer, the operator's too. Its index has what is not on the list before.",
+    "crashes": "After any crashes the desk represents the messages that it answered, and at most one more for each crash.",
+}
+BESIDES = {"all answers": "correctness"}
 
 
 # ---- the clauses of a function ----
@@ -128,7 +137,7 @@ def listed(tree, promises):
             # What a desk's step is stays a parameter of the law of runs: nobody has to read it. Its type is the trait's.
             if not promises[0].crate.startswith("isolat"):
                 starts |= named_in(tree, module, fact.text)
-    return tree.closure(sorted(starts, key=str), CLOSED if promises in (ISOLATION, WIRE) else ())
+    return tree.closure(sorted(starts, key=str), CLOSED if promises in (ISOLATION, WIRE, CORRECTNESS) else ())
 
 
 def counts(order):
@@ -157,7 +166,7 @@ definition that they name, directly or through others, in reading order. The pro
 themselves presume is in [the table of premises](../PROVED.md#premises).
 
 - [The headline](#the-headline): *a company is answered from its own part of the history alone*, in full. An afternoon.
-- [The other lists](#the-other-lists): what a right answer is, and what a crash leaves, as indexes.
+- [The other lists](#the-other-lists): what a right answer is, to a company and to the operator, and what a crash leaves, as indexes.
 - [What is not here](#what-is-not-here)
 
 {counts}
@@ -181,7 +190,7 @@ the company's key learns nothing of the company from the answers on its path, no
 
 What a bank may not expect: \
 a cut that the desk refuses adds nothing to a part, so a company can see that a cut failed, which other companies' volume may cause \
-(no trace numbers or file letters are left). And the law says what an answer is made of, not that it is right: that is the second list.
+(no trace numbers or file letters are left). And the law says what an answer is made of, not that it is right: that is the list of correctness.
 
 Read the files in this order. Each begins with its purpose. `told` is the world of a desk after one more step; `ℕ` are numbers, \
 a text is the list of its bytes, and `codes` gives those of a literal. In each list of events the newest is first.
@@ -191,7 +200,7 @@ NOT_HERE = """## What is not here
 - **How the program computes.** Code, its contracts below the promises, tables, queries and proofs: the prover checks that they \
 meet the statements above.
 - **What a desk answers**, for the headline. `RunsFromParts` says that one reading of requests and one reply exist for all desks \
-and runs. Which they are is the second list, of correctness.
+and runs. Which they are is the list of correctness.
 - **Time.** No statement says how long an answer takes: one company can see by the time of its answers that others are served.
 - **503.** A message that is answered 503 changes nothing, and is no part of a run's parts.
 - **What a person does outside the desk**: transmitting files, keys, the proxy. See [proved, trusted and tested](assurance.md).
@@ -280,7 +289,9 @@ def page(tree):
     lines += ["## The other lists", ""]
     for name in list(LISTS)[1:]:
         laws = ", ".join(link(it.path, it.function) for it in LISTS[name])
-        lines += [f"### {name[0].upper()}{name[1:]}", "", f"From {laws}.", "", *index(tree, lists[name]), ""]
+        known = lists[BESIDES[name]] if name in BESIDES else ()
+        about = f" {ABOUT[name]}" if name in ABOUT else ""
+        lines += [f"### {name[0].upper()}{name[1:]}", "", f"From {laws}.{about}", "", *index(tree, [it for it in lists[name] if it not in known]), ""]
     return "\n".join([*lines, NOT_HERE.replace("\\\n", "")]).rstrip("\n") + "\n"
 
 

@@ -289,7 +289,13 @@ class Tree:
                 if meant is not None and meant != own:
                     found.add(meant)
             found |= self.operators(module, text) - {own}
-        return found
+        return found | self.behind_fields(module, own)
+
+    def behind_fields(self, module, own):
+        """Returns what a record names in the type of a field that has the same name."""
+        fields = re.findall(r"^  (?:pub )?([\w']+) : (.*)$", own.text, re.M) if " record " in f" {own.text}" else []
+        named = {name for name, kind in fields if re.search(rf"(?<![\w'.]){re.escape(name)}(?![\w'])", kind)}
+        return {self.resolve(module, it) for it in named} - {own, None}
 
     def operators(self, module, text):
         """Returns what the operators mean that a text has."""

@@ -1,50 +1,25 @@
 -- Which history a desk represents after messages, and what a crash may leave then.
-use Rattle.std.proofs.Common.{◌≡◌, refl, sym, ap, subst, ℕ, List, [], ◌∷◌}
-use Rattle.std.specs.Prelude.{Option, option_map, Result, Ok, Err, Vec}
-use Rattle.std.specs.declared.alloc.Global.{Global}
-use Rattle.desk_history.specs.Authorizations.{message_without_authorization}
+use Rattle.std.proofs.Common.{◌≡◌, refl, sym, subst, ℕ, List, [], ◌∷◌}
 use Rattle.desk_book.specs.Book.{Book}
 use Rattle.desk_book.specs.OnMessages.{BookTells}
 use Rattle.desk_book.specs.Writes.{ReadsLeave}
 use Rattle.http_message.specs.Message.{MessageValue}
-use Rattle.http_session.specs.Exchanges.{Answered, Exchange}
-use Rattle.http_session.specs.declared.answers.Unavailable.{Unavailable}
+use Rattle.http_session.specs.Exchanges.{Exchange}
 use Rattle.http_history.specs.Laws.{AreOfFirst, CallsAreHistory, OneMeaning}
-use Rattle.http_history.specs.Verdict.{verdict_on}
-use Rattle.http_history.specs.Versions.{Version, First, Present, MeansAt}
-use Rattle.desk_http.specs.Keeping.{DeskHistory, book_after, settled, IsAnsweredBy, KeptHistory, StandsKept, Takes, TakesBy}
-use Rattle.desk_http.proofs.Growing.{follows_keeps, found_keeps, found_told, told_after, IsTold}
-use Rattle.desk_http.proofs.Steps.{step, step_by}
-use Rattle.crash_law.specs.Crashes.{answer_in, AnswersSurvive, IsFirstHistory, LeadsBy, StandsAfterCrash, StandsAfterLives, StandsAfterMigration, StandsAt}
+use Rattle.http_history.specs.Versions.{First, Present}
+use Rattle.desk_http.specs.Keeping.{DeskHistory, settled, IsAnsweredBy}
+use Rattle.desk_http.proofs.Growing.{follows_keeps, found_keeps, found_told, told_after}
+use Rattle.desk_http.proofs.Steps.{step}
+use Rattle.crash_law.specs.Crashes.{AnswersSurvive, IsFirstHistory, StandsAfterCrash, StandsAfterLives, StandsAfterMigration, StandsAt}
 use Rattle.crash_law.specs.Runs.{MayBeFoundAfter, MayBeFoundLater}
 
 -- ---- messages
 
--- with the answer's bytes, if there is one
-answered_in : (b : KeptHistory) (v : MessageValue) (result : Result (Vec ℕ Global) Unavailable) (Stands : KeptHistory → Type 0) → Answered Takes b v Stands result
-    → (after : KeptHistory) × Takes b v (answer_in result) after × Stands after
-answered_in b v (Ok bytes) Stands is = is
-answered_in b v (Err fault) Stands is = is
-
 module _ (tells : BookTells) (leave : ReadsLeave) (one : OneMeaning) (are : CallsAreHistory) {S Kept : Type 0} (holds : S → Book → Type 0) (keeps : Kept → Book → Type 0) (may_leave : S → Kept → Type 0) where
-  leads : (version : Version) (b : KeptHistory) (x : Exchange) (before end : S) → StandsAt holds keeps may_leave version b before → LeadsBy holds keeps may_leave version before x end
-      → (after : KeptHistory) × TakesBy version b x.message x.answer after × StandsAt holds keeps may_leave version after end
-  leads First b x before end is lead =
-      let h = b.history in
-      let spelled = one.some (verdict_on (book_after h) x.message) in
-      let means = option_map message_without_authorization spelled.0 in
-      let read : MeansAt First (verdict_on (book_after h) x.message) means = (spelled.0, spelled.1, refl) in
-      step_by tells leave are keeps (holds before) (holds end) (may_leave before) (may_leave end) First b x.message means x.answer read is
-      (lead.goes h means is.stands read) (λ k leaves. lead.left h means k is.stands read leaves)
-  leads Present b x before end is lead =
-      subst (λ (said : Option (List ℕ)). (after : KeptHistory) × TakesBy Present b x.message said after × StandsAt holds keeps may_leave Present after end) (sym lead.answered)
-      (answered_in b x.message lead.result (StandsKept (holds end) keeps (may_leave end))
-      (step tells leave are keeps (holds before) (holds end) (may_leave before) (may_leave end) one x.message lead.result lead.goes lead.left b is))
-
   pub answers_survive : AnswersSurvive holds keeps may_leave
   answers_survive version b start end [] is same = (b, refl, subst (λ (s : S). StandsAt holds keeps may_leave version b s) same is)
   answers_survive version b start end (x ∷ xs) is (mid, lead, rest) =
-      let (next, takes, there) = leads version b x start mid is lead in
+      let (next, takes, there) = step tells leave are keeps (holds start) (holds mid) (may_leave start) (may_leave mid) one version x.message x.answer lead.goes lead.left b is in
       let (after, follows, stands) = answers_survive version next mid end xs there rest in
       (after, (next, takes, follows), stands)
 

@@ -1,22 +1,13 @@
 -- The states that a crash leaves of a desk's store, and which history the store represents after it is opened again or migrated.
-use Rattle.std.specs.Prelude.{◌≡◌, ℕ, List, [], ◌∷◌, Option, Some, None, Result, Ok, Err, Vec}
-use Rattle.std.specs.declared.alloc.Global.{Global}
-use Rattle.desk_history.specs.Message.{Message}
+use Rattle.std.specs.Prelude.{◌≡◌, List, [], ◌∷◌}
 use Rattle.desk_book.specs.Book.{Book}
 use Rattle.http_session.specs.Exchanges.{Exchange, Follows}
-use Rattle.http_session.specs.declared.answers.Unavailable.{Unavailable}
 use Rattle.http_history.specs.History.{IsHistory}
 use Rattle.http_history.specs.Laws.{AreOfFirst}
-use Rattle.http_history.specs.Verdict.{verdict_on}
-use Rattle.http_history.specs.Versions.{Version, First, Present, MeansAt}
+use Rattle.http_history.specs.Versions.{Version, First, Present}
 use Rattle.desk_http.specs.Answering.{GoesBytes, LeavesBytes}
-use Rattle.desk_http.specs.Keeping.{DeskHistory, StandsBehind, book_after, settled, GoesBy, KeptHistory, LeavesBy, StandsKeptBy, TakesBy}
+use Rattle.desk_http.specs.Keeping.{DeskHistory, StandsBehind, book_after, settled, KeptHistory, StandsKeptBy, TakesBy}
 use Rattle.crash_law.specs.Runs.{MayBeFoundAfter, MayBeFoundLater}
-
--- the bytes of an answer, if there is one
-abbrev pub answer_in : Result (Vec ℕ Global) Unavailable → Option (List ℕ)
-answer_in (Ok bytes) = Some bytes.items
-answer_in (Err fault) = None
 
 module _ {S Kept : Type 0} (holds : S → Book → Type 0) (keeps : Kept → Book → Type 0) (may_leave : S → Kept → Type 0) where
   -- The store holds the book of the history, and whatever a crash leaves keeps that book, or that book with one pending message
@@ -26,28 +17,16 @@ module _ {S Kept : Type 0} (holds : S → Book → Type 0) (keeps : Kept → Boo
 
   -- ---- the desk takes messages
 
-  -- a message takes the desk from a store to the next, as `answer` does
-  pub record Leads (before : S) (x : Exchange) (after : S) : Type 0 where
-    pub result : Result (Vec ℕ Global) Unavailable
-    pub answered : x.answer ≡ answer_in result
-    pub goes : GoesBytes (holds before) x.message result (holds after)
-    pub left : LeavesBytes keeps (holds before) (may_leave before) x.message result (may_leave after)
-
-  -- a message took a desk of version 1 so: the same, but that the desk read it without the key `authorized`
-  pub record LeadsFirst (before : S) (x : Exchange) (after : S) : Type 0 where
-    pub goes : (h : DeskHistory) (means : Option Message) → StandsBehind (holds before) h → MeansAt First (verdict_on (book_after h) x.message) means
-        → GoesBy First h x.message means x.answer (holds after)
-    pub left : (h : DeskHistory) (means : Option Message) (k : Kept) → StandsBehind (holds before) h → MeansAt First (verdict_on (book_after h) x.message) means → may_leave after k
-        → LeavesBy keeps (may_leave before) First h x.message means x.answer k
-
-  abbrev pub LeadsBy : Version → (before : S) → Exchange → (after : S) → Type 0
-  LeadsBy First = LeadsFirst
-  LeadsBy Present = Leads
+  -- A message takes a desk of this version from a store to the next, as `answer` does. One of version 1 read it without the key
+  -- `authorized`.
+  pub record Leads (version : Version) (before : S) (x : Exchange) (after : S) : Type 0 where
+    pub goes : GoesBytes version (holds before) x.message x.answer (holds after)
+    pub left : LeavesBytes version keeps (holds before) (may_leave before) x.message x.answer (may_leave after)
 
   -- messages do so one after another, the oldest first
   abbrev pub LeadAll : Version → (start : S) → List Exchange → (end : S) → Type 0
   LeadAll version start [] end = start ≡ end
-  LeadAll version start (x ∷ xs) end = (mid : S) × LeadsBy version start x mid × LeadAll version mid xs end
+  LeadAll version start (x ∷ xs) end = (mid : S) × Leads version start x mid × LeadAll version mid xs end
 
   -- After messages the store holds the book of the history with those that were answered. A crash at any moment leaves
   -- what keeps that book, or the book with one pending message more.

@@ -35,24 +35,13 @@ call_text_is closes m a = refl
 
 -- an answer that is not a command's means that nothing was written
 quiet_is : (a : Answer) → is_command a ≡ false → is_quiet a ≡ true
-quiet_is (answers.Refused why) is = refl
 quiet_is (answers.Done (outcomes.Submitted receipt)) is = cc
 quiet_is (answers.Done (outcomes.Day d)) is = cc
 quiet_is (answers.Done (outcomes.Holidays n)) is = cc
 quiet_is (answers.Done (outcomes.Company c)) is = cc
 quiet_is (answers.Done (outcomes.Cut summary)) is = cc
 quiet_is (answers.Done (outcomes.Taken counts)) is = cc
-quiet_is (answers.Done (outcomes.Found report)) is = refl
-quiet_is (answers.Done (outcomes.Returns rows)) is = refl
-quiet_is (answers.Done (outcomes.Changes rows)) is = refl
-quiet_is (answers.Done (outcomes.Statement statement)) is = refl
-quiet_is (answers.Done (outcomes.Rates rates)) is = refl
-quiet_is (answers.Done (outcomes.Exposure exposure)) is = refl
-quiet_is (answers.Done (outcomes.File file)) is = refl
-quiet_is (answers.Done (outcomes.Settlement settlement)) is = refl
-quiet_is (answers.Done (outcomes.Suspense rows)) is = refl
-quiet_is (answers.Done (outcomes.Status status)) is = refl
-quiet_is (answers.Done (outcomes.Companies all)) is = refl
+quiet_is a is = refl
 
 pub printed : BookTells → OneKind → (old new : Book → Type 0) (call : Call) (closes : Bool) (kind : CallKind) (a : Answer) (bytes : Vec ℕ Global)
     → kind ≡ kind_of_call call → Goes old call (Ok a) new → (FitsRoom a → bytes.items ≡ text_as kind closes a)

@@ -13,8 +13,7 @@ use Rattle.http_history.specs.Laws.{CallsAreHistory}
 use Rattle.http_history.specs.Verdict.{verdict_on}
 use Rattle.http_history.specs.Versions.{MeansAt, Version}
 use Rattle.http_history.proofs.Calls.{none_pair, right_pair}
-use Rattle.desk_http.specs.Answering.{writes}
-use Rattle.desk_http.specs.Keeping.{DeskHistory, book_after, pending_after, with_answered, with_taken, IsAnsweredBy, IsOneMore, KeptHistory, LeavesBy, MayBeFound}
+use Rattle.desk_http.specs.Keeping.{DeskHistory, book_after, pending_after, with_answered, with_taken, IsAnsweredBy, IsOneMore, KeptHistory, LeavesBy, MayBeFound, writes}
 
 -- ---- pending messages
 

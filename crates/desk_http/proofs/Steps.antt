@@ -1,7 +1,8 @@
 -- A message more is a step of what a desk represents, and of what a crash may leave of it.
 use Rattle.std.proofs.Common.{ℕ, List, ◌∷◌, refl, sym, subst}
-use Rattle.std.specs.Prelude.{Ok, Err, Option, Some, None, Result, Vec}
+use Rattle.std.specs.Prelude.{Ok, Err, Option, Some, None, option_map, Result, Vec}
 use Rattle.std.specs.declared.alloc.Global.{Global}
+use Rattle.desk_history.specs.Authorizations.{message_without_authorization}
 use Rattle.desk_history.specs.Message.{Message}
 use Rattle.desk_admission.specs.Answering.{IsLeft}
 use Rattle.desk_book.specs.Book.{Book}
@@ -11,10 +12,10 @@ use Rattle.http_message.specs.Message.{MessageValue}
 use Rattle.http_session.specs.declared.answers.Unavailable.{Unavailable}
 use Rattle.http_session.specs.Exchanges.{Answered}
 use Rattle.http_history.specs.Laws.{CallsAreHistory, OneMeaning}
-use Rattle.http_history.specs.Verdict.{verdict_on}
-use Rattle.http_history.specs.Versions.{MeansAt, Present, Version}
-use Rattle.desk_http.specs.Answering.{GoesBytes, IsAsked, LeavesBytes, writes}
-use Rattle.desk_http.specs.Keeping.{book_after, pending_after, with_taken, GoesBy, IsAnsweredBy, KeptHistory, LeavesBy, StandsKept, StandsKeptBy, Takes, TakesBy}
+use Rattle.http_history.specs.Verdict.{Verdict, verdict_on}
+use Rattle.http_history.specs.Versions.{First, MeansAt, Present, Version}
+use Rattle.desk_http.specs.Answering.{answer_in, GoesBytes, IsAsked, LeavesBytes}
+use Rattle.desk_http.specs.Keeping.{book_after, pending_after, with_taken, GoesBy, IsAnsweredBy, KeptHistory, LeavesBy, StandsKept, StandsKeptBy, Takes, TakesBy, writes}
 use Rattle.desk_http.proofs.KeptBooks.{answered_left, unanswered_left}
 
 module _ (tells : BookTells) (leave : ReadsLeave) (are : CallsAreHistory) {Kept : Type 0} (keeps : Kept → Book → Type 0) (old new : Book → Type 0) (left_before left_after : Kept → Type 0) where
@@ -43,17 +44,23 @@ module _ (tells : BookTells) (leave : ReadsLeave) (are : CallsAreHistory) {Kept 
     },
   )
 
+  -- a message means something to each version
+  meant : OneMeaning → (version : Version) (verdict : Verdict) → (means : Option Message) × MeansAt version verdict means
+  meant one First verdict = let (spelled, is) = one.some verdict in (option_map message_without_authorization spelled, (spelled, is, refl))
+  meant one Present verdict = one.some verdict
+
+  pub step : OneMeaning → (version : Version) (v : MessageValue) (answer : Option (List ℕ))
+      → GoesBytes version old v answer new → LeavesBytes version keeps old left_before v answer left_after
+      → (b : KeptHistory) → StandsKeptBy old keeps left_before version b → (after : KeptHistory) × TakesBy version b v answer after × StandsKeptBy new keeps left_after version after
+  step one version v answer goes left b is =
+      let h = b.history in
+      let (means, read) = meant one version (verdict_on (book_after h) v) in
+      let asked : IsAsked version old h v means = record { stands = is.stands; read = read } in
+      step_by version b v means answer read is (goes h means asked) (λ k leaves. left h means k asked leaves)
+
   -- as `answer` has it
-  pub step : OneMeaning → (v : MessageValue) (result : Result (Vec ℕ Global) Unavailable)
-      → GoesBytes old v result new → LeavesBytes keeps old left_before v result left_after
+  pub answered : OneMeaning → (v : MessageValue) (result : Result (Vec ℕ Global) Unavailable)
+      → GoesBytes Present old v (answer_in result) new → LeavesBytes Present keeps old left_before v (answer_in result) left_after
       → (b : KeptHistory) → StandsKept old keeps left_before b → Answered Takes b v (StandsKept new keeps left_after) result
-  step one v (Ok bytes) goes left b is =
-      let h = b.history in
-      let m = one.some (verdict_on (book_after h) v) in
-      let asked : IsAsked old h.identity h.key h.pairs v m.0 = record { stands = is.stands; read = m.1 } in
-      step_by Present b v m.0 (Some bytes.items) m.1 is (goes h.identity h.key h.pairs m.0 asked) (λ k leaves. left h.identity h.key h.pairs m.0 k asked leaves)
-  step one v (Err fault) goes left b is =
-      let h = b.history in
-      let m = one.some (verdict_on (book_after h) v) in
-      let asked : IsAsked old h.identity h.key h.pairs v m.0 = record { stands = is.stands; read = m.1 } in
-      step_by Present b v m.0 None m.1 is (goes h.identity h.key h.pairs m.0 asked) (λ k leaves. left h.identity h.key h.pairs m.0 k asked leaves)
+  answered one v (Ok bytes) goes left = step one Present v (Some bytes.items) goes left
+  answered one v (Err fault) goes left = step one Present v None goes left

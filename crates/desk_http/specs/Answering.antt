@@ -1,73 +1,41 @@
 -- The answer to a message in bytes: which bytes, the history that the desk then represents, and what a crash leaves.
-use Rattle.std.specs.Prelude.{◌≡◌, ◌⊎◌, ⊤, ℕ, Bool, true, false, IsFalse, List, ◌∷◌, Option, Some, None, Result, Ok, Err, Vec}
+use Rattle.std.specs.Prelude.{◌≡◌, ⊤, ℕ, List, Option, Some, None, Result, Ok, Err, Vec}
 use Rattle.std.specs.declared.alloc.Global.{Global}
-use Rattle.desk_history.specs.declared.identity.Identity.{Identity}
 use Rattle.desk_history.specs.Message.{Message}
 use Rattle.desk_book.specs.Book.{Book}
-use Rattle.desk_book.specs.Writes.{is_read, writes_on}
-use Rattle.desk_admission.specs.Answering.{IsLeft}
 use Rattle.http_message.specs.Message.{MessageValue}
 use Rattle.http_session.specs.declared.answers.Unavailable.{Unavailable}
-use Rattle.http_history.specs.Verdict.{verdict_on, Means}
-use Rattle.http_history.specs.History.{from_message, Pair, text, book_behind, StandsFor}
+use Rattle.http_history.specs.Verdict.{verdict_on}
+use Rattle.http_history.specs.Versions.{Version, MeansAt}
 use Rattle.http_history.specs.Part.{part}
 use Rattle.http_history.specs.Reply.{reply, IsToCompany}
+use Rattle.desk_http.specs.Keeping.{DeskHistory, StandsBehind, book_after, GoesBy, LeavesBy}
 
--- a history over bytes that the desk represents, and what a message means after it
-pub record IsAsked (holds : Book → Type 0) (identity : Identity) (key : List ℕ) (H : List Pair) (v : MessageValue) (means : Option Message) : Type 0 where
-  pub stands : StandsFor holds identity key H
-  pub read : Means (verdict_on (book_behind identity key H) v) means
+-- the bytes of an answer, if there is one
+abbrev pub answer_in : Result (Vec ℕ Global) Unavailable → Option (List ℕ)
+answer_in (Ok bytes) = Some bytes.items
+answer_in (Err fault) = None
 
--- a message with the bytes that answered it
-abbrev pub answered_pair : MessageValue → (answer : List ℕ) → Option Message → Pair
-answered_pair v answer means = record { origin = from_message v; answer = answer; means = means }
+-- a history that a desk of this version represents, and what a message means after it
+pub record IsAsked (version : Version) (holds : Book → Type 0) (h : DeskHistory) (v : MessageValue) (means : Option Message) : Type 0 where
+  pub stands : StandsBehind holds h
+  pub read : MeansAt version (verdict_on (book_after h) v) means
 
--- the history with a message and its answer
-abbrev pub history_with : Identity → (key : List ℕ) → List Pair → MessageValue → Option Message → List Pair
-history_with identity key H v means = answered_pair v (text identity key H (from_message v) means) means ∷ H
-
--- ---- what is answered
-
--- The bytes are the text of the message after the history, and the desk then represents the history with this pair; or it
--- could not act, and represents the same history.
-abbrev pub GoesOn : Identity → (key : List ℕ) → List Pair → MessageValue → Option Message → Result (Vec ℕ Global) Unavailable → (new : Book → Type 0) → Type 0
-GoesOn identity key H v means (Ok bytes) new =
-    (bytes.items ≡ text identity key H (from_message v) means) × StandsFor new identity key (answered_pair v bytes.items means ∷ H)
-GoesOn identity key H v means (Err fault) new = StandsFor new identity key H
-
-abbrev pub GoesBytes : (old : Book → Type 0) → MessageValue → Result (Vec ℕ Global) Unavailable → (new : Book → Type 0) → Type 0
-GoesBytes old v result new =
-    (identity : Identity) (key : List ℕ) (H : List Pair) (means : Option Message) → IsAsked old identity key H v means → GoesOn identity key H v means result new
-
--- A message to a route of a company is answered from the company's part of the history alone.
-abbrev pub IsOwnReply : Identity → List Pair → MessageValue → Result (Vec ℕ Global) Unavailable → Type 0
-IsOwnReply identity H v (Ok bytes) = (c : List ℕ) → IsToCompany c v → bytes.items ≡ reply v (part identity H c)
-IsOwnReply identity H v (Err fault) = ⊤
-
-abbrev pub RepliesBytes : (old : Book → Type 0) → MessageValue → Result (Vec ℕ Global) Unavailable → Type 0
-RepliesBytes old v result = (identity : Identity) (key : List ℕ) (H : List Pair) → StandsFor old identity key H → IsOwnReply identity H v result
-
--- ---- what a crash leaves
-
--- a message that makes no call writes nothing
-abbrev pub writes : Book → Option Message → Bool
-writes b None = false
-writes b (Some m) = writes_on b m
-
--- nor does one that asks for what is known, and no more
-abbrev pub reads : Option Message → Bool
-reads None = true
-reads (Some m) = is_read m
-
-abbrev pub LeavesOn : {Kept : Type 0} → (keeps : Kept → Book → Type 0) → (old : Kept → Type 0) → Identity → (key : List ℕ) → List Pair → MessageValue → Option Message → Result (Vec ℕ Global) Unavailable → Kept → Type 0
-LeavesOn keeps old identity key H v means (Ok bytes) k =
-    IsLeft (writes (book_behind identity key H) means) (keeps k (book_behind identity key (history_with identity key H v means))) (old k)
-LeavesOn keeps old identity key H v means (Err fault) k =
-    old k ⊎ (IsFalse (reads means) × keeps k (book_behind identity key (history_with identity key H v means)))
+-- Whichever history the desk represents, the bytes are the text of the message after it, and the desk then represents the
+-- history with this pair; or the desk could not act, and represents the same history.
+abbrev pub GoesBytes : Version → (old : Book → Type 0) → MessageValue → (answer : Option (List ℕ)) → (new : Book → Type 0) → Type 0
+GoesBytes version old v answer new = (h : DeskHistory) (means : Option Message) → IsAsked version old h v means → GoesBy version h v means answer new
 
 -- A crash after the message leaves what keeps the book of the history with it if it wrote, and what it could leave before if
 -- it wrote nothing. If the desk could not act, it leaves either; a read changes nothing that a crash may leave.
-abbrev pub LeavesBytes : {Kept : Type 0} → (keeps : Kept → Book → Type 0) → (holds : Book → Type 0) → (old : Kept → Type 0) → MessageValue → Result (Vec ℕ Global) Unavailable → (new : Kept → Type 0) → Type 0
-LeavesBytes {Kept} keeps holds old v result new =
-    (identity : Identity) (key : List ℕ) (H : List Pair) (means : Option Message) (k : Kept)
-    → IsAsked holds identity key H v means → new k → LeavesOn keeps old identity key H v means result k
+abbrev pub LeavesBytes : Version → {Kept : Type 0} → (keeps : Kept → Book → Type 0) → (holds : Book → Type 0) → (old : Kept → Type 0) → MessageValue → (answer : Option (List ℕ)) → (new : Kept → Type 0) → Type 0
+LeavesBytes version {Kept} keeps holds old v answer new =
+    (h : DeskHistory) (means : Option Message) (k : Kept) → IsAsked version holds h v means → new k → LeavesBy keeps old version h v means answer k
+
+-- A message to a route of a company is answered from the company's part of the history alone.
+abbrev pub IsOwnReply : DeskHistory → MessageValue → (answer : Option (List ℕ)) → Type 0
+IsOwnReply h v (Some bytes) = (c : List ℕ) → IsToCompany c v → bytes ≡ reply v (part h.identity h.pairs c)
+IsOwnReply h v None = ⊤
+
+abbrev pub RepliesBytes : (old : Book → Type 0) → MessageValue → (answer : Option (List ℕ)) → Type 0
+RepliesBytes old v answer = (h : DeskHistory) → StandsBehind old h → IsOwnReply h v answer

@@ -3,13 +3,13 @@ use Rattle.std.specs.Prelude.{◌≡◌, ◌⊎◌, ℕ, Bool, true, false, IsFa
 use Rattle.desk_history.specs.declared.identity.Identity.{Identity}
 use Rattle.desk_history.specs.Message.{Message}
 use Rattle.desk_book.specs.Book.{Book}
+use Rattle.desk_book.specs.Writes.{is_read, writes_on}
 use Rattle.desk_store.specs.declared.store.Store as store
 use Rattle.desk_admission.specs.Answering.{IsLeft}
 use Rattle.http_message.specs.Message.{MessageValue}
 use Rattle.http_history.specs.History.{book_behind, Pair, StandsFor, taken_by, text}
 use Rattle.http_history.specs.Verdict.{verdict_on}
 use Rattle.http_history.specs.Versions.{MeansAt, Present, Version}
-use Rattle.desk_http.specs.Answering.{reads, writes}
 
 -- the history of a desk: its identity, the digest of the operator's key, and the messages with their answers
 pub record DeskHistory : Type 0 where
@@ -47,6 +47,16 @@ pub record IsAnsweredBy (version : Version) (h : DeskHistory) (v : MessageValue)
   pub more : after ≡ with_taken version h v bytes means
 
 -- ---- messages without an answer
+
+-- whether a message writes: without a call it does not
+abbrev pub writes : Book → Option Message → Bool
+writes b None = false
+writes b (Some m) = writes_on b m
+
+-- whether it asks for what is known, and no more
+abbrev pub reads : Option Message → Bool
+reads None = true
+reads (Some m) = is_read m
 
 -- A history, and the messages since the last one that was answered and wrote that were not answered: they are pending. A crash
 -- may have kept one of them.

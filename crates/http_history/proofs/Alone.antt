@@ -24,7 +24,7 @@ use Rattle.http_history.specs.Verdict.{company_request, company_verdict, verdict
 use Rattle.http_history.specs.Versions.{Version, MeansAt}
 use Rattle.http_history.specs.Texts.{is_success}
 use Rattle.http_history.specs.History.{Origin, taken_by, from_facts, Pair, closes, is_lost, call_at, with_call, calls_of, text, IsReadAs, IsHistory}
-use Rattle.http_history.specs.Part.{Event, Posted, Given, core_events, origin_events, own_events, call_events, or_given, events_at, part}
+use Rattle.http_history.specs.Part.{Event, Given, core_events, origin_events, own_events, call_events, or_given, events_at, part}
 use Rattle.http_history.specs.Reply.{reply_to}
 use Rattle.http_history.specs.Alone as bytes_alone
 use Rattle.http_history.specs.Alone.{with_text, with_files, alone}

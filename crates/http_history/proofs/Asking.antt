@@ -7,7 +7,7 @@ use Rattle.http_json.specs.Read.{object_of}
 use Rattle.desk_history.specs.declared.call.Call.{Call}
 use Rattle.desk_history.specs.Authorizations.{request_without_authorization, message_without_authorization}
 use Rattle.desk_history.specs.Calls.{IsMessageOf}
-use Rattle.desk_history.specs.Message.{Message, Of, SetDay, SetHolidays, PutCompany, PutLimits, Cut, TakeFile, FileText, Settlement, Suspense, Status, Companies}
+use Rattle.desk_history.specs.Message.{Message, Of}
 use Rattle.desk_history.specs.Request as request
 use Rattle.desk_history.specs.Request.{Request}
 use Rattle.http_message.specs.Message.{RequestValue}
@@ -23,23 +23,11 @@ use Rattle.http_history.specs.Versions.{Version, First, Present, read_at, MeansA
 -- the message of a company's call is its request
 pub own_message : (k : List ℕ) (q : Request) (m : Message) → IsMessageOf (call_of k q) m → m ≡ Of k q
 own_message k (request.Submit d) m is = is
-own_message k (request.Retry d) m is = is
-own_message k (request.LookUp reference) m is = is
-own_message k request.Returns m is = is
-own_message k request.Changes m is = is
-own_message k request.Statement m is = is
-own_message k request.Rates m is = is
-own_message k request.Exposure m is = is
+own_message k q m is = is
 
 own_call : (k : List ℕ) (q : Request) → IsMessageOf (call_of k q) (Of k q)
 own_call k (request.Submit d) = refl
-own_call k (request.Retry d) = refl
-own_call k (request.LookUp reference) = refl
-own_call k request.Returns = refl
-own_call k request.Changes = refl
-own_call k request.Statement = refl
-own_call k request.Rates = refl
-own_call k request.Exposure = refl
+own_call k q = refl
 
 -- ---- by version
 
@@ -95,15 +83,10 @@ route_command : (route : OperatorRoute) (r : RequestValue) (m : Message) → Mea
 route_command operator_routes.SetDay r m is = object_command (object_of r.body) _ (λ d m is. subst IsCommand (sym is) tt) m is
 route_command operator_routes.PutCompany r m is = object_command (object_of r.body) _ (λ d m is. subst IsCommand (sym is) tt) m is
 route_command operator_routes.PutLimits r m is = object_command (object_of r.body) _ (λ d m is. subst IsCommand (sym is) tt) m is
-route_command operator_routes.SetHolidays r m is = subst IsCommand (sym is) tt
-route_command operator_routes.Cut r m is = subst IsCommand (sym is) tt
-route_command operator_routes.Settlement r m is = subst IsCommand (sym is) tt
-route_command operator_routes.Suspense r m is = subst IsCommand (sym is) tt
-route_command operator_routes.Status r m is = subst IsCommand (sym is) tt
-route_command operator_routes.Companies r m is = subst IsCommand (sym is) tt
 route_command operator_routes.FileText r m is = file_command (day_of (piece_of 3 (request_path r))) (piece_of 4 (request_path r)) m is
 route_command operator_routes.TakeFile r (Of k q) is = absurd is
 route_command operator_routes.TakeFile r m is = tt
+route_command route r m is = subst IsCommand (sym is) tt
 
 pub is_command : (b : Bool) (route : OperatorRoute) (r : RequestValue) (m : Message)
     → Means (if b then operator_call route r else Err Denied) (Some m) → IsCommand m
@@ -113,17 +96,7 @@ is_command true route r m is = route_command route r m is
 -- a command has no key to leave out
 pub plain_command : (m : Message) → IsCommand m → message_without_authorization m ≡ m
 plain_command (Of k r) command = absurd command
-plain_command (SetDay text) command = refl
-plain_command (SetHolidays days) command = refl
-plain_command (PutCompany d) command = refl
-plain_command (PutLimits d) command = refl
-plain_command Cut command = refl
-plain_command (TakeFile file) command = refl
-plain_command (FileText d modifier) command = refl
-plain_command Settlement command = refl
-plain_command Suspense command = refl
-plain_command Status command = refl
-plain_command Companies command = refl
+plain_command m command = refl
 
 pub command_meaning : (version : Version) (b : Bool) (route : OperatorRoute) (r : RequestValue) (means : Option Message)
     → MeansAt version (if b then operator_call route r else Err Denied) means → Means (if b then operator_call route r else Err Denied) means

@@ -44,6 +44,7 @@ use Rattle.http_history.specs.Reply.{request_text, reply_to}
 use Rattle.http_history.specs.CompanyRows.{IsFromCompany, IsOwnRow, IsCompaniesRead, ShowsOwnRows, CompaniesRows}
 use Rattle.http_history.proofs.Calls.{calls_are_history}
 use Rattle.http_history.proofs.Parts.{same_part}
+use Rattle.http_history.proofs.Replies.{text_of_request}
 
 -- ---- what the company itself reads
 
@@ -53,9 +54,10 @@ asked : (P : List events.Event) (c : List ℕ) (route : CompanyRoute) (q : Reque
 asked P c route q closes on (to_nobody fault) from = absurd from
 asked P c route q closes on (to_operator taken r) from = absurd from
 asked P c route q closes on (to_company taken k r) (same_route, same_company, right) =
-    (λ i. request_text closes (same_company i) (company_request (digest P) (same_route i) (same_company i) r) P)
-    ∙ ap (λ (b : Bool). request_text closes c (if b then request_on route r else Err Denied) P) right
-    ∙ ap (λ (found : Result Request MessageFault). request_text closes c found P) (on r)
+    (λ i. request_text closes (company_request (digest P) (same_route i) (same_company i) r) P)
+    ∙ ap (λ (b : Bool). request_text closes (if b then request_on route r else Err Denied) P) right
+    ∙ ap (λ (found : Result Request MessageFault). request_text closes found P) (on r)
+    ∙ sym (text_of_request closes c P q)
 
 exposure_shown : (closes : Bool) (c : List ℕ) (e : Exposure) → call_text closes (Of c request.Exposure) (answers.Done (outcomes.Exposure e)) ≡ response_text 200 Json closes (compact_text (exposure_body e))
 unfolding call_text

@@ -3,16 +3,17 @@
 --   none_unavailable            Success, Answered
 --   calls_are_history           Calls
 --   same_part                   Success, Asking, Parts
---   own_text, two_worlds        Worlds
+--   own_text, two_worlds        Replies, Worlds
 --   calls_alone, served_alone   PartAlone, Alone
 --   first_calls                 Firsts
---   companies_rows              CompanyRows
+--   companies_rows              Replies, CompanyRows
 pub mod Meanings
 pub mod Calls
 pub mod Success
 pub mod Answered
 pub mod Asking
 pub mod Parts
+pub mod Replies
 pub mod Worlds
 pub mod PartAlone
 pub mod Alone

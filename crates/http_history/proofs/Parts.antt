@@ -28,7 +28,7 @@ use Rattle.http_answers.specs.declared.faults.MessageFault.TheVariants.{Denied}
 use Rattle.http_history.specs.Addressee.{Addressee, to_nobody, to_company, to_operator, addressee_of, request_path, shown_key}
 use Rattle.http_history.specs.Verdict.{is_company, look_up, submission_in, retry_in, request_on, company_request, company_verdict, verdict_by, Means}
 use Rattle.http_history.specs.Versions.{Version, First, Present, read_at, MeansAt}
-use Rattle.http_history.specs.History.{Origin, taken_by, from_facts, Pair, call_at, with_call, calls_of, IsReadAs, IsHistory}
+use Rattle.http_history.specs.History.{Origin, taken_by, from_facts, Pair, call_at, with_call, calls_of, IsReadAs}
 use Rattle.http_history.specs.Part.{Event, Posted, Given, posted_events, events_of_post, core_events, is_post, post_if, own_events, origin_events, call_events, or_given, events_at, part}
 use Rattle.http_history.specs.Laws.{SamePart}
 use Rattle.http_history.proofs.Asking.{own_message, asked_at, asked_if, company_meaning}
@@ -40,12 +40,7 @@ has_digest : (P : List events.Event) (d : List ℕ) → digest P ≡ Some d → 
 has_digest [] d is = cc
 has_digest (events.Registered name key l ∷ P) d is = refl
 has_digest (events.Limited l ∷ P) d is = refl
-has_digest (events.DaySet day ∷ P) d is = has_digest P d is
-has_digest (events.HolidaysSet days ∷ P) d is = has_digest P d is
-has_digest (events.Asked r ∷ P) d is = has_digest P d is
-has_digest (events.CutMade ∷ P) d is = has_digest P d is
-has_digest (events.Returned reference index code information ∷ P) d is = has_digest P d is
-has_digest (events.Changed reference index code text ∷ P) d is = has_digest P d is
+has_digest (e ∷ P) d is = has_digest P d is
 
 none_false : (b : Bool) → (b && false) ≡ true → true ≡ false
 none_false b is = let parts = and_parts b false is in sym parts.1

@@ -1,5 +1,5 @@
 -- A status of 200 or 201 is an accepted call.
-use Rattle.std.proofs.Common.{◌≡◌, ℕ, List, [], ◌++◌, length, arith, Bool, true, false, ◌⊎◌, refl, sym, ap, ◌∙◌, inl, inr}
+use Rattle.std.proofs.Common.{◌≡◌, ℕ, List, [], ◌++◌, length, arith, Bool, true, false, ◌⊎◌, refl, ap, ◌∙◌, inl, inr}
 use Rattle.std.specs.Prelude.{⊤, unwrap_or, codes, decimal}
 use Rattle.std.proofs.lemmas.Fmt.{decimal-digits_of}
 use Rattle.http.specs.StatusCode.{reason_phrase}
@@ -88,23 +88,7 @@ name_refused names.TotalTooLarge = inr refl
 name_refused names.DateRange = inr refl
 name_refused names.BadFile = inr refl
 name_refused names.BadCalendar = inr refl
-name_refused names.NoDay = inl refl
-name_refused names.RefReused = inl refl
-name_refused names.EntryLimit = inl refl
-name_refused names.CreditLimit = inl refl
-name_refused names.DebitLimit = inl refl
-name_refused names.NoEntry = inl refl
-name_refused names.NotReturned = inl refl
-name_refused names.NotRetryable = inl refl
-name_refused names.RetriesSpent = inl refl
-name_refused names.RetryTooLate = inl refl
-name_refused names.DayNotLater = inl refl
-name_refused names.NotBankingDay = inl refl
-name_refused names.CompanyExists = inl refl
-name_refused names.NoCompany = inl refl
-name_refused names.TracesSpent = inl refl
-name_refused names.ModifiersSpent = inl refl
-name_refused names.FileKeyReused = inl refl
+name_refused n = inl refl
 
 pub refused : (why : CallRefusal) → IsRefused (refusal_status why)
 refused (Rule why) = name_refused (name_of why)

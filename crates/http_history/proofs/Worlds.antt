@@ -23,6 +23,7 @@ use Rattle.http_history.specs.Reply.{request_text, reply_to, reply, IsOnRouteOf,
 use Rattle.http_history.specs.Laws.{OwnText, TwoWorlds}
 use Rattle.http_history.proofs.Asking.{own_message}
 use Rattle.http_history.proofs.Parts.{keys_of, same_part}
+use Rattle.http_history.proofs.Replies.{text_of_request}
 
 module _ (identity : Identity) (key : List ℕ) (G : List core.Pair) (closes : Bool) where
   -- the text of what a message to this addressee means
@@ -31,13 +32,14 @@ module _ (identity : Identity) (key : List ℕ) (G : List core.Pair) (closes : B
   text_to a (Some m) = call_text closes m (answer_to identity G m)
 
   asked_text : (k : List ℕ) (asked : Result Request MessageFault) (m : Message) → Means (company_verdict k asked) (Some m)
-      → call_text closes m (answer_to identity G m) ≡ request_text closes k asked (core_history.part identity.odfi G k)
+      → call_text closes m (answer_to identity G m) ≡ request_text closes asked (core_history.part identity.odfi G k)
   asked_text k (Err fault) m is = cc
   asked_text k (Ok q) m is =
-      subst (λ (m : Message). call_text closes m (answer_to identity G m) ≡ request_text closes k (Ok q) (core_history.part identity.odfi G k)) (sym (own_message k q m is)) refl
+      subst (λ (m : Message). call_text closes m (answer_to identity G m) ≡ request_text closes (Ok q) (core_history.part identity.odfi G k)) (sym (own_message k q m is))
+      (text_of_request closes k (core_history.part identity.odfi G k) q)
 
   denied_text : (k : List ℕ) (asked : Result Request MessageFault) → Means (company_verdict k asked) None
-      → fault_text closes (company_verdict k asked) ≡ request_text closes k asked (core_history.part identity.odfi G k)
+      → fault_text closes (company_verdict k asked) ≡ request_text closes asked (core_history.part identity.odfi G k)
   denied_text k (Err fault) is = refl
   denied_text k (Ok q) is = absurd is
 

@@ -1,5 +1,7 @@
 -- The bytes of answers.
 use Rattle.std.specs.Prelude.{ℕ, Bool, List, [], take, bytes_eq, codes, Ok, Err}
+use Rattle.serde_json.specs.Data.{Data}
+use Rattle.serde_json.specs.Written.{compact_text}
 use Rattle.desk_history.specs.declared.answer.Answer.{Answer}
 use Rattle.desk_history.specs.Message.{Message}
 use Rattle.http_response.specs.declared.response.Content.TheVariants.{Json}
@@ -8,6 +10,10 @@ use Rattle.http_answers.specs.Answers.{answer_body}
 use Rattle.http_answers.specs.Faults.{fault_status, message_fault_body}
 use Rattle.http_answers.specs.Statuses.{kind_of, status_of, content_of}
 use Rattle.http_history.specs.Verdict.{Verdict}
+
+-- an answer with this status and this JSON
+abbrev pub json_text : (closes : Bool) → (status : ℕ) → Data → List ℕ
+json_text closes status body = response_text status Json closes (compact_text body)
 
 -- the answer to a call
 unfoldable pub call_text : (closes : Bool) → Message → Answer → List ℕ

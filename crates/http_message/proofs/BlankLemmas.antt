@@ -26,7 +26,7 @@ head_end : (h : RequestHead) → EndsInFeed (print_request h)
 unfolding print_request
 head_end h = feed_after _ (print_section h.fields h.last) (feed_after (flat_map print_field h.fields) (print_end h.last) (line_end h.last))
 
--- the end of a join stands in its second part, if that has a byte
+-- the end of a join is in its second part, if that has a byte
 feed_in : (s more start : List ℕ) → s ++ more ≡ start ++ 10 ∷ [] → 0 < length more → list_any (λ b. b == 10) more ≡ true
 feed_in [] more start e some = ap (list_any (λ b. b == 10)) e ∙ list_any-append (λ b. b == 10) start (10 ∷ []) ∙ last (list_any (λ b. b == 10) start)
   where
@@ -59,7 +59,7 @@ no_feed_no_head s more none plain h rest reads = by_cases (cases_lt (length s) (
         same_rest [] x y e = e
         same_rest (c ∷ a) x y e = let tails : a ++ x ≡ a ++ y = cc in same_rest a x y tails
 
--- a byte of a method is none of a line end
+-- a byte of a method does not end a line
 token_is_no_end : (b : ℕ) → is_token_byte b ≡ true → is_line_end_byte b ≡ true → ⊥
 unfolding is_token_byte
 token_is_no_end b token end = by_cases (b == 13) refl
@@ -88,7 +88,7 @@ method_byte [] before after token all = absurd (omega (arith, token.0))
 method_byte (b ∷ method) before after token all =
     token_is_no_end b (All-head (λ b. IsTrue (is_token_byte b)) b method token.1) (in_the_middle before method after b all)
 
--- Line ends alone are no head.
+-- Line ends alone do not make a head.
 pub blank_no_head : (s : List ℕ) → list_all is_line_end_byte s ≡ true → HasNoRequest s
 blank_no_head s blank h rest reads =
     method_byte h.method (print_blank h.blank) _ reads.0.method
@@ -115,7 +115,7 @@ still_blank known piece all false now grown was on off =
     off refl ∙ ap (λ (b : Bool). b && list_all is_line_end_byte piece) was
     ∙ sym (list_all-append is_line_end_byte known piece) ∙ ap (list_all is_line_end_byte) (sym grown)
 
--- what is blank with its new piece, or has no line feed in it, is no head
+-- bytes that are blank with their new piece, or have no line feed in it, do not make a head
 pub still_no_head : (known piece all : List ℕ) → HasNoRequest known → all ≡ known ++ piece
     → (list_all is_line_end_byte all ≡ true) ⊎ (list_any (λ b. b == 10) piece ≡ false) → HasNoRequest all
 still_no_head known piece all none grown (inl blank) = blank_no_head all blank

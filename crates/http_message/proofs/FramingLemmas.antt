@@ -1,4 +1,4 @@
--- What lengths and codings say of a body, by the first of each.
+-- The framing of a body, by the first of its lengths and codings.
 use Rattle.std.proofs.Common.{◌≡◌, ℕ, ◌<◌, ◌≤◌, ◌⊎◌, inl, inr, min, Bool, true, false, ◌&&◌, not, List, [], ◌∷◌, length, Option, Some, None, refl, sym, ap, ◌∙◌, subst, arith, codes}
 use Rattle.std.proofs.lemmas.Grind.{common_steps}
 use Rattle.std.proofs.lemmas.Bool.{cases_Bool, lt-ltb, le-ltb, ltb-false}
@@ -14,7 +14,7 @@ none_first : (values : List (List ℕ)) → None ≡ first_of values → values 
 none_first [] e = refl
 none_first (value ∷ values) e = absurd (cc)
 
--- none was found, so there is none
+-- a value that was not found does not exist
 pub not_found : (found : Option (Bor (List ℕ))) (values : List (List ℕ)) → option_copied found ≡ first_of values
     → is_some found ≡ false → values ≡ []
 not_found None values e none = none_first values e

@@ -101,7 +101,7 @@ told_in_head s last bad_head rest inside r = either r.bad
     either (inl never) = (refl, inside, never)
     either (inr found) = absurd (inside.whole found.0 found.1 found.2.reads)
 
--- a body that is cut is no whole body
+-- a body that is cut is not whole
 no_whole_body : (framing : Framing) (after body rest : List ℕ) (size : ℕ) → framing ≡ Body size → length after < size
     → ¬ (HasBody framing after body rest)
 no_whole_body framing after body rest size is short b =

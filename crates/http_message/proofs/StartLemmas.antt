@@ -1,4 +1,4 @@
--- What stands at the start of the bytes that came, and what more bytes make of it.
+-- The start of the bytes that came, and what more bytes make of it.
 use Rattle.std.proofs.Common.{◌≡◌, ℕ, ◌<◌, ◌≤◌, ◌⊎◌, inl, inr, List, [], ◌++◌, length, drop, Option, Some, None, Result, Ok, Err, refl, sym, ap, ◌∙◌, subst, arith, append-nil, length-append}
 use Rattle.std.specs.Prelude.{Vec}
 use Rattle.std.specs.declared.alloc.Global.{Global}
@@ -41,7 +41,7 @@ body_is_request bytes taken body fields spans h size at says whole split = recor
   };
 }
 
--- a head after which no body is read, since it does not say how long that is
+-- a head after which no body is read, since it has no length
 pub bare_is_request : (bytes : List ℕ) (fields : List HeaderSpan) (spans : RequestSpans) (h : RequestHead) (framing : Framing)
     → IsHeadAt bytes fields spans h → framing ≡ head_framing h → (framing ≡ LengthRequired) ⊎ (framing ≡ TooLarge)
     → IsRequest (bytes ++ []) bytes fields spans []

@@ -1,4 +1,4 @@
--- Bytes at the start of a room, of which a read fills more.
+-- Bytes at the start of a room, which a read fills further.
 use Rattle.std.proofs.Common.{◌≡◌, ℕ, ◌+◌, ◌≤◌, List, [], ◌++◌, length, take, sym, ap, ◌∙◌, arith, Option, Some, None, Result, Ok, Err}
 use Rattle.std.proofs.Math.Seq.{take-append-add}
 use Rattle.std.proofs.lemmas.List.{take-append-le, length-take}
@@ -17,7 +17,7 @@ none_taken None b k = tt
 none_taken (Some x) None k = absurd k
 none_taken (Some x) (Some y) k = sym k
 
--- the bytes at the start and so many of the piece after them
+-- the bytes at the start and the first bytes of the piece after them
 pub more_filled : (room piece after : List ℕ) (n count m : ℕ) → n ≤ length room → count ≤ length piece → m ≡ n + count
     → take m (take n room ++ (piece ++ after)) ≡ take n room ++ take count piece
 more_filled room piece after n count m within small is =

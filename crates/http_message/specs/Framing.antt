@@ -1,4 +1,4 @@
--- What a head says of the body that follows it.
+-- The framing that a head gives the body after it.
 use Rattle.std.specs.Prelude.{ℕ, Bool, true, false, ◌&&◌, ◌||◌, not, nat_lt, List, [], ◌∷◌, length, bytes_eq, codes, if◌then◌else◌}
 use Rattle.std.specs.Char.{is_ascii_digit}
 use Rattle.std.specs.List.{list_all}
@@ -11,11 +11,11 @@ use Rattle.http_message.specs.declared.framing.Framing.TheVariants.{BadLength, L
 abbrev pub is_number : List ℕ → Bool
 is_number bytes = nat_lt 0 (length bytes) && list_all is_ascii_digit bytes
 
--- there are two lengths, or one that is no number
+-- there are two lengths, or one that is not a number
 abbrev pub has_bad_length : List (List ℕ) → Bool
 has_bad_length lengths = nat_lt 1 (length lengths) || not (list_all is_number lengths)
 
--- the number that the length writes; 0 where there is none
+-- the number that the length writes; 0 without a length
 abbrev pub length_of : List (List ℕ) → ℕ
 length_of [] = 0
 length_of (digits ∷ others) = digits_value 10 digits
@@ -23,7 +23,7 @@ length_of (digits ∷ others) = digits_value 10 digits
 abbrev pub is_post : List ℕ → Bool
 is_post method = bytes_eq method (codes "POST")
 
--- there is none of these values
+-- the list of values is empty
 abbrev pub has_none : List (List ℕ) → Bool
 has_none values = not (nat_lt 0 (length values))
 

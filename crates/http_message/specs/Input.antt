@@ -1,4 +1,4 @@
--- What reading from a reader does.
+-- How bytes are read from a reader.
 use Rattle.std.specs.Prelude.{⊤, ◌≡◌, ℕ, ◌+◌, ◌<◌, ◌≤◌, ◌==◌, ◌||◌, Bool, true, false, List, [], ◌++◌, length, min, take, drop, Option, Some, None, Result, Ok, Err, Vec}
 use Rattle.std.specs.declared.alloc.Global.{Global}
 use Rattle.std.specs.Io.KnownBytes.{Consumes, IsAtEnd}
@@ -16,7 +16,7 @@ use Rattle.http_message.specs.declared.reading.Arrival.TheVariants as arrivals
 use Rattle.http_message.specs.declared.reading.Stop.{Stop}
 use Rattle.http_message.specs.declared.reading.Stop.TheVariants.{Fault, NoRoom}
 
--- the bytes grew by so many that the reader gave
+-- the bytes grew by this number that the reader gave
 pub record Grows (count : ℕ) (before after : Option (List ℕ)) (old new : List ℕ) : Type 0 where
   pub taken : List ℕ
   pub takes : Consumes before after taken
@@ -27,11 +27,11 @@ pub record Grows (count : ℕ) (before after : Option (List ℕ)) (old new : Lis
 abbrev pub is_line_end_byte : ℕ → Bool
 is_line_end_byte b = b == 13 || b == 10
 
--- no head stands at the start yet, and there is room for more of it
+-- the head at the start is not whole yet, and there is room for more of it
 abbrev pub IsOpen : List ℕ → Type 0
 IsOpen bytes = (length bytes < 16384) × HasNoRequest bytes
 
--- whether more came, of which a head may come; if not, the input has ended
+-- whether more came, which may complete a head; if not, the input has ended
 abbrev pub TellsMore : {E : Type 0} → Result Bool E → Option (List ℕ) → List ℕ → List ℕ → Type 0
 TellsMore (Ok true) after old new = length old < length new
 TellsMore (Ok false) after old new = IsOpen new × IsAtEnd after
@@ -44,17 +44,17 @@ pub record ReadsOn {E : Type 0} (result : Result Bool E) (before after : Option 
   pub grown : new ≡ old ++ taken
   pub tells : TellsMore result after old new
 
--- the input has ended where no head is whole
+-- the input has ended before a head was whole
 abbrev pub EndsUnfinished : Start → Option (List ℕ) → Type 0
 EndsUnfinished Unfinished after = IsAtEnd after
 EndsUnfinished start after = Unit {0}
 
--- what stands at the start of the bytes, at most 16,384; or a read failed, and no head stands there yet
+-- the start of the bytes, which are at most 16,384; or a read failed, and the head is not whole yet
 abbrev pub TellsStart : {E : Type 0} → Result Start E → List HeaderSpan → Option (List ℕ) → List ℕ → Type 0
 TellsStart (Ok start) fields after bytes = IsStart bytes fields start × EndsUnfinished start after × (length bytes ≤ 16384)
 TellsStart (Err fault) fields after bytes = IsOpen bytes
 
--- the bytes grew by what the reader gave, until a start was told
+-- the bytes grew by what the reader gave, until the start was known
 pub record ReadsHead {E : Type 0} (result : Result Start E) (fields : List HeaderSpan) (before after : Option (List ℕ)) (old new : List ℕ) : Type 0 where
   pub taken : List ℕ
   pub takes : Consumes before after taken
@@ -74,7 +74,7 @@ pub record FillsRoom {E : Type 0} (result : Result Bool E) (before after : Optio
   pub tells : TellsRoom result taken room after
 
 -- A body of this size from what had come and what was taken: it is whole, up to what had come after it; or
--- the input ended inside it; or a read failed inside it; or there was no room for it.
+-- the input ended inside it; or a read failed inside it; or it had no room.
 abbrev pub TellsBody : Result (Option (Vec ℕ Global)) Stop → List ℕ → List ℕ → ℕ → Option (List ℕ) → Type 0
 TellsBody (Ok (Some body)) come taken size after =
     (length body.items ≡ size) × (come ++ taken ≡ body.items ++ drop size come)
@@ -82,13 +82,13 @@ TellsBody (Ok None) come taken size after = (length (come ++ taken) < size) × I
 TellsBody (Err Fault) come taken size after = length (come ++ taken) < size
 TellsBody (Err NoRoom) come taken size after = (0 < size) × (taken ≡ [])
 
--- a body of this size is read, of which some bytes had come
+-- a body of this size is read; some of its bytes had come
 pub record ReadsBody (result : Result (Option (Vec ℕ Global)) Stop) (before after : Option (List ℕ)) (come : List ℕ) (size : ℕ) : Type 0 where
   pub taken : List ℕ
   pub takes : Consumes before after taken
   pub tells : TellsBody result come taken size after
 
--- The stream begins with a request, whose head stands at the start of the bytes; what follows it is what
+-- The stream begins with a request, whose head is at the start of the bytes; the rest of the stream is what
 -- the bytes have after the request.
 pub record IsRequest (stream bytes : List ℕ) (fields : List HeaderSpan) (spans : RequestSpans) (body : List ℕ) : Type 0 where
   pub head : RequestHead
@@ -99,7 +99,7 @@ pub record IsRequest (stream bytes : List ℕ) (fields : List HeaderSpan) (spans
 abbrev pub IsLittle : List ℕ → Type 0
 IsLittle bytes = length bytes ≤ 16384 + 4194304
 
--- what came, where the stream is all that had come and was taken, and the bytes are what was not cut from it
+-- what came, if the stream is all that had come and was taken, and the bytes are what was not cut from it
 abbrev pub IsArrival : Arrival → List HeaderSpan → List ℕ → List ℕ → Option (List ℕ) → Type 0
 IsArrival arrivals.Fault fields stream bytes after = IsPart stream
 IsArrival arrivals.NoRoom fields stream bytes after = WantsBody stream × IsLittle stream
@@ -124,6 +124,6 @@ abbrev pub OnArrivalFault : Arrival → (Known : Type 0) → Type 0
 OnArrivalFault arrivals.Fault Known = Known
 OnArrivalFault arrival Known = ⊤
 
--- a room for so many bytes begins with those of them that had come
+-- a room of this size begins with those of its bytes that had come
 abbrev pub HasWhatCame : (size : ℕ) → (come room : List ℕ) → Type 0
 HasWhatCame size come room = take (min size (length come)) room ≡ take size come

@@ -1,4 +1,4 @@
--- What holds of the messages of all streams.
+-- Laws of the messages of all streams.
 use Rattle.std.specs.Prelude.{◌≡◌, ℕ, ◌+◌, Bool, List, ◌++◌, length}
 use Rattle.http_message.specs.Heads.{NeverOpens}
 use Rattle.http_message.specs.Message.{MessageValue, bad_head}
@@ -16,7 +16,7 @@ MoreBytes =
     (is_last : Bool) (stream more : List ℕ) (m : MessageValue) (rest : List ℕ)
     → Reads is_last stream m rest → Reads is_last (stream ++ more) m (rest ++ more)
 
--- a stream spells one list of so many messages
+-- a stream spells one list of this number of messages
 abbrev pub OneSpelling : Type 0
 OneSpelling =
     (n : ℕ) (stream : List ℕ) (xs ys : List MessageValue) (rest left : List ℕ)

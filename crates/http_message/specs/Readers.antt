@@ -1,4 +1,4 @@
--- What reading does, told of the reader that was read. `g` says what a reader has left.
+-- Reading, in terms of the program's reader. `g` has the facts of the bytes that a reader has left.
 use Rattle.std.specs.Prelude.{◌≡◌, ℕ, Bool, List, [], Result}
 use Rattle.std.specs.Io.KnownBytes.{Consumes}
 use Rattle.io_retries.specs.declared.source.Source.{Ghosts}
@@ -8,7 +8,7 @@ use Rattle.http_message.specs.declared.head.Start.{Start}
 use Rattle.http_message.specs.declared.reading.Arrival.{Arrival}
 
 module _ {R : Type 0} (g : Ghosts R) (before after : R) where
-  -- the bytes grew by so many that the reader gave
+  -- the bytes grew by this number that the reader gave
   abbrev pub GrowsFrom : (count : ℕ) → (old new : List ℕ) → Type 0
   GrowsFrom count old new = Grows count (g.remaining before) (g.remaining after) old new
 
@@ -16,11 +16,11 @@ module _ {R : Type 0} (g : Ghosts R) (before after : R) where
   abbrev pub NoneCame : (old new : List ℕ) → Type 0
   NoneCame old new = (new ≡ old) × Consumes (g.remaining before) (g.remaining after) []
 
-  -- the bytes grew by what the reader gave, until a head may stand there
+  -- the bytes grew by what the reader gave, until there may be a head
   abbrev pub ReadsOnFrom : {E : Type 0} → Result Bool E → (old new : List ℕ) → Type 0
   ReadsOnFrom result old new = ReadsOn result (g.remaining before) (g.remaining after) old new
 
-  -- the bytes grew by what the reader gave, until a start was told
+  -- the bytes grew by what the reader gave, until the start was known
   abbrev pub ReadsHeadFrom : {E : Type 0} → Result Start E → List HeaderSpan → (old new : List ℕ) → Type 0
   ReadsHeadFrom result fields old new = ReadsHead result fields (g.remaining before) (g.remaining after) old new
 

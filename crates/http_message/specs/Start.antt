@@ -1,4 +1,4 @@
--- What stands at the start of the bytes that came, as the program tells it.
+-- The start of the bytes that came, as the program reads it.
 use Rattle.std.specs.Prelude.{ℕ, ◌<◌, List, length, drop}
 use Rattle.httparse.specs.Grammar.{RequestHead, HasNoRequest}
 use Rattle.httparse.specs.Spans.{IsRequestAt, IsRequestWithin}
@@ -14,7 +14,7 @@ pub record IsHeadAt (bytes : List ℕ) (fields : List HeaderSpan) (spans : Reque
   pub parts : IsRequestAt bytes fields spans head
   pub within : IsRequestWithin bytes fields spans
 
--- what stands at the start of the bytes
+-- the start of the bytes
 abbrev pub IsStart : List ℕ → List HeaderSpan → Start → Type 0
 IsStart bytes fields Unfinished = (length bytes < 16384) × HasNoRequest bytes
 IsStart bytes fields Bad = NeverOpens bytes

@@ -6,7 +6,7 @@ use Rattle.http_message.specs.Message.{MessageValue, bad_head, asked, RequestVal
 use Rattle.http_message.specs.declared.framing.Framing.{Framing}
 use Rattle.http_message.specs.declared.framing.Framing.TheVariants.{BadLength, Body}
 
--- What follows a head is the body and then the rest. A body is read only where the head says how long it is.
+-- The body follows the head, and then the rest. A body is read only if the head has its length.
 abbrev pub HasBody : Framing → List ℕ → List ℕ → List ℕ → Type 0
 HasBody BadLength after body rest = ⊥
 HasBody (Body n) after body rest = (length body ≡ n) × (after ≡ body ++ rest)
@@ -35,7 +35,7 @@ abbrev pub Reads : Bool → List ℕ → MessageValue → List ℕ → Type 0
 Reads is_last stream bad_head rest = ReadsBad stream rest
 Reads is_last stream (asked request) rest = ReadsAsked is_last stream request rest
 
--- a session's message is its last after so many others
+-- a session's message is its last after 999 others
 abbrev pub is_last_after : ℕ → Bool
 is_last_after n = n + 1 == 1000
 
@@ -45,7 +45,7 @@ Spells n stream [] rest = stream ≡ rest
 Spells n stream (message ∷ messages) rest =
     (after : List ℕ) × Reads (is_last_after n) stream message after × Spells (n + 1) after messages rest
 
--- The stream ends inside a head. Where nothing can complete that head, it begins with a bad head too.
+-- The stream ends inside a head. If nothing can complete that head, it begins with a bad head too.
 pub record IsInHead (stream : List ℕ) : Type 0 where
   pub begun : 0 < length stream
   pub short : length stream < 16384

@@ -35,18 +35,18 @@ abbrev pub Follows : {B : Type 0} → (B → MessageValue → Option (List ℕ) 
 Follows step before [] after = after ≡ before
 Follows {B} step before (x ∷ xs) after = (mid : B) × step before x.message x.answer mid × Follows step mid xs after
 
--- If it is clean, the answerer stands for what these messages with their answers make of whatever it stood for.
+-- If it is clean, the answerer represents what these messages with their answers make of whatever it represented.
 abbrev pub StandsAfter : {B : Type 0} → (B → MessageValue → Option (List ℕ) → B → Type 0) → (is_clean : Type 0) → (stood stands : B → Type 0)
     → List Exchange → Type 0
 StandsAfter {B} step is_clean stood stands exchanges =
     is_clean → (w : B) → stood w → (v : B) × Follows step w exchanges v × stands v
 
--- The answer, or that there was none, is a step from what the answerer represented to what it represents afterwards.
+-- The answer, or its absence, is a step from what the answerer represented to what it represents afterwards.
 abbrev pub Answered : {B : Type 0} → (B → MessageValue → Option (List ℕ) → B → Type 0) → B → MessageValue → (B → Type 0) → Result (Vec ℕ Global) Unavailable → Type 0
 Answered {B} step before message stands (Ok bytes) = (after : B) × step before message (Some bytes.items) after × stands after
 Answered {B} step before message stands (Err fault) = (after : B) × step before message None after × stands after
 
--- If the answerer is clean, it answers so whatever stood behind it.
+-- If the answerer is clean, it answers so whatever it represented.
 abbrev pub AnswersAs : {D B : Type 0} → (is_clean : D → Type 0) → (stands_for : D → B → Type 0)
     → (step : B → MessageValue → Option (List ℕ) → B → Type 0) → (old new : D)
     → Message → Result (Vec ℕ Global) Unavailable → Type 0

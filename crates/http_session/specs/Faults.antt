@@ -1,4 +1,4 @@
--- What is known after a session's fault.
+-- The facts that hold after a session's fault.
 use Rattle.std.specs.Prelude.{⊤, Result, Ok, Err}
 use Rattle.http_session.specs.declared.sessions.SessionFault.{SessionFault}
 use Rattle.http_session.specs.declared.sessions.SessionFault.TheVariants.{Read, Write}

@@ -1,4 +1,4 @@
--- What is dropped of a client's bytes before its connection is closed.
+-- The bytes of a client that are dropped before its connection is closed.
 use Rattle.std.specs.Prelude.{◌≡◌, ℕ, ◌≤◌, ◌⊎◌, List, length, Option, Result, OnOk}
 use Rattle.std.specs.Io.KnownBytes.{Consumes, IsAtEnd}
 

@@ -1,5 +1,5 @@
--- What a session does, told of its answerer, its reader and its writer as the program has them. `a` says what stands
--- behind an answerer, `r` what a reader has left, and `w` what a writer holds.
+-- A session's answerer, reader and writer as the program has them. `a` has the facts of the answerer, `r` those of the bytes
+-- that a reader has left, and `w` those of the bytes that a writer holds.
 use Rattle.std.specs.Prelude.{◌≡◌, ◌⊎◌, ℕ, Bool, List, Option, Result, Vec}
 use Rattle.std.specs.declared.alloc.Global.{Global}
 use Rattle.httparse.specs.declared.spans.HeaderSpan.{HeaderSpan}
@@ -22,7 +22,7 @@ use Rattle.http_session.specs.declared.sessions.Ended.{Ended}
 use Rattle.http_session.specs.declared.sessions.SessionFault.{SessionFault}
 
 module _ {D : Type 0} (a : answers.Ghosts D) where
-  -- if it is clean, it stands for what these messages with their answers make of what it stood for
+  -- if it is clean, it represents what these messages with their answers make of what it represented
   abbrev pub StandsOn : (old new : D) → List Exchange → Type 0
   StandsOn old new exchanges = StandsAfter a.step (a.is_clean new) (a.stands_for old) (a.stands_for new) exchanges
 

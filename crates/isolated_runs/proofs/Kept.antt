@@ -5,8 +5,7 @@ use Rattle.desk_store.specs.declared.store.Store.{Ghosts}
 use Rattle.http_message.specs.Message.{MessageValue}
 use Rattle.http_session.specs.Exchanges.{Exchange, Follows}
 use Rattle.http_history.specs.Versions.{Present}
-use Rattle.desk_http.specs.Answering.{writes}
-use Rattle.desk_http.specs.Keeping.{DeskHistory, book_after, pending_after, settled, KeptHistory, MayBeFound, Takes}
+use Rattle.desk_http.specs.Keeping.{DeskHistory, book_after, pending_after, settled, KeptHistory, MayBeFound, Takes, writes}
 use Rattle.desk_http.proofs.Growing.{found_told}
 use Rattle.isolated_runs.specs.Kept.{answered, IsKeptOf, KeptRuns}
 use Rattle.isolated_runs.proofs.Sessions.{joined}

@@ -8,8 +8,8 @@ use Rattle.http_history.specs.History.{from_message, text}
 use Rattle.http_history.specs.Laws.{OneMeaning}
 use Rattle.http_history.specs.Texts.{is_success}
 use Rattle.http_history.specs.Verdict.{verdict_on}
-use Rattle.desk_http.specs.Answering.{answered_pair, writes}
-use Rattle.desk_http.specs.Keeping.{KeptHistory, Takes, book_after, pending_after}
+use Rattle.http_history.specs.Versions.{Present}
+use Rattle.desk_http.specs.Keeping.{KeptHistory, Takes, book_after, pending_after, with_taken, writes}
 use Rattle.isolation.specs.Heard.{company_of}
 use Rattle.isolation.specs.World.{nothing}
 use Rattle.isolation.specs.Others.{OthersLeave}
@@ -23,7 +23,7 @@ runs_exist one b (v ∷ vs) =
     let means = (one.some (verdict_on (book_after h) v)).0 in
     let bytes = text h.identity h.key h.pairs (from_message v) means in
     let next : KeptHistory = record {
-      history = record { identity = h.identity; key = h.key; pairs = answered_pair v bytes means ∷ h.pairs };
+      history = with_taken Present h v bytes means;
       pending = pending_after (writes (book_after h) means) b.pending;
     } in
     let more = runs_exist one next vs in (

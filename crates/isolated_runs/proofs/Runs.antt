@@ -9,7 +9,6 @@ use Rattle.http_history.specs.History.{from_message, Pair, calls_of, IsHistory}
 use Rattle.http_history.specs.Texts.{is_success}
 use Rattle.http_history.specs.Versions.{Present}
 use Rattle.http_history.proofs.Answered.{right_answer}
-use Rattle.desk_http.specs.Answering.{answered_pair}
 use Rattle.desk_http.specs.Keeping.{KeptHistory, Takes}
 use Rattle.isolation.specs.World.{World, Step, Asks, Does, nothing, told}
 use Rattle.isolation.specs.Alone.{IsAlone, IsFew}
@@ -18,7 +17,8 @@ use Rattle.isolation.specs.Heard.{Reading, company_of, message_heard}
 use Rattle.isolation.specs.Told.{step_at, world_of}
 use Rattle.isolation.specs.Laws.{ReplyOfPart}
 use Rattle.isolated_runs.specs.Kept.{RunsOfDesks}
-use Rattle.isolated_runs.specs.Runs.{Begins, after, after_run, part_of_run, PartsAreAlone, RunsFromParts, TwoRuns}
+use Rattle.isolated_runs.specs.Runs.{Begins, after, after_run, part_of_run, PartsAreAlone, RunsFromParts, RunsAreRight, TwoRuns}
+use Rattle.isolated_runs.proofs.Sessions.{parted}
 
 present : (o : Option Step) → option_map (step_at Present) o ≡ o
 present None = refl
@@ -28,57 +28,6 @@ present (Some (Does m)) = refl
 module _ (law : ReplyOfPart) where
   abbrev reading : Reading
   reading = law.isolated.reading
-
-  module _ (identity : Identity) (key : List ℕ) (v : MessageValue) (bytes : List ℕ) (c : List ℕ) (to : company_of v ≡ Some c) (end : KeptHistory) where
-    abbrev behind : List Pair → (pending : List MessageValue) → KeptHistory
-    behind H pending = record { history = record { identity = identity; key = key; pairs = H }; pending = pending }
-
-    abbrev more : List Exchange → List Exchange
-    more xs = xs ++ record { message = v; answer = Some bytes } ∷ []
-
-    -- after a run that goes on from here
-    abbrev IsOwn : World → List Exchange → Type 0
-    IsOwn w xs = bytes ≡ law.isolated.reply v ((after_run reading identity.odfi key w xs).parts c)
-
-    abbrev world : List Pair → World
-    world H = world_of reading identity.odfi key H
-
-    now : (H : List Pair) (pending : List MessageValue) (after : KeptHistory) → IsHistory identity key H → Takes (behind H pending) v (Some bytes) after → IsOwn (world H) []
-    now H pending after history taken =
-        law.isolated.own identity.odfi key H c v bytes
-        (record { identity = identity; bank = refl; means = taken.answered.means; meant = record { history = history; read = taken.answered.read }; said = taken.answered.said }) to
-
-    -- one exchange, and then the rest
-    goes_on : (u : MessageValue) (answer : Option (List ℕ)) (xs : List Exchange) (H : List Pair) (pending : List MessageValue) (mid : KeptHistory) → IsHistory identity key H
-        → Takes (behind H pending) u answer mid → Follows Takes mid (more xs) end
-        → ((G : List Pair) (left : List MessageValue) → IsHistory identity key G → Follows Takes (behind G left) (more xs) end → IsOwn (world G) xs)
-        → IsOwn (after reading identity.odfi key (world H) u answer) xs
-    goes_on u None xs H pending mid history step rest next =
-        next H (u ∷ pending) history (subst (λ (h : KeptHistory). Follows Takes h (more xs) end) step rest)
-    goes_on u (Some said) xs H pending mid history step rest next =
-        let G = answered_pair u said step.answered.means ∷ H in
-        let now : mid ≡ behind G mid.pending = λ i. record { history = step.answered.more i; pending = mid.pending } in
-        let own = next G mid.pending (step.answered.read, right_answer identity key H (from_message u) step.answered.means said step.answered.said, history)
-        (subst (λ (h : KeptHistory). Follows Takes h (more xs) end) now rest) in
-        subst (λ (w : World). IsOwn w xs)
-        (ap (λ (s : Option Step). told identity.odfi reading.due (world H) s) (present (message_heard reading key (world H) (is_success said) u))) own
-
-    run : (xs : List Exchange) (H : List Pair) (pending : List MessageValue) → IsHistory identity key H → Follows Takes (behind H pending) (more xs) end → IsOwn (world H) xs
-    run [] H pending history follows = now H pending follows.0 history follows.1
-    run (x ∷ xs) H pending history follows = goes_on x.message x.answer xs H pending follows.0 history follows.1 follows.2 (run xs)
-
-  -- a desk that begins has no pair
-  begun : (odfi key : List ℕ) (start : KeptHistory) → Begins odfi key start
-      → start ≡ record { history = record { identity = start.history.identity; key = start.history.key; pairs = [] }; pending = start.pending }
-  begun odfi key start begins = λ i. record { history = record { identity = start.history.identity; key = start.history.key; pairs = begins.empty i }; pending = start.pending }
-
-  own : (odfi key : List ℕ) (start end : KeptHistory) (xs : List Exchange) (v : MessageValue) (bytes : List ℕ) (c : List ℕ)
-      → Begins odfi key start → Follows Takes start (xs ++ record { message = v; answer = Some bytes } ∷ []) end → company_of v ≡ Some c
-      → bytes ≡ law.isolated.reply v (part_of_run reading odfi key xs c)
-  own odfi key start end xs v bytes c begins follows to =
-      run start.history.identity start.history.key v bytes c to end xs [] start.pending tt
-      (subst (λ (h : KeptHistory). Follows Takes h (xs ++ record { message = v; answer = Some bytes } ∷ []) end) (begun odfi key start begins) follows)
-      ∙ (λ i. law.isolated.reply v (part_of_run reading (begins.bank i) (begins.operator i) xs c))
 
   -- ---- what a run comes to
 
@@ -98,7 +47,7 @@ module _ (law : ReplyOfPart) where
         → Reached (after reading identity.odfi key (world_of reading identity.odfi key H) u answer) xs end
     one_more u None xs H pending mid end history step rest next = next H (u ∷ pending) history (subst (λ (h : KeptHistory). Follows Takes h xs end) step rest)
     one_more u (Some said) xs H pending mid end history step rest next =
-        let G = answered_pair u said step.answered.means ∷ H in
+        let G : List Pair = record { origin = from_message u; answer = said; means = step.answered.means } ∷ H in
         let now : mid ≡ from G mid.pending = λ i. record { history = step.answered.more i; pending = mid.pending } in
         subst (λ (w : World). Reached w xs end)
         (ap (λ (s : Option Step). told identity.odfi reading.due (world_of reading identity.odfi key H) s) (present (message_heard reading key (world_of reading identity.odfi key H) (is_success said) u)))
@@ -111,31 +60,56 @@ module _ (law : ReplyOfPart) where
     reached (x ∷ xs) H pending end history follows =
         one_more x.message x.answer xs H pending follows.0 end history follows.1 follows.2 (λ G left more rest. reached xs G left end more rest)
 
+  -- a desk that begins has no pair
+  begun : (odfi key : List ℕ) (start : KeptHistory) → Begins odfi key start
+      → start ≡ record { history = record { identity = start.history.identity; key = start.history.key; pairs = [] }; pending = start.pending }
+  begun odfi key start begins = λ i. record { history = record { identity = start.history.identity; key = start.history.key; pairs = begins.empty i }; pending = start.pending }
+
+  -- a run leads to a history with its world
+  after_all : (odfi key : List ℕ) (start end : KeptHistory) (xs : List Exchange) → Begins odfi key start → Follows Takes start xs end
+      → (G : List Pair) × (pending : List MessageValue) × (end ≡ from start.history.identity start.history.key G pending) × IsHistory start.history.identity start.history.key G
+      × (world_of reading start.history.identity.odfi start.history.key G ≡ after_run reading odfi key nothing xs)
+  after_all odfi key start end xs begins follows =
+      let (G, pending, is, history, same) = reached start.history.identity start.history.key xs [] start.pending end tt
+      (subst (λ (b : KeptHistory). Follows Takes b xs end) (begun odfi key start begins) follows) in
+      (G, pending, is, history, same ∙ (λ i. after_run reading (begins.bank i) (begins.operator i) nothing xs))
+
+  own : (odfi key : List ℕ) (start end : KeptHistory) (xs : List Exchange) (v : MessageValue) (bytes : List ℕ) (c : List ℕ)
+      → Begins odfi key start → Follows Takes start (xs ++ record { message = v; answer = Some bytes } ∷ []) end → company_of v ≡ Some c
+      → bytes ≡ law.isolated.reply v (part_of_run reading odfi key xs c)
+  own odfi key start end xs v bytes c begins follows to =
+      let (mid, first, (next, takes, last)) = parted Takes xs (record { message = v; answer = Some bytes } ∷ []) start end follows in
+      let (G, pending, is, history, same) = after_all odfi key start mid xs begins first in
+      let taken : Takes (from start.history.identity start.history.key G pending) v (Some bytes) next = subst (λ (b : KeptHistory). Takes b v (Some bytes) next) is takes in
+      law.isolated.own start.history.identity.odfi start.history.key G c v bytes
+      (record { identity = start.history.identity; bank = refl; means = taken.answered.means; meant = record { history = history; read = taken.answered.read }; said = taken.answered.said }) to
+      ∙ ap (λ (w : World). law.isolated.reply v (w.parts c)) same
+
   alone : PartsAreAlone Begins Takes reading
   alone odfi key start end xs c begins follows few =
-      let run = reached start.history.identity start.history.key xs [] start.pending end tt
-      (subst (λ (h : KeptHistory). Follows Takes h xs end) (begun odfi key start begins) follows) in
-      let here : after_run reading odfi key nothing xs ≡ world_of reading start.history.identity.odfi start.history.key run.0 =
-      (λ i. after_run reading (sym begins.bank i) (sym begins.operator i) nothing xs) ∙ sym run.4 in
-      let own = law.alone start.history.identity start.history.key run.0 c run.3 (subst (λ (w : World). IsFew w c) here few) in
-      subst (λ (odfi : List ℕ). IsAlone odfi reading.due c (part_of_run reading odfi key xs c)) begins.bank
-      (subst (λ (P : List Event). IsAlone start.history.identity.odfi reading.due c P)
-      (ap (λ (w : World). w.parts c) (sym here) ∙ (λ i. part_of_run reading (sym begins.bank i) key xs c)) own)
+      let (G, pending, is, history, same) = after_all odfi key start end xs begins follows in
+      subst (λ (bank : List ℕ). IsAlone bank reading.due c (part_of_run reading odfi key xs c)) begins.bank
+      (subst (λ (w : World). IsAlone start.history.identity.odfi reading.due c (w.parts c)) same
+      (law.alone start.history.identity start.history.key G c history (subst (λ (w : World). IsFew w c) (sym same) few)))
 
   worlds : (odfi key : List ℕ) (start end : KeptHistory) (xs : List Exchange) → Begins odfi key start → Follows Takes start xs end
       → IsWorldOf odfi (calls_of end.history.identity end.history.pairs) (after_run reading odfi key nothing xs)
   worlds odfi key start end xs begins follows =
-      let (G, pending, is, history, same) = reached start.history.identity start.history.key xs [] start.pending end tt
-      (subst (λ (h : KeptHistory). Follows Takes h xs end) (begun odfi key start begins) follows) in
-      let here : world_of reading start.history.identity.odfi start.history.key G ≡ after_run reading odfi key nothing xs =
-      same ∙ (λ i. after_run reading (begins.bank i) (begins.operator i) nothing xs) in
-      let world = law.worlds start.history.identity start.history.key G history in
-      subst (λ (h : KeptHistory). IsWorldOf odfi (calls_of h.history.identity h.history.pairs) (after_run reading odfi key nothing xs)) (sym is)
-      (subst (λ (odfi' : List ℕ). IsWorldOf odfi' (calls_of start.history.identity G) (after_run reading odfi key nothing xs)) begins.bank
-      (subst (IsWorldOf start.history.identity.odfi (calls_of start.history.identity G)) here world))
+      let (G, pending, is, history, same) = after_all odfi key start end xs begins follows in
+      subst (λ (b : KeptHistory). IsWorldOf odfi (calls_of b.history.identity b.history.pairs) (after_run reading odfi key nothing xs)) (sym is)
+      (subst (λ (bank : List ℕ). IsWorldOf bank (calls_of start.history.identity G) (after_run reading odfi key nothing xs)) begins.bank
+      (subst (IsWorldOf start.history.identity.odfi (calls_of start.history.identity G)) same (law.worlds start.history.identity start.history.key G history)))
 
   pub runs_from_parts : RunsFromParts Begins Takes
   runs_from_parts = record { reading = reading; reply = law.isolated.reply; own = own; closed = law.isolated.closed; alone = alone }
+
+  pub runs_are_right : RunsAreRight Begins Takes
+  runs_are_right = record {
+    reading = reading;
+    reads = law.reads;
+    own = λ odfi key start end xs v bytes c begins follows to.
+        own odfi key start end xs v bytes c begins follows to ∙ law.replies v (part_of_run reading odfi key xs c);
+  }
 
   pub runs_of_desks : RunsOfDesks
   unfolding runs_from_parts

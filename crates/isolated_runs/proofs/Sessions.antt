@@ -9,10 +9,10 @@ use Rattle.http_session.specs.Session.{SessionRan}
 use Rattle.isolated_runs.specs.Sessions.{SpeaksFromParts}
 
 module _ {Behind : Type 0} (step : Behind → MessageValue → (answer : Option (List ℕ)) → Behind → Type 0) where
-  -- the run up to an exchange
-  upto : (xs : List Exchange) (x : Exchange) (ys : List Exchange) (start end : Behind) → Follows step start (xs ++ x ∷ ys) end → (mid : Behind) × Follows step start (xs ++ x ∷ []) mid
-  upto [] x ys start end follows = (follows.0, (follows.0, follows.1, refl))
-  upto (y ∷ xs) x ys start end follows = let more = upto xs x ys follows.0 end follows.2 in (more.0, (follows.0, follows.1, more.1))
+  -- a run in two parts
+  pub parted : (xs ys : List Exchange) (start end : Behind) → Follows step start (xs ++ ys) end → (mid : Behind) × Follows step start xs mid × Follows step mid ys end
+  parted [] ys start end follows = (start, refl, follows)
+  parted (x ∷ xs) ys start end (next, here, more) = let (mid, first, rest) = parted xs ys next end more in (mid, (next, here, first), rest)
 
   -- a run that goes on
   pub joined : (xs ys : List Exchange) (start now end : Behind) → Follows step start xs now → Follows step now ys end → Follows step start (xs ++ ys) end
@@ -29,7 +29,7 @@ speaks begins step is_clean stood stands before after old new result ran law odf
       ran.1,
       λ xs ys v bytes c is to.
           let x : Exchange = record { message = v; answer = Some bytes } in
-          let until = upto step (run ++ xs) x ys start done.0
+          let (mid, first, (after, here, rest)) = parted step (run ++ xs) (x ∷ ys) start done.0
           (subst (λ (l : List Exchange). Follows step start l done.0) (ap (λ (l : List Exchange). run ++ l) is ∙ sym (append_assoc run xs (x ∷ ys))) whole) in
-          law.own odfi key start until.0 (run ++ xs) v bytes c begun until.1 to,
+          law.own odfi key start after (run ++ xs) v bytes c begun (joined step (run ++ xs) (x ∷ []) start mid after first (after, here, refl)) to,
     )

@@ -5,10 +5,12 @@ use Rattle.desk_history.specs.Part.{Event}
 use Rattle.http_message.specs.Message.{MessageValue}
 use Rattle.http_session.specs.Exchanges.{Exchange, Follows}
 use Rattle.desk_http.specs.Keeping.{KeptHistory}
+use Rattle.http_history.specs.Reply.{answer_from}
 use Rattle.http_history.specs.Texts.{is_success}
 use Rattle.isolation.specs.World.{World, nothing, told}
 use Rattle.isolation.specs.Alone.{IsAlone, IsFew}
 use Rattle.isolation.specs.Heard.{Reading, company_of, message_heard, LookAlike}
+use Rattle.isolation.specs.Readings.{IsDesks}
 
 module _ (reading : Reading) (odfi key : List ℕ) where
   -- what a desk keeps after an answer; 503 changes nothing, and 200 or 201 accepts
@@ -47,6 +49,14 @@ module _ {Behind : Type 0} (begins : (odfi key : List ℕ) → Behind → Type 0
         → bytes ≡ reply v (part_of_run reading odfi key xs c)
     pub closed : (v : MessageValue) (c : List ℕ) (P Q : List Event) → company_of v ≡ Some c → LookAlike c v P Q → reply v P ≡ reply v Q
     pub alone : PartsAreAlone reading
+
+  -- That reply is the answer of the definitions, by the desk's reading of requests and by what its cuts send.
+  pub record RunsAreRight : Type 0 where
+    pub reading : Reading
+    pub reads : IsDesks reading
+    pub own : (odfi key : List ℕ) (start end : Behind) (xs : List Exchange) (v : MessageValue) (bytes : List ℕ) (c : List ℕ)
+        → begins odfi key start → Follows step start (xs ++ record { message = v; answer = Some bytes } ∷ []) end → company_of v ≡ Some c
+        → bytes ≡ answer_from v (part_of_run reading odfi key xs c)
 
   -- In two runs of desks, also of different banks, a company with equal parts has the same answers. Without its key every
   -- message on its path is answered the same, whatever its parts.

@@ -1,6 +1,6 @@
 -- That a part has nothing of others.
 use Rattle.std.proofs.Common.{◌≡◌, ◌<◌, ◌≤◌, ◌^◌, ℕ, List, [], ◌∷◌, length, Bool, true, false, ◌&&◌, refl, ap, ◌∙◌}
-use Rattle.std.specs.Prelude.{⊤, if◌then◌else◌, count_by, Option, Some, None, option_map, Result, Ok, Err, bytes_eq}
+use Rattle.std.specs.Prelude.{⊤, if◌then◌else◌, count_by, Option, Some, None, option_map, Result, Ok, bytes_eq}
 use Rattle.std.specs.List.{AllByRecursion}
 use Rattle.std.specs.Result.{result_ok}
 use Rattle.std.proofs.lemmas.Slice.Eq.{bytes_eq-Decides}
@@ -14,14 +14,15 @@ use Rattle.desk_history.specs.Alone as core_alone
 use Rattle.desk_history.specs.Alone.{is_answer, file_for, with_files, with_message}
 use Rattle.desk_history.specs.History as core
 use Rattle.desk_history.specs.History.{events_for, request_event, company_event, limits_event, message_day, message_company, message_limits, is_new}
-use Rattle.desk_history.specs.Message.{Message, Of, SetDay, SetHolidays, PutCompany, PutLimits, Cut, TakeFile, FileText, Settlement, Suspense, Status, Companies, Pair, is_accepted}
+use Rattle.desk_history.specs.Message.{Message, Of, SetDay, SetHolidays, PutCompany, PutLimits, Cut, TakeFile, Pair, is_accepted}
 use Rattle.desk_history.specs.Operator.{IsHistory, answer_to}
 use Rattle.desk_history.specs.Part.{Event, is_registered}
 use Rattle.desk_history.specs.Request.{Request}
 use Rattle.isolation.specs.World as steps
 use Rattle.isolation.specs.World.{Command, Step, Asks, Does, World, told}
 use Rattle.isolation.specs.Alone.{IsFor, told_all, IsAlone}
-use Rattle.isolation.specs.Calls.{due_next, message_step, world_of_calls}
+use Rattle.isolation.specs.Calls.{message_step, world_of_calls}
+use Rattle.isolation.specs.Readings.{due_next}
 use Rattle.isolation.proofs.Folded.{same_world}
 
 -- the steps of a history of calls
@@ -43,34 +44,28 @@ if_own : (b e : Bool) (k c : List ℕ) (r : Request) → bytes_eq k c ≡ b → 
 if_own true e k c r is some = (bytes_eq-Decides k c).0 is
 if_own false e k c r is some = absurd some
 
-own_company : (c : List ℕ) (k : Company) (b : Bool) (e : Event) → bytes_eq k.id c ≡ b → IsSome (if b then e ∷ [] else []) → k.id ≡ c
-own_company c k true e is some = (bytes_eq-Decides k.id c).0 is
-own_company c k false e is some = absurd some
-
-own_limits : (c k : List ℕ) (b : Bool) (e : Event) → bytes_eq k c ≡ b → IsSome (if b then e ∷ [] else []) → k ≡ c
-own_limits c k true e is some = (bytes_eq-Decides k c).0 is
-own_limits c k false e is some = absurd some
+own_event : (c k : List ℕ) (b : Bool) (e : Event) → bytes_eq k c ≡ b → IsSome (if b then e ∷ [] else []) → k ≡ c
+own_event c k true e is some = (bytes_eq-Decides k c).0 is
+own_event c k false e is some = absurd some
 
 registers : (c : List ℕ) (ok : Bool) (o : Option Company) → IsSome (company_event c o) → IsFor c (if ok then option_map Does (option_map steps.Register o) else None)
-registers c true (Some k) some = own_company c k (bytes_eq k.id c) _ refl some
+registers c true (Some k) some = own_event c k.id (bytes_eq k.id c) _ refl some
 registers c true None some = tt
 registers c false o some = tt
 
 limits : (c : List ℕ) (ok : Bool) (o : Option (List ℕ × company_limits.Limits)) → IsSome (limits_event c o)
     → IsFor c (if ok then option_map Does (option_map (λ x. steps.SetLimits x.0 x.1) o) else None)
-limits c true (Some x) some = own_limits c x.0 (bytes_eq x.0 c) _ refl some
+limits c true (Some x) some = own_event c x.0 (bytes_eq x.0 c) _ refl some
 limits c true None some = tt
 limits c false o some = tt
 
 days : (c : List ℕ) (ok : Bool) (o : Option ℕ) → IsFor c (if ok then option_map Does (option_map steps.SetDay o) else None)
 days c true (Some d) = tt
-days c true None = tt
-days c false o = tt
+days c ok o = tt
 
 holidays : (c : List ℕ) (ok : Bool) (o : Option (List ℕ)) → IsFor c (if ok then option_map Does (option_map steps.SetHolidays o) else None)
 holidays c true (Some d) = tt
-holidays c true None = tt
-holidays c false o = tt
+holidays c ok o = tt
 
 quiet : (c : List ℕ) (ok : Bool) → IsFor c (if ok then None else None)
 quiet c true = tt
@@ -82,9 +77,7 @@ cuts c false = tt
 
 files : (c : List ℕ) (ok : Bool) (file : Result FileFacts Fault) → IsFor c (message_step ok (TakeFile file))
 files c true (Ok f) = tt
-files c true (Err fault) = tt
-files c false (Ok f) = tt
-files c false (Err fault) = tt
+files c ok file = tt
 
 module _ (odfi : List ℕ) (es : List SentEntry) (c : List ℕ) (P : List Event) where
   -- ok: accepted when it gave the event; again: accepted by the desk that serves the company alone
@@ -98,11 +91,7 @@ module _ (odfi : List ℕ) (es : List SentEntry) (c : List ℕ) (P : List Event)
   is_for new false again (PutLimits d) some = absurd some
   is_for new ok again Cut some = cuts c again
   is_for new ok again (TakeFile file) some = files c again file
-  is_for new ok again (FileText d modifier) some = quiet c again
-  is_for new ok again Settlement some = quiet c again
-  is_for new ok again Suspense some = quiet c again
-  is_for new ok again Status some = quiet c again
-  is_for new ok again Companies some = quiet c again
+  is_for new ok again m some = quiet c again
 
 module _ (identity : Identity) (c : List ℕ) where
   by_files : (es : List Event) (G : List Pair) → AllByRecursion (IsFor c) (steps_of G) → AllByRecursion (IsFor c) (steps_of (with_files identity c es G))
@@ -116,17 +105,7 @@ module _ (identity : Identity) (c : List ℕ) where
       → AllByRecursion (IsFor c) (steps_of (with_message identity c m es G))
   by_message m [] G is are = are
   by_message (TakeFile file) (e ∷ es) G is are = by_files (e ∷ es) G are
-  by_message (Of k r) (e ∷ es) G is are = (is (is_accepted (answer_to identity G (Of k r))) tt, are)
-  by_message (SetDay text) (e ∷ es) G is are = (is (is_accepted (answer_to identity G (SetDay text))) tt, are)
-  by_message (SetHolidays list) (e ∷ es) G is are = (is (is_accepted (answer_to identity G (SetHolidays list))) tt, are)
-  by_message (PutCompany d) (e ∷ es) G is are = (is (is_accepted (answer_to identity G (PutCompany d))) tt, are)
-  by_message (PutLimits d) (e ∷ es) G is are = (is (is_accepted (answer_to identity G (PutLimits d))) tt, are)
-  by_message Cut (e ∷ es) G is are = (is (is_accepted (answer_to identity G Cut)) tt, are)
-  by_message (FileText d modifier) (e ∷ es) G is are = (is (is_accepted (answer_to identity G (FileText d modifier))) tt, are)
-  by_message Settlement (e ∷ es) G is are = (is (is_accepted (answer_to identity G Settlement)) tt, are)
-  by_message Suspense (e ∷ es) G is are = (is (is_accepted (answer_to identity G Suspense)) tt, are)
-  by_message Status (e ∷ es) G is are = (is (is_accepted (answer_to identity G Status)) tt, are)
-  by_message Companies (e ∷ es) G is are = (is (is_accepted (answer_to identity G Companies)) tt, are)
+  by_message m (e ∷ es) G is are = (is (is_accepted (answer_to identity G m)) tt, are)
 
   own_steps : (H : List Pair) → AllByRecursion (IsFor c) (steps_of (core_alone.alone identity c H))
   own_steps [] = tt

@@ -3,6 +3,7 @@ use Rattle.std.specs.Prelude.{Bool, IfOk, Err}
 use Rattle.http_message.specs.Message.{message_value}
 use Rattle.http_history.specs.Verdict.{Verdict}
 use Rattle.http_history.specs.Texts.{fault_text}
+use Rattle.desk_http.specs.Answering.{answer_in}
 use Rattle.desk_http.specs.MadeCalls.{GoesCall}
 use Rattle.desk_http.proofs.Messages.{IsRead, fault_left, faulted, made, made_left, replied}
 use Rattle.desk_http.proofs.answers.answer.Goals as goal
@@ -18,7 +19,7 @@ returns-in-Ok-Ok-clause-goes g c = λ clean.
 pub returns-in-Ok-Ok-clause-replies : goal.returns-in-Ok-Ok-clause-replies
 returns-in-Ok-Ok-clause-replies g c = λ clean.
     replied c.one_meaning.ensures c.own_text.ensures (g.S.Store.holds c.args.desk.now) (g.S.Store.holds c.carry_out.new.desk)
-    (message_value c.args.message) c.carry_out.result (returns-in-Ok-Ok-clause-goes g c clean)
+    (message_value c.args.message) (answer_in c.carry_out.result) (returns-in-Ok-Ok-clause-goes g c clean)
 
 pub returns-in-Ok-Ok-clause-left : goal.returns-in-Ok-Ok-clause-left
 returns-in-Ok-Ok-clause-left g c = λ clean.
@@ -39,12 +40,12 @@ returns-in-Ok-Err-clause-goes g c = λ clean.
 pub returns-in-Ok-Err-clause-replies : goal.returns-in-Ok-Err-clause-replies
 returns-in-Ok-Err-clause-replies g c = λ clean.
     replied c.one_meaning.ensures c.own_text.ensures (g.S.Store.holds c.args.desk.now) (g.S.Store.holds c.verdict_of.new.desk)
-    (message_value c.args.message) c.answer_fault.result (returns-in-Ok-Err-clause-goes g c clean)
+    (message_value c.args.message) (answer_in c.answer_fault.result) (returns-in-Ok-Err-clause-goes g c clean)
 
 pub returns-in-Ok-Err-clause-left : goal.returns-in-Ok-Err-clause-left
 returns-in-Ok-Err-clause-left g c = λ clean.
     fault_left g.S.Store.keeps (g.S.Store.holds c.args.desk.now) (g.S.Store.holds c.verdict_of.new.desk)
-    (g.S.Store.may_leave c.args.desk.now) (g.S.Store.may_leave c.verdict_of.new.desk) (message_value c.args.message) c.in-Ok-Err.fault c.answer_fault.result
+    (g.S.Store.may_leave c.args.desk.now) (g.S.Store.may_leave c.verdict_of.new.desk) (message_value c.args.message) c.in-Ok-Err.fault (answer_in c.answer_fault.result)
     (subst (λ (v : Verdict). IsRead (g.S.Store.holds c.args.desk.now) (g.S.Store.holds c.verdict_of.new.desk) (message_value c.args.message) v)
     c.in-Ok-Err.field-0-is (c.in-Ok-Err.ensures.read clean))
     (c.in-Ok-Err.ensures.left clean)

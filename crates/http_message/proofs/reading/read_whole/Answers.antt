@@ -5,7 +5,7 @@ use Rattle.std.specs.Io.KnownBytes.{Consumes}
 use Rattle.http_message.proofs.UnreadLemmas.{more_filled}
 use Rattle.http_message.proofs.reading.read_whole.Goals as goal
 
--- the bytes at the start and so many of the piece after them are in the room
+-- the bytes at the start and the first bytes of the piece after them are in the room
 filled_within : (room piece after : List ℕ) (n count : ℕ) → n ≤ length room → count ≤ length piece
     → n + count ≤ length (take n room ++ (piece ++ after))
 filled_within room piece after n count within few = simp (length-append, length-take) (omega (arith, within, few))
