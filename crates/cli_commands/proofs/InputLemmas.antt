@@ -17,11 +17,6 @@ use Rattle.cli_commands.specs.ListRuns.{list_answer, outcome_text}
 use Rattle.cli_commands.specs.Printing.{with_line_feed}
 use Rattle.cli_commands.specs.SubmissionRuns.{first_run_answer, first_run_line}
 
--- what a limited read gave
-pub read_within : (known : Option (List ℕ)) (bytes : List ℕ) → IfSome known (λ xs. bytes ≡ xs) → MayHave known bytes
-read_within None bytes h = tt
-read_within (Some xs) bytes h = sym h
-
 -- one byte more than an input may have decides as all would
 abbrev pub IsDecided : Answering → Type 0
 IsDecided answer = (bytes : List ℕ) → answer (take most_read bytes) ≡ answer bytes

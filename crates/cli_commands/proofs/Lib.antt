@@ -7,4 +7,5 @@ pub mod PrintingLemmas
 pub mod RememberedRuns
 pub mod ServedPortLemmas
 pub mod SessionRuns
+pub mod TakingLemmas
 pub mod VerdictLemmas

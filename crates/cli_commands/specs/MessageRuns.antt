@@ -45,19 +45,20 @@ status_of_session (Ok Full) = Done
 status_of_session (Ok Cut) = Refused
 status_of_session (Err fault) = Failed
 
--- A session answered what the reader's bytes spell: each answer is the text of its message after those before it.
-abbrev pub HasRun : {R W : Type 0} → source.Ghosts R → (reader : R) → sink.Ghosts W → (old new : W) → Result Ended SessionFault → Type 0
-HasRun {R} r reader w old new ended =
-    (after : R) × Leaves r w ended after old new
+-- A session answered what the reader's bytes spell: each answer is the text of its message after those before it. It left the
+-- reader so, and nothing was read after it.
+abbrev pub HasRun : {R W : Type 0} → source.Ghosts R → (reader left : R) → sink.Ghosts W → (old new : W) → Result Ended SessionFault → Type 0
+HasRun r reader left w old new ended =
+    Leaves r w ended left old new
     × SessionRan Takes ⊤ (λ (b : KeptHistory). b ≡ new_desk) (λ b. ⊤)
-    (r.remaining reader) (r.remaining after) (w.contents old) (w.contents new) ended
+    (r.remaining reader) (r.remaining left) (w.contents old) (w.contents new) ended
 
 -- the session ended as the status says
-abbrev pub HasAnsweredMessages : {R W : Type 0} → source.Ghosts R → (reader : R) → sink.Ghosts W → (old new : W) → Status → Type 0
-HasAnsweredMessages r reader w old new status =
-    (ended : Result Ended SessionFault) × (status ≡ status_of_session ended) × HasRun r reader w old new ended
+abbrev pub HasAnsweredMessages : {R W : Type 0} → source.Ghosts R → (reader left : R) → sink.Ghosts W → (old new : W) → Status → Type 0
+HasAnsweredMessages r reader left w old new status =
+    (ended : Result Ended SessionFault) × (status ≡ status_of_session ended) × HasRun r reader left w old new ended
 
--- A read or a write failed in the session; or it did not begin, and `unavailable` is printed.
-abbrev pub HasBrokenOff : {R W : Type 0} → source.Ghosts R → (reader : R) → sink.Ghosts W → (old new : W) → Type 0
-HasBrokenOff r reader w old new =
-    SaysUnavailable w old new ⊎ ((fault : SessionFault) × HasRun r reader w old new (Err fault))
+-- A read or a write failed in the session; or it did not begin, nothing was read, and `unavailable` is printed.
+abbrev pub HasBrokenOff : {R W : Type 0} → source.Ghosts R → (reader left : R) → sink.Ghosts W → (old new : W) → Type 0
+HasBrokenOff r reader left w old new =
+    (SaysUnavailable w old new × (left ≡ reader)) ⊎ ((fault : SessionFault) × HasRun r reader left w old new (Err fault))

@@ -3,6 +3,7 @@ ghost use Rattle.std.specs.Prelude.{IfSome, IfOk};
 ghost use Rattle.cli_commands.specs.BodyAnswers.{IsAnswer};
 ghost use Rattle.cli_commands.specs.Endings.{IfAnswered, IfFailed};
 ghost use Rattle.cli_commands.specs.InputRuns.{HasAnswered, IsFailedRun, IsInputAnswer};
+ghost use Rattle.cli_commands.specs.Inputs.{most_read, TakesAtMost};
 ghost use Rattle.cli_commands.specs.SubmissionRuns.{first_run_answer, first_run_line};
 
 use crate::body_answer::{NoMemory, submission_answer};
@@ -17,25 +18,31 @@ use std::alloc::Global;
 ///
 /// At most 4,194,304 bytes are read; one more is `{"error":"TooLarge"}`. If a read fails or memory runs
 /// out, it prints `unavailable`; if a write fails, nothing more is printed.
-pub fn first_run<R: Source + Drop, W: Sink>(alloc: Global, reader: R, writer: &mut W) -> Status
+pub fn first_run<R: Source, W: Sink>(alloc: Global, reader: &mut R, writer: &mut W) -> Status
+    ensures taken { TakesAtMost most_read (R.remaining reader.old) (R.remaining reader.new) }
     ensures answered { IfAnswered result W.Sink writer.old writer.new
-        (HasAnswered first_run_line (R.remaining reader)) }
+        (HasAnswered first_run_line (R.remaining reader.old)) }
     ensures failed { IfFailed result W.Sink writer.old writer.new
-        (IsFailedRun first_run_line (R.remaining reader)) }
+        (IsFailedRun first_run_line (R.remaining reader.old)) }
 {
-    let (answer, tries) = input_answer(alloc, reader);
+    let mut tries = Tries::new();
+    let answer = input_answer(alloc, reader, &mut tries);
     print_answer(writer, &answer, tries)
 }
 
-// The answer to an input, if it could be had, and the tries that are left.
-fn input_answer<R: Source + Drop>(alloc: Global, reader: R) -> (Option<(bool, Vec<u8>)>, Tries)
-    ensures { IfSome result.0 (IsInputAnswer first_run_line (R.remaining reader)) }
+// The answer to an input, if it could be had.
+fn input_answer<R: Source>(
+    alloc: Global,
+    reader: &mut R,
+    tries: &mut Tries,
+) -> Option<(bool, Vec<u8>)>
+    ensures answer { IfSome result (IsInputAnswer first_run_line (R.remaining reader.old)) }
+    ensures taken { TakesAtMost most_read (R.remaining reader.old) (R.remaining reader.new) }
 {
-    let (body, tries) = read_input(alloc, reader);
-    let Some(body) = body else {
-        return (None, tries);
+    let Some(body) = read_input(alloc, reader, tries) else {
+        return None;
     };
-    (answer_line(alloc, body.as_slice()), tries)
+    answer_line(alloc, body.as_slice())
 }
 
 // Whether a body is accepted, and the line of its answer.

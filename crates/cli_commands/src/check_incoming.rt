@@ -1,12 +1,12 @@
 //! The command that checks an incoming file.
-ghost use Rattle.std.specs.Prelude.{◌≡◌, IfSome, IfOk, string_bytes};
+ghost use Rattle.std.specs.Prelude.{◌≡◌, [], IfSome, IfOk, string_bytes};
 ghost use Rattle.cli_commands.specs.BodyAnswers.{IsAnswer};
 ghost use Rattle.cli_commands.specs.Endings.{IfAnswered, IfFailed};
+ghost use Rattle.cli_commands.specs.Feeding.{TakesToFault};
 ghost use Rattle.cli_commands.specs.FileChecks.{fault_line, counts_line, verdict_answer, IsCheckAnswer, HasChecked, IsFailedCheck};
 ghost use Rattle.cli_commands.specs.Printing.{with_line_feed};
 
 use crate::file_verdict::{Verdict, verdict_of};
-use crate::input::bounded_input;
 use crate::output::{end_line, print_answer};
 use crate::status::Status;
 use ach_files::{Fault, faults_stand, file_or_fault, long_bytes_have_faults};
@@ -16,30 +16,35 @@ use std::alloc::{AllocError, Global};
 /// Reads an incoming file, at most 4,194,305 bytes of it in pieces of at most 65,536, and prints what
 /// it has, as `ok 2 returns 1 changes`, or its first fault, as `BadHash at record 5`.
 ///
-/// If a read fails or memory runs out, it prints `unavailable`; if a write fails, nothing more is printed.
-pub fn check_file<R: Source + Drop, W: Sink>(alloc: Global, reader: R, writer: &mut W) -> Status
+/// It reads no further than the piece that has the first fault. If a read fails or memory runs out, it prints
+/// `unavailable`; if a write fails, nothing more is printed.
+pub fn check_file<R: Source, W: Sink>(alloc: Global, reader: &mut R, writer: &mut W) -> Status
+    ensures taken { TakesToFault [] (R.remaining reader.old) (R.remaining reader.new) }
     ensures answered { IfAnswered result W.Sink writer.old writer.new
-        (HasChecked (R.remaining reader)) }
+        (HasChecked (R.remaining reader.old)) }
     ensures failed { IfFailed result W.Sink writer.old writer.new
-        (IsFailedCheck (R.remaining reader)) }
+        (IsFailedCheck (R.remaining reader.old)) }
 {
-    let (answer, tries) = file_answer(alloc, reader);
+    let mut tries = Tries::new();
+    let answer = file_answer(alloc, reader, &mut tries);
     print_answer(writer, &answer, tries)
 }
 
-// The answer to an input, if it could be had, and the tries that are left.
-fn file_answer<R: Source + Drop>(alloc: Global, reader: R) -> (Option<(bool, Vec<u8>)>, Tries)
-    ensures { IfSome result.0 (IsCheckAnswer (R.remaining reader)) }
+// The answer to an input, if it could be had.
+fn file_answer<R: Source>(
+    alloc: Global,
+    reader: &mut R,
+    tries: &mut Tries,
+) -> Option<(bool, Vec<u8>)>
+    ensures answer { IfSome result (IsCheckAnswer (R.remaining reader.old)) }
+    ensures taken { TakesToFault [] (R.remaining reader.old) (R.remaining reader.new) }
 {
     file_or_fault();
     faults_stand();
     long_bytes_have_faults();
-    let mut input = bounded_input(reader);
-    let verdict = verdict_of(alloc, &mut input);
-    let tries = input.into_inner().tries;
-    match verdict {
-        Some(verdict) => (verdict_answer(alloc, &verdict), tries),
-        None => (None, tries),
+    match verdict_of(alloc, reader, tries) {
+        Some(verdict) => verdict_answer(alloc, &verdict),
+        None => None,
     }
 }
 

@@ -1,11 +1,10 @@
 //! An input that is fed piece by piece to the reader of files.
-ghost use Rattle.std.specs.Prelude.{◌<◌, ◌≤◌, length};
-ghost use Rattle.std.specs.Io.Take.{take_remaining};
-ghost use Rattle.cli_commands.specs.Feeding.{HasFed};
-ghost use Rattle.cli_commands.specs.Inputs.{most_piece};
+ghost use Rattle.cli_commands.specs.Feeding.{FeedsToFault, HasFed};
+ghost use Rattle.cli_commands.specs.Inputs.{bounded};
 
+use crate::input::{MOST_READ, PIECE, read_piece};
 use ach_files::{Fault, Reader, faults_stand};
-use std::io::{Read, Take};
+use io_retries::{Source, Tries};
 
 /// A stop says why no more pieces are fed.
 #[derive(Clone, Copy, Debug, PartialEq, Eq)]
@@ -16,20 +15,21 @@ pub enum Stop {
     Faulty(Fault),
 }
 
-/// Feeds all that an input has, a piece of at most this length at a time, and no piece of more than
-/// 65,536 bytes.
-pub fn feed_all<R: Read>(
-    input: &mut Take<R>,
-    piece: &mut [u8],
+/// Feeds all that an input has, or one byte more than a file may have, in pieces of at most 65,536 bytes. It
+/// reads none after the piece that has the first fault.
+pub fn feed_all<R: Source>(
+    input: &mut R,
+    tries: &mut Tries,
     reader: &mut Reader,
 ) -> Result<(), Stop>
-    requires room { 0 < length piece.old }
-    requires bound { length piece.old ≤ most_piece }
-    ensures { HasFed (take_remaining R.remaining input.old) reader.old reader.new result }
+    ensures fed { HasFed (bounded (R.remaining input.old)) reader.old reader.new result }
+    ensures taken { FeedsToFault reader.old (R.remaining input.old) (R.remaining input.new) }
 {
     faults_stand();
-    loop {
-        let count = match input.read(piece) {
+    let mut piece = [0; PIECE];
+    let mut left = MOST_READ;
+    while left > 0 {
+        let count = match read_piece(input, tries, &mut piece, left) {
             Ok(count) => count,
             Err(_) => return Err(Stop::Failed),
         };
@@ -39,5 +39,7 @@ pub fn feed_all<R: Read>(
         if let Err(fault) = reader.feed(&piece[..count]) {
             return Err(Stop::Faulty(fault));
         }
+        left -= count;
     }
+    Ok(())
 }

@@ -1,18 +1,15 @@
 //! The verdict on an incoming file.
-ghost use Rattle.std.specs.Prelude.{◌≡◌, IfNone, IfSome, List, ℕ};
-ghost use Rattle.std.specs.Io.Take.{take_remaining};
+ghost use Rattle.std.specs.Prelude.{◌≡◌, [], IfNone, IfSome, List, ℕ};
 ghost use Rattle.ach_files.specs.Has.{HasRead};
 ghost use Rattle.ach_files.specs.FirstFault.{Tells, fault};
 ghost use Rattle.cli_commands.specs.FileChecks.{return_count, change_count, is_change, IsVerdict, IsVerdictOn};
-ghost use Rattle.cli_commands.specs.Feeding.{GivesUp, HasFed, StopsBy};
+ghost use Rattle.cli_commands.specs.Feeding.{GivesUp, StopsBy, TakesToFault};
+ghost use Rattle.cli_commands.specs.Inputs.{bounded};
 
 use crate::file_feed::{Stop, feed_all};
 use ach_files::{Fault, FileFault, ItemFacts, Reader, ReturnOrChange};
-use std::alloc::{AllocError, Global};
-use std::io::{Read, Take};
-
-/// The most bytes that are read at once.
-const PIECE: usize = 65_536;
+use io_retries::{Source, Tries};
+use std::alloc::Global;
 
 /// The verdict on an incoming file.
 #[derive(Clone, Copy, Debug, PartialEq, Eq)]
@@ -25,11 +22,12 @@ pub enum Verdict {
 
 /// Reads an input to its end, or to the first fault of the file that it should be. Returns `None` if a read
 /// failed or memory ran out.
-pub fn verdict_of<R: Read>(alloc: Global, input: &mut Take<R>) -> Option<Verdict>
-    ensures { IfSome result (IsVerdictOn (take_remaining R.remaining input.old)) }
+pub fn verdict_of<R: Source>(alloc: Global, input: &mut R, tries: &mut Tries) -> Option<Verdict>
+    ensures verdict { IfSome result (IsVerdictOn (bounded (R.remaining input.old))) }
+    ensures taken { TakesToFault [] (R.remaining input.old) (R.remaining input.new) }
 {
     let mut reader = Reader::new(alloc);
-    match feed_input(alloc, input, &mut reader) {
+    match feed_all(input, tries, &mut reader) {
         Ok(()) => end_verdict(&mut reader),
         Err(stop) => stop_verdict(stop),
     }
@@ -63,15 +61,6 @@ fn change_count(items: &[ItemFacts]) -> usize
     ensures { result ≡ change_count items.now }
 {
     items.iter().filter(|item| is_change(item)).count()
-}
-
-fn feed_input<R: Read>(alloc: Global, input: &mut Take<R>, reader: &mut Reader) -> Result<(), Stop>
-    ensures { HasFed (take_remaining R.remaining input.old) reader.old reader.new result }
-{
-    match vec![in alloc; 0; PIECE] {
-        Ok(mut piece) => feed_all(input, &mut piece, reader),
-        Err(AllocError) => Err(Stop::Failed),
-    }
 }
 
 fn stop_verdict(stop: Stop) -> Option<Verdict>

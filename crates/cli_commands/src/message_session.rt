@@ -18,22 +18,17 @@ use std::alloc::Global;
 /// messages. It is refused if the input ends inside a message, and has failed if a read or a write fails. A
 /// session prints only its answers. If memory runs out before it begins, it prints `unavailable`, and the
 /// command has failed.
-pub fn answer_messages<R: Source + Drop, W: Sink>(
-    alloc: Global,
-    reader: R,
-    writer: &mut W,
-) -> Status
+pub fn answer_messages<R: Source, W: Sink>(alloc: Global, reader: &mut R, writer: &mut W) -> Status
     ensures answered { IfAnswered result W.Sink writer.old writer.new
-        (HasAnsweredMessages R.Source reader) }
+        (HasAnsweredMessages R.Source reader.old reader.new) }
     ensures failed { IfFailed result W.Sink writer.old writer.new
-        (HasBrokenOff R.Source reader) }
+        (HasBrokenOff R.Source reader.old reader.new) }
 {
     let Ok(routes) = Routes::new(alloc) else {
         return print_unavailable(writer, Tries::new());
     };
-    let mut reader = reader;
     let mut desk = HttpDesk::new(alloc, sample_desk(alloc), routes);
-    status_of_session(session(alloc, &mut desk, &mut reader, writer))
+    status_of_session(session(alloc, &mut desk, reader, writer))
 }
 
 /// Returns how the command ends after a session.

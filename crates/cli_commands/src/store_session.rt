@@ -18,20 +18,19 @@ use std::alloc::Global;
 /// The command ends as `answer_messages` says. By the clauses each answer is the text of its message after
 /// those before it, for every history that the store represented. If the returned store is clean, it represents
 /// that history with these messages and no other.
-pub fn answer_by_store<S: Store + Drop, R: Source + Drop, W: Sink>(
+pub fn answer_by_store<S: Store + Drop, R: Source, W: Sink>(
     alloc: Global,
     store: S,
-    reader: R,
+    reader: &mut R,
     writer: &mut W,
 ) -> (Status, S)
-    ensures { StoreAnswers S.Store store R.Source reader
+    ensures { StoreAnswers S.Store store R.Source reader.old reader.new
         W.Sink writer.old writer.new result }
 {
     let Ok(routes) = Routes::new(alloc) else {
         return (print_unavailable(writer, Tries::new()), store);
     };
-    let mut reader = reader;
     let mut desk = HttpDesk::new(alloc, Desk::new(store), routes);
-    let status = status_of_session(session(alloc, &mut desk, &mut reader, writer));
+    let status = status_of_session(session(alloc, &mut desk, reader, writer));
     (status, desk.into_desk().into_store())
 }

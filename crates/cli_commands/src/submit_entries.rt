@@ -3,6 +3,7 @@ ghost use Rattle.std.specs.Prelude.{IfSome, Err};
 ghost use Rattle.cli_commands.specs.BodyAnswers.{IsAnswer};
 ghost use Rattle.cli_commands.specs.Endings.{IfAnswered, IfFailed};
 ghost use Rattle.cli_commands.specs.InputRuns.{IsInputAnswer};
+ghost use Rattle.cli_commands.specs.Inputs.{most_read, TakesAtMost};
 ghost use Rattle.cli_commands.specs.ListRuns.{outcome_text, submit_answer, HasSubmitted, IsFailedSubmit};
 
 use crate::input::read_input;
@@ -17,34 +18,37 @@ use std::alloc::Global;
 ///
 /// At most 4,194,304 bytes are read; one more is `too large`. If a read fails or memory runs out, it prints
 /// `unavailable`; if a write fails, nothing more is printed.
-pub fn submit_list<R: Source + Drop, W: Sink>(
+pub fn submit_list<R: Source, W: Sink>(
     alloc: Global,
     options: &SubmitOptions<'_>,
-    reader: R,
+    reader: &mut R,
     writer: &mut W,
 ) -> Status
+    ensures taken { TakesAtMost most_read (R.remaining reader.old) (R.remaining reader.new) }
     ensures answered { IfAnswered result W.Sink writer.old writer.new
-        (HasSubmitted options.now (R.remaining reader)) }
+        (HasSubmitted options.now (R.remaining reader.old)) }
     ensures failed { IfFailed result W.Sink writer.old writer.new
-        (IsFailedSubmit options.now (R.remaining reader)) }
+        (IsFailedSubmit options.now (R.remaining reader.old)) }
 {
-    let (answer, tries) = input_answer(alloc, options, reader);
+    let mut tries = Tries::new();
+    let answer = input_answer(alloc, options, reader, &mut tries);
     print_answer(writer, &answer, tries)
 }
 
-// The answer to print for an input, if it could be read, and the tries that are left.
-fn input_answer<R: Source + Drop>(
+// The answer to print for an input, if it could be read.
+fn input_answer<R: Source>(
     alloc: Global,
     options: &SubmitOptions<'_>,
-    reader: R,
-) -> (Option<(bool, Vec<u8>)>, Tries)
-    ensures { IfSome result.0 (IsInputAnswer (submit_answer options.now) (R.remaining reader)) }
+    reader: &mut R,
+    tries: &mut Tries,
+) -> Option<(bool, Vec<u8>)>
+    ensures answer { IfSome result (IsInputAnswer (submit_answer options.now) (R.remaining reader.old)) }
+    ensures taken { TakesAtMost most_read (R.remaining reader.old) (R.remaining reader.new) }
 {
-    let (list, tries) = read_input(alloc, reader);
-    let Some(list) = list else {
-        return (None, tries);
+    let Some(list) = read_input(alloc, reader, tries) else {
+        return None;
     };
-    (list_answer(alloc, options, list.as_slice()), tries)
+    list_answer(alloc, options, list.as_slice())
 }
 
 // Whether a list has a message, and the message or the line of the first fault.

@@ -22,12 +22,13 @@ use Rattle.desk_cli.specs.Commands.{PrintsLineFault}
 abbrev pub words_in : List (Bor (List ℕ)) → List Text
 words_in words = map (λ w. w.now) words
 
--- `Runs` has what a command does that ends with this status
-module _ {W : Type 0} (w : sink.Ghosts W) (Runs : Command → (old new : W) → Status → Type 0) (old new : W) where
-  -- the command that the words give is run, and the exit status is that of its end; or the reason why they give none is printed
+-- `Runs` has what a command does that ends with this status, and `Unread` that nothing was read
+module _ {W : Type 0} (w : sink.Ghosts W) (Unread : Type 0) (Runs : Command → (old new : W) → Status → Type 0) (old new : W) where
+  -- The command that the words give is run, and the exit status is that of its end; or the reason why they give none is
+  -- printed.
   abbrev pub DoesRead : Result Command LineFault → (code : ℕ) → Type 0
   DoesRead (Ok command) code = (status : Status) × (code ≡ code_of status) × Runs command old new status
-  DoesRead (Err fault) code = PrintsLineFault fault w old new code
+  DoesRead (Err fault) code = PrintsLineFault fault w old new code × Unread
 
   -- the program does what the words ask for
   abbrev pub RunsWords : (words : List Text) → (code : ℕ) → Type 0
@@ -37,7 +38,7 @@ module _ {W : Type 0} (w : sink.Ghosts W) (Runs : Command → (old new : W) → 
   -- printed, or the write of it failed.
   abbrev pub RunsStarted : Result (Vec (String Global) Global) LineFault → (code : ℕ) → Type 0
   RunsStarted (Ok words) code = RunsWords (map string_bytes (drop 1 words.items)) code
-  RunsStarted (Err fault) code = PrintsLineFault fault w old new code
+  RunsStarted (Err fault) code = PrintsLineFault fault w old new code × Unread
 
 -- ---- the words that the program was started with
 

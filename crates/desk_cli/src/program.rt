@@ -26,10 +26,10 @@ use std::{env, io};
 ///
 /// No contract knows the contents of the host's files, and the facts of its files and its network are empty.
 /// The contract of `run_over` states the promise for all files and networks.
-pub fn run<R: Source + Drop, W: Sink>(
+pub fn run<R: Source, W: Sink>(
     rt: &HostRuntime,
     command: &Command<'_>,
-    reader: R,
+    reader: &mut R,
     writer: &mut W,
 ) -> Status
     ensures { RunsSynced
@@ -39,7 +39,7 @@ pub fn run<R: Source + Drop, W: Sink>(
         ⟦<HostFiles<'static, Wary> as Closes<Opened<FileFrom<Wary>>>>⟧
         ⟦<File as Source>⟧ ⟦<HostNetwork<'static, HostRuntime> as Network>⟧ ⟦<TcpListener as Listener>⟧
         ⟦<TcpStream as http_session::Connection>⟧ ⟦<TcpStream as Source>⟧ ⟦<TcpStream as Sink>⟧
-        R.Source W.Sink reader command.now writer.old writer.new result }
+        R.Source W.Sink reader.old reader.new command.now writer.old writer.new result }
 {
     match command.syncs() {
         Syncs::Once => run_here(rt, Unknown, command, reader, writer),
@@ -48,18 +48,18 @@ pub fn run<R: Source + Drop, W: Sink>(
 }
 
 // Carries out a command over the host's files, which are opened by this start.
-fn run_here<S: HostStart, R: Source + Drop, W: Sink>(
+fn run_here<S: HostStart, R: Source, W: Sink>(
     rt: &HostRuntime,
     start: S,
     command: &Command<'_>,
-    reader: R,
+    reader: &mut R,
     writer: &mut W,
 ) -> Status
     ensures { RunsHere ⟦<HostFiles<'static, S> as DeskFiles>⟧ ⟦<FileFrom<S> as Disk>⟧
         ⟦<File as Source>⟧ ⟦<HostNetwork<'static, HostRuntime> as Network>⟧ ⟦<TcpListener as Listener>⟧
         ⟦<TcpStream as http_session::Connection>⟧ ⟦<TcpStream as Source>⟧ ⟦<TcpStream as Sink>⟧
         ⟦<HostFiles<'static, S> as Closes<Opened<FileFrom<S>>>>⟧
-        R.Source W.Sink reader command.now writer.old writer.new result }
+        R.Source W.Sink reader.old reader.new command.now writer.old writer.new result }
 {
     run_over(
         rt.alloc(),
@@ -73,20 +73,20 @@ fn run_here<S: HostStart, R: Source + Drop, W: Sink>(
 
 /// Carries out the command that the words after the program's name give, over this reader and writer, and
 /// returns the exit status.
-pub fn run_words<R: Source + Drop, W: Sink>(
+pub fn run_words<R: Source, W: Sink>(
     rt: &HostRuntime,
     words: &[&str],
-    reader: R,
+    reader: &mut R,
     writer: &mut W,
 ) -> u8
-    ensures runs { RunsWords W.Sink (RunsSynced
+    ensures runs { RunsWords W.Sink (reader.new ≡ reader.old) (RunsSynced
         ⟦<HostFiles<'static, Unknown> as DeskFiles>⟧ ⟦<FileFrom<Unknown> as Disk>⟧
         ⟦<HostFiles<'static, Unknown> as Closes<Opened<FileFrom<Unknown>>>>⟧
         ⟦<HostFiles<'static, Wary> as DeskFiles>⟧ ⟦<FileFrom<Wary> as Disk>⟧
         ⟦<HostFiles<'static, Wary> as Closes<Opened<FileFrom<Wary>>>>⟧
         ⟦<File as Source>⟧ ⟦<HostNetwork<'static, HostRuntime> as Network>⟧ ⟦<TcpListener as Listener>⟧
         ⟦<TcpStream as http_session::Connection>⟧ ⟦<TcpStream as Source>⟧ ⟦<TcpStream as Sink>⟧
-        R.Source W.Sink reader)
+        R.Source W.Sink reader.old reader.new)
         writer.old writer.new (words_in words.now) result }
     ensures status { result ≤ 3 }
 {
@@ -99,20 +99,20 @@ pub fn run_words<R: Source + Drop, W: Sink>(
 /// Carries out the command that the program's words give, over this reader and writer, and returns the exit
 /// status. The first word is the program's name. If the words could not be read, it prints the fault, or the
 /// write of it failed and the status is 3.
-pub fn run_started<R: Source + Drop, W: Sink>(
+pub fn run_started<R: Source, W: Sink>(
     rt: &HostRuntime,
     started: Result<Vec<String>, LineFault>,
-    reader: R,
+    reader: &mut R,
     writer: &mut W,
 ) -> u8
-    ensures runs { RunsStarted W.Sink (RunsSynced
+    ensures runs { RunsStarted W.Sink (reader.new ≡ reader.old) (RunsSynced
         ⟦<HostFiles<'static, Unknown> as DeskFiles>⟧ ⟦<FileFrom<Unknown> as Disk>⟧
         ⟦<HostFiles<'static, Unknown> as Closes<Opened<FileFrom<Unknown>>>>⟧
         ⟦<HostFiles<'static, Wary> as DeskFiles>⟧ ⟦<FileFrom<Wary> as Disk>⟧
         ⟦<HostFiles<'static, Wary> as Closes<Opened<FileFrom<Wary>>>>⟧
         ⟦<File as Source>⟧ ⟦<HostNetwork<'static, HostRuntime> as Network>⟧ ⟦<TcpListener as Listener>⟧
         ⟦<TcpStream as http_session::Connection>⟧ ⟦<TcpStream as Source>⟧ ⟦<TcpStream as Sink>⟧
-        R.Source W.Sink reader)
+        R.Source W.Sink reader.old reader.new)
         writer.old writer.new started result }
     ensures status { result ≤ 3 }
 {
@@ -151,7 +151,7 @@ pub fn run_program(rt: &HostRuntime) -> u8
     ensures { result ≤ 3 }
 {
     let started = started_words(rt.alloc(), env::args(rt));
-    run_started(rt, started, rt.reader(), &mut io::writer(rt))
+    run_started(rt, started, &mut rt.reader(), &mut io::writer(rt))
 }
 
 /// Returns the words that the program was started with, its name first.

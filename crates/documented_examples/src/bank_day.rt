@@ -28,7 +28,7 @@ const FILES: [&str; 17] = [
 pub(crate) fn compare(rt: &HostRuntime) -> io::Result<()> {
     let messages = all_messages(rt)?;
     let mut answers = Vec::new(rt.alloc());
-    let _status = answer_messages(rt.alloc(), messages.as_slice(), &mut answers);
+    let _status = answer_messages(rt.alloc(), &mut messages.as_slice(), &mut answers);
     if answers == fs::read(rt, "examples/bank_day/answers.txt")? {
         let count = FILES.len();
         return println!(rt; "examples/bank_day: {count} messages are answered as answers.txt says");

@@ -48,13 +48,13 @@ pub(crate) fn body_answer(
 
 fn submission_answer(alloc: Global, body: &str) -> Vec<u8> {
     let mut answer = Vec::new(alloc);
-    let _status = first_run(alloc, body.as_bytes(), &mut answer);
+    let _status = first_run(alloc, &mut body.as_bytes(), &mut answer);
     answer
 }
 
 fn list_answer(alloc: Global, list: &str) -> Result<Vec<u8>, AllocError> {
     let mut printed = Vec::new(alloc);
-    let _status = submit_list(alloc, &OPTIONS, list.as_bytes(), &mut printed);
+    let _status = submit_list(alloc, &OPTIONS, &mut list.as_bytes(), &mut printed);
     let mut answer = Vec::new(alloc);
     add_lines(&mut answer, printed.as_slice())?;
     Ok(answer)

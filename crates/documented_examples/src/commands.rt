@@ -50,17 +50,18 @@ fn run_over(rt: &HostRuntime, line: &str, input: &[u8]) -> io::Result<Vec<u8>> {
     for word in line.split(' ').filter(|word| !word.is_empty()) {
         words.push(word)?;
     }
+    let mut input = input;
     let mut printed = Vec::new(rt.alloc());
     let _status = match command_of(rt.alloc(), words.as_slice()) {
-        Ok(Command::AnswerSubmission) => Some(first_run(rt.alloc(), input, &mut printed)),
-        Ok(Command::AnswerMessages) => Some(answer_messages(rt.alloc(), input, &mut printed)),
+        Ok(Command::AnswerSubmission) => Some(first_run(rt.alloc(), &mut input, &mut printed)),
+        Ok(Command::AnswerMessages) => Some(answer_messages(rt.alloc(), &mut input, &mut printed)),
         Ok(Command::Check(path)) => {
-            let file = File::open(rt, path)?;
-            Some(check_file(rt.alloc(), file, &mut printed))
+            let mut file = File::open(rt, path)?;
+            Some(check_file(rt.alloc(), &mut file, &mut printed))
         }
         Ok(Command::Submit(path, options)) => {
-            let list = File::open(rt, path)?;
-            Some(submit_list(rt.alloc(), &options, list, &mut printed))
+            let mut list = File::open(rt, path)?;
+            Some(submit_list(rt.alloc(), &options, &mut list, &mut printed))
         }
         Ok(_) | Err(_) => None,
     };

@@ -11,7 +11,7 @@ const LINE: usize = 95;
 pub(crate) fn file_answer(rt: &HostRuntime, changes: &str) -> io::Result<Vec<u8>> {
     let file = changed_file(rt, changes)?;
     let mut answer = Vec::new(rt.alloc());
-    let _status = check_file(rt.alloc(), file.as_slice(), &mut answer);
+    let _status = check_file(rt.alloc(), &mut file.as_slice(), &mut answer);
     Ok(answer)
 }
 

@@ -50,6 +50,9 @@ pub trait DeskFiles {
     /// It could not open the file at a path to be read.
     ghost fails_to_read: { Self → (path : List ℕ) → Self → Type 0 };
 
+    /// It took back an input, which had been read so far.
+    ghost ends_reading: { Self → Self.Input → Self → Type 0 };
+
     /// It said this of a path.
     ghost finds: { Self → (path : List ℕ) → Presence → Self → Type 0 };
 
@@ -70,6 +73,10 @@ pub trait DeskFiles {
         ensures { MatchResult result
             (λ input. reads self.old path.now input self.new)
             (λ _. fails_to_read self.old path.now self.new) };
+
+    /// Takes back an input and closes it.
+    fn end_reading(&mut self, input: Self::Input)
+        ensures { ends_reading self.old input self.new };
 
     /// Reports what is at a path. What the files hold stays the same.
     fn look(&mut self, path: &str) -> Presence

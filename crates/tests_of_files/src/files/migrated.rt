@@ -37,7 +37,8 @@ const BANK: [&str; 5] = [
 
 // It has no clause, so that no test carries what the call promises.
 fn carry_out(host: &HostRuntime, words: &[&str], input: &[u8], output: &mut Vec<u8>) -> u8 {
-    run_words(host, words, input, output)
+    let mut input = input;
+    run_words(host, words, &mut input, output)
 }
 
 // Does the command of these words end with this exit status over this input, and print this?

@@ -157,7 +157,7 @@ impl Run {
         }
     }
 
-    fn over<R: Read + Drop, W: Write>(self, rt: &HostRuntime, reader: R, writer: &mut W) -> Status {
+    fn over<R: Read, W: Write>(self, rt: &HostRuntime, reader: &mut R, writer: &mut W) -> Status {
         match self {
             Run::Answer => first_run(rt.alloc(), reader, writer),
             Run::Check => check_file(rt.alloc(), reader, writer),
@@ -168,7 +168,7 @@ impl Run {
     // Reports whether a run with this many interruptions of its reader and of its writer gives its
     // text, or else fails with this one.
     fn shares_tries(self, rt: &HostRuntime, reads: u32, writes: u32, failed: Option<&str>) -> bool {
-        let reader = FaultyReader {
+        let mut reader = FaultyReader {
             interruptions: reads,
             failure: None,
             left: 0,
@@ -184,23 +184,23 @@ impl Run {
             None => (Status::Done, self.text()),
             Some(text) => (Status::Failed, text),
         };
-        let ended = self.over(rt, reader, &mut writer);
+        let ended = self.over(rt, &mut reader, &mut writer);
         ended == status && writer.text.as_slice() == text.as_bytes()
     }
 
     // Reports whether a run fails whose reader fails once, with this many bytes left.
     fn fails(self, rt: &HostRuntime, kind: ErrorKind, left: usize) -> bool {
-        let reader = FaultyReader {
+        let mut reader = FaultyReader {
             interruptions: 3,
             failure: Some(kind),
             left,
             rest: self.input(),
         };
-        self.ends(rt, reader, Status::Failed, "unavailable\n")
+        self.ends(rt, &mut reader, Status::Failed, "unavailable\n")
     }
 
     // Does a run over this reader end so, and print this line?
-    fn ends<R: Read + Drop>(self, rt: &HostRuntime, reader: R, status: Status, line: &str) -> bool {
+    fn ends<R: Read>(self, rt: &HostRuntime, reader: &mut R, status: Status, line: &str) -> bool {
         let mut output = Vec::new(rt.alloc());
         let ended = self.over(rt, reader, &mut output);
         ended == status && output.as_slice() == line.as_bytes()
@@ -286,7 +286,8 @@ fn takes(
         failure,
         room,
     };
-    let ended = first_run(alloc, PAY_1, &mut writer);
+    let mut body = PAY_1;
+    let ended = first_run(alloc, &mut body, &mut writer);
     let taken = PAY_1_LINE.as_bytes().get(..room.min(PAY_1_LINE.len()));
     ended == status && taken == Some(writer.text.as_slice())
 }
@@ -342,7 +343,8 @@ fn a_writer_takes_a_prefix(rt: HostRuntime) {
 fn an_answer_whose_flush_fails_is_a_failed_write(rt: HostRuntime) {
     for &(failures, kind, is_out) in FLUSHES {
         let mut writer = buffered(rt.alloc(), failures, kind);
-        let status = first_run(rt.alloc(), PAY_1, &mut writer);
+        let mut body = PAY_1;
+        let status = first_run(rt.alloc(), &mut body, &mut writer);
         let (wanted, line) = if is_out {
             (Status::Done, PAY_1_LINE)
         } else {
@@ -369,11 +371,11 @@ fn a_fault_whose_flush_fails_is_a_failed_write(rt: HostRuntime) -> Result<(), Fa
 #[test]
 fn no_more_is_read_than_decides(rt: HostRuntime) {
     for &(run, most, line) in ENDLESS {
-        let reader = LongReader {
+        let mut reader = LongReader {
             rest: run.input(),
             left: 4_194_305,
             most,
         };
-        assert!(rt; run.ends(&rt, reader, Status::Refused, line), "{line}");
+        assert!(rt; run.ends(&rt, &mut reader, Status::Refused, line), "{line}");
     }
 }

@@ -96,7 +96,8 @@ fn no_batches(alloc: Global, blocks: &[u8]) -> Result<Vec<u8>, AllocError> {
 fn answers(rt: &HostRuntime, file: &[u8], status: Status, line: &str) -> Result<bool, Fail> {
     let mut from_reader = Vec::new(rt.alloc());
     let mut from_path = Vec::new(rt.alloc());
-    let read = check_file(rt.alloc(), file, &mut from_reader);
+    let mut reader = file;
+    let read = check_file(rt.alloc(), &mut reader, &mut from_reader);
     let path = "incoming.ach";
     fs::write(rt, path, file)?;
     let opened = carry_out(rt, &Command::Check(path), NOBODY, &mut from_path);

@@ -21,6 +21,7 @@ fn prints(
     status: Status,
     text: &[u8],
 ) -> bool {
+    let mut input = input;
     let mut printed = Vec::new(rt.alloc());
     let mut network = HostNetwork::new(rt);
     let ended = run_in_memory(
@@ -28,7 +29,7 @@ fn prints(
         files,
         &mut network,
         command,
-        input,
+        &mut input,
         &mut printed,
     );
     ended == status && printed.as_slice() == text

@@ -124,7 +124,8 @@ fn outcome(
 ) -> Result<(Status, Vec<u8>), Fail> {
     let mut from_reader = Vec::new(rt.alloc());
     let mut from_path = Vec::new(rt.alloc());
-    let read = submit_list(rt.alloc(), &options, list, &mut from_reader);
+    let mut reader = list;
+    let read = submit_list(rt.alloc(), &options, &mut reader, &mut from_reader);
     fs::write(rt, PATH, list)?;
     let opened = carry_out(rt, &Command::Submit(PATH, options), NOBODY, &mut from_path);
     fs::remove_file(rt, PATH)?;

@@ -86,8 +86,9 @@ fn copies(alloc: Global, text: &str, count: usize, last: &str) -> Result<Vec<u8>
 
 // Does a session over these bytes end so, and print these?
 fn answers(alloc: Global, input: &[u8], status: Status, wanted: &[u8]) -> bool {
+    let mut input = input;
     let mut printed = Vec::new(alloc);
-    let ended = answer_messages(alloc, input, &mut printed);
+    let ended = answer_messages(alloc, &mut input, &mut printed);
     ended == status && printed.as_slice() == wanted
 }
 
@@ -122,14 +123,14 @@ fn a_session_takes_a_thousand_messages(rt: HostRuntime) -> Result<(), Fail> {
 #[test]
 fn a_fault_of_the_reader_fails(rt: HostRuntime) -> Result<(), Fail> {
     let input = join(rt.alloc(), &[SET_DAY, WRONG_KEY])?;
-    let reader = FaultyReader {
+    let mut reader = FaultyReader {
         interruptions: 7,
         failure: Some(ErrorKind::ConnectionReset),
         left: WRONG_KEY.len(),
         rest: input.as_slice(),
     };
     let mut printed = Vec::new(rt.alloc());
-    let ended = answer_messages(rt.alloc(), reader, &mut printed);
+    let ended = answer_messages(rt.alloc(), &mut reader, &mut printed);
     assert!(rt; ended == Status::Failed && printed.as_slice() == DAY_SET.as_bytes());
     Ok(())
 }
@@ -143,7 +144,7 @@ fn a_fault_of_the_writer_fails(rt: HostRuntime) -> Result<(), Fail> {
         failure: Some(ErrorKind::BrokenPipe),
         room: 40,
     };
-    let ended = answer_messages(rt.alloc(), input.as_slice(), &mut writer);
+    let ended = answer_messages(rt.alloc(), &mut input.as_slice(), &mut writer);
     assert!(rt; ended == Status::Failed);
     assert!(rt; Some(writer.text.as_slice()) == DAY_SET.as_bytes().get(..40));
     Ok(())

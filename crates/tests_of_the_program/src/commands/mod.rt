@@ -33,8 +33,9 @@ const NOBODY: &[u8] = b"";
 
 // Does a run over this body end so, and print this line?
 fn answers(alloc: Global, body: &[u8], status: Status, line: &str) -> bool {
+    let mut body = body;
     let mut output = Vec::new(alloc);
-    let ended = first_run(alloc, body, &mut output);
+    let ended = first_run(alloc, &mut body, &mut output);
     ended == status && output.as_slice() == line.as_bytes()
 }
 
@@ -46,11 +47,13 @@ fn carry_out<W: Write>(
     input: &[u8],
     writer: &mut W,
 ) -> Status {
-    run(rt, command, input, writer)
+    let mut input = input;
+    run(rt, command, &mut input, writer)
 }
 
 fn carry_out_words(rt: &HostRuntime, words: &[&str], input: &[u8], output: &mut Vec<u8>) -> u8 {
-    run_words(rt, words, input, output)
+    let mut input = input;
+    run_words(rt, words, &mut input, output)
 }
 
 // Is the command carried out over this input so, and is this printed?

@@ -1,15 +1,9 @@
-use Rattle.std.proofs.Common.{◌≡◌, ◌++◌, ℕ, List, length}
-use Rattle.std.specs.Io.KnownBytes.{Consumes}
-use Rattle.std.specs.Io.Take.{take_remaining, take_limit}
-use Rattle.ach_files.specs.Has.{HasRead}
+use Rattle.cli_commands.proofs.FeedingLemmas.{Feeds}
 use Rattle.cli_commands.proofs.file_feed.feed_all.Given as goal
 
-abbrev pub invariant-loop-count : goal.invariant-loop-count
-invariant-loop-count g l =
-    (length l.piece ≡ length l.initial.piece)
-    × ((bytes : List ℕ) → HasRead l.initial.reader bytes → (done : List ℕ)
-    × HasRead l.reader (bytes ++ done)
-    × Consumes (take_remaining g.R.Read.remaining l.initial.input) (take_remaining g.R.Read.remaining l.input) done)
+abbrev pub invariant-loop-left : goal.invariant-loop-left
+invariant-loop-left g l =
+    Feeds (g.R.Source.remaining l.initial.input) (g.R.Source.remaining l.input) l.left l.initial.reader l.reader
 
-abbrev pub decreases-loop-count : goal.decreases-loop-count
-decreases-loop-count g l = take_limit l.input
+abbrev pub decreases-loop-left : goal.decreases-loop-left
+decreases-loop-left g l = l.left

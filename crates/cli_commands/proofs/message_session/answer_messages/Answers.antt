@@ -30,10 +30,10 @@ new_stands s is = kept_for_nothing (held s) keeps (λ k. IsBookOf s.store k) is 
 pub returns-clause-answered : goal.returns-clause-answered
 returns-clause-answered g c = λ fine.
     let stood = subst Stands (sym c.new-desk.ensures) (new_stands c.sample_desk.result c.sample_desk.ensures) in
-    (c.session.result, c.status_of_session.ensures, run_of_new_desk g.R.Source _ g.W.Sink _ _ _ _ _ _ (c.session.new.reader, c.session.ensures.left, c.session.ensures.ran) tt stood)
+    (c.session.result, c.status_of_session.ensures, run_of_new_desk g.R.Source _ _ g.W.Sink _ _ _ _ _ _ (c.session.ensures.left, c.session.ensures.ran) tt stood)
 
 pub returns-clause-failed : goal.returns-clause-failed
 returns-clause-failed g c = λ failed.
     let stood = subst Stands (sym c.new-desk.ensures) (new_stands c.sample_desk.result c.sample_desk.ensures) in
-    broken_off g.R.Source _ g.W.Sink _ _ c.session.result (sym c.status_of_session.ensures ∙ failed)
-    (run_of_new_desk g.R.Source _ g.W.Sink _ _ _ _ _ _ (c.session.new.reader, c.session.ensures.left, c.session.ensures.ran) tt stood)
+    broken_off g.R.Source _ _ g.W.Sink _ _ c.session.result (sym c.status_of_session.ensures ∙ failed)
+    (run_of_new_desk g.R.Source _ _ g.W.Sink _ _ _ _ _ _ (c.session.ensures.left, c.session.ensures.ran) tt stood)

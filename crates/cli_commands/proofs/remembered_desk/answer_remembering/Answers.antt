@@ -15,9 +15,9 @@ returns g c =
     let within = λ (b : KeptHistory). stands_within (g.S.Store.holds now.store) keeps (g.S.Store.may_leave now.store) b now.known in record {
       before = search rules;
       answered = λ fine.
-          rw c.into_inner.ensures (has_answered_from g.R.Source _ g.W.Sink _ _ (g.S.Store.is_clean now.store) _ (StandsIn g.S.Store c.args.store) _ _ _
+          rw c.into_inner.ensures (has_answered_from g.R.Source _ _ g.W.Sink _ _ (g.S.Store.is_clean now.store) _ (StandsIn g.S.Store c.args.store) _ _ _
           (λ clean. clean) (λ _. stood) within _ (c.answer_by_store-status.ensures.answered fine));
       failed = λ failed.
-          rw c.into_inner.ensures (breaks_off_from g.R.Source _ g.W.Sink _ _ (g.S.Store.is_clean now.store) _ (StandsIn g.S.Store c.args.store) _ _ _
+          rw c.into_inner.ensures (breaks_off_from g.R.Source _ _ g.W.Sink _ _ (g.S.Store.is_clean now.store) _ (StandsIn g.S.Store c.args.store) _ _ _
           (λ clean. clean) (λ _. stood) within (c.answer_by_store-status.ensures.failed failed));
     }
