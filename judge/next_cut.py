@@ -63,7 +63,8 @@ class Bank:
         self.told("POST /ops/day", {"day": str(self.today)})
 
     def ask(self, asks, body=None, **key):
-        self.desk.stdin.write(message(asks, None if body is None else json.dumps(body), **key))
+        text = "" if asks == "POST /ops/cut" else None if body is None else json.dumps(body)
+        self.desk.stdin.write(message(asks, text, **key))
         self.desk.stdin.flush()
         return read_answer(self.desk.stdout)
 

@@ -21,5 +21,6 @@ def now() -> datetime.datetime:
 
 
 def plain(text: str) -> str:
-    """Returns a text without control characters, which could forge a mail's head or move a terminal's cursor."""
-    return re.sub(r"[^\n\t -~\u00a0-\uffff]", "?", text)[:MOST_CHARACTERS]
+    """Returns a text without control characters, which could forge a mail's head or move a terminal's cursor, and without bytes
+    that are not UTF-8, which no mail could carry."""
+    return re.sub(r"[^\n\t -~\u00a0-\ud7ff\ue000-\uffff]", "?", text)[:MOST_CHARACTERS]

@@ -13,13 +13,13 @@ import socket
 import ssl
 import sys
 import urllib.parse
-from collections.abc import Callable
+from collections.abc import Callable, Collection
 from dataclasses import asdict, replace
 from pathlib import Path
 
 from achdesk_alarm.faults import Misused, Undelivered, now, plain
 from achdesk_alarm.settings import Settings, secret
-from achdesk_alarm.waiting import Alarm, remove, waiting, write_whole
+from achdesk_alarm.waiting import Alarm, alone, remove, waiting, write_whole
 
 SECONDS = 20  # how long a receiver is waited for
 MOST_ALARMS = 50  # of a mail
@@ -33,27 +33,51 @@ def receivers(settings: Settings) -> dict[str, Send]:
 
 
 def deliver(settings: Settings, state: Path, second: Path) -> None:
-    """Gives each receiver the alarms that it does not have, and removes those that all have."""
-    configured, faults = receivers(settings), []
+    """Gives each receiver the alarms that it does not have, and removes those that all have. One process at a time does so, so
+    that a test by hand is not delivered twice."""
+    with alone(state / "waiting"):
+        deliver_alone(settings, state, second)
+
+
+def deliver_alone(settings: Settings, state: Path, second: Path) -> None:
+    configured, alarms = receivers(settings), dict(waiting(state, second))
+    faults = settled([path for path, it in alarms.items() if has_all(it, configured)], alarms, configured, state)
     for name, send in configured.items():
-        lacking = [(path, it) for path, it in waiting(state, second) if name not in it.delivered]
+        lacking = [path for path, it in alarms.items() if name not in it.delivered]
         for at in range(0, len(lacking), MOST_ALARMS):
             part = lacking[at:at + MOST_ALARMS]
             try:
-                send(settings, [it for _, it in part])
-            except (OSError, smtplib.SMTPException, http.client.HTTPException, ssl.SSLError, Undelivered, Misused) as fault:
+                send(settings, [alarms[path] for path in part])
+            except (OSError, ValueError, smtplib.SMTPException, http.client.HTTPException, Undelivered, Misused) as fault:
                 faults.append(f"{name}: {fault or type(fault).__name__}")
                 break
-            for path, alarm in part:
-                write_whole(path, asdict(replace(alarm, delivered=(*alarm.delivered, name))))
-    for path, alarm in waiting(state, second):
-        if configured and set(configured) <= set(alarm.delivered):
-            remove(path, alarm, state)
+            alarms |= {path: replace(alarms[path], delivered=(*alarms[path].delivered, name)) for path in part}
+            faults += settled(part, alarms, configured, state)
     left = len(list(waiting(state, second)))
     if left and not configured:
         raise Misused(f"{settings.path}: neither [mail] to nor [alertmanager] url is set, and {left} alarms wait")
     if faults:
         raise Undelivered(f"{left} alarms wait: {'; '.join(faults)}")
+
+
+def has_all(alarm: Alarm, configured: Collection[str]) -> bool:
+    """Whether each receiver has an alarm."""
+    return bool(configured) and set(configured) <= set(alarm.delivered)
+
+
+def settled(paths: list[Path], alarms: dict[Path, Alarm], configured: Collection[str], state: Path) -> list[str]:
+    """Removes alarms that each receiver has, and keeps of others which ones have it. Returns the faults, as of a full disk, which
+    keep an alarm from no other receiver."""
+    faults = []
+    for path in paths:
+        try:
+            if has_all(alarms[path], configured):
+                remove(path, alarms[path], state)
+            else:
+                write_whole(path, asdict(alarms[path]))
+        except OSError as fault:
+            faults.append(str(fault))
+    return faults
 
 
 def send_mail(settings: Settings, alarms: list[Alarm]) -> None:
@@ -87,13 +111,17 @@ def send_mail(settings: Settings, alarms: list[Alarm]) -> None:
 
 
 def post_alerts(settings: Settings, alarms: list[Alarm]) -> None:
-    """Posts these alarms to Alertmanager. It takes an alert as over by its end, so that an alarm lasts for some hours."""
-    told = settings["alertmanager"]
-    ends = now() + datetime.timedelta(hours=settings.number("alertmanager", "hours"))
-    alerts = [{"labels": {"alertname": "achdesk", "instance": settings.host(), "source": it.source}
-               | ({} if it.source.endswith(".service") else {"number": it.number[:12]}),
-               "annotations": {"summary": (plain(it.text).splitlines() or [""])[0][:200], "description": plain(it.text)},
-               **({} if it.is_over else {"startsAt": it.at}), "endsAt": it.at if it.is_over else ends.isoformat()} for it in alarms]
+    """Posts these alarms to Alertmanager. It takes an alert as over by its end, so that an alarm lasts for some hours. It refuses
+    one whose end is before its beginning, as after a clock was set back."""
+    told, present = settings["alertmanager"], now()
+    ends = present + datetime.timedelta(hours=settings.number("alertmanager", "hours"))
+    alerts: list[dict[str, object]] = []
+    for it in alarms:
+        labels = {"alertname": "achdesk", "instance": settings.host(), "source": it.source}
+        labels |= {} if it.source.endswith(".service") else {"number": it.number[:12]}
+        notes = {"summary": (plain(it.text).splitlines() or [""])[0][:200], "description": plain(it.text)}
+        at = min(datetime.datetime.fromisoformat(it.at), present).isoformat()
+        alerts.append({"labels": labels, "annotations": notes} | ({"endsAt": at} if it.is_over else {"startsAt": at, "endsAt": ends.isoformat()}))
     url = urllib.parse.urlsplit(told["url"].rstrip("/"))
     link: http.client.HTTPConnection
     if url.scheme == "https":

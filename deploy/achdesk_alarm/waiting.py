@@ -2,6 +2,9 @@
 
 from __future__ import annotations
 
+import contextlib
+import datetime
+import fcntl
 import json
 import os
 import re
@@ -12,7 +15,7 @@ from collections.abc import Iterator
 from dataclasses import asdict, dataclass, field
 from pathlib import Path
 
-from achdesk_alarm.faults import Undelivered
+from achdesk_alarm.faults import Undelivered, now
 
 DELIVERED, A_DAY = "delivered", 86_400
 INVOCATION = re.compile(r"[0-9a-f]{32}")  # systemd's number of one run of a unit
@@ -40,7 +43,20 @@ def write_whole(path: Path, value: object, mode: int = 0o640) -> None:
         json.dump(value, file)
         file.flush()
         os.fsync(file.fileno())
-    os.replace(part, path)
+        os.replace(part, path)
+        os.fsync(file.fileno())  # its name too: who raises an alarm cannot open the folder
+
+
+@contextlib.contextmanager
+def alone(path: Path) -> Iterator[None]:
+    """Waits until no other process is alone with this folder, or with this file, which is made for it. If it cannot be had, as
+    on a full disk, it is not waited for: two alarms in the wrong order are better than none."""
+    with contextlib.ExitStack() as stack:
+        with contextlib.suppress(OSError):
+            descriptor = os.open(path, os.O_RDONLY | (0 if path.is_dir() else os.O_CREAT), 0o644)
+            stack.callback(os.close, descriptor)
+            fcntl.flock(descriptor, fcntl.LOCK_EX)
+        yield
 
 
 def put(alarm: Alarm, state: Path, second: Path) -> None:
@@ -70,12 +86,21 @@ def waiting(state: Path, second: Path) -> Iterator[tuple[Path, Alarm]]:
             path.rename(path.with_suffix(".bad"))
 
 
+def after_those_of(source: str, state: Path, second: Path) -> datetime.datetime:
+    """Returns the time of the next alarm of a unit: now, or right after the newest of that unit that waits, so that a clock that
+    was set back does not turn an alarm and its end around."""
+    times = [datetime.datetime.fromisoformat(it.at) for _, it in waiting(state, second) if it.source == source]
+    return max([now(), *(it + datetime.timedelta(microseconds=1) for it in times)])
+
+
 def remove(path: Path, alarm: Alarm, state: Path) -> None:
-    """Removes an alarm that was delivered. For a day it is kept which run of a unit raised it, which is written first."""
+    """Removes an alarm that was delivered. For a day it is kept which run of a unit raised it, which is written first, unless the
+    disk is full."""
     folder = state / DELIVERED
     folder.mkdir(exist_ok=True)
     if INVOCATION.fullmatch(alarm.invocation):
-        (folder / alarm.invocation).touch()
+        with contextlib.suppress(OSError):
+            (folder / alarm.invocation).touch()
     path.unlink()
     for old in folder.iterdir():
         if time.time() - old.stat().st_mtime > A_DAY:

@@ -50,8 +50,10 @@ def backup(day: Day) -> None:
     if not day.dry:
         make_folder(day.backups)
         for path in day.backups.glob(".*"):
-            if path.name.endswith((".part", ".expired")):
+            if path.name.endswith((".part", ".expired")) and path.is_dir():
                 shutil.rmtree(path)  # of a backup that was killed; it never had its name
+            elif path.name.endswith(".part"):
+                path.unlink()  # of a file that found no room
     if day.words.expire_only:
         expire_repositories(day)
     else:

@@ -43,7 +43,7 @@ def unavailable(settings: Settings, run: Run | None, command: str, text: str) ->
     since = failing_since(state).setdefault(command, stamp(now()))
     keep(state, failing_since(state) | {command: since})
     limit = datetime.timedelta(minutes=settings.number("alarm", "unavailable"))
-    if now() - time_of(since) >= limit and hooks.person() is None and hooks.unit() is None:
+    if not datetime.timedelta() <= now() - time_of(since) < limit and hooks.person() is None and hooks.unit() is None:
         raise_alarm(settings, run, f"achdesk-day {command} fails since {since}: {text}", f"{command} fails since {since}")
 
 

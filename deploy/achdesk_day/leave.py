@@ -9,6 +9,7 @@ import subprocess
 
 from achdesk_day.durable import make_folder, write_synced
 from achdesk_day.hooks import step
+from achdesk_day.journal import Line
 from achdesk_day.locks import Lock
 from achdesk_day.run import Run
 from achdesk_day.settings import Settings
@@ -48,13 +49,31 @@ def is_first(run: Run) -> bool:
     this machine was put back to an earlier state, with its journal, and has transmitted files that it no longer knows of."""
     if not has_standby(run.settings):
         return True
-    lines = run.journal.lines
-    counts = [sum(line["did"] == kind for line in lines) for kind in ("confirmed-all", "sending")]
-    name = "begun/" + "-".join(map(str, counts))
+    names = marks(run.journal.lines)
     make_folder(run.state / "begun")
-    write_synced(run.state / name, b"")
-    return name in copy_to_standby(run, "state/", "--fsync", "--ignore-existing", "--out-format=%n", "--files-from=-",
-                                   f"{run.state}/", given=f"{name}\n").split()
+    for path in (run.state / name for name in names):
+        if not path.exists():
+            write_synced(path, b"")
+    return names[-1] in copy_to_standby(run, "state/", "--fsync", "--ignore-existing", "--out-format=%n", "--files-from=-",
+                                        f"{run.state}/", given="".join(f"{it}\n" for it in names)).split()
+
+
+def marks(lines: list[Line]) -> list[str]:
+    """Returns the name of the mark of the transmission that begins, and before it those that the standby may lack: of the
+    transmissions since the last one that got as far as its rename, and one after the last that a person confirmed. Without
+    them a journal that was put back could come upon a number that the standby has no mark of."""
+    names: list[str] = []
+    confirmed = begun = 0
+    for line in lines:
+        if line["did"] == "renaming":
+            names = []
+        elif line["did"] == "confirmed-all":
+            names.append(f"begun/{confirmed}-{begun + 1}")
+            confirmed += 1
+        elif line["did"] == "sending":
+            begun += 1
+            names.append(f"begun/{confirmed}-{begun}")
+    return names
 
 
 def encoded(told: object) -> bytes:

@@ -112,7 +112,8 @@ class Run:
             return False
         if last is None:
             return False
-        return now() - time_of(last["at"]) < datetime.timedelta(minutes=self.settings.number("alarm", "repeat"))
+        # One of the future, of a clock that was set back since, counts as none.
+        return datetime.timedelta() <= now() - time_of(last["at"]) < datetime.timedelta(minutes=self.settings.number("alarm", "repeat"))
 
     def record(self, did: str, **facts: Any) -> None:
         """Writes a line of the journal, but not in a dry run."""

@@ -16,8 +16,8 @@ INCOMING = ("taken", "quarantined", "fetched")
 
 
 def watch(day: Day) -> None:
-    """Looks for files that are late: not transmitted, not acknowledged, not received, or not taken; and for late returns of
-    which the bank has not decided."""
+    """Looks for files that are late: not cut, not transmitted, not acknowledged, not received, or not taken; and for late returns
+    of which the bank has not decided."""
     for name, why in day.unclear():
         day.alarm(f"{name} {why}")
     for line in undecided(day):
@@ -25,6 +25,7 @@ def watch(day: Day) -> None:
     not_acknowledged(day)
     waiting(day)
     status = day.desk_status()
+    not_cut(day, status)
     not_transmitted(day, status)
     not_received(day, status)
     alarm_if_crowded(day, status)
@@ -32,6 +33,14 @@ def watch(day: Day) -> None:
         day.say(f"a flood is not looked for: {OLDER_DESK}")
     if not day.status:
         day.say("nothing is late")
+
+
+def not_cut(day: Day, status: Status) -> None:
+    """Something is due, and the desk day has no file after the cut-off time or the window: the timer of a machine that was off
+    does not cut later."""
+    end, today = day.settings.time("bank", "cut_off") or day.settings.time("sftp", "window"), day.local_now()
+    if end and status.day == today.date() and today.time() >= end and not status.files and any(it.due for it in status.companies):
+        day.alarm(f"nothing was cut on {status.day} until {end:%H:%M}, and something is due: achdesk-day cut --late")
 
 
 def not_transmitted(day: Day, status: Status) -> None:

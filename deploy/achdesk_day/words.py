@@ -107,10 +107,10 @@ bank did about one; the desk keeps the item."""),
 Prints the late returns of which the bank can still decide, within five banking days, from a copy of the desk's file.
 Each is an alarm until then, or until --close N --note TEXT records in the journal what the bank decided."""),
     "watch": ("raise alarms for what is late", """
-Raises an alarm for files that are not transmitted after the window, that are not acknowledged in time, or of which
-the journal says something else than the archive; if no incoming file has come by the configured time, or one waits in
-the inbox; and if a cut would make a quarter of the day's files. The settings are [sftp] window and [alarm]. A timer
-runs it."""),
+Raises an alarm if something is due and nothing was cut by the cut-off time; for files that are not transmitted after
+the window, that are not acknowledged in time, or of which the journal says something else than the archive; if no
+incoming file has come by the configured time, or one waits in the inbox; and if a cut would make a quarter of the day's
+files. The settings are [bank] cut_off, [sftp] window and [alarm]. A timer runs it."""),
     "metrics": ("print metrics as Prometheus text", """
 Prints the desk's status, the exposures, limits and return rates of each company, the number of files that are not
 transmitted, the sizes of the desk's files and the age of the last backup. achdesk_up is 0 if the desk does not

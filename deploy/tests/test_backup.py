@@ -127,6 +127,19 @@ class Repositories(Case):
                 repository.taken_back(self.run_of("/one"), "latest", self.folder / "other")
 
 
+class Making(Case):
+    def test_what_found_no_room_does_not_keep_the_next_backup_back(self) -> None:
+        (self.folder / ".failing.json.part").touch()
+        (self.folder / ".2025-01-14T133000Z.part").mkdir()
+        it = self.run_of("/one", newest="3")
+        it.settings.number.side_effect = lambda section, key: 3
+        it.words = argparse.Namespace(init=False, expire_only=False)
+        with mock.patch.object(backup, "make_backup") as made:
+            backup.backup(it)
+        made.assert_called_once()
+        self.assertEqual([], list(self.folder.iterdir()))
+
+
 class BackedUp(Case):
     def day(self, cut: str | None, *backups: tuple[str, list[str] | None]) -> Any:
         for name, stored in backups:

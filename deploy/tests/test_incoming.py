@@ -208,15 +208,25 @@ class Watching(TestCase):
         self.bank.at(MON, 21)
         self.does("watch", status=1, says=f"the window of the ACH operator closed at 16:00: {MON}-A")
 
+    def test_nothing_is_cut_by_the_cut_off_time(self) -> None:
+        self.bank.configure(bank={"cut_off": "15:45"})
+        self.opened(100)
+        self.does("watch", says="nothing is late")
+        self.bank.at(MON, 20, 45)
+        self.does("watch", status=1, says=f"nothing was cut on {MON} until 15:45, and something is due")
+        self.does("cut", "--late")
+        self.does("watch", says="nothing is late")
+
     def test_the_same_alarm_is_given_once_an_hour(self) -> None:
         self.bank.configure(alarm={"received": "08:00", "command": f"sh -c 'cat >> {self.folder}/alarms'"})
         self.does("open")
         for _ in range(3):
             self.does("watch", status=1)
         self.assertEqual(1, len(self.bank.alarms()))
-        self.bank.now += datetime.timedelta(minutes=61)
-        self.does("watch", status=1)
-        self.assertEqual(2, len(self.bank.alarms()))
+        for moved in (61, -90):  # the last one by a clock that is set back
+            self.bank.now += datetime.timedelta(minutes=moved)
+            self.does("watch", status=1)
+        self.assertEqual(3, len(self.bank.alarms()))
 
 
 class Failing(TestCase):
@@ -242,6 +252,11 @@ class Failing(TestCase):
         self.bank.desk.fails["status"] = [Unavailable("down")]
         self.does("send", status=3)
         self.assertIn("achdesk-day send fails since 2025-01-13T14:00:00.000Z", self.bank.alarms()[0])
+        self.bank.now -= datetime.timedelta(days=400)
+        self.bank.desk.fails["status"] = [Unavailable("down")]
+        self.does("send", status=3)
+        self.assertEqual(2, len(self.bank.alarms()), "a clock that was set back keeps nothing waiting")
+        self.bank.now += datetime.timedelta(days=400)
         self.does("send")
         self.assertEqual({}, json.loads((self.bank.state / "failing.json").read_text()))
 

@@ -5,8 +5,9 @@ from __future__ import annotations
 import copy
 import shutil
 
-from tests.support import MON, Bank, TestCase
+from tests.support import MON, TUE, Bank, TestCase
 
+A, B = f"{MON}-A", f"{MON}-B"
 AFTERNOON = (("cut",), ("copy",), ("send",))
 
 
@@ -58,3 +59,112 @@ class Afternoon(TestCase):
             bank.run(*again)
         self.assertEqual([f"{MON}-A.ach"], [name for name, _ in bank.server.received])
         self.does("send", says="to transmit: nothing")
+
+
+class Restoring(TestCase):
+    def test_cut_and_send_refuse_after_a_restore_until_all_is_confirmed(self) -> None:
+        self.opened(100)
+        self.does("cut")
+        self.does("send")
+        with open(self.bank.state / "day.journal", "a") as journal:
+            journal.write('{"at": "2025-01-13T15:00:00.000Z", "by": "root", "did": "restoring", "began": "2025-01-13T10:00:00.000Z"}\n')
+        self.does("send", status=1, says=f"not confirmed: {A}")
+        self.does("cut", status=1, says="the desk was restored")
+        self.assertIn("achdesk_unconfirmed 1", self.does("metrics"))
+        self.does("confirm", A, "--transmitted", status=2, says="--by NAME is needed")
+        self.does("confirm", "--no-other", "--by", "ANN", status=1, says=f"not confirmed yet: {A}")
+        self.does("confirm", A, "--transmitted", "--by", "ANN", says="confirmed")
+        self.does("send", status=1, says="whether it has any other file is not confirmed")
+        self.does("confirm", "--no-other", "--by", "ANN", says="cut and send go on")
+        self.does("send", says="nothing")
+        self.assertEqual("ANN", self.bank.journal("confirmed")[0]["who"])
+
+    def test_a_second_restore_asks_again(self) -> None:
+        self.opened(100)
+        self.does("cut")
+        self.does("send")
+        for _ in range(2):
+            with open(self.bank.state / "day.journal", "a") as journal:
+                journal.write('{"at": "2025-01-13T15:00:00.000Z", "by": "root", "did": "restoring", "began": "2025-01-13T10:00:00.000Z"}\n')
+            self.does("send", status=1, says=f"not confirmed: {A}")
+            self.does("confirm", A, "--transmitted", "--by", "ANN")
+            self.does("confirm", "--no-other", "--by", "ANN")
+            self.does("send", says="nothing")
+
+    def test_a_file_that_the_operator_lacks_is_transmitted_once_more(self) -> None:
+        self.opened(100)
+        self.does("cut")
+        self.does("send")
+        self.bank.server.folder.clear()
+        self.bank.machine = "two"
+        self.does("confirm", says=A)
+        self.does("confirm", A, "--not-transmitted", "--by", "ANN")
+        self.does("confirm", "--no-other", "--by", "ANN")
+        self.does("send", says=f"sent {A}")
+        self.assertEqual(2, len(self.bank.server.received))
+
+    def test_a_machine_that_was_put_back_with_its_journal_is_noticed_by_the_standby(self) -> None:
+        self.opened(100)
+        self.does("cut")
+        self.keep()
+        self.does("send", says=f"sent {A}")
+        self.put_back()
+        self.does("send", status=1, says="the standby knows of a transmission that this journal does not have")
+        self.assertEqual(1, len(self.bank.server.received))
+        self.does("confirm", A, "--transmitted", "--by", "ANN")
+        self.does("confirm", "--no-other", "--by", "ANN")
+        self.bank.desk.due = [300]
+        self.does("cut")
+        self.bank.run("mark", A, "--transmitted")
+        self.does("send", says=f"sent {B}")
+        self.assertEqual(2, len(self.bank.server.received))
+
+    def test_a_machine_that_was_put_back_is_noticed_though_the_standby_was_down_before(self) -> None:
+        self.opened(100)
+        self.does("cut")
+        self.keep()
+        self.bank.is_standby_up = False
+        for _ in range(3):
+            self.does("send", status=3, says="the standby is down")
+        self.bank.is_standby_up = True
+        self.does("send", says=f"sent {A}")
+        self.put_back()
+        self.does("send", status=1, says="the standby knows of a transmission that this journal does not have")
+
+    def test_a_machine_that_was_put_back_to_before_a_confirmation_is_noticed(self) -> None:
+        self.opened(100)
+        self.does("cut")
+        self.keep()
+        self.bank.machine = "two"
+        self.does("send", status=1, says="the journal is another machine's")
+        self.does("confirm", "--no-other", "--by", "ANN")
+        self.does("send", says=f"sent {A}")
+        self.put_back()
+        self.bank.machine = "one"
+        self.does("send", status=1, says="the standby knows of a transmission that this journal does not have")
+
+    def keep(self) -> None:
+        shutil.copytree(self.bank.state, self.folder / "kept")
+
+    def put_back(self) -> None:
+        """Brings the kept state back, after the ACH operator has taken what was transmitted."""
+        self.bank.server.folder.clear()
+        shutil.rmtree(self.bank.state)
+        (self.folder / "kept").rename(self.bank.state)
+
+    def test_a_desk_that_has_sent_less_than_the_journal_knows_is_noticed(self) -> None:
+        self.opened(100, 200)
+        self.does("cut")
+        self.bank.desk.sent, self.bank.desk.files, self.bank.desk.due = 0, {}, [700]
+        self.does("cut", status=1, says="the desk has sent fewer entries than the journal knows")
+        self.does("confirm", "--no-other", "--by", "ANN")
+        self.does("cut", says="in files A")
+
+    def test_a_restore_of_tuesday_asks_for_files_of_the_days_before(self) -> None:
+        self.opened(100)
+        self.does("cut")
+        self.does("send")
+        self.bank.at(TUE)
+        self.does("open")
+        self.bank.machine = "two"
+        self.does("send", status=1, says=f"not confirmed: {A}")
