@@ -104,6 +104,10 @@ def units(checks, program, folder):
     made = (one.replace("Description=ACH desk", "Description=ACH desk %i").replace("/bank.db", "/%i/bank.db").replace("size of /%i/bank.db", "size of bank.db")
             .replace("StateDirectory=achdesk\n", "StateDirectory=achdesk/%i\n").replace("achdesk.env", "%i.env").replace("edit achdesk,", "edit achdesk@NAME,"))
     checks.that("achdesk@.service is achdesk.service with other names", many, made)
+    one, many = ((DEPLOY / name).read_text().partition("[Unit]")[2] for name in ("achdesk-guard.service", "achdesk-guard@.service"))
+    made = (one.replace("Description=ACH desk", "Description=ACH desk %i").replace("achdesk.service", "achdesk@%i.service").replace("achdesk.env", "%i.env")
+            .replace("/etc/achdesk/keys", "/etc/achdesk/%i/keys"))
+    checks.that("achdesk-guard@.service is achdesk-guard.service with other names", many, made)
 
 
 def failures(checks, services):
@@ -982,6 +986,7 @@ def package(checks, program, folder):
     make_desk(str(at / "usr/bin/achdesk"), at / "var/lib/achdesk/bank.db")
     for path in (at / "var/lib/achdesk").iterdir():
         os.chown(path, *users["achdesk"])
+        path.chmod(0o640)  # as its unit does before each start, for the backups
     for name in ("var/lib/achdesk-day/2025-01-08-A.ach", "var/log/achdesk/proxy.log", "etc/achdesk/tls/key.pem"):
         (at / name).write_text(name)
     (at / "etc/achdesk/keys/people.map").write_text('"~^alice-key-1$" "operator:alice";\n')

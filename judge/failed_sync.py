@@ -1,23 +1,27 @@
 #!/usr/bin/env python3
-"""Tries a disk that fails a sync and then loses power: `python3 judge/failed_sync.py [PROGRAM] [PART ..]`.
+"""Tries a disk that fails a sync and then loses power: `python3 judge/failed_sync.py [--user-mode] [PROGRAM] [PART ..]`.
 
-In a virtual machine with systemd, the desk's file is on a device of the device mapper. While submissions come in, the device
-refuses to write the log's blocks (dm-flakey, error_writes) for a moment. The desk then answers 503 until it is started
-again. After the restart submissions are answered 201; then the power goes: no write reaches the device any more, and the
-file system is mounted anew.
+In a virtual machine with systemd, or with --user-mode in one whose kernel is a program of this machine, the desk's file is on a
+device of the device mapper. While submissions come in, the device refuses to write the log's blocks (dm-flakey, error_writes) for a
+moment. The desk then answers 503 until it is started again. After the restart submissions are answered 201; then the power goes: no
+write reaches the device any more, and the file system is mounted again.
+
+Each with both options of --sync:
 
 - cached: nobody reads again from the device. The restart has neither achdesk-guard, nor the desk's own posix_fadvise, by which it
-  drops the pages of its files whenever it opens them (an LD_PRELOAD takes it away). 201s that were answered after it are lost. If
-  none is, the try does not show anything.
+  drops the pages of its files whenever it opens them (an LD_PRELOAD takes it away). With --sync once 201s that were answered after
+  it are lost. If none is, the try does not show anything.
 - alone: the desk is restarted without achdesk-guard. It drops the pages itself, and no 201 is lost.
 - shipped: achdesk-guard.service finds the desk, raises an alarm, and restarts it, which compares both files with the device and drops
   what differs. No 201 is lost, neither one from before the failure nor one from after the restart.
+- guarded: as shipped, but the desk does not drop the pages itself.
 - nightly: the nightly restart does so too.
 
-It needs a kernel of Debian, qemu, busybox and a C compiler: see judge/helpers/machine.py. PROGRAM is the built program if it is left out. The status
+It needs a C compiler, dmsetup, and what judge/helpers/machine.py or user_mode.py lists. PROGRAM is the built program if it is left out. The status
 is 1 if a check failed, and 2 if something is missing, which is named; that is not a pass.
 """
 
+import itertools
 import os
 import re
 import shutil
@@ -29,8 +33,11 @@ from pathlib import Path
 
 from helpers.running import Checks, program_of
 
-DEVICE, MAPPED = "/dev/vda", "/dev/mapper/desk"
+DEVICE = "/dev/vda" if Path("/dev/vda").exists() else "/dev/ubda"  # of a virtual machine, or of one in user mode
+MAPPED, LIBRARY, WAITING = "/dev/mapper/desk", "/usr/lib/judge-no-advice.so", Path("/var/lib/achdesk-alarm/waiting")
 WARMING, LATER = 400, 12  # submissions before the failure, so that the log begins again, and after the restart
+# The desk's own posix_fadvise does nothing; the guard's, in the same unit, does.
+WITHOUT_ADVICE = f"ExecStart=\nExecStart=/usr/bin/env LD_PRELOAD={LIBRARY} /usr/bin/achdesk serve /var/lib/achdesk/bank.db $DESK_PORT $DESK_OPTIONS\n"
 NO_ADVICE = "int posix_fadvise(int f, long o, long n, int a) { return 0; }\nint posix_fadvise64(int f, long o, long n, int a) { return 0; }\n"
 
 
@@ -146,26 +153,23 @@ def found_after_power(installed, size):
     return after_power(installed)
 
 
-def cached(installed, checks):
-    """What the guard and the desk's open are for: once with each option of the desk."""
-    lost = {}
-    for option in ("once", "twice"):
-        with_drop_in(installed, f"[Service]\nExecStartPre=\nExecStart=\nExecStart=/usr/bin/achdesk serve {installed.DESK} 880 --connections 1000000 --sync {option}\n"
-                     "Environment=LD_PRELOAD=/judge/no_advice.so\n")
-        size, before = new_file_system(installed)
-        checks.that(f"--sync {option}: a failed sync is 503, and so is each call after it", set(fail_a_sync(installed, size)), {503})
-        installed.done("systemctl", "restart", "achdesk")
-        installed.wait_for_desk()
-        answered = later(installed, "CACHED")
-        found = found_after_power(installed, size)
-        lost[option] = sorted({*before, *answered} - (found or set()))
-        print(f"        --sync {option}, read from memory: {len(answered)} answered after the restart, lost: {' '.join(lost[option]) or 'none'}", flush=True)
-        checks.that(f"--sync {option}: the desk went on", len(answered), LATER)
+def cached(installed, checks, option):
+    """What the guard and the desk's open are for."""
+    with_drop_in(installed, f"[Service]\nExecStartPre=\n{WITHOUT_ADVICE}")
+    size, before = new_file_system(installed)
+    checks.that("a failed sync is 503, and so is each call after it", set(fail_a_sync(installed, size)), {503})
+    installed.done("systemctl", "restart", "achdesk")
+    installed.wait_for_desk()
+    answered = later(installed, "CACHED")
+    lost = sorted({*before, *answered} - (found_after_power(installed, size) or set()))
+    print(f"        read from memory: {len(answered)} answered after the restart, lost: {' '.join(lost) or 'none'}", flush=True)
+    checks.that("the desk went on", len(answered), LATER)
+    if option == "once":
+        checks.that("if nobody reads again from the device, 201s from after the restart are lost", any(it.startswith("CACHED") for it in lost))
     with_drop_in(installed, "")
-    checks.that("if nobody reads again from the device, 201s from after the restart are lost", any(it.startswith("CACHED") for it in lost["once"] + lost["twice"]))
 
 
-def alone(installed, checks):
+def alone(installed, checks, option):
     with_drop_in(installed, "[Service]\nExecStartPre=\n")
     size, before = new_file_system(installed)
     checks.that("without the guard a failed sync is 503, and so is each call after it", set(fail_a_sync(installed, size)), {503})
@@ -177,16 +181,25 @@ def alone(installed, checks):
     with_drop_in(installed, "")
 
 
-def shipped(installed, checks):
+def guarded(installed, checks, option):
+    with_drop_in(installed, f"[Service]\n{WITHOUT_ADVICE}")
+    shipped(installed, checks, option)
+    with_drop_in(installed, "")
+
+
+def shipped(installed, checks, option):
+    for path in WAITING.glob("*.json"):  # of an earlier part
+        path.unlink()
+    began = int(time.time())
     size, before = new_file_system(installed)
     checks.that("a failed sync is 503, and so is each call after it", set(fail_a_sync(installed, size)), {503})
     installed.done("systemctl", "start", "achdesk-guard.service")
     checks.that("the guard finds the desk", installed.ended("achdesk-guard.service"), ("exit-code", "4"))
     checks.that("and has restarted it", installed.wait_for_desk())
-    printed = installed.done("journalctl", "-u", "achdesk", "-o", "cat", "--no-pager")[1]
+    printed = installed.done("journalctl", "-u", "achdesk", "--since", f"@{began}", "-o", "cat", "--no-pager")[1]
     checks.that("which has dropped what the device did not take", bool(re.search(r"bank.db-wal.*bytes in memory were not those of its disk, and are dropped", printed)))
     for _ in range(60):
-        alarms = [path.read_text() for path in Path("/var/lib/achdesk-alarm/waiting").glob("*.json")]
+        alarms = [path.read_text() for path in WAITING.glob("*.json")]
         if alarms:
             break
         time.sleep(0.5)
@@ -199,7 +212,7 @@ def shipped(installed, checks):
     checks.that(f"none of {len(answered)} 201s from after the restart is lost", (len(answered), sorted(set(answered) - (found or set()))), (LATER, []))
 
 
-def nightly(installed, checks):
+def nightly(installed, checks, option):
     size, before = new_file_system(installed)
     fail_a_sync(installed, size)
     installed.done("systemctl", "start", "achdesk-restart.service")
@@ -209,16 +222,21 @@ def nightly(installed, checks):
     checks.that(f"after the nightly restart none of {len(before) + len(answered)} 201s is lost", (len(answered), sorted({*before, *answered} - found)[:3]), (LATER, []))
 
 
-PARTS = {it.__name__: it for it in (cached, alone, shipped, nightly)}
+PARTS = {it.__name__: it for it in (cached, alone, guarded, shipped, nightly)}
 
 
 def inside(words):
     from helpers import installed
+    os.environ["DM_DISABLE_UDEV"] = "1"  # no udev makes the names of devices
     installed.install()
+    installed.done("install", "-m", "755", "/judge/no_advice.so", LIBRARY, check=True)  # only root gets into /judge
     checks = Checks()
-    for name in words or PARTS:
-        print(f"---- {name}", flush=True)
-        PARTS[name](installed, checks)
+    options = Path("/etc/achdesk/achdesk.env")
+    shipped_options = options.read_text()
+    for name, option in itertools.product(words or PARTS, ("once", "twice")):
+        print(f"---- {name}, --sync {option}", flush=True)
+        options.write_text(re.sub(r"(?m)^DESK_OPTIONS=.*", rf"\g<0> --sync {option}", shipped_options))
+        PARTS[name](installed, checks, option)
     if checks.failed:
         print(installed.done("journalctl", "--no-pager", "-o", "short-monotonic", "-u", "achdesk*")[1][-8_000:])
         print(installed.done("dmesg")[1][-4_000:])
@@ -229,20 +247,22 @@ def inside(words):
 # ---- on the host
 
 def main():
-    from helpers import installed, machine
-    lacking = machine.missing() + [package for name, package in (("dmsetup", "dmsetup"), ("mkfs.ext4", "e2fsprogs"), ("filefrag", "e2fsprogs"), ("make", "make"), ("cc", "gcc")) if not shutil.which(name, path=os.environ["PATH"] + ":/usr/sbin:/sbin")]
+    from helpers import installed, machine, user_mode
+    kind, made = (user_mode, user_mode.UserMode) if "--user-mode" in sys.argv[1:] else (machine, machine.Machine)
+    told = [it for it in sys.argv[1:] if it != "--user-mode"]
+    lacking = kind.missing() + [package for name, package in (("dmsetup", "dmsetup"), ("mkfs.ext4", "e2fsprogs"), ("filefrag", "e2fsprogs"), ("make", "make"), ("cc", "gcc")) if not shutil.which(name, path=os.environ["PATH"] + ":/usr/sbin:/sbin")]
     if lacking:
         print(f"not tried: it needs {', '.join(lacking)}")
         sys.exit(2)
-    words = [it for it in sys.argv[1:] if it in PARTS]
-    program = program_of([it for it in sys.argv[1:] if it not in PARTS])
+    words = [it for it in told if it in PARTS]
+    program = program_of([it for it in told if it not in PARTS])
     with tempfile.TemporaryDirectory(prefix="judge-failed-sync-") as folder:
         installed.tree(Path(folder) / "tree", program)
         subprocess.run(["cc", "-shared", "-fPIC", "-x", "c", "-", "-o", f"{folder}/no_advice.so"], input=NO_ADVICE, text=True, check=True)
         disk = Path(folder) / "disk"
         with open(disk, "wb") as file:
             file.truncate(192 << 20)
-        with machine.Machine(folder, modules=("dm_flakey", "ext4")) as it:
+        with made(folder, modules=("dm_flakey", "ext4")) as it:
             printed, status = it.run(f"cd {Path(__file__).resolve().parent} && exec /usr/bin/python3 failed_sync.py --inside {' '.join(words)}\n", 3600, disks=[disk])
         print(printed, end="")
         if status is None:

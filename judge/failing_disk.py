@@ -6,11 +6,14 @@ write new blocks, and a sync of the desk fails; then the tmpfs grows, and the de
 the copy has what the device had taken, and is mounted and opened. Between the loop device and the image is qemu's storage daemon by FUSE:
 without it Linux's loop device reports a write of which the tmpfs took a part as a whole one, and a sync that lost data succeeds.
 
-- shipped: the desk answers 503 until it is started again, and `achdesk-guard ask` finds it. As the unit does, `achdesk-guard reread` before
-  the start finds bytes in memory that the device does not have, and drops them. No 201 is lost.
+- shipped: the desk answers 503 until it is started again, and `achdesk-guard ask` finds it. As the unit does, `achdesk-guard reread` reads
+  both files again before the start. No 201 is lost.
+- guarded: the same, but an LD_PRELOAD takes the desk's own posix_fadvise away. No 201 is lost by what the guard does alone.
 - alone: without the guard the desk drops these pages itself when it opens its files, by posix_fadvise. No 201 is lost.
-- cached: with neither, since an LD_PRELOAD takes the desk's posix_fadvise away, 201s that were answered after the restart are lost. If none
-  is, the try does not show anything. Once with each option of the desk.
+- cached: with neither, 201s that were answered after the restart are lost. If none is, the try does not show anything.
+
+Each is tried with both options of --sync. With `once` the device refuses zeros that are written ahead of the log, so that the guard finds
+no byte that differs; without it later writes to these pages are lost all the same. With `twice` it finds bytes that do.
 
 It needs root, a loop device, /dev/fuse, a C compiler and Debian's e2fsprogs, mount and qemu-system-common. judge/failed_sync.py tries the same with the installed units and the
 device mapper in a virtual machine. PROGRAM is the built program if it is left out. The status is 1 if a check failed, and 2 if
@@ -18,6 +21,7 @@ something is missing, which is named.
 """
 
 import http.client
+import itertools
 import json
 import os
 import shutil
@@ -150,9 +154,10 @@ def opened(program, path):
 NAMES = [f"{kind}-{number}" for kind in ("BEFORE", "DURING", "HEALED", "AFTER") for number in range(12)]
 
 
-def tried(program, checks, folder, kind, option):
-    """A failure, a restart, submissions, and the power. Returns the 201s of each time, and which are found."""
-    what, environment = f"{kind}, --sync {option}", {"LD_PRELOAD": str(folder / "no_advice.so")} if kind == "cached" else {}
+def tried(program, checks, folder, kind, option, dropped):
+    """A failure, a restart, submissions, and the power. Returns the 201s of each time, and which are found. `dropped` takes whether the guard
+    found bytes in memory that the device does not have."""
+    what, environment = f"{kind}, --sync {option}", {"LD_PRELOAD": str(folder / "no_advice.so")} if kind in ("cached", "guarded") else {}
     keys, answered = folder / "desk.map", {}
     keys.write_text(f'"~^operator$" "{OPERATOR_KEY}";\n')
     subprocess.run(["cc", "-shared", "-fPIC", "-x", "c", "-", "-o", folder / "no_advice.so"], input=NO_ADVICE, text=True, check=True)
@@ -168,9 +173,10 @@ def tried(program, checks, folder, kind, option):
         checks.that(f"{what}: a failed sync is 503, and so is each call after it, though the disk is well again", (len(answered["before"]), sorted(during) == during, during[-2:], healed), (6, True, [503] * 2, [503] * 2))
         checks.that(f"{what}: the guard finds it", subprocess.run(guarded, capture_output=True).returncode, 4)
         desk.stop()
-        if kind == "shipped":
+        if kind in ("shipped", "guarded"):
             done = subprocess.run([sys.executable, GUARD, "reread", disk.file], capture_output=True, text=True)
-            checks.that(f"{what}: what the disk did not take is dropped", (done.returncode, "bytes in memory were not those of its disk, and are dropped" in done.stdout), (0, True))
+            checks.that(f"{what}: the guard reads both files again", (done.returncode, done.stdout.count("is as its disk has it")), (0, 2))
+            dropped.append("are dropped" in done.stdout)
             print("        " + done.stdout.strip().replace("\n", "\n        "), flush=True)
         with Serving(program, disk.file, 1_000_000, patience=5, options=["--sync", option], environment=environment).listen(600) as desk:
             checks.that(f"{what}: the guard finds nothing after the restart", subprocess.run([*guarded[:3], str(desk.port), *guarded[4:]]).returncode, 0)
@@ -185,13 +191,13 @@ def main():
     lacking = [package for name, package in (("mkfs.ext4", "e2fsprogs"), ("losetup", "mount"), ("qemu-storage-daemon", "qemu-system-common"), ("cc", "gcc"))
                if not shutil.which(name, path=os.environ["PATH"] + ":/usr/sbin:/sbin")]
     lacking += [] if os.geteuid() == 0 and Path("/dev/loop-control").exists() and Path("/dev/fuse").exists() else ["root, a loop device and /dev/fuse"]
-    program, checks, lost_cached = program_of(sys.argv[1:]), Checks(), []
+    program, checks, lost_cached, dropped = program_of(sys.argv[1:]), Checks(), [], []
     if lacking:
         print(f"not tried: it needs {', '.join(lacking)}")
         sys.exit(2)
-    for kind, option in (("cached", "once"), ("cached", "twice"), ("alone", "once"), ("alone", "twice"), ("shipped", "once"), ("shipped", "twice")):
+    for kind, option in itertools.product(("cached", "alone", "guarded", "shipped"), ("once", "twice")):
         with tempfile.TemporaryDirectory(prefix="judge-failing-disk-") as folder:
-            answered, found = tried(program, checks, Path(folder), kind, option)
+            answered, found = tried(program, checks, Path(folder), kind, option, dropped)
         lost = [ref for refs in answered.values() for ref in refs if ref not in (found or set())]
         print(f"        {kind}, --sync {option}: {len(answered['during'])} answered 201 while the disk failed; lost: {' '.join(lost) or 'none'}", flush=True)
         if kind == "cached":
@@ -199,6 +205,7 @@ def main():
         else:
             checks.that(f"{kind}, --sync {option}: no 201 is lost", (len(answered["before"]), len(answered["after"]), found is not None, lost), (6, LATER, True, []))
     checks.that("if nobody reads again from the disk, 201s from after the restart are lost", bool(lost_cached))
+    checks.that("the guard found bytes that the disk does not have, and dropped them", any(dropped))
     checks.end()
 
 

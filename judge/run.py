@@ -23,7 +23,7 @@ from helpers.running import program_of
 HERE = Path(__file__).resolve().parent
 PATHS = f"{os.environ.get('PATH', '')}:/usr/sbin:/sbin"
 # What judges need, and what has it: Debian's packages, but for the toolchain. A module of Python is named with a dot.
-NEEDS = {"busybox": "busybox-static", "chromedriver": "chromium-driver", "chromium": "chromium", "curl": "curl", "debugfs": "e2fsprogs", "dmsetup": "dmsetup", "drbdadm": "drbd-utils", "gcc": "gcc", "ip": "iproute2", "lintian": "lintian",
+NEEDS = {"busybox": "busybox-static", "chromedriver": "chromium-driver", "chromium": "chromium", "curl": "curl", "debugfs": "e2fsprogs", "dmsetup": "dmsetup", "drbdadm": "drbd-utils", "gcc": "gcc", "ip": "iproute2", "lintian": "lintian", "linux.uml": "user-mode-linux",
          "logrotate": "logrotate", "losetup": "mount", "make": "make", "man": "man-db", "mkfs.ext4": "e2fsprogs", "mtail": "mtail", "mypy": "mypy", "nft": "nftables", "nginx": "nginx", "openssl": "openssl", "prometheus-alertmanager": "prometheus-alertmanager",
          "promtool": "prometheus", "qemu-storage-daemon": "qemu-system-common", "qemu-system-x86_64": "qemu-system-x86", "rclone": "rclone", "restic": "restic", "rsync": "rsync", "rt": "the Rattle toolchain", "sftp": "openssh-client", "sqlite3": "sqlite3", "ss": "iproute2", "sshd": "openssh-server",
          "strace": "strace", "valgrind": "valgrind", ".yaml": "python3-yaml"}
@@ -77,9 +77,9 @@ JUDGES = (
     Judge("alarms", (), ("prometheus-alertmanager", "openssl"), takes_program=False),
     Judge("prometheus", (), ("promtool", "mtail"), takes_program=False),
     Judge("backups", (), ("nginx", "openssl", "sshd", "sftp", "curl", "rsync", "restic", "rclone")),
-    Judge("units", (), ("qemu-system-x86_64", "busybox", "restic", "openssl", "make")),
+    Judge("units", ("--user-mode",), ("linux.uml", "busybox", "restic", "openssl", "make")),
     Judge("failing_disk", (), ("mkfs.ext4", "losetup")),
-    Judge("failed_sync", (), ("qemu-system-x86_64", "busybox", "dmsetup", "make")),
+    Judge("failed_sync", ("--user-mode",), ("linux.uml", "busybox", "dmsetup", "make")),
     Judge("standby", ("--kills", "5"), ("qemu-system-x86_64", "busybox", "drbdadm", "mkfs.ext4", "debugfs", "nginx")),
     Judge("standby_power", ("--kills", "5"), ("qemu-storage-daemon", "losetup", "mkfs.ext4")),
     Judge("timing", (), ("nginx", "openssl", "valgrind")),

@@ -83,7 +83,7 @@ def check_group(checks):
     units = {name.removeprefix("systemd:") for it, name in primitives.items() if it in members and name.startswith("systemd:")}
     checks.that("all that has a place of its own is in the group", sorted(set(primitives) - set(members)), ["disk", "fence-desk1", "fence-desk2"])
     checks.that("units of the group that are not shipped", sorted(it for it in units - {"achdesk", "nginx"} if it not in shipped), [])
-    checks.that("timers and paths that are not in the group", sorted(it for it in shipped - units if not it.endswith(".service")), ["achdesk-day-copy.timer"])
+    checks.that("timers and paths that are not in the group", sorted(it for it in shipped - units if not it.endswith(".service")), ["achdesk-day-copy.timer", "achdesk-guard@.timer"])
     page = (TOP / "docs" / "operate" / "standby.md").read_text()
     folders = re.findall(r"^\| `(/\S+)` \| `(\w+)`:", page, re.M)
     binds = re.findall(r"device=/srv/achdesk/(\w+) directory=(\S+) fstype=none options=bind", text)

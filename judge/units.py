@@ -1,22 +1,23 @@
 #!/usr/bin/env python3
-"""Starts every installed unit under a real systemd: `python3 judge/units.py [--machine] [PROGRAM] [PART ..]`.
+"""Starts every installed unit under a real systemd: `python3 judge/units.py [--machine | --user-mode] [PROGRAM] [PART ..]`.
 
-systemd is the first process of namespaces of this machine, or with --machine of a virtual one, whose clock and kernel are its own.
+systemd is the first process of namespaces of this machine, or of a machine whose clock and kernel are its own: with --machine a virtual one, with
+--user-mode one whose kernel is a program of this machine, which is faster where there is no KVM.
 
 - sandboxes: in the sandbox of each service its user, groups and credentials, and what it can write and reach.
 - rights: which user reads or writes what; keys that root alone can read reach the units by LoadCredential=.
 - failures: a failure is mailed, whatever fails: a unit that ends with status 1, 2, 3, that is killed or runs too long; once it works
   again, that is mailed too. Status 3 waits for the time of alarm.conf.
 - backups: a backup, its tag, and its expiry.
-- clock: `open` refuses while the clock is not synchronised; in a virtual machine by the shipped command, and its unit waits for
+- clock: `open` refuses while the clock is not synchronised; in a machine of its own by the shipped command, and its unit waits for
   time-sync.target.
 - day: a bank's day by the units alone, with the shipped day.conf, a real SFTP server, a standby that only takes, and a desk that
   takes long to open.
 - once: each failure of achdesk-day is one mail: a refused file, a changed host key, a server that is down, a backup that fails.
 - others: a second desk, the guard, the nightly restart, the metrics.
-- timers: each timer starts its unit, and no two that change something begin in one minute.
+- timers: no two timers of what changes something elapse in one minute; in a machine of its own, whose clock is set forward for it, each starts its unit.
 
-It needs root, systemd, nginx, restic, rsync, openssh-server and python3-aiosmtpd, and with --machine what judge/helpers/machine.py lists.
+It needs root, systemd, nginx, restic, rsync, openssh-server and python3-aiosmtpd, and what judge/helpers/machine.py or user_mode.py lists.
 PROGRAM is the built program if it is left out. The status is 1 if a check failed, and 2 if something is missing, which is named; that is not a pass.
 """
 
@@ -38,8 +39,9 @@ from pathlib import Path
 
 from helpers.running import HOST, TOP, Checks, program_of
 
-MAILS, PASSWORD, NOW = Path("/run/mails"), "the-mail-password", "2026-12-01T14:30:00"  # the time of the virtual machine, in UTC
-TODAY = str(datetime.datetime.now(zoneinfo.ZoneInfo("America/New_York")).date())
+MAILS, PASSWORD, NOW = Path("/run/mails"), "the-mail-password", "2026-12-01T14:30:00"  # the time of a machine of its own, in UTC
+NOW_THERE = datetime.datetime.now(zoneinfo.ZoneInfo("America/New_York")).date()
+TODAY, TOMORROW = str(NOW_THERE), str(NOW_THERE + datetime.timedelta(3 if NOW_THERE.weekday() == 4 else 1))  # of the bank
 CLOCK = Path("/run/judge-clock")  # what namespaces say of the clock, which is not theirs
 USERS = ("achdesk", "achdesk-day", "achdesk-backup", "achdesk-alarm", "achdesk-guard")
 UNITS, OPERATOR, STANDBY = Path("/usr/lib/systemd/system"), Path("/srv/operator"), Path("/var/lib/achdesk-standby")
@@ -79,7 +81,7 @@ def configure(installed, kind):
                    "-addext", "subjectAltName=DNS:localhost", check=True)
     day = Path("/etc/achdesk/day.conf")
     settings = {name: dict(told) for name, told in SETTINGS.items()}
-    settings["clock"] |= {} if kind == "machine" else {"command": f"cat {CLOCK}"}
+    settings["clock"] |= {} if kind != "namespaces" else {"command": f"cat {CLOCK}"}
     day.write_text(configured(day.read_text(), settings))
     Path("/etc/achdesk/alarm.conf").write_text("[alarm]\nhost = desk-1\npatience = 30\n[patience]\njudge-now.service = 0\n[mail]\nto = a@bank.example\nserver = localhost\nport = 2525\n"
                                                "ca_file = /run/cert.pem\nuser = achdesk\n")
@@ -294,7 +296,7 @@ def tags(installed):
 
 def set_synchronised(kind, is_synchronised):
     """What the kernel says of its clock, by adjtimex: ADJ_MAXERROR and ADJ_STATUS of struct timex on x86_64."""
-    if kind != "machine":
+    if kind == "namespaces":
         CLOCK.write_text("yes\n" if is_synchronised else "no\n")
         return
     fields = (ctypes.c_long * 26)()
@@ -312,19 +314,20 @@ def clock(installed, checks, kind):
     new_mails(known)
     settled(installed)
     checks.that("which is one mail", ["the clock is not synchronised" in it for it in new_mails(known)], [True])
-    if kind == "machine":
+    if kind != "namespaces":
         waits_for_time(installed, checks)
     set_synchronised(kind, True)
     checks.that("it sets the day once the clock is synchronised", (start(installed, "achdesk-day-open.service"), installed.status()["day"]), (("success", "0"), TODAY))
 
 
 def waits_for_time(installed, checks):
+    installed.done("systemctl", "stop", "time-sync.target")  # as after a boot: an earlier `open` has reached it
+    Path("/run/systemd/timesync").mkdir(exist_ok=True)  # as systemd-timesyncd makes it when it starts
     installed.done("systemctl", "start", "--no-block", "systemd-time-wait-sync.service")
     installed.done("systemctl", "start", "--no-block", "achdesk-day-open.service")
     time.sleep(20)
     jobs = installed.done("systemctl", "list-jobs", "--no-legend")[1]
     checks.that("its unit waits for time-sync.target", (bool(re.search(r"achdesk-day-open.service +start +waiting", jobs)), bool(re.search(r"systemd-time-wait-sync.service +start +running", jobs))), (True, True))
-    Path("/run/systemd/timesync").mkdir(exist_ok=True)
     Path("/run/systemd/timesync/synchronized").touch()
 
 
@@ -339,8 +342,8 @@ def waits_for_desk(installed, checks):
 def day(installed, checks):
     waits_for_desk(installed, checks)
     installed.done("systemctl", "start", "nginx")
-    answers = [installed.ask("POST", "/ops/companies", installed.MILL)[0], installed.submit("PAY-1", 2, TODAY)]
-    checks.that("a company submits", answers, [200, 201])
+    answers = [installed.ask("POST", "/ops/companies", installed.MILL)[0], installed.submit("PAY-1", 2, TOMORROW)]
+    checks.that("a company submits", answers, [201, 201])
     for name in ("fetch", "returns", "watch", "copy"):
         checks.that(f"achdesk-day@{name} works", start(installed, f"achdesk-day@{name}.service"), ("success", "0"))
     checks.that("the afternoon's unit cuts, backs up, transmits and reports", start(installed, "achdesk-day-cut.service"), ("success", "0"))
@@ -372,7 +375,7 @@ def once(installed, checks):
     checks.that("the next run works", start(installed, "achdesk-day@returns.service"), ("success", "0"))
     settled(installed)
     checks.that("and takes back nothing", new_mails(known, seconds=3), [])
-    installed.submit("PAY-2", 1, TODAY)
+    checks.that("a company submits again", installed.submit("PAY-2", 1, TOMORROW), 201)
     installed.done("systemctl", "stop", "judge-sshd")
     checks.that("a server that is down ends the afternoon with status 3", start(installed, "achdesk-day-cut.service"), ("exit-code", "3"))
     settled(installed)
@@ -390,7 +393,7 @@ def once(installed, checks):
     mailed_once(installed, checks, "a changed host key ends the transmission with status 2", "achdesk-day-send.service", ("exit-code", "2"), "does not let achdesk-day in, or is another one")
     hosts.write_text(right)
     mailed_once(installed, checks, "with the right one it works", "achdesk-day-send.service", ("success", "0"), "OVER: achdesk-day-send.service")
-    installed.submit("PAY-3", 1, TODAY)
+    checks.that("and once more", installed.submit("PAY-3", 1, TOMORROW), 201)
     repository = Path("/var/lib/achdesk-backup/repository")
     repository.rename(repository.with_name("elsewhere"))
     mailed_once(installed, checks, "a backup that fails ends the afternoon with status 3", "achdesk-day-cut.service", ("exit-code", "3"), "achdesk-backup@cut.service")
@@ -412,6 +415,10 @@ def others(installed, checks):
     checks.that("and they answer", (installed.wait_for_desk(), installed.wait_for_desk(port=881)), (True, True))
     after = {name: installed.done("systemctl", "show", name, "--property=MainPID", "--value")[1] for name in before}
     checks.that("as new processes", [name for name in before if before[name] == after[name]], [])
+    keys = Path("/etc/achdesk/two/keys")
+    keys.mkdir(parents=True, mode=0o700)
+    shutil.copy("/etc/achdesk/keys/desk.map", keys)
+    checks.that("its guard finds it well", start(installed, "achdesk-guard@two.service"), ("success", "0"))
     installed.done("systemctl", "stop", "achdesk@two")
     collected = Path("/var/lib/prometheus/node-exporter")
     installed.done("install", "-d", "-o", "achdesk-day", "-m", "755", collected, check=True)
@@ -420,19 +427,34 @@ def others(installed, checks):
 
 def begins(installed, timer):
     """The moments of a weekday at which a timer elapses, by systemd."""
-    words = re.findall(r"(?m)^OnCalendar=(.*)$", (UNITS / timer).read_text())
-    printed = installed.done("systemd-analyze", "calendar", "--iterations=2000", "--base-time=2026-12-02 05:00 UTC", *words, check=True)[1]
+    words = re.findall(r"(?m)^OnCalendar=(.*)$", (UNITS / timer.replace("@two.", "@.")).read_text())
+    most = 150 if "America/" in "".join(words) else 2000  # systemd makes a process for each moment of another time zone
+    printed = installed.done("systemd-analyze", "calendar", f"--iterations={most}", "--base-time=2026-12-02 05:00 UTC", *words, check=True)[1]
     found = re.findall(r"(?m)^ *(?:Next elapse|Iter\. #\d+|Iteration #\d+): \w+ (\d{4}-\d\d-\d\d \d\d:\d\d:\d\d) UTC", printed)
     return [it for it in found if "2026-12-02 05:00:00" <= it < "2026-12-03 05:00:00"]
 
 
-def timers(installed, checks):
+def is_started(installed, timer, unit):
+    """Sets the clock to two seconds before a timer elapses, and returns whether its unit is started then."""
+    def shown(name, key):
+        return installed.done("systemctl", "show", name, f"--property={key}", "--value", check=True)[1].strip()
+
+    before = shown(unit, "InvocationID")
+    elapses = datetime.datetime.strptime(shown(timer, "NextElapseUSecRealtime"), "%a %Y-%m-%d %H:%M:%S UTC").replace(tzinfo=datetime.UTC)
+    installed.done("date", "-s", f"@{int(elapses.timestamp()) - 2}", check=True)
+    until = time.monotonic() + 300
+    while shown(unit, "InvocationID") == before and time.monotonic() < until:
+        time.sleep(0.5)
+    return shown(unit, "InvocationID") != before
+
+
+def timers(installed, checks, kind):
     os.environ["TZ"] = "UTC"
-    names = sorted(it.name for it in UNITS.glob("achdesk-*.timer") if it.name != "achdesk-standby.timer")
+    names = sorted(it.name.replace("@.", "@two.") for it in UNITS.glob("achdesk-*.timer") if it.name != "achdesk-standby.timer")
     at = {name: begins(installed, name) for name in names}
     checks.that("each timer elapses on a weekday", [name for name, it in at.items() if not it], [])
     often = [name for name, it in at.items() if len(it) >= 1440]
-    checks.that("those of every minute", often, ["achdesk-alarm.timer", "achdesk-day-copy.timer", "achdesk-day-metrics.timer", "achdesk-guard.timer"])
+    checks.that("those of every minute", often, ["achdesk-alarm.timer", "achdesk-day-copy.timer", "achdesk-day-metrics.timer", "achdesk-guard.timer", "achdesk-guard@two.timer"])
     checks.that("have seconds of their own", len({at[name][0][-2:] for name in often}), len(often))
     minutes = [(moment[:16], name) for name, it in at.items() if name not in often for moment in it]
     checks.that("no two of the others begin in one minute", sorted({one for one, _ in minutes if sum(it == one for it, _ in minutes) > 1}), [])
@@ -445,7 +467,10 @@ def timers(installed, checks):
         installed.done("systemctl", "start", name)
         shown = installed.done("systemctl", "show", name, "--property=ActiveState", "--property=Unit", "--property=NextElapseUSecRealtime", "--value")[1].split("\n")
         target = next((it for it in shown if it.endswith(".service")), "")
-        checks.that(f"{name} is active, and starts {target}", ("active" in shown, installed.done("systemctl", "cat", target)[0]), (True, 0))
+        checks.that(f"{name} is active, and its unit is {target}", ("active" in shown, installed.done("systemctl", "cat", target)[0]), (True, 0))
+        if kind != "namespaces":
+            checks.that("which starts when it elapses", is_started(installed, name, target))
+            installed.done("systemctl", "stop", name, target)
 
 
 PARTS = {it.__name__: it for it in (sandboxes, rights, failures, backups, clock, day, once, others, timers)}
@@ -462,7 +487,7 @@ def inside(kind, words):
     for name in words or PARTS:
         print(f"---- {name}", flush=True)
         try:
-            PARTS[name](installed, checks, *([kind] if name == "clock" else []))
+            PARTS[name](installed, checks, *([kind] if name in ("clock", "timers") else []))
         except (OSError, ValueError) as fault:
             checks.that(f"{name} comes to its end", repr(fault), "")
     if checks.failed:
@@ -475,9 +500,10 @@ def inside(kind, words):
 # ---- on the host
 
 def main():
-    from helpers import installed, machine, namespaces
-    kind = machine if "--machine" in sys.argv[1:] else namespaces
-    told = [it for it in sys.argv[1:] if it != "--machine"]
+    from helpers import installed, machine, namespaces, user_mode
+    kinds = {"--machine": (machine, machine.Machine), "--user-mode": (user_mode, user_mode.UserMode)}
+    kind, made = next((kinds[it] for it in sys.argv[1:] if it in kinds), (namespaces, namespaces.Namespaces))
+    told = [it for it in sys.argv[1:] if it not in kinds]
     words = [it for it in told if it in PARTS]
     lacking = kind.missing() + [package for name, package in (("restic", "restic"), ("openssl", "openssl"), ("make", "make"), ("rrsync", "rsync"), ("/usr/sbin/sshd", "openssh-server"), ("/usr/sbin/nginx", "nginx"))
                                    if not shutil.which(name)]
@@ -485,14 +511,14 @@ def main():
     if lacking:
         print(f"not tried: it needs {', '.join(lacking)}")
         sys.exit(2)
-    if kind is namespaces and datetime.date.fromisoformat(TODAY).weekday() > 4:
-        print("not tried: today is not a banking day, and only --machine has a clock of its own")
+    if kind is namespaces and NOW_THERE.weekday() > 4:
+        print("not tried: today is not a banking day, and only --machine and --user-mode have a clock of their own")
         sys.exit(2)
     signal.signal(signal.SIGTERM, lambda *_: sys.exit(1))  # ends what it started too
     program = program_of([it for it in told if it not in PARTS])
     with tempfile.TemporaryDirectory(prefix="judge-units-") as folder:
         installed.tree(Path(folder) / "tree", program)
-        with (machine.Machine if kind is machine else namespaces.Namespaces)(folder) as it:
+        with made(folder) as it:
             script = f"cd {Path(__file__).resolve().parent} && exec /usr/bin/python3 units.py --inside {kind.__name__.rpartition('.')[2]} {' '.join(words)}\n"
             printed, status = it.run(script, 5400, clock=NOW)
         print(printed, end="")

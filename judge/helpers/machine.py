@@ -117,18 +117,8 @@ class Machine:
     def start(self, script, disks=(), words="", clock=None):
         """Starts it with a script in sh, with disks as /dev/vda and so on, each the path of an image, and with a time of its
         clock, in UTC."""
-        path = self.folder / "script"
-        path.write_text("#!/bin/sh\n" + textwrap.dedent(script))
-        path.chmod(0o755)
-        for name in ("output", "status"):
-            (self.folder / name).unlink(missing_ok=True)
         files = module_files(self.modules, self.loaded)
-        entries = [("bin", 0o040755, b""), ("bin/busybox", 0o100755, Path(shutil.which("busybox")).read_bytes()),
-                   ("init", 0o100755, INIT.replace("@MODULES@", " ".join(it.name for it in files)).encode()),
-                   ("judge.service", 0o100644, UNIT.encode()), ("judge.target", 0o100644, TARGET.encode()),
-                   *((it.name, 0o100644, it.read_bytes()) for it in files)]
-        initial = self.folder / "initramfs"
-        initial.write_bytes(archive(entries))
+        initial = self.prepare(script, INIT, files)
         share = "local,multidevs=remap,security_model=none"
         command = ["qemu-system-x86_64", "-machine", "q35", "-accel", os.environ.get("ACCEL", "tcg"), "-cpu", "max", "-m", self.memory, "-smp", str(self.processors),
                    "-nodefaults", "-display", "none", "-no-reboot", "-serial", f"file:{self.folder}/console", "-device", "virtio-rng-pci",
@@ -141,6 +131,21 @@ class Machine:
             command += ["-drive", f"file={disk},format=raw,if=virtio,cache=none,aio=threads"]
         self.process = subprocess.Popen(command, stdout=subprocess.DEVNULL, stderr=subprocess.PIPE, text=True)
         return self
+
+    def prepare(self, script, init, files):
+        """Writes the script and the first file system, with what it does and the files of modules, and returns that one's path."""
+        path = self.folder / "script"
+        path.write_text("#!/bin/sh\n" + textwrap.dedent(script))
+        path.chmod(0o755)
+        for name in ("output", "status"):
+            (self.folder / name).unlink(missing_ok=True)
+        entries = [("bin", 0o040755, b""), ("bin/busybox", 0o100755, Path(shutil.which("busybox")).read_bytes()),
+                   ("init", 0o100755, init.replace("@MODULES@", " ".join(it.name for it in files)).encode()),
+                   ("judge.service", 0o100644, UNIT.encode()), ("judge.target", 0o100644, TARGET.encode()),
+                   *((it.name, 0o100644, it.read_bytes()) for it in files)]
+        initial = self.folder / "initramfs"
+        initial.write_bytes(archive(entries))
+        return initial
 
     def run(self, script, seconds=300, **how):
         """Runs a script and returns what it printed, and its status; None if it did not end."""
