@@ -253,7 +253,8 @@ def main():
             say(progress.kept())
             return 1
     except KeyboardInterrupt:
-        say(f"interrupted; {progress.kept()}: the next run proves the rest")
+        # It is counted again, with the crates that ended meanwhile.
+        say(f"interrupted; {progress_of(below, uses, cores).kept()}: the next run proves the rest")
         return 130
     # It is newer now than each source, also if no crate of its own had changed.
     os.utime(made_of(PROGRAM))

@@ -105,7 +105,7 @@ def worked(checks, told):
     held = achdesk.Held(none, achdesk.Tally(1, 2500))
     on = day("01-14")
     for name, wanted in {
-        "new status": achdesk.Status(None, (), (), 0, 0, 0),
+        "new status": achdesk.Status(None, (), (), 0, 0, 0, held_records=0, due_records=0, due_files=0),
         "holidays": 2,
         "company": None,
         "limits": None,
@@ -161,7 +161,17 @@ def worked(checks, told):
         "companies after a return": companies_of(on, 0, 1, 1),
         "settlement": achdesk.Settlement(on, 150000, (achdesk.DaySum(day("01-10"), 147500), achdesk.DaySum(on, 2500))),
         "suspense": (),
-        "status": achdesk.Status(on, (achdesk.CompanyStatus("MILL01", "MILL STREET", held, (), 0),), (), 2, 2, 0),
+        "status": achdesk.Status(
+            on,
+            (achdesk.CompanyStatus("MILL01", "MILL STREET", held, (), 0),),
+            (),
+            2,
+            2,
+            0,
+            held_records=1,
+            due_records=0,
+            due_files=0,
+        ),
     }.items():
         checks.that(f"{name}: as worked out by hand", told[name], wanted)
     file = told["file"].decode().splitlines()

@@ -474,7 +474,7 @@ def first_day(bank):
     checks.that("a third time it asks", bank.is_asked())
     checks.that("and the button says what it does", browser.text("#question-yes"), "Create files")
     checks.that("and the question what it does not do", bank.lines("#question-body > p"),
-                [["A cut puts this into files, which cannot be taken back. It transmits nothing."], ["Needs at least 1 file; 36 of 36 are left today."]])
+                [["A cut puts this into files, which cannot be taken back. It transmits nothing."], ["A cut makes 1 file with 15 records of entries and addenda; 36 of 36 are left today."]])
     browser.press("Tab", "Enter")
     checks.that("the next button cuts", bank.said("cut"), "File A created with 15 entries, not transmitted: save it and transmit it.")
     compare_status(bank, "after the cut")

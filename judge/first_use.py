@@ -3,8 +3,9 @@
 A copy of the repository is built by a toolchain of which the prover sleeps and writes an empty library, so that a first use
 takes seconds. In a pipe there must be a line for each crate, on a terminal one line that is drawn again; an interrupt and a
 crate that fails must say what is kept, and the next run must prove only the rest. The arithmetic is tried apart, on machines
-of several paces and with crates that take 0.6 to 1.6 times as long as expected: after a tenth of the time what is announced
-must be within a third of what the rest then takes. The last line counts the checks; the status is 1 where one failed. It takes a minute.
+of several paces: after a tenth of the time what is announced must be within a third of what the rest then takes, always if
+crates take as long as expected, and in 19 of 20 cases if each takes 0.6 to 1.6 times as long. The last line counts the
+checks; the status is 1 where one failed. It takes a minute.
 """
 
 import os
@@ -155,24 +156,34 @@ def on_a_terminal(checks, copy):
     checks.that("the line is no wider than the terminal", widest <= 160)
 
 
+def errors_of(work, below, chains, pace, cores, spread, chance):
+    """How far what is announced is off on one machine, at each end of a crate between a tenth and nine tenths of the time, and
+    the minutes that all take. Each crate takes between `spread` times as long as expected."""
+    progress, announced, now, running = Progress(work, below, chains, cores), {}, 0, {}
+    while progress.left:
+        for crate, jobs, _ in progress.beginning(progress.left.keys(), running):
+            running[crate] = now + work[crate] / pace / speed_of(jobs) * chance.uniform(*spread)
+            progress.begin(crate, jobs, now)
+        crate = min(running, key=running.get)
+        now = running.pop(crate)
+        progress.end(crate, True, now)
+        announced[now] = progress.seconds_left(now)
+    return [abs(left - (now - at)) / (now - at) for at, left in announced.items() if 0.1 < at / now < 0.9], now / 60
+
+
 def paces(checks):
     """On machines of several paces the time that is announced is about what the rest then takes."""
     uses = build.uses_of_crates()
     below = build.crates_below(uses, build.PROGRAM)
     work = {it: build.work_of(it, below[it], uses) for it in below}
-    chains = build.chains_above(below, uses)
-    for pace, cores, least, most in [(0.5, 2, 1, 1), (0.5, 4, 1, 1), (1.75, 2, 1, 1), (1.75, 4, 0.6, 1.6), (6, 2, 0.6, 1.6), (6, 4, 1, 1)]:
-        chance, progress, announced, now, running = random.Random(1), Progress(work, below, chains, cores), {}, 0, {}
-        while progress.left:
-            for crate, jobs, _ in progress.beginning(progress.left.keys(), running):
-                running[crate] = now + work[crate] / pace / speed_of(jobs) * chance.uniform(least, most)
-                progress.begin(crate, jobs, now)
-            crate = min(running, key=running.get)
-            now = running.pop(crate)
-            progress.end(crate, True, now)
-            announced[now] = progress.seconds_left(now)
-        off = max(abs(left - (now - at)) / (now - at) for at, left in announced.items() if 0.1 < at / now < 0.9)
-        checks.that(f"pace {pace}, {cores} cores, {now / 60:.0f} minutes, crates take {least} to {most} times as long: {off:.0%} off", off < 1 / 3)
+    known = work, below, build.chains_above(below, uses)
+    for pace, cores in ((0.5, 1), (0.5, 2), (0.5, 4), (1.75, 2), (6, 4)):
+        errors, minutes = errors_of(*known, pace, cores, (1, 1), random.Random(1))
+        checks.that(f"pace {pace}, {cores} cores, {minutes:.0f} minutes: {max(errors):.0%} off at most", max(errors) < 1 / 3)
+    for pace, cores in ((1.75, 1), (1.75, 4), (6, 2)):
+        errors = [it for seed in range(20) for it in errors_of(*known, pace, cores, (0.6, 1.6), random.Random(seed))[0]]
+        right = sum(it < 1 / 3 for it in errors) / len(errors)
+        checks.that(f"pace {pace}, {cores} cores, crates take 0.6 to 1.6 times as long, 20 times: {right:.1%} of what is announced is within a third", right > 0.95)
     checks.that("times in words", [time_text(it) for it in (0, 59, 60, 61, 120, 121, 3_600)],
                 ["about a minute", "about a minute", "about a minute", "about 2 minutes", "about 2 minutes", "about 3 minutes", "about 60 minutes"])
     progress = Progress({"a": 100, "b": 300}, {"a": set(), "b": {"a"}}, {"a": 400, "b": 300}, 1, {"a"})

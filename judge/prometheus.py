@@ -45,6 +45,7 @@ TRIED = {
     "AchdeskNotAcknowledged": ({"achdesk_unacknowledged_files": "1x610"}, {"achdesk_unacknowledged_files": "0x610"}),
     "AchdeskInbox": ({"achdesk_inbox_oldest_seconds": "0+60x610"}, {"achdesk_inbox_oldest_seconds": "3600x610"}),
     "AchdeskFlood": ({f"achdesk_held_submissions{LABELS}": "10x590 20000x20"}, {f"achdesk_held_submissions{LABELS}": "0x590 1000x20"}),
+    "AchdeskLateReturn": ({"achdesk_late_returns": "1x610"}, {"achdesk_late_returns": "0x610"}),
     "AchdeskSuspense": ({"achdesk_suspense_items": "0x595 1x15"}, {"achdesk_suspense_items": "1x610"}),
     "AchdeskReturnRate": ({'achdesk_return_rate_over_level{company="MILL01",rate="overall"}': "1x610"},
                           {'achdesk_return_rate_over_level{company="MILL01",rate="overall"}': "0x610"}),
