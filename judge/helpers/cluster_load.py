@@ -16,7 +16,7 @@ LATER = (429, 502, 503, 504)  # the same is asked again
 
 
 class ProxyLoad(Load):
-    """The load, over TLS."""
+    """The load, over TLS, whose handshakes cost an emulated processor so much that each company waits between two submissions."""
 
     def __init__(self, address: str, certificate: Path, seed: int):
         super().__init__([443], seed, patience=60)
@@ -33,6 +33,10 @@ class ProxyLoad(Load):
             return None
         finally:
             link.close()
+
+    def submit(self) -> None:
+        super().submit()
+        self.over.wait(self.random.uniform(0.5, 2))
 
 
 class Desk:

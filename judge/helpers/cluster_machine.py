@@ -126,7 +126,7 @@ class ClusterMachine(Machine):
                 disk.truncate(size)
 
     def command(self) -> list[str]:
-        words = ["qemu-system-x86_64", "-accel", "tcg", "-cpu", "max", "-m", MEMORY, "-smp", "1", "-nodefaults", "-display", "none", "-no-reboot",
+        words = ["qemu-system-x86_64", "-accel", "tcg", "-cpu", "max", "-m", MEMORY, "-smp", "2", "-nodefaults", "-display", "none", "-no-reboot",
                  "-serial", f"file:{self.console}", "-serial", "stdio", "-device", "virtio-rng-pci",
                  "-kernel", str(self.work / "kernel"), "-initrd", str(self.work / "start"),
                  "-append", f"console=ttyS0 quiet systemd.show_status=true panic=-1 no_timer_check net.ifnames=0 desk={self.number}",
@@ -135,6 +135,11 @@ class ClusterMachine(Machine):
             words += ["-netdev", f"tap,id={name},ifname={name}{self.number},script=no,downscript=no",
                       "-device", f"virtio-net-pci,netdev={name},mac=52:54:00:00:0{at}:0{self.number},romfile="]
         return words
+
+    def start(self) -> None:
+        """Gives it power. Until it obeys, whoever asks it waits: its first answer is not one of theirs."""
+        with self.asking:
+            super().start()
 
     def script(self, text: str, seconds: float = 900) -> str:
         """Runs a script of several lines, as a person would type it; it ends at the first command that fails."""

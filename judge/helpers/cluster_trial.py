@@ -17,7 +17,7 @@ from helpers.cluster_machine import ClusterMachine, Controller, call
 from helpers.running import TOP
 from helpers.standby_desks import both, shipped_check
 from helpers.standby_load import Wrong, must
-from helpers.standby_machine import dump
+from helpers.standby_machine import Gone, dump
 
 PAGE = TOP / "docs" / "operate" / "standby.md"
 BLOCK = re.compile(r"^```bash (both|desk1)\n(.*?)^```$", re.M | re.S)
@@ -129,7 +129,7 @@ class Trial:
         self.wait_for(one, "crm_mon -1 | grep -q 'Online: .*desk1 desk2'", 300)
         self.step("Set up", "install -m 600 /usr/share/achdesk/standby/cluster.crm")
         self.step("Set up", "crm configure load")
-        self.desk.wait(600)
+        self.desk.wait(1800)
         say(f"the desk answers at its address, {time.monotonic() - began:.0f} s after both machines were switched on")
         self.step("Alarms", "systemctl enable")
 
@@ -159,15 +159,28 @@ class Trial:
     def serving(self) -> ClusterMachine:
         """The machine on which the group runs."""
         for it in self.machines:
-            if it.process and "ro:Primary" in it.proc_drbd():
+            if "ro:Primary" in self.proc_drbd(it):
                 return it
         raise Wrong("no machine serves")
+
+    def proc_drbd(self, machine: ClusterMachine) -> str:
+        """What a machine says of its disk: nothing if it is off, or is switched off meanwhile."""
+        try:
+            return machine.tries("cat /proc/drbd")[1] if machine.process else ""
+        except Gone:
+            return ""
+
+    def are_online(self) -> bool:
+        try:
+            return self.machines[0].tries("crm_mon -1 | grep -q 'Online: .*desk1 desk2'")[0] == 0
+        except Gone:
+            return False
 
     def wait_until_whole(self, seconds: float = 900) -> None:
         until = time.monotonic() + seconds
         while True:
-            devices = [self.check.device_of(it.tries("cat /proc/drbd")[1], 0) for it in self.machines if it.process]
-            if len(devices) == 2 and all(it.is_whole for it in devices) and self.machines[0].tries("crm_mon -1 | grep -q 'Online: .*desk1 desk2'")[0] == 0:
+            devices = [self.check.device_of(self.proc_drbd(it), 0) for it in self.machines]
+            if all(it.is_whole for it in devices) and self.are_online():
                 return
             must(f"both disks have all writes: {devices}", time.monotonic() < until)
             time.sleep(2)
