@@ -105,8 +105,10 @@ def show(day: Day) -> None:
     day.say(f"{WHY[marked['did']]} ({marked['at']}). Ask the ACH operator which of these files it has:")
     for name in names:
         line = states.get(name, {})
-        amounts = ", ".join(f"{line[it]} {it}" for it in ("batches", "entries", "debits", "credits") if it in line)
-        day.say(f"  {name}  {line.get('did', 'archived')} {line.get('at', '')}  {amounts}  SHA-256 {day.sent_digest(name)}")
+        # What was transmitted in place of the desk's file is what the ACH operator may have.
+        told, digest = line.get("copy", line), line.get("copy_sha256") or day.sent_digest(name)
+        amounts = ", ".join(f"{told[it]} {it}" for it in ("batches", "entries", "debits", "credits") if it in told)
+        day.say(f"  {name}  {line.get('did', 'archived')} {line.get('at', '')}  {amounts}  SHA-256 {digest}")
     day.say("and whether it has any other file of these days: achdesk-day confirm --no-other --by NAME")
 
 
@@ -120,6 +122,9 @@ def confirm_all(day: Day) -> None:
 def confirm_file(day: Day, name: str) -> None:
     """Records whether the ACH operator has a file, and what follows for its state."""
     is_there = bool(day.words.transmitted)
+    if is_there and day.was_withheld(name):
+        raise Refused(f"{name} was withheld on {day.states()[name]['at']}. If the ACH operator has it all the same, run achdesk-day mark "
+                      f"{name} --transmitted, and see how it got there")
     if not is_there and name in day.acknowledged():
         raise Refused(f"the ACH operator acknowledged {name} on {day.acknowledged()[name]}: ask it again")
     if day.dry:

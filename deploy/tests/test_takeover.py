@@ -5,7 +5,8 @@ from __future__ import annotations
 import copy
 import shutil
 
-from tests.support import MON, TUE, Bank, TestCase
+from achdesk_day.durable import sha256
+from tests.support import MON, TUE, Bank, TestCase, file_of
 
 A, B = f"{MON}-A", f"{MON}-B"
 AFTERNOON = (("cut",), ("copy",), ("send",))
@@ -78,6 +79,27 @@ class Restoring(TestCase):
         self.does("confirm", "--no-other", "--by", "ANN", says="cut and send go on")
         self.does("send", says="nothing")
         self.assertEqual("ANN", self.bank.journal("confirmed")[0]["who"])
+
+    def test_a_person_is_shown_the_file_that_was_transmitted_in_place_of_the_desk_s(self) -> None:
+        self.opened(100, 200)
+        self.does("cut")
+        own = self.bank.folder / "own.ach"
+        own.write_bytes(file_of(A, 100))
+        self.does("mark", A, "--transmitted-as", str(own))
+        self.bank.machine = "two"
+        self.does("cut", status=1, says=f"not confirmed: {A}")
+        told = self.does("confirm")
+        self.assertIn(f"1 batches, 1 entries, 0 debits, 100 credits  SHA-256 {sha256(own.read_bytes())}", told)
+
+    def test_a_file_that_was_withheld_is_not_confirmed_as_transmitted(self) -> None:
+        self.opened(100)
+        self.does("cut")
+        self.does("mark", A, "--withheld")
+        self.bank.machine = "two"
+        self.does("cut", status=1, says="whether it has any other file is not confirmed")
+        self.does("confirm", A, "--transmitted", "--by", "ANN", status=1, says=f"{A} was withheld on")
+        self.does("confirm", "--no-other", "--by", "ANN", says="cut and send go on")
+        self.does("send", says="nothing")
 
     def test_a_second_restore_asks_again(self) -> None:
         self.opened(100)
