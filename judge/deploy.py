@@ -263,8 +263,8 @@ def start(checks, program, folder):
     bind = f"import socket; s = socket.socket(); s.setsockopt(1, 2, 1); s.bind(('{HOST}', {port}))"
     printed, status = said("setpriv", f"--reuid={OTHER}", "--clear-groups", "--inh-caps=-all", "--ambient-caps=-all", "--bounding-set=-all", sys.executable, "-c", bind)
     checks.that("while it is down, another user cannot have its port", (status, "PermissionError" in printed), (1, True))
-    with Started(command_of(program, path, port, limit=200 << 20), port) as desk:
-        checks.that("with 200 MiB the largest body is 503", desk.ask(message("POST /ops/day", large_body())).split(b"\r\n")[0],
+    with Started(command_of(program, path, port, limit=memory_of_a_body()), port) as desk:
+        checks.that("with no address space but that, the largest body is 503", desk.ask(message("POST /ops/day", large_body())).split(b"\r\n")[0],
                     b"HTTP/1.1 503 Service Unavailable")
         checks.that("and the next request is answered", desk.ask(message("GET /ops/status")).split(b"\r\n")[0], b"HTTP/1.1 200 OK")
     calls(checks, program, folder, path)
