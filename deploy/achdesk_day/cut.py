@@ -12,6 +12,7 @@ from achdesk_day.approval import approvers_of_cut
 from achdesk_day.archive import found_remade
 from achdesk_day.day import OTHER_BYTES, Day
 from achdesk_day.durable import sha256
+from achdesk_day.holidays import is_closed
 from achdesk_day.opening import AHEAD
 from achdesk_day.stops import Misused, NoAnswer, Refused, Rejected, Unavailable
 from achdesk_day.takeover import refuse_unconfirmed
@@ -30,7 +31,7 @@ def cut(day: Day) -> None:
     alarm_if_crowded(day, status)
     today, lost = day.local_now(), day.not_on_desk()
     if status.day != today.date() and not day.words.other_day:
-        if day.journal.last("not-a-banking-day", day=str(today.date())):
+        if is_closed(day, today.date()):
             day.say(f"{today.date()} is not a banking day; nothing is cut")
             return
         advice = AHEAD if status.day and status.day > today.date() else "Run achdesk-day open, or cut by --other-day"

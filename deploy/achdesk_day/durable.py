@@ -90,6 +90,12 @@ def make_folder(path: Path) -> Path:
     return path
 
 
+def give(path: Path, folder: Path) -> None:
+    """Gives a file that root made to the owner of a folder."""
+    if os.geteuid() == 0:
+        os.chown(path, folder.stat().st_uid, folder.stat().st_gid)
+
+
 def must_own(folder: Path, or_root: bool = False) -> None:
     """Refuses to leave files of another user in a folder. Root may if the command gives what it makes to the owner."""
     if not folder.is_dir():

@@ -66,6 +66,16 @@ def known_lists(day: Day) -> list[list[str]]:
     return lists + [[]]
 
 
+def is_closed(day: Day, today: datetime.date) -> bool:
+    """Whether the desk has refused this day because it is no banking day, by the list of holidays that it still has."""
+    for line in reversed(day.journal.lines):
+        if line["did"] == "not-a-banking-day" and line["day"] == str(today):
+            return True
+        if line["did"] in ("setting-holidays", "restored") and today.weekday() < 5:
+            return False
+    return False
+
+
 def near_before(known: list[list[str]], today: datetime.date, first: datetime.date) -> list[datetime.date]:
     """Returns the days of lists that are near and before a first day, as those of the last months are in January."""
     days = {date_of(it) for old in known for it in old}

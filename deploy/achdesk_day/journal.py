@@ -9,7 +9,7 @@ import os
 from pathlib import Path
 from typing import Any
 
-from achdesk_day.durable import sync_folder
+from achdesk_day.durable import give, sync_folder
 from achdesk_day.hooks import now, person, step, user
 from achdesk_day.stops import Refused, Unavailable
 from achdesk_day.values import stamp
@@ -31,6 +31,7 @@ class Journal:
             self.file = os.open(path, os.O_RDWR | os.O_CREAT | os.O_APPEND, 0o600)
             os.ftruncate(self.file, len(self.text))  # a line that a crash cut short is of an action that was not recorded
             if is_new:
+                give(self.path, self.path.parent)
                 sync_folder(self.path.parent)
 
     def close(self) -> None:

@@ -7,6 +7,7 @@ import time
 from pathlib import Path
 from typing import Protocol
 
+from achdesk_day.durable import give
 from achdesk_day.stops import Unavailable
 
 
@@ -23,6 +24,7 @@ class Lock:
 
     def __init__(self, path: Path, seconds: float = 60) -> None:
         self.file = open(path, "a+")
+        give(path, path.parent)  # of a restore by root, on a machine where no command ran before
         until = time.monotonic() + seconds
         while True:
             try:

@@ -18,7 +18,7 @@ from achdesk_day.cut import files_left
 from achdesk_day.day import Day
 from achdesk_day.durable import write_synced
 from achdesk_day.failures import failing_since
-from achdesk_day.holidays import known_lists
+from achdesk_day.holidays import is_closed, known_lists
 from achdesk_day.hooks import now
 from achdesk_day.incoming import arrived
 from achdesk_day.late import undecided
@@ -164,9 +164,8 @@ def midnight(day: str) -> int:
 def calendar_metrics(put: Put, day: Day, status: Status) -> None:
     """The metrics of today and of the holiday list, if the journal has the list that the desk has."""
     today = day.local_now().date()
-    is_closed = today.weekday() > 4 or day.journal.last("not-a-banking-day", day=str(today)) is not None
     lists = [it for it in known_lists(day) if len(it) == status.holidays]
-    put("banking_day", int(not is_closed and all(str(today) not in it for it in lists)))
+    put("banking_day", int(today.weekday() < 5 and not is_closed(day, today) and all(str(today) not in it for it in lists)))
     if ends := [it[-1] for it in lists if it]:
         put("holidays_end_timestamp_seconds", midnight(min(ends)))
 

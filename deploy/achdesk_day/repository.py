@@ -53,7 +53,10 @@ def shell_of(run: Run, place: str) -> str:
 def words_of(run: Run, place: str, *words: str) -> list[str]:
     password = secret_path(run.settings.needed("repository", "password_file"))
     where = [f"--repo={place}"] if is_here(place) else ["--repo=rclone:repository", "-o", f"rclone.program={shell_of(run, place)}"]
-    return ["restic", f"--password-file={password}", f"--cache-dir={run.backups / 'cache'}", *where, *words]
+    # A cache that root makes could not be read by the user of the backups.
+    is_own = run.backups.stat().st_uid == os.geteuid()
+    cache = f"--cache-dir={run.backups / 'cache'}" if is_own else "--no-cache"
+    return ["restic", f"--password-file={password}", cache, *where, *words]
 
 
 def restic(run: Run, place: str, *words: str, most_seconds: int | None = None) -> str:

@@ -17,7 +17,7 @@ from typing import TextIO
 
 from achdesk_day.backup import Manifest, finished_backups, log_of, try_desk
 from achdesk_day.day import Day
-from achdesk_day.durable import copy_file, move, must_own, sha256_of_file, sync_folder, synced, write_synced
+from achdesk_day.durable import copy_file, give, move, must_own, sha256_of_file, sync_folder, synced, write_synced
 from achdesk_day.hooks import now
 from achdesk_day.repository import taken_back
 from achdesk_day.stops import Misused, Refused, Unavailable
@@ -133,12 +133,6 @@ def fresh_copy(source: Path, target: Path, manifest: Manifest) -> Path:
         give(path, target.parent)
     sync_folder(fresh)
     return fresh
-
-
-def give(path: Path, folder: Path) -> None:
-    """Gives a file that root made to the owner of a folder."""
-    if os.geteuid() == 0:
-        os.chown(path, folder.stat().st_uid, folder.stat().st_gid)
 
 
 def list_since(day: Day, began: str, moment: str) -> None:

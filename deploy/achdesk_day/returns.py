@@ -8,6 +8,7 @@ from pathlib import Path
 
 from achdesk_day.day import Day
 from achdesk_day.durable import make_folder, sha256, write_synced
+from achdesk_day.holidays import is_closed
 from achdesk_day.incoming import MOST_BYTES, Arrived, arrived, put_away, set_aside, text_of
 from achdesk_day.journal import Line
 from achdesk_day.late import look_for_late
@@ -46,7 +47,7 @@ def is_banking_day(day: Day) -> bool:
         raise Refused("the desk has no day yet: run achdesk-day open")
     if status.day == today or day.words.other_day:
         return True
-    if day.journal.last("not-a-banking-day", day=str(today)):
+    if is_closed(day, today):
         day.say(f"{today} is not a banking day; nothing is taken")
         return False
     advice = AHEAD if status.day > today else "Run achdesk-day open; after a restore, returns --other-day"

@@ -50,6 +50,20 @@ class Opening(TestCase):
         self.bank.at(TUE)
         self.does("open", says="is not a banking day")
 
+    def test_a_corrected_list_undoes_that_a_day_is_no_banking_day(self) -> None:
+        self.opened(100)
+        self.bank.desk.closed = {TUE}
+        self.bank.at(TUE)
+        self.does("open", says="is not a banking day")
+        self.does("cut", says="nothing is cut")
+        self.bank.desk.closed = set()
+        (self.folder / "list").write_text("2025-12-25\n")
+        self.does("holidays", str(self.folder / "list"))
+        self.does("metrics", says="achdesk_banking_day 1")
+        self.does("cut", status=1, says="Run achdesk-day open")
+        self.does("open", says=str(TUE))
+        self.does("cut", says="A")
+
     def test_a_file_of_an_earlier_day_has_to_be_transmitted(self) -> None:
         self.opened(100)
         self.does("cut")

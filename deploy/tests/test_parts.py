@@ -17,6 +17,7 @@ from achdesk_day import hooks
 from achdesk_day.desk import Desk
 from achdesk_day.incoming import safe_name
 from achdesk_day.journal import Journal
+from achdesk_day.locks import Lock
 from achdesk_day.nacha import Totals, check_outgoing, entries_of, totals_without
 from achdesk_day.settings import Settings, read_key
 from achdesk_day.stops import Misused, NoAnswer, Refused, Rejected, Unavailable
@@ -36,6 +37,14 @@ class Journals(TestCase):
         self.assertEqual(["cut"], [line["did"] for line in journal.lines])
         journal.write("sent")
         self.assertEqual(["cut", "sent"], [json.loads(line)["did"] for line in path.read_text().splitlines()])
+
+    def test_what_root_makes_belongs_to_the_owner_of_the_folder(self) -> None:
+        given: list[Path] = []
+        with mock.patch("os.geteuid", lambda: 0), mock.patch("os.chown", lambda path, user, group: given.append(Path(path))):
+            Lock(self.folder / "day.lock").close()
+            Journal(self.folder / "day.journal", True).close()
+            Journal(self.folder / "day.journal", True).close()
+        self.assertEqual([self.folder / "day.lock", self.folder / "day.journal"], given)
 
     def test_the_person_is_the_one_who_logged_in(self) -> None:
         with mock.patch.dict(os.environ, {"SUDO_USER": "mallory", "ACHDESK_DAY_NOW": "1999-01-01T00:00:00+00:00"}):
