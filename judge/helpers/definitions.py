@@ -131,7 +131,7 @@ def bound_in(text):
         found |= set(re.findall(r"[\w']+", it))
     for it in re.findall(r"λ\s*((?:[^.λ]|\.\d)*?)\.(?=\s|$)", text):
         found |= set(re.findall(r"[\w']+", it))
-    for it in re.findall(r"(?:\blet\b|;)\s*([^=;{}→]+?)\s*(?::[^=;]*)?=(?!=)", text):
+    for it in re.findall(r"\blet\b\s*([^=;{}→]+?)\s*(?::[^=;]*)?=(?!=)", text):
         found |= set(re.findall(r"[\w']+", it))
     for it in re.findall(r"^\s+(?:pub )?([\w']+) : ", text, re.M):
         found.add(it)
@@ -282,7 +282,7 @@ class Tree:
                 if first in BUILT_IN or first in bound and first not in module.aliases:
                     continue
                 meant = self.resolve(module, word)
-                if first in left and is_field(meant, first):
+                if first in left and is_variable(meant):
                     continue
                 if meant is None and first not in left:
                     raise Unknown(f"{own.path.relative_to(self.crates.parent)}:{own.first}: {own.name}: {word} is not defined")
@@ -333,9 +333,9 @@ class Tree:
         return order
 
 
-def is_field(meant, word):
-    """Tells whether a word is the field of a record: on the left of an equation such a word is a variable."""
-    return isinstance(meant, Definition) and meant.name != word and re.match(r"(pub )?record ", meant.text) is not None
+def is_variable(meant):
+    """Tells whether a word on the left of an equation is a variable, though a definition has its name: patterns name constructors alone."""
+    return isinstance(meant, Definition) and meant.kind == "definition" and re.search(r"^(pub )?data ", meant.text) is None
 
 
 @functools.lru_cache(maxsize=None)

@@ -6,12 +6,13 @@ import sys
 import tempfile
 from pathlib import Path
 
-from helpers.definitions import CRATES, TOP, Module, read_imports, without_comments
+from helpers.definitions import CRATES, TOP, Module, closing, read_imports, without_comments
 
 sys.path.insert(0, str(TOP / ".ci"))
 import build_program as proofs  # noqa: E402
 
 LISTED = "listed"
+DECLARED = re.compile(r"^use (Rattle\.\w+\.specs\.declared\.[\w.]+)\.\{(.*)\}\n", re.M)
 
 
 def in_files(tree, order):
@@ -57,9 +58,8 @@ def only(tree, kept, path, closed, names):
         text = re.sub(r"^ *module _ " + r"\s+".join(map(re.escape, outer.split())) + r"\s+where\n?", "", text, flags=re.M)
     text = text.replace("Rattle.std.specs.Prelude.ℕ", "ℕ")
     body = re.sub(r"^(pub )?use .*$", "", text, flags=re.M)
-    # The crate's own code types may be private to it: an import that nothing uses goes.
-    text = re.sub(r"^use Rattle\.\w+\.specs\.declared\.[\w.]+\.\{(.*)\}\n",
-                  lambda it: it[0] if any(used_in(body, name) for name in it[1].split(", ")) else "", text, flags=re.M)
+    # The crate's own code types may be private to it: an import that nothing uses goes, and the others name their copies.
+    text = DECLARED.sub(lambda it: import_of_code(tree, it) if any(used_in(body, name) for name in it[2].split(", ")) else "", text)
     if any(it.name in closed for it in module.definitions if it in kept) and not re.search(r"^use Rattle\.std\.specs\.Prelude\.\{[^}]*ℕ", text, re.M):
         text = "use Rattle.std.specs.Prelude.{ℕ}\n" + text
     return text + "\n"
@@ -67,6 +67,26 @@ def only(tree, kept, path, closed, names):
 
 def used_in(body, name):
     return re.search(rf"(?<![\w'.]){re.escape(name.rpartition(' as ')[2])}(?![\w'])", body) is not None
+
+
+def is_private(own):
+    """Tells whether a code type is private to its crate."""
+    return own.kind == "code" and re.match(r"(pub\(\w+\) )?(struct|enum) ", own.text) is not None
+
+
+def import_of_code(tree, found):
+    """Returns an import of a code type, or of its copy where the type is private to its crate."""
+    path, names = found.groups()
+    if tree.is_own(path) and any(is_private(tree.code(path, it.partition(" as ")[0])) for it in names.split(", ")):
+        return f"use Rattle.{LISTED}.specs.declared.{path.rpartition('.')[2]}.{{{names}}}\n"
+    return found[0]
+
+
+def copies_of_private(tree, texts):
+    """Returns public copies of the private code types that files of definitions name."""
+    copied = {own.name: own for own in tree.codes.values() if is_private(own) and any(f".{LISTED}.specs.declared.{own.name}." in it for it in texts)}
+    bodies = [re.sub(r"^(pub\(\w+\) )?", "pub ", own.text[: closing(own.text, 0) + 1]) for own in copied.values()]
+    return "".join(f"\n/// A copy.\n{it}\n" for it in bodies)
 
 
 def renamed(tree, kept, line, names):
@@ -96,13 +116,13 @@ def without_each(tree, kept, closed):
     return variants
 
 
-def refusals(crate, texts):
+def refusals(tree, crate, texts):
     """Returns the files that the checker refuses in a crate of these definitions alone, with the code types and libraries of another."""
     with tempfile.TemporaryDirectory(prefix="listed-") as folder:
         room = Path(folder)
         (room / "specs").mkdir()
         (room / "src").mkdir()
-        (room / "src/lib.rt").write_text("//! Listed definitions.\n#![tactic(auto)]\n")
+        (room / "src/lib.rt").write_text("//! Listed definitions.\n#![tactic(auto)]\n" + copies_of_private(tree, texts.values()))
         for name, text in texts.items():
             (room / f"specs/{name}.antt").write_text(text)
         (room / "specs/Lib.antt").write_text("".join(f"pub mod {it}\n" for it in texts))
@@ -120,13 +140,13 @@ def validate(tree, order, crate, law, closed):
     """Has the checker accept listed definitions alone, and refuse them without any one, in two runs; returns how often it did not."""
     kept = {it for it in order if not isinstance(it, str) and it.kind == "definition"}
     texts = {flat(path): only(tree, kept, path, closed, {}) for path in in_files(tree, order)}
-    refused, said, status = refusals(crate, texts)
+    refused, said, status = refusals(tree, crate, texts)
     print(f"{crate}::{law}: {len(kept)} definitions alone: {'accepted' if status == 0 else 'REFUSED'}", flush=True)
     if status:
         print("\n".join(it for it in said.split("\n") if not it.startswith("statements"))[:3000])
         return 1
     variants = without_each(tree, kept, closed)
-    refused, said, _ = refusals(crate, {**texts, **{name: text for _, files in variants.values() for name, text in files.items()}})
+    refused, said, _ = refusals(tree, crate, {**texts, **{name: text for _, files in variants.values() for name, text in files.items()}})
     needed = {int(it.removeprefix("Without").split("_")[0]) for it in refused if it.startswith("Without")}
     faults = [own for number, (own, _) in variants.items() if number not in needed] + [it for it in refused if it in texts]
     for it in faults:

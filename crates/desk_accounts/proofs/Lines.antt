@@ -1,13 +1,12 @@
 -- Balances by lines and by days.
 use Rattle.std.proofs.lemmas.Bool.{cases_lt}
-use Rattle.std.proofs.Common.{◌≤◌, ◌⊎◌, inl, inr, Some, None, subst, ◌≡◌, ℕ, ◌+◌, ◌<◌, ◌&&◌, true, false, cond, Bool, if◌then◌else◌, nat_le, List, take, get_or, length, ℤ, pos, ◌+ℤ◌, ◌∙◌, sym, refl, ap}
+use Rattle.std.proofs.Common.{◌≤◌, ◌⊎◌, inl, inr, Some, None, subst, ◌≡◌, ℕ, ◌+◌, ◌<◌, ◌&&◌, true, false, cond, Bool, if◌then◌else◌, nat_le, List, take, get_or, length, ℤ, pos, ◌+ℤ◌, ◌∙◌, sym, refl, ap, arith}
 use Rattle.std.proofs.lemmas.List.Sums.{fold_more}
 use Rattle.desk_accounts.specs.declared.account.Account.{Account}
 use Rattle.desk_accounts.specs.declared.posting.Posting.{Posting}
 use Rattle.desk_accounts.specs.Posting.{same_account}
 use Rattle.desk_accounts.specs.Sums.{sum_of}
 use Rattle.desk_accounts.specs.Balance.{lines_of, balance, days_balance, fits_i128, SumLeaves}
-use Rattle.std.proofs.Common.{arith}
 use Rattle.desk_accounts.proofs.Sums.{sum_passing}
 
 -- what a line adds to the balance of an account on a day

@@ -9,7 +9,7 @@ use Rattle.desk_rules.specs.declared.bodies.draft.RetryDraft.{RetryDraft}
 use Rattle.desk_rules.specs.declared.refusals.refusal.Refusal.{Refusal}
 use Rattle.desk_book.specs.declared.row.Row.{Row}
 use Rattle.desk_history.specs.Request.{Request}
-use Rattle.desk_history.specs.Part.{Event, DaySet, HolidaysSet, Registered, Limited, Asked, CutMade, Returned, Changed}
+use Rattle.desk_history.specs.Part.{Event, DaySet, HolidaysSet, Registered, Limited, Asked, CutMade, Returned, Changed, digest}
 use Rattle.desk_history.specs.Possible.{IsPossible}
 use Rattle.desk_history.specs.Accepted.{AcceptedSubmission}
 use Rattle.desk_history.specs.Facts.{facts}
@@ -18,7 +18,6 @@ use Rattle.desk_history.specs.Reports.{submission_under, settlement_under}
 use Rattle.desk_book.specs.Book.{book_of, rows, row_of}
 use Rattle.desk_history.specs.History.{part}
 use Rattle.desk_history.specs.Operator.{IsHistory}
-use Rattle.desk_history.specs.PartCompany.{digest}
 use Rattle.desk_history.specs.Message.{Pair}
 use Rattle.desk_history.specs.declared.identity.Identity.{Identity}
 use Rattle.desk_book.specs.declared.caller.Caller.TheVariants as callers

@@ -1,6 +1,5 @@
 -- Equal parts.
-use Rattle.std.specs.Prelude.{List}
-use Rattle.std.proofs.Common.{ap}
+use Rattle.std.proofs.Common.{ap, List}
 use Rattle.desk_history.specs.Part.{Event}
 use Rattle.desk_history.specs.Reply.{reply}
 use Rattle.desk_history.specs.Laws.{TwoWorlds}

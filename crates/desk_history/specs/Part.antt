@@ -1,6 +1,6 @@
 -- A company's part of the history. The newest event comes first, so that everything before an event is the rest of the
 -- list.
-use Rattle.std.specs.Prelude.{ℕ, Bool, List, [], ◌∷◌, Option, Some, None, is_some, unwrap_or}
+use Rattle.std.specs.Prelude.{ℕ, Bool, List, [], ◌∷◌, Option, Some, None, is_some, option_map, unwrap_or}
 use Rattle.desk_rules.specs.declared.bodies.company.Limits.{Limits}
 use Rattle.desk_history.specs.Request.{Request}
 
@@ -48,3 +48,18 @@ today P = unwrap_or (day P) 0
 
 abbrev pub is_registered : List Event → Bool
 is_registered P = is_some (limits P)
+
+-- a company's registration, without its limits
+pub record Registration : Type 0 where
+  pub name : List ℕ
+  pub digest : List ℕ
+
+-- its registration; none before
+abbrev pub registration : List Event → Option Registration
+registration [] = None
+registration (Registered name digest limits ∷ P) = Some (record { name = name; digest = digest })
+registration (_ ∷ P) = registration P
+
+-- the digest of the key with which it was registered
+abbrev pub digest : List Event → Option (List ℕ)
+digest P = option_map (λ r. r.digest) (registration P)

@@ -1,27 +1,12 @@
 -- The company's own row, in its part.
-use Rattle.std.specs.Prelude.{◌≡◌, ℕ, List, [], ◌∷◌, find, Option, Some, None, option_map, option_and_then}
+use Rattle.std.specs.Prelude.{◌≡◌, ℕ, List, find, Option, option_map, option_and_then}
 use Rattle.desk_rules.specs.declared.bodies.company.Company.{Company}
 use Rattle.desk_rules.specs.declared.bodies.company.Limits.{Limits}
 use Rattle.desk_history.specs.declared.identity.Identity.{Identity}
 use Rattle.desk_history.specs.History.{companies, part}
 use Rattle.desk_history.specs.Message.{Pair}
 use Rattle.desk_history.specs.Operator.{has_id, IsHistory}
-use Rattle.desk_history.specs.Part.{Event, Registered, limits}
-
--- a company's registration, without its limits
-pub record Registration : Type 0 where
-  pub name : List ℕ
-  pub digest : List ℕ
-
--- its registration; none before
-abbrev pub registration : List Event → Option Registration
-registration [] = None
-registration (Registered name digest limits ∷ P) = Some (record { name = name; digest = digest })
-registration (_ ∷ P) = registration P
-
--- the digest of the key with which it was registered
-abbrev pub digest : List Event → Option (List ℕ)
-digest P = option_map (λ r. r.digest) (registration P)
+use Rattle.desk_history.specs.Part.{Event, limits, Registration, registration, digest}
 
 abbrev pub registered_company : (id : List ℕ) → Registration → Limits → Company
 registered_company id r limits = record { id = id; name = r.name; digest = r.digest; limits = limits }

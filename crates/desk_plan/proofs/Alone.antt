@@ -1,6 +1,5 @@
 -- If a cut of all batches is not refused, a cut of some is not refused either.
-use Rattle.std.proofs.Common.{◌+◌, ◌≤◌, length, map, arith}
-use Rattle.std.specs.Prelude.{nat_le, filter}
+use Rattle.std.proofs.Common.{◌+◌, ◌≤◌, length, map, arith, nat_le, filter}
 use Rattle.std.proofs.lemmas.Bool.{leb-true, le-leb, and_parts, and_from}
 use Rattle.desk_plan.specs.Cut.{files_of}
 use Rattle.desk_plan.specs.Files.{division}

@@ -1,6 +1,5 @@
 -- Some of the batches, in their order: they take no more of a file than all.
-use Rattle.std.proofs.Common.{◌≡◌, ℕ, ◌≤◌, ◌⊎◌, List, [], ◌∷◌, ◌++◌, length, Bool, true, false, refl, ap, arith, inl, inr}
-use Rattle.std.specs.Prelude.{nat_le, sum_by, filter, if◌then◌else◌}
+use Rattle.std.proofs.Common.{◌≡◌, ℕ, ◌≤◌, ◌⊎◌, List, [], ◌∷◌, ◌++◌, length, Bool, true, false, refl, ap, arith, inl, inr, nat_le, sum_by, filter, if◌then◌else◌}
 use Rattle.std.proofs.lemmas.Bool.{leb-true, le-leb, and_parts, and_from}
 use Rattle.std.proofs.lemmas.List.Sums.{sum_by-cons}
 use Rattle.desk_plan.specs.declared.batch.Batch.{Batch}

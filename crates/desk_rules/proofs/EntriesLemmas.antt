@@ -26,18 +26,9 @@ after_step es n i d ds inside here =
     let left : drop i ds ≡ d ∷ drop (i + 1) ds = drop_more ds i d inside ∙ ap (λ x. x ∷ drop (i + 1) ds) (sym here) in
     rw left (after_bind es (entry_of n d) (entries_of (n + 1) (drop (i + 1) ds)))
 
-pub after_none : (r : Result (List Entry) Refusal) → after [] r ≡ r
-after_none (Ok es) = refl
-after_none (Err r) = refl
-
 -- a good draft adds its entry
 pub after_good : (wanted : Result (List Entry) Refusal) (es grown : List Entry) (n i : ℕ) (d : Option EntryDraft) (ds : List (Option EntryDraft)) (e : Entry)
     → wanted ≡ after es (entries_of n (drop i ds)) → i < length ds → d ≡ get_or ds i d → entry_of n d ≡ Ok e → grown ≡ es ++ e ∷ []
     → wanted ≡ after grown (entries_of (n + 1) (drop (i + 1) ds))
 after_good wanted es grown n i d ds e so_far inside here is grows =
     so_far ∙ after_step es n i d ds inside here ∙ rw (is, grows) refl
-
--- a bad draft is the first
-pub after_bad : (wanted : Result (List Entry) Refusal) (es : List Entry) (n i : ℕ) (d : Option EntryDraft) (ds : List (Option EntryDraft)) (r : Refusal)
-    → wanted ≡ after es (entries_of n (drop i ds)) → i < length ds → d ≡ get_or ds i d → entry_of n d ≡ Err r → wanted ≡ Err r
-after_bad wanted es n i d ds r so_far inside here is = so_far ∙ after_step es n i d ds inside here ∙ rw is refl

@@ -1,6 +1,5 @@
 -- The facts that are rated have the rates of all facts.
-use Rattle.std.proofs.Common.{◌≡◌, ◌∙◌, ap, refl, sym, ℕ, ◌+◌, Bool, true, false, List, [], ◌∷◌, cond, inl, inr, arith}
-use Rattle.std.specs.Prelude.{◌&&◌, ◌||◌, count_by, filter, if◌then◌else◌}
+use Rattle.std.proofs.Common.{◌≡◌, ◌∙◌, ap, refl, sym, ℕ, ◌+◌, Bool, true, false, List, [], ◌∷◌, cond, inl, inr, arith, ◌&&◌, ◌||◌, count_by, filter, if◌then◌else◌}
 use Rattle.std.proofs.lemmas.Bool.{cases_Bool}
 use Rattle.std.proofs.lemmas.List.Sums.{sum_by-cons}
 use Rattle.desk_rules.specs.declared.rules.entry_fact.EntryFact.{EntryFact}

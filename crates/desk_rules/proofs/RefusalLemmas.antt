@@ -2,7 +2,7 @@
 use Rattle.std.proofs.Common.{◌≡◌, ◌++◌, ◌∷◌, [], Bool, true, false, List, Ok, Err, refl, ap, ◌∙◌}
 use Rattle.std.proofs.lemmas.List.Elements.{All-nil, All-cons, All-head, All-tail}
 use Rattle.desk_rules.specs.declared.refusals.refusal.Refusal.{Refusal}
-use Rattle.desk_rules.specs.FirstRefusal.{first_refusal}
+use Rattle.desk_rules.specs.Chain.{first_refusal}
 use Rattle.desk_rules.specs.Laws.{IsFirst, NoneHolds}
 
 abbrev Fails : Bool × Refusal → Type 0

@@ -6,7 +6,7 @@ use Rattle.desk_rules.specs.declared.bodies.submission.Retry.{Retry}
 use Rattle.desk_rules.specs.declared.bodies.submission.Submission.{Submission}
 use Rattle.desk_rules.specs.declared.rules.time_class.TimeClass.TheVariants.{TwoBankingDays, SixtyDays, Unlimited}
 use Rattle.desk_rules.specs.Deadlines.{deadline, last_rule_day}
-use Rattle.desk_rules.specs.FirstRefusal.{first_refusal}
+use Rattle.desk_rules.specs.Chain.{first_refusal}
 use Rattle.desk_rules.specs.SameContent.{same_retry, same_submission}
 use Rattle.desk_rules.specs.TimeClasses.{time_class_of}
 

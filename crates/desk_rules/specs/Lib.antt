@@ -3,7 +3,6 @@ pub mod Chain
 pub mod Deadlines
 pub mod Exposure
 pub mod Fields
-pub mod FirstRefusal
 pub mod Laws
 pub mod LimitChecks
 pub mod Operator

@@ -9,7 +9,7 @@ use Rattle.desk_rules.specs.declared.bodies.submission.Submission.{Submission}
 use Rattle.desk_rules.specs.declared.bodies.submission.Direction.{Direction}
 use Rattle.desk_rules.specs.declared.bodies.submission.Direction.TheVariants.{Credit, Debit}
 use Rattle.desk_rules.specs.Exposure.{credit_exposure, debit_exposure}
-use Rattle.desk_rules.specs.FirstRefusal.{first_refusal}
+use Rattle.desk_rules.specs.Chain.{first_refusal}
 use Rattle.desk_rules.specs.Size.{total_of}
 
 -- 1 to 60 days after the desk day

@@ -1,87 +1,52 @@
--- The names of refusals: number, HTTP status and text of each.
+-- The names of refusals: number, HTTP status and text of each, in a table.
 use Rattle.std.specs.Prelude.{ℕ, List, codes}
 use Rattle.desk_rules.specs.declared.refusals.refusal.Refusal.{Refusal}
 use Rattle.desk_rules.specs.declared.refusals.refusal.Refusal.TheVariants as refusals
 use Rattle.desk_rules.specs.declared.refusals.names.RefusalName.{RefusalName}
 use Rattle.desk_rules.specs.declared.refusals.names.RefusalName.TheVariants as names
 
--- the refusal's number in answers to companies
+-- a row of the table: a refusal's number in answers to companies, the HTTP status of the answer, and the name as bodies write it
+pub record NameRow : Type 0 where
+  pub number : ℕ
+  pub status : ℕ
+  pub text : List ℕ
+
+abbrev pub row : (number status : ℕ) → (text : List ℕ) → NameRow
+row number status text = record { number = number; status = status; text = text }
+
+abbrev pub row_of : RefusalName → NameRow
+row_of names.NoDay = row 1 409 (codes "NoDay")
+row_of names.BadField = row 2 422 (codes "BadField")
+row_of names.RefReused = row 3 409 (codes "RefReused")
+row_of names.TooManyEntries = row 4 422 (codes "TooManyEntries")
+row_of names.TotalTooLarge = row 5 422 (codes "TotalTooLarge")
+row_of names.DateRange = row 6 422 (codes "DateRange")
+row_of names.EntryLimit = row 7 409 (codes "EntryLimit")
+row_of names.CreditLimit = row 8 409 (codes "CreditLimit")
+row_of names.DebitLimit = row 9 409 (codes "DebitLimit")
+row_of names.NoEntry = row 10 409 (codes "NoEntry")
+row_of names.NotReturned = row 11 409 (codes "NotReturned")
+row_of names.NotRetryable = row 12 409 (codes "NotRetryable")
+row_of names.RetriesSpent = row 13 409 (codes "RetriesSpent")
+row_of names.RetryTooLate = row 14 409 (codes "RetryTooLate")
+row_of names.DayNotLater = row 20 409 (codes "DayNotLater")
+row_of names.NotBankingDay = row 21 409 (codes "NotBankingDay")
+row_of names.CompanyExists = row 22 409 (codes "CompanyExists")
+row_of names.NoCompany = row 23 409 (codes "NoCompany")
+row_of names.TracesSpent = row 24 409 (codes "TracesSpent")
+row_of names.ModifiersSpent = row 25 409 (codes "ModifiersSpent")
+row_of names.FileKeyReused = row 26 409 (codes "FileKeyReused")
+row_of names.BadFile = row 27 422 (codes "BadFile")
+row_of names.BadCalendar = row 28 422 (codes "BadCalendar")
+
 abbrev pub number_of : RefusalName → ℕ
-number_of names.NoDay = 1
-number_of names.BadField = 2
-number_of names.RefReused = 3
-number_of names.TooManyEntries = 4
-number_of names.TotalTooLarge = 5
-number_of names.DateRange = 6
-number_of names.EntryLimit = 7
-number_of names.CreditLimit = 8
-number_of names.DebitLimit = 9
-number_of names.NoEntry = 10
-number_of names.NotReturned = 11
-number_of names.NotRetryable = 12
-number_of names.RetriesSpent = 13
-number_of names.RetryTooLate = 14
-number_of names.DayNotLater = 20
-number_of names.NotBankingDay = 21
-number_of names.CompanyExists = 22
-number_of names.NoCompany = 23
-number_of names.TracesSpent = 24
-number_of names.ModifiersSpent = 25
-number_of names.FileKeyReused = 26
-number_of names.BadFile = 27
-number_of names.BadCalendar = 28
+number_of name = (row_of name).number
 
--- the HTTP status of the answer
 abbrev pub status_of : RefusalName → ℕ
-status_of names.NoDay = 409
-status_of names.BadField = 422
-status_of names.RefReused = 409
-status_of names.TooManyEntries = 422
-status_of names.TotalTooLarge = 422
-status_of names.DateRange = 422
-status_of names.EntryLimit = 409
-status_of names.CreditLimit = 409
-status_of names.DebitLimit = 409
-status_of names.NoEntry = 409
-status_of names.NotReturned = 409
-status_of names.NotRetryable = 409
-status_of names.RetriesSpent = 409
-status_of names.RetryTooLate = 409
-status_of names.DayNotLater = 409
-status_of names.NotBankingDay = 409
-status_of names.CompanyExists = 409
-status_of names.NoCompany = 409
-status_of names.TracesSpent = 409
-status_of names.ModifiersSpent = 409
-status_of names.FileKeyReused = 409
-status_of names.BadFile = 422
-status_of names.BadCalendar = 422
+status_of name = (row_of name).status
 
--- the name as bodies write it
 abbrev pub text_of : RefusalName → List ℕ
-text_of names.NoDay = codes "NoDay"
-text_of names.BadField = codes "BadField"
-text_of names.RefReused = codes "RefReused"
-text_of names.TooManyEntries = codes "TooManyEntries"
-text_of names.TotalTooLarge = codes "TotalTooLarge"
-text_of names.DateRange = codes "DateRange"
-text_of names.EntryLimit = codes "EntryLimit"
-text_of names.CreditLimit = codes "CreditLimit"
-text_of names.DebitLimit = codes "DebitLimit"
-text_of names.NoEntry = codes "NoEntry"
-text_of names.NotReturned = codes "NotReturned"
-text_of names.NotRetryable = codes "NotRetryable"
-text_of names.RetriesSpent = codes "RetriesSpent"
-text_of names.RetryTooLate = codes "RetryTooLate"
-text_of names.DayNotLater = codes "DayNotLater"
-text_of names.NotBankingDay = codes "NotBankingDay"
-text_of names.CompanyExists = codes "CompanyExists"
-text_of names.NoCompany = codes "NoCompany"
-text_of names.TracesSpent = codes "TracesSpent"
-text_of names.ModifiersSpent = codes "ModifiersSpent"
-text_of names.FileKeyReused = codes "FileKeyReused"
-text_of names.BadFile = codes "BadFile"
-text_of names.BadCalendar = codes "BadCalendar"
+text_of name = (row_of name).text
 
 -- the name of a refusal
 abbrev pub name_of : Refusal → RefusalName

@@ -5,7 +5,7 @@ use Rattle.desk_rules.specs.declared.rules.attempt.Attempt.{Attempt}
 use Rattle.desk_rules.specs.declared.refusals.refusal.Refusal.{Refusal}
 use Rattle.desk_rules.specs.declared.refusals.refusal.Refusal.TheVariants.{NotReturned, NotRetryable, RetriesSpent, RetryTooLate}
 use Rattle.desk_rules.specs.Attempts.{Return, original_return, newest_return}
-use Rattle.desk_rules.specs.FirstRefusal.{first_refusal}
+use Rattle.desk_rules.specs.Chain.{first_refusal}
 
 -- authorized again on or after the day on which the return was taken, and not after the desk day
 abbrev pub is_authorized : Option ℕ → (taken : ℕ) → (day : ℕ) → Bool

@@ -1,6 +1,5 @@
 -- The length of a text without the blanks at its end.
-use Rattle.std.proofs.Common.{◌≤◌, ◌∷◌, [], ℕ, List, Bool, true, false, length, arith}
-use Rattle.std.specs.Prelude.{if◌then◌else◌}
+use Rattle.std.proofs.Common.{◌≤◌, ◌∷◌, [], ℕ, List, Bool, true, false, length, arith, if◌then◌else◌}
 use Rattle.std.specs.List.{list_all}
 use Rattle.ach_fields.specs.Text.{is_blank, without_blanks_after}
 

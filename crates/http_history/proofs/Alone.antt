@@ -1,6 +1,5 @@
 -- A desk that serves one company alone, over bytes.
-use Rattle.std.proofs.Common.{◌≡◌, ℕ, ◌<◌, ◌≤◌, ◌^◌, List, [], ◌∷◌, ◌++◌, length, map, Bool, true, false, ◌⊎◌, inl, inr, refl, sym, ap, ◌∙◌, subst, append_assoc, arith}
-use Rattle.std.specs.Prelude.{if◌then◌else◌, All, count_by, Option, Some, None, Ok}
+use Rattle.std.proofs.Common.{◌≡◌, ℕ, ◌<◌, ◌≤◌, ◌^◌, List, [], ◌∷◌, ◌++◌, length, map, Bool, true, false, ◌⊎◌, inl, inr, refl, sym, ap, ◌∙◌, subst, append_assoc, arith, if◌then◌else◌, All, count_by, Option, Some, None, Ok}
 use Rattle.std.proofs.lemmas.List.{append_cancel_right, map-append}
 use Rattle.std.proofs.lemmas.List.Elements.{All-head, All-tail}
 use Rattle.desk_history.specs.declared.identity.Identity.{Identity}
@@ -12,7 +11,8 @@ use Rattle.desk_history.specs.Message as core
 use Rattle.desk_history.specs.Message.{Message, Of, TakeFile, FileText}
 use Rattle.desk_history.specs.Operator.{answer_to, next_pair}
 use Rattle.desk_history.specs.Part as events
-use Rattle.desk_history.specs.PartCompany.{digest, DigestOfPart}
+use Rattle.desk_history.specs.PartCompany.{DigestOfPart}
+use Rattle.desk_history.specs.Part.{digest}
 use Rattle.desk_history.proofs.Alone.ServedAlone.{sent_grows, answers_grow}
 use Rattle.desk_book.specs.declared.caller.Caller.TheVariants as callers
 use Rattle.desk_book.specs.Book.{book_of}

@@ -1,6 +1,5 @@
 -- The calls of a history over bytes.
-use Rattle.std.proofs.Common.{◌≡◌, ℕ, List, [], ◌∷◌, Bool, true, false, ◌&&◌, refl, ap, ◌∙◌}
-use Rattle.std.specs.Prelude.{not, if◌then◌else◌, Option, Some, None}
+use Rattle.std.proofs.Common.{◌≡◌, ℕ, List, [], ◌∷◌, Bool, true, false, ◌&&◌, refl, ap, ◌∙◌, not, if◌then◌else◌, Option, Some, None}
 use Rattle.desk_history.specs.declared.identity.Identity.{Identity}
 use Rattle.desk_history.specs.Message as core
 use Rattle.desk_history.specs.Message.{Message, Of}

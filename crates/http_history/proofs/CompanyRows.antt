@@ -1,6 +1,5 @@
 -- The operator reads of each company what the company itself reads, over bytes.
-use Rattle.std.proofs.Common.{◌≡◌, ℕ, List, Bool, refl, sym, ap, ◌∙◌, subst}
-use Rattle.std.specs.Prelude.{Option, Some, None, Result, Ok, Err, if◌then◌else◌}
+use Rattle.std.proofs.Common.{◌≡◌, ℕ, List, Bool, refl, sym, ap, ◌∙◌, subst, Option, Some, None, Result, Ok, Err, if◌then◌else◌}
 use Rattle.std.proofs.lemmas.List.Elements.{All-weaker}
 use Rattle.serde_json.specs.Written.{compact_text}
 use Rattle.http_response.specs.declared.response.Content.TheVariants.{Json}
@@ -29,7 +28,8 @@ use Rattle.desk_history.specs.History as core_history
 use Rattle.desk_history.specs.Message.{Message, Of, Companies}
 use Rattle.desk_history.specs.Operator.{answer_to}
 use Rattle.desk_history.specs.Part as events
-use Rattle.desk_history.specs.PartCompany.{digest, DigestOfPart}
+use Rattle.desk_history.specs.PartCompany.{DigestOfPart}
+use Rattle.desk_history.specs.Part.{digest}
 use Rattle.desk_history.specs.Reply as replies
 use Rattle.desk_history.specs.Request as request
 use Rattle.desk_history.specs.Request.{Request}

@@ -1,6 +1,5 @@
 -- The calls of a desk of version 1 are those that its messages spell, without the key `authorized`.
-use Rattle.std.proofs.Common.{◌≡◌, ℕ, List, [], ◌∷◌, ◌++◌, map, Bool, true, false, refl, sym, ap, ◌∙◌, subst}
-use Rattle.std.specs.Prelude.{if◌then◌else◌, Option, Some, None, option_map, option_to_list}
+use Rattle.std.proofs.Common.{◌≡◌, ℕ, List, [], ◌∷◌, ◌++◌, map, Bool, true, false, refl, sym, ap, ◌∙◌, subst, if◌then◌else◌, Option, Some, None, option_map, option_to_list}
 use Rattle.desk_history.specs.declared.identity.Identity.{Identity}
 use Rattle.desk_history.specs.Authorizations.{message_without_authorization, without_authorizations, HaveNoAuthorizations, AuthorizationsLeftOut}
 use Rattle.desk_history.specs.Message as core

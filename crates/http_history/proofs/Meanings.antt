@@ -1,6 +1,5 @@
 -- Each message has one meaning.
-use Rattle.std.proofs.Common.{◌≡◌, ◌∙◌, sym, ap, refl}
-use Rattle.std.specs.Prelude.{Option, Some, None, Ok, Err}
+use Rattle.std.proofs.Common.{◌≡◌, ◌∙◌, sym, ap, refl, Option, Some, None, Ok, Err}
 use Rattle.desk_history.specs.Calls.{OneMessage}
 use Rattle.desk_history.specs.Message.{Message}
 use Rattle.http_history.specs.Verdict.{Verdict, Means}

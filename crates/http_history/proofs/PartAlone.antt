@@ -1,6 +1,5 @@
 -- The origin of a company's events: its own POST, or a command.
-use Rattle.std.proofs.Common.{◌≡◌, ℕ, List, [], ◌∷◌, ◌++◌, map, Bool, true, false, ◌&&◌, ◌⊎◌, inl, inr, refl, sym, ap, ◌∙◌, subst}
-use Rattle.std.specs.Prelude.{if◌then◌else◌, Option, Some, None, Result, Ok, Err, bytes_eq}
+use Rattle.std.proofs.Common.{◌≡◌, ℕ, List, [], ◌∷◌, ◌++◌, map, Bool, true, false, ◌&&◌, ◌⊎◌, inl, inr, refl, sym, ap, ◌∙◌, subst, if◌then◌else◌, Option, Some, None, Result, Ok, Err, bytes_eq}
 use Rattle.std.proofs.lemmas.Bool.{and_parts}
 use Rattle.std.proofs.lemmas.Slice.Eq.{bytes_eq-Decides}
 use Rattle.serde_json.specs.Data.{Data}
@@ -11,7 +10,7 @@ use Rattle.desk_history.specs.History as core_history
 use Rattle.desk_history.specs.Message as core
 use Rattle.desk_history.specs.Message.{Message, Of, TakeFile}
 use Rattle.desk_history.specs.Part as events
-use Rattle.desk_history.specs.PartCompany.{digest}
+use Rattle.desk_history.specs.Part.{digest}
 use Rattle.desk_history.specs.Request as request
 use Rattle.desk_history.specs.Request.{Request}
 use Rattle.desk_book.specs.declared.caller.Caller.TheVariants as callers

@@ -1,6 +1,5 @@
 -- A company's part over bytes is its part over calls.
-use Rattle.std.proofs.Common.{◌≡◌, ℕ, List, [], ◌∷◌, ◌++◌, map, Bool, true, false, ◌&&◌, ◌⊎◌, inl, inr, refl, sym, ap, ◌∙◌, subst, append_assoc, append-nil}
-use Rattle.std.specs.Prelude.{if◌then◌else◌, Option, Some, None, Result, Ok, Err, bytes_eq}
+use Rattle.std.proofs.Common.{◌≡◌, ℕ, List, [], ◌∷◌, ◌++◌, map, Bool, true, false, ◌&&◌, ◌⊎◌, inl, inr, refl, sym, ap, ◌∙◌, subst, append_assoc, append-nil, if◌then◌else◌, Option, Some, None, Result, Ok, Err, bytes_eq}
 use Rattle.std.specs.Result.{result_ok}
 use Rattle.std.proofs.lemmas.Bool.{and_parts}
 use Rattle.std.proofs.lemmas.Slice.Eq.{bytes_eq-Decides}
@@ -12,8 +11,8 @@ use Rattle.desk_history.specs.History.{request_event}
 use Rattle.desk_history.specs.Message as core
 use Rattle.desk_history.specs.Message.{Message}
 use Rattle.desk_history.specs.Part as events
-use Rattle.desk_history.specs.Part.{is_registered}
-use Rattle.desk_history.specs.PartCompany.{digest, DigestOfPart}
+use Rattle.desk_history.specs.Part.{is_registered, digest}
+use Rattle.desk_history.specs.PartCompany.{DigestOfPart}
 use Rattle.desk_history.specs.Request as request
 use Rattle.desk_history.specs.Request.{Request}
 use Rattle.desk_book.specs.declared.caller.Caller.TheVariants as callers

@@ -1,6 +1,5 @@
 -- The answer to a company's request is the text of the definitions' answer to its message.
-use Rattle.std.proofs.Common.{◌≡◌, ℕ, List, Bool, refl}
-use Rattle.std.specs.Prelude.{Option, Some, None, Result, Ok, Err}
+use Rattle.std.proofs.Common.{◌≡◌, ℕ, List, Bool, refl, Option, Some, None, Result, Ok, Err}
 use Rattle.desk_rules.specs.declared.bodies.draft.Draft.{Draft}
 use Rattle.desk_rules.specs.declared.bodies.draft.RetryDraft.{RetryDraft}
 use Rattle.desk_rules.specs.declared.refusals.refusal.Refusal.{Refusal}

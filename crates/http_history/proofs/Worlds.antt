@@ -1,12 +1,12 @@
 -- A company is answered from its own part alone.
-use Rattle.std.proofs.Common.{◌≡◌, ℕ, List, Bool, refl, sym, ap, ◌∙◌, subst}
-use Rattle.std.specs.Prelude.{Option, Some, None, Result, Ok, Err}
+use Rattle.std.proofs.Common.{◌≡◌, ℕ, List, Bool, refl, sym, ap, ◌∙◌, subst, Option, Some, None, Result, Ok, Err}
 use Rattle.desk_history.specs.declared.identity.Identity.{Identity}
 use Rattle.desk_history.specs.History as core_history
 use Rattle.desk_history.specs.Message as core
-use Rattle.desk_history.specs.Message.{Message, Of}
+use Rattle.desk_history.specs.Message.{Message}
 use Rattle.desk_history.specs.Operator.{answer_to}
-use Rattle.desk_history.specs.PartCompany.{digest, DigestOfPart}
+use Rattle.desk_history.specs.PartCompany.{DigestOfPart}
+use Rattle.desk_history.specs.Part.{digest}
 use Rattle.desk_history.specs.Request.{Request}
 use Rattle.desk_book.specs.declared.caller.Caller.TheVariants as callers
 use Rattle.desk_book.specs.Book.{book_of}

@@ -16,7 +16,7 @@ use Rattle.desk_history.specs.declared.companies.DeskCompanies.{DeskCompanies}
 use Rattle.desk_history.specs.declared.identity.Identity.{Identity}
 use Rattle.desk_history.specs.History as core
 use Rattle.desk_history.specs.Message.{Message}
-use Rattle.desk_history.specs.PartCompany.{digest}
+use Rattle.desk_history.specs.Part.{digest}
 use Rattle.http_history.specs.Addressee.{Addressee, to_nobody, to_company, to_operator, addressee_of, shown_key}
 use Rattle.http_history.specs.Verdict.{is_key, is_company}
 use Rattle.http_history.specs.History.{from_message, Pair, calls_of, text}

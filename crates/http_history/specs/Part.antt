@@ -7,7 +7,7 @@ use Rattle.desk_history.specs.Message as core
 use Rattle.desk_history.specs.Message.{Message, is_accepted}
 use Rattle.desk_history.specs.Operator.{answer_to}
 use Rattle.desk_history.specs.Part as events
-use Rattle.desk_history.specs.PartCompany.{digest}
+use Rattle.desk_history.specs.Part.{digest}
 use Rattle.desk_history.specs.Request.{Request}
 use Rattle.http_routes.specs.declared.route.CompanyRoute.{CompanyRoute}
 use Rattle.http_routes.specs.declared.route.CompanyRoute.TheVariants as company_routes

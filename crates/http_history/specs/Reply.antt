@@ -5,7 +5,7 @@ use Rattle.desk_rules.specs.RefusalNames.{name_of, status_of}
 use Rattle.desk_history.specs.declared.answer.Outcome.{Outcome}
 use Rattle.desk_history.specs.declared.answer.Outcome.TheVariants as outcomes
 use Rattle.desk_history.specs.Part as events
-use Rattle.desk_history.specs.PartCompany.{digest}
+use Rattle.desk_history.specs.Part.{digest}
 use Rattle.desk_history.specs.Reply.{request_outcome}
 use Rattle.desk_history.specs.Request.{Request}
 use Rattle.http_message.specs.Message.{MessageValue, closes}

@@ -9,8 +9,7 @@ use Rattle.http_history.specs.Reply.{answer_from}
 use Rattle.http_history.specs.Texts.{is_success}
 use Rattle.isolation.specs.World.{World, nothing, told}
 use Rattle.isolation.specs.Alone.{IsAlone, IsFew}
-use Rattle.isolation.specs.Heard.{Reading, company_of, message_heard, LookAlike}
-use Rattle.isolation.specs.Readings.{IsDesks}
+use Rattle.isolation.specs.Heard.{Reading, company_of, message_heard, LookAlike, IsDesks}
 
 module _ (reading : Reading) (odfi key : List ℕ) where
   -- what a desk keeps after an answer; 503 changes nothing, and 200 or 201 accepts

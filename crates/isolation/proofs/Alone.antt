@@ -19,10 +19,10 @@ use Rattle.desk_history.specs.Operator.{IsHistory, answer_to}
 use Rattle.desk_history.specs.Part.{Event, is_registered}
 use Rattle.desk_history.specs.Request.{Request}
 use Rattle.isolation.specs.World as steps
-use Rattle.isolation.specs.World.{Command, Step, Asks, Does, World, told}
+use Rattle.isolation.specs.World.{Step, Does, World, told}
 use Rattle.isolation.specs.Alone.{IsFor, told_all, IsAlone}
 use Rattle.isolation.specs.Calls.{message_step, world_of_calls}
-use Rattle.isolation.specs.Readings.{due_next}
+use Rattle.isolation.specs.Heard.{due_next}
 use Rattle.isolation.proofs.Folded.{same_world}
 
 -- the steps of a history of calls

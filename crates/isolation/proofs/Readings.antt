@@ -1,6 +1,5 @@
 -- A company is answered from its part by the desk's reading.
-use Rattle.std.proofs.Common.{◌≡◌, ◌∙◌, refl, sym, ap, subst}
-use Rattle.std.specs.Prelude.{Option, Some, None, option_and_then, Ok, Err}
+use Rattle.std.proofs.Common.{◌≡◌, ◌∙◌, refl, sym, ap, subst, Option, Some, None, option_and_then, Ok, Err}
 use Rattle.desk_history.specs.declared.call.Call.{Call}
 use Rattle.desk_history.specs.declared.call.Call.TheVariants as calls
 use Rattle.desk_history.specs.Calls.{IsMessageOf}
@@ -13,7 +12,7 @@ use Rattle.http_history.specs.Laws.{OneMeaning}
 use Rattle.http_history.specs.Verdict.{Verdict, operator_call, Means}
 use Rattle.isolation.specs.World.{Command, TakeFile}
 use Rattle.isolation.specs.Calls.{command_of}
-use Rattle.isolation.specs.Readings.{IsCommandOf, IsCommandTo, IsDesks}
+use Rattle.isolation.specs.Heard.{IsCommandOf, IsCommandTo, IsDesks}
 use Rattle.isolation.proofs.Heard.{command_to, reading}
 
 called : (call : Call) (means : Message) (m : Command) → IsMessageOf call means → command_of means ≡ Some m → IsCommandOf (Ok call) m

@@ -1,6 +1,5 @@
 -- The effect of one more event on the accepted submissions and retries, and on decisions.
-use Rattle.std.proofs.Common.{◌≡◌, ℕ, ◌⊎◌, List, [], ◌∷◌, ◌++◌, Bool, true, false, ◌||◌, refl, sym, subst, ap, ◌∙◌, inl, inr, if◌then◌else◌}
-use Rattle.std.specs.Prelude.{All, Option, Some, None, option_and_then, is_some, Result, Ok, Err, find}
+use Rattle.std.proofs.Common.{◌≡◌, ℕ, ◌⊎◌, List, [], ◌∷◌, ◌++◌, Bool, true, false, ◌||◌, refl, sym, subst, ap, ◌∙◌, inl, inr, if◌then◌else◌, All, Option, Some, None, option_and_then, is_some, Result, Ok, Err, find}
 use Rattle.std.specs.List.{list_any}
 use Rattle.std.proofs.lemmas.List.Folds.{find-append}
 use Rattle.std.proofs.lemmas.Slice.Eq.{bytes_eq-Decides}
@@ -305,21 +304,10 @@ settled_parts P a on h = at (has_lapsed P a) (decision P a.place) h where
 pub settled_from : (P : List Event) (a : AcceptedSubmission) (on : ℕ) → has_lapsed P a ≡ false → decision P a.place ≡ Some on → settlement_day P a ≡ Some on
 settled_from P a on kept is = ap (λ (t : Bool). if t then None else decision P a.place) kept ∙ is
 
--- what lapsed is decided
-pub lapsed_decided : (P : List Event) (a : AcceptedSubmission) → has_lapsed P a ≡ true → (on : ℕ) × (decision P a.place ≡ Some on)
-lapsed_decided P a h = at (decision P a.place) (original_settlement P a.original) h where
-  at : (o original : Option ℕ) → is_too_late o original ≡ true → (on : ℕ) × (o ≡ Some on)
-  at (Some on) original h = (on, refl)
-  at None original h = cc
-
 pub settled_stays : (e : Event) (P : List Event) (a : AcceptedSubmission) (on : ℕ) → IsLinked P a → settlement_day P a ≡ Some on → settlement_day (e ∷ P) a ≡ Some on
 settled_stays e P a on linked h =
     let parts = settled_parts P a on h in
     settled_from (e ∷ P) a on (lapsed_stays e P a on linked parts.1 ∙ parts.0) (decided_stays e P a.place on parts.1)
-
--- what lapsed stays so
-pub stays_lapsed : (e : Event) (P : List Event) (a : AcceptedSubmission) → IsLinked P a → has_lapsed P a ≡ true → has_lapsed (e ∷ P) a ≡ true
-stays_lapsed e P a linked h = let is = lapsed_decided P a h in lapsed_stays e P a is.0 linked is.1 ∙ h
 
 -- the submission that settles under a reference
 pub settled_under_parts : (P : List Event) (reference : List ℕ) (on : ℕ) → settlement_under P reference ≡ Some on → (a : AcceptedSubmission) × (submission_under P reference ≡ Some a) × (settlement_day P a ≡ Some on)

@@ -1,13 +1,12 @@
 -- A retry names an entry of an earlier submission that settled.
-use Rattle.std.proofs.Common.{◌≡◌, ◌≤◌, ℕ, List, [], ◌∷◌, length, map, Bool, false, refl, sym, subst, ap, ◌∙◌, arith}
-use Rattle.std.specs.Prelude.{All, Option, Some, None, option_and_then, filter_map, Result, Ok}
+use Rattle.std.proofs.Common.{◌≡◌, ◌≤◌, ℕ, List, [], ◌∷◌, length, map, Bool, false, refl, sym, subst, ap, ◌∙◌, arith, All, Option, Some, None, option_and_then, filter_map, Result, Ok}
 use Rattle.std.proofs.lemmas.List.Elements.{All-nil, All-push, All-weaker}
 use Rattle.desk_rules.specs.declared.rules.attempt.Attempt.{Attempt}
 use Rattle.desk_rules.specs.declared.rules.entry_fact.EntryState.{EntryState}
 use Rattle.desk_rules.specs.declared.bodies.submission.Retry.{Retry}
 use Rattle.desk_rules.specs.declared.refusals.refusal.Refusal.{Refusal}
 use Rattle.desk_rules.specs.Attempts.{Return, attempt_of, original_return, newest_return}
-use Rattle.desk_rules.specs.FirstRefusal.{first_refusal}
+use Rattle.desk_rules.specs.Chain.{first_refusal}
 use Rattle.desk_rules.specs.RetryRule.{retry_rows, retry_verdict}
 use Rattle.desk_history.specs.Request as request
 use Rattle.desk_history.specs.Request.{Request}

@@ -1,6 +1,5 @@
 -- The entry that a retry names, and the contents of a draft.
-use Rattle.std.proofs.Common.{◌≡◌, ◌≤◌, ℕ, ◌-◌, List, [], ◌∷◌, length, Bool, true, false, not, ◌&&◌, refl, subst, ap, ◌∙◌, if◌then◌else◌, arith}
-use Rattle.std.specs.Prelude.{Option, Some, None, option_map, option_and_then, Result, Ok, Err, find, slice_get, nat_le, nat_lt}
+use Rattle.std.proofs.Common.{◌≡◌, ◌≤◌, ℕ, ◌-◌, List, [], ◌∷◌, length, Bool, true, false, not, ◌&&◌, refl, subst, ap, ◌∙◌, if◌then◌else◌, arith, Option, Some, None, option_map, option_and_then, Result, Ok, Err, find, slice_get, nat_le, nat_lt}
 use Rattle.std.specs.Result.{result_ok}
 use Rattle.std.proofs.lemmas.Bool.{and_parts, not-true, leb-true, ltb-false}
 use Rattle.ach_fields.specs.Cents.{most_cents}

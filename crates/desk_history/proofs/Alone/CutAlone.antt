@@ -1,6 +1,5 @@
 -- A cut in a desk that serves one company alone: it is accepted where that of the whole desk is.
-use Rattle.std.proofs.Common.{◌≡◌, ℕ, suc, ◌+◌, ◌≤◌, List, [], ◌∷◌, ◌++◌, length, map, Bool, true, false, cond, refl, sym, ap, ◌∙◌, subst, inl, arith}
-use Rattle.std.specs.Prelude.{if◌then◌else◌, ◌==◌, nat_le, unwrap_or, filter, sum_by, Option, Ok}
+use Rattle.std.proofs.Common.{◌≡◌, ℕ, suc, ◌+◌, ◌≤◌, List, [], ◌∷◌, ◌++◌, length, map, Bool, true, false, cond, refl, sym, ap, ◌∙◌, subst, inl, arith, if◌then◌else◌, ◌==◌, nat_le, unwrap_or, filter, sum_by, Option, Ok}
 use Rattle.std.proofs.lemmas.Bool.{and_parts, and_from, le-leb}
 use Rattle.std.proofs.lemmas.List.{length-map}
 use Rattle.std.proofs.lemmas.List.FromFn.{length-enumerate_from}

@@ -1,6 +1,5 @@
 -- Files in a desk that serves one company alone: one for each return and each change.
-use Rattle.std.proofs.Common.{◌≡◌, ℕ, ◌+◌, ◌<◌, ◌≤◌, ◌^◌, List, [], ◌∷◌, ◌++◌, length, map, Bool, true, false, cond, not, ◌&&◌, refl, sym, ap, ◌∙◌, subst, inl, arith, append_assoc}
-use Rattle.std.specs.Prelude.{if◌then◌else◌, unwrap_or, bytes_eq, count_by, filter, find, Option, Some, None, option_map, option_to_list, is_none, Ok}
+use Rattle.std.proofs.Common.{◌≡◌, ℕ, ◌+◌, ◌<◌, ◌≤◌, ◌^◌, List, [], ◌∷◌, ◌++◌, length, map, Bool, true, false, cond, not, ◌&&◌, refl, sym, ap, ◌∙◌, subst, inl, arith, append_assoc, if◌then◌else◌, unwrap_or, bytes_eq, count_by, filter, find, Option, Some, None, option_map, option_to_list, is_none, Ok}
 use Rattle.std.specs.List.{list_any}
 use Rattle.std.specs.Option.{option_or}
 use Rattle.std.proofs.lemmas.Bool.{and_from, eq-eqb, false_from_ne_true}

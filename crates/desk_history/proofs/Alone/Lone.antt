@@ -1,6 +1,5 @@
 -- A company on a desk that serves it alone, compared with the desk that serves all.
-use Rattle.std.proofs.Common.{◌≡◌, ℕ, ◌+◌, ◌<◌, ◌^◌, List, ◌∷◌, map, Bool, true, false, cond, ◌&&◌, refl, ap, ◌∙◌, subst, sym, arith}
-use Rattle.std.specs.Prelude.{Some, None, bytes_eq, count_by, filter, find}
+use Rattle.std.proofs.Common.{◌≡◌, ℕ, ◌+◌, ◌<◌, ◌^◌, List, ◌∷◌, map, Bool, true, false, cond, ◌&&◌, refl, ap, ◌∙◌, subst, sym, arith, Some, None, bytes_eq, count_by, filter, find}
 use Rattle.std.specs.List.{AllByRecursion}
 use Rattle.std.proofs.lemmas.List.Sums.{sum_by-cons}
 use Rattle.ach_fields.specs.Digits.{digits}

@@ -1,6 +1,5 @@
 -- Requests, days, holidays, companies and limits in a desk that serves one company alone.
-use Rattle.std.proofs.Common.{◌≡◌, ℕ, List, [], ◌∷◌, ◌++◌, map, Bool, true, false, ◌&&◌, refl, sym, ap, ◌∙◌, subst, inl, inr}
-use Rattle.std.specs.Prelude.{unwrap_or, if◌then◌else◌, Option, Some, None, option_and_then, option_map, option_to_list, Result, Ok, Err, find, filter, bytes_eq}
+use Rattle.std.proofs.Common.{◌≡◌, ℕ, List, [], ◌∷◌, ◌++◌, map, Bool, true, false, ◌&&◌, refl, sym, ap, ◌∙◌, subst, inl, inr, unwrap_or, if◌then◌else◌, Option, Some, None, option_and_then, option_map, option_to_list, Result, Ok, Err, find, filter, bytes_eq}
 use Rattle.std.specs.Result.{result_ok}
 use Rattle.std.proofs.lemmas.Bool.{cases_Bool, and_parts}
 use Rattle.std.proofs.lemmas.Slice.Eq.{bytes_eq-Decides}

@@ -1,6 +1,5 @@
 -- Facts about each element of a list, by recursion on the list.
-use Rattle.std.proofs.Common.{◌≡◌, Bool, true, List, [], ◌∷◌, ◌++◌, map, reverse}
-use Rattle.std.specs.Prelude.{filter, zip}
+use Rattle.std.proofs.Common.{◌≡◌, Bool, true, List, [], ◌∷◌, ◌++◌, map, reverse, filter, zip}
 use Rattle.std.specs.List.{flat_map, AllByRecursion}
 use Rattle.std.proofs.lemmas.List.Elements.{All-append, All-filter, All-from_recursion, All-map, All-weaker, filter_passes, recursion_from_All}
 use Rattle.desk_history.proofs.Basics.Elements.{all_flat_map, all_reverse, all_zip}

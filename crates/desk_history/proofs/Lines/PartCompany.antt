@@ -1,6 +1,5 @@
 -- A company's own row, in its part.
-use Rattle.std.proofs.Common.{◌≡◌, ℕ, List, [], ◌∷◌, ◌++◌, Bool, true, false, cond, ◌&&◌, refl, sym, ap, ◌∙◌}
-use Rattle.std.specs.Prelude.{if◌then◌else◌, Option, Some, None, option_map, option_and_then, option_to_list, Result, Ok, Err, find, bytes_eq}
+use Rattle.std.proofs.Common.{◌≡◌, ℕ, List, [], ◌∷◌, ◌++◌, Bool, true, false, cond, ◌&&◌, refl, sym, ap, ◌∙◌, if◌then◌else◌, Option, Some, None, option_map, option_and_then, option_to_list, Result, Ok, Err, find, bytes_eq}
 use Rattle.std.specs.Result.{result_ok}
 use Rattle.std.proofs.lemmas.Slice.Eq.{bytes_eq-Decides}
 use Rattle.desk_rules.specs.declared.bodies.company.Company.{Company}
@@ -10,8 +9,8 @@ use Rattle.desk_rules.specs.Chain.{◌>>=◌}
 use Rattle.desk_rules.specs.Operator.{company_of, new_limits_of}
 use Rattle.desk_history.specs.declared.identity.Identity.{Identity}
 use Rattle.desk_history.specs.declared.sent_entry.SentEntry.{SentEntry}
-use Rattle.desk_history.specs.Part.{Event, DaySet, HolidaysSet, Registered, Limited, is_registered}
-use Rattle.desk_history.specs.PartCompany.{Registration, registration, registered_company, DigestOfPart, CompanyOfPart}
+use Rattle.desk_history.specs.Part.{Event, DaySet, HolidaysSet, Registered, Limited, is_registered, Registration, registration}
+use Rattle.desk_history.specs.PartCompany.{registered_company, DigestOfPart, CompanyOfPart}
 use Rattle.desk_history.specs.Message.{Message, Of, SetDay, SetHolidays, PutCompany, PutLimits, TakeFile, Pair, is_accepted}
 use Rattle.desk_history.specs.Reply.{answer_of}
 use Rattle.desk_history.specs.History.{message_day, with_limits, with_registration, with_new_limits, companies, company_event, limits_event, events_for, is_new, part, sent_entries}

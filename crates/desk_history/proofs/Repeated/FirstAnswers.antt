@@ -1,6 +1,5 @@
 -- Something accepted once is known from then on, and is answered as it was the first time.
-use Rattle.std.proofs.Common.{◌≡◌, ℕ, List, [], ◌∷◌, ◌++◌, true, ◌&&◌, refl, sym, ap, ◌∙◌, subst, append_assoc}
-use Rattle.std.specs.Prelude.{Option, Some, None, Result, Ok, Err}
+use Rattle.std.proofs.Common.{◌≡◌, ℕ, List, [], ◌∷◌, ◌++◌, true, ◌&&◌, refl, sym, ap, ◌∙◌, subst, append_assoc, Option, Some, None, Result, Ok, Err}
 use Rattle.ach_files.specs.declared.fault.Fault.{Fault}
 use Rattle.ach_files.specs.Facts.{FileFacts}
 use Rattle.desk_rules.specs.declared.bodies.draft.Draft.{Draft}

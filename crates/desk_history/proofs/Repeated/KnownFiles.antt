@@ -1,6 +1,5 @@
 -- A file that was taken is known ever after, and a known one has its first counts.
-use Rattle.std.proofs.Common.{◌≡◌, ℕ, List, [], ◌∷◌, ◌++◌, Bool, true, false, refl, ap, ◌∙◌}
-use Rattle.std.specs.Prelude.{if◌then◌else◌, Option, Some, None, find, is_some, is_none, Ok, Err, bytes_eq}
+use Rattle.std.proofs.Common.{◌≡◌, ℕ, List, [], ◌∷◌, ◌++◌, Bool, true, false, refl, ap, ◌∙◌, if◌then◌else◌, Option, Some, None, find, is_some, is_none, Ok, Err, bytes_eq}
 use Rattle.std.proofs.lemmas.List.Folds.{find-append}
 use Rattle.ach_files.specs.Facts.{FileFacts}
 use Rattle.desk_rules.specs.declared.refusals.refusal.Refusal.TheVariants.{FileKeyReused}

@@ -1,6 +1,5 @@
 -- A submission or retry that was accepted is known ever after, and a known one has its first outcome.
-use Rattle.std.proofs.Common.{◌≡◌, ℕ, List, [], ◌∷◌, ◌++◌, Bool, true, refl, ap, ◌∙◌, inl, inr}
-use Rattle.std.specs.Prelude.{Option, Some, None, find, is_some, Result, Ok}
+use Rattle.std.proofs.Common.{◌≡◌, ℕ, List, [], ◌∷◌, ◌++◌, Bool, true, refl, ap, ◌∙◌, inl, inr, Option, Some, None, find, is_some, Result, Ok}
 use Rattle.std.proofs.lemmas.List.Folds.{find-append}
 use Rattle.desk_rules.specs.declared.bodies.company.Limits.{Limits}
 use Rattle.desk_rules.specs.declared.bodies.draft.Draft.{Draft}

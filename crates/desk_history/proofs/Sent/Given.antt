@@ -1,6 +1,5 @@
 -- The events that messages other than cuts and files give a company.
-use Rattle.std.proofs.Common.{ℕ, List, [], ◌∷◌, Bool, true, false, ◌&&◌}
-use Rattle.std.specs.Prelude.{if◌then◌else◌, ⊤, Option, Some, None, option_map, option_to_list, bytes_eq}
+use Rattle.std.specs.Prelude.{if◌then◌else◌, ⊤, Option, Some, None, option_map, option_to_list, bytes_eq, ℕ, List, [], ◌∷◌, Bool, true, false, ◌&&◌}
 use Rattle.std.specs.Result.{result_ok}
 use Rattle.desk_rules.specs.declared.bodies.company.Company.{Company}
 use Rattle.desk_rules.specs.declared.bodies.company.Limits.{Limits}

@@ -1,6 +1,5 @@
 -- A company's part returns and changes only entries that were sent, and each is returned once.
-use Rattle.std.proofs.Common.{◌≡◌, ℕ, List, [], ◌∷◌, ◌++◌, Bool, true, false, sym, subst, append_assoc}
-use Rattle.std.specs.Prelude.{All, Ok, Err, slice_index_or}
+use Rattle.std.proofs.Common.{◌≡◌, ℕ, List, [], ◌∷◌, ◌++◌, Bool, true, false, sym, subst, append_assoc, All, Ok, Err, slice_index_or}
 use Rattle.std.proofs.lemmas.Slice.Eq.{bytes_eq-Decides}
 use Rattle.ach_files.specs.declared.facts.ItemFacts.{ItemFacts}
 use Rattle.desk_history.specs.declared.sent_entry.SentEntry.{SentEntry}

@@ -1,6 +1,5 @@
 -- Facts at an accepted cut.
-use Rattle.std.proofs.Common.{◌≡◌, true, List, Result, Ok, Err, refl, sym, ap, ◌∙◌}
-use Rattle.std.proofs.lemmas.Bool.{leb-true}
+use Rattle.std.proofs.Common.{◌≡◌, true, List, Result, Ok, Err, refl, sym, ap, ◌∙◌, leb-true}
 use Rattle.desk_rules.specs.declared.refusals.refusal.Refusal as rules
 use Rattle.desk_rules.specs.declared.refusals.refusal.Refusal.TheVariants.{NoDay, TracesSpent, ModifiersSpent}
 use Rattle.desk_history.specs.declared.operations.CutSummary.{CutSummary}

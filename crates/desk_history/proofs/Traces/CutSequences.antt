@@ -1,6 +1,5 @@
 -- The sequences that the entries of a cut take.
-use Rattle.std.proofs.Common.{◌≡◌, ◌≢◌, ℕ, ◌+◌, ◌-◌, ◌<◌, ◌≤◌, List, [], ◌∷◌, map, length, true, false, not, sym, subst, ◌∙◌, arith}
-use Rattle.std.specs.Prelude.{zip}
+use Rattle.std.proofs.Common.{◌≡◌, ◌≢◌, ℕ, ◌+◌, ◌-◌, ◌<◌, ◌≤◌, List, [], ◌∷◌, map, length, true, false, not, sym, subst, ◌∙◌, arith, zip}
 use Rattle.std.specs.List.{flat_map, list_any, enumerate_from, AllByRecursion}
 use Rattle.std.proofs.lemmas.Bool.{le-leb, and_from, and_parts, or_parts, not-true, false≢true}
 use Rattle.std.proofs.lemmas.List.Elements.{All-nil, All-cons, All-head}

@@ -1,8 +1,6 @@
 -- The next cut makes as many files as the status has, with as many records.
-use Rattle.std.proofs.Common.{◌≡◌, ◌<◌, ℕ, suc, ◌+◌, Bool, true, false, List, [], ◌∷◌, ◌++◌, length, map, zip, drop, refl, sym, ap, ◌∙◌, arith, length-append}
-use Rattle.std.specs.Prelude.{◌==◌, nat_le, filter, sum_by, Option, Some, None, unwrap_or, Ok, Err}
+use Rattle.std.proofs.Common.{◌≡◌, ◌<◌, ℕ, suc, ◌+◌, Bool, true, false, List, [], ◌∷◌, ◌++◌, length, map, zip, drop, refl, sym, ap, ◌∙◌, arith, length-append, leb-false, ◌==◌, nat_le, filter, sum_by, Option, Some, None, unwrap_or, Ok, Err}
 use Rattle.std.specs.List.{enumerate_from, flat_map}
-use Rattle.std.proofs.lemmas.Bool.{leb-false}
 use Rattle.std.proofs.lemmas.List.{length-map}
 use Rattle.std.proofs.lemmas.List.Sums.{length-filter, sum_by-append, sum_by-cons}
 use Rattle.desk_plan.specs.declared.batch.Batch as plan

@@ -1,6 +1,5 @@
 -- The entries that a cut adds to the sent ones.
-use Rattle.std.proofs.Common.{◌≡◌, ℕ, List, [], ◌∷◌, map, reverse, Bool, true, false, refl}
-use Rattle.std.specs.Prelude.{filter, zip, unwrap_or}
+use Rattle.std.proofs.Common.{◌≡◌, ℕ, List, [], ◌∷◌, map, reverse, Bool, true, false, refl, filter, zip, unwrap_or}
 use Rattle.std.specs.List.{flat_map, enumerate_from, AllByRecursion}
 use Rattle.desk_plan.specs.Sequences.{ranges_of}
 use Rattle.desk_rules.specs.declared.bodies.company.Company.{Company}

@@ -1,6 +1,5 @@
 -- Entries sent by a cut settle after its day.
-use Rattle.std.proofs.Common.{◌≡◌, ℕ, zero, suc, ◌+◌, ◌-◌, ◌==◌, ◌<◌, ◌≤◌, List, ◌∷◌, length, Bool, true, false, Option, Some, None, ap, ◌∙◌, refl, arith}
-use Rattle.std.specs.Prelude.{if◌then◌else◌, is_none, is_some, unwrap_or, nat_lt, ◌&&◌}
+use Rattle.std.proofs.Common.{◌≡◌, ℕ, zero, suc, ◌+◌, ◌-◌, ◌==◌, ◌<◌, ◌≤◌, List, ◌∷◌, length, Bool, true, false, Option, Some, None, ap, ◌∙◌, refl, arith, if◌then◌else◌, is_none, is_some, unwrap_or, nat_lt, ◌&&◌}
 use Rattle.std.specs.List.{AllByRecursion}
 use Rattle.std.proofs.lemmas.Bool.{and_parts}
 use Rattle.bank_days.specs.Day.{last_day}

@@ -33,85 +33,82 @@ pub enum RefusalName {
     BadCalendar,
 }
 
+/// A row of the table of names.
+#[derive(Clone, Copy)]
+struct NameRow {
+    number: u64,
+    status: u16,
+    text: &'static str,
+}
+
+fn row(number: u64, status: u16, text: &'static str) -> NameRow
+    ensures number { result.number ≡ number }
+    ensures status { result.status ≡ status }
+    ensures text { result.text.now ≡ text.now }
+{
+    NameRow {
+        number,
+        status,
+        text,
+    }
+}
+
 impl RefusalName {
     ghost use Rattle.desk_rules.specs.RefusalNames.{number_of, status_of, text_of};
+
+    /// The table. The status is 422 if the body itself is invalid, and 409 if it conflicts with what
+    /// the desk has.
+    fn row(self) -> NameRow
+        ensures number { result.number ≡ number_of self }
+        ensures status { result.status ≡ status_of self }
+        ensures text { result.text.now ≡ text_of self }
+    {
+        match self {
+            RefusalName::NoDay => row(1, 409, "NoDay"),
+            RefusalName::BadField => row(2, 422, "BadField"),
+            RefusalName::RefReused => row(3, 409, "RefReused"),
+            RefusalName::TooManyEntries => row(4, 422, "TooManyEntries"),
+            RefusalName::TotalTooLarge => row(5, 422, "TotalTooLarge"),
+            RefusalName::DateRange => row(6, 422, "DateRange"),
+            RefusalName::EntryLimit => row(7, 409, "EntryLimit"),
+            RefusalName::CreditLimit => row(8, 409, "CreditLimit"),
+            RefusalName::DebitLimit => row(9, 409, "DebitLimit"),
+            RefusalName::NoEntry => row(10, 409, "NoEntry"),
+            RefusalName::NotReturned => row(11, 409, "NotReturned"),
+            RefusalName::NotRetryable => row(12, 409, "NotRetryable"),
+            RefusalName::RetriesSpent => row(13, 409, "RetriesSpent"),
+            RefusalName::RetryTooLate => row(14, 409, "RetryTooLate"),
+            RefusalName::DayNotLater => row(20, 409, "DayNotLater"),
+            RefusalName::NotBankingDay => row(21, 409, "NotBankingDay"),
+            RefusalName::CompanyExists => row(22, 409, "CompanyExists"),
+            RefusalName::NoCompany => row(23, 409, "NoCompany"),
+            RefusalName::TracesSpent => row(24, 409, "TracesSpent"),
+            RefusalName::ModifiersSpent => row(25, 409, "ModifiersSpent"),
+            RefusalName::FileKeyReused => row(26, 409, "FileKeyReused"),
+            RefusalName::BadFile => row(27, 422, "BadFile"),
+            RefusalName::BadCalendar => row(28, 422, "BadCalendar"),
+        }
+    }
 
     /// Returns the refusal's number in answers to companies.
     pub fn number(self) -> u64
         ensures { result ≡ number_of self }
     {
-        match self {
-            RefusalName::NoDay => 1,
-            RefusalName::BadField => 2,
-            RefusalName::RefReused => 3,
-            RefusalName::TooManyEntries => 4,
-            RefusalName::TotalTooLarge => 5,
-            RefusalName::DateRange => 6,
-            RefusalName::EntryLimit => 7,
-            RefusalName::CreditLimit => 8,
-            RefusalName::DebitLimit => 9,
-            RefusalName::NoEntry => 10,
-            RefusalName::NotReturned => 11,
-            RefusalName::NotRetryable => 12,
-            RefusalName::RetriesSpent => 13,
-            RefusalName::RetryTooLate => 14,
-            RefusalName::DayNotLater => 20,
-            RefusalName::NotBankingDay => 21,
-            RefusalName::CompanyExists => 22,
-            RefusalName::NoCompany => 23,
-            RefusalName::TracesSpent => 24,
-            RefusalName::ModifiersSpent => 25,
-            RefusalName::FileKeyReused => 26,
-            RefusalName::BadFile => 27,
-            RefusalName::BadCalendar => 28,
-        }
+        self.row().number
     }
 
-    /// Returns the HTTP status of the answer: 422 if the body itself is invalid, 409 if it
-    /// conflicts with what the desk has.
+    /// Returns the HTTP status of the answer.
     pub fn status(self) -> u16
         ensures { result ≡ status_of self }
     {
-        match self {
-            RefusalName::BadField
-            | RefusalName::TooManyEntries
-            | RefusalName::TotalTooLarge
-            | RefusalName::DateRange
-            | RefusalName::BadFile
-            | RefusalName::BadCalendar => 422,
-            _ => 409,
-        }
+        self.row().status
     }
 
     /// Gives the name as bodies write it.
     pub fn text(self) -> &'static str
         ensures { result.now ≡ text_of self }
     {
-        match self {
-            RefusalName::NoDay => "NoDay",
-            RefusalName::BadField => "BadField",
-            RefusalName::RefReused => "RefReused",
-            RefusalName::TooManyEntries => "TooManyEntries",
-            RefusalName::TotalTooLarge => "TotalTooLarge",
-            RefusalName::DateRange => "DateRange",
-            RefusalName::EntryLimit => "EntryLimit",
-            RefusalName::CreditLimit => "CreditLimit",
-            RefusalName::DebitLimit => "DebitLimit",
-            RefusalName::NoEntry => "NoEntry",
-            RefusalName::NotReturned => "NotReturned",
-            RefusalName::NotRetryable => "NotRetryable",
-            RefusalName::RetriesSpent => "RetriesSpent",
-            RefusalName::RetryTooLate => "RetryTooLate",
-            RefusalName::DayNotLater => "DayNotLater",
-            RefusalName::NotBankingDay => "NotBankingDay",
-            RefusalName::CompanyExists => "CompanyExists",
-            RefusalName::NoCompany => "NoCompany",
-            RefusalName::TracesSpent => "TracesSpent",
-            RefusalName::ModifiersSpent => "ModifiersSpent",
-            RefusalName::FileKeyReused => "FileKeyReused",
-            RefusalName::BadFile => "BadFile",
-            RefusalName::BadCalendar => "BadCalendar",
-        }
+        self.row().text
     }
 }
 

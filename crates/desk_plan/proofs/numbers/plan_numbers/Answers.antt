@@ -1,5 +1,4 @@
-use Rattle.std.proofs.Common.{◌≡◌, ℕ, [], List, ◌++◌, true, ◌||◌, drop, sym, ap, subst, ◌∙◌, arith}
-use Rattle.std.specs.Prelude.{All, nat_le}
+use Rattle.std.proofs.Common.{◌≡◌, ℕ, [], List, ◌++◌, true, ◌||◌, drop, sym, ap, subst, ◌∙◌, arith, All, nat_le}
 use Rattle.std.proofs.lemmas.List.{drop_all, append-nil}
 use Rattle.std.proofs.lemmas.List.Elements.{All-rest}
 use Rattle.std.proofs.lemmas.Bool.{or_left, or_right}

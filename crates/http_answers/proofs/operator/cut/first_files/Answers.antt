@@ -1,5 +1,4 @@
-use Rattle.std.proofs.Common.{◌≡◌, length, take, arith, sym}
-use Rattle.std.proofs.lemmas.List.{length-take-le}
+use Rattle.std.proofs.Common.{◌≡◌, length, take, arith, sym, length-take-le}
 use Rattle.http_answers.proofs.operator.cut.first_files.Goals as goal
 
 pub slice_bounds-result-end : goal.slice_bounds-result-end
