@@ -5,7 +5,8 @@ The rival (bench/rival) makes the same calls over the same tables by SQLite's C 
 are compared byte for byte, and all rows of all tables: heads of every kind, each route with its refusals, and random days of a
 bank. Then a table reports the instructions of user code (callgrind) and the CPU time of both for each call, and their ratios.
 
-The status is 1 if an answer or a row differs, which is printed, and 2 if a Debian package is missing, which is named.
+The status is 1 if an answer or a row differs or a call takes more instructions than it may, which is printed, and 2 if a Debian
+package is missing, which is named.
 """
 
 import argparse
@@ -121,6 +122,9 @@ def main():
             instructions = None if given.no_instructions else measured.instructions()
             print(f"{given.open:,} open entries, the least CPU time of {given.rounds} rounds\n")
             print(figures.table(instructions, times))
+            if found := figures.beyond(instructions) if instructions else []:
+                print("", *found, sep="\n")
+                return 1
     return 0
 
 

@@ -73,6 +73,12 @@ def exposure(name):
     return company(name, "GET exposure")
 
 
+CUT_OF_ALL = "cut, an entry of submissions of 1,000 and of 1"
+CUT_OF_ONE = f"cut of 1 entry, more than {HELD:,} others held"
+# How many times the rival's instructions a call may take.
+MOST = {CUT_OF_ALL: 4.43, CUT_OF_ONE: 3}
+
+
 # What is measured, in the order in which it is asked: a name, messages, and in how many parts their cost is divided. Without a name the
 # messages are sent and not measured.
 def calls():
@@ -84,7 +90,7 @@ def calls():
         ("first exposure after a start, of many open entries", [exposure("OPEN")], 1),
         (None, [exposure("NONE")], 1),
         ("GET exposure", [exposure("OPEN")] * 100, 100),
-        ("cut, an entry of submissions of 1,000 and of 1", [operator("POST /ops/cut")], 10 * SIZE + 100),
+        (CUT_OF_ALL, [operator("POST /ops/cut")], 10 * SIZE + 100),
         first("a cut"),
         ("submission of 1,000 entries", [submission("OPEN", f"L{at}", SIZE, False, FAR) for at in range(5)], 5),
         ("submission of 1", [submission("OPEN", f"O{at}", 1, False, FAR) for at in range(100)], 100),
@@ -106,7 +112,7 @@ def calls():
         (f"GET returns, {2 * RETURNS:,} rows", [company("OPEN", "GET returns")] * 3, 3),
         (None, [submission("NONE", f"H{at}", SIZE, False, FAR) for at in range(HELD // SIZE)] + [submission("EACH", "Y", 1, True, FOURTH)], 1),
         (f"GET status, more than {HELD:,} entries held", [operator("GET /ops/status")] * 3, 3),
-        (f"cut of 1 entry, more than {HELD:,} others held", [operator("POST /ops/cut")], 1),
+        (CUT_OF_ONE, [operator("POST /ops/cut")], 1),
         (None, [message for at in range(MORE) for message in one_more(f"MORE{at:03}")] + [operator("GET /ops/companies")], 1),
         (f"GET companies, one of {MORE}", [operator("GET /ops/companies")] * 3, 3 * MORE),
     ]
@@ -214,6 +220,12 @@ class Figures:
 
     def instructions(self):
         return self.both(Counted)
+
+
+def beyond(instructions):
+    """A line for each call that takes more than it may."""
+    ratios = {name: instructions[0][name] / instructions[1][name] for name in MOST}
+    return [f"NOT WITHIN: {name}, {ratios[name]:.2f} times the rival's instructions, at most {most}" for name, most in MOST.items() if ratios[name] > most]
 
 
 def seconds(value):

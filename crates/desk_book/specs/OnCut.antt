@@ -41,6 +41,10 @@ lapses holidays today w = is_too_late (Some (settles holidays today w)) w.origin
 abbrev pub due_submissions : (holidays : List ℕ) → (today : ℕ) → List HeldSubmission → List HeldSubmission
 due_submissions holidays today ws = filter (is_due holidays today) ws
 
+-- the held submissions of the book that a cut on a day decides, by company and then by order number
+abbrev pub due : (holidays : List ℕ) → (today : ℕ) → Book → List HeldSubmission
+due holidays today b = due_submissions holidays today (waiting b)
+
 abbrev pub sending_of : (holidays : List ℕ) → (today : ℕ) → HeldSubmission → Sending
 sending_of holidays today w = record { company = w.company; order = w.row.order; content = w.row.content; settled = settles holidays today w }
 

@@ -9,6 +9,7 @@ mod book_laws;
 mod caller;
 mod companies_laws;
 mod cut_laws;
+mod due;
 mod flat_rows;
 mod held_submission;
 mod intake_laws;
@@ -29,6 +30,7 @@ pub use book_laws::{
 pub use caller::Caller;
 pub use companies_laws::tells_companies;
 pub use cut_laws::{entries_of_cuts, tells_cut};
+pub use due::{due_among, is_due};
 pub use flat_rows::{ChangedRow, FileRow, LapsedRow, ReturnedRow, SentRow};
 pub use held_submission::HeldSubmission;
 pub use intake_laws::{entries_of_intakes, tells_intake};

@@ -2,6 +2,7 @@ pub mod Applied
 pub mod Adding
 pub mod Alike
 pub mod Asked
+pub mod DueAlone
 pub mod Statements
 pub mod Planned
 pub mod ReadCalls

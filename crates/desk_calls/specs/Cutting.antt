@@ -6,7 +6,7 @@ use Rattle.desk_book.specs.Book.{Book}
 use Rattle.desk_store.specs.declared.store.StoreFault.{StoreFault}
 use Rattle.desk_store.specs.declared.store.StoreFault.TheVariants.{Unavailable}
 use Rattle.desk_book.specs.Reads.{latest_settled, sent_count}
-use Rattle.desk_book.specs.OnCut.{CutFacts, cut_facts, cut_on_day}
+use Rattle.desk_book.specs.OnCut.{CutFacts, cut_facts, cut_on_day, due}
 use Rattle.desk_cut.specs.declared.fault.CutFault.{CutFault}
 use Rattle.desk_cut.specs.declared.fault.CutFault.TheVariants as faults
 use Rattle.desk_cut.specs.declared.plan.CutPlan.{CutPlan}
@@ -16,14 +16,18 @@ use Rattle.desk_admission.specs.Answering.{HoldsFor}
 use Rattle.desk_calls.specs.declared.operator.cut.CutReads.{CutReads}
 
 abbrev pub facts_in : CutReads → CutFacts
-facts_in x = record { identity = x.identity; day = x.day; holidays = x.holidays; last = x.last.sequence; made = x.made; waiting = x.waiting.items }
+facts_in x = record { identity = x.identity; day = x.day; holidays = x.holidays; last = x.last.sequence; made = x.made; waiting = x.due.items }
 
 -- the same, with how many entries were sent before
 abbrev pub read_in : CutReads → CutFacts × ℕ
 read_in x = (facts_in x, x.last.place)
 
+-- the facts of a cut, with only what is due of what waits: they decide the same
+abbrev pub due_facts : Book → ℕ → CutFacts
+due_facts b d = record (cut_facts b d) { waiting = due b.holidays d b }
+
 abbrev pub read_on : ℕ → Book → CutFacts × ℕ
-read_on d b = (cut_facts b d, sent_count b)
+read_on d b = (due_facts b d, sent_count b)
 
 -- for each range of sequences, the latest day on which a youngest entry with one of them settled
 abbrev pub latest_of : List (ℕ × ℕ) → Book → List (Option ℕ)

@@ -1,15 +1,14 @@
 //! A cut decides what is due on a day: some of it is sent, and some lapses.
-ghost use Rattle.std.specs.Prelude.{◌≡◌, ◌<◌, IfOk, IfErr, OnErr, length, map, Some, All, true, if◌then◌else◌};
-ghost use Rattle.desk_rules.specs.LimitChecks.{is_debit};
+ghost use Rattle.std.specs.Prelude.{◌≡◌, ◌<◌, IfOk, IfErr, OnErr, length, map, Some, All, true};
 ghost use Rattle.desk_history.specs.State.{is_too_late};
-ghost use Rattle.desk_book.specs.OnCut.{is_due, settles, sendings, lapses_among};
+ghost use Rattle.desk_book.specs.OnCut.{settles, sendings, lapses_among};
 ghost use Rattle.desk_cut.specs.Faults.{IsUnsettled, is_any_due, settles_beyond};
 ghost use Rattle.desk_cut.specs.Sent.{due_in, sent_in};
 
 use crate::fault::CutFault;
 use bank_days::{Calendar, Day};
 use desk_book::{HeldSubmission, LapsedRow};
-use desk_rules::{Direction, RuleDay};
+use desk_rules::RuleDay;
 use std::alloc::{AllocError, Global};
 
 /// A `DueSubmission` is a submission that a cut would send, with the day on which it would settle.
@@ -31,24 +30,6 @@ pub(crate) struct Sending<'a> {
 pub(crate) struct Decision<'a> {
     pub(crate) sent: Vec<DueSubmission<'a>>,
     pub(crate) lapsed: Vec<LapsedRow>,
-}
-
-// By how many banking days a direction is sent ahead.
-fn days_ahead(direction: Direction) -> u8
-    ensures value { result ≡ (if is_debit direction then 1 else 2) }
-{
-    match direction {
-        Direction::Credit => 2,
-        Direction::Debit => 1,
-    }
-}
-
-fn is_due(waiting: &HeldSubmission, day: RuleDay, holidays: &Calendar) -> bool
-    ensures { result ≡ is_due holidays.now day waiting.now }
-{
-    let content = waiting.row.content.submission();
-    let horizon = holidays.nth_after(day.day(), days_ahead(content.direction));
-    holidays.roll(content.day.day()) <= horizon
 }
 
 // The day on which it would settle.
@@ -75,7 +56,7 @@ pub(crate) fn settles_beyond(day: RuleDay, holidays: &Calendar, waiting: &[HeldS
     ensures { result ≡ settles_beyond (sendings holidays.now day waiting.now) }
 {
     for one in waiting {
-        if is_due(one, day, holidays) {
+        if one.is_due(day, holidays) {
             let settled = settles(one, day, holidays);
             if !is_too_late(settled, one.original_settled) && RuleDay::new(settled).is_none() {
                 return true;
@@ -101,7 +82,7 @@ pub(crate) fn decide<'a>(
     let mut sent = Vec::new(alloc);
     let mut lapsed = Vec::new(alloc);
     for one in waiting {
-        if is_due(one, day, holidays) {
+        if one.is_due(day, holidays) {
             let settled = settles(one, day, holidays);
             if is_too_late(settled, one.original_settled) {
                 lapsed.push(LapsedRow {

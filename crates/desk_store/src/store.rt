@@ -1,6 +1,7 @@
 //! A desk keeps its book in a store, in whatever way.
 ghost use Rattle.std.specs.Prelude.{◌≡◌, length, Option};
 ghost use Rattle.desk_book.specs.Book.{Book};
+ghost use Rattle.desk_book.specs.OnCut.{due};
 ghost use Rattle.desk_book.specs.OnIntake.{traced_entries};
 ghost use Rattle.desk_book.specs.OpenSubmissions.{open_entries_of};
 ghost use Rattle.desk_book.specs.Reads.{key_of, company, submission, submission_count, open_rows_of, retries_of, waiting_of, waiting, last_sequence, sent_count, latest_settled, sent_as, items_of};
@@ -17,7 +18,7 @@ use bank_days::{Calendar, Day};
 use desk_accounts::{Account, Posting};
 use desk_book::{
     Caller, ChangedRow, FileRow, HeldSubmission, LapsedRow, NamedEntry, OpenSubmission,
-    ReturnedRow, ReturnsAndChanges, Row, SentRow, exposures_among, first_open_day,
+    ReturnedRow, ReturnsAndChanges, Row, SentRow, due_among, exposures_among, first_open_day,
     open_submissions, rates_among,
 };
 use desk_history::{ChangeRow, Identity, ListOf, ReturnRow, SentEntry, SuspenseRow, TakenFile};
@@ -228,6 +229,21 @@ pub trait Store {
     /// Reads the held submissions of all companies, by identification and then by order number.
     fn waiting(&mut self, alloc: Global) -> Result<Vec<HeldSubmission>, StoreFault>
         ensures { CallGivesList is_clean holds may_leave self.old self.new result waiting };
+
+    /// Reads those of the held submissions of all companies that a cut on a day decides by these
+    /// holidays, in the same order. A store without a better way reads all held submissions.
+    fn due(
+        &mut self,
+        alloc: Global,
+        day: RuleDay,
+        holidays: &Calendar,
+    ) -> Result<Vec<HeldSubmission>, StoreFault>
+        ensures { CallGivesList is_clean holds may_leave self.old self.new result
+            (due holidays.now day) }
+    {
+        let held = self.waiting(alloc)?;
+        Ok(due_among(held, day, holidays))
+    }
 
     /// Reads the number of the last sent entry.
     fn last_number(&mut self, alloc: Global) -> Result<LastNumber, StoreFault>

@@ -204,6 +204,15 @@ impl<S: Store> Store for Remembering<S> {
         self.store.waiting(alloc)
     }
 
+    fn due(
+        &mut self,
+        alloc: Global,
+        day: RuleDay,
+        holidays: &Calendar,
+    ) -> Result<Vec<HeldSubmission>, StoreFault> {
+        self.store.due(alloc, day, holidays)
+    }
+
     fn last_number(&mut self, alloc: Global) -> Result<LastNumber, StoreFault> {
         self.store.last_number(alloc)
     }

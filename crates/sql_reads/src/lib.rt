@@ -18,7 +18,7 @@ mod traced;
 
 pub use balances::balances_of;
 pub use files::{file, files_on};
-pub use held::{waiting, waiting_of};
+pub use held::{due, waiting, waiting_of};
 pub use items::{changes_of, returns_of};
 pub use key::key_of;
 pub use latest::latest_settled;

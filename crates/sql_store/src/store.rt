@@ -156,6 +156,16 @@ impl<S: Alter> Store for SqlStore<S> {
         sql_reads::waiting(&mut self.conn, alloc)
     }
 
+    fn due(
+        &mut self,
+        alloc: Global,
+        day: RuleDay,
+        holidays: &Calendar,
+    ) -> Result<Vec<HeldSubmission>, StoreFault> {
+        rows_of_tables();
+        sql_reads::due(&mut self.conn, alloc, day, holidays)
+    }
+
     fn last_number(&mut self, _alloc: Global) -> Result<LastNumber, StoreFault> {
         numbers_of_tables();
         let last = or_unavailable(sql_queries::last_number(&mut self.conn))?;

@@ -24,19 +24,25 @@ pub(crate) struct CutReads {
     pub last: LastNumber,
     /// The number of files that the day has.
     pub made: u64,
-    pub waiting: Vec<HeldSubmission>,
+    /// Of what waits only what is due.
+    pub due: Vec<HeldSubmission>,
 }
 
 fn reads_of<S: Store>(store: &mut S, alloc: Global, day: RuleDay) -> Result<CutReads, StoreFault>
     ensures { GivesAs S.Store store.old store.new read_in result (read_on day) }
 {
+    let identity = store.identity(alloc)?;
+    let holidays = store.calendar(alloc)?;
+    let last = store.last_number(alloc)?;
+    let made = store.files_on(alloc, day.day())?;
+    let due = store.due(alloc, day, &holidays)?;
     Ok(CutReads {
-        identity: store.identity(alloc)?,
+        identity,
         day,
-        holidays: store.calendar(alloc)?,
-        last: store.last_number(alloc)?,
-        made: store.files_on(alloc, day.day())?,
-        waiting: store.waiting(alloc)?,
+        holidays,
+        last,
+        made,
+        due,
     })
 }
 
@@ -78,7 +84,7 @@ fn planned<S: Store>(
 {
     desk_book::entries_of_cuts();
     let (day, last) = (reads.day, reads.last.sequence);
-    let numbered = match number_cut(alloc, day, &reads.holidays, last, &reads.waiting) {
+    let numbered = match number_cut(alloc, day, &reads.holidays, last, &reads.due) {
         Ok(numbered) => numbered,
         Err(fault) => return Ok(Err(fault)),
     };

@@ -5,6 +5,7 @@ mod answers;
 mod calls;
 mod companies;
 mod cuts;
+mod due;
 mod files;
 mod incoming;
 mod kinds;

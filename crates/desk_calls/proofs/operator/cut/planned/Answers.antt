@@ -1,8 +1,10 @@
-use Rattle.std.proofs.Common.{◌≡◌, ◌∙◌, ap, subst}
-use Rattle.desk_book.specs.OnCut.{CutFacts, ranges_after, cut_sendings}
+use Rattle.std.proofs.Common.{◌≡◌, ◌∙◌, ap, subst, List}
+use Rattle.desk_book.specs.declared.held_submission.HeldSubmission.{HeldSubmission}
+use Rattle.desk_book.specs.OnCut.{CutFacts, ranges_after, cut_sendings, sendings}
+use Rattle.desk_cut.specs.Numbers.{HasNoRanges}
 use Rattle.desk_cut.specs.Plan.{Plans, cut_in, cut_of}
 use Rattle.desk_calls.specs.Cutting.{facts_in}
-use Rattle.desk_calls.proofs.Planned.{plans_or_tells}
+use Rattle.desk_calls.proofs.Planned.{plans_or_tells, unnumbered}
 use Rattle.desk_calls.proofs.operator.cut.planned.Goals as goal
 
 pub returns : goal.returns
@@ -21,4 +23,15 @@ returns g c =
           (λ b held. let read = c.in_ok-latest.ensures.read clean b held in (c.deref-2.ensures.value ∙ read.0, read.1))
           (subst (λ (x : CutFacts). Plans x latest c.plan_cut.result) seen c.plan_cut.ensures);
       left = c.latest_of.ensures.left;
+    }
+
+pub returns-in-Err : goal.returns-in-Err
+returns-in-Err g c =
+    record {
+      before = λ clean. clean;
+      read = λ clean.
+          let reads = c.args.reads.now in
+          unnumbered (g.S.Store.holds c.args.store.now) reads c.in-Err.fault
+          (subst (λ (ws : List HeldSubmission). HasNoRanges reads.day reads.last.sequence (sendings reads.holidays reads.day ws) c.in-Err.fault) c.deref.ensures.value c.in-Err.ensures.err);
+      left = λ clean kept may. may;
     }
