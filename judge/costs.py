@@ -4,13 +4,14 @@
 PROGRAM is the built program. A PART above 1 divides the sizes by it, for a first try.
 
 The judge asks `achdesk serve` over a file by HTTP. A figure is the instructions of user code of one call, counted by callgrind, so a
-busy or slow machine gives the same ones. There are five desks:
+busy or slow machine gives the same ones. There are six desks:
 
 - one has a company with 100,000 open credits and one with 100,000 open debits, in submissions of 1,000, and one with 5,000 open
   debits in submissions of 1. A cut, a new day, a holiday list or a returns file comes before each first exposure and each first
   submission that is measured, and the desk is started again before others;
 - one has 1,000,000 old debits of a company, of which 20,000 were returned, and 10,000 in the window of the return rates;
 - one is asked for its status after 1,000 sent entries, after 100,000 more, and with 20,000 items in suspense;
+- one is asked for its status with 20,000 held entries, and again after a submission;
 - one has 1,000 companies of 100 open entries, which the operator asks for in one call;
 - one has a company with 201,000 open submissions, more than the desk keeps one by one. A cut and a returns file name it.
 
@@ -38,6 +39,7 @@ OPEN, EACH = 100, 5_000  # submissions of 1,000 entries, and of 1
 RETURNED = 2_000  # entries of a company in a returns file
 WEEKS, WEEKLY, RECENT, BACK = 50, 20, 10, 20_000  # weeks, submissions of 1,000 in each, those in the window, returned entries
 STRAYS, NEVER_SENT = 20_000, 5_000_001  # items that match no entry, and the first sequence that they name
+HELD = 20  # held submissions of 1,000
 COMPANIES, OF_EACH = 1_000, 100  # companies of one desk, and the open entries of each
 OVER = 201_000  # submissions of one company: more than are kept one by one
 ENTRY = '{"routing":"091000019","account":"123456789","kind":"checking","cents":100,"id":"E1","name":"ANN LEE"}'
@@ -340,6 +342,20 @@ def ask_status(desk, figures, what, suspense):
         sys.exit(f"{told} items in suspense were reported, and {suspense} were taken")
 
 
+def measure_held(program, folder, figures, part):
+    """Measures the status over held submissions of 1,000 entries, and the first one after a submission."""
+    desk, asks = Desk(program, folder / "held.db"), message("GET /ops/status")
+    desk.set_day(FIRST_DAY)
+    desk.company("HELD")
+    desk.ask(*desk.submissions(max(HELD // part, 1), "HELD", SIZE, True, LAST_DAY))
+    desk.restart()
+    desk.ask(asks)
+    figures.keep("status, many held", desk.cost(*[asks] * CALLS))
+    desk.ask(*desk.submissions(1, "HELD", 1, True, LAST_DAY))
+    figures.keep("status after a submission", desk.cost(asks))
+    desk.end()
+
+
 def measure_companies(program, folder, figures, part):
     """Measures the operator's call for 1,000 companies with open entries, and the first one after each event."""
     desk, asks = Desk(program, folder / "companies.db"), message("GET /ops/companies")
@@ -423,6 +439,7 @@ def report_others(figures, part):
         figures.times(f"the first rates after {event}", "rates of AGED", f"rates of AGED after {event}", 1.2)
     figures.times("the status, 1,000 and 100,000 entries sent", "status, 1,000 sent", "status, 100,000 more sent", 1.2)
     figures.times(f"the status, no and {STRAYS // part:,} items in suspense", "status, 100,000 more sent", "status, with suspense", 1.2)
+    figures.times(f"the status after a submission, {max(HELD // part, 1) * SIZE:,} held entries", "status, many held", "status after a submission", 1.5)
     count = COMPANIES // part
     figures.at_most(f"all {count:,} companies", "companies", 8_000, count)
     for event in ("a cut", "a holiday list"):
@@ -446,7 +463,7 @@ def main():
         sys.exit(2)
     figures = Figures()
     with tempfile.TemporaryDirectory() as name:
-        for measure in (measure_open, measure_old, measure_status, measure_companies, measure_large):
+        for measure in (measure_open, measure_old, measure_status, measure_held, measure_companies, measure_large):
             measure(program, Path(name), figures, part)
     report_open(figures, part)
     report_others(figures, part)

@@ -73,10 +73,11 @@ def exposure(name):
     return company(name, "GET exposure")
 
 
+STATUS = f"GET status, more than {HELD:,} entries held"
 CUT_OF_ALL = "cut, an entry of submissions of 1,000 and of 1"
 CUT_OF_ONE = f"cut of 1 entry, more than {HELD:,} others held"
 # How many times the rival's instructions a call may take.
-MOST = {CUT_OF_ALL: 4.43, CUT_OF_ONE: 3}
+MOST = {STATUS: 2, CUT_OF_ALL: 4.43, CUT_OF_ONE: 3}
 
 
 # What is measured, in the order in which it is asked: a name, messages, and in how many parts their cost is divided. Without a name the
@@ -111,7 +112,8 @@ def calls():
         next_one(4, "a holiday list"),
         (f"GET returns, {2 * RETURNS:,} rows", [company("OPEN", "GET returns")] * 3, 3),
         (None, [submission("NONE", f"H{at}", SIZE, False, FAR) for at in range(HELD // SIZE)] + [submission("EACH", "Y", 1, True, FOURTH)], 1),
-        (f"GET status, more than {HELD:,} entries held", [operator("GET /ops/status")] * 3, 3),
+        (f"first GET status, more than {HELD:,} entries held", [operator("GET /ops/status")], 1),
+        (STATUS, [operator("GET /ops/status")] * 3, 3),
         (CUT_OF_ONE, [operator("POST /ops/cut")], 1),
         (None, [message for at in range(MORE) for message in one_more(f"MORE{at:03}")] + [operator("GET /ops/companies")], 1),
         (f"GET companies, one of {MORE}", [operator("GET /ops/companies")] * 3, 3 * MORE),

@@ -11,6 +11,7 @@ pub mod OnStatus
 pub mod OnCompanies
 pub mod OpenRows
 pub mod OpenSubmissions
+pub mod HeldSizes
 pub mod OperatorLaws
 pub mod Reads
 pub mod Repeating

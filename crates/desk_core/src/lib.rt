@@ -7,7 +7,7 @@
 #![tactic(auto)]
 
 pub use desk_book::{
-    Caller, ChangedRow, FileRow, HeldSubmission, LapsedRow, NamedEntry, ReturnedRow,
+    Caller, ChangedRow, FileRow, HeldSize, HeldSubmission, LapsedRow, NamedEntry, ReturnedRow,
     ReturnsAndChanges, Row, SentRow, book_tells, entries_of_cuts, entries_of_intakes, reads_leave,
     row_steps, rows_of_part, steps_of_messages, steps_of_operator, tells_companies, tells_cut,
     tells_intake, tells_operator, tells_replies, tells_status, twice_acts_once, verdicts_on_rows,

@@ -5,83 +5,79 @@ use Rattle.std.specs.BTreeSet.{insert_key}
 use Rattle.std.specs.Ordering.{nat_cmp, match_ordering}
 use Rattle.std.proofs.lemmas.Bool.{cases_order}
 use Rattle.std.proofs.lemmas.Bool.Decides.{nat_tests}
-use Rattle.std.proofs.lemmas.List.{map_more, map-append}
+use Rattle.std.proofs.lemmas.List.{take_more, map-append}
 use Rattle.std.proofs.lemmas.List.Elements.{filter-append}
 use Rattle.std.proofs.lemmas.List.Sums.{sum_by-append}
 use Rattle.desk_accounts.specs.Balance.{with_day}
-use Rattle.desk_rules.specs.declared.bodies.submission.Submission.{Submission}
 use Rattle.desk_rules.specs.LimitChecks.{is_debit}
-use Rattle.desk_rules.specs.Size.{total_of}
-use Rattle.desk_history.specs.Sendings as history
-use Rattle.desk_history.specs.Status.{tallies, tally}
-use Rattle.desk_book.specs.declared.held_submission.HeldSubmission.{HeldSubmission}
-use Rattle.desk_cut.specs.declared.due.Sending.{Sending}
-use Rattle.desk_cut.specs.Sent.{sending_in}
-use Rattle.desk_cut.specs.Sums.{sums_on, with_one, with_submission}
+use Rattle.desk_book.specs.declared.held_size.HeldSize.{HeldSize}
+use Rattle.desk_cut.specs.declared.sizes.SentSize.{SentSize}
+use Rattle.desk_cut.specs.Sizes.{sums_on, tallies_of, tally_of}
+use Rattle.desk_history.specs.declared.status.Tally.{Tally}
+use Rattle.desk_cut.specs.Sums.{IsWithin, with_size, with_sizes}
 
 -- ---- one submission more
 
-abbrev cents_of : Submission → ℕ
-cents_of s = total_of s.entries
+one_cents : (z : HeldSize) → sum_by (λ z. z.cents) (z ∷ []) ≡ z.cents
+one_cents z = omega arith
 
-one_cents : (s : Submission) → sum_by cents_of (s ∷ []) ≡ cents_of s
-one_cents s = omega arith
-
-tally_more : (ss : List Submission) (s : Submission) → tally (ss ++ s ∷ []) ≡ with_one s (tally ss)
-tally_more ss s = λ i. record {
-  cents = (sum_by-append cents_of ss (s ∷ []) ∙ ap (λ (n : ℕ). sum_by cents_of ss + n) (one_cents s)) i;
-  submissions = length-append ss (s ∷ []) i;
+tally_more : (zs : List HeldSize) (z : HeldSize) → tally_of (zs ++ z ∷ []) ≡ with_size z (tally_of zs)
+tally_more zs z = λ i. record {
+  cents = (sum_by-append (λ (z : HeldSize). z.cents) zs (z ∷ []) ∙ ap (λ (n : ℕ). sum_by (λ z. z.cents) zs + n) (one_cents z)) i;
+  submissions = length-append zs (z ∷ []) i;
 }
 
-module _ (ss : List Submission) (s : Submission) where
-  abbrev debits : List Submission
-  debits = filter (λ s. is_debit s.direction) ss
+module _ (zs : List HeldSize) (z : HeldSize) where
+  abbrev debits : List HeldSize
+  debits = filter (λ z. is_debit z.direction) zs
 
-  abbrev credits : List Submission
-  credits = filter (λ s. not (is_debit s.direction)) ss
+  abbrev credits : List HeldSize
+  credits = filter (λ z. not (is_debit z.direction)) zs
 
   in_direction : (debit : Bool)
-      → record { credits = tally (credits ++ (if not debit then s ∷ [] else [])); debits = tally (debits ++ (if debit then s ∷ [] else [])) }
-      ≡ (if debit then record (tallies ss) { debits = with_one s (tally debits) } else record (tallies ss) { credits = with_one s (tally credits) })
-  in_direction true = λ i. record { credits = tally (append-nil credits i); debits = tally_more debits s i }
-  in_direction false = λ i. record { credits = tally_more credits s i; debits = tally (append-nil debits i) }
+      → record { credits = tally_of (credits ++ (if not debit then z ∷ [] else [])); debits = tally_of (debits ++ (if debit then z ∷ [] else [])) }
+      ≡ (if debit then record (tallies_of zs) { debits = with_size z (tally_of debits) } else record (tallies_of zs) { credits = with_size z (tally_of credits) })
+  in_direction true = λ i. record { credits = tally_of (append-nil credits i); debits = tally_more debits z i }
+  in_direction false = λ i. record { credits = tally_more credits z i; debits = tally_of (append-nil debits i) }
 
-  tallies_more : tallies (ss ++ s ∷ []) ≡ with_submission s (tallies ss)
+  tallies_more : tallies_of (zs ++ z ∷ []) ≡ with_sizes z (tallies_of zs)
   tallies_more =
       (λ i. record {
-        credits = tally (filter-append (λ s. not (is_debit s.direction)) ss (s ∷ []) i);
-        debits = tally (filter-append (λ s. is_debit s.direction) ss (s ∷ []) i);
+        credits = tally_of (filter-append (λ z. not (is_debit z.direction)) zs (z ∷ []) i);
+        debits = tally_of (filter-append (λ z. is_debit z.direction) zs (z ∷ []) i);
       })
-      ∙ in_direction (is_debit s.direction)
+      ∙ in_direction (is_debit z.direction)
 
 -- at a step of a loop over what waits
-pub held_more : (ws : List HeldSubmission) (i : ℕ) (w : HeldSubmission) → i < length ws → w ≡ get_or ws i w
-    → tallies (map (λ w. w.row.content) (take (i + 1) ws)) ≡ with_submission w.row.content (tallies (map (λ w. w.row.content) (take i ws)))
-held_more ws i w lt is =
-    ap tallies (map_more (λ (w : HeldSubmission). w.row.content) ws i w lt
-    ∙ ap (λ (x : HeldSubmission). map (λ (w : HeldSubmission). w.row.content) (take i ws) ++ x.row.content ∷ []) (sym is))
-    ∙ tallies_more (map (λ (w : HeldSubmission). w.row.content) (take i ws)) w.row.content
+pub held_more : (zs : List HeldSize) (i : ℕ) (z : HeldSize) → i < length zs → z ≡ get_or zs i z → tallies_of (take (i + 1) zs) ≡ with_sizes z (tallies_of (take i zs))
+held_more zs i z lt is =
+    ap tallies_of (take_more zs i z lt ∙ ap (λ (x : HeldSize). take i zs ++ x ∷ []) (sym is))
+    ∙ tallies_more (take i zs) z
 
 -- and over what is sent
 module _ (day : ℕ) where
-  abbrev on_day : List history.Sending → List history.Sending
+  abbrev on_day : List SentSize → List SentSize
   on_day ss = filter (λ s. s.settled == day) ss
 
-  on_day_more : (ss : List history.Sending) (s : history.Sending)
-      → tallies (map (λ s. s.content) (on_day (ss ++ s ∷ [])))
-      ≡ (if s.settled == day then with_submission s.content (tallies (map (λ s. s.content) (on_day ss))) else tallies (map (λ s. s.content) (on_day ss)))
-  on_day_more ss s = ap (λ (l : List history.Sending). tallies (map (λ s. s.content) l)) (filter-append (λ s. s.settled == day) ss (s ∷ [])) ∙ by (s.settled == day) where
-    by : (t : Bool) → tallies (map (λ s. s.content) (on_day ss ++ (if t then s ∷ [] else [])))
-        ≡ (if t then with_submission s.content (tallies (map (λ s. s.content) (on_day ss))) else tallies (map (λ s. s.content) (on_day ss)))
-    by true = ap tallies (map-append (λ (s : history.Sending). s.content) (on_day ss) (s ∷ [])) ∙ tallies_more (map (λ (s : history.Sending). s.content) (on_day ss)) s.content
-    by false = ap (λ (l : List history.Sending). tallies (map (λ s. s.content) l)) (append-nil (on_day ss))
+  on_day_more : (ss : List SentSize) (s : SentSize) → sums_on day (ss ++ s ∷ []) ≡ (if s.settled == day then with_sizes s.size (sums_on day ss) else sums_on day ss)
+  on_day_more ss s = ap (λ (l : List SentSize). tallies_of (map (λ s. s.size) l)) (filter-append (λ s. s.settled == day) ss (s ∷ [])) ∙ by (s.settled == day) where
+    by : (t : Bool) → tallies_of (map (λ s. s.size) (on_day ss ++ (if t then s ∷ [] else []))) ≡ (if t then with_sizes s.size (sums_on day ss) else sums_on day ss)
+    by true = ap tallies_of (map-append (λ (s : SentSize). s.size) (on_day ss) (s ∷ [])) ∙ tallies_more (map (λ (s : SentSize). s.size) (on_day ss)) s.size
+    by false = ap (λ (l : List SentSize). tallies_of (map (λ s. s.size) l)) (append-nil (on_day ss))
 
-  pub sent_more : (sent : List Sending) (i : ℕ) (x : Sending) → i < length sent → x ≡ get_or sent i x
-      → sums_on day (take (i + 1) sent) ≡ (if x.settled == day then with_submission x.waiting.now.row.content (sums_on day (take i sent)) else sums_on day (take i sent))
-  sent_more sent i x lt is =
-      ap (λ (l : List history.Sending). tallies (map (λ s. s.content) (on_day l)))
-      (map_more sending_in sent i x lt ∙ ap (λ (y : Sending). map sending_in (take i sent) ++ sending_in y ∷ []) (sym is))
-      ∙ on_day_more (map sending_in (take i sent)) (sending_in x)
+  pub sent_more : (sent : List SentSize) (i : ℕ) (s : SentSize) → i < length sent → s ≡ get_or sent i s
+      → sums_on day (take (i + 1) sent) ≡ (if s.settled == day then with_sizes s.size (sums_on day (take i sent)) else sums_on day (take i sent))
+  sent_more sent i s lt is =
+      ap (sums_on day) (take_more sent i s lt ∙ ap (λ (x : SentSize). take i sent ++ x ∷ []) (sym is))
+      ∙ on_day_more (take i sent) s
+
+-- ---- as many as one more may be
+
+pub one_more : (n : ℕ) (t : Tally) → IsWithin n t → IsWithin (n + 1) t
+one_more n t within =
+    let cents = within.cents in
+    let submissions = within.submissions in
+    record { cents = omega (arith, cents); submissions = omega (arith, submissions) }
 
 -- ---- days
 

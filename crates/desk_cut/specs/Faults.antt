@@ -1,5 +1,5 @@
 -- When what a cut sends settles too late for a rule, and what is told of it.
-use Rattle.std.specs.Prelude.{◌≡◌, ⊤, ℕ, Bool, true, false, List, nat_lt, Option, Some, None, Result, Ok, Err}
+use Rattle.std.specs.Prelude.{◌≡◌, ⊤, ℕ, Bool, true, false, List, nat_lt, Result, Ok, Err}
 use Rattle.std.specs.List.{list_any}
 use Rattle.desk_rules.specs.Deadlines.{last_rule_day}
 use Rattle.desk_history.specs.Sendings.{Sending}
@@ -19,17 +19,12 @@ IsUnsettled ss NoMemory = ⊤
 IsUnsettled ss fault = ⊥
 
 -- It is DaysSpent exactly where one would settle too far ahead; the only other fault is that memory was refused.
-abbrev pub TellsDays : {A : Type 0} → List Sending → Result A CutFault → Type 0
-TellsDays ss (Ok _) = settles_beyond ss ≡ false
-TellsDays ss (Err DaysSpent) = settles_beyond ss ≡ true
-TellsDays ss (Err NoMemory) = settles_beyond ss ≡ false
-TellsDays ss (Err fault) = ⊥
+abbrev pub TellsBeyond : {A : Type 0} → (beyond : Bool) → Result A CutFault → Type 0
+TellsBeyond beyond (Ok _) = beyond ≡ false
+TellsBeyond beyond (Err DaysSpent) = beyond ≡ true
+TellsBeyond beyond (Err NoMemory) = beyond ≡ false
+TellsBeyond beyond (Err fault) = ⊥
 
 -- whether a cut on a day would send one of what waits, or let it lapse
 abbrev pub is_any_due : (holidays : List ℕ) → (day : ℕ) → List HeldSubmission → Bool
 is_any_due holidays day waiting = list_any (is_due holidays day) waiting
-
--- before the first day it would not
-abbrev pub is_any_due_on : (day : Option ℕ) → (holidays : List ℕ) → List HeldSubmission → Bool
-is_any_due_on None holidays waiting = false
-is_any_due_on (Some d) holidays waiting = is_any_due holidays d waiting

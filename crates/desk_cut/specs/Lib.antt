@@ -5,5 +5,6 @@ pub mod Plan
 pub mod Printing
 pub mod Sendable
 pub mod Sent
+pub mod Sizes
 pub mod Sums
 pub mod Waiting

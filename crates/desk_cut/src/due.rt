@@ -1,8 +1,9 @@
 //! A cut decides what is due on a day: some of it is sent, and some lapses.
 ghost use Rattle.std.specs.Prelude.{◌≡◌, ◌<◌, IfOk, IfErr, OnErr, length, map, Some, All, true};
+ghost use Rattle.desk_history.specs.State as history;
 ghost use Rattle.desk_history.specs.State.{is_too_late};
 ghost use Rattle.desk_book.specs.OnCut.{settles, sendings, lapses_among};
-ghost use Rattle.desk_cut.specs.Faults.{IsUnsettled, is_any_due, settles_beyond};
+ghost use Rattle.desk_cut.specs.Faults.{IsUnsettled, is_any_due};
 ghost use Rattle.desk_cut.specs.Sent.{due_in, sent_in};
 
 use crate::fault::CutFault;
@@ -32,38 +33,30 @@ pub(crate) struct Decision<'a> {
     pub(crate) lapsed: Vec<LapsedRow>,
 }
 
+/// The day on which a submission would settle that was asked to settle on a day.
+pub(crate) fn settlement(asked: RuleDay, day: RuleDay, holidays: &Calendar) -> Day
+    ensures value { result ≡ history.next_settlement holidays.now day asked }
+    ensures later { day < result }
+{
+    holidays.roll(asked.day()).max(holidays.next(day.day()))
+}
+
 // The day on which it would settle.
 fn settles(waiting: &HeldSubmission, day: RuleDay, holidays: &Calendar) -> Day
     ensures value { result ≡ settles holidays.now day waiting.now }
     ensures later { day < result }
 {
-    let asked = waiting.row.content.submission().day.day();
-    holidays.roll(asked).max(holidays.next(day.day()))
+    settlement(waiting.row.content.submission().day, day, holidays)
 }
 
-// Would it settle too long after its original?
-fn is_too_late(settles: Day, original: Option<RuleDay>) -> bool
+/// Would it settle too long after its original?
+pub(crate) fn is_too_late(settles: Day, original: Option<RuleDay>) -> bool
     ensures { result ≡ is_too_late (Some settles) original }
 {
     match original {
         Some(original) => desk_rules::is_too_late(original, settles),
         None => false,
     }
-}
-
-/// Would a submission that a cut sends settle after the last day from which rules count?
-pub(crate) fn settles_beyond(day: RuleDay, holidays: &Calendar, waiting: &[HeldSubmission]) -> bool
-    ensures { result ≡ settles_beyond (sendings holidays.now day waiting.now) }
-{
-    for one in waiting {
-        if one.is_due(day, holidays) {
-            let settled = settles(one, day, holidays);
-            if !is_too_late(settled, one.original_settled) && RuleDay::new(settled).is_none() {
-                return true;
-            }
-        }
-    }
-    false
 }
 
 /// Gives what is sent and what lapses, in the order in which it waits. Where nothing is due it takes

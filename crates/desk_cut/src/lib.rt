@@ -17,6 +17,7 @@ mod numbers;
 mod plan;
 mod postings;
 mod printing;
+mod sizes;
 mod status;
 mod waiting;
 

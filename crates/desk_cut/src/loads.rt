@@ -1,30 +1,17 @@
 //! Each submission takes something of a file and of the sequences: its load.
-ghost use Rattle.std.specs.Prelude.{◌≡◌, ◌<◌, ◌≤◌, IfOk, OnErr, All, length, map, sum_by, if◌then◌else◌};
+ghost use Rattle.std.specs.Prelude.{◌≡◌, ◌<◌, IfOk, OnErr, All, length, map, if◌then◌else◌};
 ghost use Rattle.desk_plan.specs.Batch.{IsBatch, IsEntryCount};
-ghost use Rattle.desk_history.specs.Sendings.{plan_of, records_of};
+ghost use Rattle.desk_history.specs.Sendings.{plan_of};
 ghost use Rattle.desk_cut.specs.Sent.{due_in};
 
 use crate::due::DueSubmission;
 use ach_fields::Cents;
+use desk_book::records_of;
 use desk_plan::Batch;
-use desk_rules::Entry;
 use std::alloc::{AllocError, Global};
 
-/// How many records 6 and 7 entries have.
-pub(crate) fn records_of(entries: &[Entry]) -> u32
-    requires { length entries.now ≤ 1_000 }
-    ensures value { result ≡ sum_by (λ e. records_of e.info) entries.now }
-    ensures within { result ≤ 2_000 }
-{
-    let mut records = 0;
-    for entry in entries {
-        records += if entry.info.is_some() { 2 } else { 1 };
-    }
-    records
-}
-
-// The cents where the test holds, else none.
-fn cents_if(test: bool, cents: Cents) -> Cents
+/// The cents where the test holds, else none.
+pub(crate) fn cents_if(test: bool, cents: Cents) -> Cents
     ensures { result ≡ (if test then cents else 0) }
 {
     if test {

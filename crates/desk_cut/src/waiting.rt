@@ -1,14 +1,13 @@
 //! What the desk has waiting: of each company, and the sums of all of them.
 ghost use Rattle.std.specs.Prelude.{◌≡◌, ◌≤◌, ◌^◌, IfOk, IfSome, None, OnErr, map, sum_by, true};
-ghost use Rattle.desk_book.specs.OnStatus.{held_records, sent_on};
-ghost use Rattle.desk_cut.specs.Faults.{TellsDays, is_any_due_on};
-ghost use Rattle.desk_cut.specs.Waiting.{IsDeskWaiting, company_waiting, loads_of};
+ghost use Rattle.desk_cut.specs.Faults.{TellsBeyond};
+ghost use Rattle.desk_cut.specs.Sizes.{any_beyond, any_due_since, sent_since, waiting_by_size};
+ghost use Rattle.desk_cut.specs.Waiting.{IsDeskWaiting, loads_of};
 
 use crate::fault::CutFault;
-use crate::loads::records_of;
 use crate::status::{DueOnDay, due_on, held_sums};
 use bank_days::Calendar;
-use desk_book::HeldSubmission;
+use desk_book::HeldSize;
 use desk_history::{CompanyStatus, ListOf};
 use desk_plan::{Batch, divide};
 use desk_rules::{Company, RuleDay};
@@ -38,19 +37,18 @@ pub struct DeskWaiting {
 }
 
 // The sum of as many submissions as memory has always fits.
-fn held_records(waiting: &[HeldSubmission]) -> u128
-    ensures { result ≡ held_records waiting.now }
+fn held_records(sizes: &[HeldSize]) -> u128
+    ensures { result ≡ sum_by (λ z. z.records) sizes.now }
 {
     let mut records: u128 = 0;
-    for one in waiting {
-        let entries = one.row.content.submission().entries.as_slice();
-        records += u128::from(records_of(entries));
+    for one in sizes {
+        records += u128::from(one.records);
     }
     records
 }
 
-/// Says what a company has of which this waits: what is held, and what a cut on the desk day would
-/// do with it, which is nothing before the first day.
+/// Says what a company has of which submissions of these sizes wait: what is held, and what a cut on
+/// the desk day would do with it, which is nothing before the first day.
 ///
 /// It is `DaysSpent` exactly where a submission would settle after 2100-01-31, and else `NoMemory`
 /// where there is no room for a list. Where nothing is due it takes no memory. No sum overflows.
@@ -59,12 +57,12 @@ pub fn company_waiting(
     day: Option<RuleDay>,
     holidays: &Calendar,
     company: &Company,
-    waiting: &[HeldSubmission],
+    sizes: &[HeldSize],
 ) -> Result<CompanyWaiting, CutFault>
     ensures value { IfOk result
-        (λ found. found ≡ company_waiting day holidays.now company.now waiting.now) }
-    ensures days { TellsDays (sent_on day holidays.now waiting.now) result }
-    ensures memory { OnErr result (is_any_due_on day holidays.now waiting.now ≡ true) }
+        (λ found. found ≡ waiting_by_size day holidays.now company.now sizes.now) }
+    ensures days { TellsBeyond (any_beyond (sent_since day holidays.now sizes.now)) result }
+    ensures memory { OnErr result (any_due_since day holidays.now sizes.now ≡ true) }
 {
     let due = match day {
         None => DueOnDay {
@@ -72,14 +70,14 @@ pub fn company_waiting(
             lapsing: 0,
             loads: ListOf::new(Vec::new(alloc)),
         },
-        Some(day) => due_on(alloc, day, holidays, waiting)?,
+        Some(day) => due_on(alloc, company.id, day, holidays, sizes)?,
     };
     Ok(CompanyWaiting {
-        held_records: held_records(waiting),
+        held_records: held_records(sizes),
         loads: due.loads,
         status: CompanyStatus {
             due: due.days,
-            held: held_sums(waiting),
+            held: held_sums(sizes),
             id: company.id,
             lapsing: due.lapsing,
             name: company.name,

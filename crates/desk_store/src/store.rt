@@ -1,6 +1,7 @@
 //! A desk keeps its book in a store, in whatever way.
 ghost use Rattle.std.specs.Prelude.{◌≡◌, length, Option};
 ghost use Rattle.desk_book.specs.Book.{Book};
+ghost use Rattle.desk_book.specs.HeldSizes.{held_sizes_of};
 ghost use Rattle.desk_book.specs.OnCut.{due};
 ghost use Rattle.desk_book.specs.OnIntake.{traced_entries};
 ghost use Rattle.desk_book.specs.OpenSubmissions.{open_entries_of};
@@ -17,9 +18,9 @@ use ach_fields::{Id, Ref, Trace};
 use bank_days::{Calendar, Day};
 use desk_accounts::{Account, Posting};
 use desk_book::{
-    Caller, ChangedRow, FileRow, HeldSubmission, LapsedRow, NamedEntry, OpenSubmission,
+    Caller, ChangedRow, FileRow, HeldSize, HeldSubmission, LapsedRow, NamedEntry, OpenSubmission,
     ReturnedRow, ReturnsAndChanges, Row, SentRow, due_among, exposures_among, first_open_day,
-    open_submissions, rates_among,
+    held_sizes, open_submissions, rates_among,
 };
 use desk_history::{ChangeRow, Identity, ListOf, ReturnRow, SentEntry, SuspenseRow, TakenFile};
 use desk_rules::{Company, Limits, Rates, Retry, RuleDay, SizedSubmission};
@@ -225,6 +226,20 @@ pub trait Store {
     ) -> Result<Vec<HeldSubmission>, StoreFault>
         ensures { CallGivesList is_clean holds may_leave self.old self.new result
             (waiting_of company) };
+
+    /// Reads of the held submissions of a company only their sizes, by order number, without names,
+    /// accounts and texts. A store without a better way reads the whole submissions.
+    fn held_sizes_of(
+        &mut self,
+        alloc: Global,
+        company: Company,
+    ) -> Result<Vec<HeldSize>, StoreFault>
+        ensures { CallGivesList is_clean holds may_leave self.old self.new result
+            (held_sizes_of company) }
+    {
+        let held = self.waiting_of(alloc, company)?;
+        Ok(held_sizes(alloc, &held)?)
+    }
 
     /// Reads the held submissions of all companies, by identification and then by order number.
     fn waiting(&mut self, alloc: Global) -> Result<Vec<HeldSubmission>, StoreFault>

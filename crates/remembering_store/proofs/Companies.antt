@@ -11,56 +11,55 @@ use Rattle.desk_book.specs.declared.flat_rows.ChangedRow.{ChangedRow}
 use Rattle.desk_book.specs.declared.flat_rows.FileRow.{FileRow}
 use Rattle.desk_book.specs.Steps.{put_change, put_file}
 use Rattle.remembering_store.specs.CompanyKeys.{is_same_company}
-use Rattle.remembering_store.specs.KnownSums.{Follows, SumsRight}
+use Rattle.remembering_store.specs.KnownSums.{SumsRight}
 use Rattle.remembering_store.specs.KnownCompany.{AgreesWith}
 use Rattle.remembering_store.specs.declared.company_key.CompanyKey.{CompanyKey}
 use Rattle.remembering_store.specs.declared.sums.KnownSums.{KnownSums}
-use Rattle.remembering_store.specs.declared.sums.known_company.KnownCompany.{KnownCompany}
 use Rattle.remembering_store.proofs.Registering.{key}
 
 -- what is known of a company agrees with its rows
-pub company_found : {S : Type 0} (c : List ℕ) (m : HashMap CompanyKey KnownCompany S) (v : KnownCompany) (b : Book) → Some v ≡ get is_same_company m (key c)
-    → ((q : CompanyKey) → IfSome (get is_same_company m q) (λ x. AgreesWith x (b.rows q.company))) → AgreesWith v (b.rows c)
-company_found c m v b found all = subst (λ (o : Option KnownCompany). IfSome o (λ x. AgreesWith x (b.rows c))) (sym found) (all (key c))
+pub company_found : {V S : Type 0} (Agrees : V → List Row → Type 0) (c : List ℕ) (m : HashMap CompanyKey V S) (v : V) (b : Book) → Some v ≡ get is_same_company m (key c)
+    → ((q : CompanyKey) → IfSome (get is_same_company m q) (λ x. Agrees x (b.rows q.company))) → Agrees v (b.rows c)
+company_found {V} Agrees c m v b found all = subst (λ (o : Option V). IfSome o (λ x. Agrees x (b.rows c))) (sym found) (all (key c))
 
-pub company_followed : {S : Type 0} (c : List ℕ) (turn : List Row → List Row) (m n : HashMap CompanyKey KnownCompany S) (v w : KnownCompany) (b : Book)
+pub company_followed : {V S : Type 0} (Agrees : V → List Row → Type 0) (c : List ℕ) (turn : List Row → List Row) (m n : HashMap CompanyKey V S) (v w : V) (b : Book)
     → Some v ≡ get is_same_company m (key c)
     → ((q : CompanyKey) → get is_same_company n q ≡ cond (is_same_company (key c) q) (Some w) (get is_same_company m q))
-    → ((rs : List Row) → AgreesWith v rs → AgreesWith w (turn rs))
-    → ((q : CompanyKey) → IfSome (get is_same_company m q) (λ x. AgreesWith x (b.rows q.company)))
-    → (q : CompanyKey) → IfSome (get is_same_company n q) (λ x. AgreesWith x (if bytes_eq c q.company then turn (b.rows q.company) else b.rows q.company))
-company_followed c turn m n v w b found puts follows all q =
-    subst (λ (o : Option KnownCompany). IfSome o (λ x. AgreesWith x (if bytes_eq c q.company then turn (b.rows q.company) else b.rows q.company))) (sym (puts q)) (by (is_same_company (key c) q) refl) where
-      by : (t : Bool) → bytes_eq c q.company ≡ t → IfSome (cond t (Some w) (get is_same_company m q)) (λ x. AgreesWith x (if bytes_eq c q.company then turn (b.rows q.company) else b.rows q.company))
+    → ((rs : List Row) → Agrees v rs → Agrees w (turn rs))
+    → ((q : CompanyKey) → IfSome (get is_same_company m q) (λ x. Agrees x (b.rows q.company)))
+    → (q : CompanyKey) → IfSome (get is_same_company n q) (λ x. Agrees x (if bytes_eq c q.company then turn (b.rows q.company) else b.rows q.company))
+company_followed {V} Agrees c turn m n v w b found puts follows all q =
+    subst (λ (o : Option V). IfSome o (λ x. Agrees x (if bytes_eq c q.company then turn (b.rows q.company) else b.rows q.company))) (sym (puts q)) (by (is_same_company (key c) q) refl) where
+      by : (t : Bool) → bytes_eq c q.company ≡ t → IfSome (cond t (Some w) (get is_same_company m q)) (λ x. Agrees x (if bytes_eq c q.company then turn (b.rows q.company) else b.rows q.company))
       by true e =
-          let was : AgreesWith v (b.rows c) = company_found c m v b found all in
-          let here : AgreesWith v (b.rows q.company) = subst (λ (k : List ℕ). AgreesWith v (b.rows k)) (same_text c q.company (sym e)) was in
-          subst (λ (t : Bool). AgreesWith w (if t then turn (b.rows q.company) else b.rows q.company)) (sym e) (follows (b.rows q.company) here)
-      by false e = subst (λ (t : Bool). IfSome (get is_same_company m q) (λ x. AgreesWith x (if t then turn (b.rows q.company) else b.rows q.company))) (sym e) (all q)
+          let was : Agrees v (b.rows c) = company_found Agrees c m v b found all in
+          let here : Agrees v (b.rows q.company) = subst (λ (k : List ℕ). Agrees v (b.rows k)) (same_text c q.company (sym e)) was in
+          subst (λ (t : Bool). Agrees w (if t then turn (b.rows q.company) else b.rows q.company)) (sym e) (follows (b.rows q.company) here)
+      by false e = subst (λ (t : Bool). IfSome (get is_same_company m q) (λ x. Agrees x (if t then turn (b.rows q.company) else b.rows q.company))) (sym e) (all q)
 
 -- the same, where the step is followed of the rows that the company has
-pub company_followed_there : {S : Type 0} (c : List ℕ) (turn : List Row → List Row) (m n : HashMap CompanyKey KnownCompany S) (v w : KnownCompany) (b : Book)
+pub company_followed_there : {V S : Type 0} (Agrees : V → List Row → Type 0) (c : List ℕ) (turn : List Row → List Row) (m n : HashMap CompanyKey V S) (v w : V) (b : Book)
     → Some v ≡ get is_same_company m (key c)
     → ((q : CompanyKey) → get is_same_company n q ≡ cond (is_same_company (key c) q) (Some w) (get is_same_company m q))
-    → (AgreesWith v (b.rows c) → AgreesWith w (turn (b.rows c)))
-    → ((q : CompanyKey) → IfSome (get is_same_company m q) (λ x. AgreesWith x (b.rows q.company)))
-    → (q : CompanyKey) → IfSome (get is_same_company n q) (λ x. AgreesWith x (if bytes_eq c q.company then turn (b.rows q.company) else b.rows q.company))
-company_followed_there c turn m n v w b found puts follows all q =
-    subst (λ (o : Option KnownCompany). IfSome o (λ x. AgreesWith x (if bytes_eq c q.company then turn (b.rows q.company) else b.rows q.company))) (sym (puts q)) (by (is_same_company (key c) q) refl) where
-      by : (t : Bool) → bytes_eq c q.company ≡ t → IfSome (cond t (Some w) (get is_same_company m q)) (λ x. AgreesWith x (if bytes_eq c q.company then turn (b.rows q.company) else b.rows q.company))
+    → (Agrees v (b.rows c) → Agrees w (turn (b.rows c)))
+    → ((q : CompanyKey) → IfSome (get is_same_company m q) (λ x. Agrees x (b.rows q.company)))
+    → (q : CompanyKey) → IfSome (get is_same_company n q) (λ x. Agrees x (if bytes_eq c q.company then turn (b.rows q.company) else b.rows q.company))
+company_followed_there {V} Agrees c turn m n v w b found puts follows all q =
+    subst (λ (o : Option V). IfSome o (λ x. Agrees x (if bytes_eq c q.company then turn (b.rows q.company) else b.rows q.company))) (sym (puts q)) (by (is_same_company (key c) q) refl) where
+      by : (t : Bool) → bytes_eq c q.company ≡ t → IfSome (cond t (Some w) (get is_same_company m q)) (λ x. Agrees x (if bytes_eq c q.company then turn (b.rows q.company) else b.rows q.company))
       by true e =
-          let was : AgreesWith v (b.rows c) = company_found c m v b found all in
-          let here : AgreesWith w (turn (b.rows q.company)) = subst (λ (k : List ℕ). AgreesWith w (turn (b.rows k))) (same_text c q.company (sym e)) (follows was) in
-          subst (λ (t : Bool). AgreesWith w (if t then turn (b.rows q.company) else b.rows q.company)) (sym e) here
-      by false e = subst (λ (t : Bool). IfSome (get is_same_company m q) (λ x. AgreesWith x (if t then turn (b.rows q.company) else b.rows q.company))) (sym e) (all q)
+          let was : Agrees v (b.rows c) = company_found Agrees c m v b found all in
+          let here : Agrees w (turn (b.rows q.company)) = subst (λ (k : List ℕ). Agrees w (turn (b.rows k))) (same_text c q.company (sym e)) (follows was) in
+          subst (λ (t : Bool). Agrees w (if t then turn (b.rows q.company) else b.rows q.company)) (sym e) here
+      by false e = subst (λ (t : Bool). IfSome (get is_same_company m q) (λ x. Agrees x (if t then turn (b.rows q.company) else b.rows q.company))) (sym e) (all q)
 
 -- a company is put in
-pub company_put : {S : Type 0} (c : List ℕ) (m n : HashMap CompanyKey KnownCompany S) (w : KnownCompany) (b : Book)
-    → ((q : CompanyKey) → get is_same_company n q ≡ cond (is_same_company (key c) q) (Some w) (get is_same_company m q)) → AgreesWith w (b.rows c)
-    → ((q : CompanyKey) → IfSome (get is_same_company m q) (λ x. AgreesWith x (b.rows q.company))) → (q : CompanyKey) → IfSome (get is_same_company n q) (λ x. AgreesWith x (b.rows q.company))
-company_put c m n w b puts is all q = subst (λ (o : Option KnownCompany). IfSome o (λ x. AgreesWith x (b.rows q.company))) (sym (puts q)) (by (is_same_company (key c) q) refl) where
-  by : (t : Bool) → bytes_eq c q.company ≡ t → IfSome (cond t (Some w) (get is_same_company m q)) (λ x. AgreesWith x (b.rows q.company))
-  by true e = subst (λ (k : List ℕ). AgreesWith w (b.rows k)) (same_text c q.company (sym e)) is
+pub company_put : {V S : Type 0} (Agrees : V → List Row → Type 0) (c : List ℕ) (m n : HashMap CompanyKey V S) (w : V) (b : Book)
+    → ((q : CompanyKey) → get is_same_company n q ≡ cond (is_same_company (key c) q) (Some w) (get is_same_company m q)) → Agrees w (b.rows c)
+    → ((q : CompanyKey) → IfSome (get is_same_company m q) (λ x. Agrees x (b.rows q.company))) → (q : CompanyKey) → IfSome (get is_same_company n q) (λ x. Agrees x (b.rows q.company))
+company_put {V} Agrees c m n w b puts is all q = subst (λ (o : Option V). IfSome o (λ x. Agrees x (b.rows q.company))) (sym (puts q)) (by (is_same_company (key c) q) refl) where
+  by : (t : Bool) → bytes_eq c q.company ≡ t → IfSome (cond t (Some w) (get is_same_company m q)) (λ x. Agrees x (b.rows q.company))
+  by true e = subst (λ (k : List ℕ). Agrees w (b.rows k)) (same_text c q.company (sym e)) is
   by false e = all q
 
 -- ---- what a cut and a file write beside rows
@@ -78,11 +77,15 @@ changes_keep_rows (x ∷ xs) b = changes_keep_rows xs (put_change b x)
 
 -- ---- one step after another
 
-pub one_more : {X : Type 0} (start : Book → Book) (step : Book → X → Book) (xs : List X) (i : ℕ) (x : X) (old m new : KnownSums) → i < length xs → x ≡ get_or xs i x
-    → Follows old m (λ b. fold step (start b) (take i xs)) → Follows m new (λ b. step b x) → Follows old new (λ b. fold step (start b) (take (i + 1) xs))
-one_more start step xs i x old m new within is before follow b right =
-    subst (SumsRight new) (sym (fold_more step (start b) xs i x within ∙ ap (step (fold step (start b) (take i xs))) (sym is))) (follow (fold step (start b) (take i xs)) (before b right))
+-- what agreed with a book agrees with the one after a step
+abbrev Along : {M : Type 0} (Right : M → Book → Type 0) → (old new : M) → (Book → Book) → Type 0
+Along Right old new after = (b : Book) → Right old b → Right new (after b)
 
-pub all_done : {X : Type 0} (start : Book → Book) (step : Book → X → Book) (xs : List X) (i : ℕ) (old m : KnownSums) → length xs ≤ i
-    → Follows old m (λ b. fold step (start b) (take i xs)) → Follows old m (λ b. fold step (start b) xs)
-all_done {X} start step xs i old m past before b right = subst (λ (ys : List X). SumsRight m (fold step (start b) ys)) (take_all i xs past) (before b right)
+pub one_more : {M X : Type 0} (Right : M → Book → Type 0) (start : Book → Book) (step : Book → X → Book) (xs : List X) (i : ℕ) (x : X) (old m new : M) → i < length xs → x ≡ get_or xs i x
+    → Along Right old m (λ b. fold step (start b) (take i xs)) → Along Right m new (λ b. step b x) → Along Right old new (λ b. fold step (start b) (take (i + 1) xs))
+one_more Right start step xs i x old m new within is before follow b right =
+    subst (Right new) (sym (fold_more step (start b) xs i x within ∙ ap (step (fold step (start b) (take i xs))) (sym is))) (follow (fold step (start b) (take i xs)) (before b right))
+
+pub all_done : {M X : Type 0} (Right : M → Book → Type 0) (start : Book → Book) (step : Book → X → Book) (xs : List X) (i : ℕ) (old m : M) → length xs ≤ i
+    → Along Right old m (λ b. fold step (start b) (take i xs)) → Along Right old m (λ b. fold step (start b) xs)
+all_done {M} {X} Right start step xs i old m past before b right = subst (λ (ys : List X). Right m (fold step (start b) ys)) (take_all i xs past) (before b right)

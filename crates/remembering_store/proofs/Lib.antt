@@ -5,6 +5,7 @@
 -- - sums and rates, as the rules define them: ReadOff, Rates, Changed, Weights
 -- - the sums of a company, as they are read and follow each write: FirstRead, Loading, Widening, Reading, Adding, Following, Returning
 -- - the sums of all companies: Companies
+-- - the sizes of held submissions: HeldSizes
 -- - the numbers of submissions: Numbered, Books
 pub mod ReadOff
 pub mod Changed
@@ -23,3 +24,4 @@ pub mod Books
 pub mod Rates
 pub mod Unchanged
 pub mod Registering
+pub mod HeldSizes

@@ -17,8 +17,10 @@ use Rattle.desk_book.specs.Steps.{if_order, returned_row_by, put_sent_row, put_l
 use Rattle.std.specs.HashMap.{get}
 use Rattle.remembering_store.specs.CompanyKeys.{is_same_company}
 use Rattle.remembering_store.specs.Known.{IsRegistryOf, CountsRight, KnowsRight}
+use Rattle.remembering_store.specs.HeldSizes.{HeldRight}
 use Rattle.remembering_store.specs.KnownSums.{SumsRight}
 use Rattle.remembering_store.specs.declared.counts.Counts.{Counts}
+use Rattle.remembering_store.specs.declared.held.KnownHeld.{KnownHeld}
 use Rattle.remembering_store.specs.declared.known.Known.{Known}
 use Rattle.remembering_store.specs.declared.sums.KnownSums.{KnownSums}
 
@@ -108,9 +110,10 @@ intake_same x b =
     let last : HasSame changed (put_taken_file x.file (put_postings x.postings (put_suspense x.suspense changed))) = record { identity = refl; operator_key = refl; day = refl; holidays = refl; companies = refl; counts = λ c. refl } in
     same_next b changed (put_taken_file x.file (put_postings x.postings (put_suspense x.suspense changed))) rows last
 
--- where the sums follow, all does
-pub sums_followed : (m : Known) (sums : KnownSums) (before after : Book) → HasSame before after → SumsRight sums after → KnowsRight m before → KnowsRight (record m { sums = sums }) after
-sums_followed m sums before after same follows right = record {
+-- where the sums and the sizes follow, all does
+pub all_followed : (m : Known) (sums : KnownSums) (held : KnownHeld) (before after : Book) → HasSame before after → SumsRight sums after → HeldRight held after → KnowsRight m before
+    → KnowsRight (record m { sums = sums; held = held }) after
+all_followed m sums held before after same follows held_follows right = record {
   identity = subst (λ z. IfSome m.identity (λ x. x ≡ z)) (sym same.identity) right.identity;
   operator_key = subst (λ z. IfSome m.operator_key (λ x. x ≡ z)) (sym same.operator_key) right.operator_key;
   day = subst (λ z. IfSome m.day (λ x. Some x ≡ z)) (sym same.day) right.day;
@@ -119,11 +122,16 @@ sums_followed m sums before after same follows right = record {
   listed = subst (λ z. IfSome m.listed (λ x. x.items ≡ z)) (sym same.companies) right.listed;
   counts = λ k. subst (λ z. IfSome (get is_same_company m.counts.counts k) (λ x. x ≡ z)) (sym (same.counts k.company)) (right.counts k);
   sums = follows;
+  held = held_follows;
 }
 
 -- other sums of the same book
 pub other_sums : (m : Known) (sums : KnownSums) (b : Book) → SumsRight sums b → KnowsRight m b → KnowsRight (record m { sums = sums }) b
-other_sums m sums b = sums_followed m sums b b (same_self b)
+other_sums m sums b follows right = all_followed m sums m.held b b (same_self b) follows right.held right
+
+-- other sizes of it
+pub other_held : (m : Known) (held : KnownHeld) (b : Book) → HeldRight held b → KnowsRight m b → KnowsRight (record m { held = held }) b
+other_held m held b follows right = all_followed m m.sums held b b (same_self b) right.sums follows right
 
 -- ---- a submission more
 
@@ -138,12 +146,14 @@ own_count c order rs row next =
     next ∙ sym (length-append rs (row ∷ []))
     ∙ ap (λ (t : Bool). length (if t then rs ++ row ∷ [] else rs)) (sym ((bytes_eq-Decides c c).1 refl))
 
--- where the counts and the sums follow, all does
-pub count_added : (c : List ℕ) (order : ℕ) (s : Submission) (retry : Option Retry) (b : Book) (m : Known) (counts : Counts) (sums : KnownSums) → order ≡ length (b.rows c) + 1 → KnowsRight m b
+-- where the counts, the sums and the sizes follow, all does
+pub count_added : (c : List ℕ) (order : ℕ) (s : Submission) (retry : Option Retry) (b : Book) (m : Known) (counts : Counts) (sums : KnownSums) (held : KnownHeld) → order ≡ length (b.rows c) + 1
+    → KnowsRight m b
     → SumsRight sums ((add_submission c order s retry).after b)
+    → HeldRight held ((add_submission c order s retry).after b)
     → ((before after : List ℕ → ℕ) → order ≡ after c → ((of : List ℕ) → bytes_eq c of ≡ false → after of ≡ before of) → CountsRight m.counts before → CountsRight counts after)
-    → KnowsRight (record m { counts = counts; sums = sums }) ((add_submission c order s retry).after b)
-count_added c order s retry b m counts sums next right follows set = record {
+    → KnowsRight (record m { counts = counts; sums = sums; held = held }) ((add_submission c order s retry).after b)
+count_added c order s retry b m counts sums held next right follows held_follows set = record {
   identity = right.identity;
   operator_key = right.operator_key;
   day = right.day;
@@ -155,4 +165,5 @@ count_added c order s retry b m counts sums next right follows set = record {
       (λ of other. other_stays c (λ rs. rs ++ next_row rs s retry ∷ []) b.rows of other)
       right.counts;
   sums = follows;
+  held = held_follows;
 }

@@ -7,6 +7,7 @@ use Rattle.desk_book.specs.Book.{Book}
 use Rattle.desk_book.specs.Reads.{submission_count}
 use Rattle.desk_store.specs.Words.{LeavesRead}
 use Rattle.remembering_store.specs.CompanyKeys.{is_same_company}
+use Rattle.remembering_store.specs.HeldSizes.{HeldRight}
 use Rattle.remembering_store.specs.KnownSums.{SumsRight}
 use Rattle.remembering_store.specs.Remembered.{AreNumbered}
 use Rattle.remembering_store.specs.declared.company_key.CompanyKey.{CompanyKey}
@@ -32,6 +33,7 @@ pub record KnowsRight (m : Known) (b : Book) : Type 0 where
   pub listed : IfSome m.listed (λ listed. listed.items ≡ b.companies)
   pub counts : CountsRight m.counts (λ c. submission_count c b)
   pub sums : SumsRight m.sums b
+  pub held : HeldRight m.held b
 
 -- it agrees with every book
 abbrev pub KnowsNothing : Known → Type 0

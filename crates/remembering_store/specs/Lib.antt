@@ -10,4 +10,5 @@ pub mod ReferenceKeys
 pub mod Remembered
 pub mod KnownCompany
 pub mod KnownSums
+pub mod HeldSizes
 pub mod Laws

@@ -1,5 +1,5 @@
 //! What is remembered of a store's book.
-ghost use Rattle.std.specs.Prelude.{◌≡◌, Option};
+ghost use Rattle.std.specs.Prelude.{◌≡◌, Option, is_some};
 ghost use Rattle.desk_rules.specs.declared.bodies.submission.Retry.{Retry};
 ghost use Rattle.desk_book.specs.Book.{Book};
 ghost use Rattle.desk_book.specs.Reads.{submission_count};
@@ -8,6 +8,7 @@ ghost use Rattle.desk_store.specs.Written.{cut_step, intake_step};
 ghost use Rattle.remembering_store.specs.Known.{IsNumbered, KnowsNothing, KnowsRight};
 
 use crate::counts::Counts;
+use crate::held::KnownHeld;
 use crate::registry::Registry;
 use crate::sums::KnownSums;
 use ach_fields::Id;
@@ -28,6 +29,7 @@ pub(crate) struct Known {
     pub(crate) listed: Option<Vec<Company>>,
     pub(crate) counts: Counts,
     pub(crate) sums: KnownSums,
+    pub(crate) held: KnownHeld,
 }
 
 impl Known {
@@ -44,6 +46,7 @@ impl Known {
             listed: None,
             counts: Counts::new(alloc),
             sums: KnownSums::new(alloc),
+            held: KnownHeld::new(alloc),
         }
     }
 
@@ -82,22 +85,31 @@ impl Known {
     }
 
     /// Follows an accepted submission, which has the company's next order number.
-    pub(crate) fn add(&mut self, alloc: Global, company: Id, order: u64, content: &SizedSubmission)
-        ensures { (b : Book) (retry : Option Retry)
+    pub(crate) fn add(
+        &mut self,
+        alloc: Global,
+        company: Id,
+        order: u64,
+        content: &SizedSubmission,
+        is_retry: bool,
+    )
+        ensures { (b : Book) (retry : Option Retry) → is_retry ≡ is_some retry
             → (add_submission company order content.now retry).Admits b → IsNumbered b
             → KnowsRight self.old b
             → KnowsRight self.new ((add_submission company order content.now retry).after b) }
     {
         self.counts.set(company, order);
         self.sums.add(alloc, company, order, content);
+        self.held.add(company, order, content, is_retry);
     }
 
-    /// Follows a cut, which changes open submissions alone.
+    /// Follows a cut, which changes open and held submissions alone.
     pub(crate) fn follow_cut(&mut self, cut: &CutRows<'_>)
         ensures { (b : Book) → KnowsRight self.old b
             → KnowsRight self.new ((cut_step cut.now).after b) }
     {
         self.sums.follow_cut(cut);
+        self.held.follow_cut(cut);
     }
 
     /// Follows an incoming file, of which the returns change open submissions.

@@ -1,7 +1,7 @@
 //! A store around a store that remembers what almost every call asks: the identity of the desk, the
 //! operator's key, the desk day, the holidays, all registered companies, and of the companies that were
-//! asked about how many submissions they have, their open submissions and their return rates. It hands
-//! every other call on.
+//! asked about how many submissions they have, their open submissions, the sizes of the held ones and
+//! their return rates. It hands every other call on.
 //!
 //! [`Remembering`] holds the book that the store inside holds. It reads each of these once, and follows
 //! each write that succeeded: a new desk day and a new holiday list are kept as they were given, and so
@@ -13,6 +13,10 @@
 //! Of open submissions it keeps what is held and what settles, summed by settlement day, so that a new
 //! desk day or a new holiday list changes nothing of it: [`exposures_read_off`] says how both exposures
 //! follow from the sums. A submission, a cut and a returns file are followed.
+//!
+//! The sizes of a company's held submissions are kept from the first question about them. A submission
+//! adds its size, and a cut takes away those that it decides. While one of them is a retry, or if there are
+//! more than the caps allow, they are read at each question.
 //!
 //! Return rates are read from the store inside and kept with the day for which they were asked, one day
 //! for each company. They are forgotten if a file returns an entry of the company, or if a cut sends a
@@ -28,6 +32,7 @@
 
 mod company_key;
 mod counts;
+mod held;
 mod known;
 mod laws;
 mod registry;

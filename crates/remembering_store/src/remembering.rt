@@ -9,15 +9,15 @@ use crate::sums::caps::Caps;
 use ach_fields::{Id, Ref, Trace};
 use bank_days::{Calendar, Day};
 use desk_accounts::{Account, Posting};
-use desk_book::{Caller, HeldSubmission, NamedEntry, OpenSubmission, Row};
+use desk_book::{Caller, HeldSize, HeldSubmission, NamedEntry, OpenSubmission, Row};
 use desk_history::{ChangeRow, Identity, ListOf, ReturnRow, SuspenseRow, TakenFile};
 use desk_rules::{Company, Limits, Rates, Retry, RuleDay, SizedSubmission};
 use desk_store::{CutRows, IntakeRows, LastNumber, Store, StoreFault};
 use std::alloc::Global;
 
 /// A store that remembers the desk's identity, key, day, holidays and companies, and of the companies that
-/// were asked about how many submissions they have, the open ones and the return rates. It hands every
-/// other call on to the store inside.
+/// were asked about how many submissions they have, the open ones, the sizes of the held ones and the
+/// return rates. It hands every other call on to the store inside.
 #[derive(Drop)]
 pub struct Remembering<S> {
     store: S,
@@ -200,6 +200,24 @@ impl<S: Store> Store for Remembering<S> {
         self.store.waiting_of(alloc, company)
     }
 
+    fn held_sizes_of(
+        &mut self,
+        alloc: Global,
+        company: Company,
+    ) -> Result<Vec<HeldSize>, StoreFault> {
+        let id = company.id;
+        if let Some(sizes) = self.known.held.read(alloc, id) {
+            return Ok(sizes);
+        }
+        match self.store.held_sizes_of(alloc, company) {
+            Ok(sizes) => {
+                self.known.held.remember(alloc, self.caps, id, &sizes);
+                Ok(sizes)
+            }
+            Err(fault) => Err(fault),
+        }
+    }
+
     fn waiting(&mut self, alloc: Global) -> Result<Vec<HeldSubmission>, StoreFault> {
         self.store.waiting(alloc)
     }
@@ -313,12 +331,14 @@ impl<S: Store> Store for Remembering<S> {
         content: &SizedSubmission,
         retry: Option<Retry>,
     ) -> Result<(), StoreFault> {
+        let retry = &retry;
+        let is_retry = retry.is_some();
         match self
             .store
-            .add_submission(alloc, company, order, content, retry)
+            .add_submission(alloc, company, order, content, *retry)
         {
             Ok(done) => {
-                self.known.add(alloc, company, order, content);
+                self.known.add(alloc, company, order, content, is_retry);
                 Ok(done)
             }
             Err(fault) => Err(fault),

@@ -3,6 +3,7 @@ use Rattle.std.proofs.Common.{◌≡◌, ℕ, pos, List, [], ◌∷◌, map, fil
 use Rattle.std.proofs.lemmas.Int.{ints}
 use Rattle.std.proofs.lemmas.List.Sums.{sum_by-cons}
 use Rattle.sqlite_sql.proofs.AggregateLemmas.{int_sum}
+use Rattle.sqlite.specs.Values.{or_null}
 use Rattle.sqlite_value.specs.Order.{Row}
 use Rattle.sqlite_value.specs.declared.value.Value.TheVariants.{Int, Text}
 use Rattle.sql_statements.proofs.Conditions.{text_is}
@@ -16,12 +17,12 @@ use Rattle.sql_tables.specs.Schema.{desk_schema}
 use Rattle.sql_tables.specs.declared.records.EntryRecord.{EntryRecord}
 use Rattle.sql_tables.specs.QueryRows.{entry_amount_row, numbered_entry_row, placed_entry_row, entry_place_row}
 use Rattle.sql_tables.specs.Selected.{amount_of, numbered_of, placed_of, entry_place_of}
-use Rattle.sql_tables.specs.TableReads.{is_entry_of, entries_in, amounts_in, cents_in, is_at_place, entry_at_place, is_placed_between, entry_places_in, place_in, is_between, places_between}
+use Rattle.sql_tables.specs.TableReads.{is_entry_of, entries_in, amounts_in, infos_in, cents_in, is_at_place, entry_at_place, is_placed_between, entry_places_in, place_in, is_between, places_between}
 use Rattle.std.specs.Prelude.{◌==◌, ◌&&◌, nat_le}
 use Rattle.sql_query_laws.proofs.Conditions.{one, two, number_is, number_least, number_most, number_if_any_is, number_if_any_least, number_if_any_most}
 use Rattle.sql_query_laws.proofs.Listings.{entries, numbers}
 use Rattle.sql_query_laws.proofs.Selects.{all_selected, first_selected}
-use Rattle.sql_query_laws.proofs.Texts.{places, entries_is, amounts_is, cents_is, sent_entry_is, entry_places_is, places_is}
+use Rattle.sql_query_laws.proofs.Texts.{places, entries_is, amounts_is, infos_is, cents_is, sent_entry_is, entry_places_is, places_is}
 use Rattle.sql_query_laws.specs.Shows.{ShowsAll, ShowsFirst}
 use Rattle.sql_query_laws.specs.Questions as questions
 
@@ -34,6 +35,11 @@ pub amounts_shown : (c : List ℕ) (order : ℕ) → ShowsAll questions.amounts.
 amounts_shown c order =
     all_selected entries questions.amounts.text (column_is 1 0 ∷ column_is 2 1 ∷ []) (places (3 ∷ 7 ∷ 8 ∷ [])) (Text c ∷ number order ∷ []) (is_entry_of c order) amount_of entry_amount_row
     amounts_is.asks (λ i e. two (text_is e.company c) (number_is e.order order)) (λ i e. refl)
+
+pub infos_shown : (c : List ℕ) (order : ℕ) → ShowsAll questions.infos.text (Text c ∷ number order ∷ []) (λ o. or_null Text o ∷ []) (infos_in c order)
+infos_shown c order =
+    all_selected entries questions.infos.text (column_is 1 0 ∷ column_is 2 1 ∷ []) (places (11 ∷ [])) (Text c ∷ number order ∷ []) (is_entry_of c order) (λ e. e.entry.info) (λ o. or_null Text o ∷ [])
+    infos_is.asks (λ i e. two (text_is e.company c) (number_is e.order order)) (λ i e. refl)
 
 whole_sum : (es : List EntryRecord) → int_sum (map (λ e. pos e.entry.cents) es) ≡ pos (sum_by (λ e. e.entry.cents) es)
 whole_sum [] = refl

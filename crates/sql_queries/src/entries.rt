@@ -1,9 +1,9 @@
 //! Entries, and the places of those that were sent.
-ghost use Rattle.sql_tables.specs.TableReads.{entries_in, amounts_in, cents_in, entry_at_place, entry_places_in, place_in, places_between, IsLastNumber};
+ghost use Rattle.sql_tables.specs.TableReads.{entries_in, amounts_in, infos_in, cents_in, entry_at_place, entry_places_in, place_in, places_between, IsLastNumber};
 ghost use Rattle.sql_queries.specs.Asking.{Asks, AreThe, IsThe};
 
 use crate::rows::{all_of, cell_of, column_of, first_of};
-use ach_fields::Id;
+use ach_fields::{Id, ShortText};
 use sql_tables::{
     EntryAmount, EntryPlace, NumberRecord, NumberedEntry, PlacedEntry, characters, natural,
 };
@@ -40,6 +40,23 @@ pub fn amounts_of<S: Alter>(
         conn,
         alloc,
         "SELECT idx, prenote, cents FROM entries WHERE company = ?1 AND ord = ?2 ORDER BY company, ord, idx",
+        &[characters(company.bytes()), natural(order)?],
+    )
+}
+
+/// Gives the addenda of the entries of the submission with a number in its company.
+pub fn infos_of<S: Alter>(
+    conn: &mut Connection<S>,
+    alloc: Global,
+    company: Id,
+    order: u64,
+) -> Result<Vec<Option<ShortText<80>>>, Error>
+    ensures { Asks S.Store conn.old conn.new result (AreThe (infos_in company order)) }
+{
+    column_of(
+        conn,
+        alloc,
+        "SELECT info FROM entries WHERE company = ?1 AND ord = ?2 ORDER BY company, ord, idx",
         &[characters(company.bytes()), natural(order)?],
     )
 }

@@ -19,7 +19,8 @@ mod submissions;
 mod waiting;
 
 pub use entries::{
-    amounts_of, cents_of, entries_of, entry_places, last_number, place, places, sent_entry,
+    amounts_of, cents_of, entries_of, entry_places, infos_of, last_number, place, places,
+    sent_entry,
 };
 pub use files::{file_text, modifiers, taken_file};
 pub use holidays::calendar;

@@ -153,6 +153,9 @@ number_columns = read_back (λ n. number n ∷ []) (λ r. number_in (column r 0)
 pub letter_columns : IsInjective (λ c. letter c ∷ [])
 letter_columns = read_back (λ c. letter c ∷ []) (λ r. letter_in (column r 0)) (λ c. refl)
 
+pub text_if_any_columns : IsInjective (λ o. or_null Text o ∷ [])
+text_if_any_columns = read_back (λ o. or_null Text o ∷ []) (λ r. if_any_in text_in (column r 0)) text_if_any
+
 pub number_if_any_columns : IsInjective (λ o. or_null number o ∷ [])
 number_if_any_columns = read_back (λ o. or_null number o ∷ []) (λ r. if_any_in number_in (column r 0)) number_if_any
 

@@ -79,6 +79,10 @@ pub amounts_is : IsQuestion questions.amounts
 unfolding understood first everything
 amounts_is = record { selects = refl; asks = record { selects = refl; body = refl; alone = refl; unlisted = refl; plain = (refl, refl) } }
 
+pub infos_is : IsQuestion questions.infos
+unfolding understood first everything
+infos_is = record { selects = refl; asks = record { selects = refl; body = refl; alone = refl; unlisted = refl; plain = (refl, refl) } }
+
 pub cents_is : IsQuestion questions.cents
 unfolding understood first everything
 cents_is = record { selects = refl; asks = record { selects = refl; body = refl; alone = refl; unlisted = refl; plain = (refl, refl) } }

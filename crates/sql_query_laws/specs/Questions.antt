@@ -73,6 +73,9 @@ entries = ask the.entries numbered_columns (is "company" ∷ is "ord" ∷ []) (r
 abbrev pub amounts : Question
 amounts = ask the.entries ("idx" ∷ "prenote" ∷ "cents" ∷ []) (is "company" ∷ is "ord" ∷ []) (rises "company" ∷ rises "ord" ∷ rises "idx" ∷ [])
 
+abbrev pub infos : Question
+infos = ask the.entries ("info" ∷ []) (is "company" ∷ is "ord" ∷ []) (rises "company" ∷ rises "ord" ∷ rises "idx" ∷ [])
+
 abbrev pub cents : Question
 cents = ask_sum the.entries "cents" (is "company" ∷ is "ord" ∷ [])
 

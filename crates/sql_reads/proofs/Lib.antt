@@ -1,3 +1,4 @@
 pub mod HeldRows
 pub mod SettledRuns
 pub mod WholeRows
+pub mod HeldSizes

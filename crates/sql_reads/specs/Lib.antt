@@ -3,3 +3,4 @@ pub mod Known
 pub mod RowsFound
 pub mod SettledPlaces
 pub mod TracedEntries
+pub mod HeldSizes

@@ -7,6 +7,7 @@
 mod balances;
 mod files;
 mod held;
+mod held_sizes;
 mod items;
 mod key;
 mod last_submission;
@@ -19,6 +20,7 @@ mod traced;
 pub use balances::balances_of;
 pub use files::{file, files_on};
 pub use held::{due, waiting, waiting_of};
+pub use held_sizes::held_sizes_of;
 pub use items::{changes_of, returns_of};
 pub use key::key_of;
 pub use latest::latest_settled;

@@ -9,7 +9,7 @@ use crate::whole_write::write;
 use ach_fields::{Id, Ref, Trace};
 use bank_days::{Calendar, Day};
 use desk_accounts::{Account, Posting};
-use desk_book::{Caller, HeldSubmission, NamedEntry, OpenSubmission, Row};
+use desk_book::{Caller, HeldSize, HeldSubmission, NamedEntry, OpenSubmission, Row};
 use desk_history::{ChangeRow, Identity, ListOf, ReturnRow, SuspenseRow, TakenFile};
 use desk_rules::{Company, Limits, Rates, Retry, RuleDay, SizedSubmission};
 use desk_store::{CutRows, IntakeRows, LastNumber, Store, StoreFault};
@@ -149,6 +149,15 @@ impl<S: Alter> Store for SqlStore<S> {
     ) -> Result<Vec<HeldSubmission>, StoreFault> {
         rows_of_tables();
         sql_reads::waiting_of(&mut self.conn, alloc, &company)
+    }
+
+    fn held_sizes_of(
+        &mut self,
+        alloc: Global,
+        company: Company,
+    ) -> Result<Vec<HeldSize>, StoreFault> {
+        rows_of_tables();
+        sql_reads::held_sizes_of(&mut self.conn, alloc, &company)
     }
 
     fn waiting(&mut self, alloc: Global) -> Result<Vec<HeldSubmission>, StoreFault> {

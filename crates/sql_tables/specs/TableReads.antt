@@ -112,6 +112,10 @@ entries_in c order t = map numbered_of (filter (is_entry_of c order) t.entries)
 abbrev pub amounts_in : (company : List ℕ) → (order : ℕ) → Tables → List EntryAmount
 amounts_in c order t = map amount_of (filter (is_entry_of c order) t.entries)
 
+-- SELECT info FROM entries WHERE company = ? AND ord = ? ORDER BY company, ord, idx
+abbrev pub infos_in : (company : List ℕ) → (order : ℕ) → Tables → List (Option (List ℕ))
+infos_in c order t = map (λ e. e.entry.info) (filter (is_entry_of c order) t.entries)
+
 -- SELECT coalesce(sum(cents), 0) FROM entries WHERE company = ? AND ord = ?
 abbrev pub cents_in : (company : List ℕ) → (order : ℕ) → Tables → ℕ
 cents_in c order t = sum_by (λ e. e.entry.cents) (filter (is_entry_of c order) t.entries)

@@ -26,8 +26,8 @@ fn waiting_of<S: Store>(
     ensures { Gives S.Store store.old store.new result
         (waiting_on day.now holidays.now company.now) }
 {
-    let waiting = store.waiting_of(alloc, *company)?;
-    match company_waiting(alloc, *day, holidays, company, &waiting) {
+    let sizes = store.held_sizes_of(alloc, *company)?;
+    match company_waiting(alloc, *day, holidays, company, &sizes) {
         Ok(found) => Ok(found),
         Err(_) => Err(StoreFault::Unavailable),
     }

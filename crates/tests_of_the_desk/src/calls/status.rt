@@ -86,6 +86,10 @@ const TWO_FILES: Script = &[
         "B order 2 entries 51 cents 509999999949",
     ),
     (
+        "desk status",
+        "2025-01-08, files [], suspense 0, holidays 0, sent 0, due files 2 records 102, held records 102; MILL01 held 0/0 2/1019999999898 lapsing 0, 2025-01-09 0/0 2/1019999999898",
+    ),
+    (
         "MILL01 submit L debit 2025-01-13 091000019 091000019/checking/7/INVOICE",
         "L order 3 entries 1 cents 7",
     ),

@@ -1,8 +1,7 @@
 use Rattle.std.proofs.Common.{◌≡◌, ◌++◌, map}
-use Rattle.desk_history.specs.Status.{due_day, due_days}
-use Rattle.desk_cut.specs.Sent.{sending_in}
+use Rattle.desk_cut.specs.Sizes.{due_day, due_days}
 use Rattle.desk_cut.proofs.status.due_by_day.Given as goal
 
 -- what is due on the days so far, and on those that are left
 abbrev pub invariant-loop-day : goal.invariant-loop-day
-invariant-loop-day l = l.due.items ++ map (due_day (map sending_in l.sent)) l.day-iterator ≡ due_days (map sending_in l.sent)
+invariant-loop-day l = l.due.items ++ map (due_day l.sent) l.day-iterator ≡ due_days l.sent

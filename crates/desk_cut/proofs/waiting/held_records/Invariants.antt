@@ -1,9 +1,8 @@
-use Rattle.std.proofs.Common.{◌≡◌, ◌≤◌, ◌*◌, take}
-use Rattle.desk_book.specs.OnStatus.{held_records}
+use Rattle.std.proofs.Common.{◌≡◌, ◌≤◌, ◌*◌, sum_by, take}
 use Rattle.desk_cut.proofs.waiting.held_records.Given as goal
 
 abbrev pub invariant-loop-one : goal.invariant-loop-one
 invariant-loop-one l = record {
-  value : l.records ≡ held_records (take l.one-index l.waiting);
-  within : l.records ≤ 2000 * l.one-index;
+  value : l.records ≡ sum_by (λ z. z.records) (take l.one-index l.sizes);
+  within : l.records ≤ 4294967295 * l.one-index;
 }

@@ -11,4 +11,5 @@ returns c = λ b is right. record {
   listed = right.listed;
   counts = c.set.ensures (λ of. length (b.rows of)) (λ of. length (b.rows of)) is (λ of other. refl) right.counts;
   sums = right.sums;
+  held = right.held;
 }

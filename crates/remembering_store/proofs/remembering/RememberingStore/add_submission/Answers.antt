@@ -13,7 +13,7 @@ returns-in-Ok g c =
       write = λ clean b held admits. record {
         held = c.in-Ok.ensures.write clean b held.held admits;
         numbered = numbered b held.numbered;
-        known = c.add.ensures b a.retry admits held.numbered held.known;
+        known = c.add.ensures b a.retry c.is_some-is_retry.ensures admits held.numbered held.known;
       };
       left = λ clean b k held admits new. (c.in-Ok.ensures.left clean b k held.held admits new, numbered b held.numbered);
     }
