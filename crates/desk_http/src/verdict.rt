@@ -15,7 +15,7 @@ use desk_calls::Desk;
 use desk_history::Call;
 use desk_store::{Store, StoreFault};
 use http_answers::MessageFault;
-use http_message::{Framing, Message, Request, framing_of, path_of};
+use http_message::{Framing, Message, Request};
 use http_routes::{Route, RouteFault, Routes};
 use json::Scratch;
 use operator::operator_verdict;
@@ -60,7 +60,7 @@ fn request_verdict<S: Store>(
 fn route_of(routes: &Routes, request: &Request<'_>) -> Result<Route, MessageFault>
     ensures { TellsAddressee (request_value request.now) result }
 {
-    match framing_of(request.method, request.fields) {
+    match request.framing {
         Framing::BadLength => Err(MessageFault::BadHead),
         Framing::LengthRequired => Err(MessageFault::LengthRequired),
         Framing::TooLarge => Err(MessageFault::TooLarge),
@@ -71,7 +71,7 @@ fn route_of(routes: &Routes, request: &Request<'_>) -> Result<Route, MessageFaul
 fn find_route(routes: &Routes, request: &Request<'_>) -> Result<Route, MessageFault>
     ensures { TellsByRoute (request_value request.now) result }
 {
-    match route_of_path(routes, request.method, path_of(request.target)) {
+    match route_of_path(routes, request.method, request.path) {
         Ok(route) => Ok(route),
         Err(RouteFault::NotFound) => Err(MessageFault::NotFound),
         Err(RouteFault::BadMethod) => Err(MessageFault::BadMethod),

@@ -1,4 +1,5 @@
 pub mod Acceptances
+pub mod InRange
 pub mod Json
 pub mod Objects
 pub mod Parsed

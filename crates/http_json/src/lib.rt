@@ -15,7 +15,6 @@ mod judged;
 mod members;
 mod number;
 mod quoted;
-mod range;
 mod read;
 mod refusals;
 mod room;

@@ -3,9 +3,8 @@ ghost use Rattle.std.specs.Prelude.{◌≡◌, ◌≢◌, None, Some, option_map
 ghost use Rattle.json.specs.Value.{value_view};
 ghost use Rattle.serde_json.specs.Read.{of_json};
 ghost use Rattle.http_json.specs.Read.{json_of, object_in, object_of, parsed};
-ghost use Rattle.http_json.specs.View.{view};
+ghost use Rattle.http_json.specs.View.{is_in_range, view};
 
-use crate::range::is_in_range;
 use crate::values::read_value;
 use json::{Error, Reader, Scratch, Value};
 use simdutf8::basic::from_utf8;
@@ -52,31 +51,35 @@ fn read_json<'a>(
         return Ok(None);
     };
     match parse(alloc, text, scratch) {
-        Ok(value) => Ok(in_range(value)),
+        Ok((value, each)) => Ok(in_range(value, each)),
         Err(Error::OutOfMemory) => Err(AllocError),
         Err(_) => Ok(None),
     }
 }
 
 // Returns a value if each number in it is in range.
-fn in_range(value: Value<'_>) -> Option<Value<'_>>
+fn in_range(value: Value<'_>, each: bool) -> Option<Value<'_>>
+    requires { each ≡ is_in_range (value_view value) }
     ensures { option_map view result ≡ of_json (value_view value.entry) }
 {
-    if is_in_range(&value) {
-        Some(value)
-    } else {
-        None
-    }
+    if each { Some(value) } else { None }
 }
 
-fn parse<'a>(alloc: Global, text: &'a str, scratch: &'a mut Scratch) -> Result<Value<'a>, Error>
-    ensures ok { IfOk result (λ v. parsed text.now ≡ Some (value_view v)) }
+// The value that a text is, and whether each number in it is in range.
+fn parse<'a>(
+    alloc: Global,
+    text: &'a str,
+    scratch: &'a mut Scratch,
+) -> Result<(Value<'a>, bool), Error>
+    ensures ok { IfOk result (λ v. parsed text.now ≡ Some (value_view v.0)) }
+    ensures ranged { IfOk result (λ v. v.1 ≡ is_in_range (value_view v.0)) }
     ensures invalid { IfErr result (λ e. e ≢ Error.OutOfMemory → parsed text.now ≡ None) }
 {
     let mut reader = Reader::new(text, scratch)?;
-    let value = read_value(alloc, &mut reader, MOST_DEPTH)?;
+    let mut in_range = true;
+    let value = read_value(alloc, &mut reader, MOST_DEPTH, &mut in_range)?;
     if reader.next().is_some() {
         return Err(Error::Invalid);
     }
-    Ok(value)
+    Ok((value, in_range))
 }

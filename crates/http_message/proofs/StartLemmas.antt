@@ -5,7 +5,7 @@ use Rattle.std.specs.declared.alloc.Global.{Global}
 use Rattle.httparse.specs.Grammar.{RequestHead}
 use Rattle.httparse.specs.declared.spans.HeaderSpan.{HeaderSpan}
 use Rattle.httparse.specs.declared.spans.RequestSpans.{RequestSpans}
-use Rattle.http_message.specs.Start.{IsHeadAt}
+use Rattle.http_message.specs.Start.{IsHeadAt, framing_at}
 use Rattle.http_message.specs.Heads.{Opens, fields_of, head_framing}
 use Rattle.http_message.specs.Input.{IsLittle, IsRequest, Arrives, IsArrival, ReadsBody, TellsBody}
 use Rattle.http_message.specs.Stream.{HasBody, ReadsBad, IsPart, IsCut, WantsBody}
@@ -24,12 +24,13 @@ pub opens_with : (bytes taken : List ℕ) (fields : List HeaderSpan) (spans : Re
 opens_with bytes taken fields spans h at = Opens-append bytes (drop spans.len bytes) taken h at.opens
 
 -- a head whose body is read
-pub body_is_request : (bytes taken body : List ℕ) (fields : List HeaderSpan) (spans : RequestSpans) (h : RequestHead) (size : ℕ)
-    → IsHeadAt bytes fields spans h → head_framing h ≡ Body size → length body ≡ size
+pub body_is_request : (bytes taken body : List ℕ) (fields : List HeaderSpan) (spans : RequestSpans) (framing : Framing) (h : RequestHead) (size : ℕ)
+    → IsHeadAt bytes fields spans h → framing ≡ framing_at bytes fields spans → head_framing h ≡ Body size → length body ≡ size
     → drop spans.len bytes ++ taken ≡ body ++ drop size (drop spans.len bytes)
-    → IsRequest (bytes ++ taken) bytes fields spans body
-body_is_request bytes taken body fields spans h size at says whole split = record {
+    → IsRequest (bytes ++ taken) bytes fields spans framing body
+body_is_request bytes taken body fields spans framing h size at framed says whole split = record {
   head = h;
+  framed = framed;
   at = at;
   reads = λ is_last. record {
     head = h;
@@ -43,10 +44,11 @@ body_is_request bytes taken body fields spans h size at says whole split = recor
 
 -- a head after which no body is read, since it has no length
 pub bare_is_request : (bytes : List ℕ) (fields : List HeaderSpan) (spans : RequestSpans) (h : RequestHead) (framing : Framing)
-    → IsHeadAt bytes fields spans h → framing ≡ head_framing h → (framing ≡ LengthRequired) ⊎ (framing ≡ TooLarge)
-    → IsRequest (bytes ++ []) bytes fields spans []
-bare_is_request bytes fields spans h framing at says no_body = record {
+    → IsHeadAt bytes fields spans h → framing ≡ framing_at bytes fields spans → framing ≡ head_framing h → (framing ≡ LengthRequired) ⊎ (framing ≡ TooLarge)
+    → IsRequest (bytes ++ []) bytes fields spans framing []
+bare_is_request bytes fields spans h framing at framed says no_body = record {
   head = h;
+  framed = framed;
   at = at;
   reads = λ is_last. record {
     head = h;
@@ -89,17 +91,17 @@ wants_body bytes taken fields spans h size at says some =
     (h, drop spans.len bytes ++ taken, size, opens_with bytes taken fields spans h at, says, some)
 
 -- what a body that was read, or not, makes arrive
-abbrev pub arrival_of : RequestSpans → Result (Option (Vec ℕ Global)) Stop → Arrival
-arrival_of spans (Ok (Some body)) = arrivals.Request spans body
-arrival_of spans (Ok None) = arrivals.Cut
-arrival_of spans (Err Fault) = arrivals.Fault
-arrival_of spans (Err NoRoom) = arrivals.NoRoom
+abbrev pub arrival_of : RequestSpans → Framing → Result (Option (Vec ℕ Global)) Stop → Arrival
+arrival_of spans framing (Ok (Some body)) = arrivals.Request spans framing body
+arrival_of spans framing (Ok None) = arrivals.Cut
+arrival_of spans framing (Err Fault) = arrivals.Fault
+arrival_of spans framing (Err NoRoom) = arrivals.NoRoom
 
-pub body_arrives : (bytes come : List ℕ) (fields : List HeaderSpan) (spans : RequestSpans) (h : RequestHead) (size : ℕ)
+pub body_arrives : (bytes come : List ℕ) (fields : List HeaderSpan) (spans : RequestSpans) (framing : Framing) (h : RequestHead) (size : ℕ)
     (before after : Option (List ℕ)) (result : Result (Option (Vec ℕ Global)) Stop)
-    → IsHeadAt bytes fields spans h → head_framing h ≡ Body size → come ≡ drop spans.len bytes → length bytes ≤ 16384
-    → ReadsBody result before after come size → Arrives (arrival_of spans result) fields before after bytes bytes
-body_arrives bytes come fields spans h size before after result at says is few read = record {
+    → IsHeadAt bytes fields spans h → framing ≡ framing_at bytes fields spans → head_framing h ≡ Body size → come ≡ drop spans.len bytes → length bytes ≤ 16384
+    → ReadsBody result before after come size → Arrives (arrival_of spans framing result) fields before after bytes bytes
+body_arrives bytes come fields spans framing h size before after result at framed says is few read = record {
   taken = read.taken;
   takes = read.takes;
   few = few;
@@ -107,8 +109,8 @@ body_arrives bytes come fields spans h size before after result at says is few r
 }
   where
     by_result : (r : Result (Option (Vec ℕ Global)) Stop) → TellsBody r (drop spans.len bytes) read.taken size after
-        → IsArrival (arrival_of spans r) fields (bytes ++ read.taken) bytes after
-    by_result (Ok (Some body)) t = body_is_request bytes read.taken body.items fields spans h size at says t.0 t.1
+        → IsArrival (arrival_of spans framing r) fields (bytes ++ read.taken) bytes after
+    by_result (Ok (Some body)) t = body_is_request bytes read.taken body.items fields spans framing h size at framed says t.0 t.1
     by_result (Ok None) t = (cut_in_body bytes read.taken fields spans h size at says t.0, t.1)
     by_result (Err Fault) t = inr (cut_in_body bytes read.taken fields spans h size at says t)
     by_result (Err NoRoom) t =

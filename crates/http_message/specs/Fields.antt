@@ -1,14 +1,9 @@
 -- The fields of a head, each its name and its value.
 use Rattle.std.specs.Prelude.{ℕ, Bool, List, [], ◌∷◌, map, filter, bytes_eq, Option, Some, None}
 use Rattle.std.specs.Char.{to_ascii_lowercase}
-use Rattle.http_message.specs.declared.message.Field.{Field}
 
 abbrev pub FieldValue : Type 0
 FieldValue = List ℕ × List ℕ
-
--- the value of a field of the program
-abbrev pub field_value : Field → FieldValue
-field_value f = (f.name.now, f.value.now)
 
 -- the same text in any ASCII case
 abbrev pub same_in_any_case : List ℕ → List ℕ → Bool
@@ -26,10 +21,6 @@ values_of name fields = map (λ field. field.1) (filter (is_named name) fields)
 abbrev pub first_of : List (List ℕ) → Option (List ℕ)
 first_of [] = None
 first_of (value ∷ values) = Some value
-
--- the values of fields of the program
-abbrev pub field_values : List Field → List FieldValue
-field_values fields = map field_value fields
 
 -- the value of the first field of this name, if there is one
 abbrev pub first_value : (name : List ℕ) → List FieldValue → Option (List ℕ)

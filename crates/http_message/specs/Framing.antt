@@ -1,11 +1,13 @@
 -- The framing that a head gives the body after it.
-use Rattle.std.specs.Prelude.{ℕ, Bool, true, false, ◌&&◌, ◌||◌, not, nat_lt, List, [], ◌∷◌, length, bytes_eq, codes, if◌then◌else◌}
+use Rattle.std.specs.Prelude.{ℕ, Bool, true, false, ◌&&◌, ◌||◌, not, nat_lt, List, [], ◌∷◌, length, bytes_eq, codes, Option, Some, None, if◌then◌else◌}
 use Rattle.std.specs.Char.{is_ascii_digit}
 use Rattle.std.specs.List.{list_all}
 use Rattle.std.specs.Str.Parse.{digits_value}
-use Rattle.http_message.specs.Fields.{FieldValue, values_of}
+use Rattle.http_message.specs.Fields.{FieldValue, first_value, same_in_any_case, values_of}
 use Rattle.http_message.specs.declared.framing.Framing.{Framing}
 use Rattle.http_message.specs.declared.framing.Framing.TheVariants.{BadLength, LengthRequired, TooLarge, Body}
+use Rattle.http_message.specs.declared.message.Version.{Version}
+use Rattle.http_message.specs.declared.message.Version.TheVariants.{Http10, Http11}
 
 -- at least one digit, and nothing else
 abbrev pub is_number : List ℕ → Bool
@@ -47,3 +49,17 @@ framing_of method fields =
 abbrev pub ends_connection : Framing → Bool
 ends_connection (Body n) = false
 ends_connection framing = true
+
+abbrev pub is_old : Version → Bool
+is_old Http10 = true
+is_old Http11 = false
+
+-- there is a value, and it is `close` in any case
+abbrev pub says_close : Option (List ℕ) → Bool
+says_close None = false
+says_close (Some value) = same_in_any_case value (codes "close")
+
+-- whether the connection ends after the answer to a request whose head has this
+abbrev pub closes_by : (is_last : Bool) → Version → List FieldValue → Framing → Bool
+closes_by is_last version fields framing =
+    is_last || is_old version || says_close (first_value (codes "Connection") fields) || ends_connection framing

@@ -6,7 +6,7 @@ use Rattle.http_message.specs.Fields.{FieldValue}
 use Rattle.http_message.specs.Framing.{framing_of}
 use Rattle.http_message.specs.Message.{RequestValue, request_value}
 use Rattle.http_message.specs.declared.framing.Framing.{Framing}
-use Rattle.http_message.specs.declared.message.Request.{Request}
+use Rattle.http_message.specs.declared.request.Request.{Request}
 use Rattle.http_message.specs.declared.message.Version.{Version}
 use Rattle.http_message.specs.declared.message.Version.TheVariants.{Http10, Http11}
 

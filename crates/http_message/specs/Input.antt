@@ -5,7 +5,8 @@ use Rattle.std.specs.Io.KnownBytes.{Consumes, IsAtEnd}
 use Rattle.httparse.specs.Grammar.{RequestHead, HasNoRequest}
 use Rattle.httparse.specs.declared.spans.HeaderSpan.{HeaderSpan}
 use Rattle.httparse.specs.declared.spans.RequestSpans.{RequestSpans}
-use Rattle.http_message.specs.Start.{IsStart, IsHeadAt}
+use Rattle.http_message.specs.Start.{IsStart, IsHeadAt, framing_at}
+use Rattle.http_message.specs.declared.framing.Framing.{Framing}
 use Rattle.http_message.specs.Heads.{request_of}
 use Rattle.http_message.specs.Message.{asked}
 use Rattle.http_message.specs.Stream.{Reads, ReadsBad, IsCut, IsPart, WantsBody}
@@ -89,9 +90,10 @@ pub record ReadsBody (result : Result (Option (Vec ℕ Global)) Stop) (before af
   pub tells : TellsBody result come taken size after
 
 -- The stream begins with a request, whose head is at the start of the bytes; the rest of the stream is what
--- the bytes have after the request.
-pub record IsRequest (stream bytes : List ℕ) (fields : List HeaderSpan) (spans : RequestSpans) (body : List ℕ) : Type 0 where
+-- the bytes have after the request. The framing is that of the head.
+pub record IsRequest (stream bytes : List ℕ) (fields : List HeaderSpan) (spans : RequestSpans) (framing : Framing) (body : List ℕ) : Type 0 where
   pub head : RequestHead
+  pub framed : framing ≡ framing_at bytes fields spans
   pub at : IsHeadAt bytes fields spans head
   pub reads : (is_last : Bool) → Reads is_last stream (asked (request_of head body is_last)) (drop (length body) (drop spans.len bytes))
 
@@ -106,7 +108,7 @@ IsArrival arrivals.NoRoom fields stream bytes after = WantsBody stream × IsLitt
 IsArrival arrivals.End fields stream bytes after = (stream ≡ []) × IsAtEnd after
 IsArrival arrivals.Cut fields stream bytes after = IsCut stream × IsAtEnd after
 IsArrival arrivals.BadHead fields stream bytes after = ReadsBad stream bytes
-IsArrival (arrivals.Request spans body) fields stream bytes after = IsRequest stream bytes fields spans body.items
+IsArrival (arrivals.Request spans framing body) fields stream bytes after = IsRequest stream bytes fields spans framing body.items
 
 -- the reader gave some bytes, and this came; at most 16,384 bytes are kept
 pub record Arrives (arrival : Arrival) (fields : List HeaderSpan) (before after : Option (List ℕ)) (old new : List ℕ) : Type 0 where

@@ -1,11 +1,10 @@
 -- A message of a session, as a value.
-use Rattle.std.specs.Prelude.{ℕ, Bool, true, false, ◌||◌, List, ◌==◌, codes, Option, Some, None}
+use Rattle.std.specs.Prelude.{ℕ, Bool, true, List, ◌==◌}
 use Rattle.std.specs.List.{before_first}
-use Rattle.http_message.specs.Fields.{FieldValue, field_values, same_in_any_case, first_value}
-use Rattle.http_message.specs.Framing.{framing_of, ends_connection}
+use Rattle.http_message.specs.Fields.{FieldValue}
+use Rattle.http_message.specs.Framing.{framing_of, closes_by}
 use Rattle.http_message.specs.declared.message.Version.{Version}
-use Rattle.http_message.specs.declared.message.Version.TheVariants.{Http10, Http11}
-use Rattle.http_message.specs.declared.message.Request.{Request}
+use Rattle.http_message.specs.declared.request.Request.{Request}
 use Rattle.http_message.specs.declared.message.Message.{Message}
 use Rattle.http_message.specs.declared.message.Message.TheVariants.{BadHead, Asked}
 
@@ -29,7 +28,7 @@ request_value r = record {
   method = r.method.now;
   target = r.target.now;
   version = r.version;
-  fields = field_values r.fields.now;
+  fields = r.fields;
   body = r.body.items;
   is_last = r.is_last;
 }
@@ -43,22 +42,7 @@ message_value (Asked r) = asked (request_value r)
 abbrev pub path_of : List ℕ → List ℕ
 path_of target = before_first (λ b. b == 63) target
 
-abbrev pub is_old : Version → Bool
-is_old Http10 = true
-is_old Http11 = false
-
--- there is a value, and it is `close` in any case
-abbrev pub says_close : Option (List ℕ) → Bool
-says_close None = false
-says_close (Some value) = same_in_any_case value (codes "close")
-
--- whether the connection ends after the answer to a request, if it is answered
-abbrev pub request_closes : RequestValue → Bool
-request_closes r =
-    r.is_last || is_old r.version || says_close (first_value (codes "Connection") r.fields)
-    || ends_connection (framing_of r.method r.fields)
-
 -- whether the connection ends after the answer to a message, if it is answered
 abbrev pub closes : MessageValue → Bool
 closes bad_head = true
-closes (asked r) = request_closes r
+closes (asked r) = closes_by r.is_last r.version r.fields (framing_of r.method r.fields)

@@ -1,11 +1,9 @@
 //! What a head says of the body that follows it.
 ghost use Rattle.std.specs.Prelude.{◌≡◌, ◌+◌, ◌↔◌, codes, min, IsTrue, IsSome, IfSome};
 ghost use Rattle.std.specs.Str.Parse.{digits_value};
-ghost use Rattle.http_message.specs.Fields.{field_values};
 ghost use Rattle.http_message.specs.Framing.{framing_of, is_number};
 
-use crate::fields::{is_repeated, value_of};
-use crate::message::Field;
+use crate::fields::{Fields, is_repeated, value_of};
 use http::Method;
 
 /// The most bytes of a body.
@@ -47,8 +45,8 @@ fn content_length(digits: &[u8]) -> Option<usize>
 
 /// What a head with this method and these fields says of its body. The first that fits decides: a bad
 /// length, a length that is required, a body that is too large.
-pub fn framing_of(method: &[u8], fields: &[Field<'_>]) -> Framing
-    ensures { result ≡ framing_of method.now (field_values fields.now) }
+pub(crate) fn framing_of(method: &[u8], fields: &Fields<'_>) -> Framing
+    ensures { result ≡ framing_of method.now fields.now }
 {
     let length = match value_of(fields, b"Content-Length") {
         Some(digits) => match content_length(digits) {

@@ -1,11 +1,15 @@
 //! The head at the start of the bytes that came.
-ghost use Rattle.std.specs.Prelude.{◌≡◌, ◌≤◌, List, [], All, length, map, take};
-ghost use Rattle.httparse.specs.Spans.{header_bytes, IsHeaderWithin, IsRequestWithin};
-ghost use Rattle.http_message.specs.Fields.{field_values};
-ghost use Rattle.http_message.specs.Start.{IsStart, OnHeadAt};
-ghost use Rattle.http_message.specs.Heads.{HasHead, version_of};
+ghost use Rattle.std.specs.Prelude.{◌≡◌, codes, length};
+ghost use Rattle.httparse.specs.Spans.{IsRequestWithin};
+ghost use Rattle.http_message.specs.Fields.{first_value};
+ghost use Rattle.http_message.specs.Framing.{closes_by, says_close};
+ghost use Rattle.http_message.specs.Start.{IsStart, OnHeadAt, fields_at, framing_at};
+ghost use Rattle.http_message.specs.Heads.{HasHead, head_framing, version_of};
 
-use crate::message::{Field, Request, Version};
+use crate::fields::{Fields, value_of};
+use crate::framing::{Framing, framing_of};
+use crate::message::{Version, path_of};
+use crate::request::Request;
 use crate::unread::MAX_HEAD;
 use httparse::Status;
 use httparse::spans::{HeaderSpan, RequestSpans, parse_request};
@@ -47,20 +51,21 @@ pub(crate) fn start_of(bytes: &[u8], fields: &mut [HeaderSpan]) -> Start
     }
 }
 
-/// Writes the fields that lie where the spans say to the start of the room.
-fn put_fields<'b>(bytes: &'b [u8], spans: &[HeaderSpan], room: &mut [Field<'b>])
-    requires within { All (IsHeaderWithin (length bytes.now)) spans.now }
-    requires fits { length spans.now ≤ length room.old }
-    ensures { field_values (take (length spans.now) room.new)
-        ≡ map (header_bytes bytes.now) spans.now }
+/// The fields of the head at the start of the bytes, whose parts lie where the spans say.
+fn fields_at<'a>(bytes: &'a [u8], spans: &'a [HeaderSpan], head: &RequestSpans) -> Fields<'a>
+    requires { IsRequestWithin bytes.now spans.now head.now }
+    ensures { result ≡ fields_at bytes.now spans.now head.now }
 {
-    for at in 0..spans.len() {
-        let span = spans[at];
-        room[at] = Field {
-            name: span.name.of(bytes),
-            value: span.value.of(bytes),
-        };
-    }
+    Fields::new(bytes, &spans[..head.headers])
+}
+
+/// What the head says of its body.
+pub(crate) fn framing_at(bytes: &[u8], spans: &[HeaderSpan], head: &RequestSpans) -> Framing
+    requires { IsRequestWithin bytes.now spans.now head.now }
+    ensures at { result ≡ framing_at bytes.now spans.now head.now }
+    ensures head { OnHeadAt bytes.now spans.now head.now (λ h. result ≡ head_framing h) }
+{
+    framing_of(head.method.of(bytes), &fields_at(bytes, spans, head))
 }
 
 fn version_of(minor: u8) -> Version
@@ -73,28 +78,52 @@ fn version_of(minor: u8) -> Version
     }
 }
 
+/// Whether the first `Connection` says that the connection is to close.
+fn says_close(fields: &Fields<'_>) -> bool
+    ensures { result ≡ says_close (first_value (codes "Connection") fields.now) }
+{
+    match value_of(fields, b"Connection") {
+        Some(value) => value.eq_ignore_ascii_case(b"close"),
+        None => false,
+    }
+}
+
+/// Whether the connection ends after the answer to a head that says this.
+fn closes_by(is_last: bool, version: Version, fields: &Fields<'_>, framing: Framing) -> bool
+    ensures { result ≡ closes_by is_last version fields.now framing }
+{
+    is_last
+        || version == Version::Http10
+        || says_close(fields)
+        || !matches!(framing, Framing::Body(_))
+}
+
 /// The request at the start of the bytes, whose parts lie where the spans say, with this body.
-pub fn request_at<'f, 'b: 'f>(
-    bytes: &'b [u8],
-    fields: &[HeaderSpan],
+pub fn request_at<'a>(
+    bytes: &'a [u8],
+    spans: &'a [HeaderSpan],
     head: &RequestSpans,
-    room: &'f mut [Field<'b>],
+    framing: Framing,
     body: Vec<u8>,
     is_last: bool,
-) -> Request<'f>
-    requires within { IsRequestWithin bytes.now fields.now head.now }
-    requires fits { length fields.now ≤ length room.old }
-    ensures { OnHeadAt bytes.now fields.now head.now (λ h. HasHead result h body.items is_last) }
+) -> Request<'a>
+    requires within { IsRequestWithin bytes.now spans.now head.now }
+    requires framed { framing ≡ framing_at bytes.now spans.now head.now }
+    ensures { OnHeadAt bytes.now spans.now head.now (λ h. HasHead result h body.items is_last) }
 {
-    let count = head.headers;
-    put_fields(bytes, &fields[..count], room);
-    let all: &'f [Field<'b>] = room;
+    let target = head.path.of(bytes);
+    let fields = fields_at(bytes, spans, head);
+    let version = version_of(head.version);
+    let closes = closes_by(is_last, version, &fields, framing);
     Request {
         method: head.method.of(bytes),
-        target: head.path.of(bytes),
-        version: version_of(head.version),
-        fields: &all[..count],
+        target,
+        path: path_of(target),
+        version,
+        fields,
+        framing,
         body,
         is_last,
+        closes,
     }
 }

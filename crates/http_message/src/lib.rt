@@ -10,12 +10,14 @@ mod head;
 mod laws;
 mod message;
 mod reading;
+mod request;
 mod unread;
 
-pub use fields::value_of;
-pub use framing::{Framing, MAX_BODY, framing_of};
+pub use fields::{Fields, value_of};
+pub use framing::{Framing, MAX_BODY};
 pub use head::{MAX_FIELDS, request_at};
 pub use laws::{cut_is_no_message, more_bytes, one_message, one_spelling, spelled_in_pieces};
-pub use message::{EMPTY_FIELD, Field, MAX_MESSAGES, Message, Request, Version, closes, path_of};
+pub use message::{MAX_MESSAGES, Message, Version, closes};
 pub use reading::{Arrival, read_message};
+pub use request::Request;
 pub use unread::{MAX_HEAD, Unread};

@@ -1,16 +1,13 @@
 //! Reading messages from any reader.
 ghost use Rattle.std.specs.Prelude.{◌≡◌, ◌≤◌, length, IfOk, OnErr};
 ghost use Rattle.std.specs.List.{list_all};
-ghost use Rattle.httparse.specs.Spans.{IsRequestWithin};
 ghost use Rattle.io_retries.specs.Failures.{ReadFailed};
-ghost use Rattle.http_message.specs.Start.{IsStart, OnHeadAt};
-ghost use Rattle.http_message.specs.Heads.{head_framing};
+ghost use Rattle.http_message.specs.Start.{IsStart};
 ghost use Rattle.http_message.specs.Input.{is_line_end_byte, IsOpen, FillsRoom, ReadsBody, HasWhatCame, OnArrivalFault, OnStopFault};
 ghost use Rattle.http_message.specs.Readers.{ReadsOnFrom, ReadsHeadFrom, ArrivesFrom};
 
-use crate::framing::{Framing, framing_of};
-use crate::head::{MAX_FIELDS, Start, request_at, start_of};
-use crate::message::EMPTY_FIELD;
+use crate::framing::Framing;
+use crate::head::{MAX_FIELDS, Start, framing_at, start_of};
 use crate::unread::{MAX_HEAD, Unread};
 use httparse::spans::{HeaderSpan, RequestSpans};
 use io_retries::{Source, Tries, read_with_retries};
@@ -52,8 +49,8 @@ pub enum Arrival {
     Cut,
     /// The bytes are no head that is small enough, or its length is bad.
     BadHead,
-    /// A request: where the parts of its head lie in the unread bytes, and its body.
-    Request(RequestSpans, Vec<u8>),
+    /// A request: where the parts of its head lie in the unread bytes, what it says of the body, and that.
+    Request(RequestSpans, Framing, Vec<u8>),
 }
 
 /// Whether the bytes are line ends alone.
@@ -174,17 +171,6 @@ fn read_body<R: Source>(
     }
 }
 
-/// What the head at the start of the bytes says of its body.
-fn head_framing(alloc: Global, bytes: &[u8], fields: &[HeaderSpan], head: &RequestSpans) -> Framing
-    requires within { IsRequestWithin bytes.now fields.now head.now }
-    requires fits { length fields.now ≡ MAX_FIELDS }
-    ensures { OnHeadAt bytes.now fields.now head.now (λ h. result ≡ head_framing h) }
-{
-    let mut room = [EMPTY_FIELD; MAX_FIELDS];
-    let request = request_at(bytes, fields, head, &mut room, Vec::new(alloc), false);
-    framing_of(request.method, request.fields)
-}
-
 /// Reads the body of the head at the start of the bytes.
 fn read_rest<R: Source>(
     alloc: Global,
@@ -201,12 +187,15 @@ fn read_rest<R: Source>(
         result fields.now bytes.now bytes.now }
     ensures fault { OnArrivalFault result (ReadFailed R.Source reader.new tries.new) }
 {
-    match head_framing(alloc, bytes, fields, &head) {
+    let framing = framing_at(bytes, fields, &head);
+    match framing {
         Framing::BadLength => Arrival::BadHead,
-        Framing::LengthRequired | Framing::TooLarge => Arrival::Request(head, Vec::new(alloc)),
+        Framing::LengthRequired | Framing::TooLarge => {
+            Arrival::Request(head, framing, Vec::new(alloc))
+        }
         Framing::Body(size) => {
             match read_body(alloc, reader, tries, &bytes[head.len..], size) {
-                Ok(Some(body)) => Arrival::Request(head, body),
+                Ok(Some(body)) => Arrival::Request(head, framing, body),
                 Ok(None) => Arrival::Cut,
                 Err(Stop::Fault) => Arrival::Fault,
                 Err(Stop::NoRoom) => Arrival::NoRoom,

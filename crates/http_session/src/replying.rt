@@ -1,13 +1,14 @@
 //! Answering one message.
-ghost use Rattle.std.specs.Prelude.{◌≡◌, length};
+ghost use Rattle.std.specs.Prelude.{◌≡◌};
 ghost use Rattle.httparse.specs.Spans.{IsRequestWithin};
+ghost use Rattle.http_message.specs.Start.{framing_at};
 ghost use Rattle.http_response.specs.Response.{unavailable_text};
 ghost use Rattle.http_session.specs.Sides.{Flushes, Replies, RepliesAt, WriterFaults};
 ghost use Rattle.http_session.specs.Turns.{Sends};
 
 use crate::answers::Answers;
 use crate::sessions::SessionFault;
-use http_message::{EMPTY_FIELD, MAX_FIELDS, Message, closes, request_at};
+use http_message::{Framing, Message, closes, request_at};
 use http_response::UNAVAILABLE;
 use httparse::spans::{HeaderSpan, RequestSpans};
 use io_retries::{Sink, Tries, write_all_with_retries};
@@ -73,18 +74,18 @@ pub(crate) fn reply_to_request<D: Answers, W: Sink>(
     bytes: &[u8],
     fields: &[HeaderSpan],
     head: &RequestSpans,
+    framing: Framing,
     body: Vec<u8>,
     is_last: bool,
 ) -> Result<bool, SessionFault>
     requires within { IsRequestWithin bytes.now fields.now head.now }
-    requires fits { length fields.now ≡ MAX_FIELDS }
+    requires framed { framing ≡ framing_at bytes.now fields.now head.now }
     ensures before { D.is_clean desk.new → D.is_clean desk.old }
     ensures replied { RepliesAt D.Answers W.Sink desk.old desk.new
         writer.old writer.new bytes.now fields.now head.now body is_last result }
     ensures flushed { Flushes W.Sink result writer.old writer.new }
     ensures fault { WriterFaults W.Sink result writer.new tries.new }
 {
-    let mut room = [EMPTY_FIELD; MAX_FIELDS];
-    let request = request_at(bytes, fields, head, &mut room, body, is_last);
+    let request = request_at(bytes, fields, head, framing, body, is_last);
     reply(alloc, desk, writer, tries, Message::Asked(request))
 }

@@ -78,7 +78,7 @@ fn turn<D: Answers, R: Source, W: Sink>(
             let told = reply(alloc, desk, writer, tries, Message::BadHead);
             turn_of(told, is_last)
         }
-        Arrival::Request(head, body) => {
+        Arrival::Request(head, framing, body) => {
             let size = body.len();
             let told = reply_to_request(
                 alloc,
@@ -88,6 +88,7 @@ fn turn<D: Answers, R: Source, W: Sink>(
                 unread.bytes(),
                 fields,
                 &head,
+                framing,
                 body,
                 is_last,
             );

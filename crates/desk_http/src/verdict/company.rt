@@ -16,7 +16,7 @@ use desk_calls::Desk;
 use desk_history::Call;
 use desk_store::{Store, StoreFault};
 use http_answers::MessageFault;
-use http_message::{Request, path_of, value_of};
+use http_message::{Request, value_of};
 use http_routes::{CompanyRoute, piece_of};
 use json::Scratch;
 use sha2::{Digest, Sha256};
@@ -34,10 +34,10 @@ pub(crate) fn company_verdict<S: Store>(
     ensures { Gives S.Store desk.old desk.new result
         (company_path_verdict route (request_value request.now)) }
 {
-    let Ok(id) = Id::new(piece_of(path_of(request.target), 2)) else {
+    let Ok(id) = Id::new(piece_of(request.path, 2)) else {
         return Ok(Err(MessageFault::Denied));
     };
-    let Some(key) = value_of(request.fields, b"X-Desk-Key") else {
+    let Some(key) = value_of(&request.fields, b"X-Desk-Key") else {
         return Ok(Err(MessageFault::Denied));
     };
     match desk.allow(alloc, Caller::Company(id), Sha256::digest(key)) {
@@ -64,7 +64,7 @@ fn route_call(
     match route {
         CompanyRoute::Submit => submission_call(alloc, scratch, id, &request.body),
         CompanyRoute::Retry => retry_call(alloc, scratch, id, &request.body),
-        CompanyRoute::LookUp => Ok(look_up_call(id, piece_of(path_of(request.target), 4))),
+        CompanyRoute::LookUp => Ok(look_up_call(id, piece_of(request.path, 4))),
         CompanyRoute::Returns => Ok(Ok(Call::ReturnsOf(id))),
         CompanyRoute::Changes => Ok(Ok(Call::ChangesOf(id))),
         CompanyRoute::Statement => Ok(Ok(Call::StatementOf(id))),

@@ -14,7 +14,7 @@ use desk_calls::Desk;
 use desk_history::{Call, ListOf};
 use desk_store::{Store, StoreFault};
 use http_answers::MessageFault;
-use http_message::{Request, path_of, value_of};
+use http_message::{Request, value_of};
 use http_routes::{OperatorRoute, piece_of};
 use json::Scratch;
 use sha2::{Digest, Sha256};
@@ -31,7 +31,7 @@ pub(crate) fn operator_verdict<S: Store>(
     ensures { Gives S.Store desk.old desk.new result
         (operator_route_verdict route (request_value request.entry)) }
 {
-    let Some(key) = value_of(request.fields, b"X-Desk-Key") else {
+    let Some(key) = value_of(&request.fields, b"X-Desk-Key") else {
         return Ok(Err(MessageFault::Denied));
     };
     match desk.allow(alloc, Caller::Operator, Sha256::digest(key)) {
@@ -60,7 +60,7 @@ fn route_call(
         OperatorRoute::PutLimits => limits_call(alloc, scratch, &request.body),
         OperatorRoute::Cut => Ok(Ok(Call::Cut)),
         OperatorRoute::TakeFile => Ok(Ok(Call::TakeFile(ListOf::new(request.body)))),
-        OperatorRoute::FileText => Ok(file_call(path_of(request.target))),
+        OperatorRoute::FileText => Ok(file_call(request.path)),
         OperatorRoute::Settlement => Ok(Ok(Call::Settlement)),
         OperatorRoute::Status => Ok(Ok(Call::Status)),
         OperatorRoute::Companies => Ok(Ok(Call::Companies)),

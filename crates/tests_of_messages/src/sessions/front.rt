@@ -2,7 +2,7 @@
 ghost use Rattle.std.specs.Prelude.{⊤};
 
 use http::StatusCode;
-use http_message::{Framing, Message, Request, closes, framing_of, path_of};
+use http_message::{Framing, Message, Request, closes};
 use http_response::{Content, Response, print_response};
 use http_routes::{RouteFault, Routes};
 use http_session::{Answers, Unavailable};
@@ -25,7 +25,7 @@ fn answer_to<'a>(routes: &Routes, message: &'a Message<'_>) -> (StatusCode, &'a 
 }
 
 fn answer_to_request<'a>(routes: &Routes, request: &'a Request<'_>) -> (StatusCode, &'a [u8]) {
-    match framing_of(request.method, request.fields) {
+    match request.framing {
         Framing::LengthRequired => {
             return (
                 StatusCode::LENGTH_REQUIRED,
@@ -37,7 +37,7 @@ fn answer_to_request<'a>(routes: &Routes, request: &'a Request<'_>) -> (StatusCo
         }
         _ => {}
     }
-    match routes.find(request.method, path_of(request.target)) {
+    match routes.find(request.method, request.path) {
         Ok(_) => (StatusCode::OK, &request.body),
         Err(RouteFault::NotFound) => (StatusCode::NOT_FOUND, b"{\"error\":\"NotFound\"}"),
         Err(RouteFault::BadMethod) => (

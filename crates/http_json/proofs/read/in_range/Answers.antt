@@ -4,12 +4,12 @@ use Rattle.http_json.specs.View.{data_of}
 use Rattle.http_json.proofs.Parsed.{read_data}
 use Rattle.http_json.proofs.read.in_range.Goals as goal
 
-pub returns-then-is_in_range : goal.returns-then-is_in_range
-returns-then-is_in_range c =
+pub returns-then-each : goal.returns-then-each
+returns-then-each c =
     let j = value_view c.args.value in
-    sym (read_data j ∙ ap (λ (b : Bool). cond b (Some (data_of j)) None) (sym c.if-is_in_range.ensures))
+    sym (read_data j ∙ ap (λ (b : Bool). cond b (Some (data_of j)) None) (sym c.requires ∙ c.if-each.true))
 
 pub returns : goal.returns
 returns c =
     let j = value_view c.args.value in
-    sym (read_data j ∙ ap (λ (b : Bool). cond b (Some (data_of j)) None) (sym c.if-is_in_range.ensures))
+    sym (read_data j ∙ ap (λ (b : Bool). cond b (Some (data_of j)) None) (sym c.requires ∙ c.if-each.false))

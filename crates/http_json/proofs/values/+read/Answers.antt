@@ -1,11 +1,13 @@
-use Rattle.std.proofs.Common.{◌≡◌, ◌-◌, ◌<◌, [], ◌∷◌, ◌++◌, length, Some, None, sym, ap, ap₂, ◌∙◌, arith, rules}
+use Rattle.std.proofs.Common.{◌≡◌, ◌-◌, ◌<◌, ◌&&◌, [], ◌∷◌, ◌++◌, length, Some, None, sym, ap, ap₂, ◌∙◌, arith, rules}
 use Rattle.json.specs.Token.{Token}
 use Rattle.json.specs.Json.{Json, array, object, parse_map, after_end_array, read_key, items, members, value}
 use Rattle.json.specs.Reads.{token_of}
-use Rattle.json.specs.Value.{value_view}
+use Rattle.json.specs.Value.{value_view, items_view, members_view}
 use Rattle.json.specs.declared.value.Value.{String, Number, Bool, Null, the_lemmas}
 use Rattle.json.proofs.Grammar.{value_is, value-begin_array, value-begin_object, read_key-shorter, items_end, items_fail, items_more, members_end, members_no_key, members_fail, members_more}
 use Rattle.json.proofs.Trees.{items_before, members_before, items_before-no_items, members_before-no_members, one_more_item, one_more_member, none_before, view-Array, view-Object}
+use Rattle.http_json.specs.View.{is_in_range, items_in_range, members_in_range}
+use Rattle.http_json.proofs.InRange.{and_true, one_more_in_range, one_more_member_in_range}
 use Rattle.http_json.proofs.values.+read.Goals as goal
 
 pub read_value-returns-in_err-token-clause-invalid : goal.read_value-returns-in_err-token-clause-invalid
@@ -48,8 +50,13 @@ read_value-returns-in-String-clause-ok t c =
     let seen : value_view (String c.in-String.text) ≡ Json.string c.in-String.text.now = search (rules, the_lemmas) in
     ap (value c.args.depth) is ∙ value_is c.args.depth _ ∙ ap (λ j. Some (j, c.next.new.self)) (sym seen)
 
-pub read_value-returns-in-Number-clause-ok : goal.read_value-returns-in-Number-clause-ok
-read_value-returns-in-Number-clause-ok t c =
+pub read_value-returns-in-String-clause-ranged : goal.read_value-returns-in-String-clause-ranged
+read_value-returns-in-String-clause-ranged t c =
+    let seen : value_view (String c.in-String.text) ≡ Json.string c.in-String.text.now = search (rules, the_lemmas) in
+    and_true c.args.in_range.now ∙ ap (λ j. c.args.in_range.now && is_in_range j) (sym seen)
+
+pub read_value-returns-after-in_range-clause-ok : goal.read_value-returns-after-in_range-clause-ok
+read_value-returns-after-in_range-clause-ok t c =
     let first : c.args.reader.now ≡ token_of c.in_ok-token.token ∷ c.next.new.self = grind arith in
     let is : c.args.reader.now ≡ Token.number c.in-Number.text.now ∷ c.next.new.self = grind (arith, first) in
     let seen : value_view (Number c.in-Number.text) ≡ Json.number c.in-Number.text.now = search (rules, the_lemmas) in
@@ -62,12 +69,22 @@ read_value-returns-in-Bool-clause-ok t c =
     let seen : value_view (Bool c.in-Bool.b) ≡ Json.boolean c.in-Bool.b = search (rules, the_lemmas) in
     ap (value c.args.depth) is ∙ value_is c.args.depth _ ∙ ap (λ j. Some (j, c.next.new.self)) (sym seen)
 
+pub read_value-returns-in-Bool-clause-ranged : goal.read_value-returns-in-Bool-clause-ranged
+read_value-returns-in-Bool-clause-ranged t c =
+    let seen : value_view (Bool c.in-Bool.b) ≡ Json.boolean c.in-Bool.b = search (rules, the_lemmas) in
+    and_true c.args.in_range.now ∙ ap (λ j. c.args.in_range.now && is_in_range j) (sym seen)
+
 pub read_value-returns-in-Null-clause-ok : goal.read_value-returns-in-Null-clause-ok
 read_value-returns-in-Null-clause-ok t c =
     let first : c.args.reader.now ≡ token_of c.in_ok-token.token ∷ c.next.new.self = grind arith in
     let is : c.args.reader.now ≡ Token.null ∷ c.next.new.self = grind (arith, first) in
     let seen : value_view (Null) ≡ Json.null = search (rules, the_lemmas) in
     ap (value c.args.depth) is ∙ value_is c.args.depth _ ∙ ap (λ j. Some (j, c.next.new.self)) (sym seen)
+
+pub read_value-returns-in-Null-clause-ranged : goal.read_value-returns-in-Null-clause-ranged
+read_value-returns-in-Null-clause-ranged t c =
+    let seen : value_view (Null) ≡ Json.null = search (rules, the_lemmas) in
+    and_true c.args.in_range.now ∙ ap (λ j. c.args.in_range.now && is_in_range j) (sym seen)
 
 pub read_value-returns-in-EndObject-clause-invalid : goal.read_value-returns-in-EndObject-clause-invalid
 read_value-returns-in-EndObject-clause-invalid t c invalid =
@@ -81,6 +98,11 @@ read_value-returns-in_ok-read_items-in-BeginArray-clause-ok t c =
     let found = c.in_ok-read_items-in-BeginArray in
     opened ∙ ap (parse_map array) found.ensures.ok ∙ ap (λ j. Some (j, c.read_items.new.reader)) (sym (view-Array found.field-0))
 
+pub read_value-returns-in_ok-read_items-in-BeginArray-clause-ranged : goal.read_value-returns-in_ok-read_items-in-BeginArray-clause-ranged
+read_value-returns-in_ok-read_items-in-BeginArray-clause-ranged t c =
+    let found = c.in_ok-read_items-in-BeginArray in
+    found.ensures.ranged ∙ ap (λ j. c.args.in_range.now && is_in_range j) (sym (view-Array found.field-0))
+
 pub read_value-returns-in_ok-read_members-in-BeginObject-clause-ok : goal.read_value-returns-in_ok-read_members-in-BeginObject-clause-ok
 read_value-returns-in_ok-read_members-in-BeginObject-clause-ok t c =
     let first : c.args.reader.now ≡ token_of c.in_ok-token.token ∷ c.next.new.self = grind arith in
@@ -88,8 +110,19 @@ read_value-returns-in_ok-read_members-in-BeginObject-clause-ok t c =
     let found = c.in_ok-read_members-in-BeginObject in
     opened ∙ ap (parse_map object) found.ensures.ok ∙ ap (λ j. Some (j, c.read_members.new.reader)) (sym (view-Object found.field-0))
 
+pub read_value-returns-in_ok-read_members-in-BeginObject-clause-ranged : goal.read_value-returns-in_ok-read_members-in-BeginObject-clause-ranged
+read_value-returns-in_ok-read_members-in-BeginObject-clause-ranged t c =
+    let found = c.in_ok-read_members-in-BeginObject in
+    found.ensures.ranged ∙ ap (λ j. c.args.in_range.now && is_in_range j) (sym (view-Object found.field-0))
+
 pub read_items-loop-alloc-init : goal.read_items-loop-alloc-init
-read_items-loop-alloc-init t c = (length c.args.reader.now, omega arith, none_before _ ∙ ap (λ vs. parse_map (items_before vs) (items (value c.args.depth) (length c.args.reader.now) c.args.reader.now)) (sym c.new-found.ensures.items), omega arith)
+read_items-loop-alloc-init t c = (
+  length c.args.reader.now,
+  omega arith,
+  none_before _ ∙ ap (λ vs. parse_map (items_before vs) (items (value c.args.depth) (length c.args.reader.now) c.args.reader.now)) (sym c.new-found.ensures.items),
+  omega arith,
+  and_true c.args.in_range.now ∙ ap (λ vs. c.args.in_range.now && items_in_range (items_view vs)) (sym c.new-found.ensures.items),
+)
 
 pub read_items-returns-in_err-item-clause-invalid : goal.read_items-returns-in_err-item-clause-invalid
 read_items-returns-in_err-item-clause-invalid t c invalid =
@@ -116,6 +149,8 @@ read_items-loop-alloc-preserved t c =
       omega (arith, l.invariant.1),
       l.invariant.2 ∙ ap (parse_map (items_before l.found.items)) turn ∙ one_more_item l.found.items v _ ∙ ap (λ vs. parse_map (items_before vs) (items p (n - 1) r)) (sym pushed),
       omega (arith, l.invariant.3),
+      done.ranged ∙ ap (λ b. b && is_in_range (value_view v)) l.invariant.4 ∙ one_more_in_range c.args.in_range.now l.found.items v
+          ∙ ap (λ vs. c.args.in_range.now && items_in_range (items_view vs)) (sym pushed),
     )
 
 pub read_items-returns-clause-ok : goal.read_items-returns-clause-ok
@@ -127,7 +162,13 @@ read_items-returns-clause-ok t c =
     l.invariant.2 ∙ ap (parse_map (items_before l.found.items)) (items_end p n l.reader r l.invariant.1 (grind arith)) ∙ ap (λ js. Some (js, r)) (items_before-no_items l.found.items)
 
 pub read_members-loop-found-init : goal.read_members-loop-found-init
-read_members-loop-found-init t c = (length c.args.reader.now, omega arith, none_before _ ∙ ap (λ vs. parse_map (members_before vs) (members (value c.args.depth) (length c.args.reader.now) c.args.reader.now)) (sym c.new-found.ensures.items), omega arith)
+read_members-loop-found-init t c = (
+  length c.args.reader.now,
+  omega arith,
+  none_before _ ∙ ap (λ vs. parse_map (members_before vs) (members (value c.args.depth) (length c.args.reader.now) c.args.reader.now)) (sym c.new-found.ensures.items),
+  omega arith,
+  and_true c.args.in_range.now ∙ ap (λ vs. c.args.in_range.now && members_in_range (members_view vs)) (sym c.new-found.ensures.items),
+)
 
 pub read_members-returns-in_err-key-clause-invalid : goal.read_members-returns-in_err-key-clause-invalid
 read_members-returns-in_err-key-clause-invalid t c invalid =
@@ -167,6 +208,8 @@ read_members-loop-found-preserved t c =
       l.invariant.2 ∙ ap (parse_map (members_before l.found.items)) turn ∙ one_more_member l.found.items (c.in-Some.key, v) _
           ∙ ap (λ ms. parse_map (members_before ms) (members p (n - 1) r)) (sym pushed),
       omega (arith, l.invariant.3),
+      done.ranged ∙ ap (λ b. b && is_in_range (value_view v)) l.invariant.4 ∙ one_more_member_in_range c.args.in_range.now l.found.items (c.in-Some.key, v)
+          ∙ ap (λ ms. c.args.in_range.now && members_in_range (members_view ms)) (sym pushed),
     )
 
 pub read_members-returns-clause-ok : goal.read_members-returns-clause-ok

@@ -1,9 +1,14 @@
 use Rattle.std.proofs.Common.{◌≡◌, map, length}
-use Rattle.http_message.specs.Fields.{field_value, values_of}
+use Rattle.std.specs.Prelude.{All}
+use Rattle.httparse.specs.Spans.{header_bytes, IsHeaderWithin}
+use Rattle.http_message.specs.Fields.{values_of}
 use Rattle.http_message.proofs.fields.is_repeated.Given as goal
 
 abbrev pub invariant-loop-unread : goal.invariant-loop-unread
-invariant-loop-unread l = values_of l.name (map field_value l.unread) ≡ values_of l.name (map field_value l.fn.fields)
+invariant-loop-unread l = record {
+  within : All (IsHeaderWithin (length l.bytes)) l.unread;
+  same : values_of l.name (map (header_bytes l.bytes) l.unread) ≡ values_of l.name l.fields;
+}
 
 abbrev pub decreases-loop-unread : goal.decreases-loop-unread
 decreases-loop-unread l = length l.unread
