@@ -5,6 +5,7 @@
   STARTTLS or that is down keep the alarm, the right ones deliver it once.
 - To Debian's Alertmanager: an alarm is there, lasts, and ends; while it is down the alarm waits.
 - To both: one that is down does not keep the other from its alarm, and nothing is delivered twice.
+- By mail, with a text that the server refuses for what it says: the other mails arrive, and one that says so.
 - By a receiver that never answers; a delivery that is killed at any moment; a mail with control characters in the alarm's text.
 - `achdesk-day` raises an alarm by the shipped command, with neither network nor password, and its unit does not raise it again.
 
@@ -151,6 +152,24 @@ def by_mail(checks, place):
     return port
 
 
+def refused_text(checks, place):
+    port, before = free_port(), len(place.mails())
+    place.configure(place.mail(port))
+    place.run("deliver")
+    for path in (place.state / "waiting").iterdir():
+        path.unlink()
+    with mail_server(place, port):
+        for text in ("before it", "a log with EICAR in it", "after it"):
+            place.run("raise", given=text)
+        status, errors = place.run("deliver")
+        texts = [it.get_content() for it in place.mails()[before:]]
+        checks.that("a text that the server refuses keeps no other mail back", (status, place.waits(), [it for text in texts for it in ("before it", "was refused", "after it") if it in text]),
+                    (0, 0, ["before it", "was refused", "after it"]))
+        checks.that("and the log says what the server answered", "552 5.7.0 found EICAR" in errors)
+        place.run("raise", given="the next one")
+        checks.that("the next one is delivered", (place.run("deliver"), place.waits(), len(place.mails()) - before), ((0, ""), 0, 4))
+
+
 def to_alertmanager(checks, place):
     port = free_port()
     place.configure(alertmanager={"url": f"http://{HOST}:{port}"})
@@ -252,7 +271,7 @@ def main():
     checks = Checks()
     with tempfile.TemporaryDirectory(prefix="judge-alarms-") as folder:
         place = Place(Path(folder))
-        for part in (by_mail, to_alertmanager, to_both, killed, by_the_day):
+        for part in (by_mail, to_alertmanager, to_both, refused_text, killed, by_the_day):
             part(checks, place)
     checks.end()
 

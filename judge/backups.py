@@ -507,12 +507,14 @@ def takeover(bank, checks, places):
     bank.desk.start()
     status, _, errors = bank.day("cut", config=config)
     checks.that("it does not pay twice", (status, "Ask the ACH operator" in errors), (1, True))
-    bank.day("confirm", "2025-01-14-A", "--transmitted", "--by", "ANN", config=config)
-    bank.day("confirm", "--no-other", "--by", "ANN", config=config)
+    files = [it.removesuffix(".ach") for it in sorted(bank.received())]
+    answers = [bank.day("confirm", *words, "--by", "ANN", config=config)[0] for words in (*((it, "--transmitted") for it in files), ("--no-other",))]
+    checks.that(f"the ACH operator has {len(files)} files, of which each is confirmed", (len(files) > 0, set(answers)), (True, {0}))
     status, _, errors = bank.day("cut", config=config)
-    checks.that("nor once the ACH operator was asked", (status, "would pay twice" in errors), (1, True))
+    checks.that("nor once the ACH operator was asked", (status, "would pay twice" in errors or errors), (1, True))
     status, printed, errors = bank.day("cut", "--remake", config=config)
-    checks.that("it makes the file again", (status, "byte for byte; it is not sent again" in printed), (0, True))
+    alike = [it for it in files if f"{it} is the file that was transmitted, byte for byte; it is not sent again" in printed]
+    checks.that("it makes each file again", (status, errors, alike), (0, "", files))
     status, printed, _ = bank.day("send", config=config)
     checks.that("and has nothing to transmit", (status, printed), (0, "to transmit: nothing\n"))
     checks.that("the ACH operator has each file once", sorted(bank.received()), sorted(bank.archive()))

@@ -1,5 +1,6 @@
 #!/usr/bin/env python3
-"""Runs a bank's week by deploy/achdesk-day, against the real parts on loopback: `python3 judge/day.py [PROGRAM] [EVERY] [PART ..]`.
+"""Runs a bank's week by deploy/achdesk-day, against the real parts on loopback: `python3 judge/day.py [PROGRAM] [EVERY] [PART ..]
+[--kept FOLDER [--from DAY] [--to DAY]]`.
 
 PROGRAM is ./achdesk if it is left out. EVERY is 1 if it is left out: with 5 only each fifth step of a command is tried,
 which is quicker with a program that was built without proofs and takes seconds to open a file. The parts are `achdesk
@@ -15,6 +16,9 @@ too late. In a bank of its own a desk is restored that makes a withheld file aga
 commands of an afternoon are killed at each of their steps and a standby takes over each time, with the newest backup and with an
 older one: no payment is transmitted twice, and none is left out without an alarm. A machine that is put back with its journal
 transmits nothing twice either.
+
+With --kept the week's state before each day is kept in FOLDER, and --from goes on there from a day that an earlier run came to,
+as `--from thursday`; --to ends after a day. So several runs cover a week with each step.
 
 The status is 1 if a check failed, and 2 if Debian packages are missing, which are named; that is not a pass.
 """
@@ -909,6 +913,7 @@ def taken_over(checks, program, folder, every):
         only_writes(checks, bank)
         pay(week, "MILL01", **{"PAY_1": PAYMENTS["PAY-1"]})
         week.keep("afternoon")
+        week.at(MON, "15:00")  # a backup's name is the second in which it began: without a later one there would be the first alone
         afternoon = [("cut",), ("backup",), ("copy",), ("send",)]
         for at, words in enumerate(afternoon):
             step, is_over, failed = 1, False, []
@@ -1154,27 +1159,81 @@ def at_the_end(week):
     week.checks.that("each alarm of the journal was given to the alarm command", set(alarms) <= set(bank.alarms()))
 
 
-def whole_week(checks, program, folder, every):
+DAYS = (monday, tuesday, wednesday, thursday, friday, holiday_and_after, by_hand, left_untransmitted, rejected, too_late, at_the_end)
+NAMES_OF_DAYS = [it.__name__ for it in DAYS]
+OTHER_FILES = ("alarms", "corrected.ach")  # of the bank's folder, which later days look at
+
+
+def whole_week(checks, program, folder, every, kept="", first="", last=""):
+    """All days, or those from a first one on, whose state an earlier run kept, to a last one."""
+    begin, end = (NAMES_OF_DAYS.index(it or other) for it, other in ((first, NAMES_OF_DAYS[0]), (last, NAMES_OF_DAYS[-1])))
     with Bank(program, folder) as bank:
         week = Week(bank, checks, every)
-        for day in (monday, tuesday, wednesday, thursday, friday, holiday_and_after, by_hand, left_untransmitted, rejected, too_late, at_the_end):
+        if first:
+            go_on(week, Path(kept) / first)
+        for day in DAYS[begin:end + 1]:
+            print(f"---- {day.__name__}", flush=True)
+            if kept:
+                keep_for_later(week, Path(kept) / day.__name__)
             day(week)
+
+
+def keep_for_later(week, target):
+    """Keeps the state before a day for another run."""
+    target.mkdir(parents=True, exist_ok=True)
+    with week.operator.lock:
+        week.bank.desk.stop()
+        copied(week.bank.folder, target)
+        week.bank.desk.start()
+    for path in (week.bank.folder / it for it in OTHER_FILES if (week.bank.folder / it).exists()):
+        shutil.copy(path, target)
+    (target / "week.json").write_text(json.dumps({"shown": week.bank.shown, "is_quick": week.operator.is_quick, "now": week.bank.now}))
+
+
+def go_on(week, source):
+    """Brings back what another run kept, with the keys of that day."""
+    bank, told = week.bank, json.loads((source / "week.json").read_text())
+    with week.operator.lock:
+        bank.desk.stop()
+        copied(source, bank.folder)
+        bank.desk.start()
+    for path in (source / it for it in OTHER_FILES if (source / it).exists()):
+        shutil.copy(path, bank.folder)
+    bank.shown, week.operator.is_quick, bank.now = told["shown"], told["is_quick"], told["now"]
+    for name in bank.shown:
+        bank.write_key(name)
+    bank.rotate()
 
 
 PARTS = {it.__name__: it for it in (whole_week, withheld_and_restored, taken_over, put_back, fetched_and_watched, by_other_means)}
 
 
+def options_of(words):
+    """Takes --kept, --from and --to out of the words, and returns them as the arguments of `whole_week`."""
+    found = {}
+    for option, name in (("--kept", "kept"), ("--from", "first"), ("--to", "last")):
+        if option in words:
+            at = words.index(option)
+            found[name] = "".join(words[at + 1:at + 2])
+            del words[at:at + 2]
+    if not {found.get("first", ""), found.get("last", "")} <= {"", *NAMES_OF_DAYS} or "first" in found and "kept" not in found:
+        sys.exit(f"--from needs --kept, and the days are {' '.join(NAMES_OF_DAYS)}")
+    return found
+
+
 def main():
     end_if_missing()
     signal.signal(signal.SIGTERM, lambda *_: sys.exit(1))  # ends the parts too
-    parts, words = [it for it in sys.argv[1:] if it in PARTS], [it for it in sys.argv[1:] if it not in PARTS]
+    given = sys.argv[1:]
+    options = options_of(given)
+    parts, words = [it for it in given if it in PARTS], [it for it in given if it not in PARTS]
     program, checks, began, every = program_of(words), Checks(), time.monotonic(), int((words[1:] or ["1"])[0])
     with tempfile.TemporaryDirectory(prefix="judge-day-") as folder:
         Path(folder).chmod(0o755)
         for name in parts or PARTS:
             print(f"---- {name}", flush=True)
             (Path(folder) / name).mkdir()
-            PARTS[name](checks, program, Path(folder) / name, every)
+            PARTS[name](checks, program, Path(folder) / name, every, **(options if name == "whole_week" else {}))
     print(f"        {time.monotonic() - began:.0f} s in all", flush=True)
     checks.end()
 

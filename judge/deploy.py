@@ -240,7 +240,7 @@ def start(checks, program, folder):
             it.chmod(0o711)
     path, port = desk_of_user(program, folder, "started"), low_port()
     if not os.access(program, os.X_OK) or said("setpriv", f"--reuid={USER}", f"--regid={USER}", "--clear-groups", "env", program, "--version")[1]:
-        program = shutil.copy(program, folder / "achdesk")
+        program = str(shutil.copy(program, folder / "achdesk"))
     words, limit = command_of(program, path, port), bytes_of(unit("achdesk.service")["LimitAS"][0])
     with Started(words, port) as desk:
         checks.that("it listens on a port below 1024", desk.line, f"listening on {HOST}:{port}\n".encode())

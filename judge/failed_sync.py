@@ -266,7 +266,7 @@ def main():
             printed, status = it.run(f"cd {Path(__file__).resolve().parent} && exec /usr/bin/python3 failed_sync.py --inside {' '.join(words)}\n", 3600, disks=[disk])
         print(printed, end="")
         if status is None:
-            print("the machine did not end")
+            print("the machine did not end:", (Path(folder) / "console").read_text(errors="replace")[-2000:])
         sys.exit(0 if status == 0 else 1)
 
 

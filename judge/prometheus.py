@@ -59,8 +59,8 @@ TRIED = {
     "AchdeskSlow": ({ANSWERS % 504: "1x597 2x15"}, {ANSWERS % 504: "1x610"}),
     "AchdeskGuesses": ({ANSWERS % 403: "0+40x610"}, {ANSWERS % 403: "0+20x610", ANSWERS % 429: "0+50x610"}),
     "AchdeskCertificate": ({'probe_ssl_earliest_cert_expiry{job="achdesk"}': "1200000x610"}, {'probe_ssl_earliest_cert_expiry{job="achdesk"}': "1300000x610"}),
-    "AchdeskUnitFailed": ({'node_systemd_unit_state{name="achdesk-day@send.service",state="failed"}': "1x610"},
-                          {'node_systemd_unit_state{name="achdesk-day@send.service",state="failed"}': "0x610"}),
+    "AchdeskUnitFailed": ({'node_systemd_unit_state{name="achdesk-alarm.service",state="failed"}': "1 0 " * 305},
+                          {'node_systemd_unit_state{name="achdesk-alarm.service",state="failed"}': "0x597 1x1 0x10"}),
 }
 LINES = """2026-11-29T17:25:00+00:00 10.0.0.7 holder=operator:alice "POST /ops/cut" 200 received=210 sent=180 seconds=0.012 desk=200 id=81126b28ed86c6a042913c384c2d2e6f
 2026-11-29T17:25:01+00:00 10.0.0.8 holder=- "GET /\\"x 503 received=1" 403 received=9 sent=20 seconds=0.000 desk=- id=81126b28ed86c6a042913c384c2d2e70

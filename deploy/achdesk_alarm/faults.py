@@ -16,6 +16,10 @@ class Undelivered(Exception):
     """A receiver did not take an alarm."""
 
 
+class Unwanted(Undelivered):
+    """A receiver refused alarms for what they say, and would do so again."""
+
+
 def now() -> datetime.datetime:
     return datetime.datetime.now(datetime.timezone.utc)
 

@@ -13,11 +13,11 @@ import socket
 import ssl
 import sys
 import urllib.parse
-from collections.abc import Callable, Collection
+from collections.abc import Callable, Collection, Iterator
 from dataclasses import asdict, replace
 from pathlib import Path
 
-from achdesk_alarm.faults import Misused, Undelivered, now, plain
+from achdesk_alarm.faults import Misused, Undelivered, Unwanted, now, plain
 from achdesk_alarm.settings import Settings, secret
 from achdesk_alarm.waiting import Alarm, alone, remove, waiting, write_whole
 
@@ -44,20 +44,40 @@ def deliver_alone(settings: Settings, state: Path, second: Path) -> None:
     faults = settled([path for path, it in alarms.items() if has_all(it, configured)], alarms, configured, state)
     for name, send in configured.items():
         lacking = [path for path, it in alarms.items() if name not in it.delivered]
-        for at in range(0, len(lacking), MOST_ALARMS):
-            part = lacking[at:at + MOST_ALARMS]
-            try:
-                send(settings, [alarms[path] for path in part])
-            except (OSError, ValueError, smtplib.SMTPException, http.client.HTTPException, Undelivered, Misused) as fault:
-                faults.append(f"{name}: {fault or type(fault).__name__}")
-                break
-            alarms |= {path: replace(alarms[path], delivered=(*alarms[path].delivered, name)) for path in part}
-            faults += settled(part, alarms, configured, state)
+        try:
+            for part in given(send, settings, lacking, alarms):
+                alarms |= {path: replace(alarms[path], delivered=(*alarms[path].delivered, name)) for path in part}
+                faults += settled(part, alarms, configured, state)
+        except (OSError, ValueError, smtplib.SMTPException, http.client.HTTPException, Undelivered, Misused) as fault:
+            faults.append(f"{name}: {fault or type(fault).__name__}")
     left = len(list(waiting(state, second)))
     if left and not configured:
         raise Misused(f"{settings.path}: neither [mail] to nor [alertmanager] url is set, and {left} alarms wait")
     if faults:
         raise Undelivered(f"{left} alarms wait: {'; '.join(faults)}")
+
+
+def given(send: Send, settings: Settings, lacking: list[Path], alarms: dict[Path, Alarm]) -> Iterator[list[Path]]:
+    """Sends alarms to a receiver, and gives those that it has after each part. If it refuses a part for what it says, each alarm
+    of it is sent alone, and one that is refused alone without its text, so that it keeps no other one back."""
+    for at in range(0, len(lacking), MOST_ALARMS):
+        part = lacking[at:at + MOST_ALARMS]
+        try:
+            send(settings, [alarms[path] for path in part])
+            yield part
+        except Unwanted:
+            for path in part:
+                send_alone(send, settings, alarms[path])
+                yield [path]
+
+
+def send_alone(send: Send, settings: Settings, alarm: Alarm) -> None:
+    try:
+        send(settings, [alarm])
+    except Unwanted as fault:
+        print(f"achdesk-alarm: the text of an alarm of {alarm.source} was refused: {fault}", file=sys.stderr)
+        since = f"{alarm.at[:19]} UTC".replace("T", " ", 1)
+        send(settings, [replace(alarm, text=f"The text of this alarm was refused. It is in the log: journalctl -g ALARM --since '{since}'")])
 
 
 def has_all(alarm: Alarm, configured: Collection[str]) -> bool:
@@ -106,7 +126,12 @@ def send_mail(settings: Settings, alarms: list[Alarm]) -> None:
             if told["encryption"] == "none":
                 raise Misused(f"{settings.path}: [mail] sends no password without encryption")
             server.login(told["user"], secret(told["password"]))
-        if refused := server.send_message(mail):
+        try:
+            refused = server.send_message(mail)
+        except smtplib.SMTPDataError as fault:
+            answer = fault.smtp_error if isinstance(fault.smtp_error, str) else fault.smtp_error.decode(errors="replace")
+            raise (Unwanted if fault.smtp_code >= 500 else Undelivered)(f"{fault.smtp_code} {plain(answer)}") from None
+        if refused:
             raise Undelivered(f"refused for {', '.join(refused)}")
 
 
@@ -135,4 +160,5 @@ def post_alerts(settings: Settings, alarms: list[Alarm]) -> None:
         link.request("POST", f"{url.path}/api/v2/alerts", json.dumps(alerts).encode(), header)
         answer = link.getresponse()
         if answer.status != 200:
-            raise Undelivered(f"Alertmanager answered {answer.status} {plain(answer.read(200).decode(errors='replace'))}")
+            kind = Unwanted if answer.status == 400 else Undelivered
+            raise kind(f"Alertmanager answered {answer.status} {plain(answer.read(200).decode(errors='replace'))}")

@@ -43,6 +43,10 @@ def ack(day: Day) -> None:
             is_withheld = day.states().get(name, {}).get("did") == "withheld"
             day.alarm(f"the acknowledgement has {name}, which was {'withheld' if is_withheld else 'not transmitted from here'}")
             continue
+        if name in day.second_uploads():
+            day.alarm(f"the acknowledgement has {name}, which is being transmitted a second time, and may be of the first time. Run "
+                      "achdesk-day send, and give the list again afterwards")
+            continue
         path, own = fetched(day, name)
         own, accepted = copy_totals(day.states().get(name, {})) or own, accepted_totals(day, name)
         if totals not in (own, accepted):

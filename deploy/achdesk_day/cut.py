@@ -18,6 +18,7 @@ from achdesk_day.stops import Misused, NoAnswer, Refused, Rejected, Unavailable
 from achdesk_day.takeover import refuse_unconfirmed
 from achdesk_day.values import MODIFIERS, date_of, due_sums, money
 
+NOTHING_DUE = "nothing-due"  # a line of the journal: a cut of this day found nothing
 OLDER_DESK = "the desk, an older one, does not report how many files a cut makes"
 
 
@@ -31,7 +32,7 @@ def cut(day: Day) -> None:
     alarm_if_crowded(day, status)
     today, lost = day.local_now(), day.not_on_desk()
     if status.day != today.date() and not day.words.other_day:
-        if is_closed(day, today.date()):
+        if is_closed(day, status, today.date()):
             day.say(f"{today.date()} is not a banking day; nothing is cut")
             return
         advice = AHEAD if status.day and status.day > today.date() else "Run achdesk-day open, or cut by --other-day"
@@ -46,6 +47,7 @@ def cut(day: Day) -> None:
             compare_with_archive(day, name)
     if not any(it.due or it.lapsing for it in status.companies):
         day.say("nothing is due")
+        day.record(NOTHING_DUE, day=str(status.day))
     elif not day.dry:
         send_cut(day, status)
 

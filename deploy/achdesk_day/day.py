@@ -89,6 +89,11 @@ class Day(Run):
         """Returns the uploads that are not finished: for each file its newest line, of those in `OPEN`."""
         return {name: line for name, line in self.states().items() if line["did"] in OPEN}
 
+    def second_uploads(self) -> dict[str, Line]:
+        """Returns those of `send --again` that are not finished, of files that were transmitted before."""
+        return {name: line for name, line in self.open_uploads().items()
+                if "again" in line and (self.archived(name) or self.journal.last("sent", file=name))}
+
     def open_marks(self) -> dict[str, Line]:
         """Returns the marks that are not finished: for each file its line `marking`."""
         return {name: line for name, line in self.states().items() if line["did"] == "marking"}

@@ -6,6 +6,8 @@ import csv
 import datetime
 import re
 
+from achdesk import Status
+
 from achdesk_day.day import Day
 from achdesk_day.durable import given_bytes
 from achdesk_day.stops import Misused, Refused
@@ -66,11 +68,12 @@ def known_lists(day: Day) -> list[list[str]]:
     return lists + [[]]
 
 
-def is_closed(day: Day, today: datetime.date) -> bool:
-    """Whether the desk has refused this day because it is no banking day, by the list of holidays that it still has."""
+def is_closed(day: Day, status: Status, today: datetime.date) -> bool:
+    """Whether the desk has refused this day because it is no banking day, by the list of holidays that it still has. A list that
+    was set by other means since is known by its length alone."""
     for line in reversed(day.journal.lines):
         if line["did"] == "not-a-banking-day" and line["day"] == str(today):
-            return True
+            return today.weekday() >= 5 or line.get("holidays", status.holidays) == status.holidays
         if line["did"] in ("setting-holidays", "restored") and today.weekday() < 5:
             return False
     return False

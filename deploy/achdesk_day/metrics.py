@@ -165,7 +165,7 @@ def calendar_metrics(put: Put, day: Day, status: Status) -> None:
     """The metrics of today and of the holiday list, if the journal has the list that the desk has."""
     today = day.local_now().date()
     lists = [it for it in known_lists(day) if len(it) == status.holidays]
-    put("banking_day", int(today.weekday() < 5 and not is_closed(day, today) and all(str(today) not in it for it in lists)))
+    put("banking_day", int(today.weekday() < 5 and not is_closed(day, status, today) and all(str(today) not in it for it in lists)))
     if ends := [it[-1] for it in lists if it]:
         put("holidays_end_timestamp_seconds", midnight(min(ends)))
 

@@ -53,7 +53,7 @@ def open_day(day: Day) -> None:
         return
     day.begin(day.first_day(status) or wanted)
     day.record("opening", day=str(wanted))
-    set_day(day, wanted)
+    set_day(day, status, wanted)
 
 
 def refuse_jump(day: Day, status: Status, wanted: datetime.date) -> None:
@@ -77,12 +77,12 @@ def refuse_short_list(day: Day, status: Status, wanted: datetime.date) -> None:
                       "--short-holidays opens the day all the same")
 
 
-def set_day(day: Day, wanted: datetime.date) -> None:
+def set_day(day: Day, status: Status, wanted: datetime.date) -> None:
     try:
         day.desk.set_day(wanted)
     except Rejected as stop:
         if stop.name == "NotBankingDay":
-            day.record("not-a-banking-day", day=str(wanted))
+            day.record("not-a-banking-day", day=str(wanted), holidays=status.holidays)
             day.say(f"{wanted} is not a banking day; the desk day is as it was")
             return
         if stop.name != "DayNotLater":

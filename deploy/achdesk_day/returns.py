@@ -47,7 +47,7 @@ def is_banking_day(day: Day) -> bool:
         raise Refused("the desk has no day yet: run achdesk-day open")
     if status.day == today or day.words.other_day:
         return True
-    if is_closed(day, today):
+    if is_closed(day, status, today):
         day.say(f"{today} is not a banking day; nothing is taken")
         return False
     advice = AHEAD if status.day > today else "Run achdesk-day open; after a restore, returns --other-day"

@@ -10,6 +10,7 @@ from achdesk_day.approval import approvers_of
 from achdesk_day.archive import archive, fetched, found_remade
 from achdesk_day.day import Day
 from achdesk_day.durable import sha256
+from achdesk_day.journal import Line
 from achdesk_day.leave import has_standby, is_first, leave
 from achdesk_day.mark import finish_mark
 from achdesk_day.nacha import Totals
@@ -114,6 +115,7 @@ def transmit(day: Day, server: Server, name: str, is_again: bool = False) -> Non
         finish_mark(day, mark)
         return
     state = day.open_uploads().get(name)
+    again = {"again": True} if is_again or state and "again" in state else {}
     path, totals = fetched(day, name)
     if not state or state["did"] != "uploaded" or is_again:
         there, final = server.names(), server.name(name)
@@ -125,23 +127,28 @@ def transmit(day: Day, server: Server, name: str, is_again: bool = False) -> Non
                 raise Refused(f"the SFTP server has {final} already; it has to be taken away first")
             day.say(f"{name} is on the SFTP server")
         elif state and state["did"] == "renaming" and not is_again and final + ".part" not in there:
-            day.alarm(f"it is unclear whether {name} was transmitted: the upload of {state['at']} was interrupted, and "
-                      "neither name is on the SFTP server. Ask the ACH operator; then run achdesk-day ack or "
-                      f"achdesk-day mark {name} --transmitted if it arrived, or achdesk-day send --again {name}")
+            day.alarm(unclear_upload(name, state, name in day.second_uploads()))
             return
         else:
-            upload(day, server, path, name, totals)
-        day.record("uploaded", file=name)
+            upload(day, server, path, name, totals, **again)
+        day.record("uploaded", file=name, **again)
     archive(day, path, name, totals)
 
 
-def upload(day: Day, server: Server, path: Path, name: str, totals: Totals) -> None:
+def unclear_upload(name: str, state: Line, is_second: bool) -> str:
+    times, by_list = (" a second time", "") if is_second else ("", "achdesk-day ack or ")
+    return (f"it is unclear whether {name} was transmitted{times}: the upload of {state['at']} was interrupted, and neither name is on "
+            f"the SFTP server. Ask the ACH operator; then run {by_list}achdesk-day mark {name} --transmitted if it arrived, or "
+            f"achdesk-day send --again {name}")
+
+
+def upload(day: Day, server: Server, path: Path, name: str, totals: Totals, **again: bool) -> None:
     """Uploads a file under a temporary name, and gives it its name. The intent is on the standby before the server has
-    anything of the file."""
+    anything of the file, and says if a person had it transmitted again."""
     text = path.read_bytes()
     people = approvers_of(day, name, sha256(text))
     has_standby(day.settings)
-    day.record("sending", file=name, sha256=sha256(text), bytes=len(text), **totals.facts(), people=people)
+    day.record("sending", file=name, sha256=sha256(text), bytes=len(text), **totals.facts(), people=people, **again)
     try:
         if not is_first(day):
             day.record("not-sent", file=name, why="the standby knows of this transmission")
@@ -152,7 +159,7 @@ def upload(day: Day, server: Server, path: Path, name: str, totals: Totals) -> N
     except Unavailable as stop:
         day.record("not-sent", file=name, why=str(stop))
         raise Unavailable(f"{name} was not transmitted: {stop}") from None
-    day.record("renaming", file=name, sha256=sha256(text), bytes=len(text), **totals.facts())
+    day.record("renaming", file=name, sha256=sha256(text), bytes=len(text), **totals.facts(), **again)
     try:
         server.rename(server.name(name))
     except Unavailable as stop:

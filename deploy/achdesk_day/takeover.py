@@ -108,8 +108,17 @@ def show(day: Day) -> None:
         # What was transmitted in place of the desk's file is what the ACH operator may have.
         told, digest = line.get("copy", line), line.get("copy_sha256") or day.sent_digest(name)
         amounts = ", ".join(f"{told[it]} {it}" for it in ("batches", "entries", "debits", "credits") if it in told)
-        day.say(f"  {name}  {line.get('did', 'archived')} {line.get('at', '')}  {amounts}  SHA-256 {digest}")
+        day.say(f"  {name}  {line.get('did', 'archived')} {line.get('at', '')}  {amounts}  SHA-256 {digest}{transmitted_before(day, name)}")
     day.say("and whether it has any other file of these days: achdesk-day confirm --no-other --by NAME")
+
+
+def transmitted_before(day: Day, name: str) -> str:
+    """Says of a file whose upload was begun that it was transmitted before."""
+    if name not in day.second_uploads():
+        return ""
+    sent = day.journal.last("sent", file=name)
+    when = f", on {sent['at']}" if sent else ""
+    return f"  transmitted before{when}: ask whether the ACH operator has it once or twice"
 
 
 def confirm_all(day: Day) -> None:

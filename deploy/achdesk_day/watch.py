@@ -6,7 +6,7 @@ import datetime
 
 from achdesk import Status
 
-from achdesk_day.cut import OLDER_DESK, alarm_if_crowded
+from achdesk_day.cut import NOTHING_DUE, OLDER_DESK, alarm_if_crowded
 from achdesk_day.day import Day
 from achdesk_day.incoming import arrived
 from achdesk_day.late import text_of, undecided
@@ -36,10 +36,12 @@ def watch(day: Day) -> None:
 
 
 def not_cut(day: Day, status: Status) -> None:
-    """Something is due, and the desk day has no file after the cut-off time or the window: the timer of a machine that was off
-    does not cut later."""
+    """Something is due, and nobody has cut on the desk day until the cut-off time or the window: the timer of a machine that was
+    off does not cut later. What comes after a cut, also after one that found nothing due, waits for the next day's."""
     end, today = day.settings.time("bank", "cut_off") or day.settings.time("sftp", "window"), day.local_now()
-    if end and status.day == today.date() and today.time() >= end and not status.files and any(it.due for it in status.companies):
+    nothing = day.journal.unfinished(NOTHING_DUE, "restored")
+    is_cut = bool(status.files) or nothing is not None and nothing["day"] == str(status.day)
+    if end and status.day == today.date() and today.time() >= end and not is_cut and any(it.due for it in status.companies):
         day.alarm(f"nothing was cut on {status.day} until {end:%H:%M}, and something is due: achdesk-day cut --late")
 
 

@@ -31,7 +31,8 @@ numbers."""),
     "holidays": ("set the list of holidays", """
 Sets the holidays of the Federal Reserve of the years FROM to TO, or those of a FILE with one date YYYY-MM-DD in each
 line, ascending. The list takes the place of the desk's; of its days before FROM those within 60 days stay. Refuses to drop a day within 60 days of today, and to replace
-a list that the journal does not have. At most 400 days."""),
+a list that the journal does not have. At most 400 days. A list that was set by other means is noticed by its length
+alone: if open has refused today by the old one, run open again."""),
     "fetch": ("get incoming files from the ACH operator", """
 Gets each file of [fetch] folder on the ACH operator's SFTP server into the inbox: under a temporary name, whole, and
 once. A file with the bytes of one that was fetched before under its name is left out. The server's file is kept,
@@ -64,7 +65,8 @@ after sudo."""),
 After a restore or a takeover cut and send refuse until a person has asked the ACH operator which files of the last
 days it has. Without arguments it lists these files. FILE with --transmitted or --not-transmitted records the answer
 for one of them, and --no-other, at the end, that the ACH operator has no other file. A file that it does not have is
-transmitted by the next send, if the desk has it."""),
+transmitted by the next send, if the desk has it. If send --again was interrupted, the list says when the file was
+transmitted before: it is transmitted if the ACH operator has either copy."""),
     "mark": ("record what became of a file outside this program", """
 Records that FILE, as 2025-01-08-A, was transmitted by other means (--transmitted), that another file was transmitted
 in its place, such as a copy without a wrong payroll (--transmitted-as COPY), or that the bank does not transmit it
@@ -107,8 +109,8 @@ bank did about one; the desk keeps the item."""),
 Prints the late returns of which the bank can still decide, within five banking days, from a copy of the desk's file.
 Each is an alarm until then, or until --close N --note TEXT records in the journal what the bank decided."""),
     "watch": ("raise alarms for what is late", """
-Raises an alarm if something is due and nothing was cut by the cut-off time; for files that are not transmitted after
-the window, that are not acknowledged in time, or of which the journal says something else than the archive; if no
+Raises an alarm if something is due and no cut ran by the cut-off time, be it one that found nothing due; for files that are
+not transmitted after the window, that are not acknowledged in time, or of which the journal says something else than the archive; if no
 incoming file has come by the configured time, or one waits in the inbox; and if a cut would make a quarter of the day's
 files. The settings are [bank] cut_off, [sftp] window and [alarm]. A timer runs it."""),
     "metrics": ("print metrics as Prometheus text", """

@@ -34,6 +34,28 @@ class Cutting(TestCase):
         self.does("cut", status=1, says="Run achdesk-day open")
         self.does("cut", "--dry-run", "--other-day", says="due MILL01")
 
+    def test_a_payment_after_a_cut_that_found_nothing_due_waits_for_the_next_one(self) -> None:
+        self.bank.configure(bank={"cut_off": "16:30"})
+        self.opened()
+        self.does("cut", "--dry-run", says="nothing is due")
+        self.bank.at(MON, 22)
+        self.does("watch", says="nothing is late")
+        self.bank.desk.due = [100]
+        self.does("watch", status=1, says="nothing was cut on 2025-01-13 until 16:30, and something is due")
+        self.bank.at(MON, 21)
+        self.bank.desk.due = []
+        self.does("cut", says="nothing is due")
+        self.bank.at(MON, 22)
+        self.bank.desk.due = [100]
+        self.does("watch", says="nothing is late")
+        with open(self.bank.state / "day.journal", "a") as journal:
+            journal.write('{"at": "2025-01-13T22:00:00.000Z", "by": "root", "did": "restored", "began": "2025-01-13T10:00:00.000Z"}\n')
+        self.does("watch", status=1, says="nothing was cut on 2025-01-13 until 16:30, and something is due")
+        self.bank.at(TUE)
+        self.does("open", says=str(TUE))
+        self.bank.at(TUE, 22)
+        self.does("watch", status=1, says="nothing was cut on 2025-01-14 until 16:30, and something is due")
+
     def test_the_number_of_files_is_the_desk_s(self) -> None:
         self.opened(100, 200)
         self.bank.desk.many_files = 8

@@ -2,8 +2,12 @@
 
 from __future__ import annotations
 
+import contextlib
+import email.message
 import json
+import smtplib
 import unittest
+from collections.abc import Callable
 from pathlib import Path
 from unittest import mock
 
@@ -91,6 +95,40 @@ class Waiting(Case):
         with mock.patch("smtplib.SMTP", lambda *_, **__: server):
             receivers.deliver(self.settings("[mail]\nto = a@bank.example\nencryption = none\n"), self.state, self.second)
         self.assertIn(b"restic: ??", server.send_message.call_args.args[0].as_bytes())
+
+    def test_a_text_that_a_mail_server_refuses_keeps_no_other_mail_back(self) -> None:
+        """The others arrive, and in place of the text a mail that says where it is."""
+        for text in ("a file was late", "the body has a VIRUS", "a file was refused"):
+            self.put(text)
+            self.moment += MINUTE
+        self.assertEqual(([], ["a file was late", "is in the log", "a file was refused"]), self.mailed(lambda text: "VIRUS" in text, 552))
+        self.put("the next one")
+        self.assertEqual(([], ["the next one"]), self.mailed(lambda text: "VIRUS" in text, 552))
+
+    def test_a_mail_server_that_refuses_every_text_or_for_a_time_gets_each_again(self) -> None:
+        for code in (554, 451):
+            for text in ("a file was late", "a file was refused"):
+                self.put(text)
+            left, got = self.mailed(lambda text: True, code)
+            self.assertEqual((2, []), (len(left), got))
+            self.assertEqual(([], ["a file was late", "a file was refused"]), self.mailed(lambda text: False, code))
+
+    def mailed(self, is_refused: Callable[[str], bool], code: int) -> tuple[list[waiting.Alarm], list[str]]:
+        """Delivers to a mail server that refuses some texts. Returns what waits then, and which of the known texts arrived."""
+        texts: list[str] = []
+
+        def data(mail: email.message.EmailMessage) -> dict[str, str]:
+            text = mail.get_content()
+            if is_refused(text):
+                raise smtplib.SMTPDataError(code, b"refused")
+            texts.append(text)
+            return {}
+
+        server, known = mock.MagicMock(), ("a file was late", "a file was refused", "is in the log", "VIRUS", "the next one")
+        server.send_message = data
+        with mock.patch("smtplib.SMTP", lambda *_, **__: server), contextlib.suppress(Undelivered):
+            receivers.deliver(self.settings("[mail]\nto = a@bank.example\nencryption = none\n"), self.state, self.second)
+        return self.raised(), [it for text in texts for it in known if it in text]
 
     def test_alertmanager_gets_no_end_before_its_beginning(self) -> None:
         posted: list[dict[str, str]] = []

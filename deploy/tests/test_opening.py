@@ -64,6 +64,20 @@ class Opening(TestCase):
         self.does("open", says=str(TUE))
         self.does("cut", says="A")
 
+    def test_so_does_a_list_that_was_corrected_by_other_means(self) -> None:
+        self.opened(100)
+        saturday = MON + datetime.timedelta(5)
+        for today in (TUE, saturday):
+            self.bank.desk.closed |= {today}
+            self.bank.at(today)
+            self.does("open", says="is not a banking day")
+        self.bank.desk.holidays += 1  # by the console
+        self.does("metrics", says="achdesk_banking_day 0")
+        self.does("cut", says="2025-01-18 is not a banking day; nothing is cut")
+        self.bank.at(TUE)
+        self.does("metrics", says="achdesk_banking_day 1")
+        self.does("cut", status=1, says="Run achdesk-day open")
+
     def test_a_file_of_an_earlier_day_has_to_be_transmitted(self) -> None:
         self.opened(100)
         self.does("cut")

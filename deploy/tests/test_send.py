@@ -132,6 +132,36 @@ class Sending(TestCase):
             step += 1
         self.does("send", says=f"sent {A}")
 
+    def test_a_second_transmission_is_recorded_as_one_also_by_the_send_that_goes_on_with_it(self) -> None:
+        self.cut(100)
+        self.bank.server.is_quick = True
+        self.does("send")
+        step = 1
+        while len(self.bank.journal("sending")) < 2:
+            self.bank.run("send", "--again", A, kill_at=step)
+            step += 1
+        self.bank.server.fails["rename"] = [Unavailable("the connection was cut")]
+        self.does("send", status=3, says="perhaps not renamed")
+        self.assertEqual([None, True, True], [it.get("again") for it in self.bank.journal("sending")])
+        del self.bank.server.folder[f"{A}.ach.part"]
+        self.does("send", status=1, says=f"it is unclear whether {A} was transmitted a second time")
+
+    def test_an_acknowledgement_of_the_first_transmission_is_not_taken_for_one_of_the_second(self) -> None:
+        self.cut(100)
+        self.bank.server.is_quick = True
+        self.does("send")
+        ack = self.bank.folder / "ack.csv"
+        ack.write_text(f"file,batches,entries,debits,credits\n{A},1,1,0,100\n")
+        self.does("ack", str(ack), says=f"acknowledged {A}")
+        self.bank.server.fails["rename"] = [Unavailable("the connection was cut")]
+        self.does("send", "--again", A, "--though-acknowledged", status=3, says="perhaps not renamed")
+        del self.bank.server.folder[f"{A}.ach.part"]
+        self.does("ack", str(ack), status=1, says=f"the acknowledgement has {A}, which is being transmitted a second time")
+        said = self.does("send", status=1, says=f"it is unclear whether {A} was transmitted a second time")
+        self.assertNotIn("achdesk-day ack", said)
+        self.does("mark", A, "--transmitted", says="marked")
+        self.does("ack", str(ack), says=f"acknowledged {A}")
+
     def test_send_tries_again_until_the_window_closes(self) -> None:
         self.cut(100)
         self.bank.configure(sftp={"window": "16:00", "retry": "0"})

@@ -62,6 +62,36 @@ class Afternoon(TestCase):
         self.does("send", says="to transmit: nothing")
 
 
+class TransmittedBefore(TestCase):
+    def test_a_person_is_shown_that_an_upload_that_was_begun_is_a_second_one(self) -> None:
+        for at in range(1, 30):
+            with self.subTest(f"send --again at step {at}"):
+                if not self.lost_in_a_second_upload(at):
+                    return
+        self.fail("send --again has no end")
+
+    def lost_in_a_second_upload(self, step: int) -> bool:
+        """Loses the machine at a step of `send --again`. Returns whether there was one."""
+        shutil.rmtree(self.folder)
+        self.folder.mkdir()
+        self.bank = Bank(self.folder)
+        self.bank.server.is_quick = True
+        self.opened(100)
+        self.does("cut")
+        self.does("send")
+        is_killed = self.bank.run("send", "--again", A, kill_at=step)[0] == -9
+        self.bank.take_over()
+        self.does("send", status=1, says="the journal is another machine's")
+        is_begun = self.bank.journal("sending", "renaming", "uploaded", "sent")[-1]["did"] != "sent"
+        shown = "transmitted before, on 2025-01-13T14:00:00.000Z: ask whether the ACH operator has it once or twice"
+        self.assertEqual(is_begun, shown in self.does("confirm"))
+        self.assertEqual([None, True][:1 + is_begun], [it.get("again") for it in self.bank.journal("sending")][:1 + is_begun])
+        self.does("confirm", A, "--transmitted", "--by", "ANN", says="confirmed")
+        self.does("confirm", "--no-other", "--by", "ANN")
+        self.does("send", says="to transmit: nothing")
+        return is_killed
+
+
 class Restoring(TestCase):
     def test_cut_and_send_refuse_after_a_restore_until_all_is_confirmed(self) -> None:
         self.opened(100)

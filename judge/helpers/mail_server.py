@@ -1,7 +1,7 @@
 """A mail server that keeps what it is sent: `/usr/bin/python3 judge/helpers/mail_server.py PORT FOLDER CERTIFICATE KEY USER PASSWORD`.
 
 It is Debian's python3-aiosmtpd. Without a certificate (-) it has no STARTTLS; otherwise it takes mail only after STARTTLS and from USER. Each mail
-is a file of FOLDER. It prints a line once it listens."""
+is a file of FOLDER. It refuses a mail with the word EICAR for its content. It prints a line once it listens."""
 
 import ssl
 import sys
@@ -17,6 +17,8 @@ class Keeper:
         self.folder = Path(folder)
 
     async def handle_DATA(self, server, session, envelope):
+        if b"EICAR" in envelope.content:
+            return "552 5.7.0 found EICAR"
         number = len(list(self.folder.iterdir()))
         (self.folder / f"{number:04}.eml").write_bytes(f"X-To: {','.join(envelope.rcpt_tos)}\r\n".encode() + envelope.content)
         return "250 kept"

@@ -87,6 +87,9 @@ class Proxy:
         self.make_certificate()
         self.write_keys(people, companies, desk)
         shutil.copy(TOP / "deploy" / "operators.conf", self.folder)
+        if console == TOP:  # which nginx's workers may not reach: they are not root
+            console = self.folder
+            shutil.copytree(TOP / "console", console / "console")
         (self.folder / "site.conf").write_text(site(self.folder, self.port, desk_port, console, seconds, tls, changes))
         temporary = "".join(f"{it}_temp_path {self.folder}/{it};" for it in TEMPORARY)
         self.main = self.folder / "nginx.conf"

@@ -2,6 +2,7 @@
 
 The kernel is Debian's package user-mode-linux. It has a clock, a device mapper and users of its own as the virtual machine of helpers/machine.py has,
 and its programs run at the speed of this machine, also without KVM. It needs busybox-static too. Its memory is a file in TMPDIR.
+Debian 12's does not start on a processor with AMX, whose registers it has no room for (`ptrace set fp regs failed`).
 """
 
 import os
