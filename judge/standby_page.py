@@ -5,12 +5,15 @@ PROGRAM is the built program if it is left out. Both machines run Debian 12 with
 commands of the page are run on them as printed, in their order, with the files that the package installs: DRBD, Pacemaker with
 Corosync, the desk behind nginx at the address of the page. A management controller of the judge stands in for real ones: the
 shipped `fence_redfish` asks it, and it kills the machine or starts it. Under load of companies and an operator the desk is
-moved on purpose, the machine that serves is killed, and its networks are cut; Pacemaker alone decides who serves. At the end
-stock SQLite finds each receipt and each file in the file of both disks, and nothing twice.
+moved on purpose, and back to a machine on which the proxy's first start fails; the machine that serves is killed, and its
+networks are cut; Pacemaker alone decides who serves. At the end stock SQLite finds each receipt and each file in the file of
+both disks, and nothing twice.
 
 IMAGE is an ext4 file system with Debian's packages that the page installs, which `--make-image` makes by debootstrap first, in
-some minutes, from the mirror of this machine. The status is 1 if something is wrong, and 2 if something is missing, which is
-named. It needs root, and what judge/standby.py needs, debootstrap, iproute2, openssl and qemu-utils.
+some minutes, from the mirror of this machine. `--patience N` is for emulated machines on a busy host: it multiplies the timeouts
+and intervals of the installed files and the pauses of the companies by N, and the timers that run every few minutes run once a day.
+The status is 1 if something is wrong, and 2 if something is missing, which is named. It needs root, and what judge/standby.py
+needs, debootstrap, iproute2, openssl and qemu-utils.
 """
 
 import argparse
@@ -51,6 +54,7 @@ def tried(trial: Trial, kills: int) -> None:
     trial.set_up()
     trial.begin_load()
     trial.move()
+    trial.move_with_a_failed_start()
     for _ in range(kills):
         trial.kill()
     trial.cut_networks()
@@ -63,6 +67,7 @@ def main() -> None:
     parser.add_argument("--image", required=True, type=Path)
     parser.add_argument("--make-image", action="store_true")
     parser.add_argument("--kills", type=int, default=2)
+    parser.add_argument("--patience", type=int, default=1, metavar="N", help="1: the shipped files as they are")
     parser.add_argument("--seed", type=int, default=int(time.time()))
     parser.add_argument("--keep", action="store_true", help="keeps the folder with the consoles of both machines")
     given = parser.parse_args()
@@ -72,16 +77,16 @@ def main() -> None:
         sys.exit(2)
     if "STANDBY_PAGE" not in os.environ:  # from here on in a network of its own
         program = program_of([given.program] if given.program else [])
-        words = [it for it in sys.argv[1:] if it != given.program]
+        if given.make_image:
+            make_image(given.image)
+        words = [it for it in sys.argv[1:] if it not in (given.program, "--make-image")]
         os.execvpe("unshare", ["unshare", "--net", sys.executable, __file__, program, *words], os.environ | {"STANDBY_PAGE": "1"})
     print(f"seed {given.seed}", flush=True)
     folder = Path(tempfile.mkdtemp(prefix="standby-page-", dir="/var/tmp"))
     trial = None
     try:
-        if given.make_image:
-            make_image(given.image)
         cluster_machine.connect_networks()
-        trial = Trial(folder, given.image.resolve(), package(given.program, folder), given.seed)
+        trial = Trial(folder, given.image.resolve(), package(given.program, folder), given.seed, given.patience)
         tried(trial, given.kills)
     except (Wrong, Gone) as fault:
         print(f"FAILED  {fault}", flush=True)

@@ -2,7 +2,8 @@
 """The check of a replicated device, `deploy/standby/achdesk-standby`, on texts of /proc/drbd: `python3 judge/standby_states.py`.
 
 The texts are those of DRBD 8.4.11 on Debian 12, in each state that a machine passes through. Also: the group of
-`deploy/standby/cluster.crm` has each shipped timer and each folder of the page. No machine is needed.
+`deploy/standby/cluster.crm` has each shipped timer and each folder of the page, and writes wait for as long as fencing may take.
+No machine is needed.
 """
 
 import re
@@ -31,6 +32,7 @@ STATES = (
     ("no device", "", None, (0, 0, 0, 0, 0)),
     ("another device alone", " 1: cs:Connected ro:Primary/Secondary ds:UpToDate/UpToDate C r-----", 0, (0, 0, 0, 0, 0)),
 )
+ATTEMPTS = 10  # to fence, by Pacemaker's default
 ORDER = ["files", "desk", "proxy", "address", "alarms", "timer"]  # of the kinds of the group's members
 NAMES = ("serving", "connected", "disk_up_to_date", "peer_up_to_date", "behind_bytes")
 
@@ -91,9 +93,19 @@ def check_group(checks):
     checks.that("folders come before the desk, the desk before its timers", [it.split("-")[0] for it in members], sorted((it.split("-")[0] for it in members), key=ORDER.index))
 
 
+def check_fencing(checks):
+    """A machine that writes and has lost its peer waits for longer than all attempts of Pacemaker to switch one of both off."""
+    folder = TOP / "deploy" / "standby"
+    handler = re.search(r'fence-peer +"\S+ --timeout=(\d+) --dc-timeout=(\d+)"', (folder / "achdesk.res").read_text())
+    attempt = re.search(r"stonith-timeout=(\d+)s", (folder / "cluster.crm").read_text())
+    checks.that("writes wait for fencing", bool(handler) and int(handler[1]) > ATTEMPTS * int(attempt[1]), True)
+    checks.that("and for the cluster to elect who decides", bool(handler) and int(handler[2]) > int(handler[1]), True)
+
+
 def main():
     checks = Checks()
     check_group(checks)
+    check_fencing(checks)
     with tempfile.TemporaryDirectory() as name:
         check_states(checks, Path(name) / "drbd")
         check_files(checks, Path(name), Path(name) / "drbd")

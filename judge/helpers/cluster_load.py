@@ -18,9 +18,9 @@ LATER = (429, 502, 503, 504)  # the same is asked again
 class ProxyLoad(Load):
     """The load, over TLS, whose handshakes cost an emulated processor so much that each company waits between two submissions."""
 
-    def __init__(self, address: str, certificate: Path, seed: int):
+    def __init__(self, address: str, certificate: Path, seed: int, patience: int):
         super().__init__([443], seed, patience=60)
-        self.address, self.context = address, ssl.create_default_context(cafile=str(certificate))
+        self.pause, self.address, self.context = patience, address, ssl.create_default_context(cafile=str(certificate))
 
     def once(self, port: int, method: str, target: str, body: str | None, key: str, seconds: float) -> tuple[int, bytes] | None:
         link = http.client.HTTPSConnection(self.address, port, timeout=seconds, context=self.context)
@@ -36,14 +36,14 @@ class ProxyLoad(Load):
 
     def submit(self) -> None:
         super().submit()
-        self.over.wait(self.random.uniform(0.5, 2))
+        self.over.wait(self.pause * self.random.uniform(0.5, 2))
 
 
 class Desk:
     """The desk at its address."""
 
-    def __init__(self, address: str, certificate: Path, seed: int):
-        self.load: Any = ProxyLoad(address, certificate, seed)
+    def __init__(self, address: str, certificate: Path, seed: int, patience: int = 1):
+        self.load: Any = ProxyLoad(address, certificate, seed, patience)
         self.random, self.looked = random.Random(seed), set[Any]()
 
     def key_lists(self) -> dict[str, str]:
@@ -67,6 +67,11 @@ class Desk:
                 return f"a write answered after {came[0] - began:.1f} s"
             must("a write is answered", time.monotonic() < until and not self.load.failure)
             time.sleep(0.1)
+
+    def silence(self, since: float) -> float:
+        """The longest time since an instant in which no write was answered."""
+        times = [since] + [at for at, _, status in list(self.load.answers) if at > since and status < 300]
+        return max(later - earlier for earlier, later in zip(times, times[1:]))
 
     def look(self) -> int:
         receipts, files = list(self.load.receipts), list(self.load.files)

@@ -155,7 +155,7 @@ class Controller:
     """The management controller of a machine: as much of Redfish as `fence_redfish` asks for, a stand-in for a real one."""
 
     def __init__(self, its: ClusterMachine, address: str, certificate: Path):
-        self.machine, self.off_at, self.is_starting = its, 0.0, False
+        self.machine, self.fenced_at = its, list[float]()
         outer = self
 
         class Handler(http.server.BaseHTTPRequestHandler):
@@ -191,6 +191,7 @@ class Controller:
     def reset(self, asked: str) -> None:
         if asked in ("ForceOff", "ForceRestart"):
             self.machine.lose_power()
-            self.off_at = time.monotonic()
+        if self.machine.process is None:  # now, or before: then the agent asks for power alone
+            self.fenced_at.append(time.monotonic())
         if asked in ("On", "ForceRestart") and self.machine.process is None:
             threading.Thread(target=self.machine.start, daemon=True).start()

@@ -37,6 +37,27 @@ ln -s /etc/nginx/sites-available/achdesk /etc/nginx/sites-enabled/achdesk
 """
 
 
+# A start of the proxy that fails once.
+FAILS_ONCE = """\
+mkdir -p /run/systemd/system/nginx.service.d
+printf '[Service]\\nExecStartPre=/bin/sh -c "test -e /run/failed-once || ! touch /run/failed-once"\\n' > /run/systemd/system/nginx.service.d/judge.conf
+systemctl daemon-reload
+"""
+SHIPPED = Path("/usr/share/achdesk/standby")
+# What --patience multiplies in each shipped file: timeouts, and the intervals at which resources are looked at, which cost an
+# emulated processor much. DRBD accepts no `timeout` above its own intervals.
+SECONDS = {"cluster.crm": r"(?:timeout|priority-fencing-delay|monitor interval)=(\d+)s", "corosync.conf": r"\btoken: (\d+)", "achdesk.res": r"\b(?:timeout|ping-int|ping-timeout|connect-int) +(\d+);"}
+# With --patience the timers that run often, and start Python each time, run once a day.
+OFTEN = ("achdesk-alarm", "achdesk-backup", "achdesk-day-fetch", "achdesk-day-metrics", "achdesk-day-returns", "achdesk-day-watch", "achdesk-guard", "achdesk-standby")
+DAILY = f"""\
+for name in {" ".join(OFTEN)}; do
+    mkdir -p /etc/systemd/system/$name.timer.d
+    printf '[Timer]\\nOnCalendar=\\nOnCalendar=daily\\n' > /etc/systemd/system/$name.timer.d/judge.conf
+done
+systemctl daemon-reload
+"""
+
+
 @dataclass(frozen=True)
 class Block:
     """Commands of the page, on both machines or on desk1, and the heading below which they are."""
@@ -61,19 +82,25 @@ def blocks() -> list[Block]:
     return found
 
 
+def lengthened(name: str, factor: int) -> str:
+    """A shipped file with so many times its seconds."""
+    text = (TOP / "deploy" / "standby" / name).read_text()
+    return re.sub(SECONDS[name], lambda it: it[0].replace(it[1], str(factor * int(it[1]))), text)
+
+
 def say(text: str) -> None:
     print(f"ok      {text}", flush=True)
 
 
 class Trial:
-    def __init__(self, work: Path, image: Path, package: Path, seed: int):
-        self.work, self.package = work, package
+    def __init__(self, work: Path, image: Path, package: Path, seed: int, patience: int = 1):
+        self.work, self.package, self.patience = work, package, patience
         (work / "kernel").write_bytes(standby_root.kernel_image())
         (work / "start").write_bytes(cluster_machine.archive())
         self.machines = [ClusterMachine(work, number, image, DISK) for number in (1, 2)]
         self.certificate = self.make_certificate()
         self.controllers = [Controller(it, f"192.0.2.20{it.number}", self.certificate) for it in self.machines]
-        self.check, self.desk = shipped_check(), Desk(ADDRESS, self.certificate, seed)
+        self.check, self.desk = shipped_check(), Desk(ADDRESS, self.certificate, seed, patience)
         self.blocks = blocks()
         handler = functools.partial(Quiet, directory=str(package.parent))
         self.server = http.server.ThreadingHTTPServer((GATE, 8000), handler)
@@ -118,6 +145,7 @@ class Trial:
         name = self.package.name
         both(lambda it: self.fetch(it, name), self.machines)
         self.step("Set up", "number=880")
+        both(self.lengthen, self.machines)
         self.step("Set up", "sed 's|/dev/achdesk/data|")
         self.step("Set up", "drbdadm primary --force")
         self.create_desk()
@@ -136,6 +164,13 @@ class Trial:
     def fetch(self, machine: ClusterMachine, name: str) -> None:
         """Gets the package from a web server of the judge."""
         machine.script(f"curl -sS -o /root/{name} http://{GATE}:8000/{name}")
+
+    def lengthen(self, machine: ClusterMachine) -> None:
+        """Gives the machine more time in the files that the package has installed."""
+        if self.patience > 1:
+            for name in SECONDS:
+                self.put(machine, str(SHIPPED / name), lengthened(name, self.patience).encode(), 0o644)
+            machine.script(DAILY)
 
     def create_desk(self) -> None:
         """Step 4, as the page about the installation says."""
@@ -183,21 +218,44 @@ class Trial:
             if all(it.is_whole for it in devices) and self.are_online():
                 return
             must(f"both disks have all writes: {devices}", time.monotonic() < until)
-            time.sleep(2)
+            time.sleep(5)
 
     def begin_load(self) -> None:
         self.wait_until_whole()
         self.desk.load.begin()
 
     def move(self) -> None:
-        """The desk is moved by the commands of the page, from the machine that serves to the other one and back."""
+        """The desk is moved by the commands of the page, from the machine that serves to the other one."""
+        self.wait_until_whole()
         before, began = self.serving(), time.monotonic()
-        target = next(it for it in self.machines if it is not before)
+        target = self.other_than(before)
         block = next(it for it in self.blocks if it.heading == "Move the desk")
-        before.script(block.text.replace("desk2", target.name), 900)
+        before.script(block.text.replace("desk2", target.name), 1800)
         must("the desk has moved", self.serving() is target)
-        answered = self.desk.wait_for_answer(began, began)
-        say(f"moved to {target.name}: {answered}; {self.desk.look()} looked at")
+        moved = time.monotonic()
+        self.desk.wait_for_answer(moved, began)
+        say(f"moved to {target.name} after {moved - began:.0f} s: no write answered for {self.desk.silence(began):.0f} s; {self.desk.look()} looked at")
+
+    def other_than(self, machine: ClusterMachine) -> ClusterMachine:
+        return next(it for it in self.machines if it is not machine)
+
+    def move_with_a_failed_start(self) -> None:
+        """The first start of the proxy fails on the machine to which the desk moves: it is started again there."""
+        target = self.other_than(self.serving())
+        target.script(FAILS_ONCE)
+        must("start-failure-is-fatal", target.run("crm_attribute --query --name start-failure-is-fatal --quiet"), "false")
+        self.move()
+        target.run("test -e /run/failed-once")
+        count = target.run(f"crm_failcount --query --resource proxy --node {target.name} --quiet || true")
+        must("one failure of the proxy is counted", count, "1")
+        target.run("rm /run/systemd/system/nginx.service.d/judge.conf; systemctl daemon-reload; crm_resource --cleanup --resource proxy")
+        say(f"a first start that failed on {target.name} did not forbid it")
+
+    def fenced(self, machine: ClusterMachine, since: float) -> float:
+        """Seconds from an instant until the cluster first asked the machine's controller to switch it."""
+        came = [at for at in self.controllers[machine.number - 1].fenced_at if at > since]
+        must(f"{machine.name} is fenced", bool(came))
+        return came[0] - since
 
     def kill(self) -> None:
         self.wait_until_whole()
@@ -207,7 +265,7 @@ class Trial:
         lost.lose_power()
         answered = self.desk.wait_for_answer(began + 1, began)
         must("the other machine serves", self.serving() is not lost)
-        say(f"{lost.name} was killed: {answered}; {self.desk.look()} looked at; fenced after {self.controllers[lost.number - 1].off_at - began:.1f} s")
+        say(f"{lost.name} was killed: {answered}; {self.desk.look()} looked at; fenced after {self.fenced(lost, began):.0f} s")
         self.wait_until_whole()
         say(f"{lost.name} came back by itself: both disks have all writes after {time.monotonic() - began:.0f} s")
 
@@ -218,7 +276,7 @@ class Trial:
         began = time.monotonic()
         lost.plug(False)
         answered = self.desk.wait_for_answer(began + 2, began)
-        say(f"{lost.name} was cut off: {answered}; {self.desk.look()} looked at; fenced after {self.controllers[lost.number - 1].off_at - began:.1f} s")
+        say(f"{lost.name} was cut off: {answered}; {self.desk.look()} looked at; fenced after {self.fenced(lost, began):.0f} s")
         lost.plug(True)
         self.wait_until_whole()
 
