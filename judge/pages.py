@@ -48,6 +48,9 @@ NOT_RUN = (
     ("sudo install -m 600 new-key.pem", "it needs a certificate", "judge/deploy.py, with a certificate of its own"),
     ("sudo nginx -t", "it needs nginx as root", "judge/deploy.py runs nginx with deploy/nginx.conf"),
     ("cp -a /var/lib/achdesk-standby", "it needs a standby", "judge/backups.py, which runs it"),
+    ("rsync -a /etc/achdesk", "it needs a standby", "none"),
+    ("chown -R achdesk-day", "it needs the users of the package", "none"),
+    ("systemctl stop 'achdesk-day-*.timer'", "it needs systemd, and nginx as root", "none"),
     ("sudo systemctl enable systemd-time-wait-sync", "it needs systemd", "judge/deploy.py looks at the unit"),
     ("sudo systemctl enable --now achdesk-alarm.path", "it needs systemd", "judge/units.py starts both"),
     ("echo 'This is a test.'", "it needs the user achdesk-alarm", "judge/alarms.py and judge/units.py"),
@@ -88,6 +91,7 @@ IN_TEXT = (
     ("systemctl daemon-reload", "it needs systemd", "none"),
     ("systemctl disable --now achdesk", "it needs systemd", "none"),
     ("systemctl edit", "it needs systemd", "judge/deploy.py verifies the units"),
+    ("systemctl stop 'achdesk-*.timer'", "it needs systemd", "none"),
     ("systemctl start achdesk-backup@", "it needs systemd", "judge/units.py"),
     ("systemctl status", "it needs systemd", "none"),
 )

@@ -13,6 +13,7 @@ from achdesk_day.archive import found_remade
 from achdesk_day.day import OTHER_BYTES, Day
 from achdesk_day.durable import sha256
 from achdesk_day.holidays import is_closed
+from achdesk_day.journal import Line
 from achdesk_day.opening import AHEAD
 from achdesk_day.stops import Misused, NoAnswer, Refused, Rejected, Unavailable
 from achdesk_day.takeover import refuse_unconfirmed
@@ -40,16 +41,56 @@ def cut(day: Day) -> None:
     cut_off = day.settings.time("bank", "cut_off")
     if cut_off and status.day == today.date() and today.time() >= cut_off and not day.words.late:
         raise Refused(f"it is {today:%H:%M}, past the cut-off time {cut_off:%H:%M}; --late cuts all the same")
-    if lost and not (day.words.remake and lost[0][0][:10] == str(status.day)):
+    if lost and not (day.words.remake and makes_again(day, status, lost)):
         day.refuse_lost(lost, "a cut")
     for name in (name for name, why in lost if why == OTHER_BYTES):
         if not day.dry:
             compare_with_archive(day, name)
+    if day.words.remake:
+        compare_with_earlier_cut(day, status)
     if not any(it.due or it.lapsing for it in status.companies):
         day.say("nothing is due")
         day.record(NOTHING_DUE, day=str(status.day))
     elif not day.dry:
         send_cut(day, status)
+
+
+def makes_again(day: Day, status: Status, lost: list[tuple[str, str]]) -> bool:
+    """Whether a cut now can make a lost file again, or one of the desk day that was cut and not transmitted, as a withheld
+    one: without it the next lost file would get its entries too."""
+    made = {name for line in day.journal.lines if line["did"] == "cut" and line["day"] == str(status.day) for name in line["files"]}
+    return lost[0][0][:10] == str(status.day) or not made <= set(status.files)
+
+
+def compare_with_earlier_cut(day: Day, status: Status) -> None:
+    """Refuses to make a cut again while more or less is due than was due for it: its files would have other bytes."""
+    earlier = earlier_cut(day, status)
+    if not earlier:
+        return
+    then, now = (earlier["submissions"], earlier["credits"], earlier["debits"]), due_sums(status)
+    compared = f"the cut of {earlier['at']} had {shown_sums(*then)}"
+    if then == now:
+        day.say(f"{compared}, as are due now")
+    elif day.dry:
+        day.say(f"{compared}; now {shown_sums(*now)} are due")
+    elif not day.words.again:
+        raise Refused(f"{compared}; now {shown_sums(*now)} are due. Let companies send what they had sent before it. If "
+                      "they have sent more, restore again. --again cuts all the same")
+
+
+def earlier_cut(day: Day, status: Status) -> Line | None:
+    """Returns the journal's line of the first cut that made files on the desk day after those that the desk has now."""
+    begun: Line = {}
+    for line in day.journal.lines:
+        if line["did"] == "cutting":
+            begun = line
+        elif line["did"] == "cut" and line["files"] and (begun.get("day"), begun.get("files")) == (str(status.day), list(status.files)):
+            return begun
+    return None
+
+
+def shown_sums(submissions: int, credits: int, debits: int) -> str:
+    return f"{submissions:,} submissions, credits {money(credits)}, debits {money(debits)}"
 
 
 def shown_due(status: Status) -> str:

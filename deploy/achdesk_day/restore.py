@@ -143,10 +143,10 @@ def list_since(day: Day, began: str, moment: str) -> None:
     asked = [line for path in logs for line in writes_in_log(path, time_of(began).replace(microsecond=0))]
     lines = [f"The desk was restored to a backup that began {began}. What follows may have been answered since.",
              "", "By achdesk-day:", *(json.dumps(line) for line in own), "", "By way of the proxy:", *asked, "",
-             "Before companies submit anything new, for one day after the other: set the day (achdesk-day open --day), let",
-             "companies send again what they sent, in the same order, make the same cuts (achdesk-day cut --remake), which",
-             "compares each file with the one that was transmitted, and move the incoming files of the day from the archive",
-             "back to the inbox (achdesk-day returns)."]
+             "Before companies submit anything new, repeat this, one day after the other, and up to each cut: set the day",
+             "(achdesk-day open --day), move the incoming files that were taken before the cut from the archive back to the",
+             "inbox (achdesk-day returns), let companies send again what they had sent before it, in the same order, and make",
+             "the cut (achdesk-day cut --remake), which compares each file with the one that was transmitted."]
     path = day.reports / f"restored-{moment}.txt"
     write_synced(path, ("\n".join(lines) + "\n").encode())
     give(path, day.reports)

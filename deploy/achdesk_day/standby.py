@@ -14,7 +14,8 @@ def copy(day: Day) -> None:
     if not has_standby(day.settings):
         day.say("there is no standby")
         return
-    copy_to_standby(day, "state/", "--exclude=*.lock", "--exclude=/day.journal", f"{day.state}/")
+    # The marks of transmissions are not copied: `send` leaves each itself, and finds out by it that the standby had none.
+    copy_to_standby(day, "state/", "--exclude=*.lock", "--exclude=/day.journal", "--exclude=/begun", f"{day.state}/")
     leave_journal(day)
     if logs := sorted(glob.glob(day.settings["files"]["proxy_logs"])):
         copy_to_standby(day, "proxy-logs/", *logs)

@@ -46,7 +46,8 @@ being delivered. A file that was taken before has no effect."""),
 Shows what is due, and cuts it. With --dry-run it only shows it. If the answer is lost, the cut is looked up in the
 status, now and when the command runs again; it is not sent again by itself, since a second cut also sends what came
 in between. Refuses past the cut-off time, if the desk day is not today, and while the archive has a file that the
-desk does not have: a desk restored from an older backup would pay twice. Back up after each cut, and before send."""),
+desk does not have: a desk restored from an older backup would pay twice. --remake makes the cuts of such a desk again,
+and refuses if more or less is due than was due then. Back up after each cut, and before send."""),
     "send": ("transmit the files that are not transmitted", """
 Fetches each file that is not in the archive, checks it against its control records, uploads it under a temporary
 name, renames it on the server, and archives it as outgoing/DAY-MODIFIER.ach. The intent is on the standby, with the
@@ -137,9 +138,9 @@ Compares a backup with its checksums, opens a copy of it, and puts it in the pla
 and send refuse until a person has run achdesk-day confirm. The files that were there are kept in
 FILE-before-restore-TIME, next to the desk's file. Refuses while a desk is running. Lists what may have been answered
 since the backup, from the journal and the proxy's log, and what to do before companies submit anything new: for one
-day after the other open --day, the companies' submissions, cut --remake, and returns with the same files. A path with
-a slash names a folder with any copy of both files: of a stopped desk, of a failed disk, or a snapshot of both at one
-moment, with the times of the files."""),
+day after the other, and up to each cut, open --day, returns with the same files, the companies' submissions, and cut
+--remake. A path with a slash names a folder with any copy of both files: of a stopped desk, of a failed disk, or a
+snapshot of both at one moment, with the times of the files."""),
 }
 
 
@@ -187,8 +188,8 @@ def add_words_of_the_day(of: Parsers) -> None:
     of["holidays"].add_argument("--replace-unknown", action="store_true", help="replace a list that is not known here")
     of["cut"].add_argument("--late", action="store_true", help="cut past the cut-off time")
     of["cut"].add_argument("--other-day", action="store_true", help="cut though the desk day is not today")
-    of["cut"].add_argument("--again", action="store_true", help="cut though an earlier cut had no answer")
-    of["cut"].add_argument("--remake", action="store_true", help="after a restore, make transmitted files again")
+    of["cut"].add_argument("--again", action="store_true", help="cut though an earlier cut had no answer, or other sums")
+    of["cut"].add_argument("--remake", action="store_true", help="after a restore, make the cuts again that were made")
     of["send"].add_argument("--again", metavar="FILE", help="transmit this file again, as 2025-01-08-A")
     of["send"].add_argument("--though-acknowledged", action="store_true", help="also one that was acknowledged")
     of["send"].add_argument("--retry", action="store_true", help="try again until the window of the ACH operator closes")

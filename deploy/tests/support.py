@@ -74,7 +74,7 @@ class Bank:
         target = self.standby / folder
         target.mkdir(parents=True, exist_ok=True)
         copied = []
-        for name in given.split() or self.names_of_copy():
+        for name in given.split() or self.names_of_copy(words):
             (target / name).parent.mkdir(exist_ok=True)
             if (self.state / name).exists() and not ("--ignore-existing" in words and (target / name).exists()):
                 shutil.copyfile(self.state / name, target / name)
@@ -82,10 +82,11 @@ class Bank:
         hooks.step()
         return "\n".join(copied)
 
-    def names_of_copy(self) -> list[str]:
-        """Lists what `copy` copies of the state, but the journal."""
+    def names_of_copy(self, words: tuple[str, ...]) -> list[str]:
+        """Lists what `copy` copies of the state: all but what rsync is told to leave out."""
         names = (path.relative_to(self.state) for path in sorted(self.state.rglob("*")) if path.is_file())
-        return [str(it) for it in names if it.suffix != ".lock" and not it.name.startswith(".") and str(it) != "day.journal"]
+        return [str(it) for it in names
+                if it.suffix != ".lock" and not it.name.startswith(".") and f"--exclude=/{it.parts[0]}" not in words]
 
     def run(self, *told: str, kill_at: int = 0) -> tuple[int, str]:
         """Runs a command; returns its status and what it printed. A killed one has the status -9."""

@@ -93,6 +93,46 @@ class Cutting(TestCase):
         self.does("cut", says="in files A")
 
 
+class Remaking(TestCase):
+    """Monday had two cuts, of which the second was withheld, and Tuesday one. Then the desk was restored."""
+
+    def setUp(self) -> None:
+        super().setUp()
+        self.opened(100)
+        for due, words in (([], ("send",)), ([200], ("mark", f"{MON}-B", "--withheld"))):
+            self.bank.desk.due = self.bank.desk.due or due
+            self.does("cut")
+            self.does(*words)
+        self.bank.at(TUE)
+        self.does("open")
+        self.bank.desk.due = [300]
+        self.does("cut")
+        self.does("send")
+        self.bank.desk.files.clear()
+        self.bank.desk.day, self.bank.desk.due = MON, [100]
+
+    def remakes(self, *words: str, status: int = 0, says: str = "") -> None:
+        self.does("cut", "--remake", "--other-day", *words, status=status, says=says)
+
+    def test_a_withheld_file_is_made_again_though_it_was_the_last_of_its_day(self) -> None:
+        self.remakes(says=f"{MON}-A is the file that was transmitted, byte for byte")
+        self.bank.desk.due = [200]
+        self.remakes(says=f"{MON}-B is the file that was withheld, byte for byte")
+        self.bank.desk.due = [300]
+        self.remakes(status=1, says="a cut would pay twice")
+        self.does("open")
+        self.does("cut", "--remake", says=f"{TUE}-A is the file that was transmitted, byte for byte")
+        self.does("send", says="nothing")
+
+    def test_a_cut_with_other_sums_is_not_made_again(self) -> None:
+        self.bank.desk.due = [100, 200]
+        sums = "had 1 submissions, credits 1.00, debits 0.00; now 2 submissions, credits 3.00, debits 0.00 are due"
+        self.remakes("--dry-run", says=sums)
+        self.remakes(status=1, says=sums)
+        self.assertEqual({}, self.bank.desk.files)
+        self.remakes("--again", status=1, says=f"{MON}-A was made again with other bytes")
+
+
 class DualControl(TestCase):
     def setUp(self) -> None:
         super().setUp()

@@ -171,6 +171,14 @@ class Restoring(TestCase):
         self.does("send", says=f"sent {B}")
         self.assertEqual(2, len(self.bank.server.received))
 
+    def test_a_copy_during_a_transmission_does_not_bring_its_mark_to_the_standby(self) -> None:
+        self.opened(100)
+        self.does("cut")
+        (self.bank.state / "begun").mkdir()
+        (self.bank.state / "begun/0-1").touch()
+        self.does("copy")
+        self.does("send", says=f"sent {A}")
+
     def test_a_machine_that_was_put_back_is_noticed_though_the_standby_was_down_before(self) -> None:
         self.opened(100)
         self.does("cut")
