@@ -38,6 +38,7 @@ from datetime import date, datetime, timedelta
 from pathlib import Path
 
 from helpers.bank import DAY, DESK_KEYS, OPERATOR_KEY, Bank, bytes_of, end_if_missing
+from helpers.returned import file_of_returns
 from helpers.running import HOST, TOP, Checks, program_of
 
 SECONDS = 60  # of load with backups
@@ -476,6 +477,24 @@ def commands_of_page(command, places):
     return text
 
 
+def arrive(bank, name, number):
+    """Puts a file with the return of an unknown entry into the inbox."""
+    item = {"code": "R03", "trace": "121042889999999", "dfi": "09100001", "debit": False, "savings": False, "account": "123456789", "cents": 100,
+            "ident": "E1", "name": "ANN LEE"}
+    (bank.state / "inbox" / name).write_text(file_of_returns(number, "PPD", [item]))
+
+
+def take_archive(checks, standby, state):
+    """The page's commands, also for a standby to which no file was on its way."""
+    text = commands_of_page("cp -a /var/lib/achdesk-standby/state", {"/var/lib/achdesk-standby": standby, "/var/lib/achdesk-day": state, "achdesk-day:achdesk-day": f"{os.geteuid()}:{os.getegid()}"})
+    done = subprocess.run(["sh", "-ec", text], capture_output=True, text=True)
+    checks.that("the page's commands take the archive over", (done.returncode, done.stderr), (0, ""))
+    checks.that("and leave in the inbox what was not taken", sorted(bytes_of(state / "inbox")), ["later.ach"])
+    (state / "inbox" / "later.ach").unlink()
+    done = subprocess.run(["sh", "-ec", text.partition("\n")[2]], capture_output=True, text=True)
+    checks.that("they take an empty inbox", (done.returncode, done.stderr), (0, ""))
+
+
 def takeover(bank, checks, places):
     """The bank cuts and transmits; a backup before the cut is all that the standby has. It must not pay twice."""
     bank.now = "2025-01-14T09:40:00-05:00"
@@ -486,18 +505,20 @@ def takeover(bank, checks, places):
     bank.now = "2025-01-14T09:45:00-05:00"
     cut, early, sent = bank.day("cut"), bank.day("backed-up"), bank.day("send")
     checks.that("the bank cuts and transmits, and no backup has the cut yet", (cut[0], early[0], sent[0]), (0, 3, 0))
+    arrive(bank, "taken.ach", 1)
     standby, config, step = bank.folder / "operator" / "standby", bank.folder / "standby.conf", 1
     while bank.day("copy", ACHDESK_DAY_KILL_AT=step)[0] == -9:
         step += 1
     checks.that(f"a copy is killed at its steps, up to step {step - 1}", step > 2)
+    checks.that("a file that was copied is taken", bank.day("returns")[0], 0)
+    arrive(bank, "later.ach", 2)
     checks.that("the bank copies to the standby", bank.day("copy")[0], 0)
     bank.desk.stop()
     subprocess.run(["chown", "-R", str(os.geteuid()), standby], check=True)
     desk_file, state = bank.folder / "second" / "bank.db", bank.folder / "second-day"
     desk_file.parent.mkdir()
     state.mkdir(mode=0o700)
-    text = commands_of_page("cp -a /var/lib/achdesk-standby/state", {"/var/lib/achdesk-standby": standby, "/var/lib/achdesk-day": state, "achdesk-day:achdesk-day": f"{os.geteuid()}:{os.getegid()}"})
-    checks.that("the page's commands take the archive over", subprocess.run(["sh", "-ec", text]).returncode, 0)
+    take_archive(checks, standby, state)
     (bank.folder / "second-backups").mkdir(mode=0o700)
     bank.write_config(config, folders={"state": state, "backups": bank.folder / "second-backups"}, files={"desk": desk_file, "proxy_logs": f"{standby}/proxy-logs/*"},
                       repository={"to": places.there}, standby={"to": "none"})

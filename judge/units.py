@@ -187,10 +187,10 @@ told = {
 print("PROBED " + json.dumps(told), flush=True)
 """
 PLACES = ("/etc/achdesk", "/usr/bin", "/var/lib/achdesk", "/var/lib/achdesk-day", "/var/lib/achdesk-backup", "/var/lib/achdesk-alarm", "/var/lib/achdesk-alarm/waiting",
-          "/run/achdesk-alarm", "/var/log/achdesk", "/root")
+          "/run/achdesk-alarm", "/var/log/achdesk", "/root", f"{STANDBY}/repository")
 WAITING = ["/var/lib/achdesk-alarm/waiting", "/run/achdesk-alarm"]
 DAY = ("achdesk-day", ["achdesk", "achdesk-alarm", "achdesk-day", "achdesk-inbox"], ["day", "sftp", "standby"], ["/var/lib/achdesk-day", *WAITING], True, True)
-BACKUP = ("achdesk-backup", ["achdesk", "achdesk-alarm"], ["backup", "desk.map", "repository"], ["/var/lib/achdesk-backup", *WAITING], True, True)
+BACKUP = ("achdesk-backup", ["achdesk", "achdesk-alarm"], ["backup", "desk.map", "repository"], ["/var/lib/achdesk-backup", *WAITING, f"{STANDBY}/repository"], True, True)
 # Each service: its user, its groups, its credentials, where it writes, and whether it reaches this machine and others.
 SANDBOXES = {
     "achdesk.service": ("achdesk", ["achdesk"], [], ["/var/lib/achdesk"], True, False),
@@ -209,6 +209,7 @@ def sandboxes(installed, checks):
     installed.done("ip", "addr", "add", "10.9.9.9/32", "dev", "lo", check=True)
     Path("/run/sshd_config").write_text(Path("/run/sshd_config").read_text().replace(f"ListenAddress {HOST}", "ListenAddress 0.0.0.0"))
     installed.done("systemctl", "restart", "judge-sshd", check=True)
+    installed.done("install", "-d", "-m", "777", STANDBY / "repository", check=True)
     probe = Path("/usr/lib/judge-probe.py")
     probe.write_text(PROBE.replace("WRITES", repr(PLACES)))
     for name, (user, groups, credentials, writes, local, others) in SANDBOXES.items():

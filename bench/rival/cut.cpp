@@ -67,6 +67,27 @@ struct Desk::Cutting {
     bool is_around = false; // a batch began at 1
 };
 
+// What all companies have waiting.
+struct Desk::Waiting {
+    std::vector<Load> due;
+    uint64_t due_records = 0, held_records = 0;
+
+    // How many files a cut would make.
+    size_t files() const
+    {
+        size_t count = 0;
+        Filling filling;
+        for (const Load& load : due) {
+            if (count == 0 || !filling.has_room(load)) {
+                filling = Filling();
+                count++;
+            }
+            filling.add(load);
+        }
+        return count;
+    }
+};
+
 // What a cut does with a held submission: a row with its order, direction, asked day, and the reference that it retries.
 std::optional<Desk::Due> Desk::due_of(Company& company, const Rows& row)
 {
@@ -233,19 +254,22 @@ Answer Desk::cut()
     return {200, body.take()};
 }
 
-void Desk::put_status(JsonText& body, Company& company)
+void Desk::put_status(JsonText& body, Company& company, Waiting& waiting)
 {
     Tallies held;
     std::map<Day, Tallies> due;
     uint64_t lapsing = 0;
-    for (Rows row = sql_.held_sums.query(std::string_view(company.id)); row.next();) {
-        uint64_t cents = row.number(4);
+    for (Rows row = sql_.held_loads.query(std::string_view(company.id)); row.next();) {
+        uint64_t cents = row.number(4), records = row.number(5);
+        waiting.held_records += records;
         held.add(row.text(1) == "debit", cents);
-        std::optional<Due> found = due_of(company, row);
+        std::optional<Due> found = day_ ? due_of(company, row) : std::nullopt;
         if (found && found->lapses) {
             lapsing++;
         } else if (found) {
             due[found->settled].add(found->is_debit, cents);
+            waiting.due.push_back({found->is_debit ? cents : 0, found->is_debit ? 0 : cents, records});
+            waiting.due_records += records;
         }
     }
     body.item().open('{').key("due").open('[');
@@ -272,17 +296,18 @@ Answer Desk::status()
     }
     Rows suspense = sql_.suspense_count.query();
     suspense.next();
+    Waiting waiting;
     JsonText body(4096);
     body.open('{').key("companies").open('[');
     for (auto& [id, company] : companies_) {
-        put_status(body, company);
+        put_status(body, company, waiting);
     }
     body.close(']').key("day");
     day_ ? body.day(*day_) : body.null();
-    body.key("files").open('[');
+    body.key("due_files").number(waiting.files()).key("due_records").number(waiting.due_records).key("files").open('[');
     for (int64_t at = 0; at < files; at++) {
         body.item().text(kModifiers.substr(at, 1));
     }
-    body.close(']').key("holidays").number(calendar_.holidays().size()).key("sent").number(sent_count_);
+    body.close(']').key("held_records").number(waiting.held_records).key("holidays").number(calendar_.holidays().size()).key("sent").number(sent_count_);
     return {200, body.key("suspense").number(suspense.number(0)).close('}').take()};
 }

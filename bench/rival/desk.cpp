@@ -59,6 +59,9 @@ Statements::Statements(const Database& db)
       held_sums(db, "SELECT s.ord, s.direction, s.asked, s.of_ref, "
                     "(SELECT sum(e.cents) FROM entries e WHERE e.company = s.company AND e.ord = s.ord) FROM submissions s "
                     "WHERE s.company = ?1 AND s.settled IS NULL AND s.lapsed = 0 ORDER BY s.ord"),
+      held_loads(db, "SELECT s.ord, s.direction, s.asked, s.of_ref, sum(e.cents), count(*) + count(e.info) FROM submissions s "
+                     "JOIN entries e ON e.company = s.company AND e.ord = s.ord "
+                     "WHERE s.company = ?1 AND s.settled IS NULL AND s.lapsed = 0 GROUP BY s.ord ORDER BY s.ord"),
       open_sums(db, "SELECT s.direction, s.settled, "
                     "(SELECT sum(e.cents) FROM entries e WHERE e.company = s.company AND e.ord = s.ord) FROM submissions s "
                     "WHERE s.company = ?1 AND s.settled >= ?2"),

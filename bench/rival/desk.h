@@ -32,7 +32,7 @@ struct Statements {
     Statement set_day, clear_holidays, add_holiday, add_company, set_limits;
     Statement add_submission, add_entry, add_entries, add_authorization;
     Statement last_order, submission, authorization, entries, states, state, retries, settled_of;
-    Statement held, held_sums, open_sums, returned_sums;
+    Statement held, held_sums, held_loads, open_sums, returned_sums;
     Statement send, lapse, mark, add_number, latest_settled, add_file;
     Statement add_posting, balance, balances, put_balance, postings;
     Statement traced, sent_of, add_return, add_change, add_suspense, add_taken, taken;
@@ -90,6 +90,7 @@ private:
     struct Sent;
     struct Lapsed;
     struct Cutting;
+    struct Waiting;
     struct Attempt;
     struct Named;
     struct Intake;
@@ -120,7 +121,7 @@ private:
     void put_in_file(Cutting& cutting, const Rows& row, const Batch& batch, Sent& sent);
     void write(Cutting& cutting);
     void remember(const Cutting& cutting);
-    void put_status(JsonText& body, Company& company);
+    void put_status(JsonText& body, Company& company, Waiting& waiting);
 
     bool find_named(const Item& item, Intake& intake, Named& named);
     const char* post(const Item& item, Intake& intake);

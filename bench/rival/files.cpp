@@ -403,17 +403,25 @@ Outgoing::Outgoing(const Identity& identity, Day day, char modifier) : identity_
         .put(64, 86, identity.odfi_name);
 }
 
-bool Outgoing::has_room(const Batch& batch) const
+bool Filling::has_room(const Load& load) const
 {
-    return debits_ + batch.debits() <= kMostOfFile && credits_ + batch.credits() <= kMostOfFile && batches_ < kMostBatches &&
-           records_ + batch.records() <= kMostRecords;
+    return debits + load.debits <= kMostOfFile && credits + load.credits <= kMostOfFile && batches < kMostBatches &&
+           records + load.records <= kMostRecords;
+}
+
+void Filling::add(const Load& load)
+{
+    debits += load.debits;
+    credits += load.credits;
+    batches++;
+    records += load.records;
 }
 
 int Outgoing::add(const BatchHead& head, const Batch& batch)
 {
     std::string_view dfi = std::string_view(identity_.odfi).substr(0, 8);
     std::string_view service = batch.is_debit() ? "225" : "220";
-    batches_++;
+    filling_.add(batch.load());
     Record(text_, '5')
         .put(2, 4, service)
         .put(5, 20, head.company_name)
@@ -423,7 +431,7 @@ int Outgoing::add(const BatchHead& head, const Batch& batch)
         .number(70, 75, six_digits(head.settled))
         .put(79, 79, "1")
         .put(80, 87, dfi)
-        .number(88, 94, batches_);
+        .number(88, 94, filling_.batches);
     text_ += batch.text();
     Record(text_, '8')
         .put(2, 4, service)
@@ -433,24 +441,21 @@ int Outgoing::add(const BatchHead& head, const Batch& batch)
         .number(33, 44, batch.credits())
         .put(45, 54, head.company)
         .put(80, 87, dfi)
-        .number(88, 94, batches_);
-    debits_ += batch.debits();
-    credits_ += batch.credits();
+        .number(88, 94, filling_.batches);
     hash_ = (hash_ + batch.hash()) % kHashRange;
-    records_ += batch.records();
-    return batches_;
+    return filling_.batches;
 }
 
 std::string Outgoing::finish()
 {
     size_t lines = text_.size() / (kRecord + 1) + 1; // with the file control
     Record(text_, '9')
-        .number(2, 7, batches_)
+        .number(2, 7, filling_.batches)
         .number(8, 13, (lines + 9) / 10)
-        .number(14, 21, records_)
+        .number(14, 21, filling_.records)
         .number(22, 31, hash_)
-        .number(32, 43, debits_)
-        .number(44, 55, credits_);
+        .number(32, 43, filling_.debits)
+        .number(44, 55, filling_.credits);
     for (; lines % 10 != 0; lines++) {
         text_.append(kRecord, '9');
         text_ += '\n';

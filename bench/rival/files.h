@@ -41,6 +41,21 @@ struct PrintedEntry {
     uint64_t cents;
 };
 
+// What a batch takes of a file.
+struct Load {
+    uint64_t debits, credits;
+    size_t records;
+};
+
+// What the batches of a file come to.
+struct Filling {
+    uint64_t debits = 0, credits = 0;
+    size_t batches = 0, records = 0;
+
+    bool has_room(const Load& load) const;
+    void add(const Load& load);
+};
+
 // One batch. Its entries are printed first, without their sequences.
 class Batch {
 public:
@@ -54,6 +69,7 @@ public:
     uint64_t cents() const { return cents_; }
     uint64_t debits() const { return is_debit_ ? cents_ : 0; }
     uint64_t credits() const { return is_debit_ ? 0 : cents_; }
+    Load load() const { return {debits(), credits(), records()}; }
     uint64_t hash() const { return hash_; }
     bool is_debit() const { return is_debit_; }
     const std::string& text() const { return records_; }
@@ -76,7 +92,7 @@ class Outgoing {
 public:
     Outgoing(const Identity& identity, Day day, char modifier);
 
-    bool has_room(const Batch& batch) const;
+    bool has_room(const Batch& batch) const { return filling_.has_room(batch.load()); }
     int add(const BatchHead& head, const Batch& batch); // gives its number
     std::string finish();
     char modifier() const { return modifier_; }
@@ -85,6 +101,6 @@ private:
     const Identity& identity_;
     char modifier_;
     std::string text_;
-    uint64_t debits_ = 0, credits_ = 0, hash_ = 0;
-    size_t batches_ = 0, records_ = 0;
+    Filling filling_;
+    uint64_t hash_ = 0;
 };

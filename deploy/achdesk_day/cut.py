@@ -79,14 +79,23 @@ def compare_with_earlier_cut(day: Day, status: Status) -> None:
 
 
 def earlier_cut(day: Day, status: Status) -> Line | None:
-    """Returns the journal's line of the first cut that made files on the desk day after those that the desk has now."""
+    """Returns the journal's line of the cut that made files on the desk day after those that the desk has now. After several
+    restores there may be more: the last one whose files were transmitted or withheld counts, or else the first."""
     begun: Line = {}
+    made: Line = {}
+    found: Line | None = None
+    names: set[str] = set()
     for line in day.journal.lines:
         if line["did"] == "cutting":
             begun = line
         elif line["did"] == "cut" and line["files"] and (begun.get("day"), begun.get("files")) == (str(status.day), list(status.files)):
-            return begun
-    return None
+            made, names = begun, {f"{status.day}-{letter}" for letter in line["files"]}
+            found = found or made
+        elif line["did"] == "differs":
+            names.discard(line["file"])
+        elif line["did"] in ("sent", "withheld") and line["file"] in names:
+            found = made
+    return found
 
 
 def shown_sums(submissions: int, credits: int, debits: int) -> str:

@@ -99,10 +99,11 @@ class Remaking(TestCase):
     def setUp(self) -> None:
         super().setUp()
         self.opened(100)
-        for due, words in (([], ("send",)), ([200], ("mark", f"{MON}-B", "--withheld"))):
-            self.bank.desk.due = self.bank.desk.due or due
-            self.does("cut")
-            self.does(*words)
+        self.does("cut")
+        self.does("send")
+        self.bank.desk.due = [200]
+        self.does("cut")
+        self.does("mark", f"{MON}-B", "--withheld")
         self.bank.at(TUE)
         self.does("open")
         self.bank.desk.due = [300]
@@ -131,6 +132,29 @@ class Remaking(TestCase):
         self.remakes(status=1, says=sums)
         self.assertEqual({}, self.bank.desk.files)
         self.remakes("--again", status=1, says=f"{MON}-A was made again with other bytes")
+
+
+    def test_a_cut_is_compared_with_the_one_whose_file_was_transmitted(self) -> None:
+        self.remakes()
+        self.bank.desk.due = [200, 300]
+        self.remakes("--again", status=1, says=f"{MON}-B was withheld, and made again with other bytes")
+        self.does("send", "--again", f"{MON}-B", says=f"sent {MON}-B")
+        self.bank.desk.files.clear()
+        self.bank.desk.due = [100]
+        self.remakes(says="as are due now")
+        self.bank.desk.due = [200]
+        self.remakes(status=1, says="had 2 submissions, credits 5.00, debits 0.00; now 1 submissions, credits 2.00, debits 0.00 are due")
+        self.bank.desk.due = [200, 300]
+        self.remakes(says=f"{MON}-B is the file that was transmitted, byte for byte")
+
+    def test_a_cut_with_other_bytes_is_not_compared_with(self) -> None:
+        self.bank.desk.due = [100, 200]
+        self.remakes("--again", status=1, says=f"{MON}-A was made again with other bytes")
+        self.bank.server.folder.clear()
+        self.does("send", "--again", f"{MON}-A", says=f"sent {MON}-A")
+        self.bank.desk.files.clear()
+        self.bank.desk.due = [100]
+        self.remakes(says=f"{MON}-A is the file that was transmitted, byte for byte")
 
 
 class DualControl(TestCase):
